@@ -1,0 +1,264 @@
+-- A text is read as a command exactly where it is the spelling of the command.
+use Rattle.std.proofs.Common.{◌≡◌, ℕ, ◌+◌, ◌*◌, ◌≤◌, Bool, true, false, cond, nat_lt, List, [], ◌∷◌, ◌++◌, length, codes, decimal, bytes_eq, Option, Some, None, Result, Ok, Err, refl, sym, ap, ◌∙◌, subst, arith, length-append}
+use Rattle.std.specs.List.{join_with_byte}
+use Rattle.std.specs.Option.{ok_or}
+use Rattle.std.specs.Result.{IfOk}
+use Rattle.std.proofs.lemmas.Bool.Decides.{nat_tests}
+use Rattle.std.proofs.lemmas.List.{append-nil}
+use Rattle.attempts.specs.declared.Outcome.{Outcome}
+use Rattle.formats.specs.declared.events.Event.{Event}
+use Rattle.formats.specs.Events.{event_name, format_name}
+use Rattle.commands.specs.declared.command.Command.{Command}
+use Rattle.commands.specs.declared.command.Command.TheVariants.{Register, Open, Enter, Attempt}
+use Rattle.commands.specs.declared.command.Settings.{Settings}
+use Rattle.commands.specs.declared.reading.CommandFault.{CommandFault}
+use Rattle.commands.specs.declared.reading.CommandFault.TheVariants as fault
+use Rattle.commands.specs.Spelling.{spelling, IsFit, IsWithin, last_round, cutoff_text, limit_text, advance_text, outcome_text}
+use Rattle.commands.specs.Fields.{cut, number_between}
+use Rattle.commands.specs.Reading.{◌>>=◌, field, last_field, no_field, register_of, open_of, enter_of, attempt_of, by_word, command_of, Gives, ReadsAs}
+use Rattle.commands.proofs.Cuts.{behind, cut_spelled, cut-behind, lacks}
+use Rattle.commands.proofs.FieldSpellings.{IsSpelled, bytes_eq-equal, number_spelled, decimal_no_space, name_spelled, event_spelled, event_no_space, format_spelled, format_no_space, cutoff_spelled, cutoff_no_space, limit_spelled, limit_no_space, advance_spelled, advance_no_space, outcome_spelled}
+
+-- One field, the first of what is left.
+
+pub record TakesField {A : Type 0} (text : A → List ℕ) (Fits : A → Type 0) (left : Option (List ℕ)) (f : A × Option (List ℕ) → Result Command CommandFault) (c : Command) : Type 0 where
+  pub value : A
+  pub left' : Option (List ℕ)
+  pub fits : Fits value
+  pub spelled : behind 32 left ≡ 32 ∷ (text value ++ behind 32 left')
+  pub next : f (value, left') ≡ Ok c
+
+pub field_only : {A : Type 0} {of : List ℕ → Option A} {text : A → List ℕ} {Fits : A → Type 0} → IsSpelled of text Fits → (index : ℕ) (left : Option (List ℕ)) (f : A × Option (List ℕ) → Result Command CommandFault) (c : Command) → (field index of left >>= f) ≡ Ok c → TakesField text Fits left f c
+field_only s index None f c h = absurd (let bad : Err (fault.BadField index) ≡ Ok c = h in cc)
+field_only {A = A} {of = of} {text = text} {Fits = Fits} s index (Some bytes) f c h = step (of (cut 32 bytes).0) refl h
+  where
+    step : (o : Option A) → of (cut 32 bytes).0 ≡ o → ((ok_or o (fault.BadField index) >>= (λ x. Ok (x, (cut 32 bytes).1))) >>= f) ≡ Ok c → TakesField text Fits (Some bytes) f c
+    step None is e = absurd (let bad : Err (fault.BadField index) ≡ Ok c = e in cc)
+    step (Some x) is e =
+        let read = s.only (cut 32 bytes).0 x is in
+        record { value = x; left' = (cut 32 bytes).1; fits = read.0; spelled = ap (λ y. 32 ∷ y) (cut_spelled 32 bytes ∙ ap (λ y. y ++ behind 32 (cut 32 bytes).1) read.1); next = e }
+
+-- All that is left, as the last field.
+
+pub record TakesLast {A : Type 0} (text : A → List ℕ) (Fits : A → Type 0) (left : Option (List ℕ)) (f : A → Result Command CommandFault) (c : Command) : Type 0 where
+  pub value : A
+  pub fits : Fits value
+  pub spelled : behind 32 left ≡ 32 ∷ text value
+  pub next : f value ≡ Ok c
+
+pub last_only : {A : Type 0} {of : List ℕ → Option A} {text : A → List ℕ} {Fits : A → Type 0} → IsSpelled of text Fits → (index : ℕ) (left : Option (List ℕ)) (f : A → Result Command CommandFault) (c : Command) → (last_field index of left >>= f) ≡ Ok c → TakesLast text Fits left f c
+last_only s index None f c h = absurd (let bad : Err (fault.BadField index) ≡ Ok c = h in cc)
+last_only {A = A} {of = of} {text = text} {Fits = Fits} s index (Some bytes) f c h = step (of bytes) refl h
+  where
+    step : (o : Option A) → of bytes ≡ o → (ok_or o (fault.BadField index) >>= f) ≡ Ok c → TakesLast text Fits (Some bytes) f c
+    step None is e = absurd (let bad : Err (fault.BadField index) ≡ Ok c = e in cc)
+    step (Some x) is e =
+        let read = s.only bytes x is in
+        record { value = x; fits = read.0; spelled = ap (λ y. 32 ∷ y) read.1; next = e }
+
+-- Nothing is left.
+
+pub none_only : (index : ℕ) (left : Option (List ℕ)) (f : Unit {0} → Result Command CommandFault) (c : Command) → (no_field index left >>= f) ≡ Ok c → (behind 32 left ≡ []) × (f tt ≡ Ok c)
+none_only index None f c h = (refl, h)
+none_only index (Some bytes) f c h = absurd (let bad : Err (fault.BadField index) ≡ Ok c = h in cc)
+
+-- A field that was spelled is read.
+
+pub field_then : {A : Type 0} {of : List ℕ → Option A} {text : A → List ℕ} {Fits : A → Type 0} → IsSpelled of text Fits → (index : ℕ) (x : A) (left : Option (List ℕ)) → Fits x → lacks 32 (text x) ≡ true → field index of (Some (text x ++ behind 32 left)) ≡ Ok (x, left)
+field_then {text = text} s index x left fits none = rw (cut-behind 32 (text x) left none, s.found x fits) refl
+
+pub field_last : {A : Type 0} {of : List ℕ → Option A} {text : A → List ℕ} {Fits : A → Type 0} → IsSpelled of text Fits → (index : ℕ) (x : A) → Fits x → lacks 32 (text x) ≡ true → field index of (Some (text x)) ≡ Ok (x, None)
+field_last {text = text} s index x fits none =
+    let whole : cut 32 (text x) ≡ (text x, None) = rw append-nil at (cut-behind 32 (text x) None none) in
+    rw (whole, s.found x fits) refl
+
+ok_equal : (x c : Command) → (let r : Result Command CommandFault = Ok x in r) ≡ Ok c → x ≡ c
+ok_equal x c h = cc
+
+-- What the words take.
+
+abbrev pub Spells : List ℕ → Command → Type 0
+Spells bytes c = IsFit c × (bytes ≡ spelling c)
+
+number : IsSpelled (number_between 1 9999) decimal (IsWithin 1 9999)
+number = number_spelled 1 9999 (omega arith)
+
+round : IsSpelled (number_between 1 last_round) decimal (IsWithin 1 last_round)
+round = number_spelled 1 last_round (omega arith)
+
+attempt : IsSpelled (number_between 1 5) decimal (IsWithin 1 5)
+attempt = number_spelled 1 5 (omega arith)
+
+register_only : (left : Option (List ℕ)) (c : Command) → register_of left ≡ Ok c → Spells (codes "REG" ++ behind 32 left) c
+unfolding register_of
+register_only left c h =
+    let n = field_only number 1 left _ c h in
+    let name = last_only name_spelled 2 n.left' _ c n.next in
+    let same : Register n.value name.value ≡ c = ok_equal _ c name.next in
+    subst (Spells (codes "REG" ++ behind 32 left)) same ((n.fits, name.fits), rw (n.spelled, name.spelled) refl)
+
+open_only : (left : Option (List ℕ)) (c : Command) → open_of left ≡ Ok c → Spells (codes "OPEN" ++ behind 32 left) c
+unfolding open_of
+open_only left c h =
+    let event = field_only event_spelled 1 left _ c h in
+    let r = field_only round 2 event.left' _ c event.next in
+    let form = field_only format_spelled 3 r.left' _ c r.next in
+    let cutoff = field_only cutoff_spelled 4 form.left' _ c form.next in
+    let limit = field_only limit_spelled 5 cutoff.left' _ c cutoff.next in
+    let advance = field_only advance_spelled 6 limit.left' _ c limit.next in
+    let end = none_only 7 advance.left' _ c advance.next in
+    let settings : Settings = record { format = form.value; cutoff = cutoff.value; limit = limit.value; advance = advance.value } in
+    let same : Open event.value r.value settings ≡ c = ok_equal _ c end.1 in
+    subst (Spells (codes "OPEN" ++ behind 32 left)) same
+    ((event.fits, r.fits, (form.fits, cutoff.fits, limit.fits)), rw (event.spelled, r.spelled, form.spelled, cutoff.spelled, limit.spelled, advance.spelled, end.0, append-nil) refl)
+
+enter_only : (left : Option (List ℕ)) (c : Command) → enter_of left ≡ Ok c → Spells (codes "ENT" ++ behind 32 left) c
+unfolding enter_of
+enter_only left c h =
+    let event = field_only event_spelled 1 left _ c h in
+    let n = field_only number 2 event.left' _ c event.next in
+    let end = none_only 3 n.left' _ c n.next in
+    let same : Enter event.value n.value ≡ c = ok_equal _ c end.1 in
+    subst (Spells (codes "ENT" ++ behind 32 left)) same ((event.fits, n.fits), rw (event.spelled, n.spelled, end.0, append-nil) refl)
+
+attempt_only : (left : Option (List ℕ)) (c : Command) → attempt_of left ≡ Ok c → Spells (codes "ATT" ++ behind 32 left) c
+unfolding attempt_of
+attempt_only left c h =
+    let event = field_only event_spelled 1 left _ c h in
+    let r = field_only round 2 event.left' _ c event.next in
+    let k = field_only attempt 3 r.left' _ c r.next in
+    let n = field_only number 4 k.left' _ c k.next in
+    let outcome = last_only outcome_spelled 5 n.left' _ c n.next in
+    let same : Attempt event.value r.value k.value n.value outcome.value ≡ c = ok_equal _ c outcome.next in
+    subst (Spells (codes "ATT" ++ behind 32 left)) same
+    ((event.fits, r.fits, k.fits, n.fits, outcome.fits), rw (event.spelled, r.spelled, k.spelled, n.spelled, outcome.spelled) refl)
+
+-- a word, where it is the first of those that may stand there
+word_only : (word : List ℕ) (of : Option (List ℕ) → Result Command CommandFault) (others : Result Command CommandFault) (text : List ℕ × Option (List ℕ)) (c : Command) (b : Bool) → bytes_eq text.0 word ≡ b → ((left : Option (List ℕ)) → of left ≡ Ok c → Spells (word ++ behind 32 left) c) → (others ≡ Ok c → Spells (text.0 ++ behind 32 text.1) c) → cond b (of text.1) others ≡ Ok c → Spells (text.0 ++ behind 32 text.1) c
+word_only word of others text c false is this other h = other h
+word_only word of others text c true is this other h = rw (bytes_eq-equal text.0 word is) (this text.1 h)
+
+by_word_only : (text : List ℕ × Option (List ℕ)) (c : Command) → by_word text ≡ Ok c → Spells (text.0 ++ behind 32 text.1) c
+by_word_only text c h =
+    word_only (codes "REG") register_of _ text c _ refl (λ left. register_only left c)
+    (word_only (codes "OPEN") open_of _ text c _ refl (λ left. open_only left c)
+    (word_only (codes "ENT") enter_of _ text c _ refl (λ left. enter_only left c)
+    (word_only (codes "ATT") attempt_of (Err fault.NotACommand) text c _ refl (λ left. attempt_only left c)
+    (λ e. absurd (let bad : Err fault.NotACommand ≡ Ok c = e in cc)))))
+    h
+
+pub spelled_only : (bytes : List ℕ) (c : Command) → command_of bytes ≡ Ok c → Spells bytes c
+unfolding command_of
+spelled_only bytes c h = step (nat_lt 600 (length bytes)) h
+  where
+    step : (b : Bool) → cond b (Err fault.TooLong) (by_word (cut 32 bytes)) ≡ Ok c → Spells bytes c
+    step true e = absurd (let bad : Err fault.TooLong ≡ Ok c = e in cc)
+    step false e = rw (cut_spelled 32 bytes) (by_word_only (cut 32 bytes) c e)
+
+-- What is spelled is short.
+
+abbrev AllShort : List (List ℕ) → Type 0
+AllShort [] = Unit {0}
+AllShort (word ∷ words) = (length word ≤ 80) × AllShort words
+
+join_short : (word : List ℕ) (words : List (List ℕ)) → AllShort (word ∷ words) → length (join_with_byte 32 (word ∷ words)) + 1 ≤ 81 * (length words + 1)
+join_short word [] short = let h = short.0 in omega arith
+join_short word (other ∷ words) short =
+    let h = short.0 in
+    let rest = join_short other words short.1 in
+    let total = length-append word (32 ∷ join_with_byte 32 (other ∷ words)) in
+    omega arith
+
+pub spelling_short : (c : Command) → IsFit c → length (spelling c) ≤ 600
+spelling_short (Register n name) fits =
+    let whole = join_short (codes "REG") (decimal n ∷ name ∷ []) (omega arith, (number.short n fits.0, (name_spelled.short name fits.1, tt))) in
+    omega arith
+spelling_short (Open e r settings) fits =
+    let whole = join_short (codes "OPEN") (event_name e ∷ decimal r ∷ format_name settings.format ∷ cutoff_text settings.cutoff ∷ limit_text settings.limit ∷ advance_text settings.advance ∷ [])
+    (omega arith, (event_spelled.short e fits.0, (round.short r fits.1, (format_spelled.short settings.format fits.2.0, (cutoff_spelled.short settings.cutoff fits.2.1, (limit_spelled.short settings.limit fits.2.2, (advance_spelled.short settings.advance tt, tt))))))) in
+    omega arith
+spelling_short (Enter e n) fits =
+    let whole = join_short (codes "ENT") (event_name e ∷ decimal n ∷ []) (omega arith, (event_spelled.short e fits.0, (number.short n fits.1, tt))) in
+    omega arith
+spelling_short (Attempt e r k n outcome) fits =
+    let whole = join_short (codes "ATT") (event_name e ∷ decimal r ∷ decimal k ∷ decimal n ∷ outcome_text outcome ∷ [])
+    (omega arith, (event_spelled.short e fits.0, (round.short r fits.1, (attempt.short k fits.2, (number.short n fits.3, (outcome_spelled.short outcome fits.4, tt)))))) in
+    omega arith
+
+-- What is spelled is read.
+
+number_no_space : (n : ℕ) → n ≤ 9999 → lacks 32 (decimal n) ≡ true
+number_no_space n small = decimal_no_space n (omega arith)
+
+register_found : (n : ℕ) (name : List ℕ) → IsFit (Register n name) → register_of (Some (decimal n ++ 32 ∷ name)) ≡ Ok (Register n name)
+unfolding register_of
+register_found n name fits =
+    rw (field_then number 1 n (Some name) fits.0 (number_no_space n (omega arith)), name_spelled.found name fits.1) refl
+
+enter_found : (e : Event) (n : ℕ) → IsFit (Enter e n) → enter_of (Some (event_name e ++ 32 ∷ decimal n)) ≡ Ok (Enter e n)
+unfolding enter_of
+enter_found e n fits =
+    rw (field_then event_spelled 1 e (Some (decimal n)) fits.0 (event_no_space e fits.0), field_last number 2 n fits.1 (number_no_space n (omega arith))) refl
+
+open_found : (e : Event) (r : ℕ) (s : Settings) → IsFit (Open e r s) → open_of (Some (event_name e ++ 32 ∷ (decimal r ++ 32 ∷ (format_name s.format ++ 32 ∷ (cutoff_text s.cutoff ++ 32 ∷ (limit_text s.limit ++ 32 ∷ advance_text s.advance)))))) ≡ Ok (Open e r s)
+unfolding open_of
+open_found e r s fits =
+    rw (field_then event_spelled 1 e (Some (decimal r ++ 32 ∷ (format_name s.format ++ 32 ∷ (cutoff_text s.cutoff ++ 32 ∷ (limit_text s.limit ++ 32 ∷ advance_text s.advance))))) fits.0 (event_no_space e fits.0))
+    (rw (field_then round 2 r (Some (format_name s.format ++ 32 ∷ (cutoff_text s.cutoff ++ 32 ∷ (limit_text s.limit ++ 32 ∷ advance_text s.advance)))) fits.1 (decimal_no_space r (omega arith)))
+    (rw (field_then format_spelled 3 s.format (Some (cutoff_text s.cutoff ++ 32 ∷ (limit_text s.limit ++ 32 ∷ advance_text s.advance))) fits.2.0 (format_no_space s.format fits.2.0))
+    (rw (field_then cutoff_spelled 4 s.cutoff (Some (limit_text s.limit ++ 32 ∷ advance_text s.advance)) fits.2.1 (cutoff_no_space s.cutoff fits.2.1))
+    (rw (field_then limit_spelled 5 s.limit (Some (advance_text s.advance)) fits.2.2 (limit_no_space s.limit fits.2.2))
+    (rw (field_last advance_spelled 6 s.advance tt (advance_no_space s.advance)) refl)))))
+
+attempt_found : (e : Event) (r k n : ℕ) (outcome : Outcome) → IsFit (Attempt e r k n outcome) → attempt_of (Some (event_name e ++ 32 ∷ (decimal r ++ 32 ∷ (decimal k ++ 32 ∷ (decimal n ++ 32 ∷ outcome_text outcome))))) ≡ Ok (Attempt e r k n outcome)
+unfolding attempt_of
+attempt_found e r k n outcome fits =
+    rw (field_then event_spelled 1 e (Some (decimal r ++ 32 ∷ (decimal k ++ 32 ∷ (decimal n ++ 32 ∷ outcome_text outcome)))) fits.0 (event_no_space e fits.0))
+    (rw (field_then round 2 r (Some (decimal k ++ 32 ∷ (decimal n ++ 32 ∷ outcome_text outcome))) fits.1 (decimal_no_space r (omega arith)))
+    (rw (field_then attempt 3 k (Some (decimal n ++ 32 ∷ outcome_text outcome)) fits.2 (decimal_no_space k (omega arith)))
+    (rw (field_then number 4 n (Some (outcome_text outcome)) fits.3 (number_no_space n (omega arith)))
+    (rw (outcome_spelled.found outcome fits.4) refl))))
+
+word_found : (word left : List ℕ) → lacks 32 word ≡ true → length (word ++ 32 ∷ left) ≤ 600 → command_of (word ++ 32 ∷ left) ≡ by_word (word, Some left)
+unfolding command_of
+word_found word left none short =
+    let fits : nat_lt 600 (length (word ++ 32 ∷ left)) ≡ false = grind (arith, nat_tests) in
+    rw (fits, cut-behind 32 word (Some left) none) refl
+
+pub spelled_found : (c : Command) → IsFit c → command_of (spelling c) ≡ Ok c
+spelled_found (Register n name) fits =
+    word_found (codes "REG") _ refl (spelling_short (Register n name) fits) ∙ register_found n name fits
+spelled_found (Open e r s) fits =
+    word_found (codes "OPEN") _ refl (spelling_short (Open e r s) fits) ∙ open_found e r s fits
+spelled_found (Enter e n) fits =
+    word_found (codes "ENT") _ refl (spelling_short (Enter e n) fits) ∙ enter_found e n fits
+spelled_found (Attempt e r k n outcome) fits =
+    word_found (codes "ATT") _ refl (spelling_short (Attempt e r k n outcome) fits) ∙ attempt_found e r k n outcome fits
+
+pub spelled_once : (c d : Command) → IsFit c → IsFit d → spelling c ≡ spelling d → c ≡ d
+spelled_once c d fits fits' same = ok_equal c d (sym (spelled_found c fits) ∙ ap command_of same ∙ spelled_found d fits')
+
+-- What `read` answers.
+
+pub gives_too_long : (bytes : List ℕ) → nat_lt 600 (length bytes) ≡ true → Gives (Err fault.TooLong) (command_of bytes)
+unfolding command_of
+gives_too_long bytes long = rw long refl
+
+pub gives_word : (r : Result Command CommandFault) (bytes : List ℕ) (parts : List ℕ × Option (List ℕ)) → nat_lt 600 (length bytes) ≡ false → parts ≡ cut 32 bytes → Gives r (by_word parts) → Gives r (command_of bytes)
+unfolding command_of
+gives_word r bytes parts short same h =
+    rw short (subst (λ (p : List ℕ × Option (List ℕ)). Gives r (by_word p)) same h)
+
+pub gives_found : (r : Result Command CommandFault) (bytes : List ℕ) → Gives r (command_of bytes) → (c : Command) → IsFit c → bytes ≡ spelling c → ReadsAs r c
+gives_found r bytes h c fits same = step r (subst (Gives r) (ap command_of same ∙ spelled_found c fits) h)
+  where
+    step : (r : Result Command CommandFault) → Gives r (Ok c) → ReadsAs r c
+    step (Ok d) e = sym (ok_equal c d e)
+    step (Err fault.NoMemory) e = refl
+    step (Err fault.TooLong) e = absurd (let bad : Ok c ≡ Err fault.TooLong = e in cc)
+    step (Err fault.NotACommand) e = absurd (let bad : Ok c ≡ Err fault.NotACommand = e in cc)
+    step (Err (fault.BadField index)) e = absurd (let bad : Ok c ≡ Err (fault.BadField index) = e in cc)
+
+pub gives_only : (r : Result Command CommandFault) (bytes : List ℕ) → Gives r (command_of bytes) → IfOk r (λ c. IsFit c × (bytes ≡ spelling c))
+gives_only (Ok c) bytes h = spelled_only bytes c h
+gives_only (Err e) bytes h = _

@@ -1,0 +1,130 @@
+-- The command that a text spells, or the first fault from the left.
+use Rattle.std.specs.Prelude.{◌≡◌, ◌≤◌, ℕ, nat_lt, Bool, if◌then◌else◌, List, [], ◌∷◌, length, bytes_eq, codes, Option, Some, None, Result, Ok, Err}
+use Rattle.std.specs.List.{list_any}
+use Rattle.std.specs.Option.{ok_or}
+use Rattle.commands.specs.declared.command.Command.{Command}
+use Rattle.commands.specs.declared.command.Command.TheVariants.{Register, Open, Enter, Attempt}
+use Rattle.commands.specs.declared.reading.CommandFault.{CommandFault}
+use Rattle.commands.specs.declared.reading.CommandFault.TheVariants as fault
+use Rattle.commands.specs.Spelling.{last_round, IsFit, spelling}
+use Rattle.commands.specs.Fields.{cut, number_between, name_of, event_of, format_of, cutoff_of, limit_of, advance_of, outcome_of}
+
+infixl 10 ◌>>=◌
+abbrev pub ◌>>=◌ : {A B : Type 0} → Result A CommandFault → (A → Result B CommandFault) → Result B CommandFault
+(Ok x) >>= f = f x
+(Err e) >>= f = Err e
+
+-- The texts. What is left of a text stands behind a space; where nothing is left the next field is missing.
+
+abbrev pub front : ℕ → Option (List ℕ) → Result (List ℕ × Option (List ℕ)) CommandFault
+front index None = Err (fault.BadField index)
+front index (Some bytes) = Ok (cut 32 bytes)
+
+-- the next field, and what is left behind it
+abbrev pub field : {A : Type 0} → ℕ → (List ℕ → Option A) → Option (List ℕ) → Result (A × Option (List ℕ)) CommandFault
+field index of left = do
+  parts ← front index left
+  x ← ok_or (of parts.0) (fault.BadField index)
+  Ok (x, parts.1)
+
+-- all that is left, as the last field
+abbrev pub last_field : {A : Type 0} → ℕ → (List ℕ → Option A) → Option (List ℕ) → Result A CommandFault
+last_field index of left = do
+  bytes ← ok_or left (fault.BadField index)
+  ok_or (of bytes) (fault.BadField index)
+
+-- nothing is left
+abbrev pub no_field : ℕ → Option (List ℕ) → Result (Unit {0}) CommandFault
+no_field index None = Ok tt
+no_field index (Some bytes) = Err (fault.BadField index)
+
+-- The words and their fields.
+
+unfoldable pub register_of : Option (List ℕ) → Result Command CommandFault
+register_of left = do
+  number ← field 1 (number_between 1 9999) left
+  name ← last_field 2 name_of number.1
+  Ok (Register number.0 name)
+
+unfoldable pub open_of : Option (List ℕ) → Result Command CommandFault
+open_of left = do
+  event ← field 1 event_of left
+  round ← field 2 (number_between 1 last_round) event.1
+  form ← field 3 format_of round.1
+  cutoff ← field 4 cutoff_of form.1
+  limit ← field 5 limit_of cutoff.1
+  advance ← field 6 advance_of limit.1
+  end ← no_field 7 advance.1
+  Ok (Open event.0 round.0 (record { format = form.0; cutoff = cutoff.0; limit = limit.0; advance = advance.0 }))
+
+unfoldable pub enter_of : Option (List ℕ) → Result Command CommandFault
+enter_of left = do
+  event ← field 1 event_of left
+  number ← field 2 (number_between 1 9999) event.1
+  end ← no_field 3 number.1
+  Ok (Enter event.0 number.0)
+
+unfoldable pub attempt_of : Option (List ℕ) → Result Command CommandFault
+attempt_of left = do
+  event ← field 1 event_of left
+  round ← field 2 (number_between 1 last_round) event.1
+  attempt ← field 3 (number_between 1 5) round.1
+  number ← field 4 (number_between 1 9999) attempt.1
+  outcome ← last_field 5 outcome_of number.1
+  Ok (Attempt event.0 round.0 attempt.0 number.0 outcome)
+
+abbrev pub words : List (List ℕ)
+words = codes "REG" ∷ codes "OPEN" ∷ codes "ENT" ∷ codes "ATT" ∷ []
+
+abbrev pub is_word : List ℕ → Bool
+is_word bytes = list_any (λ word. bytes_eq bytes word) words
+
+abbrev pub by_word : List ℕ × Option (List ℕ) → Result Command CommandFault
+by_word text =
+    if bytes_eq text.0 (codes "REG") then register_of text.1
+    else if bytes_eq text.0 (codes "OPEN") then open_of text.1
+    else if bytes_eq text.0 (codes "ENT") then enter_of text.1
+    else if bytes_eq text.0 (codes "ATT") then attempt_of text.1
+    else Err fault.NotACommand
+
+-- the command that a text spells, or why it spells none
+unfoldable pub command_of : List ℕ → Result Command CommandFault
+command_of bytes = if nat_lt 600 (length bytes) then Err fault.TooLong else by_word (cut 32 bytes)
+
+-- What a function of the program returned is what these say.
+
+abbrev pub Reads : {X Y : Type 0} → (X → Y) → Result X CommandFault → Result Y CommandFault → Type 0
+Reads view (Ok x) said = said ≡ Ok (view x)
+Reads view (Err e) said = said ≡ Err e
+
+-- a command for which memory is taken
+abbrev pub TakesMemory : Result Command CommandFault → Type 0
+TakesMemory (Ok (Register number name)) = Unit {0}
+TakesMemory _ = ⊥
+
+-- where memory runs out, that is said in place of a command for which it is taken
+abbrev pub Gives : Result Command CommandFault → Result Command CommandFault → Type 0
+Gives (Ok c) said = said ≡ Ok c
+Gives (Err fault.NoMemory) said = TakesMemory said
+Gives (Err fault.TooLong) said = said ≡ Err fault.TooLong
+Gives (Err fault.NotACommand) said = said ≡ Err fault.NotACommand
+Gives (Err (fault.BadField index)) said = said ≡ Err (fault.BadField index)
+
+-- a command was read, unless memory ran out
+abbrev pub ReadsAs : Result Command CommandFault → Command → Type 0
+ReadsAs (Ok d) c = d ≡ c
+ReadsAs (Err e) c = e ≡ fault.NoMemory
+
+-- The laws: reading and spelling are inverse, and a text spells at most one command.
+
+abbrev pub ReadsWhatIsSpelled : Type 0
+ReadsWhatIsSpelled = (c : Command) → IsFit c → command_of (spelling c) ≡ Ok c
+
+abbrev pub SpellsWhatIsRead : Type 0
+SpellsWhatIsRead = (bytes : List ℕ) (c : Command) → command_of bytes ≡ Ok c → IsFit c × (bytes ≡ spelling c)
+
+abbrev pub SpellsOneCommand : Type 0
+SpellsOneCommand = (c d : Command) → IsFit c → IsFit d → spelling c ≡ spelling d → c ≡ d
+
+abbrev pub SpellsShort : Type 0
+SpellsShort = (c : Command) → IsFit c → length (spelling c) ≤ 600

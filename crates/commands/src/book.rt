@@ -1,0 +1,248 @@
+//! The accepted commands, with what is looked up of them.
+
+ghost use Rattle.std.specs.Prelude.{◌≡◌, IsTrue, ◌++◌, ◌∷◌, [], IfOk, OnOk, OnErr, option_map};
+ghost use Rattle.attempts.specs.Attempts.{IsOutcome};
+ghost use Rattle.commands.specs.Accepted.{name_of, round_of, refusal, is_cutoff, is_limit};
+ghost use Rattle.commands.specs.Spelling.{IsFit, IsFitCutoff};
+ghost use Rattle.commands.specs.Tables.{IsCutoff};
+ghost use Rattle.commands.specs.History.{answer_of, added};
+ghost use Rattle.commands.specs.Kept.{IsIndexOf};
+ghost use Rattle.commands.specs.declared.command.Command.TheVariants as command;
+
+use crate::answer::{Answer, Code};
+use crate::command::{Command, Name, Settings};
+use crate::competitors::Competitors;
+use crate::opened::Rounds;
+use crate::rounds::RoundTable;
+use attempts::{NoMemory, Outcome, Unit};
+use formats::{Event, Format, allowed, attempts_of, unit_of};
+use std::alloc::Global;
+use std::marker::Model;
+
+/// Whether a cutoff counts fewer attempts than the format has.
+fn is_cutoff(format: Format, cutoff: Option<(u8, u32)>) -> bool
+    ensures value { result ≡ is_cutoff format cutoff }
+    ensures within { IsFitCutoff cutoff → IsTrue result → IsCutoff format cutoff }
+{
+    match cutoff {
+        None => true,
+        Some((attempts, _)) => attempts < attempts_of(format),
+    }
+}
+
+/// Whether a limit is there where the event is timed, and not where it isn't.
+fn is_limit(unit: Unit, limit: Option<u32>) -> bool
+    ensures { result ≡ is_limit unit limit }
+{
+    match unit {
+        Unit::Time => limit.is_some(),
+        Unit::Moves => limit.is_none(),
+    }
+}
+
+/// The competitors and the rounds that the accepted commands make.
+#[derive(Drop)]
+pub(crate) struct Index {
+    competitors: Competitors,
+    rounds: Rounds,
+}
+
+impl Index {
+    fn new(alloc: Global) -> Self
+        ensures { IsIndexOf [] result }
+    {
+        Index {
+            competitors: Competitors::new(alloc),
+            rounds: Rounds::new(alloc),
+        }
+    }
+
+    /// Registers a competitor, or says why not.
+    fn register(
+        &mut self,
+        alloc: Global,
+        accepted: &[Command],
+        number: u16,
+        name: &Name,
+    ) -> Result<Option<Code>, NoMemory>
+        requires { IsIndexOf accepted.now self.old }
+        ensures code { IfOk result (λ code. code ≡ refusal accepted.now (command.Register number name.now)) }
+        ensures index { IfOk result (λ code. IsIndexOf (accepted.now ++ added code (command.Register number name.now)) self.new) }
+        ensures err { OnErr result (IsIndexOf accepted.now self.new) }
+    {
+        self.competitors.register(alloc, accepted, number, name)
+    }
+
+    /// Opens a round, or says why not.
+    fn open(
+        &mut self,
+        alloc: Global,
+        accepted: &[Command],
+        event: Event,
+        round: u8,
+        settings: Settings,
+    ) -> Result<Option<Code>, NoMemory>
+        requires index { IsIndexOf accepted.now self.old }
+        requires fit { IsFit (command.Open event round settings) }
+        ensures code { IfOk result (λ code. code ≡ refusal accepted.now (command.Open event round settings)) }
+        ensures index { IfOk result (λ code. IsIndexOf (accepted.now ++ added code (command.Open event round settings)) self.new) }
+        ensures err { OnErr result (IsIndexOf accepted.now self.new) }
+    {
+        if self.rounds.is_open(event, round) {
+            return Ok(Some(Code::RoundOpen));
+        }
+        if round > 1 {
+            return Ok(Some(Code::RoundUnknown));
+        }
+        if !allowed(event, settings.format) {
+            return Ok(Some(Code::FormatNotAllowed));
+        }
+        if !is_cutoff(settings.format, settings.cutoff) {
+            return Ok(Some(Code::CutoffNotAllowed));
+        }
+        if !is_limit(unit_of(event), settings.limit) {
+            return Ok(Some(Code::LimitNotAllowed));
+        }
+        self.rounds.add(alloc, event, round, settings)?;
+        Ok(None)
+    }
+
+    /// Enters a competitor, or says why not.
+    fn enter(
+        &mut self,
+        accepted: &[Command],
+        event: Event,
+        number: u16,
+    ) -> Result<Option<Code>, NoMemory>
+        requires { IsIndexOf accepted.now self.old }
+        ensures code { IfOk result (λ code. code ≡ refusal accepted.now (command.Enter event number)) }
+        ensures index { IfOk result (λ code. IsIndexOf (accepted.now ++ added code (command.Enter event number)) self.new) }
+        ensures err { OnErr result (IsIndexOf accepted.now self.new) }
+    {
+        if !self.competitors.is_registered(accepted, number) {
+            return Ok(Some(Code::UnknownCompetitor));
+        }
+        self.rounds.enter(event, number)
+    }
+
+    /// Adds an attempt, or says why not.
+    fn attempt(
+        &mut self,
+        accepted: &[Command],
+        event: Event,
+        round: u8,
+        attempt: u8,
+        number: u16,
+        outcome: Outcome,
+    ) -> Option<Code>
+        requires index { IsIndexOf accepted.now self.old }
+        requires outcome { IsOutcome outcome }
+        ensures code { result ≡ refusal accepted.now (command.Attempt event round attempt number outcome) }
+        ensures index { IsIndexOf (accepted.now ++ added result (command.Attempt event round attempt number outcome)) self.new }
+    {
+        if !self.competitors.is_registered(accepted, number) {
+            return Some(Code::UnknownCompetitor);
+        }
+        self.rounds.put(event, round, attempt, number, outcome)
+    }
+
+    /// Does a command that will stand behind the accepted ones, or says why not.
+    fn apply(
+        &mut self,
+        alloc: Global,
+        accepted: &[Command],
+        command: &Command,
+    ) -> Result<Option<Code>, NoMemory>
+        requires index { IsIndexOf accepted.now self.old }
+        requires command { IsFit command.now }
+        ensures code { IfOk result (λ code. code ≡ refusal accepted.now command.now) }
+        ensures index { IfOk result (λ code. IsIndexOf (accepted.now ++ added code command.now) self.new) }
+        ensures err { OnErr result (IsIndexOf accepted.now self.new) }
+    {
+        match command {
+            Command::Register { number, name } => self.register(alloc, accepted, *number, name),
+            Command::Open {
+                event,
+                round,
+                settings,
+            } => self.open(alloc, accepted, *event, *round, *settings),
+            Command::Enter { event, number } => self.enter(accepted, *event, *number),
+            Command::Attempt {
+                event,
+                round,
+                attempt,
+                number,
+                outcome,
+            } => Ok(self.attempt(accepted, *event, *round, *attempt, *number, *outcome)),
+        }
+    }
+}
+
+/// The accepted commands in order, with what is looked up of them.
+#[derive(Drop)]
+pub(crate) struct Book {
+    accepted: Vec<Command>,
+    index: Index,
+}
+
+impl Model for Book {
+    ghost use Rattle.std.specs.Prelude.{List};
+    ghost use Rattle.commands.specs.declared.command.Command.{Command};
+    ghost use Rattle.commands.specs.Kept.{IsIndexOf};
+
+    ghost Value = { List Command };
+
+    ghost view = { λ b. b.accepted.items };
+
+    ghost invariant = { λ b. IsIndexOf b.accepted.items b.index };
+}
+
+impl Book {
+    /// No command is accepted yet.
+    pub(crate) fn new(alloc: Global) -> Self
+        ensures { result ≡ [] }
+    {
+        Book {
+            accepted: Vec::new(alloc),
+            index: Index::new(alloc),
+        }
+    }
+
+    /// Does a command, or says why not.
+    pub(crate) fn apply(&mut self, alloc: Global, command: Command) -> Result<Answer, NoMemory>
+        requires { IsFit command }
+        ensures answer { IfOk result (λ a. a ≡ answer_of (refusal self.old command)) }
+        ensures added { OnOk result (self.new ≡ self.old ++ added (refusal self.old command) command) }
+        ensures err { OnErr result (self.new ≡ self.old) }
+    {
+        self.accepted.reserve(1)?;
+        match self.index.apply(alloc, &self.accepted, &command)? {
+            None => {
+                self.accepted.push(command).unwrap();
+                Ok(Answer::Done)
+            }
+            Some(code) => Ok(Answer::Refused(code)),
+        }
+    }
+
+    /// The name of a competitor.
+    pub(crate) fn name(&self, number: u16) -> Option<&[u8]>
+        ensures { option_map (λ s. s.now) result ≡ name_of self.now number }
+    {
+        self.index.competitors.name(&self.accepted, number)
+    }
+
+    /// The table of a round.
+    pub(crate) fn round(&self, event: Event, round: u8) -> Option<&RoundTable>
+        ensures { option_map (λ t. t.now) result ≡ option_map (λ r. r.1) (round_of self.now event round) }
+    {
+        self.index.rounds.table(event, round)
+    }
+
+    /// The settings of a round.
+    pub(crate) fn settings(&self, event: Event, round: u8) -> Option<Settings>
+        ensures { result ≡ option_map (λ r. r.0) (round_of self.now event round) }
+    {
+        self.index.rounds.settings(event, round)
+    }
+}

@@ -1,0 +1,88 @@
+//! Commands: what a text of the list asks for.
+
+ghost use Rattle.std.specs.Prelude.{◌≡◌};
+
+use crate::advancement::Advance;
+use attempts::Outcome;
+use formats::{Event, Format};
+use std::marker::Model;
+
+/// A competitor's name, as bytes of text.
+#[derive(Drop)]
+pub struct Name {
+    bytes: Vec<u8>,
+}
+
+impl Model for Name {
+    ghost use Rattle.std.specs.Prelude.{List, ℕ};
+
+    ghost Value = { List ℕ };
+
+    ghost view = { λ name. name.bytes.items };
+}
+
+impl Name {
+    /// A name of these bytes. Whether they are a name that a command may give is for its reader to say.
+    pub fn new(bytes: Vec<u8>) -> Self
+        ensures { result ≡ bytes.items }
+    {
+        Name { bytes }
+    }
+
+    /// The bytes of the name.
+    pub fn as_bytes(&self) -> &[u8]
+        ensures { result.now ≡ self.now }
+    {
+        &self.bytes
+    }
+
+    /// Gives the bytes back.
+    pub fn into_bytes(self) -> Vec<u8>
+        ensures { result.items ≡ self }
+    {
+        self.bytes
+    }
+}
+
+/// How a round is run.
+#[derive(Clone, Copy, Debug, PartialEq, Eq)]
+pub struct Settings {
+    /// How many attempts there are, and what counts of them.
+    pub format: Format,
+    /// After so many attempts (1 to 4) only those do the others who have one below so many hundredths of a second, or
+    /// moves in fewest moves (1 to 360,000).
+    pub cutoff: Option<(u8, u32)>,
+    /// The hundredths of a second (1 to 360,000) at which an attempt is too long.
+    pub limit: Option<u32>,
+    /// Who goes on to the next round.
+    pub advance: Advance,
+}
+
+/// What a text of the list asks for. Competitors' numbers are 1 to 9,999.
+#[derive(Drop)]
+pub enum Command {
+    /// `REG`: gives a competitor a number and a name.
+    Register {
+        number: u16,
+        name: Name,
+    },
+    /// `OPEN`: opens a round of an event.
+    Open {
+        event: Event,
+        round: u8,
+        settings: Settings,
+    },
+    /// `ENT`: enters a competitor for the first round of an event.
+    Enter {
+        event: Event,
+        number: u16,
+    },
+    /// `ATT`: what a competitor did in an attempt (1 to 5) of a round.
+    Attempt {
+        event: Event,
+        round: u8,
+        attempt: u8,
+        number: u16,
+        outcome: Outcome,
+    },
+}

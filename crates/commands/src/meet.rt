@@ -1,0 +1,118 @@
+//! A competition, as the list of its entries makes it.
+
+ghost use Rattle.std.specs.Prelude.{◌≡◌, ◌++◌, ◌∷◌, [], List, ℕ, IfOk, OnOk, OnErr, option_map};
+ghost use Rattle.commands.specs.History.{answer_to, answer_of, added_read, read_refusal, after, nothing, StandsFor, SeesEachId};
+ghost use Rattle.commands.specs.Reading.{command_of};
+ghost use Rattle.commands.specs.Accepted.{name_of, round_of};
+
+use crate::answer::{Answer, Code};
+use crate::book::Book;
+use crate::command::Settings;
+use crate::reading::{CommandFault, read};
+use crate::rounds::RoundTable;
+use attempts::NoMemory;
+use formats::Event;
+use indexmap::IndexSet;
+use std::alloc::{AllocError, Global};
+use std::marker::Model;
+
+/// What a list of entries comes to: the ids seen so far, and the accepted commands.
+///
+/// An entry is an id and a command text. Contracts see a `Meet` as its `History`, and a history
+/// stands for a list of entries where it is what they come to, taken one after the other.
+#[derive(Drop)]
+pub struct Meet {
+    alloc: Global,
+    ids: IndexSet<u64>,
+    book: Book,
+}
+
+impl Model for Meet {
+    ghost use Rattle.commands.specs.History.{History};
+
+    ghost Value = { History };
+
+    ghost view = { λ m. record { ids = m.ids.keys; accepted = m.book } };
+}
+
+/// Does the command of a text, or says why not.
+fn do_text(book: &mut Book, alloc: Global, text: &[u8]) -> Result<Answer, NoMemory>
+    ensures answer { IfOk result (λ answer. answer ≡ answer_of (read_refusal book.old (command_of text.now))) }
+    ensures added { OnOk result (book.new ≡ book.old ++ added_read (read_refusal book.old (command_of text.now)) (command_of text.now)) }
+    ensures err { OnErr result (book.new ≡ book.old) }
+{
+    match read(alloc, text) {
+        Ok(command) => book.apply(alloc, command),
+        Err(CommandFault::NoMemory) => Err(AllocError),
+        Err(CommandFault::TooLong) => Ok(Answer::Refused(Code::Unread)),
+        Err(CommandFault::NotACommand) => Ok(Answer::Refused(Code::Unread)),
+        Err(CommandFault::BadField { .. }) => Ok(Answer::Refused(Code::Unread)),
+    }
+}
+
+impl Meet {
+    /// A competition before any entry.
+    pub fn new(alloc: Global) -> Result<Self, NoMemory>
+        ensures value { IfOk result (λ meet. meet ≡ nothing) }
+        ensures stands { IfOk result (λ meet. StandsFor meet []) }
+    {
+        Ok(Meet {
+            alloc,
+            ids: IndexSet::new(alloc),
+            book: Book::new(alloc),
+        })
+    }
+
+    /// Takes one more entry, and says what its command is answered: `Repeat` where the id was seen
+    /// before, `Unread` where the text is no command, else the first check of the command that
+    /// fails, or `Done`.
+    ///
+    /// A refused entry adds its id to those seen and changes nothing else. At `NoMemory` nothing
+    /// changes at all.
+    #[tactic(auto, unfolding(crate::specs::History::after, crate::specs::History::entry_refusal))]
+    pub fn apply(&mut self, id: u64, text: &[u8]) -> Result<Answer, NoMemory>
+        ensures answer { IfOk result (λ answer. answer ≡ answer_to self.old id text.now) }
+        ensures after { OnOk result (self.new ≡ after self.old id text.now) }
+        ensures err { OnErr result (self.new ≡ self.old) }
+
+        // Whatever list of entries the meet stands for, it then stands for that list and this entry.
+        ensures stands { OnOk result ((entries : List (ℕ × List ℕ)) → StandsFor self.old entries → StandsFor self.new (entries ++ (id, text.now) ∷ [])) }
+    {
+        if self.ids.contains(&id) {
+            return Ok(Answer::Refused(Code::Repeat));
+        }
+        self.ids.reserve(1)?;
+        let answer = do_text(&mut self.book, self.alloc, text)?;
+        self.ids.insert(id).unwrap();
+        Ok(answer)
+    }
+
+    /// The name of a competitor, 1 to 80 bytes of UTF-8, where the number is registered.
+    pub fn name(&self, number: u16) -> Option<&[u8]>
+        ensures { option_map (λ name. name.now) result ≡ name_of self.now.accepted number }
+    {
+        self.book.name(number)
+    }
+
+    /// The table of a round, where it was opened.
+    pub fn round(&self, event: Event, round: u8) -> Option<&RoundTable>
+        ensures { option_map (λ table. table.now) result ≡ option_map (λ r. r.1) (round_of self.now.accepted event round) }
+    {
+        self.book.round(event, round)
+    }
+
+    /// The settings of a round as they stand now, where it was opened.
+    pub fn settings(&self, event: Event, round: u8) -> Option<Settings>
+        ensures { result ≡ option_map (λ r. r.0) (round_of self.now.accepted event round) }
+    {
+        self.book.settings(event, round)
+    }
+}
+
+/// A law: the ids that are seen after a list of entries are the ids of its entries, those of refused ones included.
+pub fn every_id_is_seen()
+    ensures { SeesEachId }
+{}
+
+#[cfg(test)]
+mod tests;

@@ -1,0 +1,206 @@
+use super::*;
+use crate::printing::print;
+use attempts::Outcome;
+use formats::Event;
+use std::test::Fail;
+
+/// The fault of a text that is no command.
+fn fault_of(alloc: Global, text: &[u8]) -> Option<CommandFault> {
+    read(alloc, text).err()
+}
+
+fn bad_field(index: u8) -> Option<CommandFault> {
+    Some(CommandFault::BadField { index })
+}
+
+/// Whether a text is read, and printed as itself.
+fn reads(alloc: Global, text: &[u8]) -> Result<bool, Fail> {
+    let command = read(alloc, text)?;
+    let printed = print(alloc, &command)?;
+    Ok(printed.as_slice() == text)
+}
+
+#[test]
+fn names_the_first_fault(rt: HostRuntime) {
+    let alloc = rt.alloc();
+    for text in [b"ENT 333 0".as_slice(), b"ENT 333 01", b"ENT 333"] {
+        assert_eq!(rt; fault_of(alloc, text), bad_field(2), "{text:?}");
+    }
+    assert_eq!(rt; fault_of(alloc, b"ENT 333 1 2"), bad_field(3));
+    assert_eq!(rt; fault_of(alloc, b"ENT 999 0"), bad_field(1));
+    assert_eq!(rt;
+        fault_of(alloc, b"ent 333 1"),
+        Some(CommandFault::NotACommand)
+    );
+    assert_eq!(rt; fault_of(alloc, b"ENT  333 1"), bad_field(1));
+    assert_eq!(rt; fault_of(alloc, b"ENT 333 1 "), bad_field(3));
+    assert_eq!(rt;
+        fault_of(alloc, b" ENT 333 1"),
+        Some(CommandFault::NotACommand)
+    );
+    assert_eq!(rt; fault_of(alloc, b""), Some(CommandFault::NotACommand));
+    assert_eq!(rt; fault_of(alloc, b"ENT"), bad_field(1));
+    assert_eq!(rt; fault_of(alloc, b"ENT 333 1\r"), bad_field(2));
+    assert_eq!(rt; fault_of(alloc, b"ATT 333 1 6 1 DNF "), bad_field(3));
+    assert_eq!(rt; fault_of(alloc, b"ATT 333 1 1 1 DNF "), bad_field(5));
+    assert_eq!(rt;
+        fault_of(alloc, b"OPEN 333 1 ao5 - 60000 final -"),
+        bad_field(7)
+    );
+}
+
+#[test]
+fn takes_600_bytes(rt: HostRuntime) {
+    let alloc = rt.alloc();
+    let mut text = [b'1'; 601];
+    text[0] = b'E';
+    text[1] = b'N';
+    text[2] = b'T';
+    text[3] = b' ';
+    assert_eq!(rt; fault_of(alloc, &text[..600]), bad_field(1));
+    assert_eq!(rt; fault_of(alloc, &text), Some(CommandFault::TooLong));
+}
+
+#[test]
+fn reads_the_stored_run(rt: HostRuntime) -> Result<(), Fail> {
+    let alloc = rt.alloc();
+    for text in [
+        b"REG 1 Ann Li".as_slice(),
+        b"REG 2 Bo Ek",
+        b"OPEN 333 1 ao5 - 60000 final",
+        b"OPEN 333 1 ao5 - - final",
+        b"ENT 333 12",
+        b"ATT 333 1 4 1 T:1300:0",
+        b"ATT 333 1 5 1 DNF",
+        b"ATT 333 1 5 1 DNS",
+        b"ATT 333 1 1 2 T:950:1",
+    ] {
+        assert!(rt; reads(alloc, text)?, "{text:?}");
+    }
+    let entered = read(alloc, b"ENT 333 12")?;
+    assert!(rt;
+        matches!(
+            entered,
+            Command::Enter {
+                event: Event::Cube3,
+                number: 12
+            }
+        )
+    );
+    let attempt = read(alloc, b"ATT 333 1 2 34 T:950:1")?;
+    assert!(rt;
+        matches!(
+            attempt,
+            Command::Attempt {
+                event: Event::Cube3,
+                round: 1,
+                attempt: 2,
+                number: 34,
+                outcome: Outcome::Time {
+                    hundredths: 950,
+                    penalties: 1
+                }
+            }
+        )
+    );
+    Ok(())
+}
+
+/// Whether `REG 1` takes a name, and gives it back.
+fn takes_name(alloc: Global, name: &[u8]) -> Result<bool, Fail> {
+    let mut text = Vec::from_slice(alloc, b"REG 1 ")?;
+    text.extend_from_slice(name)?;
+    match read(alloc, &text) {
+        Ok(
+            Command::Register {
+                number: 1,
+                name: read,
+            },
+        ) => {
+            let shown = read.as_bytes() == name;
+            Ok(shown && read.into_bytes().as_slice() == name)
+        }
+        Ok(_) => Err(Fail::from(CommandFault::NotACommand)),
+        Err(CommandFault::BadField { index: 2 }) => Ok(false),
+        Err(fault) => Err(Fail::from(fault)),
+    }
+}
+
+#[test]
+fn takes_names(rt: HostRuntime) -> Result<(), Fail> {
+    let alloc = rt.alloc();
+    for name in [
+        b"A".as_slice(),
+        b"Ann (2) \"Li\"",
+        b"Zo\xc3\xab",
+        b"\xe6\x9d\x8e \xf0\x9f\x8e\xb2",
+        &[b'a'; 80],
+    ] {
+        assert!(rt; takes_name(alloc, name)?, "{name:?}");
+    }
+    for name in [
+        b"".as_slice(),
+        b" ",
+        b" Ann",
+        b"Ann ",
+        b"Ann  Li",
+        b"Ann\tLi",
+        b"Ann\x1fLi",
+        b"Ann\x7fLi",
+        b"\xff",
+        b"Zo\xc3",
+        b"\xc0\x80",
+        b"\xed\xa0\x80",
+        &[b'a'; 81],
+    ] {
+        assert!(rt; !takes_name(alloc, name)?, "{name:?}");
+    }
+    Ok(())
+}
+
+#[test]
+fn takes_numbers_in_their_ranges(rt: HostRuntime) -> Result<(), Fail> {
+    let alloc = rt.alloc();
+    for text in [
+        b"ENT 333 1".as_slice(),
+        b"ENT 333 9999",
+        b"OPEN 333 1 ao5 - 1 final",
+        b"OPEN 333 1 ao5 - 360000 final",
+        b"ATT 333 1 1 1 T:1:0",
+        b"ATT 333 1 5 9999 T:999999:9",
+    ] {
+        assert!(rt; reads(alloc, text)?, "{text:?}");
+    }
+    for (text, index) in [
+        (b"REG 0 A".as_slice(), 1),
+        (b"REG 10000 A", 1),
+        (b"ENT 333 10000", 2),
+        (b"ENT 333 4294967297", 2),
+        (b"ENT 333 18446744073709551617", 2),
+        (b"ENT 333 +1", 2),
+        (b"ENT 333 1a", 2),
+        (b"OPEN 333 0 ao5 - 60000 final", 2),
+        (b"OPEN 333 5 ao5 - 60000 final", 2),
+        (b"OPEN 333 1 ao6 - 60000 final", 3),
+        (b"OPEN 333 1 ao5 0 60000 final", 4),
+        (b"OPEN 333 1 ao5 - 0 final", 5),
+        (b"OPEN 333 1 ao5 - 360001 final", 5),
+        (b"OPEN 333 1 ao5 - 60000 Final", 6),
+        (b"ATT 333 1 0 1 DNF", 3),
+        (b"ATT 333 1 6 1 DNF", 3),
+        (b"ATT 333 1 1 0 DNF", 4),
+        (b"ATT 333 1 1 1 T:0:0", 5),
+        (b"ATT 333 1 1 1 T:1000000:0", 5),
+        (b"ATT 333 1 1 1 T:1000:10", 5),
+        (b"ATT 333 1 1 1 T:01:0", 5),
+        (b"ATT 333 1 1 1 T:1000:00", 5),
+        (b"ATT 333 1 1 1 T:1000", 5),
+        (b"ATT 333 1 1 1 T:1000:", 5),
+        (b"ATT 333 1 1 1 T:1000:0:0", 5),
+        (b"ATT 333 1 1 1 dnf", 5),
+        (b"ATT 333 1 1 1", 5),
+    ] {
+        assert_eq!(rt; fault_of(alloc, text), bad_field(index), "{text:?}");
+    }
+    Ok(())
+}

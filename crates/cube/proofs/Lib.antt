@@ -1,0 +1,5 @@
+pub mod QuarterTurns
+pub mod Compositions
+pub mod Space
+pub mod Solved
+pub mod Rearranged

@@ -1,0 +1,5 @@
+pub mod Bytes
+pub mod Lines
+pub mod Replay
+pub mod Progress
+pub mod Statuses

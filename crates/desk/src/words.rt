@@ -1,0 +1,232 @@
+//! The words of the program: what they ask for, and how it ends.
+
+ghost use Rattle.std.specs.Prelude.{◌≡◌, ◌≢◌};
+ghost use Rattle.std.specs.IoError.{error_kind};
+ghost use Rattle.std.specs.Io.KnownBytes.{Keeps};
+ghost use Rattle.desk.specs.Statuses.{status_of, RunsNothing, Ran};
+
+use crate::fault::RunFault;
+use crate::replay::replay;
+use crate::writing::write_text;
+use clap::error::ErrorKind as ParseErrorKind;
+use clap::{Arg, ArgAction, ArgMatches, Command, Error, value_parser};
+use formats::Event;
+use sheets::Style;
+use std::alloc::{AllocError, Global};
+use std::env::Args;
+use std::io;
+use std::io::{ErrorKind, Read, Write};
+
+/// The events' names, for the parser of the words.
+static NAMES: [&str; 16] = [
+    "333", "222", "444", "555", "666", "777", "333bf", "333fm", "333oh", "clock", "minx", "pyram",
+    "skewb", "sq1", "444bf", "555bf",
+];
+
+const ABOUT: &str = "The results desk of a speedcubing competition.";
+
+const REPLAY_ABOUT: &str =
+    "Reads the commands of a competition and prints the result sheet of a round.";
+
+const REPLAY_INPUT: &str = "\
+Standard input has one command a line:
+
+  REG 1 Ann Li                  registers competitor 1 under a name
+  OPEN 333 1 ao5 - 60000 final  opens a round: event, round, format, cutoff (-), time limit in
+                                hundredths of a second, who advances
+  ENT 333 1                     enters competitor 1 in the event
+  ATT 333 1 2 1 T:1200:0        attempt 2 of competitor 1 in round 1: 12.00 seconds, no penalty;
+                                or DNF, or DNS
+
+Standard output gets a line `refused N NAME` for each line N that is refused, and then the sheet.
+
+Exit status: 0 the sheet was printed; 2 the words are not understood, or ask for help;
+3 no such round, or input too long; 4 cannot read, or cannot write; 5 no memory.";
+
+const STATUSES: &str = "\
+Exit status: 0 done; 2 the words are not understood, or ask for help; 3 a named refusal;
+4 a device failed; 5 no memory. What is wrong stands on standard error, in one line.";
+
+/// What the words ask for.
+#[derive(Clone, Copy)]
+struct Task {
+    event: Event,
+    round: u8,
+    style: Style,
+}
+
+/// The words of `replay`.
+fn replay_command<'a>(alloc: Global) -> Result<Command<'a>, AllocError> {
+    let event = Arg::new(alloc, "event")
+        .value_name("EVENT")
+        .help("The event")
+        .required(true)
+        .action(ArgAction::Set)
+        .value_parser(NAMES.as_slice());
+    let round = Arg::new(alloc, "round")
+        .value_name("ROUND")
+        .help("The round, 1 to 4")
+        .required(true)
+        .action(ArgAction::Set)
+        .value_parser(value_parser!(u8).range(1..5));
+    let table = Arg::new(alloc, "csv")
+        .long("csv")
+        .help("Print the sheet as comma-separated values")
+        .action(ArgAction::SetTrue);
+    Command::new(alloc, "replay")
+        .about(REPLAY_ABOUT)
+        .after_help(REPLAY_INPUT)
+        .arg(event)?
+        .arg(round)?
+        .arg(table)
+}
+
+/// The words of the program.
+fn command<'a>(alloc: Global) -> Result<Command<'a>, AllocError> {
+    Command::new(alloc, "desk")
+        .about(ABOUT)
+        .after_help(STATUSES)
+        .subcommand_required(true)
+        .subcommand(replay_command(alloc)?)
+}
+
+/// What parsed words ask for. The parser gives every value, so there always is a task.
+fn task_of(matches: &ArgMatches<'_>) -> Option<Task> {
+    let (_, replayed) = matches.subcommand()?;
+    let event = Event::from_name(replayed.get_str("event")?.as_bytes())?;
+    let round = replayed.get_one::<u8>("round")?;
+    let style = if replayed.get_flag("csv") {
+        Style::Table
+    } else {
+        Style::Text
+    };
+    Some(Task {
+        event,
+        round,
+        style,
+    })
+}
+
+/// The status of a fault.
+fn status_of(fault: RunFault) -> u8
+    ensures { result ≡ status_of fault }
+{
+    match fault {
+        RunFault::NoSuchRound | RunFault::InputTooLong => 3,
+        RunFault::Read | RunFault::Write => 4,
+        RunFault::NoMemory => 5,
+    }
+}
+
+/// Writes the line of a fault, which takes no memory, and gives its status. Where the line cannot
+/// be written the status says it alone.
+fn tell<F: Write>(faults: &mut F, fault: RunFault) -> u8
+    ensures { result ≡ status_of fault }
+{
+    let _ = writeln!(faults, "{fault}");
+    status_of(fault)
+}
+
+/// Writes help to the writer, and what is wrong with the words to the fault stream.
+fn tell_words<W: Write, F: Write>(
+    alloc: Global,
+    error: &Error,
+    writer: &mut W,
+    faults: &mut F,
+) -> u8
+    ensures { RunsNothing result (W.contents writer.old) (W.contents writer.new) }
+{
+    if error.kind() == ParseErrorKind::OutOfMemory {
+        return tell(faults, RunFault::NoMemory);
+    }
+    let Ok(text) = format!(in alloc; "{error}") else {
+        return tell(faults, RunFault::NoMemory);
+    };
+    if error.use_stderr() {
+        let _ = write_text(faults, text.as_bytes());
+        return 2;
+    }
+    match write_text(writer, text.as_bytes()) {
+        Ok(()) => 2,
+        Err(_) => tell(faults, RunFault::Write),
+    }
+}
+
+/// Parses the words.
+fn parse<'a>(alloc: Global, words: &'a [&'a str]) -> Result<ArgMatches<'a>, Error> {
+    let command = command(alloc)?;
+    command.try_get_matches_from(words)
+}
+
+/// Parses the words of the program, the program's own name first, does what they ask for, and gives
+/// the exit status.
+///
+/// The words are `replay EVENT ROUND [--csv]`: see [`replay`](crate::replay::replay). The status is
+/// 0 where the sheet was written; 2 where the parser refused the words, with its text on `faults`,
+/// or where they ask for help, with its text on `writer`; 3 for `no such round` and `input too
+/// long`; 4 for `cannot read` and `cannot write`; 5 for `no memory`. These texts are one line on
+/// `faults`.
+pub fn run_words<'a, R: Read, W: Write, F: Write>(
+    alloc: Global,
+    words: &'a [&'a str],
+    reader: &mut R,
+    writer: &mut W,
+    faults: &mut F,
+) -> u8
+    ensures ran { Ran result (R.remaining reader.old) (R.remaining reader.new) (W.contents writer.old) (W.contents writer.new) }
+    ensures quiet { result ≡ 0 → Keeps (F.contents faults.old) (F.contents faults.new) }
+{
+    let matches = match parse(alloc, words) {
+        Ok(matches) => matches,
+        Err(error) => return tell_words(alloc, &error, writer, faults),
+    };
+    let Some(task) = task_of(&matches) else {
+        return 2;
+    };
+    let replayed = replay(alloc, reader, writer, task.event, task.round, task.style);
+    if let Err(fault) = replayed {
+        return tell(faults, fault);
+    }
+    0
+}
+
+/// The words of these texts.
+fn words_of<'a>(alloc: Global, texts: &'a [String]) -> Result<Vec<&'a str>, AllocError> {
+    let mut words = Vec::new(alloc);
+    for text in texts {
+        words.push(text.as_str())?;
+    }
+    Ok(words)
+}
+
+/// Runs the words that the program was given: as [`run_words`].
+pub fn run_given<R: Read, W: Write, F: Write>(
+    alloc: Global,
+    given: Args,
+    reader: &mut R,
+    writer: &mut W,
+    faults: &mut F,
+) -> u8
+    ensures ran { Ran result (R.remaining reader.old) (R.remaining reader.new) (W.contents writer.old) (W.contents writer.new) }
+    ensures quiet { result ≡ 0 → Keeps (F.contents faults.old) (F.contents faults.new) }
+{
+    let Ok(texts) = given.collect::<Vec<String>>(alloc) else {
+        return tell(faults, RunFault::NoMemory);
+    };
+    let Ok(words) = words_of(alloc, &texts) else {
+        return tell(faults, RunFault::NoMemory);
+    };
+    run_words(alloc, &words, reader, writer, faults)
+}
+
+/// Answers words that could not be had: memory ran out, or they are not text.
+pub fn tell_no_words<F: Write>(error: &io::Error, faults: &mut F) -> u8
+    ensures memory { error_kind error.now ≡ ErrorKind.OutOfMemory → result ≡ 5 }
+    ensures words { error_kind error.now ≢ ErrorKind.OutOfMemory → result ≡ 2 }
+{
+    if error.kind() == ErrorKind::OutOfMemory {
+        return tell(faults, RunFault::NoMemory);
+    }
+    let _ = write_text(faults, b"error: the words are not UTF-8 text\n");
+    2
+}

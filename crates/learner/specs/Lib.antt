@@ -1,0 +1,14 @@
+pub mod Logs
+pub mod Indexes
+pub mod Learning
+pub mod Desks
+pub mod Steps
+pub mod Worlds
+pub mod Chosen
+pub mod Submitted
+pub mod Order
+pub mod Invariant
+pub mod Parts
+pub mod Contents
+pub mod Ranges
+pub mod Laws

@@ -1,0 +1,31 @@
+use acceptor::entry::Entry;
+use acceptor::message::Message;
+
+/// What may happen at a desk.
+#[derive(PartialEq, Eq, Debug, Drop)]
+pub enum Event {
+    /// A client hands in an entry, to be decided at some position.
+    Submit(Entry),
+    /// The desk is told to make a ballot.
+    Start,
+    /// Some time has passed.
+    Tick,
+    /// A message has come. It may have come before, and may be for another desk.
+    Deliver(Message),
+}
+
+/// What may happen in a hall of desks, which are numbered from 1. An event at a number that no desk has
+/// does nothing.
+#[derive(PartialEq, Eq, Debug, Drop)]
+pub enum WorldEvent {
+    /// At this desk an entry is handed in.
+    Submit(u8, Entry),
+    /// This desk is told to make a ballot.
+    Start(u8),
+    /// At this desk some time has passed.
+    Tick(u8),
+    /// The k-th message ever sent, counted from 1, comes to its receiver. Where there is none, nothing happens.
+    Deliver(u64),
+    /// This desk loses what it has not stored: its role, its queue, and the greatest round that it has seen.
+    Restart(u8),
+}

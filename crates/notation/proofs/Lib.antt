@@ -1,0 +1,4 @@
+pub mod Joined
+pub mod Words
+pub mod Scanning
+pub mod Steps

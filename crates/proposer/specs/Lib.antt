@@ -1,0 +1,4 @@
+pub mod Plans
+pub mod Proposing
+pub mod Sides
+pub mod Refusals

@@ -1,0 +1,155 @@
+-- How a desk makes ballots and proposes: phases 1a and 2a of 'Paxos Made Simple', section 2.2, and the count of votes of section 2.3.
+-- In these, desk d of n has s in store, a log of length len, and p as long as it runs.
+use Rattle.std.specs.Prelude.{ℕ, ◌*◌, ◌+◌, max, Bool, false, not, if◌then◌else◌, List, [], ◌∷◌, ◌++◌, Option, Some, None, Result, Ok, Err, ◌==◌, nat_lt, nat_le, length}
+use Rattle.std.specs.List.{list_any}
+use Rattle.acceptor.specs.declared.ballot.Ballot.{Ballot}
+use Rattle.acceptor.specs.declared.entry.Entry.{Entry}
+use Rattle.acceptor.specs.declared.message.Report.{Report}
+use Rattle.acceptor.specs.declared.message.Body.TheVariants.{Prepare, Accept, Behind, Decided}
+use Rattle.acceptor.specs.declared.stored.Stored.{Stored}
+use Rattle.acceptor.specs.declared.stored.Change.TheVariants.{Tried}
+use Rattle.acceptor.specs.Ballots.{is_below, is_same}
+use Rattle.acceptor.specs.Messages.{has, desks_from, without, to_each, to_all, to_others}
+use Rattle.proposer.specs.declared.faults.Refusal.{Refusal}
+use Rattle.proposer.specs.declared.faults.Refusal.TheVariants.{Busy, LogFull, BallotsSpent}
+use Rattle.proposer.specs.declared.role.Heard.{Heard}
+use Rattle.proposer.specs.declared.role.Role.{Role}
+use Rattle.proposer.specs.declared.role.Role.TheVariants.{Idle, Gathering, Proposing}
+use Rattle.proposer.specs.declared.plan.Plan.{Plan}
+use Rattle.proposer.specs.Plans.{Passing, only_say, become, append}
+
+-- a log holds 65,536 entries
+abbrev pub is_full : ℕ → Bool
+is_full len = nat_le 65536 len
+
+-- an entry that is submitted goes to the end of the queue, which holds 64
+abbrev pub submit : ℕ → Passing → Entry → Result Passing Refusal
+submit len p e =
+    if length p.queue == 64
+    then Err Busy
+    else (if is_full len then Err LogFull else Ok (record { role = p.role; queue = p.queue ++ e ∷ []; seen = p.seen }))
+
+-- more than half of n
+abbrev pub is_majority : ℕ → ℕ → Bool
+is_majority n count = nat_lt n (2 * count)
+
+-- the greatest round that the desk knows of
+abbrev pub last_round : Stored → Passing → ℕ
+last_round s p = max (max s.tried s.promised.round) p.seen
+
+-- the role, the change and the question of a new ballot
+abbrev pub gather : ℕ → ℕ → Stored → ℕ → Passing → ℕ → Plan
+gather n d s len p round =
+    record {
+      role = Some (Gathering (record { round = round; desk = d }) len []);
+      seen = p.seen;
+      drop_first = false;
+      change = Some (Tried round);
+      messages = to_all n d (Prepare (record { round = round; desk = d }) len);
+    }
+
+-- the next ballot, of a round above all that the desk knows of, where there is one
+abbrev pub new_ballot : ℕ → ℕ → Stored → ℕ → Passing → Result Plan Refusal
+new_ballot n d s len p = if last_round s p == 4294967295 then Err BallotsSpent else Ok (gather n d s len p (last_round s p + 1))
+
+-- at a Start: only an idle desk makes a ballot
+abbrev pub start_by_role : ℕ → ℕ → Stored → ℕ → Passing → Role → Result Plan Refusal
+start_by_role n d s len p Idle = if is_full len then Err LogFull else new_ballot n d s len p
+start_by_role n d s len p (Gathering b pos heard) = Ok (only_say p [])
+start_by_role n d s len p (Proposing b pos e heard) = Ok (only_say p [])
+
+abbrev pub start : ℕ → ℕ → Stored → ℕ → Passing → Result Plan Refusal
+start n d s len p = start_by_role n d s len p p.role
+
+-- there is an entry to propose, and room for it in the log
+abbrev pub wants_ballot : List Entry → ℕ → Bool
+wants_ballot [] len = false
+wants_ballot (e ∷ es) len = not (is_full len)
+
+-- at a Tick of an idle desk: a ballot, or it says how long its log is
+abbrev pub tick_idle : ℕ → ℕ → Stored → ℕ → Passing → Result Plan Refusal
+tick_idle n d s len p = if wants_ballot p.queue len then new_ballot n d s len p else Ok (only_say p (to_others n d (Behind len)))
+
+-- at a Tick: a desk that gathers promises makes another ballot, and one that proposes asks again those that it has not heard
+abbrev pub tick_by_role : ℕ → ℕ → Stored → ℕ → Passing → Role → Result Plan Refusal
+tick_by_role n d s len p Idle = tick_idle n d s len p
+tick_by_role n d s len p (Gathering b pos heard) = new_ballot n d s len p
+tick_by_role n d s len p (Proposing b pos e heard) = Ok (only_say p (to_each d (without (desks_from 1 n) heard) (Accept b pos e)))
+
+abbrev pub tick : ℕ → ℕ → Stored → ℕ → Passing → Result Plan Refusal
+tick n d s len p = tick_by_role n d s len p p.role
+
+-- the desk is among those heard
+abbrev pub was_heard : List Heard → ℕ → Bool
+was_heard hs d = list_any (λ h. h.desk == d) hs
+
+-- of two reports the one of the higher ballot
+abbrev pub higher : Option Report → Option Report → Option Report
+higher None r = r
+higher (Some r) None = Some r
+higher (Some r) (Some s) = if is_below r.ballot s.ballot then Some s else Some r
+
+-- the report of the highest ballot
+abbrev pub highest : List Heard → Option Report
+highest [] = None
+highest (h ∷ hs) = higher h.vote (highest hs)
+
+-- the entry to propose: the highest vote's, else the first of the queue
+abbrev pub choice : Option Report → List Entry → Option Entry
+choice (Some r) queue = Some r.entry
+choice None (e ∷ es) = Some e
+choice None [] = None
+
+-- an entry is proposed to all desks; with none to propose the desk becomes idle
+abbrev pub propose : ℕ → ℕ → Passing → Ballot → ℕ → Option Entry → Plan
+propose n d p b pos None = become p Idle []
+propose n d p b pos (Some e) = become p (Proposing b pos e []) (to_all n d (Accept b pos e))
+
+-- these desks have promised
+abbrev pub promises_heard : ℕ → ℕ → Passing → Ballot → ℕ → List Heard → Plan
+promises_heard n d p b pos heard =
+    if is_majority n (length heard)
+    then propose n d p b pos (choice (highest heard) p.queue)
+    else become p (Gathering b pos heard) []
+
+-- at a Promise: only one of the ballot and position that the desk gathers for, and of a desk not yet heard, is recorded
+abbrev pub promise_by_role : ℕ → ℕ → Passing → Role → ℕ → Ballot → ℕ → Option Report → Plan
+promise_by_role n d p (Gathering own at heard) from b pos vote =
+    if is_same own b
+    then (if at == pos then (if was_heard heard from then only_say p [] else promises_heard n d p own at (record { desk = from; vote = vote } ∷ heard)) else only_say p [])
+    else only_say p []
+promise_by_role n d p Idle from b pos vote = only_say p []
+promise_by_role n d p (Proposing own at e heard) from b pos vote = only_say p []
+
+abbrev pub on_promise : ℕ → ℕ → Passing → ℕ → Ballot → ℕ → Option Report → Plan
+on_promise n d p from b pos vote = promise_by_role n d p p.role from b pos vote
+
+-- these desks have voted
+abbrev pub votes_heard : ℕ → ℕ → Passing → Ballot → ℕ → Entry → List ℕ → Plan
+votes_heard n d p b pos e heard =
+    if is_majority n (length heard) then append p e Idle (to_others n d (Decided pos e)) else become p (Proposing b pos e heard) []
+
+-- at an Accepted: only one of the ballot and position that the desk proposes for, and of a desk not yet heard, is recorded
+abbrev pub accepted_by_role : ℕ → ℕ → Passing → Role → ℕ → Ballot → ℕ → Plan
+accepted_by_role n d p (Proposing own at e heard) from b pos =
+    if is_same own b
+    then (if at == pos then (if has heard from then only_say p [] else votes_heard n d p own at e (from ∷ heard)) else only_say p [])
+    else only_say p []
+accepted_by_role n d p Idle from b pos = only_say p []
+accepted_by_role n d p (Gathering own at heard) from b pos = only_say p []
+
+abbrev pub on_accepted : ℕ → ℕ → Passing → ℕ → Ballot → ℕ → Plan
+on_accepted n d p from b pos = accepted_by_role n d p p.role from b pos
+
+-- the role's ballot is this one
+abbrev pub is_ballot_of : Role → Ballot → Bool
+is_ballot_of Idle b = false
+is_ballot_of (Gathering own at heard) b = is_same own b
+is_ballot_of (Proposing own at e heard) b = is_same own b
+
+-- at a Nack: where a ballot above the role's was promised elsewhere, the desk gives its own up
+abbrev pub on_nack : Passing → Ballot → Ballot → Plan
+on_nack p b promised =
+    if is_ballot_of p.role b
+    then (if is_below b promised then record { role = Some Idle; seen = max p.seen promised.round; drop_first = false; change = None; messages = [] } else only_say p [])
+    else only_say p []

@@ -1,0 +1,14 @@
+-- How the answer of a call goes with the step that it stands for.
+use Rattle.std.specs.Prelude.{◌≡◌, ◌↔◌, Result, Ok, Err, IfOk, IsErrOf}
+use Rattle.proposer.specs.declared.faults.Refusal.{Refusal}
+use Rattle.proposer.specs.declared.faults.StepFault.{StepFault}
+use Rattle.proposer.specs.declared.faults.StepFault.TheVariants.{Refused}
+use Rattle.proposer.specs.declared.plan.Plan.{Plan}
+
+-- the plan of the call is that of the step
+abbrev pub PlansAs : Result Plan StepFault → Result Plan Refusal → Type 0
+PlansAs result step = IfOk result (λ plan. step ≡ Ok plan)
+
+-- the call is refused exactly where the step is, and for the same reason
+abbrev pub RefusesAs : {A B : Type 0} → Result A StepFault → Result B Refusal → Type 0
+RefusesAs result step = (why : Refusal) → IsErrOf result (Refused why) ↔ (step ≡ Err why)

@@ -1,0 +1,27 @@
+//! The result sheet of a round: as text for reading, and as a table of comma-separated values.
+#![tactic(auto)]
+
+mod lines;
+mod records;
+mod shown;
+
+pub use lines::text;
+pub use records::table;
+
+/// How a sheet is printed.
+#[derive(Clone, Copy, Debug, PartialEq, Eq)]
+pub enum Style {
+    /// Lines for reading, in columns.
+    Text,
+    /// Comma-separated values, a record a line.
+    Table,
+}
+
+/// Why there is no sheet.
+#[derive(Clone, Copy, Debug, PartialEq, Eq)]
+pub enum SheetFault {
+    /// The round was not opened.
+    NoSuchRound,
+    /// Memory ran out.
+    NoMemory,
+}

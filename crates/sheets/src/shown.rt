@@ -1,0 +1,106 @@
+//! What both forms of a sheet say of an entrant, as texts.
+
+ghost use Rattle.std.specs.Prelude.{◌≡◌, IfOk, IfSome, decimal, option_map};
+ghost use Rattle.formats.specs.Results.{best_of};
+ghost use Rattle.commands.specs.Accepted.{round_of};
+ghost use Rattle.sheets.specs.Sheet.{best_text, attempt_text, name_text, is_marked, advances};
+
+use attempts::{NoMemory, Unit, Value, print_value, push_decimal};
+use commands::rounds::RoundTable;
+use commands::{Advance, Meet, Settings};
+use formats::Event;
+use std::alloc::Global;
+
+/// A round that was opened, and the meet that it belongs to.
+#[derive(Clone, Copy)]
+pub struct Shown<'a> {
+    pub meet: &'a Meet,
+    pub event: Event,
+    pub settings: Settings,
+    pub table: &'a RoundTable,
+}
+
+/// The round to show, if it was opened.
+pub fn shown_round(meet: &Meet, event: Event, round: u8) -> Option<Shown<'_>>
+    ensures meet { IfSome result (λ shown. shown.meet.now ≡ meet.now) }
+    ensures event { IfSome result (λ shown. shown.event ≡ event) }
+    ensures round { option_map (λ shown. (shown.settings, shown.table.now)) result ≡ round_of meet.now.accepted event round }
+{
+    let (Some(table), Some(settings)) = (meet.round(event, round), meet.settings(event, round))
+    else {
+        return None;
+    };
+    Some(Shown {
+        meet,
+        event,
+        settings,
+        table,
+    })
+}
+
+/// A number in decimal.
+pub fn decimal_text(alloc: Global, number: u32) -> Result<Vec<u8>, NoMemory>
+    ensures { IfOk result (λ text. text.items ≡ decimal number) }
+{
+    let mut text = Vec::new(alloc);
+    push_decimal(&mut text, number)?;
+    Ok(text)
+}
+
+/// The best value, or `-` where there is no attempt.
+pub fn best_text(
+    alloc: Global,
+    values: &[Value],
+    best: Value,
+    unit: Unit,
+) -> Result<Vec<u8>, NoMemory>
+    requires { best ≡ best_of values.now }
+    ensures { IfOk result (λ text. text.items ≡ best_text unit values.now) }
+{
+    if values.is_empty() {
+        Vec::from_slice(alloc, b"-")
+    } else {
+        print_value(alloc, best, unit)
+    }
+}
+
+/// The attempt at a place, counted from 0, or `-` where it is not there.
+pub fn attempt_text(
+    alloc: Global,
+    values: &[Value],
+    place: usize,
+    unit: Unit,
+) -> Result<Vec<u8>, NoMemory>
+    ensures { IfOk result (λ text. text.items ≡ attempt_text unit values.now place) }
+{
+    match values.get(place) {
+        Some(value) => print_value(alloc, *value, unit),
+        None => Vec::from_slice(alloc, b"-"),
+    }
+}
+
+/// The name of a competitor; an entrant always has one.
+pub fn name_text(meet: &Meet, number: u16) -> &[u8]
+    ensures { result.now ≡ name_text meet.now.accepted number }
+{
+    match meet.name(number) {
+        Some(name) => name,
+        None => &[],
+    }
+}
+
+/// Whether a competitor goes on to the next round: nobody does from a final.
+fn advances(advance: Advance, table: &RoundTable, number: u16) -> bool
+    ensures { result ≡ advances advance table.now number }
+{
+    match advance {
+        Advance::Final => false,
+    }
+}
+
+/// Whether the sheet marks a competitor as one who advances.
+pub fn is_marked(shown: Shown<'_>, number: u16) -> bool
+    ensures { result ≡ is_marked shown.entry.settings shown.entry.table.now number }
+{
+    shown.table.is_closed() && advances(shown.settings.advance, shown.table, number)
+}
