@@ -83,7 +83,7 @@ impl Index {
         settings: Settings,
     ) -> Result<Option<Code>, NoMemory>
         requires index { IsIndexOf accepted.now self.old }
-        requires fit { IsFit (command.Open event round settings) }
+        requires fit { IsFitCutoff settings.cutoff }
         ensures code { IfOk result (λ code. code ≡ refusal accepted.now (command.Open event round settings)) }
         ensures index { IfOk result (λ code. IsIndexOf (accepted.now ++ added code (command.Open event round settings)) self.new) }
         ensures err { OnErr result (IsIndexOf accepted.now self.new) }

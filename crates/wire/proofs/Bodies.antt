@@ -1,0 +1,167 @@
+-- The fields of each kind: what is read is spelled so and in its ranges, and what is spelled so is read.
+use Rattle.std.proofs.Common.{◌≡◌, ℕ, zero, suc, ◌^◌, ◌<◌, ◌≤◌, Bool, true, false, cond, eqb, List, [], ◌∷◌, ◌++◌, Some, refl, ap, subst, arith}
+use Rattle.std.specs.Prelude.{find, map}
+use Rattle.std.specs.Option.{option_map}
+use Rattle.std.specs.Int.{w32, w64, to_be_bytes}
+use Rattle.commands.specs.Codes.{code_number}
+use Rattle.formats.specs.declared.events.Event.{Event}
+use Rattle.formats.specs.declared.events.Event.TheVariants.{Cube3, Cube2, Cube4, Cube5, Cube6, Cube7, Blind3, FewestMoves, OneHanded, Clock, Megaminx, Pyraminx, Skewb, Square1, Blind4, Blind5}
+use Rattle.formats.specs.Events.{events, event_number}
+use Rattle.commands.specs.declared.answer.Answer.{Answer}
+use Rattle.commands.specs.declared.answer.Answer.TheVariants as answer
+use Rattle.commands.specs.declared.answer.Code.{Code}
+use Rattle.commands.specs.declared.answer.Code.TheVariants as code
+use Rattle.wire.specs.declared.frame.Refusal.{Refusal}
+use Rattle.wire.specs.declared.frame.Refusal.TheVariants as refusal
+use Rattle.wire.specs.declared.frame.Standing.{Standing}
+use Rattle.wire.specs.declared.frame.Standing.TheVariants.{Unknown, Pending, Done}
+use Rattle.wire.specs.declared.frame.Style.{Style}
+use Rattle.wire.specs.declared.frame.Style.TheVariants.{Text, Table}
+use Rattle.wire.specs.Fields.{byte_at, number_at, two, numbered}
+use Rattle.wire.specs.Numbers.{answers, answer_number, refusals, refusal_number, styles, style_number}
+use Rattle.wire.specs.Ranges.{IsBallot, IsPosition, IsId, IsEntry, IsReport, IsStanding}
+use Rattle.wire.specs.Reading.{ballot_at, limited_at, position_at, id_at, entry_at, report_at, member_at, standing_at}
+use Rattle.wire.specs.Spelling.{ballot_bytes, entry_bytes, report_bytes, standing_bytes}
+use Rattle.wire.proofs.Taking.{IsBytes, IsBytes-rest, bind_some, some_is, Takes, wide32, number_takes, number_again, byte_takes}
+use Rattle.wire.proofs.FieldLaws.{ballot_takes, ballot_again, limited_takes, limited_again, id_takes, id_again, entry_takes, entry_again, report_takes, report_again}
+use Rattle.wire.proofs.Sequences.{IsField, two_fields, member_field}
+
+abbrev pub u32 : ℕ → List ℕ
+u32 n = to_be_bytes w32 n
+
+abbrev pub u64 : ℕ → List ℕ
+u64 n = to_be_bytes w64 n
+
+pub ballot_field : IsField ballot_bytes IsBallot ballot_at
+ballot_field = record { takes = ballot_takes; again = ballot_again }
+
+pub limited_field : (limit : ℕ) → limit < 2 ^ 32 → IsField u32 (λ n. n ≤ limit) (limited_at limit)
+limited_field limit small = record { takes = limited_takes limit; again = λ n rest le. limited_again limit n rest small le }
+
+pub position_field : IsField u32 IsPosition position_at
+position_field = limited_field 65535 (omega arith)
+
+pub any_field : IsField u32 (λ n. n < 2 ^ 32) (number_at w32)
+any_field = record { takes = number_takes w32 (2 ^ 32) wide32; again = number_again w32 (2 ^ 32) wide32 }
+
+pub byte_field : IsField (λ (b : ℕ). b ∷ []) (λ (b : ℕ). b < 256) byte_at
+unfolding byte_at
+byte_field = record { takes = byte_takes; again = λ b rest lt. refl }
+
+pub id_field : IsField u64 IsId id_at
+id_field = record { takes = id_takes; again = id_again }
+
+pub entry_field : IsField entry_bytes IsEntry entry_at
+entry_field = record { takes = entry_takes; again = entry_again }
+
+pub report_field : IsField report_bytes IsReport report_at
+report_field = record { takes = report_takes; again = report_again }
+
+-- ---- members of lists
+
+event_found : (x : Event) → numbered event_number events (event_number x) ≡ Some x
+event_found Cube3 = refl
+event_found Cube2 = refl
+event_found Cube4 = refl
+event_found Cube5 = refl
+event_found Cube6 = refl
+event_found Cube7 = refl
+event_found Blind3 = refl
+event_found FewestMoves = refl
+event_found OneHanded = refl
+event_found Clock = refl
+event_found Megaminx = refl
+event_found Pyraminx = refl
+event_found Skewb = refl
+event_found Square1 = refl
+event_found Blind4 = refl
+event_found Blind5 = refl
+
+pub event_field : IsField (λ (x : Event). event_number x ∷ []) (λ (x : Event). Unit {0}) (member_at event_number events)
+event_field = member_field event_number events event_found
+
+style_found : (x : Style) → numbered style_number styles (style_number x) ≡ Some x
+style_found Text = refl
+style_found Table = refl
+
+pub style_field : IsField (λ (x : Style). style_number x ∷ []) (λ (x : Style). Unit {0}) (member_at style_number styles)
+style_field = member_field style_number styles style_found
+
+refusal_found : (x : Refusal) → numbered refusal_number refusals (refusal_number x) ≡ Some x
+refusal_found refusal.Busy = refl
+refusal_found refusal.LogFull = refl
+refusal_found refusal.BallotsSpent = refl
+refusal_found refusal.NoMemory = refl
+refusal_found refusal.Down = refl
+refusal_found refusal.NotThere = refl
+refusal_found refusal.NoSuchRound = refl
+refusal_found refusal.Foreign = refl
+
+pub refusal_field : IsField (λ (x : Refusal). refusal_number x ∷ []) (λ (x : Refusal). Unit {0}) (member_at refusal_number refusals)
+refusal_field = member_field refusal_number refusals refusal_found
+
+answer_found : (x : Answer) → numbered answer_number answers (answer_number x) ≡ Some x
+answer_found answer.Done = refl
+answer_found (answer.Refused code.Unread) = refl
+answer_found (answer.Refused code.Repeat) = refl
+answer_found (answer.Refused code.UnknownCompetitor) = refl
+answer_found (answer.Refused code.NameTaken) = refl
+answer_found (answer.Refused code.RoundUnknown) = refl
+answer_found (answer.Refused code.RoundOpen) = refl
+answer_found (answer.Refused code.RoundsRule) = refl
+answer_found (answer.Refused code.FormatNotAllowed) = refl
+answer_found (answer.Refused code.CutoffNotAllowed) = refl
+answer_found (answer.Refused code.LimitNotAllowed) = refl
+answer_found (answer.Refused code.NoScramble) = refl
+answer_found (answer.Refused code.ScrambleThere) = refl
+answer_found (answer.Refused code.WrongOutcome) = refl
+answer_found (answer.Refused code.Closed) = refl
+answer_found (answer.Refused code.Already) = refl
+answer_found (answer.Refused code.Full) = refl
+answer_found (answer.Refused code.NotEntered) = refl
+answer_found (answer.Refused code.OutOfOrder) = refl
+answer_found (answer.Refused code.NoMoreAttempts) = refl
+answer_found (answer.Refused code.NoSuchAttempt) = refl
+answer_found (answer.Refused code.CutoffLost) = refl
+answer_found (answer.Refused code.Unfinished) = refl
+
+-- a refusal has the number of its code
+pub answer_numbered : (cs : List Code) (n : ℕ) → find (λ (x : Answer). eqb (answer_number x) n) (map (λ c. answer.Refused c) cs) ≡ option_map (λ c. answer.Refused c) (find (λ c. eqb (code_number c) n) cs)
+answer_numbered [] n = refl
+answer_numbered (c ∷ cs) n = go (eqb (code_number c) n) (answer_numbered cs n) where
+  go : (b : Bool) → find (λ (x : Answer). eqb (answer_number x) n) (map (λ c. answer.Refused c) cs) ≡ option_map (λ c. answer.Refused c) (find (λ c. eqb (code_number c) n) cs)
+      → cond b (Some (answer.Refused c)) (find (λ (x : Answer). eqb (answer_number x) n) (map (λ c. answer.Refused c) cs)) ≡ option_map (λ c. answer.Refused c) (cond b (Some c) (find (λ c. eqb (code_number c) n) cs))
+  go true rest = refl
+  go false rest = rest
+
+pub answer_field : IsField (λ (x : Answer). answer_number x ∷ []) (λ (x : Answer). Unit {0}) (member_at answer_number answers)
+answer_field = member_field answer_number answers answer_found
+
+-- ---- what became of a command
+
+abbrev done_field : IsField (λ (p : ℕ × Answer). u32 p.0 ++ answer_number p.1 ∷ []) (λ (p : ℕ × Answer). IsPosition p.0 × Unit {0}) (two position_at (member_at answer_number answers))
+done_field = two_fields u32 IsPosition position_at (λ (x : Answer). answer_number x ∷ []) (λ (x : Answer). Unit {0}) (member_at answer_number answers) position_field answer_field
+
+standing_takes : (bytes : List ℕ) (x : Standing × List ℕ) → IsBytes bytes → standing_at bytes ≡ Some x → Takes bytes (standing_bytes x.0) x.1 × IsStanding x.0
+unfolding standing_at
+standing_takes [] x fits e = absurd cc
+standing_takes (zero ∷ rest) x fits e =
+    subst (λ (y : Standing × List ℕ). Takes (0 ∷ rest) (standing_bytes y.0) y.1 × IsStanding y.0) (some_is (Unknown, rest) x e) (record { parts = refl; are_bytes = IsBytes-rest 0 rest fits }, tt)
+standing_takes (suc zero ∷ rest) x fits e =
+    subst (λ (y : Standing × List ℕ). Takes (1 ∷ rest) (standing_bytes y.0) y.1 × IsStanding y.0) (some_is (Pending, rest) x e) (record { parts = refl; are_bytes = IsBytes-rest 1 rest fits }, tt)
+standing_takes (suc (suc zero) ∷ rest) x fits e =
+    let a = bind_some (two position_at (member_at answer_number answers) rest) (λ p. Some (Done p.0.0 p.0.1, p.1)) x e in
+    let t = done_field.takes rest a.0 (IsBytes-rest 2 rest fits) a.1 in
+    let made : Standing × List ℕ = (Done a.0.0.0 a.0.0.1, a.0.1) in
+    subst (λ (y : Standing × List ℕ). Takes (2 ∷ rest) (standing_bytes y.0) y.1 × IsStanding y.0) (some_is made x a.2)
+    (record { parts = ap (λ (w : List ℕ). 2 ∷ w) t.0.parts; are_bytes = t.0.are_bytes }, t.1.0)
+standing_takes (suc (suc (suc k)) ∷ rest) x fits e = absurd cc
+
+standing_again : (x : Standing) (rest : List ℕ) → IsStanding x → standing_at (standing_bytes x ++ rest) ≡ Some (x, rest)
+unfolding standing_at
+standing_again Unknown rest fits = refl
+standing_again Pending rest fits = refl
+standing_again (Done pos a) rest fits = rw (done_field.again (pos, a) rest (fits, tt)) refl
+
+pub standing_field : IsField standing_bytes IsStanding standing_at
+standing_field = record { takes = standing_takes; again = standing_again }

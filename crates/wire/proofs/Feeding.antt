@@ -1,0 +1,70 @@
+-- A stream from the front: one more frame, and what is left.
+use Rattle.std.proofs.Common.{◌≡◌, ℕ, ◌+◌, ◌≤◌, List, [], ◌∷◌, ◌++◌, length, drop, Option, Some, None, refl, sym, ap, subst, ◌∙◌, append_assoc, arith, inl}
+use Rattle.std.specs.List.{flat_map, AllByRecursion}
+use Rattle.std.proofs.lemmas.Grind.{flat_map-append}
+use Rattle.std.proofs.lemmas.List.{drop-drop, append-nil, length-drop}
+use Rattle.std.proofs.lemmas.List.Concat.{flat_map-cons}
+use Rattle.wire.specs.declared.fault.WireFault.{WireFault}
+use Rattle.wire.specs.declared.fault.WireFault.TheVariants.{BadLength, BadVersion, BadKind, BadBody, NoMemory}
+use Rattle.wire.specs.declared.frame.Frame.{Frame}
+use Rattle.wire.specs.Ranges.{IsFrame}
+use Rattle.wire.specs.Spelling.{spelling}
+use Rattle.wire.specs.Stream.{Front, Begins, front, IsBegun, AreFirst, IsTaken, Ends, IsOfStream, IsKept, Reader, holding, broken, keeps, Feeds, RefusesFault, Refuses}
+use Rattle.wire.proofs.Taking.{IsBytes, IsBytes-drop}
+use Rattle.wire.proofs.Streams.{front_takes}
+
+all_more : (fs : List Frame) (f : Frame) → AllByRecursion IsFrame fs → IsFrame f → AllByRecursion IsFrame (fs ++ f ∷ [])
+all_more [] f h k = (k, tt)
+all_more (g ∷ fs) f h k = (h.0, all_more fs f h.1 k)
+
+pub first_more : (bytes : List ℕ) (frames : List Frame) (size : ℕ) (f : Frame) (more : ℕ) → IsBytes bytes → AreFirst bytes frames size
+    → front (drop size bytes) ≡ Begins f (drop more (drop size bytes)) → more ≤ length (drop size bytes) → AreFirst bytes (frames ++ f ∷ []) (size + more)
+first_more bytes frames size f more fits first begun long =
+    let s = front_takes (drop size bytes) f (drop more (drop size bytes)) (IsBytes-drop size bytes fits) begun in
+    let last : flat_map spelling (f ∷ []) ≡ spelling f = flat_map-cons spelling f [] ∙ append-nil (spelling f) in
+    let all : flat_map spelling (frames ++ f ∷ []) ≡ flat_map spelling frames ++ spelling f = flat_map-append spelling frames (f ∷ []) ∙ ap (λ (x : List ℕ). flat_map spelling frames ++ x) last in
+    let rest : drop size bytes ≡ spelling f ++ drop (size + more) bytes = s.spelled ∙ ap (λ (x : List ℕ). spelling f ++ x) (drop-drop more size bytes) in
+    record {
+      within = omega (arith, first.within, long, length-drop size bytes);
+      whole = first.whole ∙ ap (λ (x : List ℕ). flat_map spelling frames ++ x) rest ∙ sym (append_assoc (flat_map spelling frames) (spelling f) (drop (size + more) bytes)) ∙ ap (λ (x : List ℕ). x ++ drop (size + more) bytes) (sym all);
+      each = all_more frames f first.each s.fits;
+    }
+
+-- ---- what a call of a reader does
+
+ends_is : (fault : Option WireFault) (at : Front) → Ends fault at → IsBegun at → ⊥
+ends_is None at e h = subst (λ (x : Front). IsBegun x) e h
+ends_is (Some x) at e h = subst (λ (y : Front). IsBegun y) e.0 h
+
+abbrev pub kept : Option WireFault → List ℕ → Reader
+kept None rest = holding rest
+kept (Some e) rest = broken e
+
+keeps_is : (fault : Option WireFault) (at : Front) (rest : List ℕ) → Ends fault at → kept fault rest ≡ keeps at rest
+keeps_is None at rest e = ap (λ (x : Front). keeps x rest) (sym e)
+keeps_is (Some x) at rest e = ap (λ (y : Front). keeps y rest) (sym e.0)
+
+pub feeds : (stream : List ℕ) (frames : List Frame) (size : ℕ) (fault : Option WireFault) → IsTaken stream frames size fault → Feeds stream frames (kept fault (drop size stream))
+feeds stream frames size fault taken =
+    record {
+      rest = drop size stream;
+      whole = taken.first.whole;
+      each = taken.first.each;
+      ends = ends_is fault (front (drop size stream)) taken.ends;
+      keeps = keeps_is fault (front (drop size stream)) (drop size stream) taken.ends;
+    }
+
+refuses : (e : WireFault) (piece : List ℕ) (old new : Reader) → IsOfStream e → RefusesFault e piece old new → Refuses e piece old new
+refuses BadLength piece old new h r = r
+refuses BadVersion piece old new h r = r
+refuses BadKind piece old new h r = r
+refuses BadBody piece old new h r = r
+refuses NoMemory piece old new h r = absurd h
+
+kept_is : (e : WireFault) (fault : Option WireFault) → IsKept fault → fault ≡ Some e → IsOfStream e
+kept_is e None h k = absurd cc
+kept_is e (Some x) h k = let same : x ≡ e = cc in subst (λ (y : WireFault). IsOfStream y) same h
+
+-- the fault that is kept is answered again
+pub answers_again : (e : WireFault) (piece : List ℕ) (old : Reader) → IsKept old.fault → old.fault ≡ Some e → Refuses e piece old old
+answers_again e piece old h k = refuses e piece old old (kept_is e old.fault h k) (inl (k, refl))

@@ -1,0 +1,11 @@
+pub mod Taking
+pub mod FieldLaws
+pub mod Sequences
+pub mod Bodies
+pub mod Frames
+pub mod Whole
+pub mod Streams
+pub mod Feeding
+pub mod Pieces
+pub mod Spelled
+pub mod Faults

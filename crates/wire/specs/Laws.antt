@@ -1,0 +1,49 @@
+-- What the spellings of frames keep to.
+use Rattle.std.specs.Prelude.{◌≡◌, ◌↔◌, ℕ, ◌+◌, ◌<◌, ◌≤◌, true, false, List, [], ◌++◌, length, take, slice_index}
+use Rattle.std.specs.Int.{w32, from_be_bytes}
+use Rattle.wire.specs.declared.fault.WireFault.{WireFault}
+use Rattle.wire.specs.declared.fault.WireFault.TheVariants.{BadLength, BadVersion, BadKind, BadBody, NoMemory}
+use Rattle.wire.specs.declared.frame.Frame.{Frame}
+use Rattle.wire.specs.Ranges.{IsFrame}
+use Rattle.wire.specs.Spelling.{spelling}
+use Rattle.wire.specs.Reading.{is_kind}
+use Rattle.wire.specs.Stream.{front, Begins, Breaks}
+
+-- each number is one of a byte
+abbrev pub AreBytes : List ℕ → Type 0
+AreBytes bytes = (i : ℕ) → slice_index bytes i < 256
+
+-- a frame stands at the front of bytes exactly where they begin with its spelling, and what stands behind it is the rest
+abbrev pub IsReadWhereSpelled : List ℕ → Frame → List ℕ → Type 0
+IsReadWhereSpelled bytes f rest = (front bytes ≡ Begins f rest) ↔ (IsFrame f × (bytes ≡ spelling f ++ rest))
+
+-- where one frame's spelling begins another's, the frames are one, and nothing stands behind
+abbrev pub BeginsNoOther : Frame → Frame → List ℕ → Type 0
+BeginsNoOther f g more = spelling g ≡ spelling f ++ more → (f ≡ g) × (more ≡ [])
+
+-- the number in the first four bytes: how many bytes stand behind them
+abbrev pub length_at : List ℕ → ℕ
+length_at bytes = from_be_bytes w32 (take 4 bytes)
+
+abbrev pub IsLength : ℕ → Type 0
+IsLength n = (8 ≤ n) × (n ≤ 300000)
+
+-- the first length is good, and all bytes that it counts are there
+pub record IsWhole (bytes : List ℕ) : Type 0 where
+  pub counted : IsLength (length_at bytes)
+  pub there : 4 + length_at bytes ≤ length bytes
+
+abbrev pub BeginsWithFrame : List ℕ → Type 0
+BeginsWithFrame bytes = (f : Frame) × (rest : List ℕ) × IsFrame f × (bytes ≡ spelling f ++ rest)
+
+-- which fault is the first: the version is byte 4, the kind byte 11
+abbrev pub IsFirstFault : WireFault → List ℕ → Type 0
+IsFirstFault BadLength bytes = (4 ≤ length bytes) × ¬ IsLength (length_at bytes)
+IsFirstFault BadVersion bytes = IsWhole bytes × ¬ (slice_index bytes 4 ≡ 1)
+IsFirstFault BadKind bytes = IsWhole bytes × (slice_index bytes 4 ≡ 1) × (is_kind (slice_index bytes 11) ≡ false)
+IsFirstFault BadBody bytes = IsWhole bytes × (slice_index bytes 4 ≡ 1) × (is_kind (slice_index bytes 11) ≡ true) × ¬ BeginsWithFrame bytes
+IsFirstFault NoMemory bytes = ⊥
+
+-- a fault stands at the front of bytes exactly where it is the first
+abbrev pub IsFaultWhereFirst : List ℕ → WireFault → Type 0
+IsFaultWhereFirst bytes e = (front bytes ≡ Breaks e) ↔ IsFirstFault e bytes

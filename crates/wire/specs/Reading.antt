@@ -1,0 +1,185 @@
+-- The frame that bytes spell, field by field from the left.
+use Rattle.std.specs.Prelude.{◌≡◌, ℕ, zero, suc, Bool, ◌&&◌, List, [], ◌∷◌, length, take, drop, Option, Some, None, Result, Ok, Err, not, nat_le, ◌==◌, if◌then◌else◌}
+use Rattle.std.specs.List.{list_any}
+use Rattle.std.specs.Int.{w16, w32, w64, from_be_bytes}
+use Rattle.acceptor.specs.declared.ballot.Ballot.{Ballot}
+use Rattle.acceptor.specs.declared.entry.Entry.{Entry}
+use Rattle.acceptor.specs.declared.message.Report.{Report}
+use Rattle.formats.specs.Events.{events, event_number}
+use Rattle.wire.specs.declared.fault.WireFault.{WireFault}
+use Rattle.wire.specs.declared.fault.WireFault.TheVariants.{BadLength, BadVersion, BadKind, BadBody, NoMemory}
+use Rattle.wire.specs.declared.frame.Frame.{Frame}
+use Rattle.wire.specs.declared.frame.Standing.{Standing}
+use Rattle.wire.specs.declared.frame.Standing.TheVariants.{Unknown, Pending, Done}
+use Rattle.wire.specs.declared.frame.What.{What}
+use Rattle.wire.specs.declared.frame.What.TheVariants.{Prepare, Promise, Accept, Accepted, Nack, Behind, Decided, Submit, Ask, Sheet, Tick, Stop, Taken, Told, SheetText, Refused, Fine}
+use Rattle.wire.specs.Fields.{Read, ◌>>=◌, number_at, byte_at, two, all_of, numbered}
+use Rattle.wire.specs.Ranges.{Way, Between, FromClient, ToClient, way_of}
+use Rattle.wire.specs.Numbers.{answers, answer_number, refusals, refusal_number, styles, style_number}
+
+abbrev pub between : ℕ → ℕ → ℕ → Bool
+between low high n = nat_le low n && nat_le n high
+
+abbrev pub is_ballot : ℕ → ℕ → Bool
+is_ballot round desk = nat_le 1 round && between 1 5 desk
+
+unfoldable pub ballot_at : List ℕ → Read Ballot
+ballot_at bytes = do
+  round ← number_at w32 bytes
+  desk ← byte_at round.1
+  if is_ballot round.0 desk.0 then Some (record { round = round.0; desk = desk.0 }, desk.1) else None
+
+-- a number of four bytes, at most this
+unfoldable pub limited_at : ℕ → List ℕ → Read ℕ
+limited_at limit bytes = do
+  n ← number_at w32 bytes
+  if nat_le n.0 limit then Some n else None
+
+abbrev pub position_at : List ℕ → Read ℕ
+position_at bytes = limited_at 65535 bytes
+
+unfoldable pub id_at : List ℕ → Read ℕ
+id_at bytes = do
+  n ← number_at w64 bytes
+  if between 1 9223372036854775807 n.0 then Some n else None
+
+-- two bytes of length, at most 600, and that many bytes
+unfoldable pub text_at : List ℕ → Read (List ℕ)
+text_at bytes = do
+  n ← number_at w16 bytes
+  if nat_le n.0 600 && nat_le n.0 (length n.1) then Some (take n.0 n.1, drop n.0 n.1) else None
+
+unfoldable pub entry_at : List ℕ → Read Entry
+entry_at bytes = do
+  id ← id_at bytes
+  text ← text_at id.1
+  Some (record { id = id.0; text = text.0 }, text.1)
+
+unfoldable pub report_at : List ℕ → Read (Option Report)
+report_at [] = None
+report_at (zero ∷ rest) = Some (None, rest)
+report_at (suc zero ∷ rest) = do
+  ballot ← ballot_at rest
+  entry ← entry_at ballot.1
+  Some (Some (record { ballot = ballot.0; entry = entry.0 }), entry.1)
+report_at (suc (suc b) ∷ rest) = None
+
+-- one byte, the number of a member of the list
+unfoldable pub member_at : {A : Type 0} → (A → ℕ) → List A → List ℕ → Read A
+member_at number_of members bytes = do
+  n ← byte_at bytes
+  member ← numbered number_of members n.0
+  Some (member, n.1)
+
+unfoldable pub standing_at : List ℕ → Read Standing
+standing_at [] = None
+standing_at (zero ∷ rest) = Some (Unknown, rest)
+standing_at (suc zero ∷ rest) = Some (Pending, rest)
+standing_at (suc (suc zero) ∷ rest) = do
+  done ← two position_at (member_at answer_number answers) rest
+  Some (Done done.0.0 done.0.1, done.1)
+standing_at (suc (suc (suc b)) ∷ rest) = None
+
+-- the fields of each kind
+abbrev pub prepare_of : List ℕ → Option What
+prepare_of bytes = all_of (two ballot_at position_at) bytes >>= λ x. Some (Prepare x.0 x.1)
+
+abbrev pub promise_of : List ℕ → Option What
+promise_of bytes = all_of (two ballot_at (two position_at report_at)) bytes >>= λ x. Some (Promise x.0 x.1.0 x.1.1)
+
+abbrev pub accept_of : List ℕ → Option What
+accept_of bytes = all_of (two ballot_at (two position_at entry_at)) bytes >>= λ x. Some (Accept x.0 x.1.0 x.1.1)
+
+abbrev pub accepted_of : List ℕ → Option What
+accepted_of bytes = all_of (two ballot_at position_at) bytes >>= λ x. Some (Accepted x.0 x.1)
+
+abbrev pub nack_of : List ℕ → Option What
+nack_of bytes = all_of (two ballot_at (two position_at ballot_at)) bytes >>= λ x. Some (Nack x.0 x.1.0 x.1.1)
+
+abbrev pub behind_of : List ℕ → Option What
+behind_of bytes = all_of (limited_at 65536) bytes >>= λ x. Some (Behind x)
+
+abbrev pub decided_of : List ℕ → Option What
+decided_of bytes = all_of (two position_at entry_at) bytes >>= λ x. Some (Decided x.0 x.1)
+
+abbrev pub submit_of : List ℕ → Option What
+submit_of bytes = all_of entry_at bytes >>= λ x. Some (Submit x)
+
+abbrev pub ask_of : List ℕ → Option What
+ask_of bytes = all_of id_at bytes >>= λ x. Some (Ask x)
+
+abbrev pub sheet_of : List ℕ → Option What
+sheet_of bytes = all_of (two (member_at event_number events) (two byte_at (two (number_at w32) (member_at style_number styles)))) bytes
+    >>= λ x. Some (Sheet x.0 x.1.0 x.1.1.0 x.1.1.1)
+
+abbrev pub taken_of : List ℕ → Option What
+taken_of bytes = all_of id_at bytes >>= λ x. Some (Taken x)
+
+abbrev pub told_of : List ℕ → Option What
+told_of bytes = all_of (two id_at standing_at) bytes >>= λ x. Some (Told x.0 x.1)
+
+abbrev pub refused_of : List ℕ → Option What
+refused_of bytes = all_of (member_at refusal_number refusals) bytes >>= λ x. Some (Refused x)
+
+-- a kind without fields
+abbrev pub empty_of : What → List ℕ → Option What
+empty_of what bytes = if length bytes == 0 then Some what else None
+
+abbrev pub kinds : List ℕ
+kinds = 1 ∷ 2 ∷ 3 ∷ 4 ∷ 5 ∷ 6 ∷ 7 ∷ 16 ∷ 17 ∷ 18 ∷ 19 ∷ 20 ∷ 32 ∷ 33 ∷ 34 ∷ 35 ∷ 36 ∷ []
+
+abbrev pub is_kind : ℕ → Bool
+is_kind kind = list_any (λ k. k == kind) kinds
+
+-- the fields of the kind with this number
+unfoldable pub what_of : ℕ → List ℕ → Option What
+what_of kind bytes =
+    if kind == 1 then prepare_of bytes
+    else if kind == 2 then promise_of bytes
+    else if kind == 3 then accept_of bytes
+    else if kind == 4 then accepted_of bytes
+    else if kind == 5 then nack_of bytes
+    else if kind == 6 then behind_of bytes
+    else if kind == 7 then decided_of bytes
+    else if kind == 16 then submit_of bytes
+    else if kind == 17 then ask_of bytes
+    else if kind == 18 then sheet_of bytes
+    else if kind == 19 then empty_of Tick bytes
+    else if kind == 20 then empty_of Stop bytes
+    else if kind == 32 then taken_of bytes
+    else if kind == 33 then told_of bytes
+    else if kind == 34 then Some (SheetText bytes)
+    else if kind == 35 then refused_of bytes
+    else if kind == 36 then empty_of Fine bytes
+    else None
+
+abbrev pub is_desk : ℕ → Bool
+is_desk d = between 1 5 d
+
+-- the sender and the receiver fit the kind
+abbrev pub goes : Way → ℕ → ℕ → Bool
+goes Between from to = is_desk from && is_desk to
+goes FromClient from to = (from == 0) && is_desk to
+goes ToClient from to = is_desk from && (to == 0)
+
+abbrev pub frame_from : ℕ → ℕ → ℕ → Option What → Result Frame WireFault
+frame_from hall from to None = Err BadBody
+frame_from hall from to (Some what) =
+    if goes (way_of what) from to then Ok (record { hall = hall; from = from; to = to; what = what }) else Err BadBody
+
+-- what stands behind a length: the frame, or the first fault
+unfoldable pub frame_of : List ℕ → Result Frame WireFault
+frame_of (version ∷ a ∷ b ∷ c ∷ d ∷ from ∷ to ∷ kind ∷ bytes) =
+    if not (version == 1) then Err BadVersion
+    else if not (is_kind kind) then Err BadKind
+    else frame_from (from_be_bytes w32 (a ∷ b ∷ c ∷ d ∷ [])) from to (what_of kind bytes)
+frame_of _ = Err BadBody
+
+-- what a function returned is what reading gives, unless memory ran out
+abbrev pub GivesFrame : Result Frame WireFault → Result Frame WireFault → Type 0
+GivesFrame (Ok f) read = read ≡ Ok f
+GivesFrame (Err BadLength) read = ⊥
+GivesFrame (Err BadVersion) read = read ≡ Err BadVersion
+GivesFrame (Err BadKind) read = read ≡ Err BadKind
+GivesFrame (Err BadBody) read = read ≡ Err BadBody
+GivesFrame (Err NoMemory) read = Unit {0}

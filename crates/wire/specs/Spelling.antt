@@ -1,0 +1,79 @@
+-- The bytes of a frame: one spelling for each. Numbers are unsigned, the highest byte first.
+use Rattle.std.specs.Prelude.{ℕ, List, [], ◌∷◌, ◌++◌, length, Option, Some, None}
+use Rattle.std.specs.Int.{w16, w32, w64, to_be_bytes}
+use Rattle.acceptor.specs.declared.ballot.Ballot.{Ballot}
+use Rattle.acceptor.specs.declared.entry.Entry.{Entry}
+use Rattle.acceptor.specs.declared.message.Report.{Report}
+use Rattle.formats.specs.Events.{event_number}
+use Rattle.wire.specs.declared.frame.Frame.{Frame}
+use Rattle.wire.specs.declared.frame.Standing.{Standing}
+use Rattle.wire.specs.declared.frame.Standing.TheVariants.{Unknown, Pending, Done}
+use Rattle.wire.specs.declared.frame.What.{What}
+use Rattle.wire.specs.declared.frame.What.TheVariants.{Prepare, Promise, Accept, Accepted, Nack, Behind, Decided, Submit, Ask, Sheet, Tick, Stop, Taken, Told, SheetText, Refused, Fine}
+use Rattle.wire.specs.Numbers.{answer_number, refusal_number, style_number}
+
+abbrev pub ballot_bytes : Ballot → List ℕ
+ballot_bytes b = to_be_bytes w32 b.round ++ b.desk ∷ []
+
+abbrev pub text_bytes : List ℕ → List ℕ
+text_bytes bytes = to_be_bytes w16 (length bytes) ++ bytes
+
+abbrev pub entry_bytes : Entry → List ℕ
+entry_bytes e = to_be_bytes w64 e.id ++ text_bytes e.text
+
+-- the vote that a promise reports: 0, or 1 and the vote
+abbrev pub report_bytes : Option Report → List ℕ
+report_bytes None = 0 ∷ []
+report_bytes (Some r) = 1 ∷ ballot_bytes r.ballot ++ entry_bytes r.entry
+
+abbrev pub standing_bytes : Standing → List ℕ
+standing_bytes Unknown = 0 ∷ []
+standing_bytes Pending = 1 ∷ []
+standing_bytes (Done pos answer) = 2 ∷ to_be_bytes w32 pos ++ answer_number answer ∷ []
+
+-- the number of a kind of frame
+abbrev pub kind_of : What → ℕ
+kind_of (Prepare b pos) = 1
+kind_of (Promise b pos vote) = 2
+kind_of (Accept b pos e) = 3
+kind_of (Accepted b pos) = 4
+kind_of (Nack b pos promised) = 5
+kind_of (Behind len) = 6
+kind_of (Decided pos e) = 7
+kind_of (Submit e) = 16
+kind_of (Ask id) = 17
+kind_of (Sheet event round position style) = 18
+kind_of Tick = 19
+kind_of Stop = 20
+kind_of (Taken id) = 32
+kind_of (Told id s) = 33
+kind_of (SheetText bytes) = 34
+kind_of (Refused refusal) = 35
+kind_of Fine = 36
+
+-- the fields of a frame, in their order
+abbrev pub body : What → List ℕ
+body (Prepare b pos) = ballot_bytes b ++ to_be_bytes w32 pos
+body (Promise b pos vote) = ballot_bytes b ++ to_be_bytes w32 pos ++ report_bytes vote
+body (Accept b pos e) = ballot_bytes b ++ to_be_bytes w32 pos ++ entry_bytes e
+body (Accepted b pos) = ballot_bytes b ++ to_be_bytes w32 pos
+body (Nack b pos promised) = ballot_bytes b ++ to_be_bytes w32 pos ++ ballot_bytes promised
+body (Behind len) = to_be_bytes w32 len
+body (Decided pos e) = to_be_bytes w32 pos ++ entry_bytes e
+body (Submit e) = entry_bytes e
+body (Ask id) = to_be_bytes w64 id
+body (Sheet event round position style) = event_number event ∷ round ∷ to_be_bytes w32 position ++ style_number style ∷ []
+body Tick = []
+body Stop = []
+body (Taken id) = to_be_bytes w64 id
+body (Told id s) = to_be_bytes w64 id ++ standing_bytes s
+body (SheetText bytes) = bytes
+body (Refused refusal) = refusal_number refusal ∷ []
+body Fine = []
+
+-- what stands behind the length: version, hall, sender, receiver, kind, fields
+abbrev pub inside : Frame → List ℕ
+inside f = 1 ∷ to_be_bytes w32 f.hall ++ f.from ∷ f.to ∷ kind_of f.what ∷ body f.what
+
+abbrev pub spelling : Frame → List ℕ
+spelling f = to_be_bytes w32 (length (inside f)) ++ inside f

@@ -1,0 +1,125 @@
+-- What stands at the front of a stream, and what a reader of it keeps.
+use Rattle.std.specs.Prelude.{◌≡◌, ◌⊎◌, ◌≤◌, ℕ, List, [], ◌++◌, length, take, drop, Option, Some, None, Result, Ok, Err, not, nat_lt, if◌then◌else◌}
+use Rattle.std.specs.List.{flat_map, AllByRecursion}
+use Rattle.std.specs.Int.{w32, from_be_bytes}
+use Rattle.wire.specs.declared.fault.WireFault.{WireFault}
+use Rattle.wire.specs.declared.fault.WireFault.TheVariants.{BadLength, BadVersion, BadKind, BadBody, NoMemory}
+use Rattle.wire.specs.declared.frame.Frame.{Frame}
+use Rattle.wire.specs.Ranges.{IsFrame}
+use Rattle.wire.specs.Reading.{between, frame_of}
+use Rattle.wire.specs.Spelling.{spelling}
+
+-- no whole frame and no fault yet; a frame and the bytes behind it; or a fault
+pub data Front : Type 0 where
+  Waits : Front
+  Begins : Frame → List ℕ → Front
+  Breaks : WireFault → Front
+
+abbrev pub by_frame : Result Frame WireFault → List ℕ → Front
+by_frame (Ok f) rest = Begins f rest
+by_frame (Err e) rest = Breaks e
+
+-- a length, and the bytes behind it
+abbrev pub by_length : ℕ → List ℕ → Front
+by_length n bytes =
+    if not (between 8 300000 n) then Breaks BadLength
+    else if nat_lt (length bytes) n then Waits
+    else by_frame (frame_of (take n bytes)) (drop n bytes)
+
+unfoldable pub front : List ℕ → Front
+front bytes = if nat_lt (length bytes) 4 then Waits else by_length (from_be_bytes w32 (take 4 bytes)) (drop 4 bytes)
+
+-- what a reader keeps: the bytes that were not given yet, or the fault that it met
+pub record Reader : Type 0 where
+  pub held : List ℕ
+  pub fault : Option WireFault
+
+abbrev pub holding : List ℕ → Reader
+holding bytes = record { held = bytes; fault = None }
+
+abbrev pub broken : WireFault → Reader
+broken e = record { held = []; fault = Some e }
+
+-- what a reader keeps of the rest of a stream, which begins with no frame
+abbrev pub keeps : Front → List ℕ → Reader
+keeps Waits rest = holding rest
+keeps (Begins f more) rest = holding rest
+keeps (Breaks e) rest = broken e
+
+abbrev pub IsBegun : Front → Type 0
+IsBegun Waits = ⊥
+IsBegun (Begins f more) = Unit {0}
+IsBegun (Breaks e) = ⊥
+
+-- the stream is these frames, and then bytes that begin with neither a whole frame nor a fault, which the reader holds, or a fault, which it keeps
+pub record Feeds (stream : List ℕ) (frames : List Frame) (reader : Reader) : Type 0 where
+  pub rest : List ℕ
+  pub whole : stream ≡ flat_map spelling frames ++ rest
+  pub each : AllByRecursion IsFrame frames
+  pub ends : IsBegun (front rest) → ⊥
+  pub keeps : reader ≡ keeps (front rest) rest
+
+-- why a call of a reader is refused, and what the reader is afterwards: the fault that is kept, or the one at the front; want of memory changes nothing
+abbrev pub RefusesFault : WireFault → List ℕ → Reader → Reader → Type 0
+RefusesFault e piece old new = ((old.fault ≡ Some e) × (new ≡ old))
+    ⊎ ((old.fault ≡ None) × (front (old.held ++ piece) ≡ Breaks e) × (new ≡ broken e))
+
+abbrev pub Refuses : WireFault → List ℕ → Reader → Reader → Type 0
+Refuses BadLength piece old new = RefusesFault BadLength piece old new
+Refuses BadVersion piece old new = RefusesFault BadVersion piece old new
+Refuses BadKind piece old new = RefusesFault BadKind piece old new
+Refuses BadBody piece old new = RefusesFault BadBody piece old new
+Refuses NoMemory piece old new = (old.fault ≡ None) × (new ≡ old)
+
+-- at Ok the reader kept no fault, and a fault that it keeps now was not at the front
+pub record Fed (piece : List ℕ) (old new : Reader) (frames : List Frame) : Type 0 where
+  pub whole : old.fault ≡ None
+  pub feeds : Feeds (old.held ++ piece) frames new
+  pub at_once : frames ≡ [] → new.fault ≡ None
+
+-- a fault of the stream, which want of memory is not
+abbrev pub IsOfStream : WireFault → Type 0
+IsOfStream BadLength = Unit {0}
+IsOfStream BadVersion = Unit {0}
+IsOfStream BadKind = Unit {0}
+IsOfStream BadBody = Unit {0}
+IsOfStream NoMemory = ⊥
+
+-- a fault that is kept is one of the stream
+abbrev pub IsKept : Option WireFault → Type 0
+IsKept None = Unit {0}
+IsKept (Some e) = IsOfStream e
+
+-- what ends a stream: it waits for more, or this fault stands there
+abbrev pub Ends : Option WireFault → Front → Type 0
+Ends None at = at ≡ Waits
+Ends (Some e) at = (at ≡ Breaks e) × IsOfStream e
+
+-- the stream is these frames, and then less than a whole frame without a fault, or this fault
+pub record Splits (stream : List ℕ) (frames : List Frame) (fault : Option WireFault) : Type 0 where
+  pub rest : List ℕ
+  pub whole : stream ≡ flat_map spelling frames ++ rest
+  pub each : AllByRecursion IsFrame frames
+  pub ends : Ends fault (front rest)
+
+-- ---- for the steps of the code
+
+-- the frames at the front, with the number of their bytes
+pub record AreFirst (bytes : List ℕ) (frames : List Frame) (size : ℕ) : Type 0 where
+  pub within : size ≤ length bytes
+  pub whole : bytes ≡ flat_map spelling frames ++ drop size bytes
+  pub each : AllByRecursion IsFrame frames
+
+pub record IsTaken (bytes : List ℕ) (frames : List Frame) (size : ℕ) (fault : Option WireFault) : Type 0 where
+  pub first : AreFirst bytes frames size
+  pub ends : Ends fault (front (drop size bytes))
+
+-- what a function found at the front, with the number of its bytes, is what stands there, unless memory ran out
+abbrev pub GivesFront : Result (Option (Frame × ℕ)) WireFault → List ℕ → Front → Type 0
+GivesFront (Ok None) bytes at = at ≡ Waits
+GivesFront (Ok (Some x)) bytes at = (at ≡ Begins x.0 (drop x.1 bytes)) × (4 ≤ x.1) × (x.1 ≤ length bytes)
+GivesFront (Err BadLength) bytes at = at ≡ Breaks BadLength
+GivesFront (Err BadVersion) bytes at = at ≡ Breaks BadVersion
+GivesFront (Err BadKind) bytes at = at ≡ Breaks BadKind
+GivesFront (Err BadBody) bytes at = at ≡ Breaks BadBody
+GivesFront (Err NoMemory) bytes at = Unit {0}

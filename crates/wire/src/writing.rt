@@ -1,0 +1,182 @@
+//! Frames as bytes.
+
+ghost use Rattle.std.specs.Prelude.{◌≡◌, ◌≤◌, ◌++◌, IfOk, OnOk, length, drop};
+ghost use Rattle.std.specs.Int.{w16, w32, w64, to_be_bytes};
+ghost use Rattle.wire.specs.Numbers.{answer_number};
+ghost use Rattle.wire.specs.Ranges.{IsFrame, IsBody};
+ghost use Rattle.wire.specs.Spelling.{ballot_bytes, text_bytes, entry_bytes, report_bytes, standing_bytes, kind_of, body, inside, spelling};
+
+use crate::NoMemory;
+use crate::frame::{Frame, Standing, What};
+use acceptor::ballot::Ballot;
+use acceptor::entry::Entry;
+use acceptor::message::Report;
+use commands::Answer;
+use std::alloc::Global;
+
+/// The one version of this wire.
+const VERSION: u8 = 1;
+
+fn put_u32(out: &mut Vec<u8>, number: u32) -> Result<(), NoMemory>
+    ensures { OnOk result (out.new.items ≡ out.old.items ++ to_be_bytes w32 number) }
+{
+    out.extend_from_slice(&number.to_be_bytes())
+}
+
+fn put_u64(out: &mut Vec<u8>, number: u64) -> Result<(), NoMemory>
+    ensures { OnOk result (out.new.items ≡ out.old.items ++ to_be_bytes w64 number) }
+{
+    out.extend_from_slice(&number.to_be_bytes())
+}
+
+fn put_ballot(out: &mut Vec<u8>, ballot: Ballot) -> Result<(), NoMemory>
+    ensures { OnOk result (out.new.items ≡ out.old.items ++ ballot_bytes ballot) }
+{
+    put_u32(out, ballot.round)?;
+    out.push(ballot.desk)?;
+    Ok(())
+}
+
+/// A ballot and a position, with which five kinds begin.
+fn put_place(out: &mut Vec<u8>, ballot: Ballot, pos: u32) -> Result<(), NoMemory>
+    ensures { OnOk result (out.new.items ≡ out.old.items ++ (ballot_bytes ballot ++ to_be_bytes w32 pos)) }
+{
+    put_ballot(out, ballot)?;
+    put_u32(out, pos)
+}
+
+fn put_text(out: &mut Vec<u8>, text: &[u8]) -> Result<(), NoMemory>
+    requires { length text.now ≤ 600 }
+    ensures { OnOk result (out.new.items ≡ out.old.items ++ text_bytes text.now) }
+{
+    out.extend_from_slice(&(text.len() as u16).to_be_bytes())?;
+    out.extend_from_slice(text)
+}
+
+fn put_entry(out: &mut Vec<u8>, entry: &Entry) -> Result<(), NoMemory>
+    ensures { OnOk result (out.new.items ≡ out.old.items ++ entry_bytes entry.now) }
+{
+    put_u64(out, entry.id())?;
+    put_text(out, entry.text())
+}
+
+fn put_report(out: &mut Vec<u8>, vote: &Option<Report>) -> Result<(), NoMemory>
+    ensures { OnOk result (out.new.items ≡ out.old.items ++ report_bytes vote.now) }
+{
+    match vote {
+        None => {
+            out.push(0)?;
+            Ok(())
+        }
+        Some(report) => {
+            out.push(1)?;
+            put_ballot(out, report.ballot)?;
+            put_entry(out, &report.entry)
+        }
+    }
+}
+
+fn number_of(answer: Answer) -> u8
+    ensures { result ≡ answer_number answer }
+{
+    match answer {
+        Answer::Done => 0,
+        Answer::Refused(code) => code.number(),
+    }
+}
+
+fn put_standing(out: &mut Vec<u8>, standing: Standing) -> Result<(), NoMemory>
+    ensures { OnOk result (out.new.items ≡ out.old.items ++ standing_bytes standing) }
+{
+    match standing {
+        Standing::Unknown => out.push(0)?,
+        Standing::Pending => out.push(1)?,
+        Standing::Done { pos, answer } => {
+            out.push(2)?;
+            put_u32(out, pos)?;
+            out.push(number_of(answer))?;
+        }
+    }
+    Ok(())
+}
+
+/// The fields of a frame, in their order.
+fn put_body(out: &mut Vec<u8>, what: &What) -> Result<(), NoMemory>
+    ensures { OnOk result (out.new.items ≡ out.old.items ++ body what.now) }
+{
+    match what {
+        What::Prepare { ballot, pos } | What::Accepted { ballot, pos } => {
+            put_place(out, *ballot, *pos)
+        }
+        What::Promise { ballot, pos, vote } => {
+            put_place(out, *ballot, *pos)?;
+            put_report(out, vote)
+        }
+        What::Accept { ballot, pos, entry } => {
+            put_place(out, *ballot, *pos)?;
+            put_entry(out, entry)
+        }
+        What::Nack {
+            ballot,
+            pos,
+            promised,
+        } => {
+            put_place(out, *ballot, *pos)?;
+            put_ballot(out, *promised)
+        }
+        What::Behind { len } => put_u32(out, *len),
+        What::Decided { pos, entry } => {
+            put_u32(out, *pos)?;
+            put_entry(out, entry)
+        }
+        What::Submit { entry } => put_entry(out, entry),
+        What::Ask { id } | What::Taken { id } => put_u64(out, *id),
+        What::Sheet {
+            event,
+            round,
+            position,
+            style,
+        } => {
+            out.extend_from_slice(&[event.number(), *round])?;
+            put_u32(out, *position)?;
+            out.push(style.number())?;
+            Ok(())
+        }
+        What::Told { id, standing } => {
+            put_u64(out, *id)?;
+            put_standing(out, *standing)
+        }
+        What::SheetText { text } => out.extend_from_slice(text.as_slice()),
+        What::Refused { refusal } => {
+            out.push(refusal.number())?;
+            Ok(())
+        }
+        What::Tick | What::Stop | What::Fine => Ok(()),
+    }
+}
+
+/// What stands behind the length.
+fn put_inside(out: &mut Vec<u8>, frame: &Frame) -> Result<(), NoMemory>
+    ensures { OnOk result (out.new.items ≡ out.old.items ++ inside frame.now) }
+{
+    out.push(VERSION)?;
+    put_u32(out, frame.hall)?;
+    out.extend_from_slice(&[frame.from, frame.to, frame.what.kind()])?;
+    put_body(out, &frame.what)
+}
+
+/// The bytes of a frame whose fields are in their ranges: a length of four bytes, the version, the hall, the
+/// sender, the receiver, the kind and its fields. Numbers are unsigned, the highest byte first.
+/// NoMemory is the only error.
+#[tactic(auto, using(crate::proofs::Streams::inside_fits))]
+pub fn encode(alloc: Global, frame: &Frame) -> Result<Vec<u8>, NoMemory>
+    requires { IsFrame frame.now }
+    ensures { IfOk result (λ bytes. bytes.items ≡ spelling frame.now) }
+{
+    let mut inside = Vec::new(alloc);
+    put_inside(&mut inside, frame)?;
+    let mut bytes = Vec::with_capacity(alloc, inside.len() + 4)?;
+    put_u32(&mut bytes, inside.len() as u32)?;
+    bytes.extend_from_slice(&inside)?;
+    Ok(bytes)
+}
