@@ -4,32 +4,33 @@
     bench/rules.py EVENT ROUND [--csv] < COMMANDS
 
 A second program, written from docs/FORMATS.md and the WCA Regulations and sharing nothing with the
-crates: slow, plain, with whole lists in place of tables. `bench/replay` compares the two byte for
-byte. Standard library only.
+crates: slow, plain, with whole lists in place of tables; bench/stickers.py has the cube. `bench/compare`
+and `bench/replay` compare the two byte for byte. Standard library only.
 """
 
 import re
 import sys
 
-EVENTS = ["333", "222", "444", "555", "666", "777", "333bf", "333fm", "333oh", "clock", "minx",
-          "pyram", "skewb", "sq1", "444bf", "555bf"]
-ATTEMPTS = {"ao5": 5}
+sys.dont_write_bytecode = True
+from stickers import TOKEN, fewest_moves
+
+TIMES = ("333", "222", "444", "555", "333oh", "clock", "minx", "pyram", "skewb", "sq1")
+MEANS = ("666", "777", "333fm")
+BLIND = ("333bf", "444bf", "555bf")
+EVENTS = ("333", "222", "444", "555", "666", "777", "333bf", "333fm", "333oh", "clock", "minx",
+          "pyram", "skewb", "sq1", "444bf", "555bf")
+FORMATS = ({event: ("ao5", "bo1", "bo2", "bo3") for event in TIMES}
+           | {event: ("mo3", "bo1", "bo2") for event in MEANS}
+           | {event: ("bo1", "bo2", "bo3") for event in BLIND})
+ATTEMPTS = {"ao5": 5, "mo3": 3, "bo1": 1, "bo2": 2, "bo3": 3}
 
 MOST_LINES = 65_536
 MOST_IN_LINE = 10_000
 MOST_BYTES = 39_387_136
+MOST_IN_COMMAND = 600
 MOST_ENTRANTS = 999
 
 NUMBER = re.compile(rb"0|[1-9][0-9]*")
-
-
-class Stop(Exception):
-    """A named refusal: its text and its status."""
-
-    def __init__(self, text, status):
-        super().__init__(text)
-        self.text = text
-        self.status = status
 
 
 # --- lines ---------------------------------------------------------------------------------------
@@ -62,8 +63,12 @@ def number(text, low, high):
     return None
 
 
-def one_of(text, *spellings):
-    return text.decode() if text in [spelling.encode() for spelling in spellings] else None
+def in_range(low, high):
+    return lambda text: number(text, low, high)
+
+
+def one_of(spellings):
+    return lambda text: text.decode() if text in [spelling.encode() for spelling in spellings] else None
 
 
 def name(text):
@@ -76,42 +81,70 @@ def name(text):
     return text if 1 <= len(text) <= 80 and plain and not spaced else None
 
 
-def outcome(text):
-    """('T', hundredths, penalties), ('DNF',) or ('DNS',), or None."""
-    if text in (b"DNF", b"DNS"):
-        return (text.decode(),)
-    parts = text.split(b":")
-    if len(parts) == 3 and parts[0] == b"T":
-        hundredths = number(parts[1], 1, 999_999)
-        penalties = number(parts[2], 0, 9)
-        if hundredths is not None and penalties is not None:
-            return ("T", hundredths, penalties)
-    return None
-
-
-def event(text):
-    return one_of(text, "333")
+def cutoff(text):
+    """'-', or the attempts within which it has to be met and the value that is not below it."""
+    if text == b"-":
+        return "-"
+    count, _, below = text.partition(b":")
+    count, below = number(count, 1, 4), number(below, 1, 360_000)
+    return None if count is None or below is None else (count, below)
 
 
 def limit(text):
     return "-" if text == b"-" else number(text, 1, 360_000)
 
 
+def advance(text):
+    """('final',), ('top', t) or ('pct', p)."""
+    if text == b"final":
+        return ("final",)
+    kind, _, wanted = text.partition(b":")
+    wanted = number(wanted, 1, {b"top": 999, b"pct": 75}.get(kind, 0))
+    return None if wanted is None else (kind.decode(), wanted)
+
+
+def moves(text):
+    """The tokens, with exactly one space between two."""
+    tokens = text.decode("latin-1").split(" ")
+    return tokens if all(TOKEN.fullmatch(token) for token in tokens) else None
+
+
+def outcome(text):
+    """('T', hundredths, penalties), ('S', tokens), ('DNF',) or ('DNS',), or None."""
+    if text in (b"DNF", b"DNS"):
+        return (text.decode(),)
+    if text.startswith(b"S:"):
+        solution = moves(text[2:])
+        return None if solution is None else ("S", solution)
+    parts = text.split(b":")
+    if len(parts) == 3 and parts[0] == b"T":
+        hundredths, penalties = number(parts[1], 1, 999_999), number(parts[2], 0, 9)
+        if hundredths is not None and penalties is not None:
+            return ("T", hundredths, penalties)
+    return None
+
+
+EVENT, FORMAT, WHO = one_of(EVENTS), one_of(ATTEMPTS), in_range(1, 9999)
+ROUND, COUNT = in_range(1, 4), in_range(1, 5)
+
 # each word: how its fields are read, and whether the last is the rest of the text
 WORDS = {
-    b"REG": ([lambda t: number(t, 1, 9999), name], True),
-    b"OPEN": ([event, lambda t: number(t, 1, 1), lambda t: one_of(t, *ATTEMPTS),
-               lambda t: one_of(t, "-"), limit, lambda t: one_of(t, "final")], False),
-    b"ENT": ([event, lambda t: number(t, 1, 9999)], False),
-    b"ATT": ([event, lambda t: number(t, 1, 1), lambda t: number(t, 1, 5),
-              lambda t: number(t, 1, 9999), outcome], True),
+    b"REG": ([WHO, name], True),
+    b"OPEN": ([EVENT, ROUND, FORMAT, cutoff, limit, advance], False),
+    b"ENT": ([EVENT, WHO], False),
+    b"SCR": ([EVENT, ROUND, COUNT, moves], True),
+    b"ATT": ([EVENT, ROUND, COUNT, WHO, outcome], True),
+    b"COR": ([EVENT, ROUND, COUNT, WHO, outcome], True),
+    b"STR": ([EVENT, ROUND, WHO], False),
+    b"ADV": ([EVENT, ROUND, advance], False),
+    b"CLOSE": ([EVENT, ROUND], False),
 }
 
 
 def read(text):
     """A word and its fields, or None where the text is no command."""
     word, space, rest = text.partition(b" ")
-    if len(text) > 600 or word not in WORDS or not space:
+    if len(text) > MOST_IN_COMMAND or word not in WORDS or not space:
         return None
     readers, last_is_rest = WORDS[word]
     fields = rest.split(b" ", len(readers) - 1) if last_is_rest else rest.split(b" ")
@@ -121,27 +154,109 @@ def read(text):
     return None if None in values else (word.decode(), values)
 
 
-# --- the competition -----------------------------------------------------------------------------
+# --- results -------------------------------------------------------------------------------------
 
 
-def settle(out, time_limit):
-    """The value of an attempt: a number of hundredths, 'DNF' or 'DNS'."""
-    if out[0] != "T":
-        return out[0]
-    _, hundredths, penalties = out
+def timed(hundredths, penalties, time_limit):
     if time_limit != "-" and hundredths >= time_limit:
         return "DNF"
     total = hundredths + 200 * penalties
     return total if total <= 60_000 else (total + 50) // 100 * 100
 
 
+def numbers(values):
+    return [value for value in values if isinstance(value, int)]
+
+
+def best(values):
+    if numbers(values):
+        return min(numbers(values))
+    return "DNF" if "DNF" in values else "DNS"
+
+
+def average(form, what, values):
+    """The average or the mean in hundredths; '-' where there is none."""
+    if form.startswith("bo") or len(values) < ATTEMPTS[form]:
+        return "-"
+    if form == "mo3":
+        counted = sorted(numbers(values))
+    elif len(numbers(values)) == 5:
+        counted = sorted(values)[1:4]
+    else:
+        counted = sorted(numbers(values))[1:]
+    if len(counted) < 3:
+        return "DNF"
+    total = sum(counted)
+    if what == "333fm":
+        return (200 * total + 3) // 6
+    if total > 180_000:
+        return (total + 150) // 300 * 100
+    return (2 * total + 3) // 6
+
+
+def later_rounds(competitors):
+    return sum(competitors > most for most in (7, 15, 99))
+
+
+def quota(wish, competitors):
+    if wish[0] == "final":
+        return 0
+    wanted = wish[1] if wish[0] == "top" else competitors * wish[1] // 100
+    return min(wanted, 3 * competitors // 4)
+
+
+class Round:
+    """The settings of a round, its scrambles, and the values of each entrant in order of entry."""
+
+    def __init__(self, what, form, cut, time_limit, wish, entrants):
+        self.what, self.form, self.cutoff, self.limit, self.advance = what, form, cut, time_limit, wish
+        self.scrambles = {}
+        self.entrants = {who: [] for who in entrants}
+        self.closed = False
+
+    def meets(self, values):
+        return self.cutoff == "-" or any(value < self.cutoff[1] for value in numbers(values[:self.cutoff[0]]))
+
+    def allotted(self, values):
+        return ATTEMPTS[self.form] if self.meets(values) else self.cutoff[0]
+
+    def rank(self, values):
+        """What ranks an entrant: less is better, and whatever is no number is worst and equal."""
+        results = [best(values)]
+        if not self.form.startswith("bo"):
+            results.insert(0, average(self.form, self.what, values))
+        return tuple(result if isinstance(result, int) else float("inf") for result in results)
+
+    def places(self):
+        """The place of each entrant: 1 plus the number of those who are better."""
+        ranks = {who: self.rank(values) for who, values in self.entrants.items()}
+        return {who: 1 + sum(other < rank for other in ranks.values()) for who, rank in ranks.items()}
+
+    def standings(self):
+        places = self.places()
+        return sorted(self.entrants, key=places.get)
+
+    def started(self):
+        """The competitors of the round: entrants with an attempt that is not DNS."""
+        return [who for who, values in self.entrants.items() if any(value != "DNS" for value in values)]
+
+    def advancing(self):
+        """Those who go on, in order of standings: a tied group over the border stays out whole."""
+        started = self.started()
+        most = quota(self.advance, len(started))
+        ranks = {who: self.rank(self.entrants[who]) for who in started}
+        return [who for who in self.standings() if numbers(self.entrants[who])
+                and sum(rank <= ranks[who] for rank in ranks.values()) <= most]
+
+
+# --- the competition -----------------------------------------------------------------------------
+
+
 class Meet:
     def __init__(self):
         self.names = {}
         self.taken = set()
-        # (event, round) to (format, cutoff, limit, advance)
-        self.settings = {}
-        # (event, round) to number to values, in order of entry
+        # (event, round) to Round
         self.rounds = {}
 
     def apply(self, text):
@@ -150,8 +265,9 @@ class Meet:
         if command is None:
             return "Unread"
         word, fields = command
-        return {"REG": self.register, "OPEN": self.open, "ENT": self.enter,
-                "ATT": self.attempt}[word](*fields)
+        return {"REG": self.register, "OPEN": self.open, "ENT": self.enter, "SCR": self.scramble,
+                "ATT": self.attempt, "COR": self.correct, "STR": self.strike, "ADV": self.change,
+                "CLOSE": self.close}[word](*fields)
 
     def register(self, who, text):
         if who in self.names:
@@ -161,13 +277,20 @@ class Meet:
         self.names[who] = text
         self.taken.add(text)
 
-    def open(self, what, which, form, cutoff, time_limit, advance):
-        if (what, which) in self.settings:
+    def open(self, what, which, form, cut, time_limit, wish):
+        if (what, which) in self.rounds:
             return "RoundOpen"
-        if time_limit == "-":
+        before = self.rounds.get((what, which - 1))
+        if which > 1 and (before is None or not before.closed or before.advance == ("final",)):
+            return "RoundUnknown"
+        if form not in FORMATS[what]:
+            return "FormatNotAllowed"
+        if cut != "-" and cut[0] >= ATTEMPTS[form]:
+            return "CutoffNotAllowed"
+        if (time_limit == "-") != (what == "333fm"):
             return "LimitNotAllowed"
-        self.settings[what, which] = (form, cutoff, time_limit, advance)
-        self.rounds[what, which] = {}
+        entrants = before.advancing() if which > 1 else []
+        self.rounds[what, which] = Round(what, form, cut, time_limit, wish, entrants)
 
     def enter(self, what, who):
         if who not in self.names:
@@ -175,57 +298,120 @@ class Meet:
         if (what, 1) not in self.rounds:
             return "RoundUnknown"
         table = self.rounds[what, 1]
-        if who in table:
+        if table.closed:
+            return "Closed"
+        if who in table.entrants:
             return "Already"
-        if len(table) == MOST_ENTRANTS:
+        if len(table.entrants) == MOST_ENTRANTS:
             return "Full"
-        table[who] = []
+        table.entrants[who] = []
 
-    def attempt(self, what, which, count, who, out):
+    def scramble(self, what, which, count, tokens):
+        if (what, which) not in self.rounds:
+            return "RoundUnknown"
+        table = self.rounds[what, which]
+        if table.closed:
+            return "Closed"
+        if what != "333fm":
+            return "WrongOutcome"
+        if count > ATTEMPTS[table.form]:
+            return "NoSuchAttempt"
+        if count in table.scrambles:
+            return "ScrambleThere"
+        table.scrambles[count] = tokens
+
+    def refusal(self, what, which, count, who, out):
+        """The checks that an attempt and a correction begin with."""
         if who not in self.names:
             return "UnknownCompetitor"
         if (what, which) not in self.rounds:
             return "RoundUnknown"
         table = self.rounds[what, which]
-        if who not in table:
+        if out[0] == ("T" if what == "333fm" else "S"):
+            return "WrongOutcome"
+        if out[0] == "S" and count not in table.scrambles:
+            return "NoScramble"
+        if table.closed:
+            return "Closed"
+        if who not in table.entrants:
             return "NotEntered"
-        if count != len(table[who]) + 1:
+        return None
+
+    def settle(self, what, which, count, out):
+        """The value of an attempt: a number of hundredths or of moves, 'DNF' or 'DNS'."""
+        table = self.rounds[what, which]
+        if out[0] == "T":
+            return timed(out[1], out[2], table.limit)
+        if out[0] == "S":
+            return fewest_moves(table.scrambles[count], out[1])
+        return out[0]
+
+    def attempt(self, what, which, count, who, out):
+        refusal = self.refusal(what, which, count, who, out)
+        if refusal is not None:
+            return refusal
+        table = self.rounds[what, which]
+        values = table.entrants[who]
+        if count != len(values) + 1:
             return "OutOfOrder"
-        table[who].append(settle(out, self.settings[what, which][2]))
+        if len(values) == table.allotted(values):
+            return "NoMoreAttempts"
+        values.append(self.settle(what, which, count, out))
+
+    def correct(self, what, which, count, who, out):
+        refusal = self.refusal(what, which, count, who, out)
+        if refusal is not None:
+            return refusal
+        table = self.rounds[what, which]
+        values = table.entrants[who]
+        if count > len(values):
+            return "NoSuchAttempt"
+        changed = values[:count - 1] + [self.settle(what, which, count, out)] + values[count:]
+        if table.cutoff != "-" and len(values) > table.cutoff[0] and not table.meets(changed):
+            return "CutoffLost"
+        table.entrants[who] = changed
+
+    def strike(self, what, which, who):
+        if who not in self.names:
+            return "UnknownCompetitor"
+        if (what, which) not in self.rounds:
+            return "RoundUnknown"
+        table = self.rounds[what, which]
+        if table.closed:
+            return "Closed"
+        if who not in table.entrants:
+            return "NotEntered"
+        if not table.entrants[who]:
+            return "NoSuchAttempt"
+        table.entrants[who].pop()
+
+    def change(self, what, which, wish):
+        if (what, which) not in self.rounds:
+            return "RoundUnknown"
+        if self.rounds[what, which].closed:
+            return "Closed"
+        self.rounds[what, which].advance = wish
+
+    def close(self, what, which):
+        if (what, which) not in self.rounds:
+            return "RoundUnknown"
+        table = self.rounds[what, which]
+        if table.closed:
+            return "Closed"
+        if any(len(values) < table.allotted(values) for values in table.entrants.values()):
+            return "Unfinished"
+        behind = [which + 1 - j > later_rounds(len(self.rounds[what, j].started())) for j in range(1, which + 1)]
+        if table.advance != ("final",) and any(behind):
+            return "RoundsRule"
+        table.closed = True
 
 
-# --- results -------------------------------------------------------------------------------------
+# --- sheets --------------------------------------------------------------------------------------
 
 
-def best(values):
-    numbers = [value for value in values if isinstance(value, int)]
-    if numbers:
-        return min(numbers)
-    return "DNF" if "DNF" in values else "DNS"
-
-
-def average(values):
-    """Of five: the mean of the middle three, where at most one is no number."""
-    if len(values) < 5:
-        return "-"
-    if sum(not isinstance(value, int) for value in values) > 1:
-        return "DNF"
-    in_order = sorted(values, key=lambda value: (not isinstance(value, int), value))
-    total = sum(in_order[1:4])
-    if total > 180_000:
-        return (total + 150) // 300 * 100
-    return (2 * total + 3) // 6
-
-
-def rank(values):
-    """What ranks a competitor: less is better, and whatever is no number is worst and equal."""
-    return tuple(result if isinstance(result, int) else float("inf")
-                 for result in (average(values), best(values)))
-
-
-def printed(value):
-    if not isinstance(value, int):
-        return value
+def printed(value, what):
+    if not isinstance(value, int) or what == "333fm":
+        return str(value)
     minutes, rest = divmod(value, 6_000)
     seconds, hundredths = divmod(rest, 100)
     if minutes:
@@ -233,27 +419,38 @@ def printed(value):
     return f"{seconds}.{hundredths:02}"
 
 
+def printed_average(value, what):
+    if isinstance(value, int) and what == "333fm":
+        return f"{value // 100}.{value % 100:02}"
+    return printed(value, what)
+
+
+def spelled(setting):
+    """A cutoff, a limit or an advance, as in the command that opens a round."""
+    return ":".join(str(part) for part in setting) if isinstance(setting, tuple) else str(setting)
+
+
 def rows(table):
-    """Place, number and values of each entrant, by place, then by order of entry."""
-    keys = {who: rank(values) for who, values in table.items()}
-    placed = [(1 + sum(other < keys[who] for other in keys.values()), who) for who in table]
-    return [(place, who, table[who]) for place, who in sorted(placed, key=lambda pair: pair[0])]
-
-
-def texts(values, attempts):
-    """The average, the best and the column of each attempt."""
-    shown_best = printed(best(values)) if values else "-"
-    columns = [printed(value) for value in values] + ["-"] * (attempts - len(values))
-    return [printed(average(values)), shown_best] + columns
+    """Place, number, texts of the average, the best and each attempt, and whether advancing."""
+    places = table.places()
+    going = set(table.advancing()) if table.closed else set()
+    for who in table.standings():
+        values = table.entrants[who]
+        shown = [printed_average(average(table.form, table.what, values), table.what),
+                 printed(best(values), table.what) if values else "-"]
+        shown += [printed(value, table.what) for value in values] + ["-"] * (ATTEMPTS[table.form] - len(values))
+        yield places[who], who, shown, who in going
 
 
 def text_sheet(meet, what, which, position):
-    form, cutoff, time_limit, advance = meet.settings[what, which]
-    out = [f"{what} round {which} {form} open position {position}\n".encode(),
-           f"cutoff {cutoff} limit {time_limit} advance {advance}\n".encode()]
-    for place, who, values in rows(meet.rounds[what, which]):
-        columns = "".join(f" {text:>9}" for text in texts(values, ATTEMPTS[form]))
-        out.append(f"{place:>3}{columns} {who:>4} - ".encode() + meet.names[who] + b"\n")
+    table = meet.rounds[what, which]
+    state = "closed" if table.closed else "open"
+    out = [f"{what} round {which} {table.form} {state} position {position}\n".encode(),
+           f"cutoff {spelled(table.cutoff)} limit {spelled(table.limit)} "
+           f"advance {spelled(table.advance)}\n".encode()]
+    for place, who, shown, advances in rows(table):
+        columns = "".join(f" {text:>9}" for text in shown)
+        out.append(f"{place:>3}{columns} {who:>4} {'Q' if advances else '-'} ".encode() + meet.names[who] + b"\n")
     return b"".join(out)
 
 
@@ -264,12 +461,12 @@ def quoted(text):
 
 
 def table_sheet(meet, what, which):
-    form = meet.settings[what, which][0]
-    columns = [str(count + 1) for count in range(ATTEMPTS[form])]
+    table = meet.rounds[what, which]
+    columns = [str(count) for count in range(1, ATTEMPTS[table.form] + 1)]
     out = [",".join(["place", "number", "name", "average", "best"] + columns + ["advances"]).encode()]
-    for place, who, values in rows(meet.rounds[what, which]):
-        cells = ",".join(texts(values, ATTEMPTS[form]))
-        out.append(f"{place},{who},".encode() + quoted(meet.names[who]) + f",{cells},no".encode())
+    for place, who, shown, advances in rows(table):
+        cells = ",".join(shown + ["yes" if advances else "no"])
+        out.append(f"{place},{who},".encode() + quoted(meet.names[who]) + f",{cells}".encode())
     return b"\n".join(out) + b"\n"
 
 
@@ -285,7 +482,7 @@ def replay(data, what, which, table=False):
     said = b"".join(out)
     if too_long:
         return said, b"input too long\n", 3
-    if (what, which) not in meet.settings:
+    if (what, which) not in meet.rounds:
         return said, b"no such round\n", 3
     if table:
         return said + table_sheet(meet, what, which), b"", 0

@@ -1,5 +1,6 @@
 -- Values at the borders, computed from the definition.
 use Rattle.std.proofs.Common.{◌≡◌, refl, Some}
+use Rattle.fmc_check.specs.declared.Fm.TheVariants as fm
 use Rattle.attempts.specs.declared.Outcome.TheVariants as outcome
 use Rattle.attempts.specs.declared.Value.TheVariants as value
 use Rattle.attempts.specs.Attempts.{value_of}
@@ -20,3 +21,7 @@ at_the_limit = refl
 -- the limit is for the measured time alone
 penalties_past_the_limit : value_of (Some 60000) (outcome.Time 59999 9) ≡ value.Number 61800
 penalties_past_the_limit = refl
+
+-- a solution ignores the limit
+solution_under_a_limit : value_of (Some 1) (outcome.Solution (fm.Moves 25)) ≡ value.Number 25
+solution_under_a_limit = refl

@@ -1,8 +1,8 @@
 //! Attempts: what a judge enters, what it counts as, and how that is printed.
 //!
 //! Times are in hundredths of a second. The rules are those of the WCA Regulations: results in article
-//! 9f, penalties of two seconds in article 10e, time limits in article A1a. Where these leave the
-//! rounding open, a value above ten minutes goes to the nearest second, a half up.
+//! 9f, penalties of two seconds in article 10e, time limits in article A1a, fewest moves in article E.
+//! Where these leave the rounding open, a value above ten minutes goes to the nearest second, a half up.
 #![tactic(auto)]
 
 ghost use Rattle.std.specs.Prelude.{◌≡◌, ◌≤◌, ◌↔◌, IsTrue};
@@ -10,6 +10,7 @@ ghost use Rattle.attempts.specs.Attempts.{value_of, rounded, IsOutcome, IsInRang
 
 mod print;
 
+use fmc_check::Fm;
 pub use print::{print_value, push_decimal, push_two_digits};
 pub use std::alloc::AllocError as NoMemory;
 
@@ -21,6 +22,8 @@ const MOST: u32 = 2_000_000;
 pub enum Outcome {
     /// A measured time of 1 to 999,999 hundredths of a second, and 0 to 9 penalties.
     Time { hundredths: u32, penalties: u8 },
+    /// A solution of fewest moves, by its result against the scramble: 0 to 80 moves, or DNF.
+    Solution { result: Fm },
     /// Did not finish.
     Dnf,
     /// Did not start.
@@ -61,7 +64,7 @@ pub fn in_range(value: Value) -> bool
 ///
 /// A measured time that is not below the limit is DNF, whatever its penalties. Otherwise the value is
 /// the time with 200 hundredths more for each penalty, and above 60,000 hundredths it is rounded to
-/// whole seconds, a half up.
+/// whole seconds, a half up. A solution's value is its result; no limit applies to it.
 pub fn settle(outcome: Outcome, limit: Option<u32>) -> Value
     requires { IsOutcome outcome }
     ensures value { result ≡ value_of limit outcome }
@@ -75,7 +78,10 @@ pub fn settle(outcome: Outcome, limit: Option<u32>) -> Value
             Some(limit) if limit <= hundredths => Value::Dnf,
             _ => Value::Number(rounded(hundredths + 200 * u32::from(penalties))),
         },
-        Outcome::Dnf => Value::Dnf,
+        Outcome::Solution {
+            result: Fm::Moves(moves),
+        } => Value::Number(moves),
+        Outcome::Solution { result: Fm::Dnf } | Outcome::Dnf => Value::Dnf,
         Outcome::Dns => Value::Dns,
     }
 }

@@ -28,6 +28,17 @@ fn settles_times(rt: HostRuntime) {
 }
 
 #[test]
+fn settles_solutions(rt: HostRuntime) {
+    let solved = Outcome::Solution {
+        result: Fm::Moves(25),
+    };
+    let unsolved = Outcome::Solution { result: Fm::Dnf };
+    assert_eq!(rt; settle(solved, None), Value::Number(25));
+    assert_eq!(rt; settle(solved, Some(1)), Value::Number(25));
+    assert_eq!(rt; settle(unsolved, None), Value::Dnf);
+}
+
+#[test]
 fn prints_values(rt: HostRuntime) -> Result<(), Fail> {
     for (number, text) in [
         (7, b"0.07".as_slice()),

@@ -7,7 +7,7 @@ use Rattle.commands.specs.declared.command.Command.{Command}
 use Rattle.commands.specs.declared.reading.CommandFault.{CommandFault}
 use Rattle.commands.specs.declared.reading.CommandFault.TheVariants as fault
 use Rattle.commands.specs.Fields.{cut}
-use Rattle.commands.specs.Reading.{◌>>=◌, field, last_field, no_field, register_of, open_of, enter_of, attempt_of, is_word, by_word, command_of, Gives}
+use Rattle.commands.specs.Reading.{◌>>=◌, field, last_field, no_field, register_of, open_of, enter_of, scramble_of, attempt_of, correct_of, strike_of, set_advance_of, close_of, is_word, by_word, command_of, Gives}
 
 -- what is read of fields: a value, or a field at fault
 abbrev IsOfFields : {A : Type 0} → Result A CommandFault → Type 0
@@ -56,11 +56,40 @@ unfolding enter_of
 enter left =
     then _ _ (field-IsOfFields _ _ left) (λ e. then _ _ (field-IsOfFields _ _ e.1) (λ n. then _ _ (none-IsOfFields _ n.1) (λ u. tt)))
 
+scramble : (left : Option (List ℕ)) → IsOfFields (scramble_of left)
+unfolding scramble_of
+scramble left =
+    then _ _ (field-IsOfFields _ _ left) (λ e. then _ _ (field-IsOfFields _ _ e.1) (λ r. then _ _ (field-IsOfFields _ _ r.1)
+    (λ k. then _ _ (last-IsOfFields _ _ k.1) (λ m. tt))))
+
 attempt : (left : Option (List ℕ)) → IsOfFields (attempt_of left)
 unfolding attempt_of
 attempt left =
     then _ _ (field-IsOfFields _ _ left) (λ e. then _ _ (field-IsOfFields _ _ e.1) (λ r. then _ _ (field-IsOfFields _ _ r.1)
     (λ k. then _ _ (field-IsOfFields _ _ k.1) (λ n. then _ _ (last-IsOfFields _ _ n.1) (λ o. tt)))))
+
+correct : (left : Option (List ℕ)) → IsOfFields (correct_of left)
+unfolding correct_of
+correct left =
+    then _ _ (field-IsOfFields _ _ left) (λ e. then _ _ (field-IsOfFields _ _ e.1) (λ r. then _ _ (field-IsOfFields _ _ r.1)
+    (λ k. then _ _ (field-IsOfFields _ _ k.1) (λ n. then _ _ (last-IsOfFields _ _ n.1) (λ o. tt)))))
+
+strike : (left : Option (List ℕ)) → IsOfFields (strike_of left)
+unfolding strike_of
+strike left =
+    then _ _ (field-IsOfFields _ _ left) (λ e. then _ _ (field-IsOfFields _ _ e.1) (λ r. then _ _ (field-IsOfFields _ _ r.1)
+    (λ n. then _ _ (none-IsOfFields _ n.1) (λ u. tt))))
+
+set_advance : (left : Option (List ℕ)) → IsOfFields (set_advance_of left)
+unfolding set_advance_of
+set_advance left =
+    then _ _ (field-IsOfFields _ _ left) (λ e. then _ _ (field-IsOfFields _ _ e.1) (λ r. then _ _ (field-IsOfFields _ _ r.1)
+    (λ a. then _ _ (none-IsOfFields _ a.1) (λ u. tt))))
+
+close : (left : Option (List ℕ)) → IsOfFields (close_of left)
+unfolding close_of
+close left =
+    then _ _ (field-IsOfFields _ _ left) (λ e. then _ _ (field-IsOfFields _ _ e.1) (λ r. then _ _ (none-IsOfFields _ r.1) (λ u. tt)))
 
 -- What is said where no word stands is said of no word.
 
@@ -73,8 +102,13 @@ by_word-short text =
     word-short (bytes_eq text.0 (codes "REG")) (register_of text.1) _ (register text.1)
     (word-short (bytes_eq text.0 (codes "OPEN")) (open_of text.1) _ (opening text.1)
     (word-short (bytes_eq text.0 (codes "ENT")) (enter_of text.1) _ (enter text.1)
-    (word-short (bytes_eq text.0 (codes "ATT")) (attempt_of text.1) (Err fault.NotACommand) (attempt text.1)
-    (λ e. let bad : Err fault.NotACommand ≡ Err fault.TooLong = e in cc))))
+    (word-short (bytes_eq text.0 (codes "SCR")) (scramble_of text.1) _ (scramble text.1)
+    (word-short (bytes_eq text.0 (codes "ATT")) (attempt_of text.1) _ (attempt text.1)
+    (word-short (bytes_eq text.0 (codes "COR")) (correct_of text.1) _ (correct text.1)
+    (word-short (bytes_eq text.0 (codes "STR")) (strike_of text.1) _ (strike text.1)
+    (word-short (bytes_eq text.0 (codes "ADV")) (set_advance_of text.1) _ (set_advance text.1)
+    (word-short (bytes_eq text.0 (codes "CLOSE")) (close_of text.1) (Err fault.NotACommand) (close text.1)
+    (λ e. let bad : Err fault.NotACommand ≡ Err fault.TooLong = e in cc)))))))))
 
 word-none : (b rest : Bool) (read others : Result Command CommandFault) → IsOfFields read → (others ≡ Err fault.NotACommand) ↔ (rest ≡ false) → (cond b read others ≡ Err fault.NotACommand) ↔ ((b || rest) ≡ false)
 word-none false rest read others h other = other
@@ -86,8 +120,13 @@ by_word-none text =
     word-none (bytes_eq text.0 (codes "REG")) _ (register_of text.1) _ (register text.1)
     (word-none (bytes_eq text.0 (codes "OPEN")) _ (open_of text.1) _ (opening text.1)
     (word-none (bytes_eq text.0 (codes "ENT")) _ (enter_of text.1) _ (enter text.1)
-    (word-none (bytes_eq text.0 (codes "ATT")) false (attempt_of text.1) (Err fault.NotACommand) (attempt text.1)
-    (λ e. refl, λ e. refl))))
+    (word-none (bytes_eq text.0 (codes "SCR")) _ (scramble_of text.1) _ (scramble text.1)
+    (word-none (bytes_eq text.0 (codes "ATT")) _ (attempt_of text.1) _ (attempt text.1)
+    (word-none (bytes_eq text.0 (codes "COR")) _ (correct_of text.1) _ (correct text.1)
+    (word-none (bytes_eq text.0 (codes "STR")) _ (strike_of text.1) _ (strike text.1)
+    (word-none (bytes_eq text.0 (codes "ADV")) _ (set_advance_of text.1) _ (set_advance text.1)
+    (word-none (bytes_eq text.0 (codes "CLOSE")) false (close_of text.1) (Err fault.NotACommand) (close text.1)
+    (λ e. refl, λ e. refl)))))))))
 
 -- What `read` answers.
 

@@ -1,40 +1,30 @@
 -- A field is read from its one spelling.
-use Rattle.std.proofs.Common.{◌≡◌, ℕ, ◌<◌, ◌≤◌, Bool, true, false, ◌&&◌, ◌==◌, not, cond, nat_le, IsTrue, List, [], ◌∷◌, ◌++◌, length, take, drop, find, codes, decimal, bytes_eq, Option, Some, None, refl, sym, ap, ◌∙◌, subst, arith, append_assoc, eqb-true, take-append-drop, length-append}
+use Rattle.std.proofs.Common.{◌≡◌, ℕ, ◌+◌, ◌<◌, ◌≤◌, Bool, true, false, ◌&&◌, ◌==◌, not, cond, nat_le, IsTrue, List, [], ◌∷◌, ◌++◌, length, take, drop, find, codes, decimal, bytes_eq, Option, Some, None, refl, sym, ap, ◌∙◌, subst, arith, append_assoc, eqb-true, take-append-drop, length-append}
 use Rattle.std.specs.Char.{is_ascii_digit}
 use Rattle.std.specs.List.{list_all}
 use Rattle.std.specs.Option.{option_map, option_and_then}
 use Rattle.std.proofs.lemmas.Bool.{false≢true}
 use Rattle.std.proofs.lemmas.Bool.Decides.{nat_tests}
-use Rattle.std.proofs.lemmas.Fmt.{digits_decimal, length-decimal-le}
+use Rattle.std.proofs.lemmas.Fmt.{digits_decimal, length-decimal-le, decimal_nonempty}
 use Rattle.std.proofs.lemmas.Slice.Eq.{bytes_eq-Decides}
-use Rattle.attempts.specs.Attempts.{IsOutcome}
-use Rattle.attempts.specs.declared.Outcome.{Outcome}
-use Rattle.attempts.specs.declared.Outcome.TheVariants.{Time, Dnf, Dns}
 use Rattle.formats.specs.declared.events.Event.{Event}
-use Rattle.formats.specs.declared.events.Event.TheVariants.{Cube3}
+use Rattle.formats.specs.declared.events.Event.TheVariants.{Cube3, Cube2, Cube4, Cube5, Cube6, Cube7, Blind3, FewestMoves, OneHanded, Clock, Megaminx, Pyraminx, Skewb, Square1, Blind4, Blind5}
 use Rattle.formats.specs.declared.events.Format.{Format}
-use Rattle.formats.specs.declared.events.Format.TheVariants.{Ao5}
+use Rattle.formats.specs.declared.events.Format.TheVariants.{Ao5, Mo3, Bo1, Bo2, Bo3}
 use Rattle.formats.specs.Events.{events, event_name, event_named, formats, format_name, format_named}
-use Rattle.commands.specs.declared.advancement.Advance.{Advance}
-use Rattle.commands.specs.declared.advancement.Advance.TheVariants.{Final}
+use Rattle.cube.specs.declared.moves.Move.{Move}
+use Rattle.notation.specs.Notation.{spelling as moves_text}
+use Rattle.advancement.specs.declared.Advance.{Advance}
+use Rattle.advancement.specs.declared.Advance.TheVariants.{Final, Top, Percent}
+use Rattle.commands.specs.declared.command.Entered.{Entered}
+use Rattle.commands.specs.declared.command.Entered.TheVariants.{Time, Solution, Dnf, Dns}
 use Rattle.commands.specs.Numerals.{digits_value, within}
-use Rattle.commands.specs.Spelling.{is_event, is_format, is_name, IsWithin, IsFitCutoff, IsFitLimit, cutoff_text, limit_text, advance_text, outcome_text}
-use Rattle.commands.specs.Fields.{number_between, name_of, only_if, event_of, format_of, cutoff_of, limit_of, advance_of, cut, penalties_of, time_of, outcome_of}
+use Rattle.commands.specs.Spelling.{is_name, IsWithin, IsFitCutoff, IsFitLimit, IsFitAdvance, IsEntered, cutoff_text, limit_text, advance_text, entered_text}
+use Rattle.commands.specs.Fields.{number_between, name_of, cutoff_of, limit_of, advance_of, cut, pair_with, second_number, two_numbers, moves_of, time_with, time_of, entered_of}
 use Rattle.commands.proofs.Numerals.{own, number_between-decimal}
 use Rattle.commands.proofs.Cuts.{and-true, lacks, behind, cut_spelled, cut-behind}
-
--- what is read from bytes is what they spell, in its range; and what is in its range is read from its spelling
-pub record IsSpelled {A : Type 0} (of : List ℕ → Option A) (text : A → List ℕ) (Fits : A → Type 0) : Type 0 where
-  pub only : (bytes : List ℕ) (x : A) → of bytes ≡ Some x → Fits x × (bytes ≡ text x)
-  pub found : (x : A) → Fits x → of (text x) ≡ Some x
-  pub short : (x : A) → Fits x → length (text x) ≤ 80
-
-pub chosen : {A : Type 0} (b : Bool) (x y : Option A) (z : A) → cond b x y ≡ Some z → y ≡ None → (b ≡ true) × (x ≡ Some z)
-chosen true x y z h none = (refl, h)
-chosen false x y z h none = absurd (let bad : None ≡ Some z = sym none ∙ h in cc)
-
-pub bytes_eq-equal : (xs ys : List ℕ) → bytes_eq xs ys ≡ true → xs ≡ ys
-bytes_eq-equal xs ys h = (bytes_eq-Decides xs ys).0 h
+use Rattle.commands.proofs.Spelled.{IsSpelled, chosen, bytes_eq-equal, find-only}
+use Rattle.commands.proofs.MoveSpellings.{moves_spelled}
 
 -- Numbers.
 
@@ -49,8 +39,10 @@ number_spelled low high small = record {
       let below : digits_value bytes ≤ high = grind (arith, nat_tests, second.0) in
       ((omega arith, omega arith), bytes_eq-equal bytes _ first.0 ∙ ap decimal value);
   found = λ n fits. number_between-decimal low high n fits.0 fits.1 small;
-  short = λ n fits. let few = length-decimal-le 7 n (omega arith) (omega arith) (omega arith) in omega arith;
 }
+
+pub number_short : (n : ℕ) → n < 10000000 → length (decimal n) ≤ 80
+number_short n small = let few = length-decimal-le 7 n (omega arith) (omega arith) (omega arith) in omega arith
 
 digits_lack : (by : ℕ) → is_ascii_digit by ≡ false → (bytes : List ℕ) → list_all is_ascii_digit bytes ≡ true → lacks by bytes ≡ true
 digits_lack by other [] h = refl
@@ -91,92 +83,191 @@ name_spelled = record {
       let same : bytes ≡ x = let e = yes.1 in cc in
       (subst (λ (y : List ℕ). is_name y ≡ true) same yes.0, same);
   found = λ bytes fits. rw fits refl;
-  short = λ bytes fits. grind (arith, nat_tests);
 }
+
+pub name_short : (bytes : List ℕ) → IsTrue (is_name bytes) → length bytes ≤ 80
+name_short bytes fits = grind (arith, nat_tests)
 
 -- Events and formats.
 
-find-only : {A : Type 0} (name : A → List ℕ) (bytes : List ℕ) (xs : List A) (x : A) → find (λ y. bytes_eq (name y) bytes) xs ≡ Some x → bytes ≡ name x
-find-only name bytes [] x h = absurd (let bad : None ≡ Some x = h in cc)
-find-only name bytes (y ∷ ys) x h = step (find-only name bytes ys x) (bytes_eq (name y) bytes) refl h
-  where
-    step : (find (λ z. bytes_eq (name z) bytes) ys ≡ Some x → bytes ≡ name x) → (b : Bool) → bytes_eq (name y) bytes ≡ b → cond b (Some y) (find (λ z. bytes_eq (name z) bytes) ys) ≡ Some x → bytes ≡ name x
-    step later true is e = let same : y ≡ x = cc in sym (bytes_eq-equal (name y) bytes is) ∙ ap name same
-    step later false is e = later e
-
-only_if-Some : {A : Type 0} (test : A → Bool) (o : Option A) (x : A) → only_if test o ≡ Some x → (test x ≡ true) × (o ≡ Some x)
-only_if-Some test None x h = absurd (let bad : None ≡ Some x = h in cc)
-only_if-Some test (Some y) x h =
-    let yes = chosen (test y) (Some y) None x h refl in
-    let same : y ≡ x = let e = yes.1 in cc in
-    (subst (λ z. test z ≡ true) same yes.0, yes.1)
-
-pub event_spelled : IsSpelled event_of event_name (λ e. IsTrue (is_event e))
+pub event_spelled : IsSpelled event_named event_name (λ x. Unit {0})
 unfolding event_named
-event_spelled = record {
-  only = λ bytes e h.
-      let both = only_if-Some is_event (event_named bytes) e h in
-      (both.0, find-only event_name bytes events e both.1);
-  found = found;
-  short = short;
-}
+event_spelled = record { only = λ bytes x h. (tt, find-only event_name bytes events x h); found = found }
   where
-    found : (e : Event) → IsTrue (is_event e) → event_of (event_name e) ≡ Some e
+    found : (x : Event) → Unit {0} → event_named (event_name x) ≡ Some x
     found Cube3 fits = refl
-    found _ fits = absurd (false≢true fits)
+    found Cube2 fits = refl
+    found Cube4 fits = refl
+    found Cube5 fits = refl
+    found Cube6 fits = refl
+    found Cube7 fits = refl
+    found Blind3 fits = refl
+    found FewestMoves fits = refl
+    found OneHanded fits = refl
+    found Clock fits = refl
+    found Megaminx fits = refl
+    found Pyraminx fits = refl
+    found Skewb fits = refl
+    found Square1 fits = refl
+    found Blind4 fits = refl
+    found Blind5 fits = refl
 
-    short : (e : Event) → IsTrue (is_event e) → length (event_name e) ≤ 80
-    short Cube3 fits = omega arith
-    short _ fits = absurd (false≢true fits)
+pub event_short : (x : Event) → length (event_name x) ≤ 80
+event_short Cube3 = omega arith
+event_short Cube2 = omega arith
+event_short Cube4 = omega arith
+event_short Cube5 = omega arith
+event_short Cube6 = omega arith
+event_short Cube7 = omega arith
+event_short Blind3 = omega arith
+event_short FewestMoves = omega arith
+event_short OneHanded = omega arith
+event_short Clock = omega arith
+event_short Megaminx = omega arith
+event_short Pyraminx = omega arith
+event_short Skewb = omega arith
+event_short Square1 = omega arith
+event_short Blind4 = omega arith
+event_short Blind5 = omega arith
 
-pub event_no_space : (e : Event) → IsTrue (is_event e) → lacks 32 (event_name e) ≡ true
-event_no_space Cube3 fits = refl
-event_no_space _ fits = absurd (false≢true fits)
+pub event_no_space : (x : Event) → lacks 32 (event_name x) ≡ true
+event_no_space Cube3 = refl
+event_no_space Cube2 = refl
+event_no_space Cube4 = refl
+event_no_space Cube5 = refl
+event_no_space Cube6 = refl
+event_no_space Cube7 = refl
+event_no_space Blind3 = refl
+event_no_space FewestMoves = refl
+event_no_space OneHanded = refl
+event_no_space Clock = refl
+event_no_space Megaminx = refl
+event_no_space Pyraminx = refl
+event_no_space Skewb = refl
+event_no_space Square1 = refl
+event_no_space Blind4 = refl
+event_no_space Blind5 = refl
 
-pub format_spelled : IsSpelled format_of format_name (λ f. IsTrue (is_format f))
+pub format_spelled : IsSpelled format_named format_name (λ x. Unit {0})
 unfolding format_named
-format_spelled = record {
-  only = λ bytes f h.
-      let both = only_if-Some is_format (format_named bytes) f h in
-      (both.0, find-only format_name bytes formats f both.1);
-  found = found;
-  short = short;
-}
+format_spelled = record { only = λ bytes x h. (tt, find-only format_name bytes formats x h); found = found }
   where
-    found : (f : Format) → IsTrue (is_format f) → format_of (format_name f) ≡ Some f
+    found : (x : Format) → Unit {0} → format_named (format_name x) ≡ Some x
     found Ao5 fits = refl
-    found _ fits = absurd (false≢true fits)
+    found Mo3 fits = refl
+    found Bo1 fits = refl
+    found Bo2 fits = refl
+    found Bo3 fits = refl
 
-    short : (f : Format) → IsTrue (is_format f) → length (format_name f) ≤ 80
-    short Ao5 fits = omega arith
-    short _ fits = absurd (false≢true fits)
+pub format_short : (x : Format) → length (format_name x) ≤ 80
+format_short Ao5 = omega arith
+format_short Mo3 = omega arith
+format_short Bo1 = omega arith
+format_short Bo2 = omega arith
+format_short Bo3 = omega arith
 
-pub format_no_space : (f : Format) → IsTrue (is_format f) → lacks 32 (format_name f) ≡ true
-format_no_space Ao5 fits = refl
-format_no_space _ fits = absurd (false≢true fits)
+pub format_no_space : (x : Format) → lacks 32 (format_name x) ≡ true
+format_no_space Ao5 = refl
+format_no_space Mo3 = refl
+format_no_space Bo1 = refl
+format_no_space Bo2 = refl
+format_no_space Bo3 = refl
+
+-- Two numbers with a colon between.
+
+abbrev pair_text : ℕ × ℕ → List ℕ
+pair_text p = decimal p.0 ++ codes ":" ++ decimal p.1
+
+abbrev ArePair : (ℕ → Type 0) → (ℕ → Type 0) → List ℕ × Option (List ℕ) → ℕ × ℕ → Type 0
+ArePair First Second parts p = (First p.0 × Second p.1) × (parts.0 ++ behind 58 parts.1 ≡ pair_text p)
+
+pair-only : (first second : List ℕ → Option ℕ) (First Second : ℕ → Type 0) → IsSpelled first decimal First → IsSpelled second decimal Second → (parts : List ℕ × Option (List ℕ)) (p : ℕ × ℕ) → two_numbers first second parts ≡ Some p → ArePair First Second parts p
+pair-only first second First Second one two parts p h = start (first parts.0) refl h
+  where
+    third : (a b : ℕ) (back : List ℕ) → first parts.0 ≡ Some a → parts.1 ≡ Some back → second back ≡ Some b → pair_with a b ≡ p → ArePair First Second parts p
+    third a b back front is end e =
+        let x = one.only parts.0 a front in
+        let y = two.only back b end in
+        subst (ArePair First Second parts) e ((x.0, y.0), rw (is, x.1, y.1) (simp append_assoc))
+
+    next : (a : ℕ) (back : List ℕ) → first parts.0 ≡ Some a → parts.1 ≡ Some back → (o : Option ℕ) → second back ≡ o → option_map (pair_with a) o ≡ Some p → ArePair First Second parts p
+    next a back front is None end e = absurd (let bad : None ≡ Some p = e in cc)
+    next a back front is (Some b) end e = third a b back front is end (let same : pair_with a b ≡ p = cc in same)
+
+    after : (a : ℕ) → first parts.0 ≡ Some a → (o : Option (List ℕ)) → parts.1 ≡ o → second_number second a o ≡ Some p → ArePair First Second parts p
+    after a front None is e = absurd (let bad : None ≡ Some p = e in cc)
+    after a front (Some back) is e = next a back front is (second back) refl e
+
+    start : (o : Option ℕ) → first parts.0 ≡ o → option_and_then (λ a. second_number second a parts.1) o ≡ Some p → ArePair First Second parts p
+    start None front e = absurd (let bad : None ≡ Some p = e in cc)
+    start (Some a) front e = after a front parts.1 refl e
+
+pair-found : (first second : List ℕ → Option ℕ) (First Second : ℕ → Type 0) → IsSpelled first decimal First → IsSpelled second decimal Second → (a b : ℕ) → a < 10000000 → First a → Second b → two_numbers first second (cut 58 (decimal a ++ codes ":" ++ decimal b)) ≡ Some (pair_with a b)
+pair-found first second First Second one two a b small x y =
+    rw (append_assoc (decimal a) (codes ":") (decimal b)) (rw (cut-behind 58 (decimal a) (Some (decimal b)) (decimal_no_colon a small)) (rw (one.found a x, two.found b y) refl))
+
+lacks-append : (by : ℕ) (xs ys : List ℕ) → lacks by xs ≡ true → lacks by ys ≡ true → lacks by (xs ++ ys) ≡ true
+lacks-append by [] ys front back = back
+lacks-append by (x ∷ xs) ys front back =
+    let both = and-true (not (x == by)) (lacks by xs) front in
+    rw (both.0, lacks-append by xs ys both.1 back) refl
+
+pair_no_space : (a b : ℕ) → a < 10000000 → b < 10000000 → lacks 32 (pair_text (pair_with a b)) ≡ true
+pair_no_space a b small small' =
+    lacks-append 32 (decimal a ++ codes ":") (decimal b) (lacks-append 32 (decimal a) (codes ":") (decimal_no_space a small) refl) (decimal_no_space b small')
+
+pair_length : (a b : ℕ) → length (pair_text (pair_with a b)) ≡ length (decimal a) + 1 + length (decimal b)
+pair_length a b = length-append (decimal a ++ codes ":") (decimal b) ∙ ap (λ n. n + length (decimal b)) (length-append (decimal a) (codes ":"))
+
+pair_short : (a b : ℕ) → a < 10000000 → b < 10000000 → length (pair_text (pair_with a b)) ≤ 80
+pair_short a b small small' =
+    let first = length-decimal-le 7 a (omega arith) (omega arith) (omega arith) in
+    let last = length-decimal-le 7 b (omega arith) (omega arith) (omega arith) in
+    omega (arith, pair_length a b)
+
+pair_no_dash : (a b : ℕ) → 1 ≤ a → 1 ≤ b → a < 10000000 → b < 10000000 → bytes_eq (pair_text (pair_with a b)) (codes "-") ≡ false
+pair_no_dash a b some some' small small' = step (bytes_eq (pair_text (pair_with a b)) (codes "-")) refl
+  where
+    step : (t : Bool) → bytes_eq (pair_text (pair_with a b)) (codes "-") ≡ t → t ≡ false
+    step false is = refl
+    step true is =
+        let one : length (pair_text (pair_with a b)) ≡ 1 = ap length (bytes_eq-equal (pair_text (pair_with a b)) (codes "-") is) in
+        let first = decimal_nonempty a (omega arith) in
+        absurd (omega (arith, pair_length a b))
 
 -- Cutoffs, limits and who advances.
 
+attempts : IsSpelled (number_between 1 4) decimal (IsWithin 1 4)
+attempts = number_spelled 1 4 (omega arith)
+
+border : IsSpelled (number_between 1 360000) decimal (IsWithin 1 360000)
+border = number_spelled 1 360000 (omega arith)
+
 pub cutoff_spelled : IsSpelled cutoff_of cutoff_text IsFitCutoff
-cutoff_spelled = record { only = only; found = found; short = short }
+cutoff_spelled = record { only = λ bytes x h. only bytes x (bytes_eq bytes (codes "-")) refl (two_numbers (number_between 1 4) (number_between 1 360000) (cut 58 bytes)) refl h; found = found }
   where
-    only : (bytes : List ℕ) (x : Option (ℕ × ℕ)) → cutoff_of bytes ≡ Some x → IsFitCutoff x × (bytes ≡ cutoff_text x)
-    only bytes None h = (tt, bytes_eq-equal bytes (codes "-") (chosen (bytes_eq bytes (codes "-")) (Some None) None None h refl).0)
-    only bytes (Some cutoff) h =
-        let yes = chosen (bytes_eq bytes (codes "-")) (Some None) None (Some cutoff) h refl in
-        absurd (let bad : None ≡ Some cutoff = let e = yes.1 in cc in cc)
+    only : (bytes : List ℕ) (x : Option (ℕ × ℕ)) (t : Bool) → bytes_eq bytes (codes "-") ≡ t → (o : Option (ℕ × ℕ)) → two_numbers (number_between 1 4) (number_between 1 360000) (cut 58 bytes) ≡ o → cond t (Some None) (option_map Some o) ≡ Some x → IsFitCutoff x × (bytes ≡ cutoff_text x)
+    only bytes None true dash o is h = (tt, bytes_eq-equal bytes (codes "-") dash)
+    only bytes (Some p) true dash o is h = absurd (let bad : None ≡ Some p = cc in cc)
+    only bytes x false dash None is h = absurd (let bad : None ≡ Some x = h in cc)
+    only bytes None false dash (Some p) is h = absurd (let bad : Some p ≡ None = cc in cc)
+    only bytes (Some p) false dash (Some q) is h =
+        let same : q ≡ p = cc in
+        let read = pair-only _ _ _ _ attempts border (cut 58 bytes) p (is ∙ ap Some same) in
+        (read.0, cut_spelled 58 bytes ∙ read.1)
 
     found : (x : Option (ℕ × ℕ)) → IsFitCutoff x → cutoff_of (cutoff_text x) ≡ Some x
     found None fits = refl
-    found (Some cutoff) fits = absurd fits
+    found (Some p) fits =
+        rw (pair_no_dash p.0 p.1 fits.0.0 fits.1.0 (omega arith) (omega arith)) (rw (pair-found _ _ _ _ attempts border p.0 p.1 (omega arith) fits.0 fits.1) refl)
 
-    short : (x : Option (ℕ × ℕ)) → IsFitCutoff x → length (cutoff_text x) ≤ 80
-    short None fits = omega arith
-    short (Some cutoff) fits = absurd fits
+pub cutoff_short : (x : Option (ℕ × ℕ)) → IsFitCutoff x → length (cutoff_text x) ≤ 80
+cutoff_short None fits = omega arith
+cutoff_short (Some p) fits = pair_short p.0 p.1 (omega arith) (omega arith)
 
 pub cutoff_no_space : (x : Option (ℕ × ℕ)) → IsFitCutoff x → lacks 32 (cutoff_text x) ≡ true
 cutoff_no_space None fits = refl
-cutoff_no_space (Some cutoff) fits = absurd fits
+cutoff_no_space (Some p) fits = pair_no_space p.0 p.1 (omega arith) (omega arith)
 
 abbrev pub number_or_dash : Bool → Option ℕ → Option (Option ℕ)
 number_or_dash b o = cond b (Some None) (option_map Some o)
@@ -185,7 +276,6 @@ pub limit_spelled : IsSpelled limit_of limit_text IsFitLimit
 limit_spelled = record {
   only = λ bytes x h. only bytes x (bytes_eq bytes (codes "-")) (number_between 1 360000 bytes) refl refl h;
   found = found;
-  short = short;
 }
   where
     number : IsSpelled (number_between 1 360000) decimal (IsWithin 1 360000)
@@ -202,32 +292,63 @@ limit_spelled = record {
     found None fits = refl
     found (Some n) fits = rw (decimal_no_dash n (omega arith), number.found n fits) refl
 
-    short : (x : Option ℕ) → IsFitLimit x → length (limit_text x) ≤ 80
-    short None fits = omega arith
-    short (Some n) fits = number.short n fits
+pub limit_short : (x : Option ℕ) → IsFitLimit x → length (limit_text x) ≤ 80
+limit_short None fits = omega arith
+limit_short (Some n) fits = number_short n (omega arith)
 
 pub limit_no_space : (x : Option ℕ) → IsFitLimit x → lacks 32 (limit_text x) ≡ true
 limit_no_space None fits = refl
 limit_no_space (Some n) fits = decimal_no_space n (omega arith)
 
-pub advance_spelled : IsSpelled advance_of advance_text (λ a. Unit {0})
+top : IsSpelled (number_between 1 999) decimal (IsWithin 1 999)
+top = number_spelled 1 999 (omega arith)
+
+percent : IsSpelled (number_between 1 75) decimal (IsWithin 1 75)
+percent = number_spelled 1 75 (omega arith)
+
+abbrev IsAdvance : List ℕ → Advance → Type 0
+IsAdvance bytes x = IsFitAdvance x × (bytes ≡ advance_text x)
+
+-- a number behind four bytes that say what it is of
+behind_word : (make : ℕ → Advance) (word bytes : List ℕ) (of : List ℕ → Option ℕ) (x : Advance) → bytes_eq (take 4 bytes) word ≡ true → ((n : ℕ) → word ++ decimal n ≡ advance_text (make n)) → ((n : ℕ) → of (drop 4 bytes) ≡ Some n → IsFitAdvance (make n) × (drop 4 bytes ≡ decimal n)) → (o : Option ℕ) → of (drop 4 bytes) ≡ o → option_map make o ≡ Some x → IsAdvance bytes x
+behind_word make word bytes of x is text read None e h = absurd (let bad : None ≡ Some x = h in cc)
+behind_word make word bytes of x is text read (Some n) e h =
+    let same : make n ≡ x = cc in
+    let number = read n e in
+    subst (IsAdvance bytes) same (number.0, sym (take-append-drop 4 bytes) ∙ ap (λ y. take 4 bytes ++ y) number.1 ∙ ap (λ y. y ++ decimal n) (bytes_eq-equal (take 4 bytes) word is) ∙ text n)
+
+pub advance_spelled : IsSpelled advance_of advance_text IsFitAdvance
 advance_spelled = record {
-  only = only;
+  only = λ bytes x h. final bytes x (bytes_eq bytes (codes "final")) refl h;
   found = found;
-  short = short;
 }
   where
-    only : (bytes : List ℕ) (x : Advance) → advance_of bytes ≡ Some x → Unit {0} × (bytes ≡ advance_text x)
-    only bytes Final h = (tt, bytes_eq-equal bytes (codes "final") (chosen (bytes_eq bytes (codes "final")) (Some Final) None Final h refl).0)
+    percents : (bytes : List ℕ) (x : Advance) (b : Bool) → bytes_eq (take 4 bytes) (codes "pct:") ≡ b → cond b (option_map Percent (number_between 1 75 (drop 4 bytes))) None ≡ Some x → IsAdvance bytes x
+    percents bytes x false is h = absurd (let bad : None ≡ Some x = h in cc)
+    percents bytes x true is h = behind_word Percent (codes "pct:") bytes (number_between 1 75) x is (λ n. refl) (λ n e. percent.only (drop 4 bytes) n e) (number_between 1 75 (drop 4 bytes)) refl h
 
-    found : (x : Advance) → Unit {0} → advance_of (advance_text x) ≡ Some x
+    tops : (bytes : List ℕ) (x : Advance) (b : Bool) → bytes_eq (take 4 bytes) (codes "top:") ≡ b → cond b (option_map Top (number_between 1 999 (drop 4 bytes))) (cond (bytes_eq (take 4 bytes) (codes "pct:")) (option_map Percent (number_between 1 75 (drop 4 bytes))) None) ≡ Some x → IsAdvance bytes x
+    tops bytes x false is h = percents bytes x (bytes_eq (take 4 bytes) (codes "pct:")) refl h
+    tops bytes x true is h = behind_word Top (codes "top:") bytes (number_between 1 999) x is (λ n. refl) (λ n e. top.only (drop 4 bytes) n e) (number_between 1 999 (drop 4 bytes)) refl h
+
+    final : (bytes : List ℕ) (x : Advance) (b : Bool) → bytes_eq bytes (codes "final") ≡ b → cond b (Some Final) (cond (bytes_eq (take 4 bytes) (codes "top:")) (option_map Top (number_between 1 999 (drop 4 bytes))) (cond (bytes_eq (take 4 bytes) (codes "pct:")) (option_map Percent (number_between 1 75 (drop 4 bytes))) None)) ≡ Some x → IsAdvance bytes x
+    final bytes x false is h = tops bytes x (bytes_eq (take 4 bytes) (codes "top:")) refl h
+    final bytes x true is h = let same : Final ≡ x = cc in subst (IsAdvance bytes) same (tt, bytes_eq-equal bytes (codes "final") is)
+
+    found : (x : Advance) → IsFitAdvance x → advance_of (advance_text x) ≡ Some x
     found Final fits = refl
+    found (Top n) fits = rw (top.found n fits) refl
+    found (Percent n) fits = rw (percent.found n fits) refl
 
-    short : (x : Advance) → Unit {0} → length (advance_text x) ≤ 80
-    short Final fits = omega arith
+pub advance_short : (x : Advance) → IsFitAdvance x → length (advance_text x) ≤ 80
+advance_short Final fits = omega arith
+advance_short (Top n) fits = let few = length-decimal-le 7 n (omega arith) (omega arith) (omega arith) in omega arith
+advance_short (Percent n) fits = let few = length-decimal-le 7 n (omega arith) (omega arith) (omega arith) in omega arith
 
-pub advance_no_space : (x : Advance) → lacks 32 (advance_text x) ≡ true
-advance_no_space Final = refl
+pub advance_no_space : (x : Advance) → IsFitAdvance x → lacks 32 (advance_text x) ≡ true
+advance_no_space Final fits = refl
+advance_no_space (Top n) fits = decimal_no_space n (omega arith)
+advance_no_space (Percent n) fits = decimal_no_space n (omega arith)
 
 -- Outcomes.
 
@@ -238,61 +359,56 @@ penalties : IsSpelled (number_between 0 9) decimal (IsWithin 0 9)
 penalties = number_spelled 0 9 (omega arith)
 
 -- a time and its penalties, behind `T:`
-abbrev pub IsTime : List ℕ × Option (List ℕ) → Outcome → Type 0
-IsTime parts x = IsOutcome x × (codes "T:" ++ (parts.0 ++ behind 58 parts.1) ≡ outcome_text x)
+abbrev IsTime : List ℕ × Option (List ℕ) → Entered → Type 0
+IsTime parts x = IsEntered x × (codes "T:" ++ (parts.0 ++ behind 58 parts.1) ≡ entered_text x)
 
-time-only : (parts : List ℕ × Option (List ℕ)) (x : Outcome) → time_of parts ≡ Some x → IsTime parts x
-time-only parts x h = first (number_between 1 999999 parts.0) refl h
+time-only : (parts : List ℕ × Option (List ℕ)) (x : Entered) → time_of parts ≡ Some x → IsTime parts x
+time-only parts x h = step (two_numbers (number_between 1 999999) (number_between 0 9) parts) refl h
   where
-    third : (t p : ℕ) (back : List ℕ) → number_between 1 999999 parts.0 ≡ Some t → parts.1 ≡ Some back → number_between 0 9 back ≡ Some p → Time t p ≡ x → IsTime parts x
-    third t p back time is penalty e =
-        let a = hundredths.only parts.0 t time in
-        let b = penalties.only back p penalty in
-        subst (IsTime parts) e ((a.0.0, a.0.1, b.0.1), rw (is, a.1, b.1) (simp append_assoc))
+    step : (o : Option (ℕ × ℕ)) → two_numbers (number_between 1 999999) (number_between 0 9) parts ≡ o → option_map time_with o ≡ Some x → IsTime parts x
+    step None is e = absurd (let bad : None ≡ Some x = e in cc)
+    step (Some p) is e =
+        let same : time_with p ≡ x = cc in
+        let read = pair-only _ _ _ _ hundredths penalties parts p is in
+        subst (IsTime parts) same (read.0, ap (λ y. codes "T:" ++ y) read.1)
 
-    second : (t : ℕ) (back : List ℕ) → number_between 1 999999 parts.0 ≡ Some t → parts.1 ≡ Some back → (o : Option ℕ) → number_between 0 9 back ≡ o → option_map (Time t) o ≡ Some x → IsTime parts x
-    second t back time is None penalty e = absurd (let bad : None ≡ Some x = e in cc)
-    second t back time is (Some p) penalty e = third t p back time is penalty (let same : Time t p ≡ x = cc in same)
+abbrev IsRead : List ℕ → Entered → Type 0
+IsRead bytes x = IsEntered x × (bytes ≡ entered_text x)
 
-    after : (t : ℕ) → number_between 1 999999 parts.0 ≡ Some t → (o : Option (List ℕ)) → parts.1 ≡ o → penalties_of t o ≡ Some x → IsTime parts x
-    after t time None is e = absurd (let bad : None ≡ Some x = e in cc)
-    after t time (Some back) is e = second t back time is (number_between 0 9 back) refl e
-
-    first : (o : Option ℕ) → number_between 1 999999 parts.0 ≡ o → option_and_then (λ time. penalties_of time parts.1) o ≡ Some x → IsTime parts x
-    first None time e = absurd (let bad : None ≡ Some x = e in cc)
-    first (Some t) time e = after t time parts.1 refl e
-
-pub outcome_spelled : IsSpelled outcome_of outcome_text IsOutcome
-unfolding outcome_of
-outcome_spelled = record {
+pub entered_spelled : IsSpelled entered_of entered_text IsEntered
+unfolding entered_of
+entered_spelled = record {
   only = λ bytes x h. dnf bytes x (bytes_eq bytes (codes "DNF")) refl h;
   found = found;
-  short = short;
 }
   where
-    time : (bytes : List ℕ) (x : Outcome) (b : Bool) → bytes_eq (take 2 bytes) (codes "T:") ≡ b → cond b (time_of (cut 58 (drop 2 bytes))) None ≡ Some x → IsOutcome x × (bytes ≡ outcome_text x)
-    time bytes x false is h = absurd (let bad : None ≡ Some x = h in cc)
+    moves : (bytes : List ℕ) (x : Entered) (o : Option (List Move)) → bytes_eq (take 2 bytes) (codes "S:") ≡ true → moves_of (drop 2 bytes) ≡ o → option_map Solution o ≡ Some x → IsRead bytes x
+    moves bytes x None is are h = absurd (let bad : None ≡ Some x = h in cc)
+    moves bytes x (Some ms) is are h =
+        let same : Solution ms ≡ x = cc in
+        let read = moves_spelled.only (drop 2 bytes) ms are in
+        subst (IsRead bytes) same (read.0, sym (take-append-drop 2 bytes) ∙ ap (λ y. take 2 bytes ++ y) read.1 ∙ ap (λ y. y ++ moves_text ms) (bytes_eq-equal (take 2 bytes) (codes "S:") is))
+
+    solution : (bytes : List ℕ) (x : Entered) (b : Bool) → bytes_eq (take 2 bytes) (codes "S:") ≡ b → cond b (option_map Solution (moves_of (drop 2 bytes))) None ≡ Some x → IsRead bytes x
+    solution bytes x false is h = absurd (let bad : None ≡ Some x = h in cc)
+    solution bytes x true is h = moves bytes x (moves_of (drop 2 bytes)) is refl h
+
+    time : (bytes : List ℕ) (x : Entered) (b : Bool) → bytes_eq (take 2 bytes) (codes "T:") ≡ b → cond b (time_of (cut 58 (drop 2 bytes))) (cond (bytes_eq (take 2 bytes) (codes "S:")) (option_map Solution (moves_of (drop 2 bytes))) None) ≡ Some x → IsRead bytes x
+    time bytes x false is h = solution bytes x (bytes_eq (take 2 bytes) (codes "S:")) refl h
     time bytes x true is h =
         let spelled = time-only (cut 58 (drop 2 bytes)) x h in
         (spelled.0, sym (take-append-drop 2 bytes) ∙ ap (λ y. take 2 bytes ++ y) (cut_spelled 58 (drop 2 bytes)) ∙ rw (bytes_eq-equal (take 2 bytes) (codes "T:") is) spelled.1)
 
-    dns : (bytes : List ℕ) (x : Outcome) (b : Bool) → bytes_eq bytes (codes "DNS") ≡ b → cond b (Some Dns) (cond (bytes_eq (take 2 bytes) (codes "T:")) (time_of (cut 58 (drop 2 bytes))) None) ≡ Some x → IsOutcome x × (bytes ≡ outcome_text x)
+    dns : (bytes : List ℕ) (x : Entered) (b : Bool) → bytes_eq bytes (codes "DNS") ≡ b → cond b (Some Dns) (cond (bytes_eq (take 2 bytes) (codes "T:")) (time_of (cut 58 (drop 2 bytes))) (cond (bytes_eq (take 2 bytes) (codes "S:")) (option_map Solution (moves_of (drop 2 bytes))) None)) ≡ Some x → IsRead bytes x
     dns bytes x false is h = time bytes x (bytes_eq (take 2 bytes) (codes "T:")) refl h
-    dns bytes x true is h = let same : Dns ≡ x = cc in subst (λ y. IsOutcome y × (bytes ≡ outcome_text y)) same (tt, bytes_eq-equal bytes (codes "DNS") is)
+    dns bytes x true is h = let same : Dns ≡ x = cc in subst (IsRead bytes) same (tt, bytes_eq-equal bytes (codes "DNS") is)
 
-    dnf : (bytes : List ℕ) (x : Outcome) (b : Bool) → bytes_eq bytes (codes "DNF") ≡ b → cond b (Some Dnf) (cond (bytes_eq bytes (codes "DNS")) (Some Dns) (cond (bytes_eq (take 2 bytes) (codes "T:")) (time_of (cut 58 (drop 2 bytes))) None)) ≡ Some x → IsOutcome x × (bytes ≡ outcome_text x)
+    dnf : (bytes : List ℕ) (x : Entered) (b : Bool) → bytes_eq bytes (codes "DNF") ≡ b → cond b (Some Dnf) (cond (bytes_eq bytes (codes "DNS")) (Some Dns) (cond (bytes_eq (take 2 bytes) (codes "T:")) (time_of (cut 58 (drop 2 bytes))) (cond (bytes_eq (take 2 bytes) (codes "S:")) (option_map Solution (moves_of (drop 2 bytes))) None))) ≡ Some x → IsRead bytes x
     dnf bytes x false is h = dns bytes x (bytes_eq bytes (codes "DNS")) refl h
-    dnf bytes x true is h = let same : Dnf ≡ x = cc in subst (λ y. IsOutcome y × (bytes ≡ outcome_text y)) same (tt, bytes_eq-equal bytes (codes "DNF") is)
+    dnf bytes x true is h = let same : Dnf ≡ x = cc in subst (IsRead bytes) same (tt, bytes_eq-equal bytes (codes "DNF") is)
 
-    found : (x : Outcome) → IsOutcome x → outcome_of (outcome_text x) ≡ Some x
-    found (Time t p) fits = rw (append_assoc (decimal t) (codes ":") (decimal p)) (rw (cut-behind 58 (decimal t) (Some (decimal p)) (decimal_no_colon t (omega arith))) (rw (hundredths.found t (fits.0, fits.1), penalties.found p (omega arith, fits.2)) refl))
+    found : (x : Entered) → IsEntered x → entered_of (entered_text x) ≡ Some x
+    found (Time t p) fits = rw (pair-found _ _ _ _ hundredths penalties t p (omega arith) fits.0 fits.1) refl
+    found (Solution ms) fits = rw (moves_spelled.found ms fits) refl
     found Dnf fits = refl
     found Dns fits = refl
-
-    short : (x : Outcome) → IsOutcome x → length (outcome_text x) ≤ 80
-    short (Time t p) fits =
-        let first = length-decimal-le 7 t (omega arith) (omega arith) (omega arith) in
-        let last = length-decimal-le 7 p (omega arith) (omega arith) (omega arith) in
-        omega (arith, length-append (decimal t ++ codes ":") (decimal p), length-append (decimal t) (codes ":"))
-    short Dnf fits = omega arith
-    short Dns fits = omega arith

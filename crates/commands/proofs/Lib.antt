@@ -2,13 +2,14 @@ pub mod Cuts
 pub mod Entries
 pub mod Faults
 pub mod FieldSpellings
-pub mod InOrder
 pub mod Indexed
 pub mod KeptLemmas
+pub mod Lookups
+pub mod MoveSpellings
+pub mod Newcomers
 pub mod Numerals
 pub mod OneMore
 pub mod Places
 pub mod Registrations
-pub mod Standing
-pub mod TableLines
+pub mod Spelled
 pub mod Words

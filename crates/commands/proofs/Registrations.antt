@@ -11,11 +11,12 @@ use Rattle.std.proofs.lemmas.Bool.{false≢true}
 use Rattle.std.proofs.lemmas.List.Folds.{list_any-append}
 use Rattle.std.proofs.lemmas.List.Sorted.{list_any-IsPermutation}
 use Rattle.commands.specs.declared.command.Command.{Command}
-use Rattle.commands.specs.declared.command.Command.TheVariants.{Register, Open, Enter, Attempt}
+use Rattle.commands.specs.declared.command.Command.TheVariants.{Register, Open, Enter, Scramble, Attempt, Correct, Strike, SetAdvance, Close}
 use Rattle.commands.specs.declared.competitors.Competitors.{Competitors}
 use Rattle.commands.specs.declared.answer.Code.TheVariants as code
 use Rattle.commands.specs.Accepted.{name_given, name_of, is_registered, names_other, refusal}
 use Rattle.commands.specs.Kept.{name_at, has_name, is_taken, AreCompetitors}
+use Rattle.commands.proofs.Lookups.{or_none, first_push, at_end, found_push}
 
 some≢none : {X : Type 0} (x : X) → Some x ≡ None → ⊥
 some≢none x h = false≢true (sym (ap is_some h))
@@ -32,41 +33,18 @@ others_have (Register m given ∷ cs) n name none = step (m == n) none (λ h. ot
     step false h later = ap (λ (b : Bool). bytes_eq name given || b) (later h)
 others_have (Open e r settings ∷ cs) n name none = others_have cs n name none
 others_have (Enter e m ∷ cs) n name none = others_have cs n name none
-others_have (Attempt e r k m outcome ∷ cs) n name none = others_have cs n name none
-
-or_assoc : {X : Type 0} (a b c : Option X) → option_or a (option_or b c) ≡ option_or (option_or a b) c
-or_assoc None b c = refl
-or_assoc (Some x) b c = refl
-
-or_none : {X : Type 0} (a : Option X) → option_or a None ≡ a
-or_none None = refl
-or_none (Some x) = refl
-
-name_push : (cs : List Command) (c : Command) (n : ℕ) → name_of (cs ++ c ∷ []) n ≡ option_or (name_of cs n) (name_given n c)
-name_push [] c n = or_none (name_given n c)
-name_push (d ∷ ds) c n = ap (option_or (name_given n d)) (name_push ds c n) ∙ or_assoc (name_given n d) (name_of ds n) (name_given n c)
-
-at_end : (cs : List Command) (c : Command) → slice_get (cs ++ c ∷ []) (length cs) ≡ Some c
-at_end [] c = refl
-at_end (d ∷ ds) c = at_end ds c
-
--- a command that gives a number no name changes no look-up of it
-name_at_push : (cs : List Command) (c : Command) (n i : ℕ) → name_given n c ≡ None → name_at (cs ++ c ∷ []) n i ≡ name_at cs n i
-name_at_push [] c n zero none = none
-name_at_push [] c n (suc i) none = refl
-name_at_push (d ∷ ds) c n zero none = refl
-name_at_push (d ∷ ds) c n (suc i) none = name_at_push ds c n i none
-
-found_push : (cs : List Command) (c : Command) (n : ℕ) (place : Option ℕ) → name_given n c ≡ None
-    → option_and_then (name_at (cs ++ c ∷ []) n) place ≡ option_and_then (name_at cs n) place
-found_push cs c n None none = refl
-found_push cs c n (Some i) none = name_at_push cs c n i none
+others_have (Scramble e r k moves ∷ cs) n name none = others_have cs n name none
+others_have (Attempt e r k m x ∷ cs) n name none = others_have cs n name none
+others_have (Correct e r k m x ∷ cs) n name none = others_have cs n name none
+others_have (Strike e r m ∷ cs) n name none = others_have cs n name none
+others_have (SetAdvance e r advance ∷ cs) n name none = others_have cs n name none
+others_have (Close e r ∷ cs) n name none = others_have cs n name none
 
 -- a command that gives nobody a name leaves the competitors as they are
 pub AreCompetitors-other : (cs : List Command) (c : Command) (kept : Competitors) → ((n : ℕ) → name_given n c ≡ None) → ((name : List ℕ) → has_name name c ≡ false)
     → AreCompetitors cs kept → AreCompetitors (cs ++ c ∷ []) kept
 AreCompetitors-other cs c kept unnamed nameless are = record {
-  places = λ n. found_push cs c n (get nat_eq kept.places n) (unnamed n) ∙ are.places n ∙ sym (name_push cs c n ∙ rw (unnamed n) (or_none (name_of cs n)));
+  places = λ n. found_push (name_given n) cs c (get nat_eq kept.places n) (unnamed n) ∙ are.places n ∙ sym (first_push (name_given n) cs c ∙ rw (unnamed n) (or_none (name_of cs n)));
   names = λ name. are.names name ∙ sym (list_any-append (has_name name) cs (c ∷ []) ∙ rw (nameless name) (search rules));
 }
 
@@ -120,11 +98,11 @@ AreCompetitors-register cs n name old new allowed are places names = record {
         let here : get nat_eq new.places q ≡ Some (length cs) = places q ∙ rw same refl in
         let none : name_of cs q ≡ None = rw (← eqb-true n q same) (unregistered cs n name allowed) in
         let given : name_given q c ≡ Some name = rw same refl in
-        rw (here, name_push cs c q, none, given) (ap (option_and_then (name_given q)) (at_end cs c) ∙ given)
+        rw (here, first_push (name_given q) cs c, none, given) (ap (option_and_then (name_given q)) (at_end cs c) ∙ given)
     step q false other =
         let there : get nat_eq new.places q ≡ get nat_eq old.places q = places q ∙ rw other refl in
         let given : name_given q c ≡ None = rw other refl in
-        rw there (found_push cs c q (get nat_eq old.places q) given ∙ are.places q ∙ sym (name_push cs c q ∙ rw given (or_none (name_of cs q))))
+        rw there (found_push (name_given q) cs c (get nat_eq old.places q) given ∙ are.places q ∙ sym (first_push (name_given q) cs c ∙ rw given (or_none (name_of cs q))))
 
 -- a map with the same entries and a set with the same names in some order are as good
 pub AreCompetitors-same : (cs : List Command) (old new : Competitors) → new.places.entries ≡ old.places.entries → IsPermutation old.names.keys new.names.keys

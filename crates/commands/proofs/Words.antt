@@ -5,19 +5,24 @@ use Rattle.std.specs.Option.{ok_or}
 use Rattle.std.specs.Result.{IfOk}
 use Rattle.std.proofs.lemmas.Bool.Decides.{nat_tests}
 use Rattle.std.proofs.lemmas.List.{append-nil}
-use Rattle.attempts.specs.declared.Outcome.{Outcome}
 use Rattle.formats.specs.declared.events.Event.{Event}
-use Rattle.formats.specs.Events.{event_name, format_name}
+use Rattle.formats.specs.Events.{event_name, event_named, format_name}
+use Rattle.advancement.specs.declared.Advance.{Advance}
+use Rattle.cube.specs.declared.moves.Move.{Move}
+use Rattle.notation.specs.Notation.{spelling as moves_text}
 use Rattle.commands.specs.declared.command.Command.{Command}
-use Rattle.commands.specs.declared.command.Command.TheVariants.{Register, Open, Enter, Attempt}
+use Rattle.commands.specs.declared.command.Command.TheVariants.{Register, Open, Enter, Scramble, Attempt, Correct, Strike, SetAdvance, Close}
+use Rattle.commands.specs.declared.command.Entered.{Entered}
 use Rattle.commands.specs.declared.command.Settings.{Settings}
 use Rattle.commands.specs.declared.reading.CommandFault.{CommandFault}
 use Rattle.commands.specs.declared.reading.CommandFault.TheVariants as fault
-use Rattle.commands.specs.Spelling.{spelling, IsFit, IsWithin, last_round, cutoff_text, limit_text, advance_text, outcome_text}
+use Rattle.commands.specs.Spelling.{spelling, IsFit, IsShort, IsWithin, last_round, cutoff_text, limit_text, advance_text, entered_text}
 use Rattle.commands.specs.Fields.{cut, number_between}
-use Rattle.commands.specs.Reading.{◌>>=◌, field, last_field, no_field, register_of, open_of, enter_of, attempt_of, by_word, command_of, Gives, ReadsAs}
+use Rattle.commands.specs.Reading.{◌>>=◌, field, last_field, no_field, register_of, open_of, enter_of, scramble_of, attempt_of, correct_of, strike_of, set_advance_of, close_of, by_word, command_of, Gives, ReadsAs}
 use Rattle.commands.proofs.Cuts.{behind, cut_spelled, cut-behind, lacks}
-use Rattle.commands.proofs.FieldSpellings.{IsSpelled, bytes_eq-equal, number_spelled, decimal_no_space, name_spelled, event_spelled, event_no_space, format_spelled, format_no_space, cutoff_spelled, cutoff_no_space, limit_spelled, limit_no_space, advance_spelled, advance_no_space, outcome_spelled}
+use Rattle.commands.proofs.Spelled.{IsSpelled, bytes_eq-equal}
+use Rattle.commands.proofs.MoveSpellings.{moves_spelled}
+use Rattle.commands.proofs.FieldSpellings.{number_spelled, number_short, decimal_no_space, name_spelled, name_short, event_spelled, event_short, event_no_space, format_spelled, format_short, format_no_space, cutoff_spelled, cutoff_short, cutoff_no_space, limit_spelled, limit_short, limit_no_space, advance_spelled, advance_short, advance_no_space, entered_spelled}
 
 -- One field, the first of what is left.
 
@@ -110,7 +115,7 @@ open_only left c h =
     let settings : Settings = record { format = form.value; cutoff = cutoff.value; limit = limit.value; advance = advance.value } in
     let same : Open event.value r.value settings ≡ c = ok_equal _ c end.1 in
     subst (Spells (codes "OPEN" ++ behind 32 left)) same
-    ((event.fits, r.fits, (form.fits, cutoff.fits, limit.fits)), rw (event.spelled, r.spelled, form.spelled, cutoff.spelled, limit.spelled, advance.spelled, end.0, append-nil) refl)
+    ((r.fits, (cutoff.fits, limit.fits, advance.fits)), rw (event.spelled, r.spelled, form.spelled, cutoff.spelled, limit.spelled, advance.spelled, end.0, append-nil) refl)
 
 enter_only : (left : Option (List ℕ)) (c : Command) → enter_of left ≡ Ok c → Spells (codes "ENT" ++ behind 32 left) c
 unfolding enter_of
@@ -119,41 +124,111 @@ enter_only left c h =
     let n = field_only number 2 event.left' _ c event.next in
     let end = none_only 3 n.left' _ c n.next in
     let same : Enter event.value n.value ≡ c = ok_equal _ c end.1 in
-    subst (Spells (codes "ENT" ++ behind 32 left)) same ((event.fits, n.fits), rw (event.spelled, n.spelled, end.0, append-nil) refl)
+    subst (Spells (codes "ENT" ++ behind 32 left)) same (n.fits, rw (event.spelled, n.spelled, end.0, append-nil) refl)
 
-attempt_only : (left : Option (List ℕ)) (c : Command) → attempt_of left ≡ Ok c → Spells (codes "ATT" ++ behind 32 left) c
+scramble_only : (left : Option (List ℕ)) (c : Command) → length (codes "SCR" ++ behind 32 left) ≤ 600 → scramble_of left ≡ Ok c → Spells (codes "SCR" ++ behind 32 left) c
+unfolding scramble_of
+scramble_only left c short h =
+    let event = field_only event_spelled 1 left _ c h in
+    let r = field_only round 2 event.left' _ c event.next in
+    let k = field_only attempt 3 r.left' _ c r.next in
+    let moves = last_only moves_spelled 4 k.left' _ c k.next in
+    let same : Scramble event.value r.value k.value moves.value ≡ c = ok_equal _ c moves.next in
+    let spelled : codes "SCR" ++ behind 32 left ≡ spelling (Scramble event.value r.value k.value moves.value) =
+    rw (event.spelled, r.spelled, k.spelled, moves.spelled) refl in
+    subst (Spells (codes "SCR" ++ behind 32 left)) same
+    ((r.fits, k.fits, moves.fits, subst (λ (x : List ℕ). length x ≤ 600) spelled short), spelled)
+
+attempt_only : (left : Option (List ℕ)) (c : Command) → length (codes "ATT" ++ behind 32 left) ≤ 600 → attempt_of left ≡ Ok c → Spells (codes "ATT" ++ behind 32 left) c
 unfolding attempt_of
-attempt_only left c h =
+attempt_only left c short h =
     let event = field_only event_spelled 1 left _ c h in
     let r = field_only round 2 event.left' _ c event.next in
     let k = field_only attempt 3 r.left' _ c r.next in
     let n = field_only number 4 k.left' _ c k.next in
-    let outcome = last_only outcome_spelled 5 n.left' _ c n.next in
+    let outcome = last_only entered_spelled 5 n.left' _ c n.next in
     let same : Attempt event.value r.value k.value n.value outcome.value ≡ c = ok_equal _ c outcome.next in
+    let spelled : codes "ATT" ++ behind 32 left ≡ spelling (Attempt event.value r.value k.value n.value outcome.value) =
+    rw (event.spelled, r.spelled, k.spelled, n.spelled, outcome.spelled) refl in
     subst (Spells (codes "ATT" ++ behind 32 left)) same
-    ((event.fits, r.fits, k.fits, n.fits, outcome.fits), rw (event.spelled, r.spelled, k.spelled, n.spelled, outcome.spelled) refl)
+    ((r.fits, k.fits, n.fits, outcome.fits, subst (λ (x : List ℕ). length x ≤ 600) spelled short), spelled)
+
+correct_only : (left : Option (List ℕ)) (c : Command) → length (codes "COR" ++ behind 32 left) ≤ 600 → correct_of left ≡ Ok c → Spells (codes "COR" ++ behind 32 left) c
+unfolding correct_of
+correct_only left c short h =
+    let event = field_only event_spelled 1 left _ c h in
+    let r = field_only round 2 event.left' _ c event.next in
+    let k = field_only attempt 3 r.left' _ c r.next in
+    let n = field_only number 4 k.left' _ c k.next in
+    let outcome = last_only entered_spelled 5 n.left' _ c n.next in
+    let same : Correct event.value r.value k.value n.value outcome.value ≡ c = ok_equal _ c outcome.next in
+    let spelled : codes "COR" ++ behind 32 left ≡ spelling (Correct event.value r.value k.value n.value outcome.value) =
+    rw (event.spelled, r.spelled, k.spelled, n.spelled, outcome.spelled) refl in
+    subst (Spells (codes "COR" ++ behind 32 left)) same
+    ((r.fits, k.fits, n.fits, outcome.fits, subst (λ (x : List ℕ). length x ≤ 600) spelled short), spelled)
+
+strike_only : (left : Option (List ℕ)) (c : Command) → strike_of left ≡ Ok c → Spells (codes "STR" ++ behind 32 left) c
+unfolding strike_of
+strike_only left c h =
+    let event = field_only event_spelled 1 left _ c h in
+    let r = field_only round 2 event.left' _ c event.next in
+    let n = field_only number 3 r.left' _ c r.next in
+    let end = none_only 4 n.left' _ c n.next in
+    let same : Strike event.value r.value n.value ≡ c = ok_equal _ c end.1 in
+    subst (Spells (codes "STR" ++ behind 32 left)) same ((r.fits, n.fits), rw (event.spelled, r.spelled, n.spelled, end.0, append-nil) refl)
+
+set_advance_only : (left : Option (List ℕ)) (c : Command) → set_advance_of left ≡ Ok c → Spells (codes "ADV" ++ behind 32 left) c
+unfolding set_advance_of
+set_advance_only left c h =
+    let event = field_only event_spelled 1 left _ c h in
+    let r = field_only round 2 event.left' _ c event.next in
+    let advance = field_only advance_spelled 3 r.left' _ c r.next in
+    let end = none_only 4 advance.left' _ c advance.next in
+    let same : SetAdvance event.value r.value advance.value ≡ c = ok_equal _ c end.1 in
+    subst (Spells (codes "ADV" ++ behind 32 left)) same ((r.fits, advance.fits), rw (event.spelled, r.spelled, advance.spelled, end.0, append-nil) refl)
+
+close_only : (left : Option (List ℕ)) (c : Command) → close_of left ≡ Ok c → Spells (codes "CLOSE" ++ behind 32 left) c
+unfolding close_of
+close_only left c h =
+    let event = field_only event_spelled 1 left _ c h in
+    let r = field_only round 2 event.left' _ c event.next in
+    let end = none_only 3 r.left' _ c r.next in
+    let same : Close event.value r.value ≡ c = ok_equal _ c end.1 in
+    subst (Spells (codes "CLOSE" ++ behind 32 left)) same (r.fits, rw (event.spelled, r.spelled, end.0, append-nil) refl)
 
 -- a word, where it is the first of those that may stand there
-word_only : (word : List ℕ) (of : Option (List ℕ) → Result Command CommandFault) (others : Result Command CommandFault) (text : List ℕ × Option (List ℕ)) (c : Command) (b : Bool) → bytes_eq text.0 word ≡ b → ((left : Option (List ℕ)) → of left ≡ Ok c → Spells (word ++ behind 32 left) c) → (others ≡ Ok c → Spells (text.0 ++ behind 32 text.1) c) → cond b (of text.1) others ≡ Ok c → Spells (text.0 ++ behind 32 text.1) c
-word_only word of others text c false is this other h = other h
-word_only word of others text c true is this other h = rw (bytes_eq-equal text.0 word is) (this text.1 h)
+abbrev IsOnly : List ℕ × Option (List ℕ) → Result Command CommandFault → Command → Type 0
+IsOnly text read c = read ≡ Ok c → Spells (text.0 ++ behind 32 text.1) c
 
-by_word_only : (text : List ℕ × Option (List ℕ)) (c : Command) → by_word text ≡ Ok c → Spells (text.0 ++ behind 32 text.1) c
-by_word_only text c h =
-    word_only (codes "REG") register_of _ text c _ refl (λ left. register_only left c)
-    (word_only (codes "OPEN") open_of _ text c _ refl (λ left. open_only left c)
-    (word_only (codes "ENT") enter_of _ text c _ refl (λ left. enter_only left c)
-    (word_only (codes "ATT") attempt_of (Err fault.NotACommand) text c _ refl (λ left. attempt_only left c)
-    (λ e. absurd (let bad : Err fault.NotACommand ≡ Ok c = e in cc)))))
-    h
+word_only : (word : List ℕ) (of : Option (List ℕ) → Result Command CommandFault) (others : Result Command CommandFault) (text : List ℕ × Option (List ℕ)) (c : Command) (b : Bool) → bytes_eq text.0 word ≡ b → length (text.0 ++ behind 32 text.1) ≤ 600 → ((left : Option (List ℕ)) → length (word ++ behind 32 left) ≤ 600 → of left ≡ Ok c → Spells (word ++ behind 32 left) c) → IsOnly text others c → IsOnly text (cond b (of text.1) others) c
+word_only word of others text c false is short this other h = other h
+word_only word of others text c true is short this other h =
+    let same = bytes_eq-equal text.0 word is in
+    rw same (this text.1 (subst (λ (x : List ℕ). length (x ++ behind 32 text.1) ≤ 600) same short) h)
+
+by_word_only : (text : List ℕ × Option (List ℕ)) (c : Command) → length (text.0 ++ behind 32 text.1) ≤ 600 → IsOnly text (by_word text) c
+by_word_only text c short =
+    word_only (codes "REG") register_of _ text c _ refl short (λ left s. register_only left c)
+    (word_only (codes "OPEN") open_of _ text c _ refl short (λ left s. open_only left c)
+    (word_only (codes "ENT") enter_of _ text c _ refl short (λ left s. enter_only left c)
+    (word_only (codes "SCR") scramble_of _ text c _ refl short (λ left s. scramble_only left c s)
+    (word_only (codes "ATT") attempt_of _ text c _ refl short (λ left s. attempt_only left c s)
+    (word_only (codes "COR") correct_of _ text c _ refl short (λ left s. correct_only left c s)
+    (word_only (codes "STR") strike_of _ text c _ refl short (λ left s. strike_only left c)
+    (word_only (codes "ADV") set_advance_of _ text c _ refl short (λ left s. set_advance_only left c)
+    (word_only (codes "CLOSE") close_of (Err fault.NotACommand) text c _ refl short (λ left s. close_only left c)
+    (λ e. absurd (let bad : Err fault.NotACommand ≡ Ok c = e in cc))))))))))
 
 pub spelled_only : (bytes : List ℕ) (c : Command) → command_of bytes ≡ Ok c → Spells bytes c
 unfolding command_of
-spelled_only bytes c h = step (nat_lt 600 (length bytes)) h
+spelled_only bytes c h = step (nat_lt 600 (length bytes)) refl h
   where
-    step : (b : Bool) → cond b (Err fault.TooLong) (by_word (cut 32 bytes)) ≡ Ok c → Spells bytes c
-    step true e = absurd (let bad : Err fault.TooLong ≡ Ok c = e in cc)
-    step false e = rw (cut_spelled 32 bytes) (by_word_only (cut 32 bytes) c e)
+    step : (b : Bool) → nat_lt 600 (length bytes) ≡ b → cond b (Err fault.TooLong) (by_word (cut 32 bytes)) ≡ Ok c → Spells bytes c
+    step true is e = absurd (let bad : Err fault.TooLong ≡ Ok c = e in cc)
+    step false is e =
+        let short : length bytes ≤ 600 = grind (arith, nat_tests, is) in
+        let whole = cut_spelled 32 bytes in
+        subst (λ (x : List ℕ). Spells x c) (sym whole) (by_word_only (cut 32 bytes) c (subst (λ (x : List ℕ). length x ≤ 600) whole short) e)
 
 -- What is spelled is short.
 
@@ -171,18 +246,26 @@ join_short word (other ∷ words) short =
 
 pub spelling_short : (c : Command) → IsFit c → length (spelling c) ≤ 600
 spelling_short (Register n name) fits =
-    let whole = join_short (codes "REG") (decimal n ∷ name ∷ []) (omega arith, (number.short n fits.0, (name_spelled.short name fits.1, tt))) in
+    let whole = join_short (codes "REG") (decimal n ∷ name ∷ []) (omega arith, (number_short n (omega arith), (name_short name fits.1, tt))) in
     omega arith
-spelling_short (Open e r settings) fits =
-    let whole = join_short (codes "OPEN") (event_name e ∷ decimal r ∷ format_name settings.format ∷ cutoff_text settings.cutoff ∷ limit_text settings.limit ∷ advance_text settings.advance ∷ [])
-    (omega arith, (event_spelled.short e fits.0, (round.short r fits.1, (format_spelled.short settings.format fits.2.0, (cutoff_spelled.short settings.cutoff fits.2.1, (limit_spelled.short settings.limit fits.2.2, (advance_spelled.short settings.advance tt, tt))))))) in
+spelling_short (Open e r s) fits =
+    let whole = join_short (codes "OPEN") (event_name e ∷ decimal r ∷ format_name s.format ∷ cutoff_text s.cutoff ∷ limit_text s.limit ∷ advance_text s.advance ∷ [])
+    (omega arith, (event_short e, (number_short r (omega arith), (format_short s.format, (cutoff_short s.cutoff fits.1.0, (limit_short s.limit fits.1.1, (advance_short s.advance fits.1.2, tt))))))) in
     omega arith
 spelling_short (Enter e n) fits =
-    let whole = join_short (codes "ENT") (event_name e ∷ decimal n ∷ []) (omega arith, (event_spelled.short e fits.0, (number.short n fits.1, tt))) in
+    let whole = join_short (codes "ENT") (event_name e ∷ decimal n ∷ []) (omega arith, (event_short e, (number_short n (omega arith), tt))) in
     omega arith
-spelling_short (Attempt e r k n outcome) fits =
-    let whole = join_short (codes "ATT") (event_name e ∷ decimal r ∷ decimal k ∷ decimal n ∷ outcome_text outcome ∷ [])
-    (omega arith, (event_spelled.short e fits.0, (round.short r fits.1, (attempt.short k fits.2, (number.short n fits.3, (outcome_spelled.short outcome fits.4, tt)))))) in
+spelling_short (Scramble e r k moves) fits = fits.3
+spelling_short (Attempt e r k n outcome) fits = fits.4
+spelling_short (Correct e r k n outcome) fits = fits.4
+spelling_short (Strike e r n) fits =
+    let whole = join_short (codes "STR") (event_name e ∷ decimal r ∷ decimal n ∷ []) (omega arith, (event_short e, (number_short r (omega arith), (number_short n (omega arith), tt)))) in
+    omega arith
+spelling_short (SetAdvance e r advance) fits =
+    let whole = join_short (codes "ADV") (event_name e ∷ decimal r ∷ advance_text advance ∷ []) (omega arith, (event_short e, (number_short r (omega arith), (advance_short advance fits.1, tt)))) in
+    omega arith
+spelling_short (Close e r) fits =
+    let whole = join_short (codes "CLOSE") (event_name e ∷ decimal r ∷ []) (omega arith, (event_short e, (number_short r (omega arith), tt))) in
     omega arith
 
 -- What is spelled is read.
@@ -198,26 +281,67 @@ register_found n name fits =
 enter_found : (e : Event) (n : ℕ) → IsFit (Enter e n) → enter_of (Some (event_name e ++ 32 ∷ decimal n)) ≡ Ok (Enter e n)
 unfolding enter_of
 enter_found e n fits =
-    rw (field_then event_spelled 1 e (Some (decimal n)) fits.0 (event_no_space e fits.0), field_last number 2 n fits.1 (number_no_space n (omega arith))) refl
+    rw (field_then event_spelled 1 e (Some (decimal n)) tt (event_no_space e), field_last number 2 n fits (number_no_space n (omega arith))) refl
+
+-- the first field, an event
+event_then : (e : Event) (left : List ℕ) → field 1 event_named (Some (event_name e ++ 32 ∷ left)) ≡ Ok (e, Some left)
+event_then e left = field_then event_spelled 1 e (Some left) tt (event_no_space e)
 
 open_found : (e : Event) (r : ℕ) (s : Settings) → IsFit (Open e r s) → open_of (Some (event_name e ++ 32 ∷ (decimal r ++ 32 ∷ (format_name s.format ++ 32 ∷ (cutoff_text s.cutoff ++ 32 ∷ (limit_text s.limit ++ 32 ∷ advance_text s.advance)))))) ≡ Ok (Open e r s)
 unfolding open_of
 open_found e r s fits =
-    rw (field_then event_spelled 1 e (Some (decimal r ++ 32 ∷ (format_name s.format ++ 32 ∷ (cutoff_text s.cutoff ++ 32 ∷ (limit_text s.limit ++ 32 ∷ advance_text s.advance))))) fits.0 (event_no_space e fits.0))
-    (rw (field_then round 2 r (Some (format_name s.format ++ 32 ∷ (cutoff_text s.cutoff ++ 32 ∷ (limit_text s.limit ++ 32 ∷ advance_text s.advance)))) fits.1 (decimal_no_space r (omega arith)))
-    (rw (field_then format_spelled 3 s.format (Some (cutoff_text s.cutoff ++ 32 ∷ (limit_text s.limit ++ 32 ∷ advance_text s.advance))) fits.2.0 (format_no_space s.format fits.2.0))
-    (rw (field_then cutoff_spelled 4 s.cutoff (Some (limit_text s.limit ++ 32 ∷ advance_text s.advance)) fits.2.1 (cutoff_no_space s.cutoff fits.2.1))
-    (rw (field_then limit_spelled 5 s.limit (Some (advance_text s.advance)) fits.2.2 (limit_no_space s.limit fits.2.2))
-    (rw (field_last advance_spelled 6 s.advance tt (advance_no_space s.advance)) refl)))))
+    rw (event_then e (decimal r ++ 32 ∷ (format_name s.format ++ 32 ∷ (cutoff_text s.cutoff ++ 32 ∷ (limit_text s.limit ++ 32 ∷ advance_text s.advance)))))
+    (rw (field_then round 2 r (Some (format_name s.format ++ 32 ∷ (cutoff_text s.cutoff ++ 32 ∷ (limit_text s.limit ++ 32 ∷ advance_text s.advance)))) fits.0 (decimal_no_space r (omega arith)))
+    (rw (field_then format_spelled 3 s.format (Some (cutoff_text s.cutoff ++ 32 ∷ (limit_text s.limit ++ 32 ∷ advance_text s.advance))) tt (format_no_space s.format))
+    (rw (field_then cutoff_spelled 4 s.cutoff (Some (limit_text s.limit ++ 32 ∷ advance_text s.advance)) fits.1.0 (cutoff_no_space s.cutoff fits.1.0))
+    (rw (field_then limit_spelled 5 s.limit (Some (advance_text s.advance)) fits.1.1 (limit_no_space s.limit fits.1.1))
+    (rw (field_last advance_spelled 6 s.advance fits.1.2 (advance_no_space s.advance fits.1.2)) refl)))))
 
-attempt_found : (e : Event) (r k n : ℕ) (outcome : Outcome) → IsFit (Attempt e r k n outcome) → attempt_of (Some (event_name e ++ 32 ∷ (decimal r ++ 32 ∷ (decimal k ++ 32 ∷ (decimal n ++ 32 ∷ outcome_text outcome))))) ≡ Ok (Attempt e r k n outcome)
+scramble_found : (e : Event) (r k : ℕ) (moves : List Move) → IsFit (Scramble e r k moves) → scramble_of (Some (event_name e ++ 32 ∷ (decimal r ++ 32 ∷ (decimal k ++ 32 ∷ moves_text moves)))) ≡ Ok (Scramble e r k moves)
+unfolding scramble_of
+scramble_found e r k moves fits =
+    rw (event_then e (decimal r ++ 32 ∷ (decimal k ++ 32 ∷ moves_text moves)))
+    (rw (field_then round 2 r (Some (decimal k ++ 32 ∷ moves_text moves)) fits.0 (decimal_no_space r (omega arith)))
+    (rw (field_then attempt 3 k (Some (moves_text moves)) fits.1 (decimal_no_space k (omega arith)))
+    (rw (moves_spelled.found moves fits.2) refl)))
+
+attempt_found : (e : Event) (r k n : ℕ) (outcome : Entered) → IsFit (Attempt e r k n outcome) → attempt_of (Some (event_name e ++ 32 ∷ (decimal r ++ 32 ∷ (decimal k ++ 32 ∷ (decimal n ++ 32 ∷ entered_text outcome))))) ≡ Ok (Attempt e r k n outcome)
 unfolding attempt_of
 attempt_found e r k n outcome fits =
-    rw (field_then event_spelled 1 e (Some (decimal r ++ 32 ∷ (decimal k ++ 32 ∷ (decimal n ++ 32 ∷ outcome_text outcome)))) fits.0 (event_no_space e fits.0))
-    (rw (field_then round 2 r (Some (decimal k ++ 32 ∷ (decimal n ++ 32 ∷ outcome_text outcome))) fits.1 (decimal_no_space r (omega arith)))
-    (rw (field_then attempt 3 k (Some (decimal n ++ 32 ∷ outcome_text outcome)) fits.2 (decimal_no_space k (omega arith)))
-    (rw (field_then number 4 n (Some (outcome_text outcome)) fits.3 (number_no_space n (omega arith)))
-    (rw (outcome_spelled.found outcome fits.4) refl))))
+    rw (event_then e (decimal r ++ 32 ∷ (decimal k ++ 32 ∷ (decimal n ++ 32 ∷ entered_text outcome))))
+    (rw (field_then round 2 r (Some (decimal k ++ 32 ∷ (decimal n ++ 32 ∷ entered_text outcome))) fits.0 (decimal_no_space r (omega arith)))
+    (rw (field_then attempt 3 k (Some (decimal n ++ 32 ∷ entered_text outcome)) fits.1 (decimal_no_space k (omega arith)))
+    (rw (field_then number 4 n (Some (entered_text outcome)) fits.2 (number_no_space n (omega arith)))
+    (rw (entered_spelled.found outcome fits.3) refl))))
+
+correct_found : (e : Event) (r k n : ℕ) (outcome : Entered) → IsFit (Correct e r k n outcome) → correct_of (Some (event_name e ++ 32 ∷ (decimal r ++ 32 ∷ (decimal k ++ 32 ∷ (decimal n ++ 32 ∷ entered_text outcome))))) ≡ Ok (Correct e r k n outcome)
+unfolding correct_of
+correct_found e r k n outcome fits =
+    rw (event_then e (decimal r ++ 32 ∷ (decimal k ++ 32 ∷ (decimal n ++ 32 ∷ entered_text outcome))))
+    (rw (field_then round 2 r (Some (decimal k ++ 32 ∷ (decimal n ++ 32 ∷ entered_text outcome))) fits.0 (decimal_no_space r (omega arith)))
+    (rw (field_then attempt 3 k (Some (decimal n ++ 32 ∷ entered_text outcome)) fits.1 (decimal_no_space k (omega arith)))
+    (rw (field_then number 4 n (Some (entered_text outcome)) fits.2 (number_no_space n (omega arith)))
+    (rw (entered_spelled.found outcome fits.3) refl))))
+
+strike_found : (e : Event) (r n : ℕ) → IsFit (Strike e r n) → strike_of (Some (event_name e ++ 32 ∷ (decimal r ++ 32 ∷ decimal n))) ≡ Ok (Strike e r n)
+unfolding strike_of
+strike_found e r n fits =
+    rw (event_then e (decimal r ++ 32 ∷ decimal n))
+    (rw (field_then round 2 r (Some (decimal n)) fits.0 (decimal_no_space r (omega arith)))
+    (rw (field_last number 3 n fits.1 (number_no_space n (omega arith))) refl))
+
+set_advance_found : (e : Event) (r : ℕ) (advance : Advance) → IsFit (SetAdvance e r advance) → set_advance_of (Some (event_name e ++ 32 ∷ (decimal r ++ 32 ∷ advance_text advance))) ≡ Ok (SetAdvance e r advance)
+unfolding set_advance_of
+set_advance_found e r advance fits =
+    rw (event_then e (decimal r ++ 32 ∷ advance_text advance))
+    (rw (field_then round 2 r (Some (advance_text advance)) fits.0 (decimal_no_space r (omega arith)))
+    (rw (field_last advance_spelled 3 advance fits.1 (advance_no_space advance fits.1)) refl))
+
+close_found : (e : Event) (r : ℕ) → IsFit (Close e r) → close_of (Some (event_name e ++ 32 ∷ decimal r)) ≡ Ok (Close e r)
+unfolding close_of
+close_found e r fits =
+    rw (event_then e (decimal r))
+    (rw (field_last round 2 r fits (decimal_no_space r (omega arith))) refl)
 
 word_found : (word left : List ℕ) → lacks 32 word ≡ true → length (word ++ 32 ∷ left) ≤ 600 → command_of (word ++ 32 ∷ left) ≡ by_word (word, Some left)
 unfolding command_of
@@ -232,8 +356,18 @@ spelled_found (Open e r s) fits =
     word_found (codes "OPEN") _ refl (spelling_short (Open e r s) fits) ∙ open_found e r s fits
 spelled_found (Enter e n) fits =
     word_found (codes "ENT") _ refl (spelling_short (Enter e n) fits) ∙ enter_found e n fits
+spelled_found (Scramble e r k moves) fits =
+    word_found (codes "SCR") _ refl (spelling_short (Scramble e r k moves) fits) ∙ scramble_found e r k moves fits
 spelled_found (Attempt e r k n outcome) fits =
     word_found (codes "ATT") _ refl (spelling_short (Attempt e r k n outcome) fits) ∙ attempt_found e r k n outcome fits
+spelled_found (Correct e r k n outcome) fits =
+    word_found (codes "COR") _ refl (spelling_short (Correct e r k n outcome) fits) ∙ correct_found e r k n outcome fits
+spelled_found (Strike e r n) fits =
+    word_found (codes "STR") _ refl (spelling_short (Strike e r n) fits) ∙ strike_found e r n fits
+spelled_found (SetAdvance e r advance) fits =
+    word_found (codes "ADV") _ refl (spelling_short (SetAdvance e r advance) fits) ∙ set_advance_found e r advance fits
+spelled_found (Close e r) fits =
+    word_found (codes "CLOSE") _ refl (spelling_short (Close e r) fits) ∙ close_found e r fits
 
 pub spelled_once : (c d : Command) → IsFit c → IsFit d → spelling c ≡ spelling d → c ≡ d
 spelled_once c d fits fits' same = ok_equal c d (sym (spelled_found c fits) ∙ ap command_of same ∙ spelled_found d fits')

@@ -1,8 +1,12 @@
 -- What a list of accepted commands says: who is registered, which rounds were opened, and what was done in them.
-use Rattle.std.specs.Prelude.{ℕ, Bool, true, false, not, ◌==◌, ◌&&◌, nat_lt, if◌then◌else◌, List, [], ◌∷◌, ◌++◌, bytes_eq, option_to_list, is_some, Option, None, Some}
-use Rattle.std.specs.List.{list_any}
+use Rattle.std.specs.Prelude.{ℕ, zero, suc, ◌+◌, ◌-◌, Bool, true, false, not, ◌==◌, ◌&&◌, nat_lt, if◌then◌else◌, List, [], ◌∷◌, ◌++◌, map, unwrap_or, bytes_eq, option_to_list, is_some, Option, None, Some}
+use Rattle.std.specs.List.{list_any, range_with_len}
 use Rattle.std.specs.Option.{option_or, option_map, option_and_then}
+use Rattle.cube.specs.declared.moves.Move.{Move}
+use Rattle.fmc_check.specs.Fewest.{result_of}
 use Rattle.attempts.specs.Attempts.{value_of}
+use Rattle.attempts.specs.declared.Outcome.{Outcome}
+use Rattle.attempts.specs.declared.Outcome.TheVariants as outcome
 use Rattle.attempts.specs.declared.Value.{Value}
 use Rattle.attempts.specs.declared.Unit.{Unit as Measure}
 use Rattle.attempts.specs.declared.Unit.TheVariants as measure
@@ -10,15 +14,26 @@ use Rattle.formats.specs.declared.events.Event.{Event}
 use Rattle.formats.specs.declared.events.Format.{Format}
 use Rattle.formats.specs.Events.{same_event, unit_of, is_allowed, attempts_of}
 use Rattle.commands.specs.declared.command.Command.{Command}
-use Rattle.commands.specs.declared.command.Command.TheVariants.{Register, Open, Enter, Attempt}
+use Rattle.commands.specs.declared.command.Command.TheVariants.{Register, Open, Enter, Scramble, Attempt, Correct, Strike, SetAdvance, Close}
+use Rattle.commands.specs.declared.command.Entered.{Entered}
+use Rattle.commands.specs.declared.command.Entered.TheVariants as entered
 use Rattle.commands.specs.declared.command.Settings.{Settings}
 use Rattle.commands.specs.declared.answer.Code.{Code}
 use Rattle.commands.specs.declared.answer.Code.TheVariants as code
-use Rattle.commands.specs.declared.rounds.EnterFault.{EnterFault}
-use Rattle.commands.specs.declared.rounds.EnterFault.TheVariants as enter
-use Rattle.commands.specs.declared.rounds.PutFault.{PutFault}
-use Rattle.commands.specs.declared.rounds.PutFault.TheVariants as put
-use Rattle.commands.specs.Tables.{Entrant, Table, enter_fault, put_fault}
+use Rattle.rounds.specs.declared.faults.EnterFault.{EnterFault}
+use Rattle.rounds.specs.declared.faults.EnterFault.TheVariants as enter
+use Rattle.rounds.specs.declared.faults.PutFault.{PutFault}
+use Rattle.rounds.specs.declared.faults.PutFault.TheVariants as put
+use Rattle.rounds.specs.declared.faults.CorrectFault.{CorrectFault}
+use Rattle.rounds.specs.declared.faults.CorrectFault.TheVariants as correct
+use Rattle.rounds.specs.declared.faults.StrikeFault.{StrikeFault}
+use Rattle.rounds.specs.declared.faults.StrikeFault.TheVariants as strike
+use Rattle.rounds.specs.declared.faults.CloseFault.{CloseFault}
+use Rattle.rounds.specs.declared.faults.CloseFault.TheVariants as close
+use Rattle.rounds.specs.Tables.{Entrant, Table, enter_fault, put_fault, replaced, correct_fault, without_last, strike_fault, started, close_fault}
+use Rattle.advancement.specs.declared.Advance.{Advance}
+use Rattle.advancement.specs.declared.Advance.TheVariants.{Final, Top, Percent}
+use Rattle.advancement.specs.Advancing.{later_rounds, advancing}
 
 -- Competitors
 
@@ -63,6 +78,34 @@ opened e r earlier [] = None
 opened e r earlier (c ∷ cs) =
     option_or (option_map (λ settings. record { before = earlier; settings = settings; since = cs }) (opening e r c)) (opened e r (earlier ++ c ∷ []) cs)
 
+-- the scramble that a command sets for an attempt
+abbrev pub scrambling : Event → ℕ → ℕ → Command → Option (List Move)
+scrambling e r k (Scramble f s j moves) = if same_event e f && r == s && k == j then Some moves else None
+scrambling e r k _ = None
+
+-- the scramble of an attempt: the first that was set for it since its round was opened
+abbrev pub scramble_since : Event → ℕ → ℕ → Opened → Option (List Move)
+scramble_since e r k o = first_of (scrambling e r k) o.since
+
+abbrev pub scramble_of : List Command → Event → ℕ → ℕ → Option (List Move)
+scramble_of cs e r k = option_and_then (scramble_since e r k) (opened e r [] cs)
+
+-- the outcome of a solution under a scramble; without a scramble no solution is taken
+abbrev pub solved_under : Option (List Move) → List Move → Outcome
+solved_under None solution = outcome.Dnf
+solved_under (Some scramble) solution = outcome.Solution (result_of scramble solution)
+
+-- what was entered, a solution by its result under the attempt's scramble
+abbrev pub outcome_of : Option (List Move) → Entered → Outcome
+outcome_of scramble (entered.Time time penalties) = outcome.Time time penalties
+outcome_of scramble (entered.Solution solution) = solved_under scramble solution
+outcome_of scramble entered.Dnf = outcome.Dnf
+outcome_of scramble entered.Dns = outcome.Dns
+
+-- the value of what was entered, under the round's limit and the attempt's scramble
+abbrev pub settled : Settings → Option (List Move) → Entered → Value
+settled settings scramble x = value_of settings.limit (outcome_of scramble x)
+
 -- the number that a command enters in a round: entries are for first rounds
 abbrev pub entering : Event → ℕ → Command → Option ℕ
 entering e r (Enter f n) = if same_event e f && r == 1 then Some n else None
@@ -70,8 +113,11 @@ entering e r _ = None
 
 -- the values of a number after one more command; `earlier` are the commands between the opening and this one
 abbrev pub one_value : Event → ℕ → Settings → ℕ → List Command → List Value → Command → List Value
-one_value e r settings n earlier values (Attempt f s k m outcome) =
-    if same_event e f && r == s && m == n then values ++ value_of settings.limit outcome ∷ [] else values
+one_value e r settings n earlier values (Attempt f s k m x) =
+    if same_event e f && r == s && m == n then values ++ settled settings (first_of (scrambling e r k) earlier) x ∷ [] else values
+one_value e r settings n earlier values (Correct f s k m x) =
+    if same_event e f && r == s && m == n then replaced k (settled settings (first_of (scrambling e r k) earlier) x) values else values
+one_value e r settings n earlier values (Strike f s m) = if same_event e f && r == s && m == n then without_last values else values
 one_value e r settings n earlier values _ = values
 
 -- the values of a number after more commands, one after the other
@@ -89,22 +135,51 @@ entrants_after e r settings earlier [] = []
 entrants_after e r settings earlier (c ∷ cs) =
     option_to_list (option_map (entrant_after e r settings (earlier ++ c ∷ []) cs) (entering e r c)) ++ entrants_after e r settings (earlier ++ c ∷ []) cs
 
--- the table of a round that was opened
-abbrev pub table_of : Event → ℕ → Opened → Table
-table_of e r o = record {
+-- a command closes a round
+abbrev pub closing : Event → ℕ → Command → Bool
+closing e r (Close f s) = same_event e f && r == s
+closing e r _ = false
+
+-- the advance that a command gives a round
+abbrev pub advance_given : Event → ℕ → Command → Option Advance
+advance_given e r (SetAdvance f s advance) = if same_event e f && r == s then Some advance else None
+advance_given e r _ = None
+
+-- the advance after more commands: the last that was given
+abbrev pub advance_after : Event → ℕ → Advance → List Command → Advance
+advance_after e r advance [] = advance
+advance_after e r advance (c ∷ cs) = advance_after e r (unwrap_or (advance_given e r c) advance) cs
+
+-- the settings of a round that was opened, as they stand now
+abbrev pub settings_now : Event → ℕ → Opened → Settings
+settings_now e r o = record o.settings { advance = advance_after e r o.settings.advance o.since }
+
+-- the table of a round that was opened with these entrants: they come before those who were entered since
+abbrev pub table_of : Event → ℕ → List ℕ → Opened → Table
+table_of e r first o = record {
   format = o.settings.format;
   unit = unit_of e;
   cutoff = o.settings.cutoff;
-  is_closed = false;
-  entrants = entrants_after e r o.settings [] o.since;
+  is_closed = list_any (closing e r) o.since;
+  entrants = map (entrant_after e r o.settings [] o.since) first ++ entrants_after e r o.settings [] o.since;
 }
 
--- the settings of a round that was opened, as they stand now, and its table
-abbrev pub round_at : Event → ℕ → Opened → Settings × Table
-round_at e r o = (o.settings, table_of e r o)
+abbrev pub round_at : Event → ℕ → List ℕ → Opened → Settings × Table
+round_at e r first o = (settings_now e r o, table_of e r first o)
+
+-- those who advance from a round, in order of its standings
+abbrev pub who_advance : Option (Settings × Table) → List ℕ
+who_advance None = []
+who_advance (Some round) = advancing round.1 round.0.advance
+
+-- a round: its settings as they stand now, and its table. The entrants of a later round are those who advance from the one
+-- before, as the commands before the opening make that one. Rounds are counted from 1.
+unfoldable pub round_in : Event → ℕ → List Command → Option (Settings × Table)
+round_in e zero cs = None
+round_in e (suc r) cs = option_map (λ o. round_at e (suc r) (who_advance (round_in e r o.before)) o) (opened e (suc r) [] cs)
 
 abbrev pub round_of : List Command → Event → ℕ → Option (Settings × Table)
-round_of cs e r = option_map (round_at e r) (opened e r [] cs)
+round_of cs e r = round_in e r cs
 
 -- Checks
 
@@ -122,13 +197,114 @@ put_code put.NotEntered = code.NotEntered
 put_code put.OutOfOrder = code.OutOfOrder
 put_code put.NoMoreAttempts = code.NoMoreAttempts
 
+-- the code for a table's refusal of a correction
+abbrev pub correct_code : CorrectFault → Code
+correct_code correct.Closed = code.Closed
+correct_code correct.NotEntered = code.NotEntered
+correct_code correct.NoSuchAttempt = code.NoSuchAttempt
+correct_code correct.CutoffLost = code.CutoffLost
+
+-- the code for a table's refusal to strike an attempt
+abbrev pub strike_code : StrikeFault → Code
+strike_code strike.Closed = code.Closed
+strike_code strike.NotEntered = code.NotEntered
+strike_code strike.NoSuchAttempt = code.NoSuchAttempt
+
+-- the code for a table's refusal to be closed
+abbrev pub close_code : CloseFault → Code
+close_code close.Closed = code.Closed
+close_code close.Unfinished = code.Unfinished
+
 abbrev pub enter_refusal : ℕ → Option (Settings × Table) → Option Code
 enter_refusal n None = Some code.RoundUnknown
 enter_refusal n (Some round) = option_and_then enter_code (enter_fault round.1 n)
 
-abbrev pub put_refusal : ℕ → ℕ → Option (Settings × Table) → Option Code
-put_refusal n k None = Some code.RoundUnknown
-put_refusal n k (Some round) = option_map put_code (put_fault round.1 n k)
+-- fewest moves alone takes scrambles and solutions
+abbrev pub is_moves : Measure → Bool
+is_moves measure.Moves = true
+is_moves measure.Time = false
+
+-- what was entered is none that an event takes: a time in fewest moves, a solution elsewhere
+abbrev pub is_wrong : Measure → Entered → Bool
+is_wrong unit (entered.Time time penalties) = is_moves unit
+is_wrong unit (entered.Solution solution) = not (is_moves unit)
+is_wrong unit entered.Dnf = false
+is_wrong unit entered.Dns = false
+
+-- a solution, for an attempt that has no scramble
+abbrev pub lacks_scramble : Option (List Move) → Entered → Bool
+lacks_scramble scramble (entered.Solution solution) = not (is_some scramble)
+lacks_scramble scramble (entered.Time time penalties) = false
+lacks_scramble scramble entered.Dnf = false
+lacks_scramble scramble entered.Dns = false
+
+-- the first check of a scramble that fails
+abbrev pub scramble_refusal : Event → ℕ → Option (List Move) → Option (Settings × Table) → Option Code
+scramble_refusal e k scramble None = Some code.RoundUnknown
+scramble_refusal e k scramble (Some round) =
+    if round.1.is_closed then Some code.Closed
+    else if not (is_moves (unit_of e)) then Some code.WrongOutcome
+    else if nat_lt (attempts_of round.0.format) k then Some code.NoSuchAttempt
+    else if is_some scramble then Some code.ScrambleThere
+    else None
+
+-- the first check that fails of what was entered, under the scramble that the attempt has
+abbrev pub unfit_refusal : Event → Option (List Move) → Entered → Option Code
+unfit_refusal e scramble x =
+    if is_wrong (unit_of e) x then Some code.WrongOutcome
+    else if lacks_scramble scramble x then Some code.NoScramble
+    else None
+
+-- the first check of an attempt, or of its correction, that fails; the table's own checks come last
+abbrev pub entered_refusal : Event → Entered → Option (List Move) → (Settings × Table → Option Code) → Option (Settings × Table) → Option Code
+entered_refusal e x scramble table_refusal None = Some code.RoundUnknown
+entered_refusal e x scramble table_refusal (Some round) = option_or (unfit_refusal e scramble x) (table_refusal round)
+
+abbrev pub put_refusal : ℕ → ℕ → Settings × Table → Option Code
+put_refusal n k round = option_map put_code (put_fault round.1 n k)
+
+abbrev pub correct_refusal : ℕ → ℕ → Option (List Move) → Entered → Settings × Table → Option Code
+correct_refusal n k scramble x round = option_map correct_code (correct_fault round.1 n k (settled round.0 scramble x))
+
+abbrev pub strike_refusal : ℕ → Option (Settings × Table) → Option Code
+strike_refusal n None = Some code.RoundUnknown
+strike_refusal n (Some round) = option_map strike_code (strike_fault round.1 n)
+
+abbrev pub advance_refusal : Option (Settings × Table) → Option Code
+advance_refusal None = Some code.RoundUnknown
+advance_refusal (Some round) = if round.1.is_closed then Some code.Closed else None
+
+abbrev pub is_final : Advance → Bool
+is_final Final = true
+is_final (Top number) = false
+is_final (Percent percent) = false
+
+-- a round is closed, and is not the event's last
+abbrev pub leads_on : Option (Settings × Table) → Bool
+leads_on None = false
+leads_on (Some round) = round.1.is_closed && not (is_final round.0.advance)
+
+-- how many competitors a round has
+abbrev pub competitors_of : Option (Settings × Table) → ℕ
+competitors_of None = 0
+competitors_of (Some round) = started round.1
+
+-- round j has fewer competitors than the rounds behind it want, up to one behind round r
+abbrev pub has_too_few : (ℕ → Option (Settings × Table)) → ℕ → ℕ → Bool
+has_too_few rounds r j = nat_lt (later_rounds (competitors_of (rounds j))) (r + 1 - j)
+
+-- the number of later rounds that competitors allow: round r is not the last, and one of those up to it has too few
+abbrev pub breaks_rounds_rule : (ℕ → Option (Settings × Table)) → ℕ → Advance → Bool
+breaks_rounds_rule rounds r advance = not (is_final advance) && list_any (has_too_few rounds r) (range_with_len 1 r)
+
+-- the first check of a closing that fails, of a table that is there
+abbrev pub end_refusal : Option CloseFault → Bool → Option Code
+end_refusal (Some fault) breaks = Some (close_code fault)
+end_refusal None breaks = if breaks then Some code.RoundsRule else None
+
+abbrev pub close_refusal : (ℕ → Option (Settings × Table)) → ℕ → Option (Settings × Table) → Option Code
+close_refusal rounds r None = Some code.RoundUnknown
+close_refusal rounds r (Some round) = end_refusal (close_fault round.1) (breaks_rounds_rule rounds r round.0.advance)
 
 -- a cutoff counts fewer attempts than the format has
 abbrev pub is_cutoff : Format → Option (ℕ × ℕ) → Bool
@@ -148,7 +324,7 @@ refusal cs (Register n name) =
     else None
 refusal cs (Open e r settings) =
     if is_some (round_of cs e r) then Some code.RoundOpen
-    else if nat_lt 1 r then Some code.RoundUnknown
+    else if nat_lt 1 r && not (leads_on (round_of cs e (r - 1))) then Some code.RoundUnknown
     else if not (is_allowed e settings.format) then Some code.FormatNotAllowed
     else if not (is_cutoff settings.format settings.cutoff) then Some code.CutoffNotAllowed
     else if not (is_limit (unit_of e) settings.limit) then Some code.LimitNotAllowed
@@ -156,6 +332,15 @@ refusal cs (Open e r settings) =
 refusal cs (Enter e n) =
     if not (is_registered cs n) then Some code.UnknownCompetitor
     else enter_refusal n (round_of cs e 1)
-refusal cs (Attempt e r k n outcome) =
+refusal cs (Scramble e r k moves) = scramble_refusal e k (scramble_of cs e r k) (round_of cs e r)
+refusal cs (Attempt e r k n x) =
     if not (is_registered cs n) then Some code.UnknownCompetitor
-    else put_refusal n k (round_of cs e r)
+    else entered_refusal e x (scramble_of cs e r k) (put_refusal n k) (round_of cs e r)
+refusal cs (Correct e r k n x) =
+    if not (is_registered cs n) then Some code.UnknownCompetitor
+    else entered_refusal e x (scramble_of cs e r k) (correct_refusal n k (scramble_of cs e r k) x) (round_of cs e r)
+refusal cs (Strike e r n) =
+    if not (is_registered cs n) then Some code.UnknownCompetitor
+    else strike_refusal n (round_of cs e r)
+refusal cs (SetAdvance e r advance) = advance_refusal (round_of cs e r)
+refusal cs (Close e r) = close_refusal (round_of cs e) r (round_of cs e r)

@@ -1,21 +1,22 @@
 -- What is kept beside the accepted commands.
-use Rattle.std.specs.Prelude.{is_some, true, false, ◌<◌, length, slice_get, slice_index_or, slice_set, if◌then◌else◌, ◌≡◌, ℕ, Bool, ◌==◌, ◌&&◌, List, find, bytes_eq, nat_eq, Option, None, Some}
+use Rattle.std.specs.Prelude.{is_some, true, false, ◌-◌, ◌<◌, ◌≤◌, length, slice_get, slice_index_or, slice_set, [], ◌++◌, map, if◌then◌else◌, ◌≡◌, ℕ, Bool, ◌==◌, ◌&&◌, List, find, bytes_eq, nat_eq, Option, None, Some}
 use Rattle.std.specs.List.{list_any}
 use Rattle.std.specs.Option.{option_or, option_map, option_and_then}
 use Rattle.std.specs.HashMap.{get}
 use Rattle.std.specs.HashSet.{contains_by}
-use Rattle.attempts.specs.Attempts.{value_of}
-use Rattle.attempts.specs.declared.Outcome.{Outcome}
+use Rattle.cube.specs.declared.moves.Move.{Move}
 use Rattle.formats.specs.declared.events.Event.{Event}
 use Rattle.formats.specs.Events.{same_event}
 use Rattle.commands.specs.declared.command.Command.{Command}
 use Rattle.commands.specs.declared.command.Command.TheVariants.{Register}
+use Rattle.commands.specs.declared.command.Entered.{Entered}
 use Rattle.commands.specs.declared.command.Settings.{Settings}
 use Rattle.commands.specs.declared.opened.Round.{Round}
 use Rattle.commands.specs.declared.competitors.Competitors.{Competitors}
 use Rattle.commands.specs.declared.book.Index.{Index}
-use Rattle.commands.specs.Tables.{Table, with_value, with_entrant}
-use Rattle.commands.specs.Accepted.{name_given, name_of, round_of}
+use Rattle.rounds.specs.Tables.{Entrant, Table, with_value, corrected, struck, closed, with_entrant}
+use Rattle.advancement.specs.declared.Advance.{Advance}
+use Rattle.commands.specs.Accepted.{name_given, name_of, scrambling, scramble_of, settled, round_of}
 
 -- the name that the command at a place gives a number
 abbrev pub name_at : List Command → ℕ → ℕ → Option (List ℕ)
@@ -43,9 +44,21 @@ kept_value x = (x.settings, x.table)
 abbrev pub kept_round : Event → ℕ → List Round → Option (Settings × Table)
 kept_round e r xs = option_map kept_value (find (is_round e r) xs)
 
--- each round is kept as the accepted commands make it
-abbrev pub AreRounds : List Command → List Round → Type 0
-AreRounds cs xs = (e : Event) (r : ℕ) → kept_round e r xs ≡ round_of cs e r
+-- the scramble that the command at a place sets for an attempt
+abbrev pub scramble_at : List Command → Event → ℕ → ℕ → ℕ → Option (List Move)
+scramble_at cs e r k i = option_and_then (scrambling e r k) (slice_get cs i)
+
+-- the place of an attempt's scramble, in a round
+abbrev pub place_in : ℕ → Round → Option ℕ
+place_in k x = slice_index_or x.scrambles (k - 1) None
+
+abbrev pub kept_scramble : Event → ℕ → ℕ → List Round → Option ℕ
+kept_scramble e r k xs = option_and_then (place_in k) (find (is_round e r) xs)
+
+-- each round is kept as the accepted commands make it, and the scrambles of its attempts are found
+pub record AreRounds (cs : List Command) (xs : List Round) : Type 0 where
+  pub rounds : (e : Event) (r : ℕ) → kept_round e r xs ≡ round_of cs e r
+  pub scrambles : (e : Event) (r k : ℕ) → 1 ≤ k → option_and_then (scramble_at cs e r k) (kept_scramble e r k xs) ≡ scramble_of cs e r k
 
 -- what is looked up of the accepted commands is found
 pub record IsIndexOf (cs : List Command) (index : Index) : Type 0 where
@@ -57,21 +70,53 @@ pub record IsKeptAt (xs : List Round) (e : Event) (r : ℕ) (i : ℕ) : Type 0 w
   pub within : i < length xs
   pub there : is_some (kept_round e r xs) ≡ true
   pub kept : (d : Round) → kept_round e r xs ≡ Some ((slice_index_or xs i d).settings, (slice_index_or xs i d).table)
+  pub places : (d : Round) (k : ℕ) → kept_scramble e r k xs ≡ place_in k (slice_index_or xs i d)
   pub changed : (d x : Round) → x.event ≡ (slice_index_or xs i d).event → x.round ≡ (slice_index_or xs i d).round → (f : Event) (s : ℕ)
-      → kept_round f s (slice_set xs i x) ≡ (if same_event f e && s == r then Some (x.settings, x.table) else kept_round f s xs)
+      → find (is_round f s) (slice_set xs i x) ≡ (if same_event f e && s == r then Some x else find (is_round f s) xs)
 
 -- a round with one more attempt of a number
-abbrev pub with_attempt : ℕ → Outcome → Settings × Table → Settings × Table
-with_attempt n outcome round = (round.0, with_value round.1 n (value_of round.0.limit outcome))
+abbrev pub with_attempt : ℕ → Option (List Move) → Entered → Settings × Table → Settings × Table
+with_attempt n scramble x round = (round.0, with_value round.1 n (settled round.0 scramble x))
 
 -- a round with one more entrant
 abbrev pub with_entry : ℕ → Settings × Table → Settings × Table
 with_entry n round = (round.0, with_entrant round.1 n)
 
--- one round is changed, and no other
-abbrev pub ChangesRound : Event → ℕ → (Settings × Table → Settings × Table) → List Round → List Round → Type 0
-ChangesRound e r change old new = (f : Event) (s : ℕ) → kept_round f s new ≡ (if same_event f e && s == r then option_map change (kept_round f s old) else kept_round f s old)
+-- a round with another value for an attempt of a number
+abbrev pub with_correction : ℕ → ℕ → Option (List Move) → Entered → Settings × Table → Settings × Table
+with_correction n k scramble x round = (round.0, corrected round.1 n k (settled round.0 scramble x))
 
--- a round is added behind those that are kept
-abbrev pub AddsRound : Event → ℕ → Settings × Table → List Round → List Round → Type 0
-AddsRound e r round old new = (f : Event) (s : ℕ) → kept_round f s new ≡ option_or (kept_round f s old) (if same_event f e && s == r then Some round else None)
+-- a round without the last attempt of a number
+abbrev pub with_strike : ℕ → Settings × Table → Settings × Table
+with_strike n round = (round.0, struck round.1 n)
+
+-- a round from which others advance
+abbrev pub with_advance : Advance → Settings × Table → Settings × Table
+with_advance advance round = (record round.0 { advance = advance }, round.1)
+
+-- a round that is closed
+abbrev pub with_end : Settings × Table → Settings × Table
+with_end round = (round.0, closed round.1)
+
+abbrev pub newcomer : ℕ → Entrant
+newcomer n = record { number = n; values = [] }
+
+-- a table with more entrants, in order
+abbrev pub with_newcomers : Table → List ℕ → Table
+with_newcomers t ns = record t { entrants = t.entrants ++ map newcomer ns }
+
+-- one round is changed, and no other; no scramble is
+pub record ChangesRound (e : Event) (r : ℕ) (change : Settings × Table → Settings × Table) (old new : List Round) : Type 0 where
+  pub rounds : (f : Event) (s : ℕ) → kept_round f s new ≡ (if same_event f e && s == r then option_map change (kept_round f s old) else kept_round f s old)
+  pub scrambles : (f : Event) (s k : ℕ) → kept_scramble f s k new ≡ kept_scramble f s k old
+
+-- a round is added behind those that are kept, without scrambles
+pub record AddsRound (e : Event) (r : ℕ) (round : Settings × Table) (old new : List Round) : Type 0 where
+  pub rounds : (f : Event) (s : ℕ) → kept_round f s new ≡ option_or (kept_round f s old) (if same_event f e && s == r then Some round else None)
+  pub scrambles : (f : Event) (s k : ℕ) → kept_scramble f s k new ≡ kept_scramble f s k old
+
+-- the scramble of one attempt of a round is at this place, and all else is as it was
+pub record AddsScramble (e : Event) (r k : ℕ) (place : ℕ) (old new : List Round) : Type 0 where
+  pub there : is_some (kept_round e r old) ≡ true
+  pub rounds : (f : Event) (s : ℕ) → kept_round f s new ≡ kept_round f s old
+  pub scrambles : (f : Event) (s j : ℕ) → 1 ≤ j → kept_scramble f s j new ≡ (if same_event f e && s == r && j == k then Some place else kept_scramble f s j old)

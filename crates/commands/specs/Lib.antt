@@ -1,13 +1,8 @@
 pub mod Accepted
 pub mod Codes
-pub mod Done
 pub mod Fields
 pub mod History
 pub mod Kept
-pub mod Lines
 pub mod Numerals
 pub mod Reading
-pub mod Rows
 pub mod Spelling
-pub mod TableKept
-pub mod Tables

@@ -3,11 +3,12 @@ use Rattle.std.specs.Prelude.{◌≡◌, ◌≤◌, ℕ, nat_lt, Bool, if◌then
 use Rattle.std.specs.List.{list_any}
 use Rattle.std.specs.Option.{ok_or}
 use Rattle.commands.specs.declared.command.Command.{Command}
-use Rattle.commands.specs.declared.command.Command.TheVariants.{Register, Open, Enter, Attempt}
+use Rattle.commands.specs.declared.command.Command.TheVariants.{Register, Open, Enter, Scramble, Attempt, Correct, Strike, SetAdvance, Close}
 use Rattle.commands.specs.declared.reading.CommandFault.{CommandFault}
 use Rattle.commands.specs.declared.reading.CommandFault.TheVariants as fault
-use Rattle.commands.specs.Spelling.{last_round, IsFit, spelling}
-use Rattle.commands.specs.Fields.{cut, number_between, name_of, event_of, format_of, cutoff_of, limit_of, advance_of, outcome_of}
+use Rattle.commands.specs.Spelling.{last_round, IsWithin, IsFit, spelling}
+use Rattle.formats.specs.Events.{event_named, format_named}
+use Rattle.commands.specs.Fields.{cut, number_between, name_of, cutoff_of, limit_of, advance_of, moves_of, entered_of, IsSolution}
 
 infixl 10 ◌>>=◌
 abbrev pub ◌>>=◌ : {A B : Type 0} → Result A CommandFault → (A → Result B CommandFault) → Result B CommandFault
@@ -48,9 +49,9 @@ register_of left = do
 
 unfoldable pub open_of : Option (List ℕ) → Result Command CommandFault
 open_of left = do
-  event ← field 1 event_of left
+  event ← field 1 event_named left
   round ← field 2 (number_between 1 last_round) event.1
-  form ← field 3 format_of round.1
+  form ← field 3 format_named round.1
   cutoff ← field 4 cutoff_of form.1
   limit ← field 5 limit_of cutoff.1
   advance ← field 6 advance_of limit.1
@@ -59,22 +60,64 @@ open_of left = do
 
 unfoldable pub enter_of : Option (List ℕ) → Result Command CommandFault
 enter_of left = do
-  event ← field 1 event_of left
+  event ← field 1 event_named left
   number ← field 2 (number_between 1 9999) event.1
   end ← no_field 3 number.1
   Ok (Enter event.0 number.0)
 
+unfoldable pub scramble_of : Option (List ℕ) → Result Command CommandFault
+scramble_of left = do
+  event ← field 1 event_named left
+  round ← field 2 (number_between 1 last_round) event.1
+  attempt ← field 3 (number_between 1 5) round.1
+  moves ← last_field 4 moves_of attempt.1
+  Ok (Scramble event.0 round.0 attempt.0 moves)
+
 unfoldable pub attempt_of : Option (List ℕ) → Result Command CommandFault
 attempt_of left = do
-  event ← field 1 event_of left
+  event ← field 1 event_named left
   round ← field 2 (number_between 1 last_round) event.1
   attempt ← field 3 (number_between 1 5) round.1
   number ← field 4 (number_between 1 9999) attempt.1
-  outcome ← last_field 5 outcome_of number.1
+  outcome ← last_field 5 entered_of number.1
   Ok (Attempt event.0 round.0 attempt.0 number.0 outcome)
 
+unfoldable pub correct_of : Option (List ℕ) → Result Command CommandFault
+correct_of left = do
+  event ← field 1 event_named left
+  round ← field 2 (number_between 1 last_round) event.1
+  attempt ← field 3 (number_between 1 5) round.1
+  number ← field 4 (number_between 1 9999) attempt.1
+  outcome ← last_field 5 entered_of number.1
+  Ok (Correct event.0 round.0 attempt.0 number.0 outcome)
+
+unfoldable pub strike_of : Option (List ℕ) → Result Command CommandFault
+strike_of left = do
+  event ← field 1 event_named left
+  round ← field 2 (number_between 1 last_round) event.1
+  number ← field 3 (number_between 1 9999) round.1
+  end ← no_field 4 number.1
+  Ok (Strike event.0 round.0 number.0)
+
+unfoldable pub set_advance_of : Option (List ℕ) → Result Command CommandFault
+set_advance_of left = do
+  event ← field 1 event_named left
+  round ← field 2 (number_between 1 last_round) event.1
+  advance ← field 3 advance_of round.1
+  end ← no_field 4 advance.1
+  Ok (SetAdvance event.0 round.0 advance.0)
+
+unfoldable pub close_of : Option (List ℕ) → Result Command CommandFault
+close_of left = do
+  event ← field 1 event_named left
+  round ← field 2 (number_between 1 last_round) event.1
+  end ← no_field 3 round.1
+  Ok (Close event.0 round.0)
+
 abbrev pub words : List (List ℕ)
-words = codes "REG" ∷ codes "OPEN" ∷ codes "ENT" ∷ codes "ATT" ∷ []
+words =
+    codes "REG" ∷ codes "OPEN" ∷ codes "ENT" ∷ codes "SCR" ∷ codes "ATT" ∷ codes "COR"
+    ∷ codes "STR" ∷ codes "ADV" ∷ codes "CLOSE" ∷ []
 
 abbrev pub is_word : List ℕ → Bool
 is_word bytes = list_any (λ word. bytes_eq bytes word) words
@@ -84,7 +127,12 @@ by_word text =
     if bytes_eq text.0 (codes "REG") then register_of text.1
     else if bytes_eq text.0 (codes "OPEN") then open_of text.1
     else if bytes_eq text.0 (codes "ENT") then enter_of text.1
+    else if bytes_eq text.0 (codes "SCR") then scramble_of text.1
     else if bytes_eq text.0 (codes "ATT") then attempt_of text.1
+    else if bytes_eq text.0 (codes "COR") then correct_of text.1
+    else if bytes_eq text.0 (codes "STR") then strike_of text.1
+    else if bytes_eq text.0 (codes "ADV") then set_advance_of text.1
+    else if bytes_eq text.0 (codes "CLOSE") then close_of text.1
     else Err fault.NotACommand
 
 -- the command that a text spells, or why it spells none
@@ -97,12 +145,16 @@ abbrev pub Reads : {X Y : Type 0} → (X → Y) → Result X CommandFault → Re
 Reads view (Ok x) said = said ≡ Ok (view x)
 Reads view (Err e) said = said ≡ Err e
 
--- a command for which memory is taken
+-- memory is taken for a name, and for moves: where these are misspelt, the fault is in field 4 or 5
 abbrev pub TakesMemory : Result Command CommandFault → Type 0
 TakesMemory (Ok (Register number name)) = Unit {0}
+TakesMemory (Ok (Scramble event round attempt moves)) = Unit {0}
+TakesMemory (Ok (Attempt event round attempt number outcome)) = IsSolution outcome
+TakesMemory (Ok (Correct event round attempt number outcome)) = IsSolution outcome
+TakesMemory (Err (fault.BadField index)) = IsWithin 4 5 index
 TakesMemory _ = ⊥
 
--- where memory runs out, that is said in place of a command for which it is taken
+-- where memory runs out, that is said in place of what it is taken for
 abbrev pub Gives : Result Command CommandFault → Result Command CommandFault → Type 0
 Gives (Ok c) said = said ≡ Ok c
 Gives (Err fault.NoMemory) said = TakesMemory said

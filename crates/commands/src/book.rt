@@ -1,21 +1,23 @@
 //! The accepted commands, with what is looked up of them.
 
-ghost use Rattle.std.specs.Prelude.{◌≡◌, IsTrue, ◌++◌, ◌∷◌, [], IfOk, OnOk, OnErr, option_map};
-ghost use Rattle.attempts.specs.Attempts.{IsOutcome};
-ghost use Rattle.commands.specs.Accepted.{name_of, round_of, refusal, is_cutoff, is_limit};
-ghost use Rattle.commands.specs.Spelling.{IsFit, IsFitCutoff};
-ghost use Rattle.commands.specs.Tables.{IsCutoff};
+ghost use Rattle.std.specs.Prelude.{◌≡◌, ◌≤◌, IsTrue, ◌++◌, ◌∷◌, [], List, IfOk, OnOk, OnErr, option_map};
+ghost use Rattle.cube.specs.declared.moves.Move.{Move};
+ghost use Rattle.commands.specs.Accepted.{name_of, scramble_of, round_of, refusal, is_cutoff, is_limit};
+ghost use Rattle.commands.specs.Spelling.{IsFit, IsEntered, IsFitCutoff};
+ghost use Rattle.rounds.specs.Tables.{IsCutoff};
 ghost use Rattle.commands.specs.History.{answer_of, added};
-ghost use Rattle.commands.specs.Kept.{IsIndexOf};
+ghost use Rattle.commands.specs.Kept.{IsIndexOf, scramble_at};
 ghost use Rattle.commands.specs.declared.command.Command.TheVariants as command;
 
 use crate::answer::{Answer, Code};
-use crate::command::{Command, Name, Settings};
+use crate::command::{Command, Entered, Name, Settings};
 use crate::competitors::Competitors;
 use crate::opened::Rounds;
-use crate::rounds::RoundTable;
-use attempts::{NoMemory, Outcome, Unit};
+use advancement::Advance;
+use attempts::{NoMemory, Unit};
+use cube::Move;
 use formats::{Event, Format, allowed, attempts_of, unit_of};
+use rounds::RoundTable;
 use std::alloc::Global;
 use std::marker::Model;
 
@@ -37,6 +39,29 @@ fn is_limit(unit: Unit, limit: Option<u32>) -> bool
     match unit {
         Unit::Time => limit.is_some(),
         Unit::Moves => limit.is_none(),
+    }
+}
+
+/// The scramble that the command at a place sets for an attempt.
+fn scramble_at(
+    accepted: &[Command],
+    event: Event,
+    round: u8,
+    attempt: u8,
+    place: usize,
+) -> Option<&[Move]>
+    ensures { option_map (λ moves. moves.now) result ≡ scramble_at accepted.now event round attempt place }
+{
+    match accepted.get(place)? {
+        Command::Scramble {
+            event: other,
+            round: number,
+            attempt: which,
+            moves,
+        } if event.number() == other.number() && round == *number && attempt == *which => {
+            Some(moves.as_slice())
+        }
+        _ => None,
     }
 }
 
@@ -84,6 +109,7 @@ impl Index {
     ) -> Result<Option<Code>, NoMemory>
         requires index { IsIndexOf accepted.now self.old }
         requires fit { IsFitCutoff settings.cutoff }
+        requires round { 1 ≤ round }
         ensures code { IfOk result (λ code. code ≡ refusal accepted.now (command.Open event round settings)) }
         ensures index { IfOk result (λ code. IsIndexOf (accepted.now ++ added code (command.Open event round settings)) self.new) }
         ensures err { OnErr result (IsIndexOf accepted.now self.new) }
@@ -91,7 +117,7 @@ impl Index {
         if self.rounds.is_open(event, round) {
             return Ok(Some(Code::RoundOpen));
         }
-        if round > 1 {
+        if round > 1 && !self.rounds.leads_on(event, round - 1) {
             return Ok(Some(Code::RoundUnknown));
         }
         if !allowed(event, settings.format) {
@@ -125,6 +151,40 @@ impl Index {
         self.rounds.enter(event, number)
     }
 
+    /// The scramble of an attempt, where it has one.
+    fn scramble_of<'a>(
+        &self,
+        accepted: &'a [Command],
+        event: Event,
+        round: u8,
+        attempt: u8,
+    ) -> Option<&'a [Move]>
+        requires index { IsIndexOf accepted.now self.now }
+        requires attempt { 1 ≤ attempt }
+        ensures { option_map (λ moves. moves.now) result ≡ scramble_of accepted.now event round attempt }
+    {
+        let place = self.rounds.scramble(event, round, attempt)?;
+        scramble_at(accepted, event, round, attempt, place)
+    }
+
+    /// Sets the scramble of an attempt, or says why not. The command that sets it will stand behind the accepted ones.
+    fn scramble(
+        &mut self,
+        accepted: &[Command],
+        event: Event,
+        round: u8,
+        attempt: u8,
+    ) -> Option<Code>
+        requires index { IsIndexOf accepted.now self.old }
+        requires attempt { 1 ≤ attempt }
+        ensures code { (moves : List Move) → result ≡ refusal accepted.now (command.Scramble event round attempt moves) }
+        ensures index { (moves : List Move) → IsIndexOf (accepted.now ++ added result (command.Scramble event round attempt moves)) self.new }
+    {
+        let there = self.scramble_of(accepted, event, round, attempt);
+        self.rounds
+            .add_scramble(event, round, attempt, there, accepted.len())
+    }
+
     /// Adds an attempt, or says why not.
     fn attempt(
         &mut self,
@@ -133,17 +193,81 @@ impl Index {
         round: u8,
         attempt: u8,
         number: u16,
-        outcome: Outcome,
+        entered: &Entered,
     ) -> Option<Code>
         requires index { IsIndexOf accepted.now self.old }
-        requires outcome { IsOutcome outcome }
-        ensures code { result ≡ refusal accepted.now (command.Attempt event round attempt number outcome) }
-        ensures index { IsIndexOf (accepted.now ++ added result (command.Attempt event round attempt number outcome)) self.new }
+        requires attempt { 1 ≤ attempt }
+        requires entered { IsEntered entered.now }
+        ensures code { result ≡ refusal accepted.now (command.Attempt event round attempt number entered.now) }
+        ensures index { IsIndexOf (accepted.now ++ added result (command.Attempt event round attempt number entered.now)) self.new }
     {
         if !self.competitors.is_registered(accepted, number) {
             return Some(Code::UnknownCompetitor);
         }
-        self.rounds.put(event, round, attempt, number, outcome)
+        let scramble = self.scramble_of(accepted, event, round, attempt);
+        self.rounds
+            .put(event, round, attempt, number, entered, scramble)
+    }
+
+    /// Replaces an attempt, or says why not.
+    fn correct(
+        &mut self,
+        accepted: &[Command],
+        event: Event,
+        round: u8,
+        attempt: u8,
+        number: u16,
+        entered: &Entered,
+    ) -> Option<Code>
+        requires index { IsIndexOf accepted.now self.old }
+        requires attempt { 1 ≤ attempt }
+        requires entered { IsEntered entered.now }
+        ensures code { result ≡ refusal accepted.now (command.Correct event round attempt number entered.now) }
+        ensures index { IsIndexOf (accepted.now ++ added result (command.Correct event round attempt number entered.now)) self.new }
+    {
+        if !self.competitors.is_registered(accepted, number) {
+            return Some(Code::UnknownCompetitor);
+        }
+        let scramble = self.scramble_of(accepted, event, round, attempt);
+        self.rounds
+            .correct(event, round, attempt, number, entered, scramble)
+    }
+
+    /// Removes a last attempt, or says why not.
+    fn strike(&mut self, accepted: &[Command], event: Event, round: u8, number: u16) -> Option<Code>
+        requires { IsIndexOf accepted.now self.old }
+        ensures code { result ≡ refusal accepted.now (command.Strike event round number) }
+        ensures index { IsIndexOf (accepted.now ++ added result (command.Strike event round number)) self.new }
+    {
+        if !self.competitors.is_registered(accepted, number) {
+            return Some(Code::UnknownCompetitor);
+        }
+        self.rounds.strike(event, round, number)
+    }
+
+    /// Changes who advances from a round, or says why not.
+    fn set_advance(
+        &mut self,
+        accepted: &[Command],
+        event: Event,
+        round: u8,
+        advance: Advance,
+    ) -> Option<Code>
+        requires { IsIndexOf accepted.now self.old }
+        ensures code { result ≡ refusal accepted.now (command.SetAdvance event round advance) }
+        ensures index { IsIndexOf (accepted.now ++ added result (command.SetAdvance event round advance)) self.new }
+    {
+        self.rounds.set_advance(event, round, advance)
+    }
+
+    /// Closes a round, or says why not.
+    fn close(&mut self, accepted: &[Command], event: Event, round: u8) -> Option<Code>
+        requires index { IsIndexOf accepted.now self.old }
+        requires round { round ≤ 4 }
+        ensures code { result ≡ refusal accepted.now (command.Close event round) }
+        ensures index { IsIndexOf (accepted.now ++ added result (command.Close event round)) self.new }
+    {
+        self.rounds.close(event, round)
     }
 
     /// Does a command that will stand behind the accepted ones, or says why not.
@@ -167,13 +291,37 @@ impl Index {
                 settings,
             } => self.open(alloc, accepted, *event, *round, *settings),
             Command::Enter { event, number } => self.enter(accepted, *event, *number),
+            Command::Scramble {
+                event,
+                round,
+                attempt,
+                ..
+            } => Ok(self.scramble(accepted, *event, *round, *attempt)),
             Command::Attempt {
                 event,
                 round,
                 attempt,
                 number,
                 outcome,
-            } => Ok(self.attempt(accepted, *event, *round, *attempt, *number, *outcome)),
+            } => Ok(self.attempt(accepted, *event, *round, *attempt, *number, outcome)),
+            Command::Correct {
+                event,
+                round,
+                attempt,
+                number,
+                outcome,
+            } => Ok(self.correct(accepted, *event, *round, *attempt, *number, outcome)),
+            Command::Strike {
+                event,
+                round,
+                number,
+            } => Ok(self.strike(accepted, *event, *round, *number)),
+            Command::SetAdvance {
+                event,
+                round,
+                advance,
+            } => Ok(self.set_advance(accepted, *event, *round, *advance)),
+            Command::Close { event, round } => Ok(self.close(accepted, *event, *round)),
         }
     }
 }

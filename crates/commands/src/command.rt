@@ -2,9 +2,9 @@
 
 ghost use Rattle.std.specs.Prelude.{◌≡◌};
 
-use crate::advancement::Advance;
-use attempts::Outcome;
+use advancement::Advance;
 use formats::{Event, Format};
+use notation::Moves;
 use std::marker::Model;
 
 /// A competitor's name, as bytes of text.
@@ -58,7 +58,20 @@ pub struct Settings {
     pub advance: Advance,
 }
 
-/// What a text of the list asks for. Competitors' numbers are 1 to 9,999.
+/// What a judge enters for an attempt.
+#[derive(Drop)]
+pub enum Entered {
+    /// `T:`: a measured time of 1 to 999,999 hundredths of a second, and 0 to 9 penalties.
+    Time { hundredths: u32, penalties: u8 },
+    /// `S:`: a solution of 1 to 400 moves, for the scramble of its attempt.
+    Solution { moves: Moves },
+    /// `DNF`: did not finish.
+    Dnf,
+    /// `DNS`: did not start.
+    Dns,
+}
+
+/// What a text of the list asks for. Competitors' numbers are 1 to 9,999, rounds 1 to 4, attempts 1 to 5.
 #[derive(Drop)]
 pub enum Command {
     /// `REG`: gives a competitor a number and a name.
@@ -77,12 +90,44 @@ pub enum Command {
         event: Event,
         number: u16,
     },
-    /// `ATT`: what a competitor did in an attempt (1 to 5) of a round.
+    /// `SCR`: sets the scramble of an attempt of a round, 1 to 400 moves.
+    Scramble {
+        event: Event,
+        round: u8,
+        attempt: u8,
+        moves: Moves,
+    },
+    /// `ATT`: what a competitor did in the next attempt of a round.
     Attempt {
         event: Event,
         round: u8,
         attempt: u8,
         number: u16,
-        outcome: Outcome,
+        outcome: Entered,
+    },
+    /// `COR`: what a competitor did in an attempt of a round, in place of what was entered for it before.
+    Correct {
+        event: Event,
+        round: u8,
+        attempt: u8,
+        number: u16,
+        outcome: Entered,
+    },
+    /// `STR`: strikes out a competitor's last attempt of a round.
+    Strike {
+        event: Event,
+        round: u8,
+        number: u16,
+    },
+    /// `ADV`: changes who advances from a round.
+    SetAdvance {
+        event: Event,
+        round: u8,
+        advance: Advance,
+    },
+    /// `CLOSE`: closes a round.
+    Close {
+        event: Event,
+        round: u8,
     },
 }

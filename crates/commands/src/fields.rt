@@ -1,20 +1,20 @@
 //! The fields of commands, each from its bytes.
 
-ghost use Rattle.std.specs.Prelude.{◌≡◌, ◌≤◌, ◌==◌, ◌<◌, length, option_map, IfSome, position, true};
+ghost use Rattle.std.specs.Prelude.{◌≡◌, ◌≤◌, ◌==◌, ◌<◌, length, option_map, IfOk, IfSome, OnErr, position, true};
 ghost use Rattle.std.specs.List.{list_all};
 ghost use Rattle.std.specs.Str.{is_utf8};
-ghost use Rattle.attempts.specs.Attempts.{IsOutcome};
 ghost use Rattle.commands.specs.Spelling.{is_name, is_name_byte, has_single_spaces};
 ghost use Rattle.std.specs.Char.{is_ascii_digit};
 ghost use Rattle.commands.specs.Numerals.{is_numeral, digits_value};
-ghost use Rattle.commands.specs.Fields.{cut, number_between, event_of, format_of, cutoff_of, limit_of, advance_of, time_of, outcome_of};
+ghost use Rattle.commands.specs.Fields.{cut, number_between, cutoff_of, two_numbers, limit_of, percent_of, advance_of, moves_of, time_of, entered_of, MayBeSolution};
 
-use crate::advancement::Advance;
-use attempts::Outcome;
-use formats::{Event, Format};
+use crate::command::Entered;
+use advancement::Advance;
+use notation::{Moves, NoMemory, ReadFault, printed_is_spelled};
+use std::alloc::Global;
 
 /// The last round that commands name.
-pub const LAST_ROUND: u32 = 1;
+pub const LAST_ROUND: u32 = 4;
 
 fn place_of(bytes: &[u8], by: u8) -> Option<usize>
     ensures value { result ≡ position (λ b. b == by) bytes.now }
@@ -115,34 +115,28 @@ pub fn is_name(bytes: &[u8]) -> bool
         && has_single_spaces(bytes)
 }
 
-/// The event of a name, where commands may name it.
-pub fn event_of(bytes: &[u8]) -> Option<Event>
-    ensures { result ≡ event_of bytes.now }
+/// After how many attempts (1 to 4), and below what (1 to 360,000).
+#[tactic(auto, unfolding(crate::specs::Fields::cut))]
+fn below_of(bytes: &[u8]) -> Option<(u8, u32)>
+    ensures { result ≡ two_numbers (number_between 1 4) (number_between 1 360000) (cut 58 bytes.now) }
 {
-    match Event::from_name(bytes) {
-        Some(Event::Cube3) => Some(Event::Cube3),
-        _ => None,
-    }
+    let (attempts, left) = cut(bytes, b':');
+    let attempts = number_between(1, 4, attempts)?;
+    let below = number_between(1, 360_000, left?)?;
+    Some((attempts as u8, below))
 }
 
-/// The format of a name, where commands may name it.
-pub fn format_of(bytes: &[u8]) -> Option<Format>
-    ensures { result ≡ format_of bytes.now }
-{
-    match Format::from_name(bytes) {
-        Some(Format::Ao5) => Some(Format::Ao5),
-        _ => None,
-    }
-}
-
-/// A cutoff.
+/// A cutoff, or none.
 pub fn cutoff_of(bytes: &[u8]) -> Option<Option<(u8, u32)>>
     ensures { result ≡ cutoff_of bytes.now }
 {
     if bytes == b"-".as_slice() {
         Some(None)
     } else {
-        None
+        match below_of(bytes) {
+            Some(cutoff) => Some(Some(cutoff)),
+            None => None,
+        }
     }
 }
 
@@ -160,45 +154,80 @@ pub fn limit_of(bytes: &[u8]) -> Option<Option<u32>>
     }
 }
 
+/// A percentage of those who started.
+fn percent_of(bytes: &[u8]) -> Option<Advance>
+    ensures { result ≡ percent_of bytes.now }
+{
+    if bytes.len() >= 4 && &bytes[..4] == b"pct:".as_slice() {
+        let percent = number_between(1, 75, &bytes[4..])?;
+        Some(Advance::Percent(percent as u8))
+    } else {
+        None
+    }
+}
+
 /// Who advances.
 pub fn advance_of(bytes: &[u8]) -> Option<Advance>
     ensures { result ≡ advance_of bytes.now }
 {
     if bytes == b"final".as_slice() {
         Some(Advance::Final)
+    } else if bytes.len() >= 4 && &bytes[..4] == b"top:".as_slice() {
+        let number = number_between(1, 999, &bytes[4..])?;
+        Some(Advance::Top(number as u16))
     } else {
-        None
+        percent_of(bytes)
+    }
+}
+
+/// Moves in notation, with exactly one space between tokens.
+pub fn moves_of(alloc: Global, bytes: &[u8]) -> Result<Option<Moves>, NoMemory>
+    ensures { IfOk result (λ moves. moves ≡ moves_of bytes.now) }
+{
+    printed_is_spelled();
+    if has_single_spaces(bytes) {
+        match notation::read(alloc, bytes) {
+            Ok(moves) => Ok(Some(moves)),
+            Err(fault) => match fault {
+                ReadFault::NoMemory => Err(NoMemory),
+                _ => Ok(None),
+            },
+        }
+    } else {
+        Ok(None)
     }
 }
 
 /// A time and its penalties.
 #[tactic(auto, unfolding(crate::specs::Fields::cut))]
-fn time_of(bytes: &[u8]) -> Option<Outcome>
-    ensures value { result ≡ time_of (cut 58 bytes.now) }
-    ensures fit { IfSome result IsOutcome }
+fn time_of(bytes: &[u8]) -> Option<Entered>
+    ensures { result ≡ time_of (cut 58 bytes.now) }
 {
     let (time, left) = cut(bytes, b':');
     let hundredths = number_between(1, 999_999, time)?;
     let penalties = number_between(0, 9, left?)?;
-    Some(Outcome::Time {
+    Some(Entered::Time {
         hundredths,
         penalties: penalties as u8,
     })
 }
 
-/// A time, or no result.
-#[tactic(auto, unfolding(crate::specs::Fields::outcome_of))]
-pub fn outcome_of(bytes: &[u8]) -> Option<Outcome>
-    ensures value { result ≡ outcome_of bytes.now }
-    ensures fit { IfSome result IsOutcome }
+/// What a judge enters: a time, a solution, or no result.
+#[tactic(auto, unfolding(crate::specs::Fields::entered_of))]
+pub fn entered_of(alloc: Global, bytes: &[u8]) -> Result<Option<Entered>, NoMemory>
+    ensures value { IfOk result (λ outcome. outcome ≡ entered_of bytes.now) }
+    ensures memory { OnErr result (MayBeSolution (entered_of bytes.now)) }
 {
     if bytes == b"DNF".as_slice() {
-        Some(Outcome::Dnf)
+        Ok(Some(Entered::Dnf))
     } else if bytes == b"DNS".as_slice() {
-        Some(Outcome::Dns)
+        Ok(Some(Entered::Dns))
     } else if bytes.len() >= 2 && &bytes[..2] == b"T:".as_slice() {
-        time_of(&bytes[2..])
+        Ok(time_of(&bytes[2..]))
+    } else if bytes.len() >= 2 && &bytes[..2] == b"S:".as_slice() {
+        let moves = moves_of(alloc, &bytes[2..])?;
+        Ok(moves.map(|moves| Entered::Solution { moves }))
     } else {
-        None
+        Ok(None)
     }
 }

@@ -9,10 +9,10 @@ use crate::answer::{Answer, Code};
 use crate::book::Book;
 use crate::command::Settings;
 use crate::reading::{CommandFault, read};
-use crate::rounds::RoundTable;
 use attempts::NoMemory;
 use formats::Event;
 use indexmap::IndexSet;
+use rounds::RoundTable;
 use std::alloc::{AllocError, Global};
 use std::marker::Model;
 

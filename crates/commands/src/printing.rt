@@ -2,12 +2,15 @@
 
 ghost use Rattle.std.specs.Prelude.{◌≡◌, ◌++◌, IfOk, OnOk, codes, decimal};
 ghost use Rattle.formats.specs.Events.{event_name, format_name};
-ghost use Rattle.commands.specs.Spelling.{cutoff_text, limit_text, advance_text, outcome_text, spelling};
-ghost use Rattle.commands.specs.declared.command.Command.TheVariants.{Register as RegisterOf, Open as OpenOf, Enter as EnterOf, Attempt as AttemptOf};
+ghost use Rattle.notation.specs.Notation.{spelling as moves_text};
+ghost use Rattle.commands.specs.Spelling.{cutoff_text, limit_text, advance_text, entered_text, spelling};
+ghost use Rattle.commands.specs.declared.command.Command.TheVariants.{Register as RegisterOf, Open as OpenOf, Enter as EnterOf, Scramble as ScrambleOf, Attempt as AttemptOf, Correct as CorrectOf, Strike as StrikeOf, SetAdvance as SetAdvanceOf, Close as CloseOf};
+ghost use Rattle.commands.specs.declared.command.Entered.TheVariants.{Time as TimeOf, Solution as SolutionOf};
 
-use crate::advancement::Advance;
-use crate::command::{Command, Settings};
-use attempts::{NoMemory, Outcome, push_decimal};
+use crate::command::{Command, Entered, Settings};
+use advancement::Advance;
+use attempts::{NoMemory, push_decimal};
+use cube::Move;
 use formats::Event;
 use std::alloc::Global;
 
@@ -38,6 +41,14 @@ fn push_advance(out: &mut Vec<u8>, advance: Advance) -> Result<(), NoMemory>
 {
     match advance {
         Advance::Final => out.extend_from_slice(b"final"),
+        Advance::Top(number) => {
+            out.extend_from_slice(b"top:")?;
+            push_decimal(out, u32::from(number))
+        }
+        Advance::Percent(percent) => {
+            out.extend_from_slice(b"pct:")?;
+            push_decimal(out, u32::from(percent))
+        }
     }
 }
 
@@ -69,21 +80,40 @@ pub fn print_advance(alloc: Global, advance: Advance) -> Result<Vec<u8>, NoMemor
     Ok(text)
 }
 
-fn push_outcome(out: &mut Vec<u8>, outcome: Outcome) -> Result<(), NoMemory>
-    ensures { OnOk result (out.new.items ≡ out.old.items ++ outcome_text outcome) }
+fn push_moves(alloc: Global, out: &mut Vec<u8>, moves: &[Move]) -> Result<(), NoMemory>
+    ensures { OnOk result (out.new.items ≡ out.old.items ++ moves_text moves.now) }
+{
+    let text = notation::print(alloc, moves)?;
+    out.extend_from_slice(&text)
+}
+
+fn push_time(out: &mut Vec<u8>, hundredths: u32, penalties: u8) -> Result<(), NoMemory>
+    ensures { OnOk result (out.new.items ≡ out.old.items ++ entered_text (TimeOf hundredths penalties)) }
+{
+    out.extend_from_slice(b"T:")?;
+    push_decimal(out, hundredths)?;
+    out.extend_from_slice(b":")?;
+    push_decimal(out, u32::from(penalties))
+}
+
+fn push_solution(alloc: Global, out: &mut Vec<u8>, moves: &[Move]) -> Result<(), NoMemory>
+    ensures { OnOk result (out.new.items ≡ out.old.items ++ entered_text (SolutionOf moves.now)) }
+{
+    out.extend_from_slice(b"S:")?;
+    push_moves(alloc, out, moves)
+}
+
+fn push_entered(alloc: Global, out: &mut Vec<u8>, outcome: &Entered) -> Result<(), NoMemory>
+    ensures { OnOk result (out.new.items ≡ out.old.items ++ entered_text outcome.now) }
 {
     match outcome {
-        Outcome::Time {
+        Entered::Time {
             hundredths,
             penalties,
-        } => {
-            out.extend_from_slice(b"T:")?;
-            push_decimal(out, hundredths)?;
-            out.extend_from_slice(b":")?;
-            push_decimal(out, u32::from(penalties))
-        }
-        Outcome::Dnf => out.extend_from_slice(b"DNF"),
-        Outcome::Dns => out.extend_from_slice(b"DNS"),
+        } => push_time(out, *hundredths, *penalties),
+        Entered::Solution { moves } => push_solution(alloc, out, moves.as_slice()),
+        Entered::Dnf => out.extend_from_slice(b"DNF"),
+        Entered::Dns => out.extend_from_slice(b"DNS"),
     }
 }
 
@@ -144,22 +174,99 @@ fn push_enter(out: &mut Vec<u8>, event: Event, number: u16) -> Result<(), NoMemo
     push_number(out, u32::from(number))
 }
 
-fn push_attempt(
+fn push_scramble(
+    alloc: Global,
+    out: &mut Vec<u8>,
+    event: Event,
+    round: u8,
+    attempt: u8,
+    moves: &[Move],
+) -> Result<(), NoMemory>
+    ensures { OnOk result (out.new.items ≡ out.old.items ++ spelling (ScrambleOf event round attempt moves.now)) }
+{
+    out.extend_from_slice(b"SCR")?;
+    push_round(out, event, round)?;
+    push_number(out, u32::from(attempt))?;
+    out.extend_from_slice(b" ")?;
+    push_moves(alloc, out, moves)
+}
+
+/// The fields of an attempt.
+fn push_done(
+    alloc: Global,
     out: &mut Vec<u8>,
     event: Event,
     round: u8,
     attempt: u8,
     number: u16,
-    outcome: Outcome,
+    outcome: &Entered,
 ) -> Result<(), NoMemory>
-    ensures { OnOk result (out.new.items ≡ out.old.items ++ spelling (AttemptOf event round attempt number outcome)) }
+    ensures { OnOk result (out.new.items ≡ out.old.items ++ codes " " ++ event_name event ++ codes " " ++ decimal round ++ codes " " ++ decimal attempt ++ codes " " ++ decimal number ++ codes " " ++ entered_text outcome.now) }
 {
-    out.extend_from_slice(b"ATT")?;
     push_round(out, event, round)?;
     push_number(out, u32::from(attempt))?;
     push_number(out, u32::from(number))?;
     out.extend_from_slice(b" ")?;
-    push_outcome(out, outcome)
+    push_entered(alloc, out, outcome)
+}
+
+fn push_attempt(
+    alloc: Global,
+    out: &mut Vec<u8>,
+    event: Event,
+    round: u8,
+    attempt: u8,
+    number: u16,
+    outcome: &Entered,
+) -> Result<(), NoMemory>
+    ensures { OnOk result (out.new.items ≡ out.old.items ++ spelling (AttemptOf event round attempt number outcome.now)) }
+{
+    out.extend_from_slice(b"ATT")?;
+    push_done(alloc, out, event, round, attempt, number, outcome)
+}
+
+fn push_correct(
+    alloc: Global,
+    out: &mut Vec<u8>,
+    event: Event,
+    round: u8,
+    attempt: u8,
+    number: u16,
+    outcome: &Entered,
+) -> Result<(), NoMemory>
+    ensures { OnOk result (out.new.items ≡ out.old.items ++ spelling (CorrectOf event round attempt number outcome.now)) }
+{
+    out.extend_from_slice(b"COR")?;
+    push_done(alloc, out, event, round, attempt, number, outcome)
+}
+
+fn push_strike(out: &mut Vec<u8>, event: Event, round: u8, number: u16) -> Result<(), NoMemory>
+    ensures { OnOk result (out.new.items ≡ out.old.items ++ spelling (StrikeOf event round number)) }
+{
+    out.extend_from_slice(b"STR")?;
+    push_round(out, event, round)?;
+    push_number(out, u32::from(number))
+}
+
+fn push_set_advance(
+    out: &mut Vec<u8>,
+    event: Event,
+    round: u8,
+    advance: Advance,
+) -> Result<(), NoMemory>
+    ensures { OnOk result (out.new.items ≡ out.old.items ++ spelling (SetAdvanceOf event round advance)) }
+{
+    out.extend_from_slice(b"ADV")?;
+    push_round(out, event, round)?;
+    out.extend_from_slice(b" ")?;
+    push_advance(out, advance)
+}
+
+fn push_close(out: &mut Vec<u8>, event: Event, round: u8) -> Result<(), NoMemory>
+    ensures { OnOk result (out.new.items ≡ out.old.items ++ spelling (CloseOf event round)) }
+{
+    out.extend_from_slice(b"CLOSE")?;
+    push_round(out, event, round)
 }
 
 /// The spelling of a command. It is one that `read` takes where the fields are in their ranges.
@@ -175,13 +282,37 @@ pub fn print(alloc: Global, command: &Command) -> Result<Vec<u8>, NoMemory>
             settings,
         } => push_open(&mut out, *event, *round, *settings)?,
         Command::Enter { event, number } => push_enter(&mut out, *event, *number)?,
+        Command::Scramble {
+            event,
+            round,
+            attempt,
+            moves,
+        } => push_scramble(alloc, &mut out, *event, *round, *attempt, moves.as_slice())?,
         Command::Attempt {
             event,
             round,
             attempt,
             number,
             outcome,
-        } => push_attempt(&mut out, *event, *round, *attempt, *number, *outcome)?,
+        } => push_attempt(alloc, &mut out, *event, *round, *attempt, *number, outcome)?,
+        Command::Correct {
+            event,
+            round,
+            attempt,
+            number,
+            outcome,
+        } => push_correct(alloc, &mut out, *event, *round, *attempt, *number, outcome)?,
+        Command::Strike {
+            event,
+            round,
+            number,
+        } => push_strike(&mut out, *event, *round, *number)?,
+        Command::SetAdvance {
+            event,
+            round,
+            advance,
+        } => push_set_advance(&mut out, *event, *round, *advance)?,
+        Command::Close { event, round } => push_close(&mut out, *event, *round)?,
     }
     Ok(out)
 }

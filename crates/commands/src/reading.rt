@@ -3,14 +3,14 @@
 ghost use Rattle.std.specs.Prelude.{◌≡◌, ◌<◌, ◌≤◌, ◌↔◌, false, nat_lt, length, option_map, ok_or, Option, Some, None, IfOk};
 ghost use Rattle.commands.specs.Spelling.{IsFit, spelling};
 ghost use Rattle.commands.specs.Fields.{cut};
-ghost use Rattle.commands.specs.Reading.{Gives, is_word, Reads, ReadsAs, front, no_field, register_of, open_of, enter_of, attempt_of, by_word, command_of, ReadsWhatIsSpelled, SpellsWhatIsRead, SpellsOneCommand, SpellsShort};
+ghost use Rattle.commands.specs.Reading.{Gives, is_word, Reads, ReadsAs, front, no_field, register_of, open_of, enter_of, scramble_of, attempt_of, correct_of, strike_of, set_advance_of, close_of, by_word, command_of, ReadsWhatIsSpelled, SpellsWhatIsRead, SpellsOneCommand, SpellsShort};
 ghost use Rattle.commands.specs.declared.reading.CommandFault.TheVariants.{NoMemory as OutOfMemory, BadField as BadFieldAt};
 
 use crate::command::{Command, Name, Settings};
 use crate::fields::{
-    LAST_ROUND, advance_of, cut, cutoff_of, event_of, format_of, is_name, limit_of, number_between,
-    outcome_of,
+    LAST_ROUND, advance_of, cut, cutoff_of, entered_of, is_name, limit_of, moves_of, number_between,
 };
+use formats::{Event, Format};
 use std::alloc::{AllocError, Global};
 
 /// Why a text is no command.
@@ -88,11 +88,11 @@ fn open_of(left: Option<&[u8]>) -> Result<Command, CommandFault>
     ensures { Gives result (open_of (option_map (λ s. s.now) left.entry)) }
 {
     let (bytes, left) = field(1, left)?;
-    let event = event_of(bytes).ok_or(CommandFault::BadField { index: 1 })?;
+    let event = Event::from_name(bytes).ok_or(CommandFault::BadField { index: 1 })?;
     let (bytes, left) = field(2, left)?;
     let round = number_between(1, LAST_ROUND, bytes).ok_or(CommandFault::BadField { index: 2 })?;
     let (bytes, left) = field(3, left)?;
-    let format = format_of(bytes).ok_or(CommandFault::BadField { index: 3 })?;
+    let format = Format::from_name(bytes).ok_or(CommandFault::BadField { index: 3 })?;
     let (bytes, left) = field(4, left)?;
     let cutoff = cutoff_of(bytes).ok_or(CommandFault::BadField { index: 4 })?;
     let (bytes, left) = field(5, left)?;
@@ -118,7 +118,7 @@ fn enter_of(left: Option<&[u8]>) -> Result<Command, CommandFault>
     ensures { Gives result (enter_of (option_map (λ s. s.now) left.entry)) }
 {
     let (bytes, left) = field(1, left)?;
-    let event = event_of(bytes).ok_or(CommandFault::BadField { index: 1 })?;
+    let event = Event::from_name(bytes).ok_or(CommandFault::BadField { index: 1 })?;
     let (bytes, left) = field(2, left)?;
     let number = number_between(1, 9999, bytes).ok_or(CommandFault::BadField { index: 2 })?;
     no_field(3, left)?;
@@ -128,13 +128,34 @@ fn enter_of(left: Option<&[u8]>) -> Result<Command, CommandFault>
     })
 }
 
+/// `SCR`: event, round, attempt, moves.
+#[tactic(auto, unfolding(crate::specs::Reading::scramble_of))]
+fn scramble_of(alloc: Global, left: Option<&[u8]>) -> Result<Command, CommandFault>
+    ensures { Gives result (scramble_of (option_map (λ s. s.now) left.entry)) }
+{
+    let (bytes, left) = field(1, left)?;
+    let event = Event::from_name(bytes).ok_or(CommandFault::BadField { index: 1 })?;
+    let (bytes, left) = field(2, left)?;
+    let round = number_between(1, LAST_ROUND, bytes).ok_or(CommandFault::BadField { index: 2 })?;
+    let (bytes, left) = field(3, left)?;
+    let attempt = number_between(1, 5, bytes).ok_or(CommandFault::BadField { index: 3 })?;
+    let bytes = last_field(4, left)?;
+    let moves = moves_of(alloc, bytes)?.ok_or(CommandFault::BadField { index: 4 })?;
+    Ok(Command::Scramble {
+        event,
+        round: round as u8,
+        attempt: attempt as u8,
+        moves,
+    })
+}
+
 /// `ATT`: event, round, attempt, number, outcome.
 #[tactic(auto, unfolding(crate::specs::Reading::attempt_of))]
-fn attempt_of(left: Option<&[u8]>) -> Result<Command, CommandFault>
+fn attempt_of(alloc: Global, left: Option<&[u8]>) -> Result<Command, CommandFault>
     ensures { Gives result (attempt_of (option_map (λ s. s.now) left.entry)) }
 {
     let (bytes, left) = field(1, left)?;
-    let event = event_of(bytes).ok_or(CommandFault::BadField { index: 1 })?;
+    let event = Event::from_name(bytes).ok_or(CommandFault::BadField { index: 1 })?;
     let (bytes, left) = field(2, left)?;
     let round = number_between(1, LAST_ROUND, bytes).ok_or(CommandFault::BadField { index: 2 })?;
     let (bytes, left) = field(3, left)?;
@@ -142,13 +163,91 @@ fn attempt_of(left: Option<&[u8]>) -> Result<Command, CommandFault>
     let (bytes, left) = field(4, left)?;
     let number = number_between(1, 9999, bytes).ok_or(CommandFault::BadField { index: 4 })?;
     let bytes = last_field(5, left)?;
-    let outcome = outcome_of(bytes).ok_or(CommandFault::BadField { index: 5 })?;
+    let outcome = entered_of(alloc, bytes)?.ok_or(CommandFault::BadField { index: 5 })?;
     Ok(Command::Attempt {
         event,
         round: round as u8,
         attempt: attempt as u8,
         number: number as u16,
         outcome,
+    })
+}
+
+/// `COR`: event, round, attempt, number, outcome.
+#[tactic(auto, unfolding(crate::specs::Reading::correct_of))]
+fn correct_of(alloc: Global, left: Option<&[u8]>) -> Result<Command, CommandFault>
+    ensures { Gives result (correct_of (option_map (λ s. s.now) left.entry)) }
+{
+    let (bytes, left) = field(1, left)?;
+    let event = Event::from_name(bytes).ok_or(CommandFault::BadField { index: 1 })?;
+    let (bytes, left) = field(2, left)?;
+    let round = number_between(1, LAST_ROUND, bytes).ok_or(CommandFault::BadField { index: 2 })?;
+    let (bytes, left) = field(3, left)?;
+    let attempt = number_between(1, 5, bytes).ok_or(CommandFault::BadField { index: 3 })?;
+    let (bytes, left) = field(4, left)?;
+    let number = number_between(1, 9999, bytes).ok_or(CommandFault::BadField { index: 4 })?;
+    let bytes = last_field(5, left)?;
+    let outcome = entered_of(alloc, bytes)?.ok_or(CommandFault::BadField { index: 5 })?;
+    Ok(Command::Correct {
+        event,
+        round: round as u8,
+        attempt: attempt as u8,
+        number: number as u16,
+        outcome,
+    })
+}
+
+/// `STR`: event, round, number.
+#[tactic(auto, unfolding(crate::specs::Reading::strike_of))]
+fn strike_of(left: Option<&[u8]>) -> Result<Command, CommandFault>
+    ensures { Gives result (strike_of (option_map (λ s. s.now) left.entry)) }
+{
+    let (bytes, left) = field(1, left)?;
+    let event = Event::from_name(bytes).ok_or(CommandFault::BadField { index: 1 })?;
+    let (bytes, left) = field(2, left)?;
+    let round = number_between(1, LAST_ROUND, bytes).ok_or(CommandFault::BadField { index: 2 })?;
+    let (bytes, left) = field(3, left)?;
+    let number = number_between(1, 9999, bytes).ok_or(CommandFault::BadField { index: 3 })?;
+    no_field(4, left)?;
+    Ok(Command::Strike {
+        event,
+        round: round as u8,
+        number: number as u16,
+    })
+}
+
+/// `ADV`: event, round, advance.
+#[tactic(auto, unfolding(crate::specs::Reading::set_advance_of))]
+fn set_advance_of(left: Option<&[u8]>) -> Result<Command, CommandFault>
+    ensures { Gives result (set_advance_of (option_map (λ s. s.now) left.entry)) }
+{
+    let (bytes, left) = field(1, left)?;
+    let event = Event::from_name(bytes).ok_or(CommandFault::BadField { index: 1 })?;
+    let (bytes, left) = field(2, left)?;
+    let round = number_between(1, LAST_ROUND, bytes).ok_or(CommandFault::BadField { index: 2 })?;
+    let (bytes, left) = field(3, left)?;
+    let advance = advance_of(bytes).ok_or(CommandFault::BadField { index: 3 })?;
+    no_field(4, left)?;
+    Ok(Command::SetAdvance {
+        event,
+        round: round as u8,
+        advance,
+    })
+}
+
+/// `CLOSE`: event, round.
+#[tactic(auto, unfolding(crate::specs::Reading::close_of))]
+fn close_of(left: Option<&[u8]>) -> Result<Command, CommandFault>
+    ensures { Gives result (close_of (option_map (λ s. s.now) left.entry)) }
+{
+    let (bytes, left) = field(1, left)?;
+    let event = Event::from_name(bytes).ok_or(CommandFault::BadField { index: 1 })?;
+    let (bytes, left) = field(2, left)?;
+    let round = number_between(1, LAST_ROUND, bytes).ok_or(CommandFault::BadField { index: 2 })?;
+    no_field(3, left)?;
+    Ok(Command::Close {
+        event,
+        round: round as u8,
     })
 }
 
@@ -162,8 +261,18 @@ fn command_of_word(alloc: Global, word: &[u8], left: Option<&[u8]>) -> Result<Co
         open_of(left)
     } else if word == b"ENT".as_slice() {
         enter_of(left)
+    } else if word == b"SCR".as_slice() {
+        scramble_of(alloc, left)
     } else if word == b"ATT".as_slice() {
-        attempt_of(left)
+        attempt_of(alloc, left)
+    } else if word == b"COR".as_slice() {
+        correct_of(alloc, left)
+    } else if word == b"STR".as_slice() {
+        strike_of(left)
+    } else if word == b"ADV".as_slice() {
+        set_advance_of(left)
+    } else if word == b"CLOSE".as_slice() {
+        close_of(left)
     } else {
         Err(CommandFault::NotACommand)
     }
@@ -177,7 +286,7 @@ fn is_too_long(text: &[u8]) -> bool
 }
 
 /// The command that a text spells: a word and its fields, parted by one space each, of at most 600 bytes. The faults
-/// stand in the order of `CommandFault`. Memory is taken for a name alone.
+/// stand in the order of `CommandFault`. Memory is taken for a name and for moves.
 pub fn read(alloc: Global, text: &[u8]) -> Result<Command, CommandFault>
     ensures value { Gives result (command_of text.now) }
 

@@ -1,6 +1,5 @@
 -- How a replay ends, from the machine's words to those on the whole input.
-use Rattle.std.proofs.Common.{◌≡◌, ℕ, ◌+◌, ◌<◌, ◌≤◌, Bool, true, false, ◌&&◌, List, [], ◌∷◌, ◌++◌, length, take, drop, unwrap_or, is_some, Option, None, Some, inl, inr, refl, sym, ap, ◌∙◌, subst, get_or, append_assoc, append-nil, length-append, arith}
-use Rattle.std.specs.Prelude.{◌⊎◌}
+use Rattle.std.proofs.Common.{◌≡◌, ℕ, ◌+◌, ◌<◌, Bool, true, false, ◌&&◌, List, [], ◌∷◌, ◌++◌, length, take, drop, unwrap_or, is_some, Option, None, Some, inl, inr, refl, sym, ap, ◌∙◌, subst, get_or, append_assoc, append-nil, length-append, arith}
 use Rattle.std.proofs.lemmas.List.{take_more, take-append-le, take-append-drop}
 use Rattle.std.proofs.KnownBytes.{Appends-trans}
 use Rattle.std.specs.Io.KnownBytes.{Appends, Consumes, IsAtEnd}
@@ -10,8 +9,8 @@ use Rattle.desk.specs.declared.fault.RunFault.{RunFault}
 use Rattle.desk.specs.declared.fault.RunFault.TheVariants as fault
 use Rattle.desk.specs.Bytes.{HasLeft, AppendsPart}
 use Rattle.desk.specs.Lines.{is_within}
-use Rattle.desk.specs.Replay.{replay_text, sheet_after, Replays, ReplayFails}
-use Rattle.desk.specs.Progress.{Progress, start, has_room, all_fit, after_bytes, said_of, sheet_of, end_text, whole_text, TakesAll, Takes, StopsAt, StopsIn, BreaksOff, StopsReading, Unfinished, ReplayStops}
+use Rattle.desk.specs.Replay.{replay_text, Replays, ReplayFails}
+use Rattle.desk.specs.Progress.{Progress, start, has_room, all_fit, after_bytes, said_of, sheet_of, end_text, TakesAll, StopsAt, BreaksOff, StopsReading, Unfinished, ReplayStops}
 use Rattle.desk.proofs.Limits.{within_fits}
 use Rattle.desk.proofs.Pieces.{all_fit-append, part_front, nothing_written}
 use Rattle.desk.proofs.Plain.{said_of_input, sheet_of_input, whole_is_text, text_above, text_begins}

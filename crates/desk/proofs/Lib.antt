@@ -1,4 +1,5 @@
 pub mod Known
+pub mod Asked
 pub mod Pieces
 pub mod Whole
 pub mod Limits

@@ -1,10 +1,10 @@
 -- Bytes are taken exactly as far as they are within the limits.
-use Rattle.std.proofs.Common.{◌≡◌, ℕ, ◌+◌, ◌<◌, ◌≤◌, Bool, true, false, cond, ◌==◌, ◌&&◌, ◌||◌, nat_le, nat_lt, List, [], ◌∷◌, ◌++◌, length, refl, sym, ap, ◌∙◌, subst, append-nil, length-append, arith}
+use Rattle.std.proofs.Common.{◌≡◌, ℕ, ◌+◌, ◌<◌, ◌≤◌, Bool, true, false, cond, ◌==◌, ◌&&◌, ◌||◌, nat_le, nat_lt, List, [], ◌∷◌, ◌++◌, length, refl, sym, ap, subst, length-append, arith}
 use Rattle.std.specs.List.{list_all}
 use Rattle.std.proofs.lemmas.Bool.Decides.{nat_tests}
 use Rattle.std.proofs.lemmas.Bool.{leb-true, le-leb}
 use Rattle.desk.specs.Lines.{onto, lines_and_rest, lines_of, closed, is_within}
-use Rattle.desk.specs.Progress.{Progress, start, next, counted, with_byte, after_line, has_room, all_fit}
+use Rattle.desk.specs.Progress.{Progress, start, next, after_line, has_room, all_fit}
 use Rattle.desk.proofs.Whole.{parts, moved, moved_parts, onto_nothing, onto_more, parts_end}
 
 abbrev is_short : List ℕ → Bool

@@ -1,17 +1,16 @@
 -- What bytes in several pieces come to.
-use Rattle.std.proofs.Common.{◌≢◌, inr, subst, length-append, cond, ◌==◌, ◌≤◌, ◌≡◌, ℕ, ◌+◌, ◌<◌, Bool, true, false, ◌&&◌, List, [], ◌∷◌, ◌++◌, length, take, drop, fold, get_or, Option, refl, sym, ap, ◌∙◌, append_assoc, append-nil, arith}
+use Rattle.std.proofs.Common.{◌≢◌, inr, subst, length-append, cond, ◌==◌, ◌≤◌, ◌≡◌, ℕ, ◌+◌, ◌<◌, Bool, true, false, ◌&&◌, List, [], ◌∷◌, ◌++◌, length, take, get_or, Option, refl, sym, ap, ◌∙◌, append_assoc, append-nil, arith}
 use Rattle.std.proofs.lemmas.List.Sums.{fold-append}
 use Rattle.std.proofs.lemmas.List.{take_more, get_or-append-add}
 use Rattle.std.proofs.Math.Seq.{take-append-add}
-use Rattle.std.proofs.Math.Bool.{and-true}
-use Rattle.std.proofs.KnownBytes.{Appends-nil, Appends-trans, Appends-kept, Consumes-trans}
+use Rattle.std.proofs.KnownBytes.{Appends-nil, Appends-trans, Consumes-trans}
 use Rattle.std.proofs.lemmas.Bool.Decides.{nat_tests}
-use Rattle.std.specs.Io.KnownBytes.{Appends, Keeps, Consumes}
+use Rattle.std.specs.Io.KnownBytes.{Appends, Consumes}
 use Rattle.desk.specs.declared.fault.RunFault.{RunFault}
 use Rattle.desk.specs.declared.fault.RunFault.TheVariants as fault
 use Rattle.sheets.specs.declared.Style.{Style}
 use Rattle.formats.specs.declared.events.Event.{Event}
-use Rattle.desk.specs.Bytes.{AppendsPart, Writes}
+use Rattle.desk.specs.Bytes.{AppendsPart}
 use Rattle.desk.specs.Progress.{Progress, start, TakesAll, EndsEarly, ReplayStops, sheet_of, end_text, Takes, counted, with_byte, after_line, has_room, next, said, after_bytes, said_of, all_fit, StopsAt, BreaksOff, Stops, StopsByte, StopsPiece, StopsReading}
 
 pub all_fit-append : (p : Progress) (xs ys : List ℕ) → all_fit p (xs ++ ys) ≡ (all_fit p xs && all_fit (after_bytes p xs) ys)

@@ -1,7 +1,6 @@
 -- The machine over bytes in plain words: lines, limits, and the text for an input.
-use Rattle.std.proofs.Common.{◌≡◌, ℕ, ◌+◌, ◌<◌, ◌≤◌, Bool, true, false, cond, ◌==◌, ◌&&◌, nat_le, List, [], ◌∷◌, ◌++◌, length, fold, unwrap_or, take, drop, inl, inr, zero, suc, refl, sym, ap, ◌∙◌, append_assoc, append-nil, length-append, add_comm, arith}
-use Rattle.std.specs.List.{enumerate_from, list_all}
-use Rattle.std.proofs.lemmas.Bool.Decides.{nat_tests}
+use Rattle.std.proofs.Common.{◌≡◌, ℕ, ◌+◌, ◌<◌, ◌≤◌, Bool, true, false, cond, ◌==◌, ◌&&◌, List, [], ◌∷◌, ◌++◌, length, unwrap_or, take, drop, inl, inr, zero, suc, refl, sym, ap, ◌∙◌, append_assoc, append-nil, length-append, add_comm, arith}
+use Rattle.std.specs.List.{enumerate_from}
 use Rattle.commands.specs.History.{History, nothing, history, after, answer_to}
 use Rattle.std.proofs.Math.Seq.{take-append_seam}
 use Rattle.std.proofs.lemmas.Bool.{cases_lt, false≢true}
@@ -9,12 +8,12 @@ use Rattle.std.proofs.lemmas.List.{take-append-drop, take-take}
 use Rattle.sheets.specs.declared.Style.{Style}
 use Rattle.sheets.specs.Sheet.{sheet}
 use Rattle.formats.specs.declared.events.Event.{Event}
-use Rattle.desk.specs.Lines.{onto, lines_and_rest, whole_lines, lines_of, closed, is_within, longest_within, part_within}
+use Rattle.desk.specs.Lines.{lines_and_rest, whole_lines, lines_of, closed, is_within, longest_within, part_within}
 use Rattle.desk.specs.Replay.{entries, refusal_text, refusals_after, refusals, sheet_after, replay_text}
 use Rattle.desk.proofs.Limits.{within_fits}
 use Rattle.desk.proofs.Pieces.{all_fit-append, said_of-append}
-use Rattle.desk.specs.Progress.{sheet_of, whole_text, end_text, Progress, start, next, counted, with_byte, after_line, said_of_line, has_room, all_fit, after_bytes, said_of, said_of_end, ended}
-use Rattle.desk.proofs.Whole.{parts, moved, moved_parts, histories, onto_nothing, onto_more, parts_end, said_of_lines, meet_of_lines, line_of_rest, count_of_lines}
+use Rattle.desk.specs.Progress.{sheet_of, whole_text, end_text, Progress, start, after_line, said_of_line, all_fit, after_bytes, said_of, said_of_end, ended}
+use Rattle.desk.proofs.Whole.{parts, histories, onto_nothing, said_of_lines, meet_of_lines, line_of_rest, count_of_lines}
 
 -- ---- lines
 

@@ -1,5 +1,5 @@
 -- Only a run that was done has status 0.
-use Rattle.std.proofs.Common.{◌≡◌, ◌⊎◌, ℕ, List, Option, inl, inr, sym, ◌∙◌, arith}
+use Rattle.std.proofs.Common.{◌≡◌, ℕ, List, Option, inl, inr, sym, ◌∙◌, arith}
 use Rattle.desk.specs.declared.fault.RunFault.{RunFault}
 use Rattle.desk.specs.declared.fault.RunFault.TheVariants as fault
 use Rattle.desk.specs.Statuses.{status_of, RunsNothing}

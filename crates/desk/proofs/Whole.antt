@@ -1,10 +1,10 @@
 -- Bytes taken one by one come to the lines of the whole text.
 use Rattle.std.proofs.Common.{fold, length, add-zero, arith, ◌≡◌, ℕ, ◌+◌, Bool, true, false, cond, ◌==◌, List, [], ◌∷◌, ◌++◌, refl, sym, ap, ◌∙◌, append_assoc, append-nil}
 use Rattle.std.specs.List.{enumerate_from}
-use Rattle.commands.specs.History.{History, nothing, history, after, answer_to}
-use Rattle.desk.specs.Progress.{Progress, next, said, said_of_line, after_line, counted, with_byte, after_bytes, said_of, said_of_end, ended, start}
-use Rattle.desk.specs.Lines.{onto, lines_and_rest, whole_lines, lines_of, closed}
-use Rattle.desk.specs.Replay.{entries, refusal_text, refusals_after, refusals}
+use Rattle.commands.specs.History.{History, after}
+use Rattle.desk.specs.Progress.{Progress, next, said, said_of_line, after_line, counted, with_byte, after_bytes, said_of}
+use Rattle.desk.specs.Lines.{onto, lines_and_rest}
+use Rattle.desk.specs.Replay.{refusals_after}
 
 pub onto_nothing : (x : List (List ℕ) × List ℕ) → onto [] x ≡ x
 onto_nothing ([], rest) = refl

@@ -2,4 +2,5 @@ pub mod Bytes
 pub mod Lines
 pub mod Replay
 pub mod Progress
+pub mod Asking
 pub mod Statuses

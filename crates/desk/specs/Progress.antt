@@ -1,9 +1,7 @@
 -- A replay byte by byte: what the bytes so far come to, and what is written for each.
-use Rattle.std.specs.Prelude.{◌≡◌, ◌⊎◌, ◌<◌, None, is_some, unwrap_or, ℕ, ◌+◌, Bool, true, false, ◌==◌, ◌&&◌, ◌||◌, nat_lt, if◌then◌else◌, List, [], ◌∷◌, ◌++◌, length, take, drop, fold, codes, decimal, slice_index, Option}
-use Rattle.std.specs.Io.KnownBytes.{Appends, Keeps, Consumes, IsAtEnd}
+use Rattle.std.specs.Prelude.{◌≡◌, ◌⊎◌, ◌<◌, None, is_some, unwrap_or, ℕ, ◌+◌, Bool, true, false, ◌==◌, ◌&&◌, ◌||◌, nat_lt, if◌then◌else◌, List, [], ◌∷◌, ◌++◌, length, take, fold, slice_index, Option}
+use Rattle.std.specs.Io.KnownBytes.{Appends, Consumes, IsAtEnd}
 use Rattle.commands.specs.History.{History, nothing, after, answer_to}
-use Rattle.commands.specs.declared.answer.Answer.{Answer}
-use Rattle.commands.specs.declared.answer.Answer.TheVariants.{Done, Refused}
 use Rattle.formats.specs.declared.events.Event.{Event}
 use Rattle.sheets.specs.Sheet.{sheet}
 use Rattle.sheets.specs.declared.Style.{Style}

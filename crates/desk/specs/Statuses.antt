@@ -5,6 +5,7 @@ use Rattle.formats.specs.declared.events.Event.{Event}
 use Rattle.sheets.specs.declared.Style.{Style}
 use Rattle.desk.specs.Bytes.{HasLeft, AppendsPart}
 use Rattle.desk.specs.Replay.{Replays, ReplayFails}
+use Rattle.desk.specs.Asking.{Asks}
 use Rattle.desk.specs.declared.fault.RunFault.{RunFault}
 use Rattle.desk.specs.declared.fault.RunFault.TheVariants as fault
 
@@ -28,8 +29,13 @@ RunsNothing status old new =
     ⊎ ((status ≡ 4) × (text : List ℕ) × AppendsPart old new text)
     ⊎ ((status ≡ 5) × Keeps old new)
 
--- what a status says: of the bytes that the reader had and has left, and of those that were written
-abbrev pub Ran : ℕ → Option (List ℕ) → Option (List ℕ) → Option (List ℕ) → Option (List ℕ) → Type 0
-Ran status had left old new =
-    ((style : Style) × (event : Event) × (round : ℕ) × (input : List ℕ) × HasLeft had input × EndsReplay status style event round input left old new)
+-- what a status says: of the words, of the bytes that the reader had and has left, and of those that were written
+abbrev pub Ran : List (List ℕ) → ℕ → Option (List ℕ) → Option (List ℕ) → Option (List ℕ) → Option (List ℕ) → Type 0
+Ran words status had left old new =
+    ((style : Style) × (event : Event) × (round : ℕ) × Asks words style event round
+    × ((input : List ℕ) × HasLeft had input × EndsReplay status style event round input left old new))
     ⊎ (Keeps had left × RunsNothing status old new)
+
+-- the same, of words that aren't told
+abbrev pub RanOn : ℕ → Option (List ℕ) → Option (List ℕ) → Option (List ℕ) → Option (List ℕ) → Type 0
+RanOn status had left old new = (words : List (List ℕ)) × Ran words status had left old new

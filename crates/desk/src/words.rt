@@ -1,9 +1,13 @@
 //! The words of the program: what they ask for, and how it ends.
 
-ghost use Rattle.std.specs.Prelude.{◌≡◌, ◌≢◌};
+ghost use Rattle.std.specs.Prelude.{◌≡◌, ◌≢◌, false, IfOk, IfSome, Option, map};
 ghost use Rattle.std.specs.IoError.{error_kind};
 ghost use Rattle.std.specs.Io.KnownBytes.{Keeps};
-ghost use Rattle.desk.specs.Statuses.{status_of, RunsNothing, Ran};
+ghost use Rattle.clap.specs.Words.{app_of, subcommand_of, subcommand_rows_of};
+ghost use Rattle.clap.specs.declared.builder.command.Command.TheViews.{out-Command as fields_of};
+ghost use Rattle.clap.specs.declared.builder.value_parser.ValueParser.{ValueParser};
+ghost use Rattle.desk.specs.Asking.{replay_words, desk_words, Finds};
+ghost use Rattle.desk.specs.Statuses.{status_of, RunsNothing, Ran, RanOn};
 
 use crate::fault::RunFault;
 use crate::replay::replay;
@@ -32,11 +36,17 @@ const REPLAY_INPUT: &str = "\
 Standard input has one command a line:
 
   REG 1 Ann Li                  registers competitor 1 under a name
-  OPEN 333 1 ao5 - 60000 final  opens a round: event, round, format, cutoff (-), time limit in
-                                hundredths of a second, who advances
-  ENT 333 1                     enters competitor 1 in the event
+  OPEN 333 1 ao5 - 60000 final  opens a round: event, round, format, cutoff (- or 2:1500, attempts
+                                and the value to be below), time limit in hundredths of a second
+                                (- in 333fm), who advances (final, top:8 or pct:75)
+  ENT 333 1                     enters competitor 1 in round 1 of the event
+  SCR 333fm 1 2 R' U' F         the scramble of attempt 2 of a fewest-moves round
   ATT 333 1 2 1 T:1200:0        attempt 2 of competitor 1 in round 1: 12.00 seconds, no penalty;
-                                or DNF, or DNS
+                                or DNF, or DNS, or in 333fm S: and a solution
+  COR 333 1 2 1 T:1300:0        corrects that attempt
+  STR 333 1 1                   removes the last attempt of competitor 1
+  ADV 333 1 top:8               changes who advances from round 1
+  CLOSE 333 1                   closes round 1; the next round is then opened by OPEN
 
 Standard output gets a line `refused N NAME` for each line N that is refused, and then the sheet.
 
@@ -56,7 +66,10 @@ struct Task {
 }
 
 /// The words of `replay`.
-fn replay_command<'a>(alloc: Global) -> Result<Command<'a>, AllocError> {
+fn replay_command<'a>(alloc: Global) -> Result<Command<'a>, AllocError>
+    ensures { IfOk result (λ command. (fields_of command).has_globals ≡ false
+        × ((events : Option ValueParser) × (rounds : Option ValueParser) × (app_of command ≡ replay_words events rounds))) }
+{
     let event = Arg::new(alloc, "event")
         .value_name("EVENT")
         .help("The event")
@@ -82,7 +95,9 @@ fn replay_command<'a>(alloc: Global) -> Result<Command<'a>, AllocError> {
 }
 
 /// The words of the program.
-fn command<'a>(alloc: Global) -> Result<Command<'a>, AllocError> {
+fn command<'a>(alloc: Global) -> Result<Command<'a>, AllocError>
+    ensures { IfOk result (λ command. (events : Option ValueParser) × (rounds : Option ValueParser) × (app_of command ≡ desk_words events rounds)) }
+{
     Command::new(alloc, "desk")
         .about(ABOUT)
         .after_help(STATUSES)
@@ -91,8 +106,13 @@ fn command<'a>(alloc: Global) -> Result<Command<'a>, AllocError> {
 }
 
 /// What parsed words ask for. The parser gives every value, so there always is a task.
-fn task_of(matches: &ArgMatches<'_>) -> Option<Task> {
-    let (_, replayed) = matches.subcommand()?;
+fn task_of(matches: &ArgMatches<'_>) -> Option<Task>
+    ensures { IfSome result (λ task. Finds (subcommand_rows_of matches.now) task.style task.event task.round) }
+{
+    let (name, replayed) = matches.subcommand()?;
+    if name != "replay" {
+        return None;
+    }
     let event = Event::from_name(replayed.get_str("event")?.as_bytes())?;
     let round = replayed.get_one::<u8>("round")?;
     let style = if replayed.get_flag("csv") {
@@ -153,7 +173,10 @@ fn tell_words<W: Write, F: Write>(
 }
 
 /// Parses the words.
-fn parse<'a>(alloc: Global, words: &'a [&'a str]) -> Result<ArgMatches<'a>, Error> {
+fn parse<'a>(alloc: Global, words: &'a [&'a str]) -> Result<ArgMatches<'a>, Error>
+    ensures { IfOk result (λ matches. (events : Option ValueParser) × (rounds : Option ValueParser)
+        × (subcommand_rows_of matches ≡ subcommand_of (desk_words events rounds) (map (λ word. word.now) words.now))) }
+{
     let command = command(alloc)?;
     command.try_get_matches_from(words)
 }
@@ -173,7 +196,7 @@ pub fn run_words<'a, R: Read, W: Write, F: Write>(
     writer: &mut W,
     faults: &mut F,
 ) -> u8
-    ensures ran { Ran result (R.remaining reader.old) (R.remaining reader.new) (W.contents writer.old) (W.contents writer.new) }
+    ensures ran { Ran (map (λ word. word.now) words.now) result (R.remaining reader.old) (R.remaining reader.new) (W.contents writer.old) (W.contents writer.new) }
     ensures quiet { result ≡ 0 → Keeps (F.contents faults.old) (F.contents faults.new) }
 {
     let matches = match parse(alloc, words) {
@@ -207,7 +230,7 @@ pub fn run_given<R: Read, W: Write, F: Write>(
     writer: &mut W,
     faults: &mut F,
 ) -> u8
-    ensures ran { Ran result (R.remaining reader.old) (R.remaining reader.new) (W.contents writer.old) (W.contents writer.new) }
+    ensures ran { RanOn result (R.remaining reader.old) (R.remaining reader.new) (W.contents writer.old) (W.contents writer.new) }
     ensures quiet { result ≡ 0 → Keeps (F.contents faults.old) (F.contents faults.new) }
 {
     let Ok(texts) = given.collect::<Vec<String>>(alloc) else {

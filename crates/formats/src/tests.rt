@@ -122,12 +122,52 @@ fn names_events(rt: HostRuntime) {
 }
 
 #[test]
-fn tables(rt: HostRuntime) {
-    assert!(rt; allowed(Event::Cube3, Format::Ao5) && !allowed(Event::Cube3, Format::Mo3));
-    assert!(rt; allowed(Event::Cube7, Format::Mo3) && !allowed(Event::Cube7, Format::Bo3));
-    assert!(rt; allowed(Event::Blind4, Format::Bo3) && !allowed(Event::Blind4, Format::Ao5));
-    assert_eq!(rt; unit_of(Event::FewestMoves), Unit::Moves);
-    assert_eq!(rt; unit_of(Event::Clock), Unit::Time);
+fn each_event_has_its_formats(rt: HostRuntime) {
+    let averages = [Format::Ao5, Format::Bo1, Format::Bo2, Format::Bo3];
+    let means = [Format::Mo3, Format::Bo1, Format::Bo2];
+    let bests = [Format::Bo1, Format::Bo2, Format::Bo3];
+    let formats_of = [
+        (b"333".as_slice(), averages.as_slice()),
+        (b"222".as_slice(), averages.as_slice()),
+        (b"444".as_slice(), averages.as_slice()),
+        (b"555".as_slice(), averages.as_slice()),
+        (b"333oh".as_slice(), averages.as_slice()),
+        (b"clock".as_slice(), averages.as_slice()),
+        (b"minx".as_slice(), averages.as_slice()),
+        (b"pyram".as_slice(), averages.as_slice()),
+        (b"skewb".as_slice(), averages.as_slice()),
+        (b"sq1".as_slice(), averages.as_slice()),
+        (b"666".as_slice(), means.as_slice()),
+        (b"777".as_slice(), means.as_slice()),
+        (b"333fm".as_slice(), means.as_slice()),
+        (b"333bf".as_slice(), bests.as_slice()),
+        (b"444bf".as_slice(), bests.as_slice()),
+        (b"555bf".as_slice(), bests.as_slice()),
+    ];
+    for (name, formats) in formats_of {
+        if let Some(event) = Event::from_name(name) {
+            for format in Format::ALL {
+                assert_eq!(rt;
+                    allowed(event, format),
+                    formats.contains(&format),
+                    "{name:?} {format:?}"
+                );
+            }
+        } else {
+            assert!(rt; false, "{name:?}");
+        }
+    }
+}
+
+#[test]
+fn counts_attempts_and_moves(rt: HostRuntime) {
+    for event in Event::ALL {
+        let unit = match event {
+            Event::FewestMoves => Unit::Moves,
+            _ => Unit::Time,
+        };
+        assert_eq!(rt; unit_of(event), unit);
+    }
     for (format, attempts) in Format::ALL.iter().zip([5, 3, 1, 2, 3]) {
         assert_eq!(rt; attempts_of(*format), attempts);
     }

@@ -22,8 +22,8 @@ use Rattle.learner.specs.Desks.{Desk, restarted, passing}
 use Rattle.learner.specs.Steps.{IsDesk, is_desk, is_real, is_in_range, is_heeded, on_body, Done, done, idle, planned, passed, step}
 use Rattle.learner.specs.Worlds.{World, new_world, put, world_after, at_desk, nth_sent, delivered, happens, run, after}
 use Rattle.learner.specs.Contents.{BodyHolds, MessagesHold, DeskHolds}
-use Rattle.learner.specs.Ranges.{IsInRange, IsReal, DeskIsInRange}
-use Rattle.learner.specs.Laws.{MessagesAreInRange, DesksAreInRange}
+use Rattle.learner.specs.Ranges.{IsInRange, IsReal, DeskIsInRange, AreInRange, DoneIsInRange}
+use Rattle.learner.specs.Laws.{MessagesAreInRange, DesksAreInRange, StepsStayInRange}
 use Rattle.learner.proofs.Contents.{Fits, PlanHolds, ResultHolds, ResultFits, push_holds, adopt_holds, body_holds, start_holds, tick_holds}
 use Rattle.learner.proofs.Goes.{put_all}
 use Rattle.learner.proofs.Ranges.{BodyIsPlaced, ArePlaced, DeskIsPlaced, PlanIsPlaced, ResultIsPlaced, body_placed, start_placed, tick_placed}
@@ -92,11 +92,6 @@ body_is_real n (Nack b pos promised) h = (real_from_test n b (first_of_both _ _ 
 body_is_real n (Behind len) h = tt
 body_is_real n (Decided pos e) h = tt
 
--- each of the messages is from desk d, and in range
-abbrev pub AreInRange : ℕ → ℕ → List Message → Type 0
-AreInRange n d [] = Unit {0}
-AreInRange n d (m ∷ ms) = ((m.from ≡ d) × IsInRange n m) × AreInRange n d ms
-
 messages_in_range : (n d : ℕ) (ms : List Message) → IsDesk n d → ArePlaced n d ms → MessagesHold Any (Real n) ms → AreInRange n d ms
 messages_in_range n d [] ours h k = tt
 messages_in_range n d (m ∷ ms) ours h k =
@@ -105,18 +100,13 @@ messages_in_range n d (m ∷ ms) ours h k =
       messages_in_range n d ms ours h.1 k.1,
     )
 
--- the desk after the step, and what it sends
-abbrev pub DoneIsInRange : ℕ → ℕ → Result Done Refusal → Type 0
-DoneIsInRange n d (Ok r) = DeskIsInRange n r.desk × AreInRange n d r.messages
-DoneIsInRange n d (Err why) = Unit {0}
-
 placed : (n : ℕ) (x : Desk) → DeskIsInRange n x → DeskIsPlaced x
-placed n x h = record { log = h.log; role = h.role }
+placed n x h = record { log = h.log; role = h.role; vote = h.vote }
 
 plan_in_range : (n d : ℕ) (x : Desk) (p : Plan) → IsDesk n d → DeskIsInRange n x → PlanIsPlaced n d x p → PlanHolds Any (Real n) p → DoneIsInRange n d (Ok (done x p))
 plan_in_range n d x p ours h k l =
     let desk = k.desk in (
-      record { log = desk.log; role = desk.role; ballots = adopt_holds Any (Real n) x p h.ballots l },
+      record { log = desk.log; role = desk.role; vote = desk.vote; ballots = adopt_holds Any (Real n) x p h.ballots l },
       messages_in_range n d p.messages ours k.messages l.messages,
     )
 
@@ -151,6 +141,7 @@ submit_in_range n d x e h = busy (length x.queue == 64)
       record {
         log = h.log;
         role = h.role;
+        vote = h.vote;
         ballots = record { promised = was.promised; vote = was.vote; log = was.log; role = was.role; queue = push_holds Any x.queue e was.queue tt };
       },
       tt,
@@ -161,7 +152,7 @@ submit_in_range n d x e h = busy (length x.queue == 64)
     busy false = full (is_full (length x.log))
 
 -- a step of a desk in range leaves it in range, and what it sends is in range
-pub step_in_range : (n d : ℕ) (x : Desk) (event : Event) → IsDesk n d → DeskIsInRange n x → DoneIsInRange n d (step n d x event)
+pub step_in_range : StepsStayInRange
 step_in_range n d x (Submit e) ours h = submit_in_range n d x e h
 step_in_range n d x Start ours h =
     let r = start n d x.stored (length x.log) (passing x) in
@@ -229,7 +220,7 @@ happens_in_range n w (RestartAt d) h = go (is_desk n d)
     ballots = was.ballots
 
     again : DeskIsInRange n (restarted (w.desks d))
-    again = record { log = was.log; role = tt; ballots = record { promised = ballots.promised; vote = ballots.vote; log = ballots.log; role = tt; queue = tt } }
+    again = record { log = was.log; role = tt; vote = was.vote; ballots = record { promised = ballots.promised; vote = ballots.vote; log = ballots.log; role = tt; queue = tt } }
 
     go : (t : Bool) → WorldIsInRange n (if t then record { desks = put w.desks d (restarted (w.desks d)); sent = w.sent } else w)
     go true = record { desks = put_all (λ j z. DeskIsInRange n z) w.desks d (restarted (w.desks d)) again h.desks; sent = h.sent }
@@ -243,7 +234,7 @@ after_all_in_range : (n : ℕ) (events : List WorldEvent) → WorldIsInRange n (
 after_all_in_range n events =
     run_in_range n new_world events
     (record {
-      desks = λ d. record { log = omega arith; role = tt; ballots = record { promised = inl refl; vote = tt; log = tt; role = tt; queue = tt } };
+      desks = λ d. record { log = omega arith; role = tt; vote = tt; ballots = record { promised = inl refl; vote = tt; log = tt; role = tt; queue = tt } };
       sent = tt;
     })
 

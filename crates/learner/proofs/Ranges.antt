@@ -9,6 +9,7 @@ use Rattle.acceptor.specs.declared.message.Body.{Body}
 use Rattle.acceptor.specs.declared.message.Message.{Message}
 use Rattle.acceptor.specs.Messages.{message, has, desks_from, without, to_each, to_others}
 use Rattle.acceptor.specs.declared.message.Body.TheVariants.{Prepare, Promise, Accept, Accepted, Nack, Behind, Decided}
+use Rattle.acceptor.specs.declared.stored.Vote.{Vote}
 use Rattle.acceptor.specs.declared.stored.Change.TheVariants.{Promised, Voted}
 use Rattle.acceptor.specs.Answers.{reported, elsewhere, prepare_here, prepare_reply, accept_here, accept_reply}
 use Rattle.proposer.specs.declared.faults.Refusal.{Refusal}
@@ -19,10 +20,12 @@ use Rattle.proposer.specs.declared.role.Role.{Role}
 use Rattle.proposer.specs.declared.role.Role.TheVariants.{Idle, Gathering, Proposing}
 use Rattle.proposer.specs.Plans.{only_say, become, append}
 use Rattle.proposer.specs.Proposing.{is_full, is_majority, last_round, gather, new_ballot, start, start_by_role, wants_ballot, tick, tick_by_role, was_heard, highest, choice, propose, promises_heard, promise_by_role, on_promise, votes_heard, accepted_by_role, on_accepted, is_ballot_of, on_nack}
+use Rattle.learner.specs.Order.{IsBelow}
 use Rattle.learner.specs.Desks.{Desk, adopt, passing}
 use Rattle.learner.specs.Learning.{on_decided, on_behind, told}
 use Rattle.learner.specs.Steps.{IsDesk, answered, on_body}
-use Rattle.learner.specs.Ranges.{RoleIsPlaced}
+use Rattle.learner.specs.Ranges.{RoleIsPlaced, VoteIsPlaced}
+use Rattle.learner.proofs.Order.{at_most_self, at_most_trans, at_most_from_below}
 
 -- the position or the length in the body is in its range
 abbrev pub BodyIsPlaced : Body → Type 0
@@ -42,6 +45,7 @@ ArePlaced n d (m ∷ ms) = ((m.from ≡ d) × IsDesk n m.to × BodyIsPlaced m.bo
 pub record DeskIsPlaced (x : Desk) : Type 0 where
   pub log : length x.log ≤ 65536
   pub role : RoleIsPlaced (length x.log) x.role
+  pub vote : VoteIsPlaced x.stored.promised x.stored.vote
 
 -- the desk after the plan, and what it sends
 pub record PlanIsPlaced (n d : ℕ) (x : Desk) (p : Plan) : Type 0 where
@@ -79,37 +83,41 @@ rest_placed : (n d : ℕ) (gone : List ℕ) (body : Body) → BodyIsPlaced body 
 rest_placed n d gone body k = each_placed n d (without (desks_from 1 n) gone) body (without_placed n (desks_from 1 n) gone (hall_placed n)) k
 
 says : (n d : ℕ) (x : Desk) (messages : List Message) → DeskIsPlaced x → ArePlaced n d messages → PlanIsPlaced n d x (only_say (passing x) messages)
-says n d x messages h m = record { desk = record { log = h.log; role = h.role }; messages = m }
+says n d x messages h m = record { desk = record { log = h.log; role = h.role; vote = h.vote }; messages = m }
 
 becomes : (n d : ℕ) (x : Desk) (r : Role) (messages : List Message) → DeskIsPlaced x → RoleIsPlaced (length x.log) r → ArePlaced n d messages
     → PlanIsPlaced n d x (become (passing x) r messages)
-becomes n d x r messages h k m = record { desk = record { log = h.log; role = k }; messages = m }
+becomes n d x r messages h k m = record { desk = record { log = h.log; role = k; vote = h.vote }; messages = m }
 
-appends : (n d : ℕ) (x : Desk) (e : Entry) (r : Role) (messages : List Message) → length x.log < 65536 → ((len : ℕ) → RoleIsPlaced len r) → ArePlaced n d messages
+appends : (n d : ℕ) (x : Desk) (e : Entry) (r : Role) (messages : List Message) → DeskIsPlaced x → length x.log < 65536 → ((len : ℕ) → RoleIsPlaced len r) → ArePlaced n d messages
     → PlanIsPlaced n d x (append (passing x) e r messages)
-appends n d x e r messages less k m =
+appends n d x e r messages h less k m =
     let longer : length (x.log ++ e ∷ []) ≡ length x.log + 1 = length-append x.log (e ∷ []) in
-    record { desk = record { log = omega arith; role = k (length (x.log ++ e ∷ [])) }; messages = m }
+    record { desk = record { log = omega arith; role = k (length (x.log ++ e ∷ [])); vote = h.vote }; messages = m }
 
 elsewhere_placed : (n d : ℕ) (x : Desk) (from pos : ℕ) → IsDesk n from → DeskIsPlaced x → pos < 65536
     → PlanIsPlaced n d x (answered d x from (elsewhere (slice_get x.log pos) (length x.log) pos))
 elsewhere_placed n d x from pos theirs h k = go (slice_get x.log pos)
   where
     go : (o : Option Entry) → PlanIsPlaced n d x (answered d x from (elsewhere o (length x.log) pos))
-    go None = record { desk = record { log = h.log; role = h.role }; messages = ((refl, theirs, h.log), tt) }
-    go (Some f) = record { desk = record { log = h.log; role = h.role }; messages = ((refl, theirs, k), tt) }
+    go None = record { desk = record { log = h.log; role = h.role; vote = h.vote }; messages = ((refl, theirs, h.log), tt) }
+    go (Some f) = record { desk = record { log = h.log; role = h.role; vote = h.vote }; messages = ((refl, theirs, k), tt) }
 
 prepare_placed : (n d : ℕ) (x : Desk) (from : ℕ) (b : Ballot) (pos : ℕ) → IsDesk n from → DeskIsPlaced x → pos < 65536
     → PlanIsPlaced n d x (answered d x from (prepare_reply x.stored (length x.log) (slice_get x.log pos) b pos))
 prepare_placed n d x from b pos theirs h k = go (pos == length x.log)
   where
-    due : (t : Bool)
+    raised : IsBelow x.stored.promised b → (o : Option Vote) → VoteIsPlaced x.stored.promised o → VoteIsPlaced b o
+    raised less None v = tt
+    raised less (Some vote) v = (v.0, at_most_trans vote.ballot x.stored.promised b v.1 (at_most_from_below x.stored.promised b less))
+
+    due : (t : Bool) → is_below x.stored.promised b ≡ t
         → PlanIsPlaced n d x (answered d x from (if t then record { change = Some (Promised b); body = Promise b pos (reported x.stored.vote pos) } else record { change = None; body = Nack b pos x.stored.promised }))
-    due true = record { desk = record { log = h.log; role = h.role }; messages = ((refl, theirs, k), tt) }
-    due false = record { desk = record { log = h.log; role = h.role }; messages = ((refl, theirs, k), tt) }
+    due true e = record { desk = record { log = h.log; role = h.role; vote = raised e x.stored.vote h.vote }; messages = ((refl, theirs, k), tt) }
+    due false e = record { desk = record { log = h.log; role = h.role; vote = h.vote }; messages = ((refl, theirs, k), tt) }
 
     go : (t : Bool) → PlanIsPlaced n d x (answered d x from (if t then prepare_here x.stored b pos else elsewhere (slice_get x.log pos) (length x.log) pos))
-    go true = due (is_below x.stored.promised b)
+    go true = due (is_below x.stored.promised b) refl
     go false = elsewhere_placed n d x from pos theirs h k
 
 accept_placed : (n d : ℕ) (x : Desk) (from : ℕ) (b : Ballot) (pos : ℕ) (e : Entry) → IsDesk n from → DeskIsPlaced x → pos < 65536
@@ -120,8 +128,8 @@ accept_placed n d x from b pos e theirs h k = go (pos == length x.log)
         → PlanIsPlaced n d x (answered d x from (if t
         then record { change = None; body = Nack b pos x.stored.promised }
         else record { change = Some (Voted (record { pos = pos; ballot = b; entry = e })); body = Accepted b pos }))
-    due true = record { desk = record { log = h.log; role = h.role }; messages = ((refl, theirs, k), tt) }
-    due false = record { desk = record { log = h.log; role = h.role }; messages = ((refl, theirs, k), tt) }
+    due true = record { desk = record { log = h.log; role = h.role; vote = h.vote }; messages = ((refl, theirs, k), tt) }
+    due false = record { desk = record { log = h.log; role = h.role; vote = (k, at_most_self b) }; messages = ((refl, theirs, k), tt) }
 
     go : (t : Bool) → PlanIsPlaced n d x (answered d x from (if t then accept_here x.stored b pos e else elsewhere (slice_get x.log pos) (length x.log) pos))
     go true = due (is_below b x.stored.promised)
@@ -180,7 +188,7 @@ accepted_placed n d x from b pos h = by_role x.role h.role
         at_less = let e = k.0 in let l = k.1 in omega arith
 
         many : (hs : List ℕ) (t : Bool) → PlanIsPlaced n d x (if t then append (passing x) e Idle (to_others n d (Decided at e)) else become (passing x) (Proposing own at e hs) [])
-        many hs true = appends n d x e Idle _ k.1 (λ len. tt) (rest_placed n d (d ∷ []) (Decided at e) at_less)
+        many hs true = appends n d x e Idle _ h k.1 (λ len. tt) (rest_placed n d (d ∷ []) (Decided at e) at_less)
         many hs false = becomes n d x (Proposing own at e hs) [] h k tt
 
         new : (t : Bool) → PlanIsPlaced n d x (if t then only_say (passing x) [] else votes_heard n d (passing x) own at e (from ∷ heard))
@@ -202,7 +210,7 @@ nack_placed : (n d : ℕ) (x : Desk) (b promised : Ballot) → DeskIsPlaced x �
 nack_placed n d x b promised h = mine (is_ballot_of x.role b)
   where
     higher : (t : Bool) → PlanIsPlaced n d x (if t then record { role = Some Idle; seen = max x.seen promised.round; drop_first = false; change = None; messages = [] } else only_say (passing x) [])
-    higher true = record { desk = record { log = h.log; role = tt }; messages = tt }
+    higher true = record { desk = record { log = h.log; role = tt; vote = h.vote }; messages = tt }
     higher false = says n d x [] h tt
 
     mine : (t : Bool)
@@ -226,7 +234,7 @@ decided_placed n d x from pos e theirs h k = at (pos == length x.log) refl
     at true t =
         let same : pos ≡ length x.log = grind (arith, nat_tests) in
         let less : length x.log < 65536 = omega arith in
-        let next : length x.log + 1 ≤ 65536 = omega arith in appends n d x e Idle _ less (λ len. tt) ((refl, theirs, next), tt)
+        let next : length x.log + 1 ≤ 65536 = omega arith in appends n d x e Idle _ h less (λ len. tt) ((refl, theirs, next), tt)
     at false t = past (nat_lt (length x.log) pos)
 
 told_placed : (n d from pos : ℕ) (es : List Entry) → IsDesk n from → pos + length es ≤ 65536 → ArePlaced n d (told d from pos es)
@@ -277,7 +285,7 @@ ballot_placed n d x h less = go (last_round x.stored (passing x) == 4294967295)
     go true = tt
     go false =
         record {
-          desk = record { log = h.log; role = (refl, less) };
+          desk = record { log = h.log; role = (refl, less); vote = h.vote };
           messages = all_placed n d (Prepare (record { round = last_round x.stored (passing x) + 1; desk = d }) (length x.log)) less;
         }
 

@@ -7,7 +7,10 @@ use Rattle.learner.specs.Worlds.{World, after, log_of}
 use Rattle.learner.specs.Chosen.{IsChosen}
 use Rattle.learner.specs.Submitted.{IsSubmitted}
 use Rattle.learner.specs.Contents.{WorldHolds, IsTried}
-use Rattle.learner.specs.Ranges.{DeskIsInRange, IsInRange}
+use Rattle.learner.specs.Ranges.{DeskIsInRange, IsInRange, DoneIsInRange}
+use Rattle.learner.specs.declared.event.Event.{Event}
+use Rattle.learner.specs.Desks.{Desk}
+use Rattle.learner.specs.Steps.{IsDesk, step}
 
 -- what stands in a log is chosen: nobody learns that a value is chosen unless it is ('Paxos Made Simple', section 2.1)
 abbrev pub LogsAreChosen : Type 0
@@ -65,3 +68,7 @@ MessagesAreInRange = (n : ℕ) (events : List WorldEvent) (k : ℕ) (m : Message
 -- no log is longer than 65,536 entries, no desk gathers promises or proposes at a full one, and all ballots are real
 abbrev pub DesksAreInRange : Type 0
 DesksAreInRange = (n : ℕ) (events : List WorldEvent) (d : ℕ) → DeskIsInRange n ((after n events).desks d)
+
+-- a step of a desk in range leaves it in range, and what it sends is from that desk and in range
+abbrev pub StepsStayInRange : Type 0
+StepsStayInRange = (n d : ℕ) (x : Desk) (event : Event) → IsDesk n d → DeskIsInRange n x → DoneIsInRange n d (step n d x event)

@@ -1,7 +1,7 @@
 //! The laws of agreement among the desks of a hall. Each is the contract of a function that does nothing: it holds after every list of
 //! submissions, starts, ticks, deliveries (also lost, repeated and late ones) and restarts, for every number of desks.
 
-ghost use Rattle.learner.specs.Laws.{LogsAreChosen, OneIsChosen, LogsAreSubmitted, LogsAgree, LogsGrow, EntriesStay, Always, ContentsStand, MessagesAreInRange, DesksAreInRange};
+ghost use Rattle.learner.specs.Laws.{LogsAreChosen, OneIsChosen, LogsAreSubmitted, LogsAgree, LogsGrow, EntriesStay, Always, ContentsStand, MessagesAreInRange, DesksAreInRange, StepsStayInRange};
 ghost use Rattle.learner.specs.Invariant.{IsSound};
 ghost use Rattle.learner.specs.Parts.{HasOneEntry, VotesStand, PromisesStand, AcceptsAreBacked, DecisionsAreChosen, RolesStand};
 
@@ -33,6 +33,12 @@ pub fn logs_grow()
 /// An entry at a position of one log stands there in every longer log, at every moment.
 pub fn entries_stay()
     ensures { EntriesStay }
+{}
+
+/// A step of a desk whose log, ballots and role are in their ranges leaves them there, and what it
+/// sends is from that desk to a desk of the hall, with its fields in their ranges.
+pub fn steps_stay_in_range()
+    ensures { StepsStayInRange }
 {}
 
 /// What holds of the desks and of all that they have sent, at every moment.

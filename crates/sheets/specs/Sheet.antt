@@ -1,5 +1,5 @@
 -- The result sheet of a round, as a function of the accepted commands, the event, the round and the position.
-use Rattle.std.specs.Prelude.{ℕ, ◌-◌, Bool, true, false, ◌&&◌, List, [], ◌∷◌, ◌++◌, length, replicate, map, flat_map, slice_get, unwrap_or, codes, decimal, Option, None, Some}
+use Rattle.std.specs.Prelude.{ℕ, ◌-◌, Bool, true, false, ◌&&◌, List, [], ◌∷◌, ◌++◌, length, replicate, map, flat_map, slice_get, unwrap_or, codes, decimal, Option}
 use Rattle.std.specs.List.{range_with_len}
 use Rattle.std.specs.Option.{option_map}
 use Rattle.csv.specs.Writing.{row_text, default_writer}
@@ -13,10 +13,9 @@ use Rattle.formats.specs.declared.results.Averaged.{Averaged}
 use Rattle.formats.specs.Results.{best_of, average_of, average_text}
 use Rattle.commands.specs.declared.command.Command.{Command}
 use Rattle.commands.specs.declared.command.Settings.{Settings}
-use Rattle.commands.specs.declared.advancement.Advance.{Advance}
-use Rattle.commands.specs.declared.advancement.Advance.TheVariants.{Final}
+use Rattle.advancement.specs.Advancing.{goes_on}
 use Rattle.commands.specs.Spelling.{cutoff_text, limit_text, advance_text}
-use Rattle.commands.specs.Tables.{Entrant, Table, entrant, place, standings}
+use Rattle.rounds.specs.Tables.{Entrant, Table, entrant, place, standings}
 use Rattle.commands.specs.Accepted.{name_of, round_of}
 use Rattle.sheets.specs.declared.Style.{Style}
 use Rattle.sheets.specs.declared.Style.TheVariants as style
@@ -41,13 +40,9 @@ attempt_text unit vs k = unwrap_or (option_map (value_text unit) (slice_get vs k
 abbrev pub name_text : List Command → ℕ → List ℕ
 name_text cs n = unwrap_or (name_of cs n) []
 
--- nobody advances from a final
-abbrev pub advances : Advance → Table → ℕ → Bool
-advances Final t n = false
-
 -- who advances is marked once the round is closed
 abbrev pub is_marked : Settings → Table → ℕ → Bool
-is_marked settings t n = t.is_closed && advances settings.advance t n
+is_marked settings t n = t.is_closed && goes_on t settings.advance n
 
 -- ---- the text
 

@@ -11,9 +11,9 @@ use crate::shown::{
     Shown, attempt_text, best_text, decimal_text, is_marked, name_text, shown_round,
 };
 use attempts::{NoMemory, Unit, Value, push_decimal};
-use commands::rounds::Row;
 use commands::{Meet, Settings, print_advance, print_cutoff, print_limit};
 use formats::{Event, Format, attempts_of, print_average, unit_of};
+use rounds::Row;
 use std::alloc::Global;
 
 /// Adds a text on the right of so many columns.

@@ -17,9 +17,9 @@ use crate::shown::{
 };
 use attempts::{NoMemory, Unit, Value};
 use commands::Meet;
-use commands::rounds::Row;
 use csv::{ByteRecord, Writer};
 use formats::{Event, attempts_of, print_average, unit_of};
+use rounds::Row;
 use std::alloc::{AllocError, Global};
 
 /// Adds a field.

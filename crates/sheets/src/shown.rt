@@ -3,12 +3,13 @@
 ghost use Rattle.std.specs.Prelude.{◌≡◌, IfOk, IfSome, decimal, option_map};
 ghost use Rattle.formats.specs.Results.{best_of};
 ghost use Rattle.commands.specs.Accepted.{round_of};
-ghost use Rattle.sheets.specs.Sheet.{best_text, attempt_text, name_text, is_marked, advances};
+ghost use Rattle.sheets.specs.Sheet.{best_text, attempt_text, name_text, is_marked};
 
+use advancement::advances;
 use attempts::{NoMemory, Unit, Value, print_value, push_decimal};
-use commands::rounds::RoundTable;
-use commands::{Advance, Meet, Settings};
+use commands::{Meet, Settings};
 use formats::Event;
+use rounds::RoundTable;
 use std::alloc::Global;
 
 /// A round that was opened, and the meet that it belongs to.
@@ -89,18 +90,9 @@ pub fn name_text(meet: &Meet, number: u16) -> &[u8]
     }
 }
 
-/// Whether a competitor goes on to the next round: nobody does from a final.
-fn advances(advance: Advance, table: &RoundTable, number: u16) -> bool
-    ensures { result ≡ advances advance table.now number }
-{
-    match advance {
-        Advance::Final => false,
-    }
-}
-
 /// Whether the sheet marks a competitor as one who advances.
 pub fn is_marked(shown: Shown<'_>, number: u16) -> bool
     ensures { result ≡ is_marked shown.entry.settings shown.entry.table.now number }
 {
-    shown.table.is_closed() && advances(shown.settings.advance, shown.table, number)
+    shown.table.is_closed() && advances(shown.table, shown.settings.advance, number)
 }

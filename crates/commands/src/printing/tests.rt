@@ -14,9 +14,12 @@ fn prints_settings(rt: HostRuntime) -> Result<(), Fail> {
         print_limit(alloc, Some(60_000))?.as_slice(),
         b"60000".as_slice()
     );
-    assert_eq!(rt;
-        print_advance(alloc, Advance::Final)?.as_slice(),
-        b"final".as_slice()
-    );
+    for (advance, text) in [
+        (Advance::Final, b"final".as_slice()),
+        (Advance::Top(999), b"top:999"),
+        (Advance::Percent(75), b"pct:75"),
+    ] {
+        assert_eq!(rt; print_advance(alloc, advance)?.as_slice(), text);
+    }
     Ok(())
 }

@@ -1,7 +1,7 @@
 use super::*;
+use crate::command::Entered;
 use crate::printing::print;
-use attempts::Outcome;
-use formats::Event;
+use cube::{Kind, Move, Quarter, Side};
 use std::test::Fail;
 
 /// The fault of a text that is no command.
@@ -62,7 +62,7 @@ fn takes_600_bytes(rt: HostRuntime) {
 }
 
 #[test]
-fn reads_the_stored_run(rt: HostRuntime) -> Result<(), Fail> {
+fn reads_each_word(rt: HostRuntime) -> Result<(), Fail> {
     let alloc = rt.alloc();
     for text in [
         b"REG 1 Ann Li".as_slice(),
@@ -74,6 +74,11 @@ fn reads_the_stored_run(rt: HostRuntime) -> Result<(), Fail> {
         b"ATT 333 1 5 1 DNF",
         b"ATT 333 1 5 1 DNS",
         b"ATT 333 1 1 2 T:950:1",
+        b"COR 333 1 4 1 DNF",
+        b"COR 333fm 4 3 9999 S:R U2",
+        b"STR 333 1 1",
+        b"ADV 333 1 final",
+        b"CLOSE 333 1",
     ] {
         assert!(rt; reads(alloc, text)?, "{text:?}");
     }
@@ -96,12 +101,93 @@ fn reads_the_stored_run(rt: HostRuntime) -> Result<(), Fail> {
                 round: 1,
                 attempt: 2,
                 number: 34,
-                outcome: Outcome::Time {
+                outcome: Entered::Time {
                     hundredths: 950,
                     penalties: 1
                 }
             }
         )
+    );
+    Ok(())
+}
+
+#[test]
+fn reads_each_event_and_format(rt: HostRuntime) -> Result<(), Fail> {
+    let alloc = rt.alloc();
+    for event in [
+        "333", "222", "444", "555", "666", "777", "333bf", "333fm", "333oh", "clock", "minx",
+        "pyram", "skewb", "sq1", "444bf", "555bf",
+    ] {
+        let text = format!(in alloc; "ENT {event} 12")?;
+        assert!(rt; reads(alloc, text.as_bytes())?, "{event}");
+    }
+    for format in ["ao5", "mo3", "bo1", "bo2", "bo3"] {
+        let text = format!(in alloc; "OPEN 777 1 {format} - 60000 final")?;
+        assert!(rt; reads(alloc, text.as_bytes())?, "{format}");
+    }
+    Ok(())
+}
+
+#[test]
+fn reads_moves(rt: HostRuntime) -> Result<(), Fail> {
+    let alloc = rt.alloc();
+    for text in [
+        b"SCR 333fm 1 5 R".as_slice(),
+        b"SCR 333fm 1 1 R' U2 Fw Lw2 Bw' x y' z2 D",
+        b"ATT 333fm 1 1 1 S:R'",
+        b"ATT 333fm 1 3 9999 S:y F'",
+    ] {
+        assert!(rt; reads(alloc, text)?, "{text:?}");
+    }
+    let Command::Scramble { attempt, moves, .. } = read(alloc, b"SCR 333fm 1 2 R Uw'")? else {
+        return Err(Fail::from(CommandFault::NotACommand));
+    };
+    let want = [
+        Move {
+            kind: Kind::Face(Side::R),
+            quarter: Quarter::Clockwise,
+        },
+        Move {
+            kind: Kind::Block(Side::U),
+            quarter: Quarter::Anticlockwise,
+        },
+    ];
+    assert!(rt; attempt == 2 && moves.as_slice() == want.as_slice());
+    for (text, index) in [
+        (b"SCR 333fm 1 1".as_slice(), 4),
+        (b"SCR 333fm 1 1 ", 4),
+        (b"SCR 333fm 1 1 R  U", 4),
+        (b"SCR 333fm 1 1  R", 4),
+        (b"SCR 333fm 1 1 R ", 4),
+        (b"SCR 333fm 1 1 M", 4),
+        (b"SCR 333fm 1 6 R", 3),
+        (b"ATT 333fm 1 1 1 S:", 5),
+        (b"ATT 333fm 1 1 1 S:R  U", 5),
+        (b"ATT 333fm 1 1 1 S: R", 5),
+        (b"ATT 333fm 1 1 1 s:R", 5),
+    ] {
+        assert_eq!(rt; fault_of(alloc, text), bad_field(index), "{text:?}");
+    }
+    Ok(())
+}
+
+/// `SCR 333fm 1 1` and so many moves.
+fn scramble_of_length(alloc: Global, moves: u32) -> Result<Vec<u8>, Fail> {
+    let mut text = Vec::from_slice(alloc, b"SCR 333fm 1 1")?;
+    for _ in 0..moves {
+        text.extend_from_slice(b" R")?;
+    }
+    Ok(text)
+}
+
+#[test]
+fn takes_moves_up_to_600_bytes(rt: HostRuntime) -> Result<(), Fail> {
+    let alloc = rt.alloc();
+    let most = scramble_of_length(alloc, 293)?;
+    assert!(rt; most.len() == 599 && reads(alloc, &most)?);
+    assert_eq!(rt;
+        fault_of(alloc, &scramble_of_length(alloc, 294)?),
+        Some(CommandFault::TooLong)
     );
     Ok(())
 }
@@ -168,9 +254,21 @@ fn takes_numbers_in_their_ranges(rt: HostRuntime) -> Result<(), Fail> {
         b"OPEN 333 1 ao5 - 360000 final",
         b"ATT 333 1 1 1 T:1:0",
         b"ATT 333 1 5 9999 T:999999:9",
+        b"OPEN 333bf 4 bo3 1:1 360000 top:1",
+        b"OPEN 333fm 2 mo3 2:25 - pct:1",
+        b"OPEN 777 3 mo3 4:360000 1 top:999",
+        b"STR clock 4 9999",
+        b"ADV 333 4 pct:75",
+        b"CLOSE sq1 4",
     ] {
         assert!(rt; reads(alloc, text)?, "{text:?}");
     }
+    Ok(())
+}
+
+#[test]
+fn names_the_field_out_of_range(rt: HostRuntime) {
+    let alloc = rt.alloc();
     for (text, index) in [
         (b"REG 0 A".as_slice(), 1),
         (b"REG 10000 A", 1),
@@ -183,9 +281,17 @@ fn takes_numbers_in_their_ranges(rt: HostRuntime) -> Result<(), Fail> {
         (b"OPEN 333 5 ao5 - 60000 final", 2),
         (b"OPEN 333 1 ao6 - 60000 final", 3),
         (b"OPEN 333 1 ao5 0 60000 final", 4),
+        (b"OPEN 333 1 ao5 0:1500 60000 final", 4),
+        (b"OPEN 333 1 ao5 5:1500 60000 final", 4),
+        (b"OPEN 333 1 ao5 2:0 60000 final", 4),
+        (b"OPEN 333 1 ao5 2:360001 60000 final", 4),
+        (b"OPEN 333 1 ao5 2 60000 final", 4),
+        (b"OPEN 333 1 ao5 2:1500:1 60000 final", 4),
         (b"OPEN 333 1 ao5 - 0 final", 5),
         (b"OPEN 333 1 ao5 - 360001 final", 5),
         (b"OPEN 333 1 ao5 - 60000 Final", 6),
+        (b"OPEN 333 1 ao5 - 60000 top:0", 6),
+        (b"OPEN 333 1 ao5 - 60000 pct:76", 6),
         (b"ATT 333 1 0 1 DNF", 3),
         (b"ATT 333 1 6 1 DNF", 3),
         (b"ATT 333 1 1 0 DNF", 4),
@@ -199,8 +305,18 @@ fn takes_numbers_in_their_ranges(rt: HostRuntime) -> Result<(), Fail> {
         (b"ATT 333 1 1 1 T:1000:0:0", 5),
         (b"ATT 333 1 1 1 dnf", 5),
         (b"ATT 333 1 1 1", 5),
+        (b"COR 333 1 0 1 DNF", 3),
+        (b"COR 333 1 1 1 DNF ", 5),
+        (b"STR 333 1 0", 3),
+        (b"STR 333 1 1 1", 4),
+        (b"ADV 333 1 top:1000", 3),
+        (b"ADV 333 1 pct:0", 3),
+        (b"ADV 333 1 top:01", 3),
+        (b"ADV 333 1 final -", 4),
+        (b"CLOSE 333", 2),
+        (b"CLOSE 333 1 ", 3),
+        (b"CLOSE 333 5", 2),
     ] {
         assert_eq!(rt; fault_of(alloc, text), bad_field(index), "{text:?}");
     }
-    Ok(())
 }

@@ -1,6 +1,6 @@
-use Rattle.std.proofs.Common.{◌≡◌, ℕ, List, [], ◌++◌, refl, ap, take, length-take, arith}
+use Rattle.std.proofs.Common.{[], ◌++◌, refl, ap, take, length-take, arith}
 use Rattle.desk.specs.Progress.{Progress}
-use Rattle.std.proofs.KnownBytes.{Appends-nil, Consumes-nil, Consumes-kept}
+use Rattle.std.proofs.KnownBytes.{Appends-nil, Consumes-nil}
 use Rattle.desk.proofs.Pieces.{fit_bytes, count_bytes, takes_more, stops_later}
 use Rattle.desk.proofs.replay.take_all.Goals as goal
 

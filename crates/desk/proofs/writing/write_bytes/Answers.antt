@@ -1,5 +1,5 @@
-use Rattle.std.proofs.Common.{◌≡◌, ◌++◌, [], take, drop, refl, sym, ap, ◌∙◌, append_assoc, append-nil, take-append-drop}
-use Rattle.std.proofs.KnownBytes.{Appends-nil, Appends-trans, Appends-kept}
+use Rattle.std.proofs.Common.{◌++◌, [], take, refl}
+use Rattle.std.proofs.KnownBytes.{Appends-nil, Appends-trans}
 use Rattle.desk.proofs.Known.{split_front}
 use Rattle.desk.proofs.writing.write_bytes.Goals as goal
 

@@ -1,4 +1,4 @@
-use Rattle.std.proofs.Common.{◌≡◌, ◌++◌, List, codes, sym, ap, ◌∙◌, append_assoc}
+use Rattle.std.proofs.Common.{◌++◌, codes, sym, ap, ◌∙◌, append_assoc}
 use Rattle.sheets.specs.Sheet.{right, attempt_text, attempts}
 use Rattle.sheets.proofs.Ranges.{range_more}
 use Rattle.sheets.proofs.lines.push_attempts.Goals as goal

@@ -1,4 +1,4 @@
-use Rattle.std.proofs.Common.{◌++◌, map, decimal}
+use Rattle.std.proofs.Common.{◌++◌, map}
 use Rattle.std.specs.List.{range_with_len}
 use Rattle.csv.specs.Records.{fields_of}
 use Rattle.sheets.specs.Sheet.{attempt_text}

@@ -4,4 +4,5 @@ use Rattle.commands.proofs.book.Index.attempt.Goals as goal
 
 pub returns-clause-index : goal.returns-clause-index
 returns-clause-index c =
-    attempted c.args.accepted.now c.args.event c.args.round c.args.attempt c.args.number c.args.outcome c.put.result c.args.self.now _ c.requires.index refl c.put.ensures.done c.put.ensures.refused
+    attempted c.args.accepted.now c.args.event c.args.round c.args.attempt c.args.number c.args.entered.now c.put.result c.args.self.now _ c.requires.index refl
+    (rw c.scramble_of-scramble.ensures at c.put.ensures.done) c.put.ensures.refused

@@ -1,6 +1,6 @@
-use Rattle.std.proofs.Common.{◌≡◌, ◌++◌, sym, ap, ◌∙◌, get_or, append_assoc}
-use Rattle.desk.specs.Progress.{has_room, next, said, said_of}
-use Rattle.desk.proofs.Pieces.{fit_more, after_more, said_more, said_behind, stops_at}
+use Rattle.std.proofs.Common.{sym, ap, ◌∙◌, get_or}
+use Rattle.desk.specs.Progress.{has_room, next}
+use Rattle.desk.proofs.Pieces.{fit_more, after_more, said_behind, stops_at}
 use Rattle.desk.proofs.session.Session.take_piece.Goals as goal
 
 pub loop-byte-preserved : goal.loop-byte-preserved

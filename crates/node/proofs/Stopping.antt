@@ -1,0 +1,238 @@
+-- Desks that stop make a run of the world.
+use Rattle.std.proofs.Common.{◌≡◌, ◌⊎◌, inl, inr, ℕ, zero, suc, Bool, true, false, if◌then◌else◌, List, [], ◌∷◌, ◌++◌, Option, Some, None, Result, Ok, Err, slice_get, take, refl, sym, ap, subst, ◌∙◌}
+use Rattle.acceptor.specs.declared.entry.Entry.{Entry}
+use Rattle.acceptor.specs.declared.message.Message.{Message}
+use Rattle.proposer.specs.declared.faults.Refusal.{Refusal}
+use Rattle.learner.specs.declared.event.Event.{Event}
+use Rattle.learner.specs.declared.event.Event.TheVariants.{Submit, Start, Tick, Deliver}
+use Rattle.learner.specs.declared.event.WorldEvent.{WorldEvent}
+use Rattle.learner.specs.declared.event.WorldEvent.TheVariants.{Submit as SubmitAt, Start as StartAt, Tick as TickAt, Deliver as DeliverNth, Restart as RestartAt}
+use Rattle.learner.specs.Desks.{Desk, restarted}
+use Rattle.learner.specs.Steps.{Done, is_desk, step}
+use Rattle.learner.specs.Laws.{IsPrefix, LogsAgree}
+use Rattle.learner.specs.Worlds.{World, new_world, put, world_after, at_desk, nth_sent, delivered, restart_at, happens, run, after, log_of}
+use Rattle.node.specs.Stops.{Happening, Answered, Stopped, place, stopped, goes_on, real_run, IsAmong, Follows, StopsMakeARun, real_log, RealLogsAgree}
+
+abbrev world_of : (ℕ → Desk) → List Message → World
+world_of desks sent = record { desks = desks; sent = sent }
+
+abbrev Within : List Message → List Message → Type 0
+Within a b = (m : Message) → IsAmong m a → IsAmong m b
+
+among_left : (m : Message) (a b : List Message) → IsAmong m a → IsAmong m (a ++ b)
+among_left m [] b h = absurd h
+among_left m (x ∷ xs) b (inl e) = inl e
+among_left m (x ∷ xs) b (inr h) = inr (among_left m xs b h)
+
+among_right : (m : Message) (a b : List Message) → IsAmong m b → IsAmong m (a ++ b)
+among_right m [] b h = h
+among_right m (x ∷ xs) b h = inr (among_right m xs b h)
+
+among_either : (m : Message) (a b : List Message) → IsAmong m (a ++ b) → IsAmong m a ⊎ IsAmong m b
+among_either m [] b h = inr h
+among_either m (x ∷ xs) b (inl e) = inl (inl e)
+among_either m (x ∷ xs) b (inr h) = go (among_either m xs b h)
+  where
+    go : IsAmong m xs ⊎ IsAmong m b → IsAmong m (x ∷ xs) ⊎ IsAmong m b
+    go (inl k) = inl (inr k)
+    go (inr k) = inr k
+
+within_more : (a b more : List Message) → Within a b → Within (a ++ more) (b ++ more)
+within_more a b more h m k = go (among_either m a more k)
+  where
+    go : IsAmong m a ⊎ IsAmong m more → IsAmong m (b ++ more)
+    go (inl l) = among_left m b more (h m l)
+    go (inr r) = among_right m b more r
+
+get_among : (m : Message) (a : List Message) (k : ℕ) → slice_get a k ≡ Some m → IsAmong m a
+get_among m [] k e = absurd cc
+get_among m (x ∷ xs) zero e = let same : x ≡ m = cc in inl same
+get_among m (x ∷ xs) (suc k) e = inr (get_among m xs k e)
+
+among_get : (m : Message) (b : List Message) → IsAmong m b → (k : ℕ) × (slice_get b k ≡ Some m)
+among_get m [] h = absurd h
+among_get m (x ∷ xs) (inl e) = (zero, ap (λ (y : Message). Some y) e)
+among_get m (x ∷ xs) (inr h) = let there = among_get m xs h in (suc there.0, there.1)
+
+desks_of : {real w : World} → Follows real w → real.desks ≡ w.desks
+desks_of f = f.desks
+
+-- one event at a desk
+at_follows : (n d : ℕ) (event : Event) (desks : ℕ → Desk) (a b : List Message) → Within a b → Follows (at_desk n (world_of desks a) d event) (at_desk n (world_of desks b) d event)
+at_follows n d event desks a b h = go (is_desk n d) (step n d (desks d) event)
+  where
+    go : (t : Bool) (r : Result Done Refusal) → Follows (if t then world_after (world_of desks a) d r else world_of desks a) (if t then world_after (world_of desks b) d r else world_of desks b)
+    go true (Ok r) = record { desks = refl; sent = within_more a b r.messages h }
+    go true (Err why) = record { desks = refl; sent = h }
+    go false r = record { desks = refl; sent = h }
+
+restart_follows : (n d : ℕ) (desks : ℕ → Desk) (a b : List Message) → Within a b → Follows (restart_at n (world_of desks a) d) (restart_at n (world_of desks b) d)
+restart_follows n d desks a b h = go (is_desk n d)
+  where
+    go : (t : Bool)
+        → Follows (if t then world_of (put desks d (restarted (desks d))) a else world_of desks a) (if t then world_of (put desks d (restarted (desks d))) b else world_of desks b)
+    go true = record { desks = refl; sent = h }
+    go false = record { desks = refl; sent = h }
+
+-- an event among the real desks is one of the world
+abbrev Matches : ℕ → (ℕ → Desk) → List Message → List Message → WorldEvent → Type 0
+Matches n desks a b e =
+    (event : WorldEvent) × Follows (happens n (world_of desks a) e) (happens n (world_of desks b) event)
+
+matches : (n : ℕ) (desks : ℕ → Desk) (a b : List Message) (e : WorldEvent) → Within a b → Matches n desks a b e
+matches n desks a b (SubmitAt d e) h = (SubmitAt d e, at_follows n d (Submit e) desks a b h)
+matches n desks a b (StartAt d) h = (StartAt d, at_follows n d Start desks a b h)
+matches n desks a b (TickAt d) h = (TickAt d, at_follows n d Tick desks a b h)
+matches n desks a b (RestartAt d) h = (RestartAt d, restart_follows n d desks a b h)
+matches n desks a b (DeliverNth zero) h = (DeliverNth zero, record { desks = refl; sent = h })
+matches n desks a b (DeliverNth (suc k)) h = go (slice_get a k) refl
+  where
+    there : (m : Message) → slice_get a k ≡ Some m → Matches n desks a b (DeliverNth (suc k))
+    there m e =
+        let found = among_get m b (h m (get_among m a k e)) in
+        let right : delivered n (world_of desks b) (slice_get b found.0) ≡ delivered n (world_of desks b) (Some m) = ap (λ (o : Option Message). delivered n (world_of desks b) o) found.1 in
+        let left : delivered n (world_of desks a) (slice_get a k) ≡ delivered n (world_of desks a) (Some m) = ap (λ (o : Option Message). delivered n (world_of desks a) o) e in (
+          DeliverNth (suc found.0),
+          subst (λ (w : World). Follows w (delivered n (world_of desks b) (slice_get b found.0))) (sym left)
+              (subst (λ (w : World). Follows (delivered n (world_of desks a) (Some m)) w) (sym right) (at_follows n m.to (Deliver m) desks a b h)),
+        )
+
+    none : slice_get a k ≡ None → Matches n desks a b (DeliverNth (suc k))
+    none e =
+        let left : delivered n (world_of desks a) (slice_get a k) ≡ delivered n (world_of desks a) None = ap (λ (o : Option Message). delivered n (world_of desks a) o) e in (
+          DeliverNth zero,
+          subst (λ (w : World). Follows w (world_of desks b)) (sym left) (record { desks = refl; sent = h }),
+        )
+
+    go : (o : Option Message) → slice_get a k ≡ o → Matches n desks a b (DeliverNth (suc k))
+    go (Some m) e = there m e
+    go None e = none e
+
+-- a world that follows is left by more sent
+abbrev Continues : ℕ → World → World → Type 0
+Continues n real w = (events : List WorldEvent) × Follows real (run n w events)
+
+at_grows : (n d : ℕ) (event : Event) (w : World) → Within w.sent (at_desk n w d event).sent
+at_grows n d event w m k = go (is_desk n d) (step n d (w.desks d) event)
+  where
+    go : (t : Bool) (r : Result Done Refusal) → IsAmong m (if t then world_after w d r else w).sent
+    go true (Ok r) = among_left m w.sent r.messages k
+    go true (Err why) = k
+    go false r = k
+
+restart_keeps : (n d : ℕ) (w : World) → Within w.sent (restart_at n w d).sent
+restart_keeps n d w m k = go (is_desk n d)
+  where
+    go : (t : Bool) → IsAmong m (if t then world_of (put w.desks d (restarted (w.desks d))) w.sent else w).sent
+    go true = k
+    go false = k
+
+happens_grows : (n : ℕ) (w : World) (e : WorldEvent) → Within w.sent (happens n w e).sent
+happens_grows n w (SubmitAt d e) = at_grows n d (Submit e) w
+happens_grows n w (StartAt d) = at_grows n d Start w
+happens_grows n w (TickAt d) = at_grows n d Tick w
+happens_grows n w (RestartAt d) = restart_keeps n d w
+happens_grows n w (DeliverNth k) = go (nth_sent w.sent k)
+  where
+    go : (o : Option Message) → Within w.sent (delivered n w o).sent
+    go None = λ m h. h
+    go (Some m) = at_grows n m.to (Deliver m) w
+
+restart_desks : (n d : ℕ) (r w : World) → r.desks ≡ w.desks → (restart_at n r d).desks ≡ (restart_at n w d).desks
+restart_desks n d r w e = go (is_desk n d)
+  where
+    go : (t : Bool) → (if t then world_of (put r.desks d (restarted (r.desks d))) r.sent else r).desks ≡ (if t then world_of (put w.desks d (restarted (w.desks d))) w.sent else w).desks
+    go true = ap (λ (ds : ℕ → Desk). put ds d (restarted (ds d))) e
+    go false = e
+
+run_more : (n : ℕ) (w : World) (xs ys : List WorldEvent) → run n w (xs ++ ys) ≡ run n (run n w xs) ys
+run_more n w [] ys = refl
+run_more n w (x ∷ xs) ys = run_more n (happens n w x) xs ys
+
+one_more : (n : ℕ) (real w : World) (h : Happening) → Follows real w → Continues n (goes_on n real h) w
+one_more n real w (Answered e) f = answered
+  where
+    same : world_of real.desks w.sent ≡ w
+    same = ap (λ (ds : ℕ → Desk). world_of ds w.sent) f.desks
+
+    answered : Continues n (happens n real e) w
+    answered =
+        let m = matches n real.desks real.sent w.sent e f.sent in
+        (m.0 ∷ [], subst (λ (v : World). Follows (happens n real e) (happens n v m.0)) same m.1)
+one_more n real w (Stopped false e) f =
+    let same : world_of real.desks w.sent ≡ w = ap (λ (ds : ℕ → Desk). world_of ds w.sent) f.desks in (
+      RestartAt (place real e) ∷ [],
+      subst (λ (v : World). Follows (restart_at n real (place real e)) (restart_at n v (place real e))) same (restart_follows n (place real e) real.desks real.sent w.sent f.sent),
+    )
+one_more n real w (Stopped true e) f = halted
+  where
+    same : world_of real.desks w.sent ≡ w
+    same = ap (λ (ds : ℕ → Desk). world_of ds w.sent) f.desks
+
+    done : Matches n real.desks real.sent w.sent e
+    done = matches n real.desks real.sent w.sent e f.sent
+
+    here : World
+    here = happens n real e
+
+    there : World
+    there = happens n w done.0
+
+    follows : Follows here there
+    follows = subst (λ (v : World). Follows here (happens n v done.0)) same done.1
+
+    halted : Continues n (stopped n real true e) w
+    halted = (
+      done.0 ∷ RestartAt (place real e) ∷ [],
+      record {
+        desks = restart_desks n (place real e) here there follows.desks;
+        sent = λ m k. restart_keeps n (place real e) there m (follows.sent m (happens_grows n real e m k));
+      },
+    )
+
+-- past the end of the front
+abbrev past : List WorldEvent → ℕ → ℕ
+past [] m = m
+past (x ∷ xs) m = suc (past xs m)
+
+take_past : (xs ys : List WorldEvent) (m : ℕ) → take (past xs m) (xs ++ ys) ≡ xs ++ take m ys
+take_past [] ys m = refl
+take_past (x ∷ xs) ys m = ap (λ (zs : List WorldEvent). x ∷ zs) (take_past xs ys m)
+
+-- each moment of the one is a moment of the other
+abbrev Accompanies : ℕ → World → World → List Happening → Type 0
+Accompanies n real w hs = (events : List WorldEvent) × ((i : ℕ) → (m : ℕ) × Follows (real_run n real (take i hs)) (run n w (take m events)))
+
+joined : (n : ℕ) (real w : World) (h : Happening) (hs : List Happening) → Follows real w → (first : Continues n (goes_on n real h) w)
+    → Accompanies n (goes_on n real h) (run n w first.0) hs → Accompanies n real w (h ∷ hs)
+joined n real w h hs f first rest = (first.0 ++ rest.0, moments)
+  where
+    moments : (i : ℕ) → (m : ℕ) × Follows (real_run n real (take i (h ∷ hs))) (run n w (take m (first.0 ++ rest.0)))
+    moments zero = (0, f)
+    moments (suc i) =
+        let later = rest.1 i in
+        let same : run n w (take (past first.0 later.0) (first.0 ++ rest.0)) ≡ run n (run n w first.0) (take later.0 rest.0) =
+        ap (λ (es : List WorldEvent). run n w es) (take_past first.0 rest.0 later.0) ∙ run_more n w first.0 (take later.0 rest.0) in
+        (past first.0 later.0, subst (λ (v : World). Follows (real_run n (goes_on n real h) (take i hs)) v) (sym same) later.1)
+
+goes_further : (n : ℕ) (real w : World) (hs : List Happening) → Follows real w → Accompanies n real w hs
+goes_further n real w [] f = ([], none)
+  where
+    none : (i : ℕ) → (m : ℕ) × Follows (real_run n real (take i [])) (run n w (take m []))
+    none zero = (0, f)
+    none (suc i) = (0, f)
+goes_further n real w (h ∷ hs) f =
+    let first = one_more n real w h f in joined n real w h hs f first (goes_further n (goes_on n real h) (run n w first.0) hs first.1)
+
+pub stops_make_a_run : StopsMakeARun
+stops_make_a_run n hs = goes_further n new_world new_world hs (record { desks = refl; sent = λ m h. h })
+
+pub real_logs_agree : LogsAgree → RealLogsAgree
+real_logs_agree agree n hs i j d k =
+    let all = stops_make_a_run n hs in
+    let one = all.1 i in
+    let two = all.1 j in
+    let here : real_log n hs i d ≡ log_of n (take one.0 all.0) d = ap (λ (ds : ℕ → Desk). (ds d).log) (desks_of one.1) in
+    let there : real_log n hs j k ≡ log_of n (take two.0 all.0) k = ap (λ (ds : ℕ → Desk). (ds k).log) (desks_of two.1) in
+    subst (λ (xs : List Entry). IsPrefix xs (real_log n hs j k) ⊎ IsPrefix (real_log n hs j k) xs) (sym here)
+    (subst (λ (ys : List Entry). IsPrefix (log_of n (take one.0 all.0) d) ys ⊎ IsPrefix ys (log_of n (take one.0 all.0) d)) (sym there) (agree n all.0 one.0 two.0 d k))

@@ -1,0 +1,178 @@
+//! One desk of a hall, over the store that keeps its state.
+
+ghost use Rattle.std.specs.Prelude.{◌≡◌, ◌≢◌, ◌⊎◌, ◌↔◌, ◌≤◌, ◌<◌, List, Err, Result, Some, true, false, IsOk, IfOk, OnOk, OnErr, IfErr, length};
+ghost use Rattle.acceptor.specs.declared.entry.Entry.{Entry as EntryValue};
+ghost use Rattle.acceptor.specs.declared.stored.Stored.{Stored as State};
+ghost use Rattle.learner.specs.Steps.{step};
+ghost use Rattle.store.specs.Keeping.{HoldsOnly};
+ghost use Rattle.node.specs.Answers.{told, sheet_at, NoSheetAt};
+ghost use Rattle.node.specs.RunningDesks.{opened};
+ghost use Rattle.node.specs.Nodes.{Takes, HoldsBeforeOrAfter, IsIgnored};
+
+use crate::answers::{Told, answer_of, sheet_of};
+use crate::faults::{NodeFault, SheetFault};
+use crate::handling::take_event;
+use crate::running::Running;
+use acceptor::NoMemory;
+use acceptor::message::Messages;
+use learner::event::Event;
+use learner::log::Log;
+use sheets::Style;
+use std::alloc::Global;
+use std::marker::Model;
+use store::faults::LoadFault;
+use store::home::Home;
+use store::keeper::Keeper;
+
+/// One desk of a hall, over a keeper. It takes one event at a time.
+///
+/// What is said of the store stands under the keeper's premise, `is_honest`: so far the store has given
+/// back what was written to it, and nobody else has written it. A keeper in memory needs none.
+pub struct Node<K: Keeper> {
+    alloc: Global,
+    keeper: K,
+    desk: Running,
+    is_down: bool,
+}
+
+// It is written out, so that a caller does not prove again how each part is dropped.
+impl<K: Keeper + Drop> Drop for Node<K> {
+    fn drop(self) {
+        let Node {
+            alloc: _,
+            keeper: _,
+            desk: _,
+            is_down: _,
+        } = self;
+    }
+}
+
+impl<K: Keeper> Model for Node<K> {
+    ghost use Rattle.std.specs.Prelude.{◌≡◌, false};
+    ghost use Rattle.node.specs.Nodes.{NodeValue};
+
+    ghost Value = { NodeValue K };
+
+    ghost view = { λ n. record { keeper = n.keeper; desk = n.desk.desk; is_down = n.is_down } };
+
+    ghost invariant = { λ n. ((K.home_of n.keeper).desk ≡ n.desk.number) × ((K.home_of n.keeper).desks ≡ n.desk.desks)
+        × (n.is_down ≡ false → K.is_down n.keeper ≡ false)
+        × (n.is_down ≡ false → K.is_honest n.keeper → K.keeps n.keeper n.desk.desk.stored n.desk.desk.log) };
+}
+
+impl<K: Keeper + Drop> Node<K> {
+    /// Opens the desk that the keeper keeps: it has the state and the log that the keeper loads, is idle,
+    /// and has an empty queue.
+    ///
+    /// The refusals are those of the keeper's `load`; NoMemory is the desk's own too.
+    pub fn open(alloc: Global, keeper: K) -> Result<Node<K>, LoadFault>
+        ensures up { IfOk result (λ node. node.is_down ≡ false) }
+        ensures first { IfOk result (λ node. node.desk ≡ opened node.desk.stored node.desk.log) }
+        ensures loaded { IfOk result (λ node. K.is_honest node.keeper → K.may_hold keeper node.desk.stored node.desk.log) }
+        ensures same { IfOk result (λ node. K.is_honest node.keeper → (s : State) (log : List EntryValue) → K.keeps keeper s log
+            → (node.desk.stored ≡ s) × (node.desk.log ≡ log)) }
+        ensures stored { IfOk result (λ node. K.is_honest node.keeper → HoldsOnly (K.may_hold node.keeper) node.desk.stored node.desk.log) }
+        ensures honest { IfOk result (λ node. K.is_honest node.keeper → K.is_honest keeper) }
+        ensures home { IfOk result (λ node. K.home_of node.keeper ≡ K.home_of keeper) }
+        ensures refused { IfErr result (λ fault. (fault ≡ LoadFault.NoMemory) ⊎ ((k : K) × K.load_gives keeper (Err fault) k)) }
+    {
+        let mut keeper = keeper;
+        let home = keeper.home();
+        match keeper.load(alloc) {
+            Ok((stored, log)) => match Running::new(alloc, home.desk, home.desks, stored, log) {
+                Ok(desk) => Ok(Node {
+                    alloc,
+                    keeper,
+                    desk,
+                    is_down: false,
+                }),
+                Err(_) => Err(LoadFault::NoMemory),
+            },
+            Err(fault) => Err(fault),
+        }
+    }
+
+    /// The hall, the number of this desk, and the number of desks.
+    pub fn home(&self) -> Home
+        ensures { result ≡ K.home_of self.now.keeper }
+    {
+        self.keeper.home()
+    }
+
+    /// Takes an event: does the step of the protocol, with its one change committed to the store before
+    /// any message is handed out.
+    ///
+    /// The messages are in the order in which they are to be sent. Each is from this desk to a desk of
+    /// the hall, with its fields in the ranges of a frame. A message for another desk, from none of the
+    /// hall, or with a field out of its range does nothing, as does any message that the protocol
+    /// ignores: the answer is Ok, and nothing is stored.
+    ///
+    /// At a desk that is Down every event is Down. Else a submission is Busy with 64 entries in the
+    /// queue, and it is LogFull with 65,536 in the log; a Start is LogFull at an idle desk with 65,536
+    /// in the log; a Start or a Tick that needs a ballot is BallotsSpent where no round is left. Where
+    /// memory is refused, the answer is NoMemory. Each of these leaves the desk and its store as they
+    /// were. Where the save fails by the device, the answer is Down, in this call and in every later one:
+    /// nothing is handed out, the desk still shows its state before that event, and a store that is
+    /// opened again holds the state before it or the one after it.
+    pub fn handle(&mut self, event: Event) -> Result<Messages, NodeFault>
+        ensures takes { let home = K.home_of self.old.keeper in let x = self.old.desk in self.old.is_down ≡ false
+            → Takes (step home.desks home.desk x event) home.desks home.desk x self.new.desk result }
+        ensures ended { self.old.is_down ≡ true → (result ≡ Err NodeFault.Down) × (self.new ≡ self.old) }
+        ensures down { (result ≡ Err NodeFault.Down) ↔ (self.new.is_down ≡ true) }
+        ensures first_down { self.old.is_down ≡ false → result ≡ Err NodeFault.Down → K.failures_of self.old.keeper < K.failures_of self.new.keeper }
+        ensures stored { self.new.is_down ≡ false → K.is_honest self.new.keeper → HoldsOnly (K.may_hold self.new.keeper) self.new.desk.stored self.new.desk.log }
+        ensures left { let home = K.home_of self.old.keeper in let x = self.old.desk in self.old.is_down ≡ false → self.new.is_down ≡ true → K.is_honest self.new.keeper
+            → HoldsBeforeOrAfter (K.may_hold self.new.keeper) x (step home.desks home.desk x event) }
+        ensures ignored { let home = K.home_of self.old.keeper in self.old.is_down ≡ false → IsIgnored home.desks home.desk self.old.desk event
+            → IsOk result × (self.new.keeper ≡ self.old.keeper) }
+        ensures honest { K.is_honest self.new.keeper → K.is_honest self.old.keeper }
+        ensures home { K.home_of self.new.keeper ≡ K.home_of self.old.keeper }
+    {
+        if self.is_down {
+            return Err(NodeFault::Down);
+        }
+        match take_event(self.alloc, &mut self.keeper, &mut self.desk, event) {
+            Ok(messages) => Ok(messages),
+            Err(NodeFault::Down) => {
+                self.is_down = true;
+                Err(NodeFault::Down)
+            }
+            Err(fault) => Err(fault),
+        }
+    }
+
+    /// The entries that this desk knows to be decided. At a desk that is Down they are those before the
+    /// event whose save failed.
+    pub fn log(&self) -> &Log
+        ensures entries { result.now.entries ≡ self.now.desk.log }
+        ensures most { length self.now.desk.log ≤ 65536 }
+    {
+        self.desk.log()
+    }
+
+    /// What has become of a submitted id, by this desk's log and queue, also where the desk is Down.
+    pub fn answer(&self, id: u64) -> Result<Told, NoMemory>
+        ensures { IfOk result (λ answer. answer ≡ told self.now.desk.log self.now.desk.queue id) }
+    {
+        answer_of(self.alloc, self.desk.log(), self.desk.queue(), id)
+    }
+
+    /// The result sheet of a round, after the log's first `position` entries, also where the desk is
+    /// Down.
+    ///
+    /// A position above the log's length is NotThere. Else, where none of the accepted commands up to
+    /// there opened the round, the answer is NoSuchRound. Else, where memory is refused, it is NoMemory.
+    pub fn sheet_at(
+        &self,
+        position: u32,
+        event: formats::Event,
+        round: u8,
+        style: Style,
+    ) -> Result<Vec<u8>, SheetFault>
+        ensures there { OnOk result (position ≤ length self.now.desk.log) }
+        ensures sheet { IfOk result (λ text. sheet_at style self.now.desk.log position event round ≡ Some text.items) }
+        ensures none { IfErr result (λ fault. NoSheetAt fault self.now.desk.log position (sheet_at style self.now.desk.log position event round)) }
+    {
+        sheet_of(self.alloc, self.desk.log(), position, event, round, style)
+    }
+}

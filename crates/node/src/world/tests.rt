@@ -1,0 +1,147 @@
+use crate::faults::NodeFault;
+use crate::world::{World, WorldFault};
+use acceptor::ballot::Ballot;
+use acceptor::entry::{Entry, EntryFault};
+use acceptor::message::{Body, Message};
+use learner::event::WorldEvent;
+use std::alloc::Global;
+use std::test::Fail;
+
+fn a(alloc: Global) -> Result<Entry, EntryFault> {
+    Entry::new(alloc, 7, b"REG 1 Ann Li")
+}
+
+fn b(alloc: Global) -> Result<Entry, EntryFault> {
+    Entry::new(alloc, 8, b"REG 2 Bo Ek")
+}
+
+/// These messages are delivered, one after the other.
+fn deliver(events: &mut Vec<WorldEvent>, numbers: &[u64]) -> Result<(), Fail> {
+    for number in numbers {
+        events.push(WorldEvent::Deliver(*number))?;
+    }
+    Ok(())
+}
+
+/// An entry is handed in at a desk, which makes a ballot.
+fn propose(events: &mut Vec<WorldEvent>, desk: u8, entry: Entry) -> Result<(), Fail> {
+    events.push(WorldEvent::Submit(desk, entry))?;
+    events.push(WorldEvent::Start(desk))?;
+    Ok(())
+}
+
+/// One entry is decided by desks 1 and 2. Desk 3, which nothing has reached, asks, and is told.
+fn one_entry(alloc: Global) -> Result<Vec<WorldEvent>, Fail> {
+    let mut events = Vec::new(alloc);
+    propose(&mut events, 1, a(alloc)?)?;
+    deliver(&mut events, &[1, 2, 4, 5, 6, 7, 9, 10, 11])?;
+    events.push(WorldEvent::Tick(3))?;
+    deliver(&mut events, &[14, 16])?;
+    Ok(events)
+}
+
+#[test]
+fn one_entry_is_decided(rt: HostRuntime) -> Result<(), Fail> {
+    let alloc = rt.alloc();
+    let events = one_entry(alloc)?;
+    let mut world = World::new(alloc, 3)?;
+    world.run(&events)?;
+    assert_eq!(rt;
+        (world.done(), world.sent().len(), world.refused()),
+        (14, 17, None)
+    );
+    assert_eq!(rt; world.events(), events.as_slice());
+    let last = Message {
+        from: 3,
+        to: 1,
+        body: Body::Behind { len: 1 },
+    };
+    assert_eq!(rt; world.sent().last(), Some(&last));
+    for desk in 1..4 {
+        let log = world.log(desk);
+        assert_eq!(rt; (log.len(), log.entry(0)), (1, Some(&a(alloc)?)));
+    }
+    Ok(())
+}
+
+/// Desk 1 votes for its entry, and that is lost. Desk 2 hears of the vote, proposes that entry, and its
+/// own at the next position.
+#[test]
+fn a_reported_vote_is_taken_over(rt: HostRuntime) -> Result<(), Fail> {
+    let alloc = rt.alloc();
+    let mut events = Vec::new(alloc);
+    propose(&mut events, 1, a(alloc)?)?;
+    deliver(&mut events, &[1, 2, 4, 5, 6])?;
+    propose(&mut events, 2, b(alloc)?)?;
+    deliver(&mut events, &[10, 11, 13, 14, 15, 16, 18, 19])?;
+    events.push(WorldEvent::Start(2))?;
+    deliver(&mut events, &[20, 22, 23, 26, 27, 28, 29, 31, 32, 33])?;
+    let mut world = World::new(alloc, 3)?;
+    world.run(&events)?;
+    let ballot = Ballot { round: 3, desk: 2 };
+    let next = Message {
+        from: 2,
+        to: 1,
+        body: Body::Prepare { ballot, pos: 1 },
+    };
+    assert_eq!(rt; world.sent().get(21), Some(&next));
+    for desk in 1..3 {
+        let log = world.log(desk);
+        assert_eq!(rt;
+            (log.entry(0), log.entry(1)),
+            (Some(&a(alloc)?), Some(&b(alloc)?))
+        );
+    }
+    Ok(())
+}
+
+/// Desk 1 has asked for votes and restarts. A late vote changes nothing and is not answered; the queue is
+/// gone, and the next ballot is of a new round.
+#[test]
+fn a_restart_keeps_what_is_stored(rt: HostRuntime) -> Result<(), Fail> {
+    let alloc = rt.alloc();
+    let mut events = Vec::new(alloc);
+    propose(&mut events, 1, a(alloc)?)?;
+    deliver(&mut events, &[1, 2, 4, 5, 6, 7])?;
+    events.push(WorldEvent::Restart(1))?;
+    deliver(&mut events, &[9, 10])?;
+    let mut world = World::new(alloc, 3)?;
+    world.run(&events)?;
+    assert_eq!(rt; (world.sent().len(), world.log(1).len()), (10, 0));
+    world.run(&[WorldEvent::Tick(1), WorldEvent::Start(1)])?;
+    let ballot = Ballot { round: 2, desk: 1 };
+    let next = Message {
+        from: 1,
+        to: 3,
+        body: Body::Prepare { ballot, pos: 0 },
+    };
+    assert_eq!(rt;
+        (world.sent().len(), world.sent().last()),
+        (15, Some(&next))
+    );
+    Ok(())
+}
+
+/// An event at a number that no desk has does nothing, nor does the delivery of a message that was not
+/// sent. A desk that refuses is as it was.
+#[test]
+fn nothing_is_done(rt: HostRuntime) -> Result<(), Fail> {
+    let alloc = rt.alloc();
+    assert!(rt; matches!(World::new(alloc, 4), Err(WorldFault::BadCount)));
+    let mut world = World::new(alloc, 3)?;
+    world.run(&[
+        WorldEvent::Start(0),
+        WorldEvent::Tick(4),
+        WorldEvent::Restart(9),
+        WorldEvent::Deliver(0),
+        WorldEvent::Deliver(1),
+    ])?;
+    for _ in 0..65 {
+        world.run(&[WorldEvent::Submit(1, a(alloc)?)])?;
+    }
+    assert_eq!(rt;
+        (world.done(), world.sent().len(), world.refused()),
+        (70, 0, Some(NodeFault::Busy))
+    );
+    Ok(())
+}

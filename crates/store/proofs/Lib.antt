@@ -1,0 +1,15 @@
+pub mod Texts
+pub mod Updating
+pub mod Rewriting
+pub mod Inserting
+pub mod Saving
+pub mod Changes
+pub mod Probing
+pub mod Queries
+pub mod Decoding
+pub mod Patterns
+pub mod Making
+pub mod Leaving
+pub mod Homes
+pub mod Copies
+pub mod Places

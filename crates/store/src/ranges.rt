@@ -1,0 +1,40 @@
+ghost use Rattle.std.specs.Prelude.{◌↔◌, IsTrue};
+ghost use Rattle.store.specs.Ranges.{IsHome, StoredIsFit, VoteIsFit};
+ghost use Rattle.learner.specs.Ranges.{IsReal};
+
+use crate::home::Home;
+use acceptor::ballot::Ballot;
+use acceptor::stored::{Stored, Vote};
+
+/// Whether the hall has 3 or 5 desks, and this is one of them.
+pub fn is_home(home: Home) -> bool
+    ensures { IsTrue result ↔ IsHome home }
+{
+    (home.desks == 3 || home.desks == 5) && home.desk >= 1 && home.desk <= home.desks
+}
+
+fn is_real(desks: u8, ballot: Ballot) -> bool
+    ensures { IsTrue result ↔ IsReal desks ballot }
+{
+    ballot.round >= 1 && ballot.desk >= 1 && ballot.desk <= desks
+}
+
+fn vote_is_fit(desks: u8, promised: Ballot, vote: &Option<Vote>) -> bool
+    ensures { IsTrue result ↔ VoteIsFit desks promised vote.now }
+{
+    match vote {
+        None => true,
+        Some(vote) => {
+            vote.pos < 65_536 && is_real(desks, vote.ballot) && !promised.is_below(vote.ballot)
+        }
+    }
+}
+
+/// Whether the promised ballot and the vote are in their ranges.
+pub fn is_fit(desks: u8, stored: &Stored) -> bool
+    ensures { IsTrue result ↔ StoredIsFit desks stored.now }
+{
+    let promised = stored.promised;
+    (promised == Ballot::none() || is_real(desks, promised))
+        && vote_is_fit(desks, promised, &stored.vote)
+}

@@ -1,0 +1,238 @@
+ghost use Rattle.std.specs.Prelude.{◌≡◌, ◌≢◌, ◌==◌, ◌||◌, ◌⊎◌, ◌^◌, ◌-◌, ◌<◌, ◌≤◌, false, true, [], ℕ, List, Some, Result, Err, IsTrue, IfOk, IfErr, OnOk, length};
+ghost use Rattle.sqlite.specs.State.{HasCleanDisk};
+ghost use Rattle.sqlite.specs.Tree.{Trees};
+ghost use Rattle.sqlite.specs.Held.{state};
+ghost use Rattle.acceptor.specs.Entries.{EntryValue};
+ghost use Rattle.acceptor.specs.Storing.{stored_after, log_after, first_stored};
+ghost use Rattle.acceptor.specs.declared.stored.Stored.{Stored as State};
+ghost use Rattle.store.specs.declared.home.Home.{Home as Place};
+ghost use Rattle.store.specs.declared.faults.LoadFault.{LoadFault as Unloaded};
+ghost use Rattle.store.specs.Ranges.{IsHome, IsFit, is_housed};
+ghost use Rattle.store.specs.Whole.{IsSound};
+ghost use Rattle.store.specs.Layout.{no_schema};
+ghost use Rattle.store.specs.Holding.{Holds};
+ghost use Rattle.store.specs.Keeping.{most_failures};
+ghost use Rattle.store.specs.Unique.{alone};
+ghost use Rattle.store.specs.Kept.{Keeps, Saved, MayLeave, HasDesk};
+
+use crate::faults::{LoadFault, OpenFault, SaveFault};
+use crate::home::Home;
+use crate::keeper::Keeper;
+use crate::loading::{ReadFault, read_all};
+use crate::opening::prepare;
+use crate::probe::is_harmless;
+use crate::statements::{append, promise, try_round, vote};
+use acceptor::stored::{Change, Stored};
+use learner::log::Log;
+use sqlite::{Alter, Connection, Error};
+use std::alloc::Global;
+
+/// A keeper over the two tables of a database, `desk` and `entries`.
+pub struct SqlKeeper<S: Alter> {
+    conn: Connection<S>,
+    home: Home,
+    len: u32,
+    failures: u64,
+    down: bool,
+    ghost housed: { is_housed home ≡ true },
+}
+
+// It is written out, so that a caller does not prove again how each part is dropped.
+impl<S: Alter + Drop> Drop for SqlKeeper<S> {
+    fn drop(self) {
+        let SqlKeeper {
+            conn: _,
+            home: _,
+            len: _,
+            failures: _,
+            down: _,
+        } = self;
+    }
+}
+
+/// One statement, which makes the change.
+fn make<S: Alter>(conn: &mut Connection<S>, len: u32, change: &Change) -> Result<usize, Error>
+    ensures clean { HasCleanDisk (state S.Store conn.new) → HasCleanDisk (state S.Store conn.old) }
+    ensures saves { HasCleanDisk (state S.Store conn.new) → (home : Place) (s : State) (log : List EntryValue) → Keeps home s log (state S.Store conn.old) → len ≡ length log
+        → Saved home s (stored_after s (Some change.now)) log (log_after log (Some change.now)) (state S.Store conn.new) result }
+{
+    match change {
+        Change::Promised(ballot) => promise(conn, *ballot),
+        Change::Voted(new) => vote(conn, new),
+        Change::Tried(round) => try_round(conn, *round),
+        Change::Appended(entry) => append(conn, len, entry),
+    }
+}
+
+fn length_after(len: u32, change: &Change) -> u32
+    ensures { (log : List EntryValue) → len ≡ length log → length (log_after log (Some change.now)) ≤ 65536 → result ≡ length (log_after log (Some change.now)) }
+{
+    match change {
+        Change::Appended(_) => len.saturating_add(1),
+        _ => len,
+    }
+}
+
+impl<S: Alter> Keeper for SqlKeeper<S> {
+    ghost use Rattle.store.specs.declared.faults.LoadFault.TheVariants.{Device, Damaged};
+
+    ghost is_honest = { λ k. HasCleanDisk (state S.Store k.conn) };
+
+    ghost may_hold = { λ k s log. MayLeave (state S.Store k.conn) k.home s log };
+
+    ghost keeps = { λ k s log. ((k.down || (k.failures == most_failures)) ≡ false) × (k.len ≡ length log) × IsFit k.home.desks s log × Keeps k.home s log (state S.Store k.conn) };
+
+    ghost is_down = { λ k. k.down || (k.failures == most_failures) };
+
+    ghost failures_of = { λ k. k.failures };
+
+    ghost home_of = { λ k. k.home };
+
+    ghost save_gives = { λ _ _ _ _. Unit {0} };
+
+    /// Once it is down, a load counts a failure and is Device, as long as the count is not at its end.
+    /// Below that end it is Damaged only where the tables hold no state of this desk that is in its ranges.
+    ghost load_gives = { λ k r after. (IsTrue k.down → ((k.failures ≡ most_failures) ⊎ (r ≡ Err Device)))
+        × (r ≡ Err Damaged → k.failures ≢ most_failures → HasCleanDisk (state S.Store after.conn) → (s : State) (log : List EntryValue) → IsSound k.home s log → ¬ Keeps k.home s log (state S.Store k.conn)) };
+
+    #[tactic(auto, using(crate::proofs::Homes::to_home))]
+    fn home(&self) -> Home {
+        self.home
+    }
+
+    fn failures(&self) -> u64 {
+        self.failures
+    }
+
+    fn save(&mut self, change: &Change) -> Result<(), SaveFault> {
+        if self.down || self.failures == u64::MAX {
+            return Err(SaveFault::Down);
+        }
+        match make(&mut self.conn, self.len, change) {
+            Ok(_) => {
+                self.len = length_after(self.len, change);
+                Ok(())
+            }
+            Err(error) => {
+                if is_harmless(&mut self.conn, error) {
+                    return Err(SaveFault::NoMemory);
+                }
+                self.failures += 1;
+                self.down = true;
+                Err(SaveFault::Device)
+            }
+        }
+    }
+
+    #[tactic(auto, using(crate::proofs::Saving::own_desk))]
+    fn load(&mut self, alloc: Global) -> Result<(Stored, Log), LoadFault> {
+        if self.failures == u64::MAX {
+            return Err(LoadFault::Damaged);
+        }
+        if self.down {
+            self.failures += 1;
+            return Err(LoadFault::Device);
+        }
+        match read_all(&mut self.conn, alloc, self.home) {
+            Ok((stored, log)) => {
+                self.len = log.len();
+                Ok((stored, log))
+            }
+            Err(ReadFault::Damaged | ReadFault::WrongDesk) => Err(LoadFault::Damaged),
+            Err(ReadFault::Sql(error)) => {
+                if is_harmless(&mut self.conn, error) {
+                    return Err(LoadFault::NoMemory);
+                }
+                self.failures += 1;
+                self.down = true;
+                Err(LoadFault::Device)
+            }
+        }
+    }
+
+    ghost alone = { λ k s log honest kept. alone (state (S.Store.own) k.conn) k.home s log ((S.Store).settled k.conn.store) ((S.Store).stays k.conn.store) kept.3 };
+
+    ghost ranges = { λ k s log kept. kept.2 };
+
+    ghost works = { λ k s log kept. kept.0 };
+}
+
+impl<S: Alter + Drop> SqlKeeper<S> {
+    /// Opens the store of this desk, of a hall of 3 or 5 desks, over a connection between transactions.
+    ///
+    /// Where the database has nothing at all, both tables are made with the first row, in one transaction.
+    /// Damaged: one of the tables is missing or is not as it has to be, another table was made before
+    /// them, or the row is not whole and in its ranges. WrongDesk: the row is of another hall, desk or
+    /// number of desks. Damaged: the positions of the log are not 0 and on, or an entry is out of its
+    /// ranges. Device and NoMemory come where they happen. A refusal drops the connection.
+    pub fn open(
+        alloc: Global,
+        conn: Connection<S>,
+        hall: u32,
+        desk: u8,
+        desks: u8,
+    ) -> Result<SqlKeeper<S>, OpenFault>
+        requires autocommit { conn.in_transaction ≡ false }
+        requires in_range { IsHome (record { hall = hall; desk = desk; desks = desks }) }
+        ensures home { IfOk result (λ k. ⟦<SqlKeeper<S> as Keeper>⟧.home_of k ≡ record { hall = hall; desk = desk; desks = desks }) }
+        ensures failures { IfOk result (λ k. ⟦<SqlKeeper<S> as Keeper>⟧.failures_of k ≡ 0) }
+        ensures kept { IfOk result (λ k. ⟦<SqlKeeper<S> as Keeper>⟧.is_honest k → (s : State) × (log : List EntryValue) × ⟦<SqlKeeper<S> as Keeper>⟧.keeps k s log) }
+        ensures made { (state S.Store conn).now.schema ≡ no_schema → IfOk result (λ k. ⟦<SqlKeeper<S> as Keeper>⟧.is_honest k → ⟦<SqlKeeper<S> as Keeper>⟧.keeps k first_stored []) }
+        ensures same { (s : State) (log : List EntryValue) → Keeps (record { hall = hall; desk = desk; desks = desks }) s log (state S.Store conn) → IfOk result (λ k. ⟦<SqlKeeper<S> as Keeper>⟧.is_honest k → ⟦<SqlKeeper<S> as Keeper>⟧.keeps k s log) }
+    {
+        match SqlKeeper::open_or_give_back(alloc, conn, hall, desk, desks) {
+            Ok(keeper) => Ok(keeper),
+            Err((fault, _)) => Err(fault),
+        }
+    }
+
+    /// As `open`, but a refusal gives the connection back.
+    #[tactic(auto, using(crate::proofs::Homes::from_home))]
+    pub fn open_or_give_back(
+        alloc: Global,
+        mut conn: Connection<S>,
+        hall: u32,
+        desk: u8,
+        desks: u8,
+    ) -> Result<SqlKeeper<S>, (OpenFault, Connection<S>)>
+        requires autocommit { conn.in_transaction ≡ false }
+        requires in_range { IsHome (record { hall = hall; desk = desk; desks = desks }) }
+        ensures home { IfOk result (λ k. ⟦<SqlKeeper<S> as Keeper>⟧.home_of k ≡ record { hall = hall; desk = desk; desks = desks }) }
+        ensures failures { IfOk result (λ k. ⟦<SqlKeeper<S> as Keeper>⟧.failures_of k ≡ 0) }
+        ensures kept { IfOk result (λ k. ⟦<SqlKeeper<S> as Keeper>⟧.is_honest k → (s : State) × (log : List EntryValue) × ⟦<SqlKeeper<S> as Keeper>⟧.keeps k s log) }
+        ensures made { (state S.Store conn).now.schema ≡ no_schema → IfOk result (λ k. ⟦<SqlKeeper<S> as Keeper>⟧.is_honest k → ⟦<SqlKeeper<S> as Keeper>⟧.keeps k first_stored []) }
+        ensures same { (s : State) (log : List EntryValue) → Keeps (record { hall = hall; desk = desk; desks = desks }) s log (state S.Store conn) → IfOk result (λ k. ⟦<SqlKeeper<S> as Keeper>⟧.is_honest k → ⟦<SqlKeeper<S> as Keeper>⟧.keeps k s log) }
+        ensures damaged { IfErr result (λ e. e.0 ≡ OpenFault.Damaged → HasCleanDisk (state S.Store e.1) → (away : Place) (s : State) (log : List EntryValue) → IsSound away s log → ¬ Keeps away s log (state S.Store conn)) }
+        ensures wrong { IfErr result (λ e. e.0 ≡ OpenFault.WrongDesk → HasCleanDisk (state S.Store e.1) → (away : Place) × (s : State) × HasDesk away s (state S.Store conn) × (away ≢ record { hall = hall; desk = desk; desks = desks })) }
+        ensures crash { IfErr result (λ e. HasCleanDisk (state S.Store e.1) → (db : Trees) → (state S.Store e.1).may_leave db → (state S.Store conn).may_leave db ⊎ Holds (record { hall = hall; desk = desk; desks = desks }) db first_stored []) }
+    {
+        let home = Home { hall, desk, desks };
+        match prepare(&mut conn, alloc, home) {
+            Ok(len) => Ok(SqlKeeper {
+                conn,
+                home,
+                len,
+                failures: 0,
+                down: false,
+            }),
+            Err(fault) => Err((fault, conn)),
+        }
+    }
+}
+
+impl<S: Alter> SqlKeeper<S> {
+    /// The connection, with what the keeper has kept.
+    pub fn into_connection(self) -> Connection<S>
+        ensures kept { (s : State) (log : List EntryValue) → ⟦<SqlKeeper<S> as Keeper>⟧.keeps self s log → Keeps (⟦<SqlKeeper<S> as Keeper>⟧.home_of self) s log (state S.Store result) }
+        ensures left { (s : State) (log : List EntryValue) → MayLeave (state S.Store result) (⟦<SqlKeeper<S> as Keeper>⟧.home_of self) s log → ⟦<SqlKeeper<S> as Keeper>⟧.may_hold self s log }
+    {
+        let SqlKeeper {
+            conn: connection,
+            home: _,
+            len: _,
+            failures: _,
+            down: _,
+        } = self;
+        connection
+    }
+}

@@ -1,0 +1,280 @@
+use crate::faults::{OpenFault, SaveFault};
+use crate::home::Home;
+use crate::keeper::Keeper;
+use crate::lent::save_to;
+use crate::memory::MemoryKeeper;
+use crate::opening::open_fault;
+use crate::ranges::is_home;
+use crate::sql::SqlKeeper;
+use acceptor::ballot::Ballot;
+use acceptor::entry::Entry;
+use acceptor::stored::{Change, Stored, Vote};
+use learner::log::Log;
+use sqlite::types::ValueRef;
+use sqlite::{Alter, Connection, MemStore};
+use std::alloc::Global;
+use std::fs;
+use std::process::Abort;
+use std::test::Fail;
+
+const ANN: &[u8] = b"REG 1 Ann Li";
+
+fn vote(alloc: Global) -> Result<Vote, Fail> {
+    Ok(Vote {
+        pos: 0,
+        ballot: Ballot { round: 2, desk: 1 },
+        entry: Entry::new(alloc, 7, ANN)?,
+    })
+}
+
+/// One of each kind of change, and then the longest text at the greatest id.
+fn changes(alloc: Global) -> Result<[Change; 5], Fail> {
+    Ok([
+        Change::Tried(2),
+        Change::Promised(Ballot { round: 1, desk: 3 }),
+        Change::Voted(vote(alloc)?),
+        Change::Appended(Entry::new(alloc, 7, ANN)?),
+        Change::Appended(Entry::new(alloc, 9_223_372_036_854_775_807, &[66; 600])?),
+    ])
+}
+
+/// The state after all of them.
+fn wanted(alloc: Global) -> Result<Stored, Fail> {
+    Ok(Stored {
+        promised: Ballot { round: 2, desk: 1 },
+        vote: Some(vote(alloc)?),
+        tried: 2,
+    })
+}
+
+/// Whether each of them is saved.
+fn save_all<K: Keeper>(alloc: Global, keeper: &mut K) -> Result<bool, Fail> {
+    for change in &changes(alloc)? {
+        if keeper.save(change).is_err() {
+            return Ok(false);
+        }
+    }
+    Ok(true)
+}
+
+fn load<K: Keeper>(alloc: Global, keeper: &mut K) -> Result<(Stored, Log), Fail> {
+    match keeper.load(alloc) {
+        Ok(held) => Ok(held),
+        Err(_) => Err(Fail::from("loaded")),
+    }
+}
+
+/// Whether the five changes are there, and nothing else.
+fn has_all<K: Keeper>(alloc: Global, keeper: &mut K) -> Result<bool, Fail> {
+    let (stored, log) = load(alloc, keeper)?;
+    let is_log = log.len() == 2
+        && log.position_of(7) == Some(0)
+        && log.position_of(9_223_372_036_854_775_807) == Some(1);
+    Ok(is_log && stored == wanted(alloc)?)
+}
+
+/// A keeper that fails at its next save, asked to save a vote.
+fn failed(rt: &impl Abort, alloc: Global, kept: bool) -> Result<MemoryKeeper, Fail> {
+    let mut keeper = MemoryKeeper::new(alloc, 7, 1, 3)?;
+    keeper.fail_at(1, kept);
+    let answer = keeper.save(&Change::Voted(vote(alloc)?));
+    assert_eq!(rt; (answer, keeper.failures()), (Err(SaveFault::Device), 1));
+    assert_eq!(rt; keeper.save(&Change::Tried(9)), Err(SaveFault::Down));
+    Ok(keeper)
+}
+
+#[test]
+fn holds_the_state_before_a_failed_save(rt: HostRuntime) -> Result<(), Fail> {
+    let mut keeper = failed(&rt, rt.alloc(), false)?;
+    let (stored, log) = load(rt.alloc(), &mut keeper)?;
+    assert!(rt; log.is_empty() && stored == Stored::new());
+    assert_eq!(rt; keeper.save(&Change::Tried(0)), Ok(()));
+    Ok(())
+}
+
+#[test]
+fn holds_the_state_after_a_failed_save(rt: HostRuntime) -> Result<(), Fail> {
+    let mut keeper = failed(&rt, rt.alloc(), true)?;
+    let (stored, log) = load(rt.alloc(), &mut keeper)?;
+    assert!(rt; log.is_empty() && stored.vote == Some(vote(rt.alloc())?));
+    assert_eq!(rt; stored.promised, Ballot { round: 2, desk: 1 });
+    Ok(())
+}
+
+#[test]
+fn keeps_in_memory(rt: HostRuntime) -> Result<(), Fail> {
+    let mut keeper = MemoryKeeper::new(rt.alloc(), 7, 1, 3)?;
+    keeper.fail_at(6, false);
+    assert!(rt; save_all(rt.alloc(), &mut keeper)?);
+    assert!(rt; has_all(rt.alloc(), &mut keeper)?);
+    assert_eq!(rt; keeper.save(&Change::Tried(1)), Err(SaveFault::Device));
+    Ok(())
+}
+
+#[test]
+fn takes_a_state(rt: HostRuntime) -> Result<(), Fail> {
+    let mut keeper = MemoryKeeper::new(rt.alloc(), 7, 1, 3)?;
+    assert_eq!(rt; save_to(&mut keeper, &Change::Tried(4)), Ok(()));
+    keeper.with(&Stored::new(), &Log::new(rt.alloc())?)?;
+    assert!(rt; load(rt.alloc(), &mut &mut keeper)?.0 == Stored::new());
+    assert_eq!(rt; keeper.home().desks, 3);
+    Ok(())
+}
+
+fn open<S: Alter + Drop>(
+    alloc: Global,
+    conn: Connection<S>,
+    home: Home,
+) -> Result<SqlKeeper<S>, (OpenFault, Connection<S>)> {
+    if !is_home(home) || !conn.is_autocommit() {
+        return Err((OpenFault::NoMemory, conn));
+    }
+    SqlKeeper::open_or_give_back(alloc, conn, home.hall, home.desk, home.desks)
+}
+
+const OURS: Home = Home {
+    hall: 7,
+    desk: 1,
+    desks: 3,
+};
+
+fn open_ours<S: Alter + Drop>(alloc: Global, conn: Connection<S>) -> Result<SqlKeeper<S>, Fail> {
+    match open(alloc, conn, OURS) {
+        Ok(keeper) => Ok(keeper),
+        Err(_) => Err(Fail::from("opened")),
+    }
+}
+
+/// A store with the five changes, to which this was done.
+fn spoiled(rt: &impl Abort, alloc: Global, sql: &str) -> Result<Connection<MemStore>, Fail> {
+    let mut keeper = open_ours(alloc, Connection::open_in_memory(alloc)?)?;
+    assert!(rt; save_all(alloc, &mut keeper)?);
+    let mut conn = keeper.into_connection();
+    conn.execute_batch(sql)?;
+    Ok(conn)
+}
+
+#[test]
+fn finds_again_beside_another_table(rt: HostRuntime) -> Result<(), Fail> {
+    let conn = spoiled(
+        &rt,
+        rt.alloc(),
+        "CREATE TABLE other (a); INSERT INTO other VALUES (5)",
+    )?;
+    let mut keeper = open_ours(rt.alloc(), conn)?;
+    assert!(rt; has_all(rt.alloc(), &mut keeper)?);
+    let mut conn = keeper.into_connection();
+    let other: i64 = conn.query_row("SELECT a FROM other", &[])?.get(0)?;
+    assert_eq!(rt; other, 5);
+    Ok(())
+}
+
+fn is_refused(alloc: Global, conn: Connection<MemStore>, home: Home, wanted: OpenFault) -> bool {
+    match open(alloc, conn, home) {
+        Ok(_) => false,
+        Err((fault, _)) => fault == wanted,
+    }
+}
+
+#[test]
+fn refuses_what_is_damaged(rt: HostRuntime) -> Result<(), Fail> {
+    for sql in [
+        "DROP TABLE entries",
+        "UPDATE desk SET k = 2",
+        "UPDATE desk SET vote_id = NULL",
+        "UPDATE desk SET vote_round = 3",
+        "UPDATE desk SET promised_desk = 4",
+        "UPDATE entries SET id = 0 WHERE pos = 1",
+        "UPDATE entries SET pos = 2 WHERE pos = 1",
+        "DELETE FROM desk",
+    ] {
+        let conn = spoiled(&rt, rt.alloc(), sql)?;
+        assert!(rt;
+            is_refused(rt.alloc(), conn, OURS, OpenFault::Damaged),
+            "{sql}"
+        );
+    }
+    Ok(())
+}
+
+#[test]
+fn refuses_a_body_of_601_bytes(rt: HostRuntime) -> Result<(), Fail> {
+    let mut conn = spoiled(&rt, rt.alloc(), "")?;
+    conn.execute(
+        "UPDATE entries SET body = ?1",
+        &[ValueRef::Blob(&[66; 601])],
+    )?;
+    assert!(rt; is_refused(rt.alloc(), conn, OURS, OpenFault::Damaged));
+    Ok(())
+}
+
+#[test]
+fn refuses_a_database_of_others(rt: HostRuntime) -> Result<(), Fail> {
+    let mut conn = Connection::open_in_memory(rt.alloc())?;
+    conn.execute_batch("CREATE TABLE other (a)")?;
+    assert!(rt; is_refused(rt.alloc(), conn, OURS, OpenFault::Damaged));
+    Ok(())
+}
+
+#[test]
+fn refuses_another_desk(rt: HostRuntime) -> Result<(), Fail> {
+    let homes = [
+        Home { hall: 8, ..OURS },
+        Home { desk: 2, ..OURS },
+        Home { desks: 5, ..OURS },
+    ];
+    for home in homes {
+        for sql in ["", "UPDATE entries SET pos = 2 WHERE pos = 1"] {
+            let conn = spoiled(&rt, rt.alloc(), sql)?;
+            assert!(rt;
+                is_refused(rt.alloc(), conn, home, OpenFault::WrongDesk),
+                "{sql}"
+            );
+        }
+    }
+    Ok(())
+}
+
+fn fault_at(rt: &HostRuntime, path: &str) -> Option<OpenFault> {
+    match Connection::open(rt, path) {
+        Ok(_) => None,
+        Err(error) => Some(open_fault(error)),
+    }
+}
+
+#[test]
+fn refuses_what_is_no_database(rt: HostRuntime) -> Result<(), Fail> {
+    let _ = fs::remove_dir_all(&rt, "desk_store_files");
+    fs::create_dir(&rt, "desk_store_files")?;
+    fs::write(&rt, "desk_store_files/text", [b'x'; 5000].as_slice())?;
+    for (path, wanted) in [
+        ("desk_store_files/text", OpenFault::Damaged),
+        ("desk_store_files", OpenFault::Device),
+        ("desk_store_files/none/desk", OpenFault::Device),
+        ("/proc/version", OpenFault::Device),
+    ] {
+        assert_eq!(rt; fault_at(&rt, path), Some(wanted), "{path}");
+    }
+    fs::remove_dir_all(&rt, "desk_store_files")?;
+    Ok(())
+}
+
+fn save_in_file(rt: &HostRuntime, path: &str) -> Result<bool, Fail> {
+    let conn = Connection::open(rt, path)?;
+    save_all(rt.alloc(), &mut open_ours(rt.alloc(), conn)?)
+}
+
+fn file_has_all(rt: &HostRuntime, path: &str) -> Result<bool, Fail> {
+    let conn = Connection::open(rt, path)?;
+    has_all(rt.alloc(), &mut open_ours(rt.alloc(), conn)?)
+}
+
+#[test]
+fn finds_again_in_a_file(rt: HostRuntime) -> Result<(), Fail> {
+    let _ = fs::remove_dir_all(&rt, "desk_store_test");
+    fs::create_dir(&rt, "desk_store_test")?;
+    assert!(rt; save_in_file(&rt, "desk_store_test/desk")?);
+    assert!(rt; file_has_all(&rt, "desk_store_test/desk")?);
+    fs::remove_dir_all(&rt, "desk_store_test")?;
+    Ok(())
+}
