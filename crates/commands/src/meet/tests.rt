@@ -1,24 +1,26 @@
 use super::*;
+use advancement::Advance;
+use attempts::Value;
+use formats::Averaged;
 use std::test::Fail;
 
-/// Takes entries with the ids from `first` on, and gives the id of the first that is answered otherwise.
-fn first_other(
-    meet: &mut Meet,
-    first: u64,
-    entries: &[(&[u8], Answer)],
-) -> Result<Option<u64>, NoMemory> {
-    for (id, (text, want)) in (first..u64::MAX).zip(entries) {
-        if meet.apply(id, text)? != *want {
-            return Ok(Some(id));
-        }
+/// The name of an answer.
+fn name_of(answer: Answer) -> &'static str {
+    match answer {
+        Answer::Done => "Done",
+        Answer::Refused(code) => code.name(),
     }
-    Ok(None)
 }
 
-/// Takes texts with the ids from `first` on, and gives the id of the first that is not accepted.
-fn first_refused(meet: &mut Meet, first: u64, texts: &[&[u8]]) -> Result<Option<u64>, NoMemory> {
-    for (id, text) in (first..u64::MAX).zip(texts) {
-        if meet.apply(id, text)? != Answer::Done {
+/// Takes the lines of a script with the ids from `first` on, and gives the id of the first that is
+/// answered otherwise. A line is a command, `>`, and the name of its answer.
+fn first_other(meet: &mut Meet, first: u64, script: &[u8]) -> Result<Option<u64>, NoMemory> {
+    for (id, line) in (first..u64::MAX).zip(script.split(|byte| *byte == b'\n')) {
+        let mut parts = line.split(|byte| *byte == b'>');
+        let text = parts.next().unwrap_or(b"");
+        let want = parts.next().unwrap_or(b"");
+        let answer = meet.apply(id, text)?;
+        if name_of(answer).as_bytes() != want {
             return Ok(Some(id));
         }
     }
@@ -26,36 +28,118 @@ fn first_refused(meet: &mut Meet, first: u64, texts: &[&[u8]]) -> Result<Option<
 }
 
 #[test]
-fn an_opening_is_checked_in_order(rt: HostRuntime) -> Result<(), Fail> {
+fn a_refused_id_is_a_repeat(rt: HostRuntime) -> Result<(), Fail> {
     let mut meet = Meet::new(rt.alloc())?;
-    let entries = [
-        (
-            b"OPEN 333 2 mo3 - - final".as_slice(),
-            Answer::Refused(Code::RoundUnknown),
-        ),
-        (
-            b"OPEN 333 1 mo3 4:1500 - final",
-            Answer::Refused(Code::FormatNotAllowed),
-        ),
-        (
-            b"OPEN 333 1 bo3 3:1500 - final",
-            Answer::Refused(Code::CutoffNotAllowed),
-        ),
-        (
-            b"OPEN 333 1 ao5 2:1500 - final",
-            Answer::Refused(Code::LimitNotAllowed),
-        ),
-        (b"OPEN 333 1 ao5 2:1500 60000 top:3", Answer::Done),
-        (
-            b"OPEN 333 1 mo3 4:1500 - final",
-            Answer::Refused(Code::RoundOpen),
-        ),
-        (
-            b"OPEN 333fm 1 mo3 - 100 final",
-            Answer::Refused(Code::LimitNotAllowed),
-        ),
-    ];
-    assert!(rt; first_other(&mut meet, 100, &entries)?.is_none());
+    assert_eq!(rt; meet.apply(9, b"ent")?, Answer::Refused(Code::Unread));
+    assert_eq!(rt;
+        meet.apply(9, b"REG 1 Ann Li")?,
+        Answer::Refused(Code::Repeat)
+    );
+    assert!(rt; meet.name(1).is_none());
+    Ok(())
+}
+
+#[test]
+fn misspelt_texts_are_unread(rt: HostRuntime) -> Result<(), Fail> {
+    let mut meet = Meet::new(rt.alloc())?;
+    let script = b"ENT 333 0>Unread
+ENT 333 01>Unread
+ENT 333>Unread
+ENT 333 1 2>Unread
+ENT 999 0>Unread
+ent 333 1>Unread
+>Unread";
+    assert_eq!(rt; first_other(&mut meet, 1, script)?, None);
+    Ok(())
+}
+
+#[test]
+fn the_first_check_that_fails_answers(rt: HostRuntime) -> Result<(), Fail> {
+    let mut meet = Meet::new(rt.alloc())?;
+    let script = b"REG 1 Ann Li>Done
+REG 2 Bo Ek>Done
+REG 1 Bo Ek>Already
+REG 3 Bo Ek>NameTaken
+ENT 333 9>UnknownCompetitor
+ENT 333 1>RoundUnknown
+OPEN 333 2 mo3 - - final>RoundUnknown
+OPEN 333 1 mo3 4:1500 - final>FormatNotAllowed
+OPEN 333 1 bo3 3:1500 - final>CutoffNotAllowed
+OPEN 333 1 ao5 2:1500 - final>LimitNotAllowed
+OPEN 333 1 ao5 2:1500 60000 top:3>Done
+OPEN 333 1 mo3 4:1500 - final>RoundOpen
+OPEN 333fm 1 mo3 - 100 final>LimitNotAllowed
+OPEN 333fm 1 mo3 - - final>Done
+SCR 333 2 1 R>RoundUnknown
+SCR 333 1 1 R>WrongOutcome
+SCR 333fm 1 4 R>NoSuchAttempt
+SCR 333fm 1 1 R>Done
+SCR 333fm 1 1 L>ScrambleThere
+ENT 333 1>Done
+ENT 333 1>Already
+ATT 222 1 1 9 S:R>UnknownCompetitor
+ATT 222 1 1 1 S:R>RoundUnknown
+ATT 333 1 2 2 S:R>WrongOutcome
+ATT 333fm 1 2 2 S:R>NoScramble
+ATT 333fm 1 1 2 S:R'>NotEntered
+ATT 333 1 2 1 DNF>OutOfOrder
+ATT 333 1 1 1 DNF>Done";
+    assert_eq!(rt; first_other(&mut meet, 1, script)?, None);
+    Ok(())
+}
+
+#[test]
+fn closing_comes_last(rt: HostRuntime) -> Result<(), Fail> {
+    let mut meet = Meet::new(rt.alloc())?;
+    let script = b"REG 1 Ann Li>Done
+REG 2 Bo Ek>Done
+OPEN 333 1 bo2 - 60000 top:3>Done
+ENT 333 1>Done
+ATT 333 1 1 1 DNF>Done
+COR 333 1 2 1 T:1000:0>NoSuchAttempt
+COR 333 1 1 2 T:1000:0>NotEntered
+STR 333 1 9>UnknownCompetitor
+STR 222 1 1>RoundUnknown
+STR 333 1 2>NotEntered
+CLOSE 444 1>RoundUnknown
+CLOSE 333 1>Unfinished
+STR 333 1 1>Done
+STR 333 1 1>NoSuchAttempt
+ATT 333 1 1 1 DNF>Done
+ATT 333 1 2 1 DNS>Done
+ATT 333 1 3 1 DNS>NoMoreAttempts
+CLOSE 333 1>RoundsRule
+ADV 222 1 final>RoundUnknown
+ADV 333 1 final>Done
+CLOSE 333 1>Done
+CLOSE 333 1>Closed
+ADV 333 1 top:1>Closed
+ENT 333 2>Closed
+SCR 333 1 1 R>Closed
+ATT 333 1 3 2 DNF>Closed
+COR 333 1 1 2 S:R>WrongOutcome
+COR 333 1 1 2 DNF>Closed
+STR 333 1 2>Closed
+OPEN 333 2 ao5 - 60000 final>RoundUnknown";
+    assert_eq!(rt; first_other(&mut meet, 1, script)?, None);
+    Ok(())
+}
+
+#[test]
+fn seven_competitors_allow_one_round(rt: HostRuntime) -> Result<(), Fail> {
+    let alloc = rt.alloc();
+    let mut meet = Meet::new(alloc)?;
+    let opened = b"OPEN 333 1 bo1 - 60000 top:3>Done";
+    assert_eq!(rt; first_other(&mut meet, 50_000, opened)?, None);
+    assert_eq!(rt; enter_all(alloc, &mut meet, 7)?, None);
+    let numbers = standing(alloc, &meet, 1)?;
+    assert_eq!(rt; time_all(alloc, &mut meet, 1000, 1, &numbers)?, None);
+    let script = b"CLOSE 333 1>RoundsRule
+ADV 333 1 final>Done
+CLOSE 333 1>Done";
+    assert_eq!(rt; first_other(&mut meet, 60_000, script)?, None);
+    let settings = meet.settings(Event::Cube3, 1);
+    assert!(rt; settings.is_some_and(|settings| settings.advance == Advance::Final));
     Ok(())
 }
 
@@ -63,19 +147,15 @@ fn an_opening_is_checked_in_order(rt: HostRuntime) -> Result<(), Fail> {
 fn a_tie_over_the_border_stays_out(rt: HostRuntime) -> Result<(), Fail> {
     let alloc = rt.alloc();
     let mut meet = Meet::new(alloc)?;
-    assert_eq!(rt;
-        meet.apply(50_000, b"OPEN 333 1 bo1 - 60000 top:8")?,
-        Answer::Done
-    );
-    assert!(rt; enter_all(alloc, &mut meet, 10)?.is_none());
+    let opened = b"OPEN 333 1 bo1 - 60000 top:8>Done";
+    assert_eq!(rt; first_other(&mut meet, 50_000, opened)?, None);
+    assert_eq!(rt; enter_all(alloc, &mut meet, 10)?, None);
     let numbers = standing(alloc, &meet, 1)?;
-    assert!(rt; time_all(alloc, &mut meet, 1000, 1, &numbers)?.is_none());
-    let texts = [
-        b"COR 333 1 1 8 T:700:0".as_slice(),
-        b"CLOSE 333 1",
-        b"OPEN 333 2 ao5 - 60000 final",
-    ];
-    assert!(rt; first_refused(&mut meet, 60_000, &texts)?.is_none());
+    assert_eq!(rt; time_all(alloc, &mut meet, 1000, 1, &numbers)?, None);
+    let script = b"COR 333 1 1 8 T:700:0>Done
+CLOSE 333 1>Done
+OPEN 333 2 ao5 - 60000 final>Done";
+    assert_eq!(rt; first_other(&mut meet, 60_000, script)?, None);
     let numbers = standing(alloc, &meet, 2)?;
     assert!(rt; numbers.as_slice() == [1, 2, 3, 4, 5, 6].as_slice());
     Ok(())
@@ -85,22 +165,91 @@ fn a_tie_over_the_border_stays_out(rt: HostRuntime) -> Result<(), Fail> {
 fn the_thousandth_entrant_is_refused(rt: HostRuntime) -> Result<(), Fail> {
     let alloc = rt.alloc();
     let mut meet = Meet::new(alloc)?;
-    assert_eq!(rt;
-        meet.apply(50_000, b"OPEN 333 1 ao5 - 60000 final")?,
-        Answer::Done
-    );
-    assert!(rt; enter_all(alloc, &mut meet, 999)?.is_none());
-    let entries = [
-        (b"REG 1000 Ann Li".as_slice(), Answer::Done),
-        (b"ENT 333 999", Answer::Refused(Code::Already)),
-        (b"ENT 333 1000", Answer::Refused(Code::Full)),
-        (b"ATT 333 1 1 1 DNS", Answer::Done),
-    ];
-    assert!(rt; first_other(&mut meet, 60_000, &entries)?.is_none());
+    let opened = b"OPEN 333 1 ao5 - 60000 final>Done";
+    assert_eq!(rt; first_other(&mut meet, 50_000, opened)?, None);
+    assert_eq!(rt; enter_all(alloc, &mut meet, 999)?, None);
+    let script = b"REG 1000 Ann Li>Done
+ENT 333 999>Already
+ENT 333 1000>Full
+ATT 333 1 1 1 DNS>Done";
+    assert_eq!(rt; first_other(&mut meet, 60_000, script)?, None);
     Ok(())
 }
 
-/// Registers competitors 1 to `last`, and enters them in round 1 of 333 in this order, from the last one on.
+#[test]
+fn a_correction_changes_average_and_row(rt: HostRuntime) -> Result<(), Fail> {
+    let mut meet = Meet::new(rt.alloc())?;
+    let script = b"REG 1 Ann Li>Done
+OPEN 333 1 ao5 - 60000 final>Done
+ENT 333 1>Done
+ATT 333 1 1 1 T:1000:0>Done
+ATT 333 1 2 1 T:1200:0>Done
+ATT 333 1 3 1 T:1100:0>Done
+ATT 333 1 4 1 T:1300:0>Done
+ATT 333 1 5 1 DNF>Done";
+    assert_eq!(rt; first_other(&mut meet, 1, script)?, None);
+    let row = meet.round(Event::Cube3, 1).and_then(|table| table.row(1));
+    assert!(rt;
+        row.is_some_and(|row| row.average == Averaged::Number(1200)
+            && row.best == Value::Number(1000))
+    );
+    assert_eq!(rt; meet.apply(100, b"COR 333 1 4 1 DNF")?, Answer::Done);
+    let row = meet.round(Event::Cube3, 1).and_then(|table| table.row(1));
+    assert!(rt;
+        row.is_some_and(|row| row.average == Averaged::Dnf
+            && row.best == Value::Number(1000)
+            && row.values.len() == 5)
+    );
+    Ok(())
+}
+
+#[test]
+fn a_cutoff_once_met_stays_met(rt: HostRuntime) -> Result<(), Fail> {
+    let mut meet = Meet::new(rt.alloc())?;
+    let script = b"REG 1 Ann Li>Done
+REG 2 Bo Ek>Done
+OPEN 333 1 ao5 2:1500 60000 final>Done
+ENT 333 1>Done
+ENT 333 2>Done
+ATT 333 1 1 1 T:1500:0>Done
+ATT 333 1 2 1 DNF>Done
+ATT 333 1 3 1 T:1000:0>NoMoreAttempts
+ATT 333 1 1 2 T:1499:0>Done
+ATT 333 1 2 2 DNF>Done
+ATT 333 1 3 2 T:1600:0>Done
+COR 333 1 1 2 T:1500:0>CutoffLost
+STR 333 1 2>Done
+COR 333 1 1 2 T:1500:0>Done";
+    assert_eq!(rt; first_other(&mut meet, 1, script)?, None);
+    Ok(())
+}
+
+#[test]
+fn a_solution_is_settled_against_its_scramble(rt: HostRuntime) -> Result<(), Fail> {
+    let mut meet = Meet::new(rt.alloc())?;
+    let script = b"REG 1 Ann Li>Done
+OPEN 333 1 ao5 - 60000 final>Done
+SCR 333 1 1 R>WrongOutcome
+OPEN 333fm 1 mo3 - - final>Done
+ENT 333fm 1>Done
+ATT 333fm 1 1 1 S:R'>NoScramble
+ATT 333fm 1 1 1 T:1000:0>WrongOutcome
+ATT 333fm 1 1 1 DNS>Done
+SCR 333fm 1 3 L>Done
+SCR 333fm 1 2 R>Done
+ATT 333fm 1 2 1 S:y F'>Done
+ATT 333fm 1 3 1 S:R'>Done";
+    assert_eq!(rt; first_other(&mut meet, 1, script)?, None);
+    let values = [Value::Dns, Value::Number(1), Value::Dnf];
+    let row = meet
+        .round(Event::FewestMoves, 1)
+        .and_then(|table| table.row(1));
+    assert!(rt; row.is_some_and(|row| row.values == values.as_slice()));
+    Ok(())
+}
+
+/// Registers competitors 1 to `last`, and enters them in round 1 of 333 in this order, from the last
+/// one on. Gives the id of the first that is refused.
 fn enter_all(alloc: Global, meet: &mut Meet, last: u16) -> Result<Option<u64>, NoMemory> {
     for before in 0..last {
         let number = before + 1;
@@ -119,7 +268,8 @@ fn enter_all(alloc: Global, meet: &mut Meet, last: u16) -> Result<Option<u64>, N
     Ok(None)
 }
 
-/// Gives each entrant of a round of 333 one time: the competitor's number of seconds.
+/// Gives each entrant of a round of 333 one time: the competitor's number of seconds. Gives the id of
+/// the first that is refused.
 fn time_all(
     alloc: Global,
     meet: &mut Meet,
