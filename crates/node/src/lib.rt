@@ -21,3 +21,5 @@ pub use hall_desk::Node;
 
 #[cfg(test)]
 mod tests;
+#[cfg(test)]
+mod tests_sql;

@@ -5,7 +5,7 @@ use acceptor::ballot::Ballot;
 use acceptor::entry::Entry;
 use acceptor::message::{Body, Message, Report};
 use acceptor::stored::Stored;
-use commands::Answer;
+use commands::{Answer, Code, Meet};
 use learner::event::Event;
 use learner::log::Log;
 use sheets::Style;
@@ -19,7 +19,11 @@ const ANN: &[u8] = b"REG 1 Ann Li";
 
 const OPEN: &[u8] = b"OPEN 333 1 ao5 - 60000 final";
 
-fn ann(alloc: Global) -> Result<Entry, Fail> {
+/// What one entry, decided at desk 1 while desk 3 is not reached, has desks send: from, to and kind of
+/// each message.
+pub(crate) const CATCH_UP: &[u8] = b"11P12P13P11p21p11A12A13A11a21a12D13D21B31B32B13D31B";
+
+pub(crate) fn ann(alloc: Global) -> Result<Entry, Fail> {
     Ok(Entry::new(alloc, 7, ANN)?)
 }
 
@@ -84,31 +88,71 @@ fn open<K: Keeper + Drop>(alloc: Global, keeper: K) -> Result<Node<K>, Fail> {
 
 /// The desks of a hall, and all that they have handed out.
 #[derive(Drop)]
-struct Hall<K: Keeper> {
-    nodes: Vec<Node<K>>,
-    sent: Vec<Message>,
+pub(crate) struct Hall<K: Keeper> {
+    pub(crate) nodes: Vec<Node<K>>,
+    pub(crate) sent: Vec<Message>,
 }
 
-fn take<K: Keeper + Drop>(hall: &mut Hall<K>, desk: usize, event: Event) -> Result<(), Fail> {
-    let Some(node) = hall.nodes.get_mut(desk.wrapping_sub(1)) else {
-        return Err(Fail::from("no such desk"));
-    };
+/// The node takes the event, and what it hands out is sent.
+pub(crate) fn hear<K: Keeper + Drop>(
+    node: &mut Node<K>,
+    event: Event,
+    sent: &mut Vec<Message>,
+) -> Result<(), Fail> {
     let messages = node.handle(event)?;
     for message in messages.into_vec() {
-        hall.sent.push(message)?;
+        sent.push(message)?;
     }
     Ok(())
 }
 
-/// Delivers the message of this number, counted from 1, where it was sent.
-fn deliver<K: Keeper + Drop>(hall: &mut Hall<K>, number: usize) -> Result<(), Fail> {
-    let Some(sent) = hall.sent.get(number.wrapping_sub(1)) else {
-        return Ok(());
+pub(crate) fn take<K: Keeper + Drop>(
+    hall: &mut Hall<K>,
+    desk: usize,
+    event: Event,
+) -> Result<(), Fail> {
+    let Some(node) = hall.nodes.get_mut(desk.wrapping_sub(1)) else {
+        return Err(Fail::from("no such desk"));
     };
-    let Message { from, to, body } = sent;
-    let copy = message(*from, *to, body.copy()?);
-    let desk = *to as usize;
-    take(hall, desk, Event::Deliver(copy))
+    hear(node, event, &mut hall.sent)
+}
+
+/// A copy of the message of this number, counted from 1.
+pub(crate) fn nth(sent: &[Message], number: usize) -> Result<Message, Fail> {
+    let Some(sent) = sent.get(number.wrapping_sub(1)) else {
+        return Err(Fail::from("not sent"));
+    };
+    Ok(message(sent.from, sent.to, sent.body.copy()?))
+}
+
+/// Delivers the message of this number, counted from 1.
+pub(crate) fn deliver<K: Keeper + Drop>(hall: &mut Hall<K>, number: usize) -> Result<(), Fail> {
+    let message = nth(&hall.sent, number)?;
+    let desk = message.to as usize;
+    take(hall, desk, Event::Deliver(message))
+}
+
+fn letter(body: &Body) -> u8 {
+    match body {
+        Body::Prepare { .. } => b'P',
+        Body::Promise { .. } => b'p',
+        Body::Accept { .. } => b'A',
+        Body::Accepted { .. } => b'a',
+        Body::Nack { .. } => b'N',
+        Body::Behind { .. } => b'B',
+        Body::Decided { .. } => b'D',
+    }
+}
+
+/// From, to and kind of each message.
+pub(crate) fn spelled(alloc: Global, sent: &[Message]) -> Result<Vec<u8>, Fail> {
+    let mut text = Vec::new(alloc);
+    for message in sent {
+        text.push(message.from.wrapping_add(b'0'))?;
+        text.push(message.to.wrapping_add(b'0'))?;
+        text.push(letter(&message.body))?;
+    }
+    Ok(text)
 }
 
 /// A desk that has asked for votes by ballot (1, 1), and stops.
@@ -183,12 +227,14 @@ fn answers_by_its_log(rt: HostRuntime) -> Result<(), Fail> {
         Event::Deliver(prepare(2, 1, 2, 1)),
         &[message(1, 2, promised)],
     )?;
-    says(
-        &rt,
-        &mut node,
-        Event::Deliver(prepare(3, 1, 3, 0)),
-        &[decided(alloc, 1, 3)?],
-    )?;
+    for from in 1..4 {
+        says(
+            &rt,
+            &mut node,
+            Event::Deliver(prepare(from, 1, 3, 0)),
+            &[decided(alloc, 1, from)?],
+        )?;
+    }
     says(
         &rt,
         &mut node,
@@ -241,9 +287,23 @@ fn decide(
     let before = hall.sent.len();
     take(hall, desk, Event::Start)?;
     for number in before..before.saturating_add(100) {
-        deliver(hall, number.wrapping_add(1))?;
+        if number < hall.sent.len() {
+            deliver(hall, number.wrapping_add(1))?;
+        }
     }
     Ok(())
+}
+
+/// What the commands of a log are answered, in order.
+fn answers(alloc: Global, log: &Log) -> Result<Vec<Answer>, Fail> {
+    let mut meet = Meet::new(alloc)?;
+    let mut answers = Vec::new(alloc);
+    for pos in 0..log.len() {
+        if let Some(entry) = log.entry(pos) {
+            answers.push(meet.apply(entry.id(), entry.text())?)?;
+        }
+    }
+    Ok(answers)
 }
 
 #[test]
@@ -264,7 +324,10 @@ fn id_that_comes_again_is_a_repeat(rt: HostRuntime) -> Result<(), Fail> {
     let first = b"333 round 1 ao5 open position 1\ncutoff - limit 60000 advance final\n";
     let second = b"333 round 1 ao5 open position 2\ncutoff - limit 60000 advance final\n";
     for node in &hall.nodes {
-        assert_eq!(rt; node.log().len(), 2);
+        assert_eq!(rt;
+            answers(alloc, node.log())?.as_slice(),
+            [Answer::Done, Answer::Refused(Code::Repeat)].as_slice()
+        );
         assert_eq!(rt; node.answer(9)?, done);
         assert_eq!(rt; node.answer(10)?, Told::Unknown);
         let event = formats::Event::Cube3;

@@ -11,12 +11,12 @@ use Rattle.acceptor.specs.declared.stored.Stored.{Stored}
 use Rattle.store.specs.declared.home.Home.{Home}
 use Rattle.store.proofs.Inserting.{log_append}
 
-pub grows : (rows : List Row) (i : ℕ) (row : Row) (log : List Entry) (e : Entry) (at : ℕ) → i < length rows → row ≡ get_or rows i row → map entry_columns (take i rows) ≡ log_values 0 log
-    → column row 0 ≡ Int (pos at) → at ≡ length log → column row 1 ≡ Int (pos e.id) → column row 2 ≡ Blob e.text → map entry_columns (take (i + 1) rows) ≡ log_values 0 (log ++ e ∷ [])
-grows rows i row log e at h is so_far pos_is last id text =
-    let more : take (i + 1) rows ≡ take i rows ++ row ∷ [] = take_more rows i row h ∙ ap (λ r. take i rows ++ r ∷ []) (sym is) in
-    let columns : entry_columns row ≡ entry_values (length log) e = rw (pos_is, id, text, last) refl in
-    ap (map entry_columns) more ∙ map-append entry_columns (take i rows) (row ∷ []) ∙ ap (λ rs. rs ++ entry_columns row ∷ []) so_far ∙ ap (λ r. log_values 0 log ++ r ∷ []) columns
+pub grows : (rows : List Row) (i : ℕ) (here : Row) (log : List Entry) (e : Entry) (at : ℕ) → i < length rows → here ≡ get_or rows i here → map entry_columns (take i rows) ≡ log_values 0 log
+    → column here 0 ≡ Int (pos at) → at ≡ length log → column here 1 ≡ Int (pos e.id) → column here 2 ≡ Blob e.text → map entry_columns (take (i + 1) rows) ≡ log_values 0 (log ++ e ∷ [])
+grows rows i here log e at h is so_far pos_is last id text =
+    let more : take (i + 1) rows ≡ take i rows ++ here ∷ [] = take_more rows i here h ∙ ap (λ r. take i rows ++ r ∷ []) (sym is) in
+    let columns : entry_columns here ≡ entry_values (length log) e = rw (pos_is, id, text, last) refl in
+    ap (map entry_columns) more ∙ map-append entry_columns (take i rows) (here ∷ []) ∙ ap (λ rs. rs ++ entry_columns here ∷ []) so_far ∙ ap (λ r. log_values 0 log ++ r ∷ []) columns
     ∙ ap (λ (n : ℕ). log_values 0 log ++ entry_values n e ∷ []) (sym (zero-add (length log))) ∙ sym (log_append 0 log e)
 
 shown_twice : (rows : List Row) → map entry_columns (map shown_entry rows) ≡ map shown_entry rows

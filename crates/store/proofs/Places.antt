@@ -85,11 +85,11 @@ row_at rows log i row h is same =
     (found.0, found.1, ap entry_columns is ∙ sym here ∙ ap (λ rs. get_or rs i (entry_columns row)) same ∙ found.2 ∙ ap (λ (n : ℕ). entry_values n found.0) (zero-add i))
 
 -- the columns of that row
-pub parts : (row : Row) (i : ℕ) (e : Entry) → entry_columns row ≡ entry_values i e → (column row 0 ≡ Int (pos i)) × (column row 1 ≡ Int (pos e.id)) × (column row 2 ≡ Blob e.text)
-parts row i e same = (cc, cc, cc)
+pub parts : (here : Row) (i : ℕ) (e : Entry) → entry_columns here ≡ entry_values i e → (column here 0 ≡ Int (pos i)) × (column here 1 ≡ Int (pos e.id)) × (column here 2 ≡ Blob e.text)
+parts here i e same = (cc, cc, cc)
 
-pub same_place : (row : Row) (a b : ℕ) → column row 0 ≡ Int (pos a) → column row 0 ≡ Int (pos b) → a ≡ b
-same_place row a b p q = let both = sym p ∙ q in cc
+pub same_place : (here : Row) (a b : ℕ) → column here 0 ≡ Int (pos a) → column here 0 ≡ Int (pos b) → a ≡ b
+same_place here a b p q = let both = sym p ∙ q in cc
 
 -- positions are below 65,536
 pub few : (rows : List Row) (log : List Entry) (i : ℕ) → i < length rows → map entry_columns rows ≡ log_values 0 log → length log ≤ 65536 → i < 65536

@@ -59,16 +59,16 @@ only_row home s [] e = absurd cc
 only_row home s (r ∷ []) e = (r, refl, cc)
 only_row home s (r ∷ r' ∷ more) e = absurd cc
 
-left_none : (row : Row) → column row 0 ≡ Int (pos 1) → without_all (row ∷ []) (pos 1 ∷ []) ≡ []
+left_none : (only : Row) → column only 0 ≡ Int (pos 1) → without_all (only ∷ []) (pos 1 ∷ []) ≡ []
 unfolding value_cmp lib.Ieee.is_nan lib.Ieee.lt
-left_none row one = rw one refl
+left_none only one = rw one refl
 
 -- the row is taken out, and the new one is put in
-rewrites : (trees : Trees) (row : Row) (home : Home) (s t : Stored) (values : Row) → trees 0 ≡ row ∷ [] → shown_desk row ≡ desk_values home s → values ≡ Int (pos 1) ∷ stored_as (desk_values home t)
+rewrites : (trees : Trees) (only : Row) (home : Home) (s t : Stored) (values : Row) → trees 0 ≡ only ∷ [] → shown_desk only ≡ desk_values home s → values ≡ Int (pos 1) ∷ stored_as (desk_values home t)
     → map shown_desk (edited trees (rewritten trees values)) ≡ desk_values home t ∷ []
-rewrites trees row home s t values one shows is =
-    let rowid : column row 0 ≡ Int (pos 1) = ap (λ (r : Row). column r 0) shows in
-    let gone : without_all (trees 0) (pos 1 ∷ []) ≡ [] = ap (λ (rs : List Row). without_all rs (pos 1 ∷ [])) one ∙ left_none row rowid in
+rewrites trees only home s t values one shows is =
+    let rowid : column only 0 ≡ Int (pos 1) = ap (λ (r : Row). column r 0) shows in
+    let gone : without_all (trees 0) (pos 1 ∷ []) ≡ [] = ap (λ (rs : List Row). without_all rs (pos 1 ∷ [])) one ∙ left_none only rowid in
     let put : edited trees (rewritten trees values) ≡ stored_as (desk_values home t) ∷ [] =
     ap (λ v. edited trees (rewritten trees v)) is ∙ ap (put_row (cast_row (desk_table 0) (stored_as (desk_values home t)))) gone ∙ ap (λ r. r ∷ []) (cast_desk home t) in
     ap (map shown_desk) put ∙ ap (λ r. r ∷ []) (shown_stored home t)

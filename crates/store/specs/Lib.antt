@@ -9,3 +9,4 @@ pub mod Holding
 pub mod Kept
 pub mod Unique
 pub mod Whole
+pub mod Refusing

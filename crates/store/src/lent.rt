@@ -1,4 +1,4 @@
-ghost use Rattle.std.specs.Prelude.{◌≡◌, List};
+ghost use Rattle.std.specs.Prelude.{◌≡◌, ◌↔◌, ◌<◌, List, Err, IsTrue};
 ghost use Rattle.acceptor.specs.Entries.{EntryValue};
 ghost use Rattle.acceptor.specs.declared.stored.Stored.{Stored as State};
 ghost use Rattle.store.specs.Keeping.{HoldsOnly, Leaves, IsFitAfter};
@@ -12,9 +12,14 @@ use std::alloc::Global;
 
 /// Saves, and says what a store that is opened again holds: after Ok the state after the change and no
 /// other, after NoMemory the state before it and no other, and after Device one of the two.
+///
+/// Device comes only where the count of failures has risen, and Down exactly where the keeper was Down.
 pub fn save_to<K: Keeper>(keeper: &mut K, change: &Change) -> Result<(), SaveFault>
-    ensures { K.is_honest keeper.new → (s : State) (log : List EntryValue) → K.keeps keeper.old s log → IsFitAfter (K.home_of keeper.old).desks s log change.now
+    ensures leaves { K.is_honest keeper.new → (s : State) (log : List EntryValue) → K.keeps keeper.old s log → IsFitAfter (K.home_of keeper.old).desks s log change.now
         → Leaves (HoldsOnly (K.may_hold keeper.new)) (K.may_hold keeper.new) s log change.now result }
+    ensures down { (result ≡ Err SaveFault.Down) ↔ IsTrue (K.is_down keeper.old) }
+    ensures counted { result ≡ Err SaveFault.Device → K.failures_of keeper.old < K.failures_of keeper.new }
+    ensures ended { result ≡ Err SaveFault.Device → IsTrue (K.is_down keeper.new) }
 {
     keeper.save(change)
 }

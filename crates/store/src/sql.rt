@@ -14,6 +14,7 @@ ghost use Rattle.store.specs.Holding.{Holds};
 ghost use Rattle.store.specs.Keeping.{most_failures};
 ghost use Rattle.store.specs.Unique.{alone};
 ghost use Rattle.store.specs.Kept.{Keeps, Saved, MayLeave, HasDesk};
+ghost use Rattle.store.specs.Refusing.{Refuses};
 
 use crate::faults::{LoadFault, OpenFault, SaveFault};
 use crate::home::Home;
@@ -179,6 +180,7 @@ impl<S: Alter + Drop> SqlKeeper<S> {
         ensures kept { IfOk result (λ k. ⟦<SqlKeeper<S> as Keeper>⟧.is_honest k → (s : State) × (log : List EntryValue) × ⟦<SqlKeeper<S> as Keeper>⟧.keeps k s log) }
         ensures made { (state S.Store conn).now.schema ≡ no_schema → IfOk result (λ k. ⟦<SqlKeeper<S> as Keeper>⟧.is_honest k → ⟦<SqlKeeper<S> as Keeper>⟧.keeps k first_stored []) }
         ensures same { (s : State) (log : List EntryValue) → Keeps (record { hall = hall; desk = desk; desks = desks }) s log (state S.Store conn) → IfOk result (λ k. ⟦<SqlKeeper<S> as Keeper>⟧.is_honest k → ⟦<SqlKeeper<S> as Keeper>⟧.keeps k s log) }
+        ensures refused { IfErr result (λ fault. (dropped : _) × Refuses S.Store (record { hall = hall; desk = desk; desks = desks }) conn dropped fault) }
     {
         match SqlKeeper::open_or_give_back(alloc, conn, hall, desk, desks) {
             Ok(keeper) => Ok(keeper),

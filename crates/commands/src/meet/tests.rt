@@ -294,6 +294,126 @@ fn standing(alloc: Global, meet: &Meet, round: u8) -> Result<Vec<u16>, NoMemory>
     }
 }
 
+/// What a meet answers to an entry, which it is given again where memory was refused.
+fn answered(meet: &mut Meet, id: u64, text: &[u8]) -> Result<Answer, NoMemory> {
+    match meet.apply(id, text) {
+        Ok(answer) => Ok(answer),
+        Err(_) => meet.apply(id, text),
+    }
+}
+
+/// Takes a script as `first_other` does, but each line again where memory was refused, and each id
+/// once more: it is then a repeat. Gives the id of the first that is answered otherwise.
+fn first_lost(meet: &mut Meet, first: u64, script: &[u8]) -> Result<Option<u64>, NoMemory> {
+    for (id, line) in (first..u64::MAX).zip(script.split(|byte| *byte == b'\n')) {
+        let mut parts = line.split(|byte| *byte == b'>');
+        let text = parts.next().unwrap_or(b"");
+        let want = parts.next().unwrap_or(b"");
+        let answer = answered(meet, id, text)?;
+        let again = answered(meet, id, text)?;
+        if name_of(answer).as_bytes() != want || again != Answer::Refused(Code::Repeat) {
+            return Ok(Some(id));
+        }
+    }
+    Ok(None)
+}
+
+/// To be run with each allocation refused in turn (`rt try --test --fail-alloc N`): what answers
+/// NoMemory changes nothing, so the same entry, taken again, is answered as usual.
+#[test]
+fn a_refused_growth_changes_nothing(rt: HostRuntime) -> Result<(), Fail> {
+    let mut meet = Meet::new(rt.alloc())?;
+    let script = b"REG 1 Ann Li>Done
+REG 2 Bo Ek>Done
+REG 3 Bo Ek>NameTaken
+OPEN 333fm 1 bo2 - - final>Done
+ENT 333fm 1>Done
+SCR 333fm 1 1 R>Done
+ATT 333fm 1 1 1 S:R'>Done
+COR 333fm 1 1 1 S:R>Done
+STR 333fm 1 1>Done
+ATT 333fm 1 1 1 S:R'>Done
+ATT 333fm 1 2 1 DNS>Done
+CLOSE 333fm 1>Done
+ent>Unread";
+    assert_eq!(rt; first_lost(&mut meet, 1, script)?, None);
+    let row = meet
+        .round(Event::FewestMoves, 1)
+        .and_then(|table| table.row(1));
+    assert!(rt; row.is_some_and(|row| row.best == Value::Number(1) && row.values.len() == 2));
+    Ok(())
+}
+
+/// Gives each entrant of a round of 333 one time, and then takes the lines of a script. Gives the id
+/// of the first that is answered otherwise.
+fn play_round(
+    alloc: Global,
+    meet: &mut Meet,
+    round: u8,
+    script: &[u8],
+) -> Result<Option<u64>, NoMemory> {
+    let numbers = standing(alloc, meet, round)?;
+    let first = 1000 * u64::from(round);
+    match time_all(alloc, meet, first, round, &numbers)? {
+        Some(id) => Ok(Some(id)),
+        None => first_other(meet, first + 500, script),
+    }
+}
+
+/// Plays rounds 1 to 4 of 333, one after the other, each with its part of a script, which an `=`
+/// ends. Gives the id of the first that is answered otherwise.
+fn play_rounds(alloc: Global, meet: &mut Meet, script: &[u8]) -> Result<Option<u64>, NoMemory> {
+    for (round, part) in (1..5u8).zip(script.split(|byte| *byte == b'=')) {
+        if let Some(id) = play_round(alloc, meet, round, part)? {
+            return Ok(Some(id));
+        }
+    }
+    Ok(None)
+}
+
+/// Plays rounds of 100, 16, 8 and 4 competitors, the fewest with which four may follow one another.
+fn play_four_rounds(alloc: Global, meet: &mut Meet) -> Result<Option<u64>, NoMemory> {
+    let script = b"OPEN 333 2 bo1 - 60000 top:8>RoundUnknown
+CLOSE 333 1>Done
+OPEN 333 2 bo1 - 60000 top:8>Done=OPEN 333 3 bo1 - 60000 top:4>RoundUnknown
+CLOSE 333 2>Done
+OPEN 333 3 bo1 - 60000 top:4>Done=OPEN 333 4 bo1 - 60000 top:1>RoundUnknown
+CLOSE 333 3>Done
+OPEN 333 4 bo1 - 60000 top:1>Done=CLOSE 333 4>RoundsRule
+ADV 333 4 final>Done
+CLOSE 333 4>Done
+OPEN 333 5 bo1 - 60000 final>Unread";
+    play_rounds(alloc, meet, script)
+}
+
+/// Whether a round of 333 has so many competitors.
+fn has_competitors(meet: &Meet, round: u8, number: u16) -> bool {
+    match meet.round(Event::Cube3, round) {
+        Some(table) => table.started() == number,
+        None => false,
+    }
+}
+
+/// Whether the four rounds have as many competitors as advance to them.
+fn has_four_rounds(meet: &Meet) -> bool {
+    has_competitors(meet, 1, 100)
+        && has_competitors(meet, 2, 16)
+        && has_competitors(meet, 3, 8)
+        && has_competitors(meet, 4, 4)
+}
+
+#[test]
+fn four_rounds_follow_one_another(rt: HostRuntime) -> Result<(), Fail> {
+    let alloc = rt.alloc();
+    let mut meet = Meet::new(alloc)?;
+    let opened = b"OPEN 333 1 bo1 - 60000 pct:16>Done";
+    assert_eq!(rt; first_other(&mut meet, 50_000, opened)?, None);
+    assert_eq!(rt; enter_all(alloc, &mut meet, 100)?, None);
+    assert_eq!(rt; play_four_rounds(alloc, &mut meet)?, None);
+    assert!(rt; has_four_rounds(&meet));
+    Ok(())
+}
+
 #[test]
 fn codes_have_numbers_and_names(rt: HostRuntime) {
     let codes = [

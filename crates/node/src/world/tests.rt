@@ -1,10 +1,12 @@
 use crate::faults::NodeFault;
+use crate::tests::{CATCH_UP, spelled};
 use crate::world::{World, WorldFault};
 use acceptor::ballot::Ballot;
 use acceptor::entry::{Entry, EntryFault};
-use acceptor::message::{Body, Message};
+use acceptor::message::{Body, Message, Report};
 use learner::event::WorldEvent;
 use std::alloc::Global;
+use std::process::Abort;
 use std::test::Fail;
 
 fn a(alloc: Global) -> Result<Entry, EntryFault> {
@@ -51,6 +53,7 @@ fn one_entry_is_decided(rt: HostRuntime) -> Result<(), Fail> {
         (14, 17, None)
     );
     assert_eq!(rt; world.events(), events.as_slice());
+    assert_eq!(rt; spelled(alloc, world.sent())?.as_slice(), CATCH_UP);
     let last = Message {
         from: 3,
         to: 1,
@@ -61,6 +64,55 @@ fn one_entry_is_decided(rt: HostRuntime) -> Result<(), Fail> {
         let log = world.log(desk);
         assert_eq!(rt; (log.len(), log.entry(0)), (1, Some(&a(alloc)?)));
     }
+    Ok(())
+}
+
+/// Desk 2 asks for the position behind the decided one. Desk 1 reports no vote for it: its vote was for
+/// the one before.
+#[test]
+fn a_vote_is_reported_for_its_position_alone(rt: HostRuntime) -> Result<(), Fail> {
+    let alloc = rt.alloc();
+    let mut events = one_entry(alloc)?;
+    propose(&mut events, 2, b(alloc)?)?;
+    deliver(&mut events, &[18])?;
+    let mut world = World::new(alloc, 3)?;
+    world.run(&events)?;
+    let ballot = Ballot { round: 2, desk: 2 };
+    let pos = 1;
+    is_nth(&rt, world.sent(), 18, 2, 1, Body::Prepare { ballot, pos });
+    let vote = None;
+    is_nth(
+        &rt,
+        world.sent(),
+        21,
+        1,
+        2,
+        Body::Promise { ballot, pos, vote },
+    );
+    assert_eq!(rt; world.sent().len(), 21);
+    Ok(())
+}
+
+/// The k-th message sent, counted from 1, is this one.
+fn is_nth(rt: &impl Abort, sent: &[Message], k: usize, from: u8, to: u8, body: Body) {
+    let message = Message { from, to, body };
+    assert_eq!(rt; sent.get(k.wrapping_sub(1)), Some(&message));
+}
+
+/// The promise that reports the vote, the one that reports none, and the entry that is then asked for.
+fn reported(rt: &impl Abort, alloc: Global, sent: &[Message]) -> Result<(), Fail> {
+    let ballot = Ballot { round: 2, desk: 2 };
+    let pos = 0;
+    let vote = Report {
+        ballot: Ballot { round: 1, desk: 1 },
+        entry: a(alloc)?,
+    };
+    let vote = Some(vote);
+    is_nth(rt, sent, 13, 1, 2, Body::Promise { ballot, pos, vote });
+    let vote = None;
+    is_nth(rt, sent, 14, 2, 2, Body::Promise { ballot, pos, vote });
+    let entry = a(alloc)?;
+    is_nth(rt, sent, 15, 2, 1, Body::Accept { ballot, pos, entry });
     Ok(())
 }
 
@@ -78,6 +130,7 @@ fn a_reported_vote_is_taken_over(rt: HostRuntime) -> Result<(), Fail> {
     deliver(&mut events, &[20, 22, 23, 26, 27, 28, 29, 31, 32, 33])?;
     let mut world = World::new(alloc, 3)?;
     world.run(&events)?;
+    reported(&rt, alloc, world.sent())?;
     let ballot = Ballot { round: 3, desk: 2 };
     let next = Message {
         from: 2,

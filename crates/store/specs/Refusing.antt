@@ -1,0 +1,22 @@
+-- Why an opening refuses.
+use Rattle.std.specs.Prelude.{◌≡◌, ◌≢◌, ◌⊎◌, List, []}
+use Rattle.sqlite_trees.specs.declared.store.Store.{Ghosts}
+use Rattle.sqlite.specs.Tree.{Trees}
+use Rattle.sqlite.specs.State.{HasCleanDisk}
+use Rattle.sqlite.specs.Held.{Held, state}
+use Rattle.acceptor.specs.declared.entry.Entry.{Entry}
+use Rattle.acceptor.specs.declared.stored.Stored.{Stored}
+use Rattle.acceptor.specs.Storing.{first_stored}
+use Rattle.store.specs.declared.home.Home.{Home}
+use Rattle.store.specs.declared.faults.OpenFault.{OpenFault}
+use Rattle.store.specs.declared.faults.OpenFault.TheVariants.{WrongDesk, Damaged}
+use Rattle.store.specs.Holding.{Holds}
+use Rattle.store.specs.Kept.{Keeps, HasDesk}
+use Rattle.store.specs.Whole.{IsSound}
+
+-- The connection was `old`, and is dropped as `new`. As far as that one's disk is clean, Damaged says that no desk's state was there, WrongDesk that another desk's row was,
+-- and a stop leaves what was there, or both tables with the first row.
+pub record Refuses {S : Type 0} (g : Ghosts S) (home : Home) (old new : Held S) (fault : OpenFault) : Type 0 where
+  pub damaged : fault ≡ Damaged → HasCleanDisk (state g new) → (away : Home) (s : Stored) (log : List Entry) → IsSound away s log → ¬ Keeps away s log (state g old)
+  pub wrong : fault ≡ WrongDesk → HasCleanDisk (state g new) → (away : Home) × (s : Stored) × HasDesk away s (state g old) × (away ≢ home)
+  pub crash : HasCleanDisk (state g new) → (db : Trees) → (state g new).may_leave db → (state g old).may_leave db ⊎ Holds home db first_stored []
