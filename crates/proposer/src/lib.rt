@@ -7,4 +7,6 @@ pub mod proposer;
 pub mod role;
 #[cfg(test)]
 mod tests;
+#[cfg(test)]
+mod tests_heard;
 pub mod votes;

@@ -3,8 +3,7 @@ ghost use Rattle.std.specs.Prelude.{◌≡◌, ◌≤◌, ◌⊎◌};
 use crate::faults::{Refusal, StepFault};
 use crate::plan::Plan;
 use crate::proposer::Proposer;
-use crate::role::{Promises, Role};
-use crate::votes::Votes;
+use crate::role::Role;
 use acceptor::NoMemory;
 use acceptor::ballot::Ballot;
 use acceptor::entry::{Entry, EntryFault};
@@ -14,61 +13,37 @@ use std::alloc::Global;
 use std::process::Abort;
 use std::test::Fail;
 
-fn ballot(round: u32, desk: u8) -> Ballot {
+pub(crate) fn ballot(round: u32, desk: u8) -> Ballot {
     Ballot { round, desk }
 }
 
-fn message(from: u8, to: u8, body: Body) -> Message {
-    Message { from, to, body }
-}
-
-fn prepare(round: u32, desk: u8, to: u8, pos: u32) -> Message {
-    let ballot = ballot(round, desk);
-    message(desk, to, Body::Prepare { ballot, pos })
-}
-
-fn promise(from: u8, round: u32, desk: u8, vote: Option<Report>) -> Message {
-    let ballot = ballot(round, desk);
-    message(
+/// A Promise at position 0 of this ballot, to its desk.
+fn promise(from: u8, ballot: Ballot, vote: Option<Report>) -> Message {
+    Message {
         from,
-        desk,
-        Body::Promise {
+        to: ballot.desk,
+        body: Body::Promise {
             ballot,
             pos: 0,
             vote,
         },
-    )
+    }
 }
 
-fn accept(round: u32, desk: u8, to: u8, entry: Entry) -> Message {
-    let ballot = ballot(round, desk);
-    message(
-        desk,
-        to,
-        Body::Accept {
-            ballot,
-            pos: 0,
-            entry,
-        },
-    )
+/// An Accepted at position 0 of this ballot, to its desk.
+fn accepted(from: u8, ballot: Ballot) -> Message {
+    Message {
+        from,
+        to: ballot.desk,
+        body: Body::Accepted { ballot, pos: 0 },
+    }
 }
 
-fn accepted(from: u8, round: u32, desk: u8) -> Message {
-    let ballot = ballot(round, desk);
-    message(from, desk, Body::Accepted { ballot, pos: 0 })
-}
-
-/// Desk 1 tells that A is decided at position 0.
-fn decided(alloc: Global, to: u8) -> Result<Message, EntryFault> {
-    let entry = a(alloc)?;
-    Ok(message(1, to, Body::Decided { pos: 0, entry }))
-}
-
-fn a(alloc: Global) -> Result<Entry, EntryFault> {
+pub(crate) fn a(alloc: Global) -> Result<Entry, EntryFault> {
     Entry::new(alloc, 7, b"A")
 }
 
-fn b(alloc: Global) -> Result<Entry, EntryFault> {
+pub(crate) fn b(alloc: Global) -> Result<Entry, EntryFault> {
     Entry::new(alloc, 8, b"B")
 }
 
@@ -80,103 +55,237 @@ fn tried(round: u32) -> Stored {
     }
 }
 
+/// A desk that has promised ballot (1, 1).
+fn promised() -> Stored {
+    Stored {
+        promised: ballot(1, 1),
+        vote: None,
+        tried: 0,
+    }
+}
+
+fn start(proposer: &Proposer, stored: Stored, len: u32) -> Result<Plan, StepFault> {
+    proposer.start(&stored, len)
+}
+
+fn tick(proposer: &Proposer, stored: Stored, len: u32) -> Result<Plan, StepFault> {
+    proposer.tick(&stored, len)
+}
+
+/// Puts the entry into the desk's queue and starts it, with a log of no entries.
+fn begin(proposer: &mut Proposer, entry: Entry, stored: Stored) -> Result<(), StepFault> {
+    proposer.submit(entry, 0)?;
+    let plan = start(proposer, stored, 0)?;
+    proposer.adopt(plan);
+    Ok(())
+}
+
 /// A desk of `desks` that gathers promises for its first ballot, at position 0, with entry A in its queue.
 fn gathering(alloc: Global, desk: u8, desks: u8) -> Result<Proposer, Fail>
     requires desks { (desks ≡ 3) ⊎ (desks ≡ 5) }
     requires desk { (1 ≤ desk) × (desk ≤ desks) }
 {
+    let entry = a(alloc)?;
     let mut proposer = Proposer::new(alloc, desk, desks)?;
-    proposer.submit(a(alloc)?, 0)?;
-    let plan = proposer.start(&Stored::new(), 0)?;
-    proposer.adopt(plan);
+    begin(&mut proposer, entry, Stored::new())?;
     Ok(proposer)
 }
 
+/// What the desk plans at a Promise of this desk, at position 0.
+fn on_promise(
+    proposer: &Proposer,
+    from: u8,
+    ballot: Ballot,
+    vote: Option<Report>,
+) -> Result<Plan, NoMemory> {
+    proposer.on_promise(&promise(from, ballot, vote))
+}
+
+/// What the desk plans at an Accepted of this desk, at position 0.
+fn on_accepted(proposer: &Proposer, from: u8, ballot: Ballot) -> Result<Plan, NoMemory> {
+    proposer.on_accepted(&accepted(from, ballot))
+}
+
 /// Takes what the desk plans at a Promise, and tells how many messages that sends.
-fn hear_promise(proposer: &mut Proposer, promise: &Message) -> Result<usize, NoMemory> {
-    let plan = proposer.on_promise(promise)?;
+fn hear_promise(
+    proposer: &mut Proposer,
+    from: u8,
+    ballot: Ballot,
+    vote: Option<Report>,
+) -> Result<usize, NoMemory> {
+    let plan = on_promise(proposer, from, ballot, vote)?;
     let sent = plan.messages.as_slice().len();
     proposer.adopt(plan);
     Ok(sent)
 }
 
 /// Takes what the desk plans at an Accepted, and tells how many messages that sends.
-fn hear_vote(proposer: &mut Proposer, accepted: &Message) -> Result<usize, NoMemory> {
-    let plan = proposer.on_accepted(accepted)?;
+fn hear_vote(proposer: &mut Proposer, from: u8, ballot: Ballot) -> Result<usize, NoMemory> {
+    let plan = on_accepted(proposer, from, ballot)?;
     let sent = plan.messages.as_slice().len();
     proposer.adopt(plan);
     Ok(sent)
 }
 
+/// The desks 1 and 2 promise this ballot.
+fn hear_two_promises(proposer: &mut Proposer, ballot: Ballot) -> Result<(), NoMemory> {
+    hear_promise(proposer, 1, ballot, None)?;
+    hear_promise(proposer, 2, ballot, None)?;
+    Ok(())
+}
+
 /// Desk 1 of 3, which has proposed A by ballot (1, 1).
 fn proposing(alloc: Global) -> Result<Proposer, Fail> {
     let mut proposer = gathering(alloc, 1, 3)?;
-    hear_promise(&mut proposer, &promise(1, 1, 1, None))?;
-    hear_promise(&mut proposer, &promise(2, 1, 1, None))?;
+    hear_two_promises(&mut proposer, ballot(1, 1))?;
     Ok(proposer)
 }
 
-/// The plan sends Prepare of this ballot at this position to the desks 1, 2 and 3.
-fn check_prepares(rt: &impl Abort, plan: &Plan, round: u32, desk: u8, pos: u32) {
-    let wanted = [
-        prepare(round, desk, 1, pos),
-        prepare(round, desk, 2, pos),
-        prepare(round, desk, 3, pos),
-    ];
-    assert_eq!(rt; plan.messages.as_slice(), wanted.as_slice());
+/// Whether the plan sends this body from this desk to these, in this order, and nothing else.
+fn says(plan: &Plan, from: u8, to: &[u8], body: &Body) -> bool {
+    let sent = plan.messages.as_slice();
+    sent.len() == to.len()
+        && sent
+            .iter()
+            .zip(to)
+            .all(|(m, to)| m.from == from && m.to == *to && m.body == *body)
 }
 
-/// The plan sends Accept of this ballot with A to these desks.
-fn check_accepts(
-    rt: &impl Abort,
-    alloc: Global,
-    plan: &Plan,
-    round: u32,
-    desk: u8,
-    desks: &[u8],
-) -> Result<(), Fail> {
-    assert_eq!(rt; plan.messages.as_slice().len(), desks.len());
-    for (sent, to) in plan.messages.as_slice().iter().zip(desks) {
-        assert_eq!(rt; *sent, accept(round, desk, *to, a(alloc)?));
+/// Whether the plan sends Prepare of this ballot at this position to the desks 1, 2 and 3.
+fn prepares(plan: &Plan, ballot: Ballot, pos: u32) -> bool {
+    let body = Body::Prepare { ballot, pos };
+    says(plan, ballot.desk, &[1, 2, 3], &body)
+}
+
+/// An Accept of this ballot at position 0, with A.
+fn accept_a(alloc: Global, ballot: Ballot) -> Result<Body, EntryFault> {
+    let entry = a(alloc)?;
+    let pos = 0;
+    Ok(Body::Accept { ballot, pos, entry })
+}
+
+/// A Decided at position 0, with A.
+fn decided_a(alloc: Global) -> Result<Body, EntryFault> {
+    let entry = a(alloc)?;
+    Ok(Body::Decided { pos: 0, entry })
+}
+
+/// Whether the plan lets the log grow by A.
+fn appends_a(plan: &Plan) -> bool {
+    match &plan.change {
+        Some(Change::Appended(entry)) => entry.id() == 7 && entry.text() == b"A".as_slice(),
+        _ => false,
     }
+}
+
+/// Whether the plan stores this round, which is tried.
+fn tries(plan: &Plan, round: u32) -> bool {
+    matches!(&plan.change, Some(Change::Tried(tried)) if *tried == round)
+}
+
+/// Whether the desk, told to start, makes this ballot at this position.
+fn start_prepares(
+    proposer: &mut Proposer,
+    stored: Stored,
+    ballot: Ballot,
+    pos: u32,
+) -> Result<bool, StepFault> {
+    let plan = start(proposer, stored, pos)?;
+    let good = tries(&plan, ballot.round) && prepares(&plan, ballot, pos);
+    proposer.adopt(plan);
+    Ok(good)
+}
+
+/// Whether the desk, told to start once more, does nothing.
+fn start_is_quiet(proposer: &Proposer, stored: Stored, len: u32) -> Result<bool, StepFault> {
+    let plan = start(proposer, stored, len)?;
+    Ok(plan.role.is_none() && plan.change.is_none() && plan.messages.as_slice().is_empty())
+}
+
+/// Whether the desk gathers promises to this ballot at this position, and has heard nobody.
+fn gathers(proposer: &Proposer, ballot: Ballot, pos: u32) -> bool {
+    match proposer.role() {
+        Role::Gathering {
+            ballot: own,
+            pos: at,
+            heard,
+        } => *own == ballot && *at == pos && heard.as_slice().is_empty(),
+        _ => false,
+    }
+}
+
+fn is_idle(proposer: &Proposer) -> bool {
+    matches!(proposer.role(), Role::Idle)
+}
+
+/// Starts desk 2 of 3, which is new, at position 1.
+fn check_start(rt: &impl Abort, proposer: &mut Proposer) -> Result<(), Fail> {
+    assert!(rt; is_idle(proposer));
+    assert!(rt; proposer.desk() == 2 && proposer.desks() == 3 && proposer.seen() == 0);
+    assert!(rt; start_prepares(proposer, promised(), ballot(2, 2), 1)?);
+    assert!(rt; start_is_quiet(proposer, tried(2), 1)?);
+    assert!(rt; gathers(proposer, ballot(2, 2), 1));
     Ok(())
 }
 
 #[test]
 fn starts(rt: HostRuntime) -> Result<(), Fail> {
-    let alloc = rt.alloc();
-    let mut proposer = Proposer::new(alloc, 2, 3)?;
-    assert!(rt; matches!(proposer.role(), Role::Idle));
-    assert_eq!(rt;
-        (proposer.desk(), proposer.desks(), proposer.seen()),
-        (2, 3, 0)
-    );
-    let stored = Stored {
-        promised: ballot(1, 1),
-        vote: None,
-        tried: 0,
-    };
-    let plan = proposer.start(&stored, 1)?;
-    assert_eq!(rt; plan.change, Some(Change::Tried(2)));
-    check_prepares(&rt, &plan, 2, 2, 1);
-    proposer.adopt(plan);
-    let again = proposer.start(&tried(2), 1)?;
-    assert!(rt; again.role.is_none());
-    assert_eq!(rt; again.change, None);
-    assert_eq!(rt; again.messages.as_slice().len(), 0);
-    match proposer.role() {
-        Role::Gathering {
-            ballot: own,
-            pos,
-            heard,
-        } => {
-            assert_eq!(rt;
-                (*own, *pos, heard.as_slice().is_empty()),
-                (ballot(2, 2), 1, true)
-            );
-        }
-        other => assert!(rt; false, "{other:?}"),
+    let mut proposer = Proposer::new(rt.alloc(), 2, 3)?;
+    check_start(&rt, &mut proposer)
+}
+
+/// Whether the entry is refused, for this reason.
+fn refuses_entry(proposer: &mut Proposer, entry: Entry, len: u32, refusal: Refusal) -> bool {
+    proposer.submit(entry, len).err() == Some(StepFault::Refused(refusal))
+}
+
+/// Whether the desk does not start, for this reason.
+fn refuses_start(proposer: &Proposer, stored: Stored, len: u32, refusal: Refusal) -> bool {
+    start(proposer, stored, len).err() == Some(StepFault::Refused(refusal))
+}
+
+/// Whether the desk plans nothing at a tick, for this reason.
+fn refuses_tick(proposer: &Proposer, stored: Stored, len: u32, refusal: Refusal) -> bool {
+    tick(proposer, stored, len).err() == Some(StepFault::Refused(refusal))
+}
+
+/// Whether the desk tells these others at a tick how long its log is.
+fn tells_length(
+    proposer: &Proposer,
+    stored: Stored,
+    len: u32,
+    from: u8,
+    to: &[u8],
+) -> Result<bool, StepFault> {
+    let plan = tick(proposer, stored, len)?;
+    Ok(says(&plan, from, to, &Body::Behind { len }))
+}
+
+/// Puts A into the queue 64 times.
+fn fill(alloc: Global, proposer: &mut Proposer) -> Result<(), Fail> {
+    for _ in 0..64 {
+        proposer.submit(a(alloc)?, 65_535)?;
     }
+    Ok(())
+}
+
+/// Refuses entries where the log is full and where the queue is.
+fn check_queue(rt: &impl Abort, alloc: Global, proposer: &mut Proposer) -> Result<(), Fail> {
+    assert!(rt; refuses_entry(proposer, a(alloc)?, 65_536, Refusal::LogFull));
+    fill(alloc, proposer)?;
+    assert!(rt; refuses_entry(proposer, b(alloc)?, 0, Refusal::Busy));
+    assert!(rt; refuses_entry(proposer, b(alloc)?, 65_536, Refusal::Busy));
+    assert!(rt; proposer.queue().len() == 64);
+    Ok(())
+}
+
+/// Refuses ballots of a desk 1 of 3 that has made its last one.
+fn check_ballots_spent(rt: &impl Abort, proposer: &Proposer) -> Result<(), Fail> {
+    let most = 4_294_967_295;
+    assert!(rt; refuses_start(proposer, tried(most), 0, Refusal::BallotsSpent));
+    assert!(rt; refuses_tick(proposer, tried(most), 0, Refusal::BallotsSpent));
+    assert!(rt; refuses_start(proposer, tried(most), 65_536, Refusal::LogFull));
+    assert!(rt; tells_length(proposer, tried(most), 65_536, 1, &[2, 3])?);
     Ok(())
 }
 
@@ -184,177 +293,177 @@ fn starts(rt: HostRuntime) -> Result<(), Fail> {
 fn refuses(rt: HostRuntime) -> Result<(), Fail> {
     let alloc = rt.alloc();
     let mut proposer = Proposer::new(alloc, 1, 3)?;
-    let log_full = StepFault::Refused(Refusal::LogFull);
-    assert_eq!(rt; proposer.submit(a(alloc)?, 65_536), Err(log_full));
-    for _ in 0..64 {
-        proposer.submit(a(alloc)?, 65_535)?;
-    }
-    let busy = StepFault::Refused(Refusal::Busy);
-    assert_eq!(rt; proposer.submit(b(alloc)?, 0), Err(busy));
-    assert_eq!(rt; proposer.submit(b(alloc)?, 65_536), Err(busy));
-    assert_eq!(rt; proposer.queue().len(), 64);
-
-    let spent = tried(4_294_967_295);
-    let ballots_spent = StepFault::Refused(Refusal::BallotsSpent);
-    assert_eq!(rt; proposer.start(&spent, 0).err(), Some(ballots_spent));
-    assert_eq!(rt; proposer.tick(&spent, 0).err(), Some(ballots_spent));
-    assert_eq!(rt; proposer.start(&spent, 65_536).err(), Some(log_full));
-    let plan = proposer.tick(&spent, 65_536)?;
-    let wanted = [
-        message(1, 2, Body::Behind { len: 65_536 }),
-        message(1, 3, Body::Behind { len: 65_536 }),
-    ];
-    assert_eq!(rt; plan.messages.as_slice(), wanted.as_slice());
-    Ok(())
+    check_queue(&rt, alloc, &mut proposer)?;
+    check_ballots_spent(&rt, &proposer)
 }
 
 #[test]
 fn tells_its_length(rt: HostRuntime) -> Result<(), Fail> {
     let idle = Proposer::new(rt.alloc(), 3, 3)?;
-    let plan = idle.tick(&Stored::new(), 0)?;
-    let wanted = [
-        message(3, 1, Body::Behind { len: 0 }),
-        message(3, 2, Body::Behind { len: 0 }),
-    ];
-    assert_eq!(rt; plan.messages.as_slice(), wanted.as_slice());
+    assert!(rt; tells_length(&idle, Stored::new(), 0, 3, &[1, 2])?);
+    Ok(())
+}
+
+/// Whether the desk makes this ballot at position 0 at a tick.
+fn tick_prepares(
+    proposer: &mut Proposer,
+    stored: Stored,
+    ballot: Ballot,
+) -> Result<bool, StepFault> {
+    let plan = tick(proposer, stored, 0)?;
+    let good = tries(&plan, ballot.round) && prepares(&plan, ballot, 0);
+    proposer.adopt(plan);
+    Ok(good)
+}
+
+/// Desk 1 of 3, which is new, makes its first ballot for A, and its second one.
+fn check_ballots(rt: &impl Abort, alloc: Global, proposer: &mut Proposer) -> Result<(), Fail> {
+    proposer.submit(a(alloc)?, 0)?;
+    assert!(rt; tick_prepares(proposer, Stored::new(), ballot(1, 1))?);
+    assert!(rt; tick_prepares(proposer, tried(1), ballot(2, 1))?);
     Ok(())
 }
 
 #[test]
 fn makes_ballots(rt: HostRuntime) -> Result<(), Fail> {
     let mut waiting = Proposer::new(rt.alloc(), 1, 3)?;
-    waiting.submit(a(rt.alloc())?, 0)?;
-    let plan = waiting.tick(&Stored::new(), 0)?;
-    assert_eq!(rt; plan.change, Some(Change::Tried(1)));
-    check_prepares(&rt, &plan, 1, 1, 0);
-    waiting.adopt(plan);
-    let plan = waiting.tick(&tried(1), 0)?;
-    assert_eq!(rt; plan.change, Some(Change::Tried(2)));
-    check_prepares(&rt, &plan, 2, 1, 0);
+    check_ballots(&rt, rt.alloc(), &mut waiting)
+}
+
+/// Whether the desk asks these desks at a tick to vote for A.
+fn tick_asks_for_a(
+    alloc: Global,
+    proposer: &Proposer,
+    ballot: Ballot,
+    to: &[u8],
+) -> Result<bool, Fail> {
+    let body = accept_a(alloc, ballot)?;
+    let plan = tick(proposer, tried(1), 0)?;
+    Ok(says(&plan, ballot.desk, to, &body))
+}
+
+/// Hears desk 2's vote, and asks the desks 1 and 3 again.
+fn check_asking(rt: &impl Abort, alloc: Global, proposer: &mut Proposer) -> Result<(), Fail> {
+    hear_vote(proposer, 2, ballot(1, 1))?;
+    assert!(rt; tick_asks_for_a(alloc, proposer, ballot(1, 1), &[1, 3])?);
     Ok(())
 }
 
 #[test]
 fn asks_again(rt: HostRuntime) -> Result<(), Fail> {
     let mut proposer = proposing(rt.alloc())?;
-    hear_vote(&mut proposer, &accepted(2, 1, 1))?;
-    let plan = proposer.tick(&tried(1), 0)?;
-    check_accepts(&rt, rt.alloc(), &plan, 1, 1, &[1, 3])
+    check_asking(&rt, rt.alloc(), &mut proposer)
+}
+
+/// Whether the desk, at desk 2's Promise of no vote, stores nothing and asks all three to vote for A.
+fn promise_asks_for_a(alloc: Global, proposer: &Proposer, ballot: Ballot) -> Result<bool, Fail> {
+    let body = accept_a(alloc, ballot)?;
+    let plan = on_promise(proposer, 2, ballot, None)?;
+    Ok(plan.change.is_none() && says(&plan, ballot.desk, &[1, 2, 3], &body))
+}
+
+/// Hears desk 1's promise and then desk 2's, and proposes A.
+fn check_proposing(rt: &impl Abort, alloc: Global, proposer: &mut Proposer) -> Result<(), Fail> {
+    assert!(rt; hear_promise(proposer, 1, ballot(1, 1), None)? == 0);
+    assert!(rt; promise_asks_for_a(alloc, proposer, ballot(1, 1))?);
+    Ok(())
 }
 
 #[test]
 fn proposes(rt: HostRuntime) -> Result<(), Fail> {
     let mut proposer = gathering(rt.alloc(), 1, 3)?;
-    let sent = hear_promise(&mut proposer, &promise(1, 1, 1, None))?;
-    assert_eq!(rt; sent, 0);
-    let plan = proposer.on_promise(&promise(2, 1, 1, None))?;
-    assert_eq!(rt; plan.change, None);
-    check_accepts(&rt, rt.alloc(), &plan, 1, 1, &[1, 2, 3])
+    check_proposing(&rt, rt.alloc(), &mut proposer)
+}
+
+/// Whether desk 1, at desk 2's Accepted, appends A and tells the desks 2 and 3. It takes that plan.
+fn vote_appends_a(alloc: Global, proposer: &mut Proposer) -> Result<bool, Fail> {
+    let body = decided_a(alloc)?;
+    let plan = on_accepted(proposer, 2, ballot(1, 1))?;
+    let good = appends_a(&plan) && says(&plan, 1, &[2, 3], &body);
+    proposer.adopt(plan);
+    Ok(good)
+}
+
+/// Hears desk 1's vote and then desk 2's, and has A decided.
+fn check_deciding(rt: &impl Abort, alloc: Global, proposer: &mut Proposer) -> Result<(), Fail> {
+    assert!(rt; hear_vote(proposer, 1, ballot(1, 1))? == 0);
+    assert!(rt; vote_appends_a(alloc, proposer)?);
+    assert!(rt; is_idle(proposer));
+    assert!(rt; proposer.queue().is_empty());
+    Ok(())
 }
 
 #[test]
 fn decides(rt: HostRuntime) -> Result<(), Fail> {
-    let alloc = rt.alloc();
-    let mut proposer = proposing(alloc)?;
-    let sent = hear_vote(&mut proposer, &accepted(1, 1, 1))?;
-    assert_eq!(rt; sent, 0);
-    let plan = proposer.on_accepted(&accepted(2, 1, 1))?;
-    assert_eq!(rt; plan.change, Some(Change::Appended(a(alloc)?)));
-    let wanted = [decided(alloc, 2)?, decided(alloc, 3)?];
-    assert_eq!(rt; plan.messages.as_slice(), wanted.as_slice());
-    proposer.adopt(plan);
-    assert!(rt; matches!(proposer.role(), Role::Idle));
-    assert_eq!(rt; proposer.queue().len(), 0);
+    let mut proposer = proposing(rt.alloc())?;
+    check_deciding(&rt, rt.alloc(), &mut proposer)
+}
+
+/// Desk 2, which has B in its queue, hears that desk 1 has voted for A, and asks for votes for A.
+fn check_taking_over(rt: &impl Abort, alloc: Global, proposer: &mut Proposer) -> Result<(), Fail> {
+    begin(proposer, b(alloc)?, promised())?;
+    let vote = Report {
+        ballot: ballot(1, 1),
+        entry: a(alloc)?,
+    };
+    hear_promise(proposer, 1, ballot(2, 2), Some(vote))?;
+    assert!(rt; promise_asks_for_a(alloc, proposer, ballot(2, 2))?);
     Ok(())
 }
 
 /// Desk 2 takes over the entry that desk 1 has voted for.
 #[test]
 fn takes_a_vote_over(rt: HostRuntime) -> Result<(), Fail> {
-    let alloc = rt.alloc();
-    let mut proposer = Proposer::new(alloc, 2, 3)?;
-    proposer.submit(b(alloc)?, 0)?;
-    let stored = Stored {
-        promised: ballot(1, 1),
-        vote: None,
-        tried: 0,
-    };
-    let plan = proposer.start(&stored, 0)?;
-    proposer.adopt(plan);
-    let vote = Some(Report {
-        ballot: ballot(1, 1),
-        entry: a(alloc)?,
-    });
-    hear_promise(&mut proposer, &promise(1, 2, 2, vote))?;
-    let plan = proposer.on_promise(&promise(2, 2, 2, None))?;
-    check_accepts(&rt, alloc, &plan, 2, 2, &[1, 2, 3])
+    let mut proposer = Proposer::new(rt.alloc(), 2, 3)?;
+    check_taking_over(&rt, rt.alloc(), &mut proposer)
+}
+
+/// Hears promises of the desks 1, 1, 1 and 4, and then of desk 2.
+fn check_counting(rt: &impl Abort, proposer: &mut Proposer) -> Result<(), NoMemory> {
+    for from in [1, 1, 1, 4] {
+        assert!(rt; hear_promise(proposer, from, ballot(1, 4), None)? == 0);
+    }
+    assert!(rt; hear_promise(proposer, 2, ballot(1, 4), None)? == 5);
+    Ok(())
 }
 
 /// Of five desks the same one may promise three times: it counts once.
 #[test]
 fn counts_desks(rt: HostRuntime) -> Result<(), Fail> {
-    let alloc = rt.alloc();
-    let mut proposer = gathering(alloc, 4, 5)?;
-    for from in [1, 1, 1, 4] {
-        let sent = hear_promise(&mut proposer, &promise(from, 1, 4, None))?;
-        assert_eq!(rt; sent, 0);
-    }
-    let sent = hear_promise(&mut proposer, &promise(2, 1, 4, None))?;
-    assert_eq!(rt; sent, 5);
+    let mut proposer = gathering(rt.alloc(), 4, 5)?;
+    check_counting(&rt, &mut proposer)?;
+    Ok(())
+}
+
+/// Desk 2 tells desk 1 that it has promised ballot (4, 2), and desk 1 takes that and sends nothing.
+fn nack_is_quiet(proposer: &mut Proposer) -> Result<bool, NoMemory> {
+    let body = Body::Nack {
+        ballot: ballot(1, 1),
+        pos: 0,
+        promised: ballot(4, 2),
+    };
+    let nack = Message {
+        from: 2,
+        to: 1,
+        body,
+    };
+    let plan = proposer.on_nack(&nack)?;
+    let quiet = plan.messages.as_slice().is_empty();
+    proposer.adopt(plan);
+    Ok(quiet)
+}
+
+/// Gives the ballot (1, 1) up, and makes the next one above the one that was shown.
+fn check_giving_way(rt: &impl Abort, proposer: &mut Proposer) -> Result<(), Fail> {
+    assert!(rt; nack_is_quiet(proposer)?);
+    assert!(rt; is_idle(proposer));
+    assert!(rt; proposer.seen() == 4);
+    assert!(rt; start_prepares(proposer, tried(1), ballot(5, 1), 0)?);
     Ok(())
 }
 
 #[test]
 fn gives_way(rt: HostRuntime) -> Result<(), Fail> {
-    let alloc = rt.alloc();
-    let mut proposer = gathering(alloc, 1, 3)?;
-    let nack = Body::Nack {
-        ballot: ballot(1, 1),
-        pos: 0,
-        promised: ballot(4, 2),
-    };
-    let plan = proposer.on_nack(&message(2, 1, nack))?;
-    assert_eq!(rt; plan.messages.as_slice().len(), 0);
-    proposer.adopt(plan);
-    assert!(rt; matches!(proposer.role(), Role::Idle));
-    assert_eq!(rt; proposer.seen(), 4);
-    let plan = proposer.start(&tried(1), 0)?;
-    check_prepares(&rt, &plan, 5, 1, 0);
-    Ok(())
-}
-
-#[test]
-fn keeps_what_is_heard(rt: HostRuntime) -> Result<(), Fail> {
-    let alloc = rt.alloc();
-    let low = Some(Report {
-        ballot: ballot(1, 3),
-        entry: a(alloc)?,
-    });
-    let high = Some(Report {
-        ballot: ballot(2, 1),
-        entry: b(alloc)?,
-    });
-    let promises = Promises::new(alloc)
-        .with(2, &high)?
-        .with(5, &None)?
-        .with(3, &low)?;
-    assert_eq!(rt; promises.as_slice().len(), 3);
-    assert!(rt; promises.has(5) && !promises.has(4));
-    assert_eq!(rt; promises.highest(), high.as_ref());
-    for (heard, desk) in promises.as_slice().iter().zip([3, 5, 2]) {
-        assert_eq!(rt; heard.desk, desk);
-    }
-    let back = Promises::from_vec(promises.into_vec());
-    assert!(rt; !back.as_slice().is_empty());
-    Ok(())
-}
-
-#[test]
-fn keeps_who_has_voted(rt: HostRuntime) -> Result<(), Fail> {
-    let votes = Votes::new(rt.alloc()).with(2)?.with(1)?;
-    assert_eq!(rt; votes.as_slice(), [1, 2].as_slice());
-    assert!(rt; votes.has(2) && !votes.has(3));
-    let back = Votes::from_vec(votes.into_vec());
-    assert!(rt; !back.as_slice().is_empty());
-    Ok(())
+    let mut proposer = gathering(rt.alloc(), 1, 3)?;
+    check_giving_way(&rt, &mut proposer)
 }
