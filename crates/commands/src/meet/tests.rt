@@ -2,6 +2,7 @@ use super::*;
 use advancement::Advance;
 use attempts::Value;
 use formats::Averaged;
+use std::process::Abort;
 use std::test::Fail;
 
 /// The name of an answer.
@@ -27,9 +28,15 @@ fn first_other(meet: &mut Meet, first: u64, script: &[u8]) -> Result<Option<u64>
     Ok(None)
 }
 
-#[test]
-fn a_refused_id_is_a_repeat(rt: HostRuntime) -> Result<(), Fail> {
-    let mut meet = Meet::new(rt.alloc())?;
+/// The same for a new meet, with the ids from 1 on.
+fn first_other_of_new(alloc: Global, script: &[u8]) -> Result<Option<u64>, NoMemory> {
+    let mut meet = Meet::new(alloc)?;
+    first_other(&mut meet, 1, script)
+}
+
+// A test that asks its meet more than that hands it on, so that it is dropped in one place.
+
+fn check_repeat(rt: &impl Abort, meet: &mut Meet) -> Result<(), Fail> {
     assert_eq!(rt; meet.apply(9, b"ent")?, Answer::Refused(Code::Unread));
     assert_eq!(rt;
         meet.apply(9, b"REG 1 Ann Li")?,
@@ -40,8 +47,13 @@ fn a_refused_id_is_a_repeat(rt: HostRuntime) -> Result<(), Fail> {
 }
 
 #[test]
-fn misspelt_texts_are_unread(rt: HostRuntime) -> Result<(), Fail> {
+fn a_refused_id_is_a_repeat(rt: HostRuntime) -> Result<(), Fail> {
     let mut meet = Meet::new(rt.alloc())?;
+    check_repeat(&rt, &mut meet)
+}
+
+#[test]
+fn misspelt_texts_are_unread(rt: HostRuntime) -> Result<(), Fail> {
     let script = b"ENT 333 0>Unread
 ENT 333 01>Unread
 ENT 333>Unread
@@ -49,13 +61,12 @@ ENT 333 1 2>Unread
 ENT 999 0>Unread
 ent 333 1>Unread
 >Unread";
-    assert_eq!(rt; first_other(&mut meet, 1, script)?, None);
+    assert_eq!(rt; first_other_of_new(rt.alloc(), script)?, None);
     Ok(())
 }
 
 #[test]
 fn the_first_check_that_fails_answers(rt: HostRuntime) -> Result<(), Fail> {
-    let mut meet = Meet::new(rt.alloc())?;
     let script = b"REG 1 Ann Li>Done
 REG 2 Bo Ek>Done
 REG 1 Bo Ek>Already
@@ -84,13 +95,12 @@ ATT 333fm 1 2 2 S:R>NoScramble
 ATT 333fm 1 1 2 S:R'>NotEntered
 ATT 333 1 2 1 DNF>OutOfOrder
 ATT 333 1 1 1 DNF>Done";
-    assert_eq!(rt; first_other(&mut meet, 1, script)?, None);
+    assert_eq!(rt; first_other_of_new(rt.alloc(), script)?, None);
     Ok(())
 }
 
 #[test]
 fn closing_comes_last(rt: HostRuntime) -> Result<(), Fail> {
-    let mut meet = Meet::new(rt.alloc())?;
     let script = b"REG 1 Ann Li>Done
 REG 2 Bo Ek>Done
 OPEN 333 1 bo2 - 60000 top:3>Done
@@ -121,64 +131,64 @@ COR 333 1 1 2 S:R>WrongOutcome
 COR 333 1 1 2 DNF>Closed
 STR 333 1 2>Closed
 OPEN 333 2 ao5 - 60000 final>RoundUnknown";
-    assert_eq!(rt; first_other(&mut meet, 1, script)?, None);
+    assert_eq!(rt; first_other_of_new(rt.alloc(), script)?, None);
     Ok(())
 }
 
-#[test]
-fn seven_competitors_allow_one_round(rt: HostRuntime) -> Result<(), Fail> {
-    let alloc = rt.alloc();
-    let mut meet = Meet::new(alloc)?;
+fn check_seven(rt: &impl Abort, alloc: Global, meet: &mut Meet) -> Result<(), Fail> {
     let opened = b"OPEN 333 1 bo1 - 60000 top:3>Done";
-    assert_eq!(rt; first_other(&mut meet, 50_000, opened)?, None);
-    assert_eq!(rt; enter_all(alloc, &mut meet, 7)?, None);
-    let numbers = standing(alloc, &meet, 1)?;
-    assert_eq!(rt; time_all(alloc, &mut meet, 1000, 1, &numbers)?, None);
     let script = b"CLOSE 333 1>RoundsRule
 ADV 333 1 final>Done
 CLOSE 333 1>Done";
-    assert_eq!(rt; first_other(&mut meet, 60_000, script)?, None);
+    assert_eq!(rt; fill(alloc, meet, 7, opened)?, None);
+    assert_eq!(rt; play_round(alloc, meet, 1, script)?, None);
     let settings = meet.settings(Event::Cube3, 1);
     assert!(rt; settings.is_some_and(|settings| settings.advance == Advance::Final));
     Ok(())
 }
 
 #[test]
-fn a_tie_over_the_border_stays_out(rt: HostRuntime) -> Result<(), Fail> {
-    let alloc = rt.alloc();
-    let mut meet = Meet::new(alloc)?;
+fn seven_competitors_allow_one_round(rt: HostRuntime) -> Result<(), Fail> {
+    let mut meet = Meet::new(rt.alloc())?;
+    check_seven(&rt, rt.alloc(), &mut meet)
+}
+
+fn check_tie(rt: &impl Abort, alloc: Global, meet: &mut Meet) -> Result<(), Fail> {
     let opened = b"OPEN 333 1 bo1 - 60000 top:8>Done";
-    assert_eq!(rt; first_other(&mut meet, 50_000, opened)?, None);
-    assert_eq!(rt; enter_all(alloc, &mut meet, 10)?, None);
-    let numbers = standing(alloc, &meet, 1)?;
-    assert_eq!(rt; time_all(alloc, &mut meet, 1000, 1, &numbers)?, None);
     let script = b"COR 333 1 1 8 T:700:0>Done
 CLOSE 333 1>Done
 OPEN 333 2 ao5 - 60000 final>Done";
-    assert_eq!(rt; first_other(&mut meet, 60_000, script)?, None);
-    let numbers = standing(alloc, &meet, 2)?;
+    assert_eq!(rt; fill(alloc, meet, 10, opened)?, None);
+    assert_eq!(rt; play_round(alloc, meet, 1, script)?, None);
+    let numbers = standing(alloc, meet, 2)?;
     assert!(rt; numbers.as_slice() == [1, 2, 3, 4, 5, 6].as_slice());
     Ok(())
 }
 
 #[test]
-fn the_thousandth_entrant_is_refused(rt: HostRuntime) -> Result<(), Fail> {
-    let alloc = rt.alloc();
-    let mut meet = Meet::new(alloc)?;
+fn a_tie_over_the_border_stays_out(rt: HostRuntime) -> Result<(), Fail> {
+    let mut meet = Meet::new(rt.alloc())?;
+    check_tie(&rt, rt.alloc(), &mut meet)
+}
+
+fn check_full(rt: &impl Abort, alloc: Global, meet: &mut Meet) -> Result<(), Fail> {
     let opened = b"OPEN 333 1 ao5 - 60000 final>Done";
-    assert_eq!(rt; first_other(&mut meet, 50_000, opened)?, None);
-    assert_eq!(rt; enter_all(alloc, &mut meet, 999)?, None);
     let script = b"REG 1000 Ann Li>Done
 ENT 333 999>Already
 ENT 333 1000>Full
 ATT 333 1 1 1 DNS>Done";
-    assert_eq!(rt; first_other(&mut meet, 60_000, script)?, None);
+    assert_eq!(rt; fill(alloc, meet, 999, opened)?, None);
+    assert_eq!(rt; first_other(meet, 60_000, script)?, None);
     Ok(())
 }
 
 #[test]
-fn a_correction_changes_average_and_row(rt: HostRuntime) -> Result<(), Fail> {
+fn the_thousandth_entrant_is_refused(rt: HostRuntime) -> Result<(), Fail> {
     let mut meet = Meet::new(rt.alloc())?;
+    check_full(&rt, rt.alloc(), &mut meet)
+}
+
+fn check_correction(rt: &impl Abort, meet: &mut Meet) -> Result<(), Fail> {
     let script = b"REG 1 Ann Li>Done
 OPEN 333 1 ao5 - 60000 final>Done
 ENT 333 1>Done
@@ -187,7 +197,7 @@ ATT 333 1 2 1 T:1200:0>Done
 ATT 333 1 3 1 T:1100:0>Done
 ATT 333 1 4 1 T:1300:0>Done
 ATT 333 1 5 1 DNF>Done";
-    assert_eq!(rt; first_other(&mut meet, 1, script)?, None);
+    assert_eq!(rt; first_other(meet, 1, script)?, None);
     let row = meet.round(Event::Cube3, 1).and_then(|table| table.row(1));
     assert!(rt;
         row.is_some_and(|row| row.average == Averaged::Number(1200)
@@ -204,8 +214,13 @@ ATT 333 1 5 1 DNF>Done";
 }
 
 #[test]
-fn a_cutoff_once_met_stays_met(rt: HostRuntime) -> Result<(), Fail> {
+fn a_correction_changes_average_and_row(rt: HostRuntime) -> Result<(), Fail> {
     let mut meet = Meet::new(rt.alloc())?;
+    check_correction(&rt, &mut meet)
+}
+
+#[test]
+fn a_cutoff_once_met_stays_met(rt: HostRuntime) -> Result<(), Fail> {
     let script = b"REG 1 Ann Li>Done
 REG 2 Bo Ek>Done
 OPEN 333 1 ao5 2:1500 60000 final>Done
@@ -220,13 +235,11 @@ ATT 333 1 3 2 T:1600:0>Done
 COR 333 1 1 2 T:1500:0>CutoffLost
 STR 333 1 2>Done
 COR 333 1 1 2 T:1500:0>Done";
-    assert_eq!(rt; first_other(&mut meet, 1, script)?, None);
+    assert_eq!(rt; first_other_of_new(rt.alloc(), script)?, None);
     Ok(())
 }
 
-#[test]
-fn a_solution_is_settled_against_its_scramble(rt: HostRuntime) -> Result<(), Fail> {
-    let mut meet = Meet::new(rt.alloc())?;
+fn check_solution(rt: &impl Abort, meet: &mut Meet) -> Result<(), Fail> {
     let script = b"REG 1 Ann Li>Done
 OPEN 333 1 ao5 - 60000 final>Done
 SCR 333 1 1 R>WrongOutcome
@@ -239,13 +252,19 @@ SCR 333fm 1 3 L>Done
 SCR 333fm 1 2 R>Done
 ATT 333fm 1 2 1 S:y F'>Done
 ATT 333fm 1 3 1 S:R'>Done";
-    assert_eq!(rt; first_other(&mut meet, 1, script)?, None);
+    assert_eq!(rt; first_other(meet, 1, script)?, None);
     let values = [Value::Dns, Value::Number(1), Value::Dnf];
     let row = meet
         .round(Event::FewestMoves, 1)
         .and_then(|table| table.row(1));
     assert!(rt; row.is_some_and(|row| row.values == values.as_slice()));
     Ok(())
+}
+
+#[test]
+fn a_solution_is_settled_against_its_scramble(rt: HostRuntime) -> Result<(), Fail> {
+    let mut meet = Meet::new(rt.alloc())?;
+    check_solution(&rt, &mut meet)
 }
 
 /// Registers competitors 1 to `last`, and enters them in round 1 of 333 in this order, from the last
@@ -294,6 +313,15 @@ fn standing(alloc: Global, meet: &Meet, round: u8) -> Result<Vec<u16>, NoMemory>
     }
 }
 
+/// Opens round 1 of 333 by one line, and enters so many competitors. Gives the id of the first that is
+/// answered otherwise.
+fn fill(alloc: Global, meet: &mut Meet, last: u16, opened: &[u8]) -> Result<Option<u64>, NoMemory> {
+    match first_other(meet, 50_000, opened)? {
+        Some(id) => Ok(Some(id)),
+        None => enter_all(alloc, meet, last),
+    }
+}
+
 /// What a meet answers to an entry, which it is given again where memory was refused.
 fn answered(meet: &mut Meet, id: u64, text: &[u8]) -> Result<Answer, NoMemory> {
     match meet.apply(id, text) {
@@ -318,11 +346,7 @@ fn first_lost(meet: &mut Meet, first: u64, script: &[u8]) -> Result<Option<u64>,
     Ok(None)
 }
 
-/// To be run with each allocation refused in turn (`rt try --test --fail-alloc N`): what answers
-/// NoMemory changes nothing, so the same entry, taken again, is answered as usual.
-#[test]
-fn a_refused_growth_changes_nothing(rt: HostRuntime) -> Result<(), Fail> {
-    let mut meet = Meet::new(rt.alloc())?;
+fn check_growth(rt: &impl Abort, meet: &mut Meet) -> Result<(), Fail> {
     let script = b"REG 1 Ann Li>Done
 REG 2 Bo Ek>Done
 REG 3 Bo Ek>NameTaken
@@ -336,12 +360,20 @@ ATT 333fm 1 1 1 S:R'>Done
 ATT 333fm 1 2 1 DNS>Done
 CLOSE 333fm 1>Done
 ent>Unread";
-    assert_eq!(rt; first_lost(&mut meet, 1, script)?, None);
+    assert_eq!(rt; first_lost(meet, 1, script)?, None);
     let row = meet
         .round(Event::FewestMoves, 1)
         .and_then(|table| table.row(1));
     assert!(rt; row.is_some_and(|row| row.best == Value::Number(1) && row.values.len() == 2));
     Ok(())
+}
+
+/// To be run with each allocation refused in turn (`rt try --test --fail-alloc N`): what answers
+/// NoMemory changes nothing, so the same entry, taken again, is answered as usual.
+#[test]
+fn a_refused_growth_changes_nothing(rt: HostRuntime) -> Result<(), Fail> {
+    let mut meet = Meet::new(rt.alloc())?;
+    check_growth(&rt, &mut meet)
 }
 
 /// Gives each entrant of a round of 333 one time, and then takes the lines of a script. Gives the id
@@ -402,16 +434,18 @@ fn has_four_rounds(meet: &Meet) -> bool {
         && has_competitors(meet, 4, 4)
 }
 
+fn check_four_rounds(rt: &impl Abort, alloc: Global, meet: &mut Meet) -> Result<(), Fail> {
+    let opened = b"OPEN 333 1 bo1 - 60000 pct:16>Done";
+    assert_eq!(rt; fill(alloc, meet, 100, opened)?, None);
+    assert_eq!(rt; play_four_rounds(alloc, meet)?, None);
+    assert!(rt; has_four_rounds(meet));
+    Ok(())
+}
+
 #[test]
 fn four_rounds_follow_one_another(rt: HostRuntime) -> Result<(), Fail> {
-    let alloc = rt.alloc();
-    let mut meet = Meet::new(alloc)?;
-    let opened = b"OPEN 333 1 bo1 - 60000 pct:16>Done";
-    assert_eq!(rt; first_other(&mut meet, 50_000, opened)?, None);
-    assert_eq!(rt; enter_all(alloc, &mut meet, 100)?, None);
-    assert_eq!(rt; play_four_rounds(alloc, &mut meet)?, None);
-    assert!(rt; has_four_rounds(&meet));
-    Ok(())
+    let mut meet = Meet::new(rt.alloc())?;
+    check_four_rounds(&rt, rt.alloc(), &mut meet)
 }
 
 #[test]
