@@ -10,9 +10,15 @@ use Rattle.advancement.specs.declared.Advance.{Advance}
 use Rattle.advancement.specs.Advancing.{holds_of, has_result, is_reached_by_few, is_among, quota, advances, goes_on, advancing}
 
 -- two tests of an entrant
-pub both : (t : Table) (most : ℕ) (o : Option Entrant) → (holds_of has_result o && holds_of (is_reached_by_few t most) o) ≡ holds_of (is_among t most) o
+pub both : (t : Table) (most : ℕ) (o : Option Entrant) → (holds_of (is_reached_by_few t most) o && holds_of has_result o) ≡ holds_of (is_among t most) o
 both t most None = refl
-both t most (Some e) = refl
+both t most (Some e) = either (is_reached_by_few t most e) (has_result e)
+  where
+    either : (a b : Bool) → (a && b) ≡ (b && a)
+    either true true = refl
+    either true false = refl
+    either false true = refl
+    either false false = refl
 
 -- of those of the standings that are kept
 pub kept_is : (t : Table) (advance : Advance) (kept numbers : List ℕ) (most : ℕ) → kept ≡ filter (λ n. holds_of (is_among t most) (entrant t n)) numbers → most ≡ quota advance (started t) → numbers ≡ standings t

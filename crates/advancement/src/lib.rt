@@ -96,7 +96,7 @@ fn among(
 fn is_among(table: &RoundTable, most: u16, number: u16) -> bool
     ensures { result ≡ holds_of (is_among table.now most) (entrant table.now number) }
 {
-    has_result(table, number) && is_reached_by_few(table, most, number)
+    is_reached_by_few(table, most, number) && has_result(table, number)
 }
 
 /// Whether a number is of an entrant whose best attempt is a number.
