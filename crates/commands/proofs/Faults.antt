@@ -149,28 +149,28 @@ not_a_command bytes = (λ e. step (nat_lt 600 (length bytes)) refl e, λ h. let 
     step true is e = absurd (let bad : Err fault.TooLong ≡ Err fault.NotACommand = e in cc)
     step false is e = (grind (arith, nat_tests), (by_word-none (cut 32 bytes)).0 e)
 
-answers_too_long : (r said : Result Command CommandFault) → Gives r said → (r ≡ Err fault.TooLong) ↔ (said ≡ Err fault.TooLong)
-answers_too_long (Ok c) said h = (λ e. absurd (let bad : Ok c ≡ Err fault.TooLong = e in cc), λ e. absurd (let bad : Ok c ≡ Err fault.TooLong = sym h ∙ e in cc))
-answers_too_long (Err fault.TooLong) said h = (λ e. h, λ e. refl)
-answers_too_long (Err fault.NotACommand) said h = (λ e. absurd (let bad : Err fault.NotACommand ≡ Err fault.TooLong = e in cc), λ e. absurd (let bad : Err fault.NotACommand ≡ Err fault.TooLong = sym h ∙ e in cc))
-answers_too_long (Err (fault.BadField index)) said h = (λ e. absurd (let bad : Err (fault.BadField index) ≡ Err fault.TooLong = e in cc), λ e. absurd (let bad : Err (fault.BadField index) ≡ Err fault.TooLong = sym h ∙ e in cc))
-answers_too_long (Err fault.NoMemory) said h = (λ e. absurd (let bad : Err fault.NoMemory ≡ Err fault.TooLong = e in cc), λ e. absurd (subst (λ (r : Result Command CommandFault). Gives (Err fault.NoMemory) r) e h))
+answers_too_long : (moves : ℕ) (r said : Result Command CommandFault) → Gives moves r said → (r ≡ Err fault.TooLong) ↔ (said ≡ Err fault.TooLong)
+answers_too_long moves (Ok c) said h = (λ e. absurd (let bad : Ok c ≡ Err fault.TooLong = e in cc), λ e. absurd (let bad : Ok c ≡ Err fault.TooLong = sym h ∙ e in cc))
+answers_too_long moves (Err fault.TooLong) said h = (λ e. h, λ e. refl)
+answers_too_long moves (Err fault.NotACommand) said h = (λ e. absurd (let bad : Err fault.NotACommand ≡ Err fault.TooLong = e in cc), λ e. absurd (let bad : Err fault.NotACommand ≡ Err fault.TooLong = sym h ∙ e in cc))
+answers_too_long moves (Err (fault.BadField index)) said h = (λ e. absurd (let bad : Err (fault.BadField index) ≡ Err fault.TooLong = e in cc), λ e. absurd (let bad : Err (fault.BadField index) ≡ Err fault.TooLong = sym h ∙ e in cc))
+answers_too_long moves (Err fault.NoMemory) said h = (λ e. absurd (let bad : Err fault.NoMemory ≡ Err fault.TooLong = e in cc), λ e. absurd (subst (λ (r : Result Command CommandFault). Gives moves (Err fault.NoMemory) r) e h))
 
-answers_not_a_command : (r said : Result Command CommandFault) → Gives r said → (r ≡ Err fault.NotACommand) ↔ (said ≡ Err fault.NotACommand)
-answers_not_a_command (Ok c) said h = (λ e. absurd (let bad : Ok c ≡ Err fault.NotACommand = e in cc), λ e. absurd (let bad : Ok c ≡ Err fault.NotACommand = sym h ∙ e in cc))
-answers_not_a_command (Err fault.NotACommand) said h = (λ e. h, λ e. refl)
-answers_not_a_command (Err fault.TooLong) said h = (λ e. absurd (let bad : Err fault.TooLong ≡ Err fault.NotACommand = e in cc), λ e. absurd (let bad : Err fault.TooLong ≡ Err fault.NotACommand = sym h ∙ e in cc))
-answers_not_a_command (Err (fault.BadField index)) said h = (λ e. absurd (let bad : Err (fault.BadField index) ≡ Err fault.NotACommand = e in cc), λ e. absurd (let bad : Err (fault.BadField index) ≡ Err fault.NotACommand = sym h ∙ e in cc))
-answers_not_a_command (Err fault.NoMemory) said h = (λ e. absurd (let bad : Err fault.NoMemory ≡ Err fault.NotACommand = e in cc), λ e. absurd (subst (λ (r : Result Command CommandFault). Gives (Err fault.NoMemory) r) e h))
+answers_not_a_command : (moves : ℕ) (r said : Result Command CommandFault) → Gives moves r said → (r ≡ Err fault.NotACommand) ↔ (said ≡ Err fault.NotACommand)
+answers_not_a_command moves (Ok c) said h = (λ e. absurd (let bad : Ok c ≡ Err fault.NotACommand = e in cc), λ e. absurd (let bad : Ok c ≡ Err fault.NotACommand = sym h ∙ e in cc))
+answers_not_a_command moves (Err fault.NotACommand) said h = (λ e. h, λ e. refl)
+answers_not_a_command moves (Err fault.TooLong) said h = (λ e. absurd (let bad : Err fault.TooLong ≡ Err fault.NotACommand = e in cc), λ e. absurd (let bad : Err fault.TooLong ≡ Err fault.NotACommand = sym h ∙ e in cc))
+answers_not_a_command moves (Err (fault.BadField index)) said h = (λ e. absurd (let bad : Err (fault.BadField index) ≡ Err fault.NotACommand = e in cc), λ e. absurd (let bad : Err (fault.BadField index) ≡ Err fault.NotACommand = sym h ∙ e in cc))
+answers_not_a_command moves (Err fault.NoMemory) said h = (λ e. absurd (let bad : Err fault.NoMemory ≡ Err fault.NotACommand = e in cc), λ e. absurd (subst (λ (r : Result Command CommandFault). Gives moves (Err fault.NoMemory) r) e h))
 
-pub gives_too_long_alone : (r : Result Command CommandFault) (bytes : List ℕ) → Gives r (command_of bytes) → (r ≡ Err fault.TooLong) ↔ (600 < length bytes)
-gives_too_long_alone r bytes h =
-    let answer = answers_too_long r (command_of bytes) h in
+pub gives_too_long_alone : (moves : ℕ) (r : Result Command CommandFault) (bytes : List ℕ) → Gives moves r (command_of bytes) → (r ≡ Err fault.TooLong) ↔ (600 < length bytes)
+gives_too_long_alone moves r bytes h =
+    let answer = answers_too_long moves r (command_of bytes) h in
     let text = too_long bytes in
     (λ e. text.0 (answer.0 e), λ long. answer.1 (text.1 long))
 
-pub gives_not_a_command : (r : Result Command CommandFault) (bytes : List ℕ) → Gives r (command_of bytes) → (r ≡ Err fault.NotACommand) ↔ ((length bytes ≤ 600) × (is_word (cut 32 bytes).0 ≡ false))
-gives_not_a_command r bytes h =
-    let answer = answers_not_a_command r (command_of bytes) h in
+pub gives_not_a_command : (moves : ℕ) (r : Result Command CommandFault) (bytes : List ℕ) → Gives moves r (command_of bytes) → (r ≡ Err fault.NotACommand) ↔ ((length bytes ≤ 600) × (is_word (cut 32 bytes).0 ≡ false))
+gives_not_a_command moves r bytes h =
+    let answer = answers_not_a_command moves r (command_of bytes) h in
     let text = not_a_command bytes in
     (λ e. text.0 (answer.0 e), λ no. answer.1 (text.1 no))

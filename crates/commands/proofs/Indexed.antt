@@ -1,5 +1,5 @@
 -- What one more command makes of the index of the accepted commands.
-use Rattle.std.proofs.Common.{◌≡◌, ◌≤◌, ◌+◌, ◌-◌, ℕ, zero, suc, Bool, true, false, not, cond, ◌&&◌, ◌==◌, List, [], ◌∷◌, ◌++◌, length, slice_get, Option, Some, None, is_some, option_map, IfNone, OnSome, Result, Ok, Err, IfOk, refl, ap, ◌∙◌, sym, append-nil, arith, eqb-true}
+use Rattle.std.proofs.Common.{◌≡◌, ◌≤◌, ◌+◌, ◌-◌, ℕ, zero, suc, Bool, true, false, not, cond, ◌&&◌, ◌==◌, List, [], ◌∷◌, ◌++◌, length, Option, Some, None, is_some, option_map, IfNone, OnSome, Result, Ok, Err, IfOk, refl, ap, ◌∙◌, sym, append-nil, arith, eqb-true}
 use Rattle.std.specs.Prelude.{nat_lt}
 use Rattle.std.specs.List.{list_any, range_with_len}
 use Rattle.std.specs.declared.alloc.AllocError.{AllocError}

@@ -1,5 +1,5 @@
 -- Entering numbers that are each there once: none is in the table yet.
-use Rattle.std.proofs.Common.{◌≡◌, ℕ, zero, suc, ◌+◌, ◌<◌, ◌≤◌, ◌==◌, Bool, true, false, ◌||◌, nat_le, List, [], ◌∷◌, map, length, take, get_or, Option, None, refl, sym, ap, ◌∙◌, arith, add-one}
+use Rattle.std.proofs.Common.{◌≡◌, ℕ, zero, suc, ◌<◌, ◌≤◌, ◌==◌, Bool, false, ◌||◌, nat_le, List, [], ◌∷◌, map, length, take, get_or, Option, None, refl, sym, ap, ◌∙◌, arith, add-one}
 use Rattle.std.specs.Prelude.{nat_eq}
 use Rattle.std.specs.List.{list_any, IsDistinct}
 use Rattle.std.proofs.lemmas.Bool.Decides.{nat_tests}
@@ -8,7 +8,7 @@ use Rattle.std.proofs.lemmas.List.Folds.{list_any_more}
 use Rattle.std.proofs.lemmas.Map.Keys.{apart_from_distinct}
 use Rattle.attempts.specs.declared.Unit.{Unit as Measure}
 use Rattle.formats.specs.declared.events.Format.{Format}
-use Rattle.rounds.specs.Tables.{Entrant, Table, empty_table, has_number, enter_fault}
+use Rattle.rounds.specs.Tables.{empty_table, has_number, enter_fault}
 use Rattle.commands.specs.Kept.{newcomer, with_newcomers}
 
 is_among : (n : ℕ) (ms : List ℕ) → list_any (has_number n) (map newcomer ms) ≡ list_any (λ m. n == m) ms

@@ -17,7 +17,7 @@ use Rattle.commands.specs.declared.command.Settings.{Settings}
 use Rattle.rounds.specs.Tables.{Entrant, Table, empty_table, replaced, without_last}
 use Rattle.advancement.specs.declared.Advance.{Advance}
 use Rattle.commands.specs.Kept.{with_attempt, with_correction, with_strike, with_advance, with_end, with_entry, newcomer, with_newcomers}
-use Rattle.commands.specs.Accepted.{first_of, Opened, opened, opening, scrambling, scramble_since, scramble_of, settled, entering, one_value, values_after, entrant_after, entrants_after, closing, advance_given, advance_after, settings_now, table_of, round_at, who_advance, round_in, round_of}
+use Rattle.commands.specs.Accepted.{Opened, opened, opening, scrambling, scramble_since, scramble_of, settled, entering, one_value, values_after, entrant_after, entrants_after, closing, advance_given, advance_after, settings_now, table_of, round_at, who_advance, round_in, round_of}
 use Rattle.commands.proofs.Lookups.{or_none, first_push}
 
 -- a round with one more command since its opening

@@ -16,9 +16,9 @@ use Rattle.commands.specs.declared.command.Entered.{Entered}
 use Rattle.commands.specs.declared.command.Settings.{Settings}
 use Rattle.commands.specs.declared.reading.CommandFault.{CommandFault}
 use Rattle.commands.specs.declared.reading.CommandFault.TheVariants as fault
-use Rattle.commands.specs.Spelling.{spelling, IsFit, IsShort, IsWithin, last_round, cutoff_text, limit_text, advance_text, entered_text}
+use Rattle.commands.specs.Spelling.{spelling, IsFit, IsWithin, last_round, cutoff_text, limit_text, advance_text, entered_text}
 use Rattle.commands.specs.Fields.{cut, number_between}
-use Rattle.commands.specs.Reading.{◌>>=◌, field, last_field, no_field, register_of, open_of, enter_of, scramble_of, attempt_of, correct_of, strike_of, set_advance_of, close_of, by_word, command_of, Gives, ReadsAs}
+use Rattle.commands.specs.Reading.{◌>>=◌, field, last_field, no_field, register_of, open_of, enter_of, scramble_of, attempt_of, correct_of, strike_of, set_advance_of, close_of, moves_field, by_word, command_of, Gives, ReadsAs}
 use Rattle.commands.proofs.Cuts.{behind, cut_spelled, cut-behind, lacks}
 use Rattle.commands.proofs.Spelled.{IsSpelled, bytes_eq-equal}
 use Rattle.commands.proofs.MoveSpellings.{moves_spelled}
@@ -374,25 +374,25 @@ spelled_once c d fits fits' same = ok_equal c d (sym (spelled_found c fits) ∙ 
 
 -- What `read` answers.
 
-pub gives_too_long : (bytes : List ℕ) → nat_lt 600 (length bytes) ≡ true → Gives (Err fault.TooLong) (command_of bytes)
+pub gives_too_long : (moves : ℕ) (bytes : List ℕ) → nat_lt 600 (length bytes) ≡ true → Gives moves (Err fault.TooLong) (command_of bytes)
 unfolding command_of
-gives_too_long bytes long = rw long refl
+gives_too_long moves bytes long = rw long refl
 
-pub gives_word : (r : Result Command CommandFault) (bytes : List ℕ) (parts : List ℕ × Option (List ℕ)) → nat_lt 600 (length bytes) ≡ false → parts ≡ cut 32 bytes → Gives r (by_word parts) → Gives r (command_of bytes)
+pub gives_word : (r : Result Command CommandFault) (bytes : List ℕ) (parts : List ℕ × Option (List ℕ)) → nat_lt 600 (length bytes) ≡ false → parts ≡ cut 32 bytes → Gives (moves_field parts.0) r (by_word parts) → Gives (moves_field (cut 32 bytes).0) r (command_of bytes)
 unfolding command_of
 gives_word r bytes parts short same h =
-    rw short (subst (λ (p : List ℕ × Option (List ℕ)). Gives r (by_word p)) same h)
+    rw short (subst (λ (p : List ℕ × Option (List ℕ)). Gives (moves_field p.0) r (by_word p)) same h)
 
-pub gives_found : (r : Result Command CommandFault) (bytes : List ℕ) → Gives r (command_of bytes) → (c : Command) → IsFit c → bytes ≡ spelling c → ReadsAs r c
-gives_found r bytes h c fits same = step r (subst (Gives r) (ap command_of same ∙ spelled_found c fits) h)
+pub gives_found : (moves : ℕ) (r : Result Command CommandFault) (bytes : List ℕ) → Gives moves r (command_of bytes) → (c : Command) → IsFit c → bytes ≡ spelling c → ReadsAs r c
+gives_found moves r bytes h c fits same = step r (subst (Gives moves r) (ap command_of same ∙ spelled_found c fits) h)
   where
-    step : (r : Result Command CommandFault) → Gives r (Ok c) → ReadsAs r c
+    step : (r : Result Command CommandFault) → Gives moves r (Ok c) → ReadsAs r c
     step (Ok d) e = sym (ok_equal c d e)
     step (Err fault.NoMemory) e = refl
     step (Err fault.TooLong) e = absurd (let bad : Ok c ≡ Err fault.TooLong = e in cc)
     step (Err fault.NotACommand) e = absurd (let bad : Ok c ≡ Err fault.NotACommand = e in cc)
     step (Err (fault.BadField index)) e = absurd (let bad : Ok c ≡ Err (fault.BadField index) = e in cc)
 
-pub gives_only : (r : Result Command CommandFault) (bytes : List ℕ) → Gives r (command_of bytes) → IfOk r (λ c. IsFit c × (bytes ≡ spelling c))
-gives_only (Ok c) bytes h = spelled_only bytes c h
-gives_only (Err e) bytes h = _
+pub gives_only : (moves : ℕ) (r : Result Command CommandFault) (bytes : List ℕ) → Gives moves r (command_of bytes) → IfOk r (λ c. IsFit c × (bytes ≡ spelling c))
+gives_only moves (Ok c) bytes h = spelled_only bytes c h
+gives_only moves (Err e) bytes h = _

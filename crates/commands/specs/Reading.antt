@@ -6,7 +6,7 @@ use Rattle.commands.specs.declared.command.Command.{Command}
 use Rattle.commands.specs.declared.command.Command.TheVariants.{Register, Open, Enter, Scramble, Attempt, Correct, Strike, SetAdvance, Close}
 use Rattle.commands.specs.declared.reading.CommandFault.{CommandFault}
 use Rattle.commands.specs.declared.reading.CommandFault.TheVariants as fault
-use Rattle.commands.specs.Spelling.{last_round, IsWithin, IsFit, spelling}
+use Rattle.commands.specs.Spelling.{last_round, IsFit, spelling}
 use Rattle.formats.specs.Events.{event_named, format_named}
 use Rattle.commands.specs.Fields.{cut, number_between, name_of, cutoff_of, limit_of, advance_of, moves_of, entered_of, IsSolution}
 
@@ -145,22 +145,30 @@ abbrev pub Reads : {X Y : Type 0} → (X → Y) → Result X CommandFault → Re
 Reads view (Ok x) said = said ≡ Ok (view x)
 Reads view (Err e) said = said ≡ Err e
 
--- memory is taken for a name, and for moves: where these are misspelt, the fault is in field 4 or 5
-abbrev pub TakesMemory : Result Command CommandFault → Type 0
-TakesMemory (Ok (Register number name)) = Unit {0}
-TakesMemory (Ok (Scramble event round attempt moves)) = Unit {0}
-TakesMemory (Ok (Attempt event round attempt number outcome)) = IsSolution outcome
-TakesMemory (Ok (Correct event round attempt number outcome)) = IsSolution outcome
-TakesMemory (Err (fault.BadField index)) = IsWithin 4 5 index
-TakesMemory _ = ⊥
+-- Memory is taken for a name and for moves. The moves' field is the 4th of SCR and the 5th of ATT and COR; where they are misspelt, memory may run out first.
+
+abbrev pub moves_field : List ℕ → ℕ
+moves_field word =
+    if bytes_eq word (codes "SCR") then 4
+    else if bytes_eq word (codes "ATT") then 5
+    else if bytes_eq word (codes "COR") then 5
+    else 0
+
+abbrev pub TakesMemory : ℕ → Result Command CommandFault → Type 0
+TakesMemory moves (Ok (Register number name)) = Unit {0}
+TakesMemory moves (Ok (Scramble event round attempt given)) = Unit {0}
+TakesMemory moves (Ok (Attempt event round attempt number outcome)) = IsSolution outcome
+TakesMemory moves (Ok (Correct event round attempt number outcome)) = IsSolution outcome
+TakesMemory moves (Err (fault.BadField index)) = index ≡ moves
+TakesMemory _ _ = ⊥
 
 -- where memory runs out, that is said in place of what it is taken for
-abbrev pub Gives : Result Command CommandFault → Result Command CommandFault → Type 0
-Gives (Ok c) said = said ≡ Ok c
-Gives (Err fault.NoMemory) said = TakesMemory said
-Gives (Err fault.TooLong) said = said ≡ Err fault.TooLong
-Gives (Err fault.NotACommand) said = said ≡ Err fault.NotACommand
-Gives (Err (fault.BadField index)) said = said ≡ Err (fault.BadField index)
+abbrev pub Gives : ℕ → Result Command CommandFault → Result Command CommandFault → Type 0
+Gives _ (Ok c) said = said ≡ Ok c
+Gives moves (Err fault.NoMemory) said = TakesMemory moves said
+Gives _ (Err fault.TooLong) said = said ≡ Err fault.TooLong
+Gives _ (Err fault.NotACommand) said = said ≡ Err fault.NotACommand
+Gives _ (Err (fault.BadField index)) said = said ≡ Err (fault.BadField index)
 
 -- a command was read, unless memory ran out
 abbrev pub ReadsAs : Result Command CommandFault → Command → Type 0

@@ -63,7 +63,7 @@ pub struct Settings {
 pub enum Entered {
     /// `T:`: a measured time of 1 to 999,999 hundredths of a second, and 0 to 9 penalties.
     Time { hundredths: u32, penalties: u8 },
-    /// `S:`: a solution of 1 to 400 moves, for the scramble of its attempt.
+    /// `S:`: a solution for the scramble of its attempt, as many moves as its text of at most 600 bytes holds.
     Solution { moves: Moves },
     /// `DNF`: did not finish.
     Dnf,
@@ -90,7 +90,7 @@ pub enum Command {
         event: Event,
         number: u16,
     },
-    /// `SCR`: sets the scramble of an attempt of a round, 1 to 400 moves.
+    /// `SCR`: sets the scramble of an attempt of a round, as many moves as its text of at most 600 bytes holds.
     Scramble {
         event: Event,
         round: u8,

@@ -1,7 +1,7 @@
 //! A competition, as the list of its entries makes it.
 
-ghost use Rattle.std.specs.Prelude.{◌≡◌, ◌++◌, ◌∷◌, [], List, ℕ, IfOk, OnOk, OnErr, option_map};
-ghost use Rattle.commands.specs.History.{answer_to, answer_of, added_read, read_refusal, after, nothing, StandsFor, SeesEachId};
+ghost use Rattle.std.specs.Prelude.{◌≡◌, ◌++◌, ◌∷◌, [], List, ℕ, true, Ok, IfOk, OnOk, OnErr, option_map};
+ghost use Rattle.commands.specs.History.{is_seen, answer_to, answer_of, added_read, read_refusal, after, nothing, StandsFor, SeesEachId};
 ghost use Rattle.commands.specs.Reading.{command_of};
 ghost use Rattle.commands.specs.Accepted.{name_of, round_of};
 
@@ -74,6 +74,8 @@ impl Meet {
         ensures answer { IfOk result (λ answer. answer ≡ answer_to self.old id text.now) }
         ensures after { OnOk result (self.new ≡ after self.old id text.now) }
         ensures err { OnErr result (self.new ≡ self.old) }
+        // Memory is taken for an id that is new, and for no other.
+        ensures repeat { is_seen self.old id ≡ true → result ≡ Ok (Answer.Refused Code.Repeat) }
 
         // Whatever list of entries the meet stands for, it then stands for that list and this entry.
         ensures stands { OnOk result ((entries : List (ℕ × List ℕ)) → StandsFor self.old entries → StandsFor self.new (entries ++ (id, text.now) ∷ [])) }

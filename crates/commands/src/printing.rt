@@ -269,7 +269,8 @@ fn push_close(out: &mut Vec<u8>, event: Event, round: u8) -> Result<(), NoMemory
     push_round(out, event, round)
 }
 
-/// The spelling of a command. It is one that `read` takes where the fields are in their ranges.
+/// The spelling of a command. `read` takes it where the fields are in their ranges and it has at most
+/// 600 bytes, which only moves can exceed. It is `NoMemory` only where a growth was refused.
 pub fn print(alloc: Global, command: &Command) -> Result<Vec<u8>, NoMemory>
     ensures { IfOk result (λ text. text.items ≡ spelling command.now) }
 {

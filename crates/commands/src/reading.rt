@@ -3,7 +3,7 @@
 ghost use Rattle.std.specs.Prelude.{◌≡◌, ◌<◌, ◌≤◌, ◌↔◌, false, nat_lt, length, option_map, ok_or, Option, Some, None, IfOk};
 ghost use Rattle.commands.specs.Spelling.{IsFit, spelling};
 ghost use Rattle.commands.specs.Fields.{cut};
-ghost use Rattle.commands.specs.Reading.{Gives, is_word, Reads, ReadsAs, front, no_field, register_of, open_of, enter_of, scramble_of, attempt_of, correct_of, strike_of, set_advance_of, close_of, by_word, command_of, ReadsWhatIsSpelled, SpellsWhatIsRead, SpellsOneCommand, SpellsShort};
+ghost use Rattle.commands.specs.Reading.{Gives, moves_field, is_word, Reads, ReadsAs, front, no_field, register_of, open_of, enter_of, scramble_of, attempt_of, correct_of, strike_of, set_advance_of, close_of, by_word, command_of, ReadsWhatIsSpelled, SpellsWhatIsRead, SpellsOneCommand, SpellsShort};
 ghost use Rattle.commands.specs.declared.reading.CommandFault.TheVariants.{NoMemory as OutOfMemory, BadField as BadFieldAt};
 
 use crate::command::{Command, Name, Settings};
@@ -67,7 +67,7 @@ fn no_field(index: u8, left: Option<&[u8]>) -> Result<(), CommandFault>
 /// `REG`: number, name.
 #[tactic(auto, unfolding(crate::specs::Reading::register_of, crate::specs::Fields::name_of))]
 fn register_of(alloc: Global, left: Option<&[u8]>) -> Result<Command, CommandFault>
-    ensures { Gives result (register_of (option_map (λ s. s.now) left.entry)) }
+    ensures { Gives 0 result (register_of (option_map (λ s. s.now) left.entry)) }
 {
     let (bytes, left) = field(1, left)?;
     let number = number_between(1, 9999, bytes).ok_or(CommandFault::BadField { index: 1 })?;
@@ -85,7 +85,7 @@ fn register_of(alloc: Global, left: Option<&[u8]>) -> Result<Command, CommandFau
 /// `OPEN`: event, round, format, cutoff, limit, advance.
 #[tactic(auto, unfolding(crate::specs::Reading::open_of))]
 fn open_of(left: Option<&[u8]>) -> Result<Command, CommandFault>
-    ensures { Gives result (open_of (option_map (λ s. s.now) left.entry)) }
+    ensures { Gives 0 result (open_of (option_map (λ s. s.now) left.entry)) }
 {
     let (bytes, left) = field(1, left)?;
     let event = Event::from_name(bytes).ok_or(CommandFault::BadField { index: 1 })?;
@@ -115,7 +115,7 @@ fn open_of(left: Option<&[u8]>) -> Result<Command, CommandFault>
 /// `ENT`: event, number.
 #[tactic(auto, unfolding(crate::specs::Reading::enter_of))]
 fn enter_of(left: Option<&[u8]>) -> Result<Command, CommandFault>
-    ensures { Gives result (enter_of (option_map (λ s. s.now) left.entry)) }
+    ensures { Gives 0 result (enter_of (option_map (λ s. s.now) left.entry)) }
 {
     let (bytes, left) = field(1, left)?;
     let event = Event::from_name(bytes).ok_or(CommandFault::BadField { index: 1 })?;
@@ -131,7 +131,7 @@ fn enter_of(left: Option<&[u8]>) -> Result<Command, CommandFault>
 /// `SCR`: event, round, attempt, moves.
 #[tactic(auto, unfolding(crate::specs::Reading::scramble_of))]
 fn scramble_of(alloc: Global, left: Option<&[u8]>) -> Result<Command, CommandFault>
-    ensures { Gives result (scramble_of (option_map (λ s. s.now) left.entry)) }
+    ensures { Gives 4 result (scramble_of (option_map (λ s. s.now) left.entry)) }
 {
     let (bytes, left) = field(1, left)?;
     let event = Event::from_name(bytes).ok_or(CommandFault::BadField { index: 1 })?;
@@ -152,7 +152,7 @@ fn scramble_of(alloc: Global, left: Option<&[u8]>) -> Result<Command, CommandFau
 /// `ATT`: event, round, attempt, number, outcome.
 #[tactic(auto, unfolding(crate::specs::Reading::attempt_of))]
 fn attempt_of(alloc: Global, left: Option<&[u8]>) -> Result<Command, CommandFault>
-    ensures { Gives result (attempt_of (option_map (λ s. s.now) left.entry)) }
+    ensures { Gives 5 result (attempt_of (option_map (λ s. s.now) left.entry)) }
 {
     let (bytes, left) = field(1, left)?;
     let event = Event::from_name(bytes).ok_or(CommandFault::BadField { index: 1 })?;
@@ -176,7 +176,7 @@ fn attempt_of(alloc: Global, left: Option<&[u8]>) -> Result<Command, CommandFaul
 /// `COR`: event, round, attempt, number, outcome.
 #[tactic(auto, unfolding(crate::specs::Reading::correct_of))]
 fn correct_of(alloc: Global, left: Option<&[u8]>) -> Result<Command, CommandFault>
-    ensures { Gives result (correct_of (option_map (λ s. s.now) left.entry)) }
+    ensures { Gives 5 result (correct_of (option_map (λ s. s.now) left.entry)) }
 {
     let (bytes, left) = field(1, left)?;
     let event = Event::from_name(bytes).ok_or(CommandFault::BadField { index: 1 })?;
@@ -200,7 +200,7 @@ fn correct_of(alloc: Global, left: Option<&[u8]>) -> Result<Command, CommandFaul
 /// `STR`: event, round, number.
 #[tactic(auto, unfolding(crate::specs::Reading::strike_of))]
 fn strike_of(left: Option<&[u8]>) -> Result<Command, CommandFault>
-    ensures { Gives result (strike_of (option_map (λ s. s.now) left.entry)) }
+    ensures { Gives 0 result (strike_of (option_map (λ s. s.now) left.entry)) }
 {
     let (bytes, left) = field(1, left)?;
     let event = Event::from_name(bytes).ok_or(CommandFault::BadField { index: 1 })?;
@@ -219,7 +219,7 @@ fn strike_of(left: Option<&[u8]>) -> Result<Command, CommandFault>
 /// `ADV`: event, round, advance.
 #[tactic(auto, unfolding(crate::specs::Reading::set_advance_of))]
 fn set_advance_of(left: Option<&[u8]>) -> Result<Command, CommandFault>
-    ensures { Gives result (set_advance_of (option_map (λ s. s.now) left.entry)) }
+    ensures { Gives 0 result (set_advance_of (option_map (λ s. s.now) left.entry)) }
 {
     let (bytes, left) = field(1, left)?;
     let event = Event::from_name(bytes).ok_or(CommandFault::BadField { index: 1 })?;
@@ -238,7 +238,7 @@ fn set_advance_of(left: Option<&[u8]>) -> Result<Command, CommandFault>
 /// `CLOSE`: event, round.
 #[tactic(auto, unfolding(crate::specs::Reading::close_of))]
 fn close_of(left: Option<&[u8]>) -> Result<Command, CommandFault>
-    ensures { Gives result (close_of (option_map (λ s. s.now) left.entry)) }
+    ensures { Gives 0 result (close_of (option_map (λ s. s.now) left.entry)) }
 {
     let (bytes, left) = field(1, left)?;
     let event = Event::from_name(bytes).ok_or(CommandFault::BadField { index: 1 })?;
@@ -253,7 +253,7 @@ fn close_of(left: Option<&[u8]>) -> Result<Command, CommandFault>
 
 /// The command of a word and what is left behind it.
 fn command_of_word(alloc: Global, word: &[u8], left: Option<&[u8]>) -> Result<Command, CommandFault>
-    ensures { Gives result (by_word (word.now, option_map (λ s. s.now) left.entry)) }
+    ensures { Gives (moves_field word.now) result (by_word (word.now, option_map (λ s. s.now) left.entry)) }
 {
     if word == b"REG".as_slice() {
         register_of(alloc, left)
@@ -288,7 +288,7 @@ fn is_too_long(text: &[u8]) -> bool
 /// The command that a text spells: a word and its fields, parted by one space each, of at most 600 bytes. The faults
 /// stand in the order of `CommandFault`. Memory is taken for a name and for moves.
 pub fn read(alloc: Global, text: &[u8]) -> Result<Command, CommandFault>
-    ensures value { Gives result (command_of text.now) }
+    ensures value { Gives (moves_field (cut 32 text.now).0) result (command_of text.now) }
 
     ensures too_long { (result ≡ Err CommandFault.TooLong) ↔ (600 < length text.now) }
     ensures not_a_command { (result ≡ Err CommandFault.NotACommand) ↔ ((length text.now ≤ 600) × (is_word (cut 32 text.now).0 ≡ false)) }

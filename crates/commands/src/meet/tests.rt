@@ -66,6 +66,13 @@ ent 333 1>Unread
 }
 
 #[test]
+fn a_text_of_601_bytes_is_unread(rt: HostRuntime) -> Result<(), Fail> {
+    let mut meet = Meet::new(rt.alloc())?;
+    assert_eq!(rt; meet.apply(1, &[b'1'; 601])?, Answer::Refused(Code::Unread));
+    Ok(())
+}
+
+#[test]
 fn the_first_check_that_fails_answers(rt: HostRuntime) -> Result<(), Fail> {
     let script = b"REG 1 Ann Li>Done
 REG 2 Bo Ek>Done

@@ -1,4 +1,4 @@
-use Rattle.std.proofs.Common.{sym, ◌∙◌, ap, subst, refl}
+use Rattle.std.proofs.Common.{sym, ◌∙◌, refl}
 use Rattle.commands.proofs.MoveSpellings.{no_moves_unless_single, moves_read, no_moves_where_refused}
 use Rattle.commands.proofs.fields.moves_of.Goals as goal
 

@@ -1,4 +1,4 @@
-use Rattle.std.proofs.Common.{◌≡◌, Bool, true, not, cond, Option, Some, refl, sym, ◌∙◌}
+use Rattle.std.proofs.Common.{◌≡◌, Bool, true, not, cond, Option, Some, refl, sym}
 use Rattle.commands.specs.declared.answer.Code.{Code}
 use Rattle.commands.proofs.Indexed.{corrected}
 use Rattle.commands.proofs.book.Index.correct.Goals as goal

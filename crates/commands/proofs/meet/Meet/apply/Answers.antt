@@ -1,4 +1,4 @@
-use Rattle.std.proofs.Common.{◌≡◌, true, false, ◌++◌, ◌∷◌, [], sym}
+use Rattle.std.proofs.Common.{◌≡◌, true, false, ◌++◌, ◌∷◌, [], sym, ◌∙◌}
 use Rattle.commands.specs.History.{History, is_seen, added_read, read_refusal}
 use Rattle.commands.specs.Reading.{command_of}
 use Rattle.commands.proofs.Entries.{stands_more, answer_new, after_new, after_seen}
@@ -22,3 +22,15 @@ returns-clause-stands c =
     let accepted : c.do_text.new.book ≡ c.args.self.now.accepted ++ added_read (read_refusal c.args.self.now.accepted (command_of c.args.text.now)) (command_of c.args.text.now) = rw (← c.self.view_is) c.in_ok-answer.ensures.added in
     let new : History = record { ids = c.insert.new.self.keys; accepted = c.do_text.new.book } in
     stands_more c.args.self.now new c.args.id c.args.text.now (after_new c.args.self.now new c.args.id c.args.text.now unseen ids accepted)
+
+pub returns-in_err-reserve-clause-repeat : goal.returns-in_err-reserve-clause-repeat
+returns-in_err-reserve-clause-repeat c = λ seen.
+    let unseen : is_seen c.args.self.now c.args.id ≡ false = rw (← c.self.view_is) (sym c.if-contains.ensures) in absurd (let bad : true ≡ false = sym seen ∙ unseen in cc)
+
+pub returns-in_err-answer-clause-repeat : goal.returns-in_err-answer-clause-repeat
+returns-in_err-answer-clause-repeat c = λ seen.
+    let unseen : is_seen c.args.self.now c.args.id ≡ false = rw (← c.self.view_is) (sym c.if-contains.ensures) in absurd (let bad : true ≡ false = sym seen ∙ unseen in cc)
+
+pub returns-clause-repeat : goal.returns-clause-repeat
+returns-clause-repeat c = λ seen.
+    let unseen : is_seen c.args.self.now c.args.id ≡ false = rw (← c.self.view_is) (sym c.if-contains.ensures) in absurd (let bad : true ≡ false = sym seen ∙ unseen in cc)
