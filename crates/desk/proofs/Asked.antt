@@ -1,10 +1,9 @@
 -- What the parser of words is told, step by step.
 use Rattle.std.proofs.Common.{◌≡◌, ◌∙◌, List, ℕ, true, false, ap, ap₂, refl, subst, sym, Option, Some, None}
 use Rattle.std.specs.Borrow.{Bor}
-use Rattle.std.specs.Prelude.{option_map, option_and_then, unwrap_or, Box, Result, Ok}
+use Rattle.std.specs.Prelude.{decimal, option_map, option_and_then, unwrap_or, Box}
 use Rattle.std.specs.Box.{box_value}
-use Rattle.std.specs.Str.Parse.{IsNumeral, digits_value, without_leading_plus}
-use Rattle.clap.specs.Words.{ReadsOne, Row, Rule, Text, first_of, first_value, found_of, new_rule, one_of, one_text, rows_of, rule_of, subcommand_of, subcommand_rows}
+use Rattle.clap.specs.Words.{Row, Rule, Text, first_of, first_value, found_of, new_rule, rows_of, rule_of, subcommand_of, subcommand_rows}
 use Rattle.clap.specs.declared.builder.arg.Arg.{Arg}
 use Rattle.clap.specs.declared.builder.ArgAction.TheVariants.{Set}
 use Rattle.clap.specs.declared.builder.texts.Texts.TheVariants.{One}
@@ -12,7 +11,7 @@ use Rattle.clap.specs.declared.builder.value_parser.ValueParser.{ValueParser}
 use Rattle.clap.specs.declared.parser.matches.Found.{Found}
 use Rattle.clap.specs.declared.parser.matches.SubCommand.{SubCommand}
 use Rattle.clap.specs.declared.parser.matches.ArgMatches.TheViews.{out-SubCommand}
-use Rattle.clap.proofs.WalkLemmas.{first_value-rows, one_text-rows}
+use Rattle.clap.proofs.WalkLemmas.{first_value-rows}
 use Rattle.formats.specs.declared.events.Event.{Event}
 use Rattle.formats.specs.Events.{event_named}
 use Rattle.sheets.specs.declared.Style.{Style}
@@ -49,21 +48,8 @@ pub event_read : (f : Found) (id text bytes : Text) (event : Event) → Some tex
 event_read f id text bytes event given same named =
     ap (option_and_then event_named) (sym (first_value-rows f id) ∙ sym given) ∙ ap event_named (sym same) ∙ sym named
 
--- how a number is read
-abbrev Reads : {E : Type 0} → (List ℕ → Result ℕ E → Type 0) → Type 0
-Reads {E} gives = (text : List ℕ) (n : ℕ) → gives text (Ok n) → IsNumeral 10 (without_leading_plus text) × (n ≡ digits_value 10 (without_leading_plus text))
-
-abbrev IsNumberIn : Option Text → ℕ → Type 0
-IsNumberIn o n = (text : Text) × (o ≡ Some text) × (IsNumeral 10 (without_leading_plus text) × (n ≡ digits_value 10 (without_leading_plus text)))
-
-number_in : {E : Type 0} (gives : List ℕ → Result ℕ E → Type 0) (o : Option Text) (result : Option ℕ) (n : ℕ) → Reads gives → (o ≡ None → result ≡ None)
-    → ((t : List ℕ) → o ≡ Some t → ReadsOne gives t result) → result ≡ Some n → IsNumberIn o n
-number_in gives None result n reads none value is = let bad : None ≡ Some n = sym (none refl) ∙ is in cc
-number_in gives (Some t) result n reads none value is = (t, refl, reads t n (subst (ReadsOne gives t) is (value t refl)))
-
-pub number_read : {E : Type 0} (gives : List ℕ → Result ℕ E → Type 0) (f : Found) (id : Text) (result : Option ℕ) (n : ℕ) → Reads gives → (one_text f id ≡ None → result ≡ None)
-    → ((t : List ℕ) → one_text f id ≡ Some t → ReadsOne gives t result) → result ≡ Some n → IsNumberIn (one_of id (rows_of f)) n
-number_read gives f id result n reads none value is = subst (λ o. IsNumberIn o n) (one_text-rows f id) (number_in gives (one_text f id) result n reads none value is)
+pub round_read : (f : Found) (id text : Text) (round : ℕ) → Some text ≡ first_value f id → text ≡ decimal round → first_of id (rows_of f) ≡ Some (decimal round)
+round_read f id text round given same = sym (first_value-rows f id) ∙ sym given ∙ ap Some same
 
 pub asked : (words : List Text) (found : Option (Text × List Row)) (style : Style) (event : Event) (round : ℕ)
     → (events : Option ValueParser) × (rounds : Option ValueParser) × (found ≡ subcommand_of (desk_words events rounds) words) → Finds found style event round → Asks words style event round

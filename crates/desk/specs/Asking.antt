@@ -1,6 +1,5 @@
 -- What the words of the program ask for, as its parser reads words: `clap` says which word is whose value.
-use Rattle.std.specs.Prelude.{◌≡◌, true, ℕ, List, codes, Option, Some, option_and_then}
-use Rattle.std.specs.Str.Parse.{IsNumeral, digits_value, without_leading_plus}
+use Rattle.std.specs.Prelude.{◌≡◌, true, ℕ, List, codes, decimal, Option, Some, option_and_then}
 use Rattle.clap.specs.Words.{App, Row, Rule, Text, first_of, new_app, new_rule, one_of, subcommand_of, with_rule, with_subcommand}
 use Rattle.clap.specs.declared.builder.ArgAction.TheVariants.{Set, SetTrue}
 use Rattle.clap.specs.declared.builder.value_parser.ValueParser.{ValueParser}
@@ -26,13 +25,10 @@ named_app = record (new_app (codes "desk")) { top = record (new_app (codes "desk
 abbrev pub desk_words : Option ValueParser → Option ValueParser → App
 desk_words events rounds = with_subcommand named_app (replay_words events rounds).top
 
--- the values of `replay` are a name of the event, the number of the round in decimal, and whether `--csv` is there
+-- the values of `replay` are a name of the event, the number of the round as it prints in decimal, and whether `--csv` is there
 pub record IsReplay (rows : List Row) (style : Style) (event : Event) (round : ℕ) : Type 0 where
-  pub number : Text
   pub named : option_and_then event_named (first_of (codes "event") rows) ≡ Some event
-  pub number_there : one_of (codes "round") rows ≡ Some number
-  pub decimal : IsNumeral 10 (without_leading_plus number)
-  pub value : round ≡ digits_value 10 (without_leading_plus number)
+  pub numbered : first_of (codes "round") rows ≡ Some (decimal round)
   pub table : one_of (codes "csv") rows ≡ Some (codes "true") → style ≡ printed.Table
   pub text : one_of (codes "csv") rows ≡ Some (codes "false") → style ≡ printed.Text
 

@@ -135,6 +135,7 @@ impl Session {
     ) -> Result<(), RunFault>
         requires { 0 < length self.old.line → self.old.lines < 65536 }
         ensures there { OnOk result (is_some (sheet_of style event round self.old) ≡ true) }
+        ensures after { OnOk result (self.new ≡ ended self.old) }
         ensures said { OnOk result (out.new.items ≡ out.old.items ++ end_text style event round self.old) }
         ensures err { IfErr result (λ e. StopsEnd e (sheet_of style event round self.old) (end_text style event round self.old) out.old.items out.new.items) }
     {

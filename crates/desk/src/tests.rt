@@ -302,12 +302,14 @@ fn refuses_lines(rt: HostRuntime) {
 
 #[test]
 fn reads_words(rt: HostRuntime) {
-    let rows: [(&[&str], u8); 9] = [
+    let rows: [(&[&str], u8); 11] = [
         (&["desk", "replay", "333bf", "4"], 3),
         (&["desk", "replay", "sq1", "2", "--csv"], 3),
         (&["desk", "replay", "334", "1"], 2),
         (&["desk", "replay", "333", "0"], 2),
         (&["desk", "replay", "333", "5"], 2),
+        (&["desk", "replay", "333", "01"], 2),
+        (&["desk", "replay", "333", "+1"], 2),
         (&["desk", "replay", "333"], 2),
         (&["desk", "replay", "333", "1", "2"], 2),
         (&["desk", "replays", "333", "1"], 2),

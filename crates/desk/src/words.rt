@@ -1,6 +1,6 @@
 //! The words of the program: what they ask for, and how it ends.
 
-ghost use Rattle.std.specs.Prelude.{◌≡◌, ◌≢◌, false, IfOk, IfSome, Option, map};
+ghost use Rattle.std.specs.Prelude.{◌≡◌, ◌≢◌, false, decimal, IfOk, IfSome, Option, map};
 ghost use Rattle.std.specs.IoError.{error_kind};
 ghost use Rattle.std.specs.Io.KnownBytes.{Keeps};
 ghost use Rattle.clap.specs.Words.{app_of, subcommand_of, subcommand_rows_of};
@@ -13,7 +13,7 @@ use crate::fault::RunFault;
 use crate::replay::replay;
 use crate::writing::write_text;
 use clap::error::ErrorKind as ParseErrorKind;
-use clap::{Arg, ArgAction, ArgMatches, Command, Error, value_parser};
+use clap::{Arg, ArgAction, ArgMatches, Command, Error};
 use formats::Event;
 use sheets::Style;
 use std::alloc::{AllocError, Global};
@@ -26,6 +26,9 @@ static NAMES: [&str; 16] = [
     "333", "222", "444", "555", "666", "777", "333bf", "333fm", "333oh", "clock", "minx", "pyram",
     "skewb", "sq1", "444bf", "555bf",
 ];
+
+/// The rounds' numbers, for the parser of the words.
+static ROUNDS: [&str; 4] = ["1", "2", "3", "4"];
 
 const ABOUT: &str = "The results desk of a speedcubing competition.";
 
@@ -78,10 +81,10 @@ fn replay_command<'a>(alloc: Global) -> Result<Command<'a>, AllocError>
         .value_parser(NAMES.as_slice());
     let round = Arg::new(alloc, "round")
         .value_name("ROUND")
-        .help("The round, 1 to 4")
+        .help("The round")
         .required(true)
         .action(ArgAction::Set)
-        .value_parser(value_parser!(u8).range(1..5));
+        .value_parser(ROUNDS.as_slice());
     let table = Arg::new(alloc, "csv")
         .long("csv")
         .help("Print the sheet as comma-separated values")
@@ -105,6 +108,19 @@ fn command<'a>(alloc: Global) -> Result<Command<'a>, AllocError>
         .subcommand(replay_command(alloc)?)
 }
 
+/// The round of a number as it prints in decimal, 1 to 4.
+fn round_of(number: &str) -> Option<u8>
+    ensures { IfSome result (λ round. number.now ≡ decimal round) }
+{
+    match number {
+        "1" => Some(1),
+        "2" => Some(2),
+        "3" => Some(3),
+        "4" => Some(4),
+        _ => None,
+    }
+}
+
 /// What parsed words ask for. The parser gives every value, so there always is a task.
 fn task_of(matches: &ArgMatches<'_>) -> Option<Task>
     ensures { IfSome result (λ task. Finds (subcommand_rows_of matches.now) task.style task.event task.round) }
@@ -114,7 +130,7 @@ fn task_of(matches: &ArgMatches<'_>) -> Option<Task>
         return None;
     }
     let event = Event::from_name(replayed.get_str("event")?.as_bytes())?;
-    let round = replayed.get_one::<u8>("round")?;
+    let round = round_of(replayed.get_str("round")?)?;
     let style = if replayed.get_flag("csv") {
         Style::Table
     } else {

@@ -1,23 +1,18 @@
 use Rattle.std.proofs.Common.{rules, ◌≡◌, ◌∙◌, refl, ap, sym, false, true, codes, Some}
-use Rattle.std.specs.Str.Parse.{ParsesUnsigned, ExplainsUnsignedError, HasUnsignedDigitsIfOk}
 use Rattle.clap.specs.Words.{found_of, rows_of}
 use Rattle.clap.proofs.WalkLemmas.{one_text-rows}
-use Rattle.desk.proofs.Asked.{entered_rows, event_read, number_read}
+use Rattle.desk.proofs.Asked.{entered_rows, event_read, round_read}
 use Rattle.desk.proofs.words.task_of.Goals as goal
 
 pub returns-then-get_flag : goal.returns-then-get_flag
 returns-then-get_flag c =
     let f = found_of c.in_ok-name.replayed.now in
-    let name : c.in_ok-name.name.now ≡ codes "replay" = search rules in
-    let number = number_read (λ bs r. ParsesUnsigned 8 10 bs r × ExplainsUnsignedError 10 bs r × HasUnsignedDigitsIfOk bs r) f (codes "round") c.get_one.result c.in_ok-round.round (λ t n g. (g.0.0.0, g.0.1)) c.get_one.ensures.none c.get_one.ensures.value (search rules) in (
+    let name : c.in_ok-name.name.now ≡ codes "replay" = search rules in (
       rows_of f,
       entered_rows _ _ _ c.in_ok-name.ensures.name c.in_ok-name.ensures.rows ∙ ap (λ t. Some (t, rows_of f)) name,
       record {
-        number = number.0;
         named = event_read f (codes "event") c.in_ok-get_str.field-0.now c.as_bytes.result.now c.in_ok-event.event c.in_ok-get_str.ensures c.as_bytes.ensures.value c.in_ok-event.ensures;
-        number_there = number.1;
-        decimal = number.2.0;
-        value = number.2.1;
+        numbered = round_read f (codes "round") c.in_ok-get_str-2.field-0.now c.in_ok-round.round c.in_ok-get_str-2.ensures c.in_ok-round.ensures;
         table = λ _. refl;
         text = λ is. let bad : true ≡ false = sym c.if-get_flag.true ∙ c.get_flag.ensures.other (one_text-rows f (codes "csv") ∙ is) in cc;
       },
@@ -26,16 +21,12 @@ returns-then-get_flag c =
 pub returns-else-get_flag : goal.returns-else-get_flag
 returns-else-get_flag c =
     let f = found_of c.in_ok-name.replayed.now in
-    let name : c.in_ok-name.name.now ≡ codes "replay" = search rules in
-    let number = number_read (λ bs r. ParsesUnsigned 8 10 bs r × ExplainsUnsignedError 10 bs r × HasUnsignedDigitsIfOk bs r) f (codes "round") c.get_one.result c.in_ok-round.round (λ t n g. (g.0.0.0, g.0.1)) c.get_one.ensures.none c.get_one.ensures.value (search rules) in (
+    let name : c.in_ok-name.name.now ≡ codes "replay" = search rules in (
       rows_of f,
       entered_rows _ _ _ c.in_ok-name.ensures.name c.in_ok-name.ensures.rows ∙ ap (λ t. Some (t, rows_of f)) name,
       record {
-        number = number.0;
         named = event_read f (codes "event") c.in_ok-get_str.field-0.now c.as_bytes.result.now c.in_ok-event.event c.in_ok-get_str.ensures c.as_bytes.ensures.value c.in_ok-event.ensures;
-        number_there = number.1;
-        decimal = number.2.0;
-        value = number.2.1;
+        numbered = round_read f (codes "round") c.in_ok-get_str-2.field-0.now c.in_ok-round.round c.in_ok-get_str-2.ensures c.in_ok-round.ensures;
         table = λ is. let bad : false ≡ true = sym c.if-get_flag.false ∙ c.get_flag.ensures.value (one_text-rows f (codes "csv") ∙ is) in cc;
         text = λ _. refl;
       },
