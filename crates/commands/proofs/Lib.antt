@@ -11,5 +11,6 @@ pub mod Numerals
 pub mod OneMore
 pub mod Places
 pub mod Registrations
+pub mod Sizes
 pub mod Spelled
 pub mod Words

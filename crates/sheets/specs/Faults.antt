@@ -1,9 +1,9 @@
 -- Why there is no sheet.
-use Rattle.std.specs.Prelude.{◌≡◌, ℕ, List, Option, None}
+use Rattle.std.specs.Prelude.{◌≡◌, ℕ, true, List, Option, None, is_some}
 use Rattle.sheets.specs.declared.SheetFault.{SheetFault}
 use Rattle.sheets.specs.declared.SheetFault.TheVariants.{NoSuchRound, NoMemory}
 
--- no sheet was given: there is none, or memory ran out
+-- no sheet was given: there is none, or there is one and memory ran out
 abbrev pub NoSheet : SheetFault → Option (List ℕ) → Type 0
 NoSheet NoSuchRound sheet = sheet ≡ None
-NoSheet NoMemory sheet = Unit {0}
+NoSheet NoMemory sheet = is_some sheet ≡ true

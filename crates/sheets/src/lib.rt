@@ -1,10 +1,12 @@
 //! The result sheet of a round: as text for reading, and as a table of comma-separated values.
 #![tactic(auto)]
 
+mod laws;
 mod lines;
 mod records;
 mod shown;
 
+pub use laws::fits_in_a_frame;
 pub use lines::text;
 pub use records::table;
 

@@ -1,0 +1,67 @@
+-- How long lists are that are put together, and what is known of an entrant that a sheet shows.
+use Rattle.std.proofs.Common.{◌≡◌, ℕ, ◌+◌, ◌-◌, ◌*◌, ◌≤◌, Bool, true, false, cond, List, [], ◌∷◌, ◌++◌, length, replicate, flat_map, find, Option, Some, None, IfSome, unwrap_or, refl, arith, length-append, eqb-true}
+use Rattle.std.specs.List.{AllByRecursion}
+use Rattle.std.proofs.lemmas.List.{length-replicate}
+use Rattle.std.proofs.lemmas.List.Sums.{count_by-le-length}
+use Rattle.std.proofs.Math.Nat.{mul-suc}
+use Rattle.formats.specs.Results.{is_better}
+use Rattle.formats.specs.declared.events.Format.{Format}
+use Rattle.formats.specs.declared.events.Format.TheVariants.{Ao5, Mo3, Bo1, Bo2, Bo3}
+use Rattle.formats.specs.Events.{attempts_of}
+use Rattle.rounds.specs.Tables.{Entrant, Table, has_number, entrant, key, place}
+use Rattle.commands.proofs.Sizes.{IsSmallEntrant}
+use Rattle.sheets.specs.Sheet.{right}
+
+-- Lists
+
+pub append_short : (a b : ℕ) (xs ys : List ℕ) → length xs ≤ a → length ys ≤ b → length (xs ++ ys) ≤ a + b
+append_short a b xs ys x y = let long = length-append xs ys in omega (arith, long, x, y)
+
+pub right_short : (width most : ℕ) (text : List ℕ) → width ≤ most → length text ≤ most → length (right width text) ≤ most
+right_short width most text wide short =
+    let long = length-append (replicate (width - length text) 32) text in
+    let space : ℕ = 32 in
+    let spaces = length-replicate (width - length text) space in
+    omega (arith, long, spaces, wide, short)
+
+-- lists of at most so many items each
+pub each_short : (most : ℕ) (f : ℕ → List ℕ) → ((n : ℕ) → length (f n) ≤ most) → (ns : List ℕ) → length (flat_map f ns) ≤ most * length ns
+each_short most f each [] = omega arith
+each_short most f each (n ∷ ns) =
+    let long = length-append (f n) (flat_map f ns) in
+    let more = mul-suc most (length ns) in
+    let first = each n in
+    let rest = each_short most f each ns in
+    omega (arith, long, more, first, rest)
+
+-- Entrants
+
+-- the entrant that is shown has the number, and its parts are in their ranges
+pub record IsShown (n : ℕ) (e : Entrant) : Type 0 where
+  pub number : n ≤ 9999
+  pub parts : IsSmallEntrant e
+
+found_in : (n : ℕ) (es : List Entrant) → AllByRecursion IsSmallEntrant es → IfSome (find (has_number n) es) (IsShown n)
+found_in n [] are = tt
+found_in n (e ∷ es) are = step (has_number n e) refl are.0 (found_in n es are.1)
+  where
+    step : (b : Bool) → has_number n e ≡ b → IsSmallEntrant e → IfSome (find (has_number n) es) (IsShown n) → IfSome (cond b (Some e) (find (has_number n) es)) (IsShown n)
+    step true is small later = let same : n ≡ e.number = eqb-true n e.number is in record { number = let most = small.number in omega (arith, same, most); parts = small }
+    step false is small later = later
+
+pub shown : (t : Table) → AllByRecursion IsSmallEntrant t.entrants → (n : ℕ) → IfSome (entrant t n) (IsShown n)
+shown t are n = found_in n t.entrants are
+
+pub place_small : (t : Table) → length t.entrants ≤ 999 → (e : Entrant) → place t e ≤ 1000
+place_small t few e = let less = count_by-le-length (λ other. is_better (key t other) (key t e)) t.entrants in omega (arith, less, few)
+
+pub name_given_short : (name : Option (List ℕ)) → IfSome name (λ bytes. length bytes ≤ 80) → length (unwrap_or name []) ≤ 80
+name_given_short None h = omega arith
+name_given_short (Some name) h = h
+
+pub at_most_five : (format : Format) → attempts_of format ≤ 5
+at_most_five Ao5 = omega arith
+at_most_five Mo3 = omega arith
+at_most_five Bo1 = omega arith
+at_most_five Bo2 = omega arith
+at_most_five Bo3 = omega arith
