@@ -1,5 +1,5 @@
 -- Desks that stop make a run of the world.
-use Rattle.std.proofs.Common.{◌≡◌, ◌⊎◌, inl, inr, ℕ, zero, suc, Bool, true, false, if◌then◌else◌, List, [], ◌∷◌, ◌++◌, Option, Some, None, Result, Ok, Err, slice_get, take, refl, sym, ap, subst, ◌∙◌}
+use Rattle.std.proofs.Common.{◌≡◌, ◌⊎◌, inl, inr, ℕ, zero, suc, Bool, true, false, if◌then◌else◌, List, [], ◌∷◌, ◌++◌, Option, Some, None, Result, Ok, Err, IsOk, slice_get, take, refl, sym, ap, subst, ◌∙◌}
 use Rattle.acceptor.specs.declared.entry.Entry.{Entry}
 use Rattle.acceptor.specs.declared.message.Message.{Message}
 use Rattle.proposer.specs.declared.faults.Refusal.{Refusal}
@@ -9,9 +9,10 @@ use Rattle.learner.specs.declared.event.WorldEvent.{WorldEvent}
 use Rattle.learner.specs.declared.event.WorldEvent.TheVariants.{Submit as SubmitAt, Start as StartAt, Tick as TickAt, Deliver as DeliverNth, Restart as RestartAt}
 use Rattle.learner.specs.Desks.{Desk, restarted}
 use Rattle.learner.specs.Steps.{Done, is_desk, step}
-use Rattle.learner.specs.Laws.{IsPrefix, LogsAgree}
+use Rattle.learner.specs.Laws.{IsPrefix, LogsAgree, LogsAreSubmitted}
+use Rattle.learner.specs.Submitted.{IsTaken, IsSubmitted}
 use Rattle.learner.specs.Worlds.{World, new_world, put, world_after, at_desk, nth_sent, delivered, restart_at, happens, run, after, log_of}
-use Rattle.node.specs.Stops.{Happening, Answered, Stopped, place, stopped, goes_on, real_run, IsAmong, Follows, StopsMakeARun, real_log, RealLogsAgree}
+use Rattle.node.specs.Stops.{Happening, Answered, Stopped, place, goes_on, real_run, IsAmong, Follows, IsSameEvent, event_of, group, events_of, KeepsStep, StopsMakeARun, real_log, RealLogsAgree, WasSubmitted, RealEntriesAreSubmitted}
 
 abbrev world_of : (ℕ → Desk) → List Message → World
 world_of desks sent = record { desks = desks; sent = sent }
@@ -77,14 +78,14 @@ restart_follows n d desks a b h = go (is_desk n d)
 -- an event among the real desks is one of the world
 abbrev Matches : ℕ → (ℕ → Desk) → List Message → List Message → WorldEvent → Type 0
 Matches n desks a b e =
-    (event : WorldEvent) × Follows (happens n (world_of desks a) e) (happens n (world_of desks b) event)
+    (event : WorldEvent) × IsSameEvent a b e event × Follows (happens n (world_of desks a) e) (happens n (world_of desks b) event)
 
 matches : (n : ℕ) (desks : ℕ → Desk) (a b : List Message) (e : WorldEvent) → Within a b → Matches n desks a b e
-matches n desks a b (SubmitAt d e) h = (SubmitAt d e, at_follows n d (Submit e) desks a b h)
-matches n desks a b (StartAt d) h = (StartAt d, at_follows n d Start desks a b h)
-matches n desks a b (TickAt d) h = (TickAt d, at_follows n d Tick desks a b h)
-matches n desks a b (RestartAt d) h = (RestartAt d, restart_follows n d desks a b h)
-matches n desks a b (DeliverNth zero) h = (DeliverNth zero, record { desks = refl; sent = h })
+matches n desks a b (SubmitAt d e) h = (SubmitAt d e, refl, at_follows n d (Submit e) desks a b h)
+matches n desks a b (StartAt d) h = (StartAt d, refl, at_follows n d Start desks a b h)
+matches n desks a b (TickAt d) h = (TickAt d, refl, at_follows n d Tick desks a b h)
+matches n desks a b (RestartAt d) h = (RestartAt d, refl, restart_follows n d desks a b h)
+matches n desks a b (DeliverNth zero) h = (DeliverNth zero, (zero, refl, refl), record { desks = refl; sent = h })
 matches n desks a b (DeliverNth (suc k)) h = go (slice_get a k) refl
   where
     there : (m : Message) → slice_get a k ≡ Some m → Matches n desks a b (DeliverNth (suc k))
@@ -93,6 +94,7 @@ matches n desks a b (DeliverNth (suc k)) h = go (slice_get a k) refl
         let right : delivered n (world_of desks b) (slice_get b found.0) ≡ delivered n (world_of desks b) (Some m) = ap (λ (o : Option Message). delivered n (world_of desks b) o) found.1 in
         let left : delivered n (world_of desks a) (slice_get a k) ≡ delivered n (world_of desks a) (Some m) = ap (λ (o : Option Message). delivered n (world_of desks a) o) e in (
           DeliverNth (suc found.0),
+          (suc found.0, refl, found.1 ∙ sym e),
           subst (λ (w : World). Follows w (delivered n (world_of desks b) (slice_get b found.0))) (sym left)
               (subst (λ (w : World). Follows (delivered n (world_of desks a) (Some m)) w) (sym right) (at_follows n m.to (Deliver m) desks a b h)),
         )
@@ -101,6 +103,7 @@ matches n desks a b (DeliverNth (suc k)) h = go (slice_get a k) refl
     none e =
         let left : delivered n (world_of desks a) (slice_get a k) ≡ delivered n (world_of desks a) None = ap (λ (o : Option Message). delivered n (world_of desks a) o) e in (
           DeliverNth zero,
+          (zero, refl, sym e),
           subst (λ (w : World). Follows w (world_of desks b)) (sym left) (record { desks = refl; sent = h }),
         )
 
@@ -108,9 +111,10 @@ matches n desks a b (DeliverNth (suc k)) h = go (slice_get a k) refl
     go (Some m) e = there m e
     go None e = none e
 
--- a world that follows is left by more sent
-abbrev Continues : ℕ → World → World → Type 0
-Continues n real w = (events : List WorldEvent) × Follows real (run n w events)
+-- a happening among the real desks is its group of events of the world
+abbrev Continues : ℕ → World → World → Happening → Type 0
+Continues n real w h =
+    (there : WorldEvent) × IsSameEvent real.sent w.sent (event_of h) there × Follows (goes_on n real h) (run n w (group real h there))
 
 at_grows : (n d : ℕ) (event : Event) (w : World) → Within w.sent (at_desk n w d event).sent
 at_grows n d event w m k = go (is_desk n d) (step n d (w.desks d) event)
@@ -149,19 +153,21 @@ run_more : (n : ℕ) (w : World) (xs ys : List WorldEvent) → run n w (xs ++ ys
 run_more n w [] ys = refl
 run_more n w (x ∷ xs) ys = run_more n (happens n w x) xs ys
 
-one_more : (n : ℕ) (real w : World) (h : Happening) → Follows real w → Continues n (goes_on n real h) w
+one_more : (n : ℕ) (real w : World) (h : Happening) → Follows real w → Continues n real w h
 one_more n real w (Answered e) f = answered
   where
     same : world_of real.desks w.sent ≡ w
     same = ap (λ (ds : ℕ → Desk). world_of ds w.sent) f.desks
 
-    answered : Continues n (happens n real e) w
+    answered : Continues n real w (Answered e)
     answered =
         let m = matches n real.desks real.sent w.sent e f.sent in
-        (m.0 ∷ [], subst (λ (v : World). Follows (happens n real e) (happens n v m.0)) same m.1)
+        (m.0, m.1, subst (λ (v : World). Follows (happens n real e) (happens n v m.0)) same m.2)
 one_more n real w (Stopped false e) f =
+    let m = matches n real.desks real.sent w.sent e f.sent in
     let same : world_of real.desks w.sent ≡ w = ap (λ (ds : ℕ → Desk). world_of ds w.sent) f.desks in (
-      RestartAt (place real e) ∷ [],
+      m.0,
+      m.1,
       subst (λ (v : World). Follows (restart_at n real (place real e)) (restart_at n v (place real e))) same (restart_follows n (place real e) real.desks real.sent w.sent f.sent),
     )
 one_more n real w (Stopped true e) f = halted
@@ -179,16 +185,24 @@ one_more n real w (Stopped true e) f = halted
     there = happens n w done.0
 
     follows : Follows here there
-    follows = subst (λ (v : World). Follows here (happens n v done.0)) same done.1
+    follows = subst (λ (v : World). Follows here (happens n v done.0)) same done.2
 
-    halted : Continues n (stopped n real true e) w
+    halted : Continues n real w (Stopped true e)
     halted = (
-      done.0 ∷ RestartAt (place real e) ∷ [],
+      done.0,
+      done.1,
       record {
         desks = restart_desks n (place real e) here there follows.desks;
         sent = λ m k. restart_keeps n (place real e) there m (follows.sent m (happens_grows n real e m k));
       },
     )
+
+goes_further : (n : ℕ) (real w : World) (hs : List Happening) → Follows real w → (there : List WorldEvent) × KeepsStep n real w hs there
+goes_further n real w [] f = ([], f)
+goes_further n real w (h ∷ hs) f =
+    let first = one_more n real w h f in
+    let rest = goes_further n (goes_on n real h) (run n w (group real h first.0)) hs first.2 in
+    (first.0 ∷ rest.0, (f, first.1, rest.1))
 
 -- past the end of the front
 abbrev past : List WorldEvent → ℕ → ℕ
@@ -200,39 +214,101 @@ take_past [] ys m = refl
 take_past (x ∷ xs) ys m = ap (λ (zs : List WorldEvent). x ∷ zs) (take_past xs ys m)
 
 -- each moment of the one is a moment of the other
-abbrev Accompanies : ℕ → World → World → List Happening → Type 0
-Accompanies n real w hs = (events : List WorldEvent) × ((i : ℕ) → (m : ℕ) × Follows (real_run n real (take i hs)) (run n w (take m events)))
+abbrev Moment : ℕ → World → World → List Happening → List WorldEvent → ℕ → Type 0
+Moment n real w hs there i = (m : ℕ) × Follows (real_run n real (take i hs)) (run n w (take m (events_of n real hs there)))
 
-joined : (n : ℕ) (real w : World) (h : Happening) (hs : List Happening) → Follows real w → (first : Continues n (goes_on n real h) w)
-    → Accompanies n (goes_on n real h) (run n w first.0) hs → Accompanies n real w (h ∷ hs)
-joined n real w h hs f first rest = (first.0 ++ rest.0, moments)
-  where
-    moments : (i : ℕ) → (m : ℕ) × Follows (real_run n real (take i (h ∷ hs))) (run n w (take m (first.0 ++ rest.0)))
-    moments zero = (0, f)
-    moments (suc i) =
-        let later = rest.1 i in
-        let same : run n w (take (past first.0 later.0) (first.0 ++ rest.0)) ≡ run n (run n w first.0) (take later.0 rest.0) =
-        ap (λ (es : List WorldEvent). run n w es) (take_past first.0 rest.0 later.0) ∙ run_more n w first.0 (take later.0 rest.0) in
-        (past first.0 later.0, subst (λ (v : World). Follows (real_run n (goes_on n real h) (take i hs)) v) (sym same) later.1)
+keeps_moments : (n : ℕ) (real w : World) (hs : List Happening) (there : List WorldEvent) → KeepsStep n real w hs there → (i : ℕ) → Moment n real w hs there i
+keeps_moments n real w [] [] k zero = (0, k)
+keeps_moments n real w [] [] k (suc i) = (0, k)
+keeps_moments n real w [] (e ∷ there) k i = absurd k
+keeps_moments n real w (h ∷ hs) [] k i = absurd k
+keeps_moments n real w (h ∷ hs) (e ∷ there) k zero = (0, k.0)
+keeps_moments n real w (h ∷ hs) (e ∷ there) k (suc i) =
+    let first : List WorldEvent = group real h e in
+    let rest : List WorldEvent = events_of n (goes_on n real h) hs there in
+    let later = keeps_moments n (goes_on n real h) (run n w first) hs there k.2 i in
+    let same : run n w (take (past first later.0) (first ++ rest)) ≡ run n (run n w first) (take later.0 rest) =
+    ap (λ (es : List WorldEvent). run n w es) (take_past first rest later.0) ∙ run_more n w first (take later.0 rest) in
+    (past first later.0, subst (λ (v : World). Follows (real_run n (goes_on n real h) (take i hs)) v) (sym same) later.1)
 
-goes_further : (n : ℕ) (real w : World) (hs : List Happening) → Follows real w → Accompanies n real w hs
-goes_further n real w [] f = ([], none)
-  where
-    none : (i : ℕ) → (m : ℕ) × Follows (real_run n real (take i [])) (run n w (take m []))
-    none zero = (0, f)
-    none (suc i) = (0, f)
-goes_further n real w (h ∷ hs) f =
-    let first = one_more n real w h f in joined n real w h hs f first (goes_further n (goes_on n real h) (run n w first.0) hs first.1)
+-- and the last moments are the same
+follows_at_end : (n : ℕ) (real w : World) (hs : List Happening) (there : List WorldEvent) → KeepsStep n real w hs there → Follows (real_run n real hs) (run n w (events_of n real hs there))
+follows_at_end n real w [] [] k = k
+follows_at_end n real w [] (e ∷ there) k = absurd k
+follows_at_end n real w (h ∷ hs) [] k = absurd k
+follows_at_end n real w (h ∷ hs) (e ∷ there) k =
+    subst (λ (v : World). Follows (real_run n (goes_on n real h) hs) v) (sym (run_more n w (group real h e) (events_of n (goes_on n real h) hs there)))
+    (follows_at_end n (goes_on n real h) (run n w (group real h e)) hs there k.2)
 
 pub stops_make_a_run : StopsMakeARun
-stops_make_a_run n hs = goes_further n new_world new_world hs (record { desks = refl; sent = λ m h. h })
+stops_make_a_run n hs =
+    let all = goes_further n new_world new_world hs (record { desks = refl; sent = λ m h. h }) in
+    (all.0, record { steps = all.1; moments = keeps_moments n new_world new_world hs all.0 all.1 })
 
 pub real_logs_agree : LogsAgree → RealLogsAgree
 real_logs_agree agree n hs i j d k =
     let all = stops_make_a_run n hs in
-    let one = all.1 i in
-    let two = all.1 j in
-    let here : real_log n hs i d ≡ log_of n (take one.0 all.0) d = ap (λ (ds : ℕ → Desk). (ds d).log) (desks_of one.1) in
-    let there : real_log n hs j k ≡ log_of n (take two.0 all.0) k = ap (λ (ds : ℕ → Desk). (ds k).log) (desks_of two.1) in
+    let events : List WorldEvent = events_of n new_world hs all.0 in
+    let one = all.1.moments i in
+    let two = all.1.moments j in
+    let here : real_log n hs i d ≡ log_of n (take one.0 events) d = ap (λ (ds : ℕ → Desk). (ds d).log) (desks_of one.1) in
+    let there : real_log n hs j k ≡ log_of n (take two.0 events) k = ap (λ (ds : ℕ → Desk). (ds k).log) (desks_of two.1) in
     subst (λ (xs : List Entry). IsPrefix xs (real_log n hs j k) ⊎ IsPrefix (real_log n hs j k) xs) (sym here)
-    (subst (λ (ys : List Entry). IsPrefix (log_of n (take one.0 all.0) d) ys ⊎ IsPrefix ys (log_of n (take one.0 all.0) d)) (sym there) (agree n all.0 one.0 two.0 d k))
+    (subst (λ (ys : List Entry). IsPrefix (log_of n (take one.0 events) d) ys ⊎ IsPrefix ys (log_of n (take one.0 events) d)) (sym there) (agree n events one.0 two.0 d k))
+
+-- ---- what was submitted there was submitted here
+
+still_taken : (n d : ℕ) (e : Entry) (real w : World) → Follows real w → IsTaken n w d e → IsTaken n real d e
+still_taken n d e real w f taken = record {
+  ours = taken.ours;
+  taken = subst (λ (desks : ℕ → Desk). IsOk (step n d (desks d) (Submit e))) (sym f.desks) taken.taken;
+}
+
+-- the event of the same submission
+same_submission : (a b : List Message) (here : WorldEvent) (d : ℕ) (e : Entry) → IsSameEvent a b here (SubmitAt d e) → here ≡ SubmitAt d e
+same_submission a b (SubmitAt d' e') d e same = sym same
+same_submission a b (StartAt d') d e same = absurd (let bad : SubmitAt d e ≡ StartAt d' = same in cc)
+same_submission a b (TickAt d') d e same = absurd (let bad : SubmitAt d e ≡ TickAt d' = same in cc)
+same_submission a b (DeliverNth k) d e same = absurd (let bad : SubmitAt d e ≡ DeliverNth same.0 = same.1 in cc)
+same_submission a b (RestartAt d') d e same = absurd (let bad : SubmitAt d e ≡ RestartAt d' = same in cc)
+
+-- the entry is submitted by one of these happenings, which begin here
+record Submits (n : ℕ) (real : World) (hs : List Happening) (e : Entry) : Type 0 where
+  pub at : ℕ
+  pub desk : ℕ
+  pub call : (slice_get hs at ≡ Some (Answered (SubmitAt desk e))) ⊎ (slice_get hs at ≡ Some (Stopped true (SubmitAt desk e)))
+  pub taken : IsTaken n (real_run n real (take at hs)) desk e
+
+later : (n : ℕ) (real : World) (h : Happening) (hs : List Happening) (e : Entry) → Submits n (goes_on n real h) hs e → Submits n real (h ∷ hs) e
+later n real h hs e s = record { at = suc s.at; desk = s.desk; call = s.call; taken = s.taken }
+
+submitted_there : (n : ℕ) (real w : World) (hs : List Happening) (there : List WorldEvent) → KeepsStep n real w hs there → (at d : ℕ) (e : Entry)
+    → slice_get (events_of n real hs there) at ≡ Some (SubmitAt d e) → IsTaken n (run n w (take at (events_of n real hs there))) d e → Submits n real hs e
+submitted_there n real w [] there k at d e is taken = absurd cc
+submitted_there n real w (h ∷ hs) [] k at d e is taken = absurd k
+submitted_there n real w (Answered e' ∷ hs) (t ∷ there) k zero d e is taken =
+    let event : t ≡ SubmitAt d e = cc in
+    let here : e' ≡ SubmitAt d e = same_submission real.sent w.sent e' d e (subst (IsSameEvent real.sent w.sent e') event k.1) in
+    record { at = zero; desk = d; call = inl (ap (λ (x : WorldEvent). Some (Answered x)) here); taken = still_taken n d e real w k.0 taken }
+submitted_there n real w (Answered e' ∷ hs) (t ∷ there) k (suc at) d e is taken =
+    later n real (Answered e') hs e (submitted_there n (goes_on n real (Answered e')) (run n w (group real (Answered e') t)) hs there k.2 at d e is taken)
+submitted_there n real w (Stopped true e' ∷ hs) (t ∷ there) k zero d e is taken =
+    let event : t ≡ SubmitAt d e = cc in
+    let here : e' ≡ SubmitAt d e = same_submission real.sent w.sent e' d e (subst (IsSameEvent real.sent w.sent e') event k.1) in
+    record { at = zero; desk = d; call = inr (ap (λ (x : WorldEvent). Some (Stopped true x)) here); taken = still_taken n d e real w k.0 taken }
+submitted_there n real w (Stopped true e' ∷ hs) (t ∷ there) k (suc zero) d e is taken = absurd (let bad : Some (RestartAt (place real e')) ≡ Some (SubmitAt d e) = is in cc)
+submitted_there n real w (Stopped true e' ∷ hs) (t ∷ there) k (suc (suc at)) d e is taken =
+    later n real (Stopped true e') hs e (submitted_there n (goes_on n real (Stopped true e')) (run n w (group real (Stopped true e') t)) hs there k.2 at d e is taken)
+submitted_there n real w (Stopped false e' ∷ hs) (t ∷ there) k zero d e is taken = absurd (let bad : Some (RestartAt (place real e')) ≡ Some (SubmitAt d e) = is in cc)
+submitted_there n real w (Stopped false e' ∷ hs) (t ∷ there) k (suc at) d e is taken =
+    later n real (Stopped false e') hs e (submitted_there n (goes_on n real (Stopped false e')) (run n w (group real (Stopped false e') t)) hs there k.2 at d e is taken)
+
+pub real_entries_are_submitted : LogsAreSubmitted → RealEntriesAreSubmitted
+real_entries_are_submitted submitted n hs i d pos e is =
+    let all = stops_make_a_run n (take i hs) in
+    let events : List WorldEvent = events_of n new_world (take i hs) all.0 in
+    let ends = follows_at_end n new_world new_world (take i hs) all.0 all.1.steps in
+    let there : real_log n hs i d ≡ log_of n events d = ap (λ (ds : ℕ → Desk). (ds d).log) ends.desks in
+    let was = submitted n events d pos e (subst (λ (xs : List Entry). slice_get xs pos ≡ Some e) there is) in
+    let here = submitted_there n new_world new_world (take i hs) all.0 all.1.steps was.at was.desk e was.event was.taken in
+    record { at = here.at; desk = here.desk; call = here.call; taken = here.taken }

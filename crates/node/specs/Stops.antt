@@ -1,14 +1,16 @@
 -- Desks that stop, or whose save fails, in the middle of a call.
-use Rattle.std.specs.Prelude.{ℕ, ◌≡◌, ◌⊎◌, Bool, true, false, List, [], ◌∷◌, Option, Some, None, take}
+use Rattle.std.specs.Prelude.{ℕ, ◌≡◌, ◌⊎◌, Bool, true, false, List, [], ◌∷◌, ◌++◌, Option, Some, None, slice_get, take}
 use Rattle.acceptor.specs.declared.entry.Entry.{Entry}
 use Rattle.acceptor.specs.declared.message.Message.{Message}
 use Rattle.learner.specs.declared.event.WorldEvent.{WorldEvent}
 use Rattle.learner.specs.declared.event.WorldEvent.TheVariants.{Submit as SubmitAt, Start as StartAt, Tick as TickAt, Deliver as DeliverNth, Restart as RestartAt}
 use Rattle.learner.specs.Laws.{IsPrefix}
-use Rattle.learner.specs.Worlds.{World, new_world, nth_sent, restart_at, happens, after}
+use Rattle.learner.specs.Submitted.{IsTaken}
+use Rattle.learner.specs.Worlds.{World, new_world, nth_sent, restart_at, happens, run, after}
 
 -- What happens among real desks: a call that is answered; or one in which its desk stops, or a save fails, with the change in the store or without it.
--- Such a desk hands nothing out, and does nothing more until it is opened again.
+-- Such a desk hands nothing out, and does nothing more until it is opened again. A call that is answered NoMemory, or Down by a desk that is Down, does
+-- nothing, and is not among these.
 pub data Happening : Type 0 where
   Answered : WorldEvent → Happening
   Stopped : Bool → WorldEvent → Happening
@@ -47,10 +49,47 @@ pub record Follows (real world : World) : Type 0 where
   pub desks : real.desks ≡ world.desks
   pub sent : (m : Message) → IsAmong m real.sent → IsAmong m world.sent
 
--- Desks that stop and fail anywhere make a run of the world: there is one list of events, and each moment of the real desks is a moment of it, with
--- the same desks. What a stopped call did not hand out was sent there and is never delivered.
+-- The event of the world that an event among the real desks is: the same event; and a delivery is there of the same message, whose number can be another
+-- one, since what a stopped call did not hand out was sent there too.
+abbrev pub IsSameEvent : List Message → List Message → WorldEvent → WorldEvent → Type 0
+IsSameEvent real sent (SubmitAt d e) there = there ≡ SubmitAt d e
+IsSameEvent real sent (StartAt d) there = there ≡ StartAt d
+IsSameEvent real sent (TickAt d) there = there ≡ TickAt d
+IsSameEvent real sent (DeliverNth k) there = (j : ℕ) × (there ≡ DeliverNth j) × (nth_sent sent j ≡ nth_sent real k)
+IsSameEvent real sent (RestartAt d) there = there ≡ RestartAt d
+
+abbrev pub event_of : Happening → WorldEvent
+event_of (Answered e) = e
+event_of (Stopped stored e) = e
+
+-- an answered call is its event; a stopped one is its event or nothing, as its change is stored or not, and then a restart of its desk
+abbrev pub group : World → Happening → WorldEvent → List WorldEvent
+group real (Answered e) there = there ∷ []
+group real (Stopped true e) there = there ∷ RestartAt (place real e) ∷ []
+group real (Stopped false e) there = RestartAt (place real e) ∷ []
+
+abbrev pub events_of : ℕ → World → List Happening → List WorldEvent → List WorldEvent
+events_of n real [] there = []
+events_of n real (h ∷ hs) [] = []
+events_of n real (h ∷ hs) (e ∷ there) = group real h e ++ events_of n (goes_on n real h) hs there
+
+-- Before and after each happening the desks are the same here and there, and what was handed out here was sent there; and each happening's event is the same.
+-- So there no message is delivered but one that was handed out here.
+abbrev pub KeepsStep : ℕ → World → World → List Happening → List WorldEvent → Type 0
+KeepsStep n real world [] [] = Follows real world
+KeepsStep n real world [] (e ∷ there) = ⊥
+KeepsStep n real world (h ∷ hs) [] = ⊥
+KeepsStep n real world (h ∷ hs) (e ∷ there) =
+    Follows real world × IsSameEvent real.sent world.sent (event_of h) e × KeepsStep n (goes_on n real h) (run n world (group real h e)) hs there
+
+-- the happenings are these events of the world, step by step; so each moment of the real desks is a moment of the world
+pub record IsRun (n : ℕ) (hs : List Happening) (there : List WorldEvent) : Type 0 where
+  pub steps : KeepsStep n new_world new_world hs there
+  pub moments : (i : ℕ) → (m : ℕ) × Follows (real_run n new_world (take i hs)) (after n (take m (events_of n new_world hs there)))
+
+-- desks that stop and fail anywhere make a run of the world
 abbrev pub StopsMakeARun : Type 0
-StopsMakeARun = (n : ℕ) (hs : List Happening) → (events : List WorldEvent) × ((i : ℕ) → (m : ℕ) × Follows (real_run n new_world (take i hs)) (after n (take m events)))
+StopsMakeARun = (n : ℕ) (hs : List Happening) → (there : List WorldEvent) × IsRun n hs there
 
 -- the log of desk d after the first i of these
 abbrev pub real_log : ℕ → List Happening → ℕ → ℕ → List Entry
@@ -59,3 +98,14 @@ real_log n hs i d = ((real_run n new_world (take i hs)).desks d).log
 -- of the logs of any two real desks at any two moments one is a prefix of the other
 abbrev pub RealLogsAgree : Type 0
 RealLogsAgree = (n : ℕ) (hs : List Happening) (i j d k : ℕ) → IsPrefix (real_log n hs i d) (real_log n hs j k) ⊎ IsPrefix (real_log n hs j k) (real_log n hs i d)
+
+-- the entry was submitted to a desk that took it, by a call that was answered, or in which the desk stopped later
+pub record WasSubmitted (n : ℕ) (hs : List Happening) (e : Entry) : Type 0 where
+  pub at : ℕ
+  pub desk : ℕ
+  pub call : (slice_get hs at ≡ Some (Answered (SubmitAt desk e))) ⊎ (slice_get hs at ≡ Some (Stopped true (SubmitAt desk e)))
+  pub taken : IsTaken n (real_run n new_world (take at hs)) desk e
+
+-- every entry of a real desk's log was submitted before
+abbrev pub RealEntriesAreSubmitted : Type 0
+RealEntriesAreSubmitted = (n : ℕ) (hs : List Happening) (i d pos : ℕ) (e : Entry) → slice_get (real_log n hs i d) pos ≡ Some e → WasSubmitted n (take i hs) e

@@ -63,13 +63,6 @@ impl Hall {
         })
     }
 
-    /// The number of desks.
-    pub fn count(&self) -> u8
-        ensures { result ≡ self.now.desks }
-    {
-        self.count
-    }
-
     /// The log of a desk.
     pub fn log(&self, desk: u8) -> &Log
         requires { IsDesk self.now.desks desk }

@@ -1,6 +1,6 @@
 //! One desk of a hall, over the store that keeps its state.
 
-ghost use Rattle.std.specs.Prelude.{◌≡◌, ◌≢◌, ◌⊎◌, ◌↔◌, ◌≤◌, ◌<◌, List, Err, Result, Some, true, false, IsOk, IfOk, OnOk, OnErr, IfErr, length};
+ghost use Rattle.std.specs.Prelude.{◌≡◌, ◌≢◌, ◌⊎◌, ◌↔◌, ◌≤◌, ◌<◌, List, Err, Result, Some, true, false, IsOk, IfOk, OnOk, OnErr, IfErr, IsTrue, length};
 ghost use Rattle.acceptor.specs.declared.entry.Entry.{Entry as EntryValue};
 ghost use Rattle.acceptor.specs.declared.stored.Stored.{Stored as State};
 ghost use Rattle.learner.specs.Steps.{step};
@@ -64,7 +64,9 @@ impl<K: Keeper + Drop> Node<K> {
     /// Opens the desk that the keeper keeps: it has the state and the log that the keeper loads, is idle,
     /// and has an empty queue.
     ///
-    /// The refusals are those of the keeper's `load`; NoMemory is the desk's own too.
+    /// Damaged: what the store holds is not a state in its ranges, or the count of failures is at its
+    /// end. Device: the device refused, and a failure was counted. NoMemory: the keeper's load or the
+    /// desk was refused memory. A refusal drops the keeper: `open_or_give_back` says what it leaves.
     pub fn open(alloc: Global, keeper: K) -> Result<Node<K>, LoadFault>
         ensures up { IfOk result (λ node. node.is_down ≡ false) }
         ensures first { IfOk result (λ node. node.desk ≡ opened node.desk.stored node.desk.log) }
@@ -76,6 +78,36 @@ impl<K: Keeper + Drop> Node<K> {
         ensures home { IfOk result (λ node. K.home_of node.keeper ≡ K.home_of keeper) }
         ensures refused { IfErr result (λ fault. (fault ≡ LoadFault.NoMemory) ⊎ ((k : K) × K.load_gives keeper (Err fault) k)) }
     {
+        match Node::open_or_give_back(alloc, keeper) {
+            Ok(node) => Ok(node),
+            Err((fault, _)) => Err(fault),
+        }
+    }
+
+    /// As `open`, but a refusal gives the keeper back, with why.
+    ///
+    /// Damaged: what the store holds is not a state in its ranges, or the count of failures is at its
+    /// end. Device: the device refused, and a failure was counted. NoMemory: the keeper's load or the
+    /// desk was refused memory, and the keeper keeps what it kept. Whatever the refusal, its store holds
+    /// nothing that it could not hold before.
+    pub fn open_or_give_back(alloc: Global, keeper: K) -> Result<Node<K>, (LoadFault, K)>
+        ensures up { IfOk result (λ node. node.is_down ≡ false) }
+        ensures first { IfOk result (λ node. node.desk ≡ opened node.desk.stored node.desk.log) }
+        ensures loaded { IfOk result (λ node. K.is_honest node.keeper → K.may_hold keeper node.desk.stored node.desk.log) }
+        ensures same { IfOk result (λ node. K.is_honest node.keeper → (s : State) (log : List EntryValue) → K.keeps keeper s log
+            → (node.desk.stored ≡ s) × (node.desk.log ≡ log)) }
+        ensures stored { IfOk result (λ node. K.is_honest node.keeper → HoldsOnly (K.may_hold node.keeper) node.desk.stored node.desk.log) }
+        ensures honest { IfOk result (λ node. K.is_honest node.keeper → K.is_honest keeper) }
+        ensures home { IfOk result (λ node. K.home_of node.keeper ≡ K.home_of keeper) }
+        ensures back_honest { IfErr result (λ e. K.is_honest e.1 → K.is_honest keeper) }
+        ensures back_home { IfErr result (λ e. K.home_of e.1 ≡ K.home_of keeper) }
+        ensures back_no_other { IfErr result (λ e. K.is_honest e.1 → (s : State) (log : List EntryValue) → K.may_hold e.1 s log → K.may_hold keeper s log) }
+        ensures back_memory { IfErr result (λ e. e.0 ≡ LoadFault.NoMemory → K.is_honest e.1 → (s : State) (log : List EntryValue) → K.keeps keeper s log → K.keeps e.1 s log) }
+        ensures back_counted { IfErr result (λ e. e.0 ≡ LoadFault.Device → K.failures_of keeper < K.failures_of e.1) }
+        ensures back_uncounted { IfErr result (λ e. e.0 ≢ LoadFault.Device → K.failures_of e.1 ≡ K.failures_of keeper) }
+        ensures back_down { IfErr result (λ e. e.0 ≢ LoadFault.Device → IsTrue (K.is_down e.1) → IsTrue (K.is_down keeper)) }
+        ensures refused { IfErr result (λ e. (e.0 ≡ LoadFault.NoMemory) ⊎ K.load_gives keeper (Err e.0) e.1) }
+    {
         let mut keeper = keeper;
         let home = keeper.home();
         match keeper.load(alloc) {
@@ -86,9 +118,9 @@ impl<K: Keeper + Drop> Node<K> {
                     desk,
                     is_down: false,
                 }),
-                Err(_) => Err(LoadFault::NoMemory),
+                Err(_) => Err((LoadFault::NoMemory, keeper)),
             },
-            Err(fault) => Err(fault),
+            Err(fault) => Err((fault, keeper)),
         }
     }
 

@@ -5,7 +5,7 @@
 //! stored before any message of the event is handed out.
 #![tactic(auto)]
 
-pub mod answers;
+mod answers;
 pub mod faults;
 mod hall;
 mod hall_desk;

@@ -91,13 +91,6 @@ impl Running {
         self.proposer.desks()
     }
 
-    /// What the desk stores beside its log.
-    pub fn stored(&self) -> &Stored
-        ensures { result.now ≡ self.now.desk.stored }
-    {
-        &self.stored
-    }
-
     /// The entries that the desk knows to be decided.
     pub fn log(&self) -> &Log
         ensures entries { result.now.entries ≡ self.now.desk.log }

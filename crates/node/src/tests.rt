@@ -46,16 +46,37 @@ fn promise(from: u8, to: u8, round: u32, vote: Option<Report>) -> Message {
     message(from, to, Body::Promise { ballot, pos, vote })
 }
 
-fn accept(alloc: Global, from: u8, to: u8) -> Result<Message, Fail> {
-    let ballot = ballot(1, from);
+fn accept_in(alloc: Global, round: u32, from: u8, to: u8) -> Result<Message, Fail> {
+    let ballot = ballot(round, from);
     let entry = ann(alloc)?;
     let pos = 0;
     Ok(message(from, to, Body::Accept { ballot, pos, entry }))
 }
 
-fn accepted(from: u8, to: u8) -> Message {
-    let ballot = ballot(1, to);
+fn accept(alloc: Global, from: u8, to: u8) -> Result<Message, Fail> {
+    accept_in(alloc, 1, from, to)
+}
+
+fn accepted_in(round: u32, from: u8, to: u8) -> Message {
+    let ballot = ballot(round, to);
     message(from, to, Body::Accepted { ballot, pos: 0 })
+}
+
+fn accepted(from: u8, to: u8) -> Message {
+    accepted_in(1, from, to)
+}
+
+fn nack(from: u8, to: u8, ballot: Ballot, promised: Ballot) -> Message {
+    let pos = 0;
+    message(
+        from,
+        to,
+        Body::Nack {
+            ballot,
+            pos,
+            promised,
+        },
+    )
 }
 
 fn decided(alloc: Global, from: u8, to: u8) -> Result<Message, Fail> {
@@ -409,4 +430,127 @@ fn refuses_and_ignores(rt: HostRuntime) -> Result<(), Fail> {
     let sheet = node.sheet_at(0, event, 1, Style::Table);
     assert!(rt; matches!(sheet, Err(SheetFault::NoSuchRound)));
     Ok(())
+}
+
+/// Desk 1 of 3 of a hall in memory.
+fn first_of_three(alloc: Global) -> Result<Node<MemoryKeeper>, Fail> {
+    open(alloc, MemoryKeeper::new(alloc, 7, 1, 3)?)
+}
+
+/// What desk 1 of 3 asks all desks by its ballot of this round.
+fn asks(round: u32) -> [Message; 3] {
+    [
+        prepare(1, 1, round, 0),
+        prepare(1, 2, round, 0),
+        prepare(1, 3, round, 0),
+    ]
+}
+
+/// A Nack of the desk's ballot makes it idle. Its next ballot is above the one that the Nack shows.
+fn check_nack(rt: &impl Abort, node: &mut Node<MemoryKeeper>) -> Result<(), Fail> {
+    says(rt, node, Event::Start, &asks(1))?;
+    let shown = nack(2, 1, ballot(1, 1), ballot(4, 2));
+    says(rt, node, Event::Deliver(shown), &[])?;
+    says(rt, node, Event::Start, &asks(5))
+}
+
+#[test]
+fn desk_gives_its_ballot_up_at_a_nack(rt: HostRuntime) -> Result<(), Fail> {
+    check_nack(&rt, &mut first_of_three(rt.alloc())?)
+}
+
+/// An idle desk with an entry in the queue makes a ballot, and one that gathers promises a new one.
+fn check_ticks_before_promises(
+    rt: &impl Abort,
+    alloc: Global,
+    node: &mut Node<MemoryKeeper>,
+) -> Result<(), Fail> {
+    says(rt, node, Event::Submit(ann(alloc)?), &[])?;
+    says(rt, node, Event::Tick, &asks(1))?;
+    says(rt, node, Event::Tick, &asks(2))
+}
+
+/// Two of three desks promise by ballot (2, 1), and the desk asks for votes.
+fn check_promises(
+    rt: &impl Abort,
+    alloc: Global,
+    node: &mut Node<MemoryKeeper>,
+) -> Result<(), Fail> {
+    says(rt, node, Event::Deliver(promise(1, 1, 2, None)), &[])?;
+    let wanted = [
+        accept_in(alloc, 2, 1, 1)?,
+        accept_in(alloc, 2, 1, 2)?,
+        accept_in(alloc, 2, 1, 3)?,
+    ];
+    says(rt, node, Event::Deliver(promise(3, 1, 2, None)), &wanted)
+}
+
+/// A desk that proposes asks again each desk whose vote it has not heard.
+fn check_tick_after_a_vote(
+    rt: &impl Abort,
+    alloc: Global,
+    node: &mut Node<MemoryKeeper>,
+) -> Result<(), Fail> {
+    says(rt, node, Event::Deliver(accepted_in(2, 2, 1)), &[])?;
+    let wanted = [accept_in(alloc, 2, 1, 1)?, accept_in(alloc, 2, 1, 3)?];
+    says(rt, node, Event::Tick, &wanted)
+}
+
+#[test]
+fn tick_goes_by_the_role(rt: HostRuntime) -> Result<(), Fail> {
+    let alloc = rt.alloc();
+    let mut node = first_of_three(alloc)?;
+    check_ticks_before_promises(&rt, alloc, &mut node)?;
+    check_promises(&rt, alloc, &mut node)?;
+    check_tick_after_a_vote(&rt, alloc, &mut node)
+}
+
+/// A Prepare and an Accept of a ballot below the promised one are answered by a Nack that shows it.
+fn check_refusals(
+    rt: &impl Abort,
+    alloc: Global,
+    node: &mut Node<MemoryKeeper>,
+) -> Result<(), Fail> {
+    let wanted = [nack(1, 3, ballot(2, 3), ballot(3, 2))];
+    says(rt, node, Event::Deliver(prepare(3, 1, 2, 0)), &wanted)?;
+    says(
+        rt,
+        node,
+        Event::Deliver(accept_in(alloc, 2, 3, 1)?),
+        &wanted,
+    )
+}
+
+#[test]
+fn ballot_below_the_promised_one_is_refused(rt: HostRuntime) -> Result<(), Fail> {
+    let mut node = first_of_three(rt.alloc())?;
+    says(
+        &rt,
+        &mut node,
+        Event::Deliver(prepare(2, 1, 3, 0)),
+        &[promise(1, 2, 3, None)],
+    )?;
+    check_refusals(&rt, rt.alloc(), &mut node)
+}
+
+/// The log's first entry opens a round.
+fn open_round(alloc: Global, node: &mut Node<MemoryKeeper>) -> Result<(), Fail> {
+    let entry = Entry::new(alloc, 9, OPEN)?;
+    node.handle(Event::Deliver(message(2, 1, Body::Decided { pos: 0, entry })))?;
+    Ok(())
+}
+
+/// A round of averages of five that nobody has entered has the header alone.
+fn check_table(rt: &impl Abort, node: &Node<MemoryKeeper>) -> Result<(), Fail> {
+    let table = node.sheet_at(1, formats::Event::Cube3, 1, Style::Table)?;
+    let header = b"place,number,name,average,best,1,2,3,4,5,advances\n";
+    assert_eq!(rt; table.as_slice(), header.as_slice());
+    Ok(())
+}
+
+#[test]
+fn opened_round_has_a_table(rt: HostRuntime) -> Result<(), Fail> {
+    let mut node = first_of_three(rt.alloc())?;
+    open_round(rt.alloc(), &mut node)?;
+    check_table(&rt, &node)
 }

@@ -4,7 +4,7 @@ use crate::Node;
 use crate::tests::{CATCH_UP, Hall, ann, deliver, hear, nth, spelled, take};
 use acceptor::message::Message;
 use learner::event::Event;
-use sqlite::{Alter, Connection, File, FileStore};
+use sqlite::{Alter, Connection, Error, File, FileStore};
 use std::alloc::Global;
 use std::fs;
 use std::process::Abort;
@@ -33,7 +33,8 @@ fn open<S: Alter + Drop>(
 /// The desk's log holds the entry alone.
 fn has_entry<K: Keeper + Drop>(rt: &impl Abort, alloc: Global, node: &Node<K>) -> Result<(), Fail> {
     let log = node.log();
-    assert_eq!(rt; (log.len(), log.entry(0)), (1, Some(&ann(alloc)?)));
+    assert_eq!(rt; log.len(), 1);
+    assert!(rt; log.entry(0) == Some(&ann(alloc)?));
     Ok(())
 }
 
@@ -53,23 +54,31 @@ fn catch_up<K: Keeper + Drop>(alloc: Global, hall: &mut Hall<K>) -> Result<(), F
     deliver_all(hall, &[14, 16])
 }
 
-fn hall<S: Alter + Drop>(
+/// Another desk, over a database.
+fn join<S: Alter + Drop>(
     alloc: Global,
-    first: Connection<S>,
-    second: Connection<S>,
-    third: Connection<S>,
-) -> Result<Hall<SqlKeeper<S>>, Fail> {
-    let mut nodes = Vec::new(alloc);
-    nodes.push(open(alloc, first, 1)?)?;
-    nodes.push(open(alloc, second, 2)?)?;
-    nodes.push(open(alloc, third, 3)?)?;
-    let sent = Vec::new(alloc);
-    Ok(Hall { nodes, sent })
+    hall: &mut Hall<SqlKeeper<S>>,
+    conn: Connection<S>,
+    desk: u8,
+) -> Result<(), Fail> {
+    hall.nodes.push(open(alloc, conn, desk)?)?;
+    Ok(())
+}
+
+fn nobody<K: Keeper + Drop>(alloc: Global) -> Hall<K> {
+    Hall {
+        nodes: Vec::new(alloc),
+        sent: Vec::new(alloc),
+    }
+}
+
+fn has_sent(alloc: Global, sent: &[Message]) -> Result<bool, Fail> {
+    Ok(spelled(alloc, sent)?.as_slice() == CATCH_UP)
 }
 
 fn agree<K: Keeper + Drop>(rt: &impl Abort, alloc: Global, hall: &mut Hall<K>) -> Result<(), Fail> {
     catch_up(alloc, hall)?;
-    assert_eq!(rt; spelled(alloc, &hall.sent)?.as_slice(), CATCH_UP);
+    assert!(rt; has_sent(alloc, &hall.sent)?);
     for node in &hall.nodes {
         has_entry(rt, alloc, node)?;
     }
@@ -79,31 +88,32 @@ fn agree<K: Keeper + Drop>(rt: &impl Abort, alloc: Global, hall: &mut Hall<K>) -
 #[test]
 fn three_desks_over_databases_agree(rt: HostRuntime) -> Result<(), Fail> {
     let alloc = rt.alloc();
-    let first = Connection::open_in_memory(alloc)?;
-    let second = Connection::open_in_memory(alloc)?;
-    let third = Connection::open_in_memory(alloc)?;
-    agree(&rt, alloc, &mut hall(alloc, first, second, third)?)
+    let mut hall = nobody(alloc);
+    join(alloc, &mut hall, Connection::open_in_memory(alloc)?, 1)?;
+    join(alloc, &mut hall, Connection::open_in_memory(alloc)?, 2)?;
+    join(alloc, &mut hall, Connection::open_in_memory(alloc)?, 3)?;
+    agree(&rt, alloc, &mut hall)
 }
 
 /// The desk's file.
-fn file(rt: &HostRuntime, desk: u8) -> Result<Connection<FileStore<File>>, Fail> {
+fn file(rt: &HostRuntime, desk: u8) -> Result<Connection<FileStore<File>>, Error> {
     let path = match desk {
         1 => "desk_node_files/1",
         2 => "desk_node_files/2",
         _ => "desk_node_files/3",
     };
-    Ok(Connection::open(rt, path)?)
+    Connection::open(rt, path)
 }
 
 /// Opens the desk, which takes the event, and closes it.
 fn visit<S: Alter + Drop>(
     alloc: Global,
-    conn: Connection<S>,
+    file: Result<Connection<S>, Error>,
     desk: u8,
     event: Event,
     sent: &mut Vec<Message>,
 ) -> Result<(), Fail> {
-    let mut node = open(alloc, conn, desk)?;
+    let mut node = open(alloc, file?, desk)?;
     hear(&mut node, event, sent)
 }
 
@@ -113,7 +123,7 @@ fn bring(rt: &HostRuntime, sent: &mut Vec<Message>, number: usize) -> Result<(),
     let desk = message.to;
     visit(
         rt.alloc(),
-        file(rt, desk)?,
+        file(rt, desk),
         desk,
         Event::Deliver(message),
         sent,
@@ -151,18 +161,18 @@ fn decide<K: Keeper + Drop>(
 
 fn decide_in_files<S: Alter + Drop>(
     rt: &HostRuntime,
-    first: Connection<S>,
+    first: Result<Connection<S>, Error>,
     sent: &mut Vec<Message>,
 ) -> Result<(), Fail> {
-    let mut first = open(rt.alloc(), first, 1)?;
+    let mut first = open(rt.alloc(), first?, 1)?;
     decide(rt, &mut first, sent)
 }
 
 /// The same events over three files, with each desk opened for each of its events and closed after it.
 fn catch_up_in_files(rt: &HostRuntime, sent: &mut Vec<Message>) -> Result<(), Fail> {
-    decide_in_files(rt, file(rt, 1)?, sent)?;
+    decide_in_files(rt, file(rt, 1), sent)?;
     bring(rt, sent, 11)?;
-    visit(rt.alloc(), file(rt, 3)?, 3, Event::Tick, sent)?;
+    visit(rt.alloc(), file(rt, 3), 3, Event::Tick, sent)?;
     bring(rt, sent, 14)?;
     bring(rt, sent, 16)
 }
@@ -171,10 +181,10 @@ fn catch_up_in_files(rt: &HostRuntime, sent: &mut Vec<Message>) -> Result<(), Fa
 fn finds_entry<S: Alter + Drop>(
     rt: &impl Abort,
     alloc: Global,
-    conn: Connection<S>,
+    file: Result<Connection<S>, Error>,
     desk: u8,
 ) -> Result<(), Fail> {
-    has_entry(rt, alloc, &open(alloc, conn, desk)?)
+    has_entry(rt, alloc, &open(alloc, file?, desk)?)
 }
 
 #[test]
@@ -184,9 +194,9 @@ fn three_desks_over_files_agree(rt: HostRuntime) -> Result<(), Fail> {
     fs::create_dir(&rt, "desk_node_files")?;
     let mut sent = Vec::new(alloc);
     catch_up_in_files(&rt, &mut sent)?;
-    assert_eq!(rt; spelled(alloc, &sent)?.as_slice(), CATCH_UP);
+    assert!(rt; has_sent(alloc, &sent)?);
     for desk in 1..4 {
-        finds_entry(&rt, alloc, file(&rt, desk)?, desk)?;
+        finds_entry(&rt, alloc, file(&rt, desk), desk)?;
     }
     fs::remove_dir_all(&rt, "desk_node_files")?;
     Ok(())

@@ -198,3 +198,51 @@ fn nothing_is_done(rt: HostRuntime) -> Result<(), Fail> {
     );
     Ok(())
 }
+
+fn has_sent(rt: &impl Abort, alloc: Global, sent: &[Message], wanted: &[u8]) -> Result<(), Fail> {
+    assert_eq!(rt; spelled(alloc, sent)?.as_slice(), wanted);
+    Ok(())
+}
+
+/// Desk 1 of 5 makes a ballot. Its own Promise comes once, and that of desk 2 three times: these are two
+/// desks, and no majority.
+fn check_minority(rt: &impl Abort, alloc: Global, world: &mut World) -> Result<(), Fail> {
+    let mut events = Vec::new(alloc);
+    propose(&mut events, 1, a(alloc)?)?;
+    deliver(&mut events, &[2, 6, 6, 6, 1, 7])?;
+    world.run(&events)?;
+    has_sent(rt, alloc, world.sent(), b"11P12P13P14P15P21p11p")
+}
+
+/// Desk 3 promises too, and all desks are asked for their votes.
+fn check_majority(rt: &impl Abort, alloc: Global, world: &mut World) -> Result<(), Fail> {
+    world.run(&[WorldEvent::Deliver(3), WorldEvent::Deliver(8)])?;
+    has_sent(
+        rt,
+        alloc,
+        world.sent(),
+        b"11P12P13P14P15P21p11p31p11A12A13A14A15A",
+    )?;
+    let ballot = Ballot { round: 1, desk: 1 };
+    let pos = 0;
+    let entry = a(alloc)?;
+    is_nth(
+        rt,
+        world.sent(),
+        13,
+        1,
+        5,
+        Body::Accept { ballot, pos, entry },
+    );
+    Ok(())
+}
+
+#[test]
+fn three_of_five_desks_are_a_majority(rt: HostRuntime) -> Result<(), Fail> {
+    let alloc = rt.alloc();
+    let mut world = World::new(alloc, 5)?;
+    check_minority(&rt, alloc, &mut world)?;
+    check_majority(&rt, alloc, &mut world)?;
+    assert_eq!(rt; (world.done(), world.refused()), (10, None));
+    Ok(())
+}
