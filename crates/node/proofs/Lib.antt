@@ -6,3 +6,4 @@ pub mod Stopping
 pub mod Agreeing
 pub mod Places
 pub mod Happening
+pub mod Calls

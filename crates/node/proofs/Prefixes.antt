@@ -1,5 +1,5 @@
 -- The first entries of a log, one after the other.
-use Rattle.std.proofs.Common.{◌≡◌, ℕ, zero, suc, ◌+◌, List, [], ◌∷◌, ◌++◌, Option, Some, None, take, slice_get, refl, ap, sym, ◌∙◌, arith}
+use Rattle.std.proofs.Common.{◌≡◌, ℕ, zero, suc, ◌+◌, List, [], ◌∷◌, ◌++◌, Some, None, take, slice_get, refl, ap, ◌∙◌, arith}
 use Rattle.acceptor.specs.declared.entry.Entry.{Entry}
 use Rattle.node.specs.Answers.{texts}
 

@@ -10,9 +10,9 @@ use Rattle.learner.specs.declared.event.WorldEvent.TheVariants.{Submit as Submit
 use Rattle.learner.specs.Desks.{Desk, restarted}
 use Rattle.learner.specs.Steps.{Done, is_desk, step}
 use Rattle.learner.specs.Laws.{IsPrefix, LogsAgree, LogsAreSubmitted}
-use Rattle.learner.specs.Submitted.{IsTaken, IsSubmitted}
-use Rattle.learner.specs.Worlds.{World, new_world, put, world_after, at_desk, nth_sent, delivered, restart_at, happens, run, after, log_of}
-use Rattle.node.specs.Stops.{Happening, Answered, Stopped, place, goes_on, real_run, IsAmong, Follows, IsSameEvent, event_of, group, events_of, KeepsStep, StopsMakeARun, real_log, RealLogsAgree, WasSubmitted, RealEntriesAreSubmitted}
+use Rattle.learner.specs.Submitted.{IsTaken}
+use Rattle.learner.specs.Worlds.{World, new_world, put, world_after, at_desk, nth_sent, delivered, restart_at, happens, run, log_of}
+use Rattle.node.specs.Stops.{Happening, Answered, Stopped, place, goes_on, real_run, IsAmong, Follows, IsSameEvent, event_of, group, events_of, KeepsStep, StopsMakeARun, real_log, RealLogsAgree, RealEntriesAreSubmitted}
 
 abbrev world_of : (ℕ → Desk) → List Message → World
 world_of desks sent = record { desks = desks; sent = sent }

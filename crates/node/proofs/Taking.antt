@@ -90,11 +90,11 @@ takes_as a b p s y answer same planned h =
     (subst (λ (x : Desk). Takes s b.desks b.number x y answer) desk
     (h s (subst (λ (x : Desk). IsPlanned x p s) (sym desk) planned))))
 
-pub left_as : (a b : RunningDesk) (p : Result Plan StepFault) (s : Result Done Refusal) (may_hold : Stored → List Entry → Type 0) → b ≡ record a { room = b.room }
-    → IsPlanned a.desk p s → ((t : Result Done Refusal) → IsPlanned b.desk p t → HoldsBeforeOrAfter may_hold b.desk t) → HoldsBeforeOrAfter may_hold a.desk s
-left_as a b p s may_hold same planned h =
+pub left_as : (a b : RunningDesk) (p : Result Plan StepFault) (s : Result Done Refusal) (may_hold : Stored → List Entry → Type 0) (may_break : Type 0) → b ≡ record a { room = b.room }
+    → IsPlanned a.desk p s → ((t : Result Done Refusal) → IsPlanned b.desk p t → HoldsBeforeOrAfter may_hold may_break b.desk t) → HoldsBeforeOrAfter may_hold may_break a.desk s
+left_as a b p s may_hold may_break same planned h =
     let desk : b.desk ≡ a.desk = ap (λ (r : RunningDesk). r.desk) same in
-    subst (λ (x : Desk). HoldsBeforeOrAfter may_hold x s) desk (h s (subst (λ (x : Desk). IsPlanned x p s) (sym desk) planned))
+    subst (λ (x : Desk). HoldsBeforeOrAfter may_hold may_break x s) desk (h s (subst (λ (x : Desk). IsPlanned x p s) (sym desk) planned))
 
 -- a message is never refused
 pub message_is_taken : (n d : ℕ) (x : Desk) (m : Message) (why : Refusal) → step n d x (Deliver m) ≡ Err why → ⊥

@@ -37,8 +37,8 @@ pub record IsPlanned (x : Desk) (planned : Result Plan StepFault) (step : Result
   pub refused : RefusesAs planned step
 
 -- a store that is opened again holds the state before the step or the one after it
-abbrev pub HoldsBeforeOrAfter : (Stored → List Entry → Type 0) → Desk → Result Done Refusal → Type 0
-HoldsBeforeOrAfter may_hold x step = IsOkAnd step (λ r. HoldsEither may_hold x.stored x.log r.desk.stored r.desk.log)
+abbrev pub HoldsBeforeOrAfter : (Stored → List Entry → Type 0) → Type 0 → Desk → Result Done Refusal → Type 0
+HoldsBeforeOrAfter may_hold may_break x step = IsOkAnd step (λ r. HoldsEither may_hold may_break x.stored x.log r.desk.stored r.desk.log)
 
 -- what desk d of n plans at a message
 abbrev pub plan_at : ℕ → ℕ → Desk → Message → Plan

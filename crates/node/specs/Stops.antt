@@ -1,12 +1,17 @@
 -- Desks that stop, or whose save fails, in the middle of a call.
-use Rattle.std.specs.Prelude.{ℕ, ◌≡◌, ◌⊎◌, Bool, true, false, List, [], ◌∷◌, ◌++◌, Option, Some, None, slice_get, take}
+use Rattle.std.specs.Prelude.{ℕ, ◌≡◌, ◌⊎◌, Bool, true, false, List, [], ◌∷◌, ◌++◌, Option, Some, None, Ok, IfOk, slice_get, take}
 use Rattle.acceptor.specs.declared.entry.Entry.{Entry}
 use Rattle.acceptor.specs.declared.message.Message.{Message}
+use Rattle.learner.specs.declared.event.Event.{Event}
 use Rattle.learner.specs.declared.event.WorldEvent.{WorldEvent}
 use Rattle.learner.specs.declared.event.WorldEvent.TheVariants.{Submit as SubmitAt, Start as StartAt, Tick as TickAt, Deliver as DeliverNth, Restart as RestartAt}
 use Rattle.learner.specs.Laws.{IsPrefix}
 use Rattle.learner.specs.Submitted.{IsTaken}
-use Rattle.learner.specs.Worlds.{World, new_world, nth_sent, restart_at, happens, run, after}
+use Rattle.learner.specs.Desks.{Desk}
+use Rattle.learner.specs.Steps.{IsDesk, step}
+use Rattle.learner.specs.Worlds.{World, new_world, put, at_desk, nth_sent, restart_at, happens, run, after}
+use Rattle.node.specs.Nodes.{Takes}
+use Rattle.node.specs.RunningDesks.{opened}
 
 -- What happens among real desks: a call that is answered; or one in which its desk stops, or a save fails, with the change in the store or without it.
 -- Such a desk hands nothing out, and does nothing more until it is opened again. A call that is answered NoMemory, or Down by a desk that is Down, does
@@ -109,3 +114,20 @@ pub record WasSubmitted (n : ℕ) (hs : List Happening) (e : Entry) : Type 0 whe
 -- every entry of a real desk's log was submitted before
 abbrev pub RealEntriesAreSubmitted : Type 0
 RealEntriesAreSubmitted = (n : ℕ) (hs : List Happening) (i d pos : ℕ) (e : Entry) → slice_get (real_log n hs i d) pos ≡ Some e → WasSubmitted n (take i hs) e
+
+-- ---- how what `Node::handle` and `Node::open` say of one desk is what the happenings say of the world
+
+-- an answered call puts the desk that it leaves in place of its desk, and the messages that it hands out behind those sent before: its event
+abbrev pub AnswerIsEvent : Type 0
+AnswerIsEvent =
+    (n d : ℕ) (w : World) (event : Event) (y : Desk) (messages : List Message)
+    → IsDesk n d → Takes (step n d (w.desks d) event) n d (w.desks d) y (Ok messages)
+    → at_desk n w d event ≡ record { desks = put w.desks d y; sent = w.sent ++ messages }
+
+-- a desk that is opened again with the state before a call is its desk after a restart; with the state after the step, its desk after the event and a restart
+pub record OpeningIsRestart (n d : ℕ) (w : World) (event : Event) : Type 0 where
+  pub before : opened (w.desks d).stored (w.desks d).log ≡ (restart_at n w d).desks d
+  pub later : IfOk (step n d (w.desks d) event) (λ r. opened r.desk.stored r.desk.log ≡ (restart_at n (at_desk n w d event) d).desks d)
+
+abbrev pub OpeningsAreRestarts : Type 0
+OpeningsAreRestarts = (n d : ℕ) (w : World) (event : Event) → IsDesk n d → OpeningIsRestart n d w event

@@ -73,7 +73,7 @@ impl<K: Keeper + Drop> Node<K> {
         ensures loaded { IfOk result (λ node. K.is_honest node.keeper → K.may_hold keeper node.desk.stored node.desk.log) }
         ensures same { IfOk result (λ node. K.is_honest node.keeper → (s : State) (log : List EntryValue) → K.keeps keeper s log
             → (node.desk.stored ≡ s) × (node.desk.log ≡ log)) }
-        ensures stored { IfOk result (λ node. K.is_honest node.keeper → HoldsOnly (K.may_hold node.keeper) node.desk.stored node.desk.log) }
+        ensures stored { IfOk result (λ node. K.is_honest node.keeper → HoldsOnly (K.may_hold node.keeper) (K.may_break node.keeper) node.desk.stored node.desk.log) }
         ensures honest { IfOk result (λ node. K.is_honest node.keeper → K.is_honest keeper) }
         ensures home { IfOk result (λ node. K.home_of node.keeper ≡ K.home_of keeper) }
         ensures refused { IfErr result (λ fault. (fault ≡ LoadFault.NoMemory) ⊎ ((k : K) × K.load_gives keeper (Err fault) k)) }
@@ -89,19 +89,20 @@ impl<K: Keeper + Drop> Node<K> {
     /// Damaged: what the store holds is not a state in its ranges, or the count of failures is at its
     /// end. Device: the device refused, and a failure was counted. NoMemory: the keeper's load or the
     /// desk was refused memory, and the keeper keeps what it kept. Whatever the refusal, its store holds
-    /// nothing that it could not hold before.
+    /// nothing that it could not hold before, and is lost only where it could be before.
     pub fn open_or_give_back(alloc: Global, keeper: K) -> Result<Node<K>, (LoadFault, K)>
         ensures up { IfOk result (λ node. node.is_down ≡ false) }
         ensures first { IfOk result (λ node. node.desk ≡ opened node.desk.stored node.desk.log) }
         ensures loaded { IfOk result (λ node. K.is_honest node.keeper → K.may_hold keeper node.desk.stored node.desk.log) }
         ensures same { IfOk result (λ node. K.is_honest node.keeper → (s : State) (log : List EntryValue) → K.keeps keeper s log
             → (node.desk.stored ≡ s) × (node.desk.log ≡ log)) }
-        ensures stored { IfOk result (λ node. K.is_honest node.keeper → HoldsOnly (K.may_hold node.keeper) node.desk.stored node.desk.log) }
+        ensures stored { IfOk result (λ node. K.is_honest node.keeper → HoldsOnly (K.may_hold node.keeper) (K.may_break node.keeper) node.desk.stored node.desk.log) }
         ensures honest { IfOk result (λ node. K.is_honest node.keeper → K.is_honest keeper) }
         ensures home { IfOk result (λ node. K.home_of node.keeper ≡ K.home_of keeper) }
         ensures back_honest { IfErr result (λ e. K.is_honest e.1 → K.is_honest keeper) }
         ensures back_home { IfErr result (λ e. K.home_of e.1 ≡ K.home_of keeper) }
         ensures back_no_other { IfErr result (λ e. K.is_honest e.1 → (s : State) (log : List EntryValue) → K.may_hold e.1 s log → K.may_hold keeper s log) }
+        ensures back_whole { IfErr result (λ e. K.is_honest e.1 → K.may_break e.1 → K.may_break keeper) }
         ensures back_memory { IfErr result (λ e. e.0 ≡ LoadFault.NoMemory → K.is_honest e.1 → (s : State) (log : List EntryValue) → K.keeps keeper s log → K.keeps e.1 s log) }
         ensures back_counted { IfErr result (λ e. e.0 ≡ LoadFault.Device → K.failures_of keeper < K.failures_of e.1) }
         ensures back_uncounted { IfErr result (λ e. e.0 ≢ LoadFault.Device → K.failures_of e.1 ≡ K.failures_of keeper) }
@@ -152,9 +153,9 @@ impl<K: Keeper + Drop> Node<K> {
         ensures ended { self.old.is_down ≡ true → (result ≡ Err NodeFault.Down) × (self.new ≡ self.old) }
         ensures down { (result ≡ Err NodeFault.Down) ↔ (self.new.is_down ≡ true) }
         ensures first_down { self.old.is_down ≡ false → result ≡ Err NodeFault.Down → K.failures_of self.old.keeper < K.failures_of self.new.keeper }
-        ensures stored { self.new.is_down ≡ false → K.is_honest self.new.keeper → HoldsOnly (K.may_hold self.new.keeper) self.new.desk.stored self.new.desk.log }
+        ensures stored { self.new.is_down ≡ false → K.is_honest self.new.keeper → HoldsOnly (K.may_hold self.new.keeper) (K.may_break self.new.keeper) self.new.desk.stored self.new.desk.log }
         ensures left { let home = K.home_of self.old.keeper in let x = self.old.desk in self.old.is_down ≡ false → self.new.is_down ≡ true → K.is_honest self.new.keeper
-            → HoldsBeforeOrAfter (K.may_hold self.new.keeper) x (step home.desks home.desk x event) }
+            → HoldsBeforeOrAfter (K.may_hold self.new.keeper) (K.may_break self.new.keeper) x (step home.desks home.desk x event) }
         ensures ignored { let home = K.home_of self.old.keeper in self.old.is_down ≡ false → IsIgnored home.desks home.desk self.old.desk event
             → IsOk result × (self.new.keeper ≡ self.old.keeper) }
         ensures honest { K.is_honest self.new.keeper → K.is_honest self.old.keeper }

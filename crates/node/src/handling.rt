@@ -39,7 +39,7 @@ fn save_change<K: Keeper>(keeper: &mut K, change: &Option<Change>) -> Result<(),
         → K.keeps keeper.new s log }
     ensures failed { result ≡ Err NodeFault.Down → K.is_honest keeper.new → (s : State) (log : List EntryValue) → K.keeps keeper.old s log
         → IsFit (K.home_of keeper.old).desks (stored_after s change.now) (log_after log change.now)
-        → HoldsEither (K.may_hold keeper.new) s log (stored_after s change.now) (log_after log change.now) }
+        → HoldsEither (K.may_hold keeper.new) (K.may_break keeper.new) s log (stored_after s change.now) (log_after log change.now) }
     ensures faults { IfErr result (λ fault. (fault ≡ NodeFault.NoMemory) ⊎ (fault ≡ NodeFault.Down)) }
     ensures up { result ≢ Err NodeFault.Down → K.is_down keeper.new ≡ false }
     ensures counted { result ≡ Err NodeFault.Down → K.failures_of keeper.old < K.failures_of keeper.new }
@@ -72,7 +72,7 @@ fn carry_out<K: Keeper>(
     ensures home { K.home_of keeper.new ≡ K.home_of keeper.old }
     ensures kept { result ≢ Err NodeFault.Down → K.is_honest keeper.new → K.keeps keeper.new desk.new.desk.stored desk.new.desk.log }
     ensures left { (s : Result Done Refusal) → IsPlanned desk.old.desk planned s → result ≡ Err NodeFault.Down → K.is_honest keeper.new
-        → HoldsBeforeOrAfter (K.may_hold keeper.new) desk.old.desk s }
+        → HoldsBeforeOrAfter (K.may_hold keeper.new) (K.may_break keeper.new) desk.old.desk s }
     ensures up { result ≢ Err NodeFault.Down → K.is_down keeper.new ≡ false }
     ensures counted { result ≡ Err NodeFault.Down → K.failures_of keeper.old < K.failures_of keeper.new }
     ensures still { IfOk planned (λ p. p.change ≡ None → IsOk result × (keeper.new ≡ keeper.old)) }
@@ -117,7 +117,7 @@ pub fn take_event<K: Keeper>(
     ensures home { K.home_of keeper.new ≡ K.home_of keeper.old }
     ensures kept { result ≢ Err NodeFault.Down → K.is_honest keeper.new → K.keeps keeper.new desk.new.desk.stored desk.new.desk.log }
     ensures left { let x = desk.old in result ≡ Err NodeFault.Down → K.is_honest keeper.new
-        → HoldsBeforeOrAfter (K.may_hold keeper.new) x.desk (step x.desks x.number x.desk event) }
+        → HoldsBeforeOrAfter (K.may_hold keeper.new) (K.may_break keeper.new) x.desk (step x.desks x.number x.desk event) }
     ensures up { result ≢ Err NodeFault.Down → K.is_down keeper.new ≡ false }
     ensures counted { result ≡ Err NodeFault.Down → K.failures_of keeper.old < K.failures_of keeper.new }
     ensures ignored { let x = desk.old in IsIgnored x.desks x.number x.desk event → IsOk result × (keeper.new ≡ keeper.old) }

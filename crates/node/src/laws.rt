@@ -1,7 +1,7 @@
 //! What holds of every hall of desks. Each is the contract of a function that does nothing.
 
 ghost use Rattle.node.specs.Headline.{DesksAgree};
-ghost use Rattle.node.specs.Stops.{StopsMakeARun, RealLogsAgree, RealEntriesAreSubmitted};
+ghost use Rattle.node.specs.Stops.{StopsMakeARun, RealLogsAgree, RealEntriesAreSubmitted, AnswerIsEvent, OpeningsAreRestarts};
 
 use learner::laws::{logs_agree, logs_are_submitted};
 
@@ -30,6 +30,9 @@ pub fn stops_make_a_run()
     ensures run { StopsMakeARun }
     ensures agree { RealLogsAgree }
     ensures submitted { RealEntriesAreSubmitted }
+    // What `handle` and `open` say of one desk is what is said here of a call.
+    ensures answered { AnswerIsEvent }
+    ensures opened { OpeningsAreRestarts }
 {
     logs_agree();
     logs_are_submitted();

@@ -1,8 +1,11 @@
 -- One more entry is read.
-use Rattle.std.proofs.Common.{◌≡◌, ℕ, pos, ◌+◌, ◌<◌, ◌≤◌, List, [], ◌∷◌, ◌++◌, map, take, length, get_or, subst₂, IsPermutation, refl, sym, ap, subst, ◌∙◌, arith, zero-add}
+use Rattle.std.proofs.Common.{◌≡◌, ℕ, pos, ◌+◌, ◌<◌, ◌≤◌, List, [], ◌∷◌, ◌++◌, map, take, length, get_or, subst₂, IsPermutation, refl, sym, ap, ◌∙◌, arith, zero-add, ◌≢◌, length-append}
 use Rattle.std.proofs.lemmas.List.{map-append, take_more}
-use Rattle.sqlite.specs.declared.types.Value.TheVariants.{Null, Int, Blob}
+use Rattle.sqlite.specs.declared.types.Value.TheVariants.{Int, Blob}
 use Rattle.sqlite.specs.Order.{Row, column}
+use Rattle.sqlite_trees.proofs.ListLemmas.{all-append}
+use Rattle.acceptor.specs.Entries.{IsId, IsText}
+use Rattle.store.specs.Whole.{LogIsWhole}
 use Rattle.acceptor.specs.declared.entry.Entry.{Entry}
 use Rattle.store.specs.Holding.{entry_values, log_values, entry_columns, shown_entry, shown_desk, desk_values, desk_columns}
 use Rattle.std.proofs.lemmas.List.Sorted.{IsPermutation-map, IsPermutation-sym}
@@ -43,3 +46,7 @@ pub single : (xs : List Row) (x : Row) → 1 ≤ length xs → length xs < 2 →
 single [] x some few is = absurd (omega arith)
 single (y ∷ []) x some few is = ap (λ z. z ∷ []) (sym is)
 single (y ∷ z ∷ more) x some few is = absurd (omega arith)
+
+-- a log that is not full is whole with one more entry
+pub log_grows : (log : List Entry) (e : Entry) → LogIsWhole log → IsId e.id × IsText e.text → length log ≢ 65536 → LogIsWhole (log ++ e ∷ [])
+log_grows log e whole one room = (all-append (λ x. IsId x.id × IsText x.text) log (e ∷ []) whole.0 (one, tt), omega (arith, length-append log (e ∷ []), whole.1, room))

@@ -1,6 +1,5 @@
 -- From the meaning of a statement to what it leaves.
-use Rattle.std.proofs.Common.{◌≡◌, ◌⊎◌, inl, inr, ℕ, pos, List, [], ◌∷◌, ◌++◌, map, IsPermutation, Bool, true, false, cond, Option, Some, None, Ok, Err, Result, OnOk, OnErr, IsTrue, refl, sym, ap, subst, subst₂, ◌∙◌, append-nil}
-use Rattle.sqlite.specs.declared.types.Value.{Value}
+use Rattle.std.proofs.Common.{◌≡◌, inl, inr, ℕ, List, [], ◌∷◌, map, IsPermutation, false, cond, Option, None, Ok, Err, Result, OnOk, OnErr, IsTrue, sym, ap, subst, subst₂, ◌∙◌, append-nil}
 use Rattle.sqlite.specs.Order.{Row}
 use Rattle.sqlite.specs.Tree.{Trees}
 use Rattle.sqlite.specs.Term.{Term, eval_all}
@@ -15,14 +14,13 @@ use Rattle.sqlite.specs.Command.TheVariants.{Commit, Release}
 use Rattle.sqlite.specs.Does.{Tally, Does}
 use Rattle.sqlite.specs.Effect.{Database}
 use Rattle.sqlite.specs.Listing.{understood}
-use Rattle.sqlite.specs.Clock.{timed}
-use Rattle.sqlite.specs.State.{State, HasCleanDisk, mode_of, IsUnchanged, IsRolledBack, Fails, IsNotRun, Runs, Writes, MayCommit, text_of, Survives, ExecutesIn, Executes, CommitsBy, shows_rows}
+use Rattle.sqlite.specs.State.{State, HasCleanDisk, mode_of, IsUnchanged, IsRolledBack, IsNotRun, Runs, Writes, text_of, Survives, ExecutesIn, Executes, CommitsBy, shows_rows}
 use Rattle.std.proofs.lemmas.Bool.{cases_Bool}
 use Rattle.sqlite.proofs.Callers.{IsPlain, command_of, statement_of, runs_as}
 use Rattle.acceptor.specs.declared.entry.Entry.{Entry}
 use Rattle.store.specs.declared.home.Home.{Home}
 use Rattle.acceptor.specs.declared.stored.Stored.{Stored}
-use Rattle.store.specs.Layout.{desk_table, store_schema, IsOurs}
+use Rattle.store.specs.Layout.{store_schema, IsOurs}
 use Rattle.store.specs.Holding.{Holds, desk_values, log_values, shown_desk, shown_entry}
 use Rattle.store.specs.Kept.{Keeps, Saved, HasDesk}
 use Rattle.store.specs.Unique.{same_home}
@@ -155,3 +153,16 @@ pub own_desk : (home away : Home) (s t : Stored) (log : List Entry) (c : State) 
 own_desk home away s t log c k h =
     let both : desk_values away t ∷ [] ≡ desk_values home s ∷ [] = sym h.row ∙ k.holds.desk in
     same_home away home t s cc
+
+-- a connection that is open after a refusal was open before it
+pub refused_open : (sql : List ℕ) (params : Row) (old new : State) (e : Error) → Executes sql params old new (Err e) → IsTrue new.is_open → IsTrue old.is_open
+unfolding ExecutesIn IsNotRun
+refused_open sql params old new e (inl (inl it)) live = it.1.0.was_open
+refused_open sql params old new e (inl (inr fails)) live = fails.3.was_open live
+refused_open sql params old new e (inr ran) live = elim (cases_Bool (shows_rows false ran.0)) [
+  | inl shows ↦ (rw shows at ran.2).1.0.was_open
+  | inr runs ↦ elim (rw runs at ran.2) [
+    | inl it ↦ it.1.0.was_open
+    | inr fails ↦ fails.3.was_open live
+  ]
+]

@@ -37,3 +37,7 @@ pub record HasDesk (home : Home) (s : Stored) (c : State) : Type 0 where
 -- what an open after a crash at this moment may find
 abbrev pub MayLeave : State → Home → Stored → List Entry → Type 0
 MayLeave c home s log = (db : Trees) × c.may_leave db × Holds home db s log
+
+-- an open after a crash at this moment may find no state of this desk
+abbrev pub MayBreak : State → Home → Type 0
+MayBreak c home = (db : Trees) × c.may_leave db × ((s : Stored) (log : List Entry) → ¬ Holds home db s log)

@@ -16,7 +16,7 @@ use Rattle.acceptor.specs.declared.stored.Vote.{Vote}
 use Rattle.acceptor.specs.declared.stored.Stored.{Stored}
 use Rattle.sqlite.specs.Effect.{Database}
 use Rattle.sqlite.specs.State.{State}
-use Rattle.store.specs.Kept.{Keeps}
+use Rattle.store.specs.Kept.{Keeps, MayBreak}
 use Rattle.store.specs.Keeping.{HoldsOnly}
 use Rattle.store.specs.Holding.{Holds, desk_values, vote_values, entry_values, log_values, shown_entry}
 
@@ -119,11 +119,12 @@ one_state home away db s t log more a b =
 
 -- While a connection keeps a state, a crash leaves that state and no other.
 pub alone : (c : State) (home : Home) (s : Stored) (log : List Entry) → ((db : Trees) → IsTrue c.is_open → c.may_leave db → db ≡ c.committed.trees) → (IsTrue c.is_open → c.may_leave c.committed.trees)
-    → Keeps home s log c → HoldsOnly (λ t more. (db : Trees) × c.may_leave db × Holds home db t more) s log
+    → Keeps home s log c → HoldsOnly (λ t more. (db : Trees) × c.may_leave db × Holds home db t more) (MayBreak c home) s log
 alone c home s log settles stays k =
     let same : c.committed.trees ≡ c.now.trees = ap (λ (d : Database). d.trees) (sym k.settled) in
     let here : Holds home c.committed.trees s log = subst (λ d. Holds home d s log) (sym same) k.holds in
     record {
       holds = (c.committed.trees, stays k.is_open, here);
       only = λ t more h. one_state home home c.committed.trees t s more log (subst (λ d. Holds home d t more) (settles h.0 k.is_open h.1) h.2) here;
+      whole = λ broken. broken.2 s log (subst (λ d. Holds home d s log) (sym (settles broken.0 k.is_open broken.1)) here);
     }

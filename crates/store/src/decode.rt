@@ -69,6 +69,7 @@ fn ballot_at(row: &Row, at: usize) -> Option<Ballot>
     requires { at < 100 }
     ensures none { result ≡ None → (b : Round) → b.round < 2 ^ 32 → b.desk < 256 → ¬ ((column row.now at ≡ Int (pos b.round)) × (column row.now (at + 1) ≡ Int (pos b.desk))) }
     ensures some { IfSome result (λ b. (column row.now at ≡ Int (pos b.round)) × (column row.now (at + 1) ≡ Int (pos b.desk))) }
+    ensures in_range { IfSome result (λ b. (b.round < 2 ^ 32) × (b.desk < 256)) }
 {
     let round = number_at(row, at)?;
     let desk = small_at(row, at + 1)?;
@@ -80,6 +81,7 @@ fn entry_at(alloc: Global, row: &Row, at: usize) -> Result<Option<Entry>, AllocE
     requires { at < 100 }
     ensures none { IfOk result (λ o. o ≡ None → (e : EntryValue) → IsId e.id → IsText e.text → ¬ ((column row.now at ≡ Int (pos e.id)) × (column row.now (at + 1) ≡ Blob e.text))) }
     ensures some { IfOk result (λ o. IfSome o (λ e. (column row.now at ≡ Int (pos e.id)) × (column row.now (at + 1) ≡ Blob e.text))) }
+    ensures in_range { IfOk result (λ o. IfSome o (λ e. IsId e.id × IsText e.text)) }
 {
     let Some(id) = long_at(row, at) else {
         return Ok(None);
@@ -115,6 +117,7 @@ fn has_no_vote(row: &Row) -> bool
 fn vote_of(alloc: Global, row: &Row) -> Result<Option<Option<Vote>>, AllocError>
     ensures none { IfOk result (λ o. o ≡ None → (vote : Option Given) → VoteIsWhole vote → vote_columns row.now ≢ vote_values vote) }
     ensures some { IfOk result (λ o. IfSome o (λ vote. vote_columns row.now ≡ vote_values vote)) }
+    ensures in_range { IfOk result (λ o. IfSome o (λ vote. VoteIsWhole vote)) }
 {
     if has_no_vote(row) {
         return Ok(Some(None));
@@ -134,6 +137,7 @@ fn vote_of(alloc: Global, row: &Row) -> Result<Option<Option<Vote>>, AllocError>
 fn home_of(row: &Row) -> Option<Home>
     ensures none { result ≡ None → (h : Place) → h.hall < 2 ^ 32 → h.desk < 256 → h.desks < 256 → ¬ ((column row.now 0 ≡ Int (pos 1)) × (column row.now 1 ≡ Int (pos h.hall)) × (column row.now 2 ≡ Int (pos h.desk)) × (column row.now 3 ≡ Int (pos h.desks))) }
     ensures some { IfSome result (λ h. (column row.now 0 ≡ Int (pos 1)) × (column row.now 1 ≡ Int (pos h.hall)) × (column row.now 2 ≡ Int (pos h.desk)) × (column row.now 3 ≡ Int (pos h.desks))) }
+    ensures in_range { IfSome result (λ h. (h.hall < 2 ^ 32) × (h.desk < 256) × (h.desks < 256)) }
 {
     if number_at(row, 0)? != 1 {
         return None;
@@ -148,6 +152,7 @@ fn home_of(row: &Row) -> Option<Home>
 pub fn desk_of(alloc: Global, row: &Row) -> Result<Option<(Home, Stored)>, AllocError>
     ensures none { IfOk result (λ o. o ≡ None → (h : Place) (s : State) → IsWhole h s → desk_columns row.now ≢ desk_values h s) }
     ensures some { IfOk result (λ o. IfSome o (λ d. desk_columns row.now ≡ desk_values d.0 d.1)) }
+    ensures whole { IfOk result (λ o. IfSome o (λ d. IsWhole d.0 d.1)) }
 {
     let Some(home) = home_of(row) else {
         return Ok(None);
@@ -176,6 +181,7 @@ pub fn desk_of(alloc: Global, row: &Row) -> Result<Option<(Home, Stored)>, Alloc
 pub fn log_of(alloc: Global, rows: &[Row]) -> Result<Option<Log>, AllocError>
     ensures none { IfOk result (λ o. o ≡ None → (log : List EntryValue) → LogIsWhole log → map entry_columns rows.now ≢ log_values 0 log) }
     ensures some { IfOk result (λ o. IfSome o (λ log. map entry_columns rows.now ≡ log_values 0 log.entries)) }
+    ensures whole { IfOk result (λ o. IfSome o (λ log. LogIsWhole log.entries)) }
 {
     let mut log = Log::new(alloc)?;
     for row in rows {

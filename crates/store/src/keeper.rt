@@ -7,6 +7,7 @@ ghost use Rattle.store.specs.declared.home.Home.{Home as Place};
 ghost use Rattle.store.specs.declared.faults.SaveFault.{SaveFault as Refusal};
 ghost use Rattle.store.specs.declared.faults.LoadFault.{LoadFault as Unloaded};
 ghost use Rattle.store.specs.Ranges.{IsHome, IsFit};
+ghost use Rattle.store.specs.Whole.{IsSound};
 ghost use Rattle.store.specs.Keeping.{most_failures, HoldsOnly, Leaves, IsFitAfter};
 
 use crate::faults::{LoadFault, SaveFault};
@@ -26,6 +27,9 @@ pub trait Keeper {
 
     /// The states that the store may hold once it is opened again.
     ghost may_hold: { Self → State → List Entry → Type 0 };
+
+    /// Once the store is opened again, it may hold no state of this desk.
+    ghost may_break: { Self → Type 0 };
 
     /// The keeper works, and its store holds this state alone.
     ghost keeps: { Self → State → List Entry → Type 0 };
@@ -61,7 +65,7 @@ pub trait Keeper {
         ensures honest { is_honest self.new → is_honest self.old }
         ensures home { home_of self.new ≡ home_of self.old }
         ensures leaves { is_honest self.new → (s : State) (log : List Entry) → keeps self.old s log → IsFitAfter (home_of self.old).desks s log change.now
-            → Leaves (keeps self.new) (may_hold self.new) s log change.now result }
+            → Leaves (keeps self.new) (may_hold self.new) (may_break self.new) s log change.now result }
         ensures down { (result ≡ Err SaveFault.Down) ↔ IsTrue (is_down self.old) }
         ensures last { failures_of self.old ≡ most_failures → result ≡ Err SaveFault.Down }
         ensures counted { result ≡ Err SaveFault.Device → failures_of self.old < failures_of self.new }
@@ -75,7 +79,8 @@ pub trait Keeper {
     ///
     /// At Ok the keeper is not Down, and its store holds what was given alone. Damaged: what the store
     /// holds is not a state in its ranges, or the failures are 2^64 - 1. Device: the device refused, and a
-    /// failure is counted. NoMemory leaves the keeper as it was.
+    /// failure is counted. NoMemory leaves the keeper as it was. Whatever the answer, an opening finds nothing
+    /// that it could not find before.
     fn load(&mut self, alloc: Global) -> Result<(Stored, Log), LoadFault>
         ensures honest { is_honest self.new → is_honest self.old }
         ensures home { home_of self.new ≡ home_of self.old }
@@ -86,6 +91,8 @@ pub trait Keeper {
         ensures same { IfOk result (λ r. is_honest self.new → (s : State) (log : List Entry) → keeps self.old s log → (r.0 ≡ s) × (r.1.entries ≡ log)) }
         ensures memory { result ≡ Err LoadFault.NoMemory → is_honest self.new → (s : State) (log : List Entry) → keeps self.old s log → keeps self.new s log }
         ensures no_other { is_honest self.new → (s : State) (log : List Entry) → may_hold self.new s log → may_hold self.old s log }
+        ensures whole { is_honest self.new → may_break self.new → may_break self.old }
+        ensures damaged { result ≡ Err LoadFault.Damaged → failures_of self.old ≢ most_failures → is_honest self.new → (s : State) (log : List Entry) → IsSound (home_of self.old) s log → ¬ keeps self.old s log }
         ensures last { failures_of self.old ≡ most_failures → result ≡ Err LoadFault.Damaged }
         ensures counted { result ≡ Err LoadFault.Device → failures_of self.old < failures_of self.new }
         ensures uncounted { result ≢ Err LoadFault.Device → failures_of self.new ≡ failures_of self.old }
@@ -93,7 +100,7 @@ pub trait Keeper {
         ensures more { load_gives self.old result self.new };
 
     /// What a keeper keeps is what an opening finds.
-    ghost alone: { (k : Self) (s : State) (log : List Entry) → is_honest k → keeps k s log → HoldsOnly (may_hold k) s log };
+    ghost alone: { (k : Self) (s : State) (log : List Entry) → is_honest k → keeps k s log → HoldsOnly (may_hold k) (may_break k) s log };
 
     /// What a keeper keeps is in its ranges.
     ghost ranges: { (k : Self) (s : State) (log : List Entry) → keeps k s log → IsFit (home_of k).desks s log };

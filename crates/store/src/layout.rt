@@ -209,7 +209,7 @@ fn have_no_key(tables: &[Table]) -> bool
     }
 }
 
-/// Whether the first two tables are the store's, and no other refers to one.
+/// Whether the first two tables are the store's, and no table of the file has a foreign key.
 pub fn is_ours(schema: &Schema) -> bool
     ensures is { result ≡ true → IsOurs schema.now }
     ensures only { IsOurs schema.now → result ≡ true }

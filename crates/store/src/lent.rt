@@ -16,7 +16,7 @@ use std::alloc::Global;
 /// Device comes only where the count of failures has risen, and Down exactly where the keeper was Down.
 pub fn save_to<K: Keeper>(keeper: &mut K, change: &Change) -> Result<(), SaveFault>
     ensures leaves { K.is_honest keeper.new → (s : State) (log : List EntryValue) → K.keeps keeper.old s log → IsFitAfter (K.home_of keeper.old).desks s log change.now
-        → Leaves (HoldsOnly (K.may_hold keeper.new)) (K.may_hold keeper.new) s log change.now result }
+        → Leaves (HoldsOnly (K.may_hold keeper.new) (K.may_break keeper.new)) (K.may_hold keeper.new) (K.may_break keeper.new) s log change.now result }
     ensures down { (result ≡ Err SaveFault.Down) ↔ IsTrue (K.is_down keeper.old) }
     ensures counted { result ≡ Err SaveFault.Device → K.failures_of keeper.old < K.failures_of keeper.new }
     ensures ended { result ≡ Err SaveFault.Device → IsTrue (K.is_down keeper.new) }
@@ -29,6 +29,8 @@ impl<K: Keeper> Keeper for &mut K {
     ghost is_honest = { λ k. K.is_honest k.now };
 
     ghost may_hold = { λ k. K.may_hold k.now };
+
+    ghost may_break = { λ k. K.may_break k.now };
 
     ghost keeps = { λ k. K.keeps k.now };
 

@@ -48,6 +48,7 @@ fn read_desk<S: Alter>(conn: &mut Connection<S>, alloc: Global) -> Result<(Home,
     ensures damaged { result ≡ Err ReadFault.Damaged → HasCleanDisk (state S.Store conn.new) → IsOurs (state S.Store conn.old).now.schema → (home : Place) (s : State) → IsWhole home s → map shown_desk ((state S.Store conn.old).now.trees 0) ≢ desk_values home s ∷ [] }
     ensures own_desk { result ≢ Err ReadFault.WrongDesk }
     ensures found { HasCleanDisk (state S.Store conn.new) → IsOurs (state S.Store conn.old).now.schema → IfOk result (λ r. map shown_desk ((state S.Store conn.old).now.trees 0) ≡ desk_values r.0 r.1 ∷ []) }
+    ensures whole { IfOk result (λ r. IsWhole r.0 r.1) }
     ensures same { HasCleanDisk (state S.Store conn.new) → IsOurs (state S.Store conn.old).now.schema → OnOk result (IsUnchanged (state S.Store conn.old) (state S.Store conn.new)) }
     ensures kept { HasCleanDisk (state S.Store conn.new) → IsTrue (state S.Store conn.new).is_open → (home : Place) (s : State) (log : List EntryValue) → Keeps home s log (state S.Store conn.old) → Keeps home s log (state S.Store conn.new) }
     ensures crash { HasCleanDisk (state S.Store conn.new) → IsOurs (state S.Store conn.old).now.schema → (db : Trees) → (state S.Store conn.new).may_leave db → (state S.Store conn.old).may_leave db }
@@ -72,6 +73,7 @@ fn read_log<S: Alter>(conn: &mut Connection<S>, alloc: Global) -> Result<Log, Re
     ensures damaged { result ≡ Err ReadFault.Damaged → HasCleanDisk (state S.Store conn.new) → IsOurs (state S.Store conn.old).now.schema → (log : List EntryValue) → LogIsWhole log → ¬ IsPermutation (log_values 0 log) (map shown_entry ((state S.Store conn.old).now.trees 1)) }
     ensures own_desk { result ≢ Err ReadFault.WrongDesk }
     ensures found { HasCleanDisk (state S.Store conn.new) → IsOurs (state S.Store conn.old).now.schema → IfOk result (λ log. IsPermutation (log_values 0 log.entries) (map shown_entry ((state S.Store conn.old).now.trees 1))) }
+    ensures whole { IfOk result (λ log. LogIsWhole log.entries) }
     ensures same { HasCleanDisk (state S.Store conn.new) → IsOurs (state S.Store conn.old).now.schema → OnOk result (IsUnchanged (state S.Store conn.old) (state S.Store conn.new)) }
     ensures kept { HasCleanDisk (state S.Store conn.new) → IsTrue (state S.Store conn.new).is_open → (home : Place) (s : State) (log : List EntryValue) → Keeps home s log (state S.Store conn.old) → Keeps home s log (state S.Store conn.new) }
     ensures crash { HasCleanDisk (state S.Store conn.new) → IsOurs (state S.Store conn.old).now.schema → (db : Trees) → (state S.Store conn.new).may_leave db → (state S.Store conn.old).may_leave db }
@@ -96,6 +98,8 @@ fn read_home<S: Alter>(
     ensures clean { HasCleanDisk (state S.Store conn.new) → HasCleanDisk (state S.Store conn.old) }
     ensures found { HasCleanDisk (state S.Store conn.new) → IfOk result (λ s. HasDesk home s (state S.Store conn.old)) }
     ensures in_range { IfOk result (λ s. StoredIsFit home.desks s) }
+    ensures whole { IfOk result (λ s. IsWhole home s) }
+    ensures place { IfOk result (λ _. IsHome home) }
     ensures same { HasCleanDisk (state S.Store conn.new) → OnOk result (IsUnchanged (state S.Store conn.old) (state S.Store conn.new)) }
     ensures kept { HasCleanDisk (state S.Store conn.new) → IsTrue (state S.Store conn.new).is_open → (away : Place) (s : State) (log : List EntryValue) → Keeps away s log (state S.Store conn.old) → Keeps away s log (state S.Store conn.new) }
     ensures crash { HasCleanDisk (state S.Store conn.new) → (db : Trees) → (state S.Store conn.new).may_leave db → (state S.Store conn.old).may_leave db }
@@ -126,10 +130,13 @@ pub fn read_all<S: Alter>(
 ) -> Result<(Stored, Log), ReadFault>
     ensures clean { HasCleanDisk (state S.Store conn.new) → HasCleanDisk (state S.Store conn.old) }
     ensures found { HasCleanDisk (state S.Store conn.new) → IfOk result (λ r. Keeps home r.0 r.1.entries (state S.Store conn.new)) }
+    ensures before { HasCleanDisk (state S.Store conn.new) → IfOk result (λ r. Keeps home r.0 r.1.entries (state S.Store conn.old)) }
     ensures in_range { IfOk result (λ r. IsFit home.desks r.0 r.1.entries) }
+    ensures sound { IfOk result (λ r. IsSound home r.0 r.1.entries) }
     ensures kept { HasCleanDisk (state S.Store conn.new) → IsTrue (state S.Store conn.new).is_open → (away : Place) (s : State) (log : List EntryValue) → Keeps away s log (state S.Store conn.old) → Keeps away s log (state S.Store conn.new) }
     ensures crash { HasCleanDisk (state S.Store conn.new) → (db : Trees) → (state S.Store conn.new).may_leave db → (state S.Store conn.old).may_leave db }
     ensures damaged { result ≡ Err ReadFault.Damaged → HasCleanDisk (state S.Store conn.new) → (away : Place) (s : State) (log : List EntryValue) → IsSound away s log → ¬ Keeps away s log (state S.Store conn.old) }
+    ensures own { result ≡ Err ReadFault.Damaged → HasCleanDisk (state S.Store conn.new) → (away : Place) (s : State) → IsWhole away s → HasDesk away s (state S.Store conn.old) → away ≡ home }
     ensures wrong { result ≡ Err ReadFault.WrongDesk → HasCleanDisk (state S.Store conn.new) → (away : Place) × (s : State) × HasDesk away s (state S.Store conn.old) × (away ≢ home) }
 {
     let stored = match read_home(conn, alloc, home) {

@@ -144,6 +144,8 @@ impl Keeper for MemoryKeeper {
 
     ghost may_hold = { λ k s log. (s ≡ k.stored) × (log ≡ k.log) };
 
+    ghost may_break = { λ _. ⊥ };
+
     ghost keeps = { λ k s log. (is_stopped k ≡ false) × IsFit k.home.desks s log × (s ≡ k.stored) × (log ≡ k.log) };
 
     ghost is_down = { is_stopped };
@@ -196,7 +198,7 @@ impl Keeper for MemoryKeeper {
         Ok((stored, log))
     }
 
-    ghost alone = { λ k s log honest kept. record { holds = (kept.2, kept.3); only = λ t more h. (h.0 ∙ sym kept.2, h.1 ∙ sym kept.3) } };
+    ghost alone = { λ k s log honest kept. record { holds = (kept.2, kept.3); only = λ t more h. (h.0 ∙ sym kept.2, h.1 ∙ sym kept.3); whole = λ never. never } };
 
     ghost ranges = { λ k s log kept. kept.1 };
 

@@ -10,7 +10,7 @@ ghost use Rattle.store.specs.Layout.{no_schema};
 ghost use Rattle.store.specs.Holding.{Holds};
 ghost use Rattle.store.specs.Ranges.{IsHome, IsFit};
 ghost use Rattle.store.specs.Kept.{Keeps, HasDesk};
-ghost use Rattle.store.specs.Whole.{IsSound};
+ghost use Rattle.store.specs.Whole.{IsSound, IsWhole};
 ghost use Rattle.store.specs.Opening.{refusal_of};
 
 use crate::faults::OpenFault;
@@ -68,6 +68,8 @@ fn make_tables<S: Alter>(conn: &mut Connection<S>, home: Home) -> Result<(), Err
 fn fault_of<S: Alter>(conn: &mut Connection<S>, error: Error) -> OpenFault
     ensures clean { HasCleanDisk (state S.Store conn.new) → HasCleanDisk (state S.Store conn.old) }
     ensures fault { (result ≡ OpenFault.NoMemory) ⊎ (result ≡ OpenFault.Device) }
+    ensures was_open { HasCleanDisk (state S.Store conn.new) → IsTrue (state S.Store conn.new).is_open → IsTrue (state S.Store conn.old).is_open }
+    ensures kept { HasCleanDisk (state S.Store conn.new) → IsTrue (state S.Store conn.new).is_open → (away : Place) (s : State) (log : List EntryValue) → Keeps away s log (state S.Store conn.old) → Keeps away s log (state S.Store conn.new) }
     ensures crash { HasCleanDisk (state S.Store conn.new) → (db : Trees) → (state S.Store conn.new).may_leave db → (state S.Store conn.old).may_leave db }
 {
     if is_harmless(conn, error) {
@@ -80,10 +82,13 @@ fn fault_of<S: Alter>(conn: &mut Connection<S>, error: Error) -> OpenFault
 /// What the two tables have, where they are there: the log's length.
 fn examine<S: Alter>(conn: &mut Connection<S>, alloc: Global, home: Home) -> Result<u32, OpenFault>
     ensures clean { HasCleanDisk (state S.Store conn.new) → HasCleanDisk (state S.Store conn.old) }
-    ensures found { HasCleanDisk (state S.Store conn.new) → IfOk result (λ len. (s : State) × (log : List EntryValue) × (len ≡ length log) × IsFit home.desks s log × Keeps home s log (state S.Store conn.new)) }
+    ensures found { HasCleanDisk (state S.Store conn.new) → IfOk result (λ len. (s : State) × (log : List EntryValue) × (len ≡ length log) × IsFit home.desks s log × IsSound home s log × Keeps home s log (state S.Store conn.new)) }
+    ensures before { HasCleanDisk (state S.Store conn.new) → IfOk result (λ _. (s : State) × (log : List EntryValue) × Keeps home s log (state S.Store conn.old)) }
+    ensures kept { HasCleanDisk (state S.Store conn.new) → IsTrue (state S.Store conn.new).is_open → (away : Place) (s : State) (log : List EntryValue) → Keeps away s log (state S.Store conn.old) → Keeps away s log (state S.Store conn.new) }
     ensures crash { HasCleanDisk (state S.Store conn.new) → (db : Trees) → (state S.Store conn.new).may_leave db → (state S.Store conn.old).may_leave db }
     ensures same { HasCleanDisk (state S.Store conn.new) → (s : State) (log : List EntryValue) → Keeps home s log (state S.Store conn.old) → IfOk result (λ len. (len ≡ length log) × IsFit home.desks s log × Keeps home s log (state S.Store conn.new)) }
     ensures damaged { result ≡ Err OpenFault.Damaged → HasCleanDisk (state S.Store conn.new) → (away : Place) (s : State) (log : List EntryValue) → IsSound away s log → ¬ Keeps away s log (state S.Store conn.old) }
+    ensures own { result ≡ Err OpenFault.Damaged → HasCleanDisk (state S.Store conn.new) → (away : Place) (s : State) → IsWhole away s → HasDesk away s (state S.Store conn.old) → away ≡ home }
     ensures wrong { result ≡ Err OpenFault.WrongDesk → HasCleanDisk (state S.Store conn.new) → (away : Place) × (s : State) × HasDesk away s (state S.Store conn.old) × (away ≢ home) }
 {
     match read_all(conn, alloc, home) {
@@ -103,7 +108,8 @@ fn make_store<S: Alter>(
     requires { conn.old.in_transaction ≡ false }
     ensures clean { HasCleanDisk (state S.Store conn.new) → HasCleanDisk (state S.Store conn.old) }
     ensures made { HasCleanDisk (state S.Store conn.new) → (state S.Store conn.old).now.schema ≡ no_schema → IfOk result (λ len. (len ≡ 0) × IsFit home.desks first_stored [] × Keeps home first_stored [] (state S.Store conn.new)) }
-    ensures found { HasCleanDisk (state S.Store conn.new) → IfOk result (λ len. (s : State) × (log : List EntryValue) × (len ≡ length log) × IsFit home.desks s log × Keeps home s log (state S.Store conn.new)) }
+    ensures found { HasCleanDisk (state S.Store conn.new) → IfOk result (λ len. (s : State) × (log : List EntryValue) × (len ≡ length log) × IsFit home.desks s log × IsSound home s log × Keeps home s log (state S.Store conn.new)) }
+    ensures fresh { result ≡ Err OpenFault.Damaged → HasCleanDisk (state S.Store conn.new) → IsHome home → (state S.Store conn.old).now.schema ≢ no_schema }
     ensures ours { result ≡ Err OpenFault.WrongDesk → HasCleanDisk (state S.Store conn.new) → (state S.Store conn.old).now.schema ≢ no_schema }
     ensures crash { HasCleanDisk (state S.Store conn.new) → (state S.Store conn.old).now.schema ≡ no_schema → (db : Trees) → (state S.Store conn.new).may_leave db → (state S.Store conn.old).may_leave db ⊎ Holds home db first_stored [] }
 {
@@ -120,12 +126,16 @@ pub fn prepare<S: Alter>(
     home: Home,
 ) -> Result<u32, OpenFault>
     ensures clean { HasCleanDisk (state S.Store conn.new) → HasCleanDisk (state S.Store conn.old) }
-    ensures found { HasCleanDisk (state S.Store conn.new) → IfOk result (λ len. (s : State) × (log : List EntryValue) × (len ≡ length log) × IsFit home.desks s log × Keeps home s log (state S.Store conn.new)) }
+    ensures found { HasCleanDisk (state S.Store conn.new) → IfOk result (λ len. (s : State) × (log : List EntryValue) × (len ≡ length log) × IsFit home.desks s log × IsSound home s log × Keeps home s log (state S.Store conn.new)) }
+    ensures before { HasCleanDisk (state S.Store conn.new) → IfOk result (λ _. ((state S.Store conn.old).now.schema ≡ no_schema) ⊎ ((s : State) × (log : List EntryValue) × Keeps home s log (state S.Store conn.old))) }
     ensures made { HasCleanDisk (state S.Store conn.new) → (state S.Store conn.old).now.schema ≡ no_schema → (state S.Store conn.old).in_transaction ≡ false → IfOk result (λ len. (len ≡ 0) × IsFit home.desks first_stored [] × Keeps home first_stored [] (state S.Store conn.new)) }
     ensures same { HasCleanDisk (state S.Store conn.new) → (s : State) (log : List EntryValue) → Keeps home s log (state S.Store conn.old) → IfOk result (λ len. (len ≡ length log) × IsFit home.desks s log × Keeps home s log (state S.Store conn.new)) }
+    ensures kept { HasCleanDisk (state S.Store conn.new) → IsTrue (state S.Store conn.new).is_open → (away : Place) (s : State) (log : List EntryValue) → Keeps away s log (state S.Store conn.old) → Keeps away s log (state S.Store conn.new) }
     ensures damaged { result ≡ Err OpenFault.Damaged → HasCleanDisk (state S.Store conn.new) → (away : Place) (s : State) (log : List EntryValue) → IsSound away s log → ¬ Keeps away s log (state S.Store conn.old) }
+    ensures fresh { result ≡ Err OpenFault.Damaged → HasCleanDisk (state S.Store conn.new) → IsHome home → (state S.Store conn.old).in_transaction ≡ false → (state S.Store conn.old).now.schema ≢ no_schema }
+    ensures own { result ≡ Err OpenFault.Damaged → HasCleanDisk (state S.Store conn.new) → (away : Place) (s : State) → IsWhole away s → HasDesk away s (state S.Store conn.old) → away ≡ home }
     ensures wrong { result ≡ Err OpenFault.WrongDesk → HasCleanDisk (state S.Store conn.new) → (away : Place) × (s : State) × HasDesk away s (state S.Store conn.old) × (away ≢ home) }
-    ensures crash { HasCleanDisk (state S.Store conn.new) → (db : Trees) → (state S.Store conn.new).may_leave db → (state S.Store conn.old).may_leave db ⊎ Holds home db first_stored [] }
+    ensures crash { HasCleanDisk (state S.Store conn.new) → (db : Trees) → (state S.Store conn.new).may_leave db → (state S.Store conn.old).may_leave db ⊎ (((state S.Store conn.old).now.schema ≡ no_schema) × Holds home db first_stored []) }
 {
     if let Err(error) = run_nothing(conn) {
         return Err(fault_of(conn, error));

@@ -8,12 +8,12 @@ ghost use Rattle.acceptor.specs.declared.stored.Stored.{Stored as State};
 ghost use Rattle.store.specs.declared.home.Home.{Home as Place};
 ghost use Rattle.store.specs.declared.faults.LoadFault.{LoadFault as Unloaded};
 ghost use Rattle.store.specs.Ranges.{IsHome, IsFit, is_housed};
-ghost use Rattle.store.specs.Whole.{IsSound};
+ghost use Rattle.store.specs.Whole.{IsSound, IsWhole};
 ghost use Rattle.store.specs.Layout.{no_schema};
 ghost use Rattle.store.specs.Holding.{Holds};
-ghost use Rattle.store.specs.Keeping.{most_failures};
+ghost use Rattle.store.specs.Keeping.{most_failures, CountsOne};
 ghost use Rattle.store.specs.Unique.{alone};
-ghost use Rattle.store.specs.Kept.{Keeps, Saved, MayLeave, HasDesk};
+ghost use Rattle.store.specs.Kept.{Keeps, Saved, MayLeave, MayBreak, HasDesk};
 ghost use Rattle.store.specs.Refusing.{Refuses};
 
 use crate::faults::{LoadFault, OpenFault, SaveFault};
@@ -76,10 +76,13 @@ fn length_after(len: u32, change: &Change) -> u32
 
 impl<S: Alter> Keeper for SqlKeeper<S> {
     ghost use Rattle.store.specs.declared.faults.LoadFault.TheVariants.{Device, Damaged};
+    ghost use Rattle.store.specs.declared.faults.SaveFault.TheVariants as saving;
 
     ghost is_honest = { λ k. HasCleanDisk (state S.Store k.conn) };
 
     ghost may_hold = { λ k s log. MayLeave (state S.Store k.conn) k.home s log };
+
+    ghost may_break = { λ k. MayBreak (state S.Store k.conn) k.home };
 
     ghost keeps = { λ k s log. ((k.down || (k.failures == most_failures)) ≡ false) × (k.len ≡ length log) × IsFit k.home.desks s log × Keeps k.home s log (state S.Store k.conn) };
 
@@ -89,12 +92,15 @@ impl<S: Alter> Keeper for SqlKeeper<S> {
 
     ghost home_of = { λ k. k.home };
 
-    ghost save_gives = { λ _ _ _ _. Unit {0} };
+    /// Device counts exactly one failure.
+    ghost save_gives = { λ k _ r after. r ≡ Err saving.Device → CountsOne k.failures after.failures };
 
     /// Once it is down, a load counts a failure and is Device, as long as the count is not at its end.
     /// Below that end it is Damaged only where the tables hold no state of this desk that is in its ranges.
+    /// Device counts exactly one failure.
     ghost load_gives = { λ k r after. (IsTrue k.down → ((k.failures ≡ most_failures) ⊎ (r ≡ Err Device)))
-        × (r ≡ Err Damaged → k.failures ≢ most_failures → HasCleanDisk (state S.Store after.conn) → (s : State) (log : List EntryValue) → IsSound k.home s log → ¬ Keeps k.home s log (state S.Store k.conn)) };
+        × (r ≡ Err Damaged → k.failures ≢ most_failures → HasCleanDisk (state S.Store after.conn) → (s : State) (log : List EntryValue) → IsSound k.home s log → ¬ Keeps k.home s log (state S.Store k.conn))
+        × (r ≡ Err Device → CountsOne k.failures after.failures) };
 
     #[tactic(auto, using(crate::proofs::Homes::to_home))]
     fn home(&self) -> Home {
@@ -166,6 +172,10 @@ impl<S: Alter + Drop> SqlKeeper<S> {
     /// them, or the row is not whole and in its ranges. WrongDesk: the row is of another hall, desk or
     /// number of desks. Damaged: the positions of the log are not 0 and on, or an entry is out of its
     /// ranges. Device and NoMemory come where they happen. A refusal drops the connection.
+    ///
+    /// So it is Ok only over nothing at all, where the first state is kept, and over a state of this desk
+    /// with all of it in its ranges, where that one is kept. After a refusal a stop leaves what was there
+    /// or, over nothing at all, both tables with the first row.
     pub fn open(
         alloc: Global,
         conn: Connection<S>,
@@ -177,7 +187,8 @@ impl<S: Alter + Drop> SqlKeeper<S> {
         requires in_range { IsHome (record { hall = hall; desk = desk; desks = desks }) }
         ensures home { IfOk result (λ k. ⟦<SqlKeeper<S> as Keeper>⟧.home_of k ≡ record { hall = hall; desk = desk; desks = desks }) }
         ensures failures { IfOk result (λ k. ⟦<SqlKeeper<S> as Keeper>⟧.failures_of k ≡ 0) }
-        ensures kept { IfOk result (λ k. ⟦<SqlKeeper<S> as Keeper>⟧.is_honest k → (s : State) × (log : List EntryValue) × ⟦<SqlKeeper<S> as Keeper>⟧.keeps k s log) }
+        ensures kept { IfOk result (λ k. ⟦<SqlKeeper<S> as Keeper>⟧.is_honest k → (s : State) × (log : List EntryValue) × IsSound (record { hall = hall; desk = desk; desks = desks }) s log × ⟦<SqlKeeper<S> as Keeper>⟧.keeps k s log) }
+        ensures found { IfOk result (λ k. ⟦<SqlKeeper<S> as Keeper>⟧.is_honest k → ((state S.Store conn).now.schema ≡ no_schema) ⊎ ((s : State) × (log : List EntryValue) × Keeps (record { hall = hall; desk = desk; desks = desks }) s log (state S.Store conn))) }
         ensures made { (state S.Store conn).now.schema ≡ no_schema → IfOk result (λ k. ⟦<SqlKeeper<S> as Keeper>⟧.is_honest k → ⟦<SqlKeeper<S> as Keeper>⟧.keeps k first_stored []) }
         ensures same { (s : State) (log : List EntryValue) → Keeps (record { hall = hall; desk = desk; desks = desks }) s log (state S.Store conn) → IfOk result (λ k. ⟦<SqlKeeper<S> as Keeper>⟧.is_honest k → ⟦<SqlKeeper<S> as Keeper>⟧.keeps k s log) }
         ensures refused { IfErr result (λ fault. (dropped : _) × Refuses S.Store (record { hall = hall; desk = desk; desks = desks }) conn dropped fault) }
@@ -188,7 +199,7 @@ impl<S: Alter + Drop> SqlKeeper<S> {
         }
     }
 
-    /// As `open`, but a refusal gives the connection back.
+    /// As `open`, but a refusal gives the connection back. Where that is still open, it keeps what it kept.
     #[tactic(auto, using(crate::proofs::Homes::from_home))]
     pub fn open_or_give_back(
         alloc: Global,
@@ -201,12 +212,16 @@ impl<S: Alter + Drop> SqlKeeper<S> {
         requires in_range { IsHome (record { hall = hall; desk = desk; desks = desks }) }
         ensures home { IfOk result (λ k. ⟦<SqlKeeper<S> as Keeper>⟧.home_of k ≡ record { hall = hall; desk = desk; desks = desks }) }
         ensures failures { IfOk result (λ k. ⟦<SqlKeeper<S> as Keeper>⟧.failures_of k ≡ 0) }
-        ensures kept { IfOk result (λ k. ⟦<SqlKeeper<S> as Keeper>⟧.is_honest k → (s : State) × (log : List EntryValue) × ⟦<SqlKeeper<S> as Keeper>⟧.keeps k s log) }
+        ensures kept { IfOk result (λ k. ⟦<SqlKeeper<S> as Keeper>⟧.is_honest k → (s : State) × (log : List EntryValue) × IsSound (record { hall = hall; desk = desk; desks = desks }) s log × ⟦<SqlKeeper<S> as Keeper>⟧.keeps k s log) }
+        ensures found { IfOk result (λ k. ⟦<SqlKeeper<S> as Keeper>⟧.is_honest k → ((state S.Store conn).now.schema ≡ no_schema) ⊎ ((s : State) × (log : List EntryValue) × Keeps (record { hall = hall; desk = desk; desks = desks }) s log (state S.Store conn))) }
         ensures made { (state S.Store conn).now.schema ≡ no_schema → IfOk result (λ k. ⟦<SqlKeeper<S> as Keeper>⟧.is_honest k → ⟦<SqlKeeper<S> as Keeper>⟧.keeps k first_stored []) }
         ensures same { (s : State) (log : List EntryValue) → Keeps (record { hall = hall; desk = desk; desks = desks }) s log (state S.Store conn) → IfOk result (λ k. ⟦<SqlKeeper<S> as Keeper>⟧.is_honest k → ⟦<SqlKeeper<S> as Keeper>⟧.keeps k s log) }
         ensures damaged { IfErr result (λ e. e.0 ≡ OpenFault.Damaged → HasCleanDisk (state S.Store e.1) → (away : Place) (s : State) (log : List EntryValue) → IsSound away s log → ¬ Keeps away s log (state S.Store conn)) }
+        ensures fresh { IfErr result (λ e. e.0 ≡ OpenFault.Damaged → HasCleanDisk (state S.Store e.1) → (state S.Store conn).now.schema ≢ no_schema) }
+        ensures own { IfErr result (λ e. e.0 ≡ OpenFault.Damaged → HasCleanDisk (state S.Store e.1) → (away : Place) (s : State) → IsWhole away s → HasDesk away s (state S.Store conn) → away ≡ record { hall = hall; desk = desk; desks = desks }) }
         ensures wrong { IfErr result (λ e. e.0 ≡ OpenFault.WrongDesk → HasCleanDisk (state S.Store e.1) → (away : Place) × (s : State) × HasDesk away s (state S.Store conn) × (away ≢ record { hall = hall; desk = desk; desks = desks })) }
-        ensures crash { IfErr result (λ e. HasCleanDisk (state S.Store e.1) → (db : Trees) → (state S.Store e.1).may_leave db → (state S.Store conn).may_leave db ⊎ Holds (record { hall = hall; desk = desk; desks = desks }) db first_stored []) }
+        ensures crash { IfErr result (λ e. HasCleanDisk (state S.Store e.1) → (db : Trees) → (state S.Store e.1).may_leave db → (state S.Store conn).may_leave db ⊎ (((state S.Store conn).now.schema ≡ no_schema) × Holds (record { hall = hall; desk = desk; desks = desks }) db first_stored [])) }
+        ensures unchanged { IfErr result (λ e. HasCleanDisk (state S.Store e.1) → IsTrue (state S.Store e.1).is_open → (away : Place) (s : State) (log : List EntryValue) → Keeps away s log (state S.Store conn) → Keeps away s log (state S.Store e.1)) }
     {
         let home = Home { hall, desk, desks };
         match prepare(&mut conn, alloc, home) {
@@ -227,6 +242,7 @@ impl<S: Alter> SqlKeeper<S> {
     pub fn into_connection(self) -> Connection<S>
         ensures kept { (s : State) (log : List EntryValue) → ⟦<SqlKeeper<S> as Keeper>⟧.keeps self s log → Keeps (⟦<SqlKeeper<S> as Keeper>⟧.home_of self) s log (state S.Store result) }
         ensures left { (s : State) (log : List EntryValue) → MayLeave (state S.Store result) (⟦<SqlKeeper<S> as Keeper>⟧.home_of self) s log → ⟦<SqlKeeper<S> as Keeper>⟧.may_hold self s log }
+        ensures whole { MayBreak (state S.Store result) (⟦<SqlKeeper<S> as Keeper>⟧.home_of self) → ⟦<SqlKeeper<S> as Keeper>⟧.may_break self }
     {
         let SqlKeeper {
             conn: connection,

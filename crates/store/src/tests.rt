@@ -19,6 +19,8 @@ use std::test::Fail;
 
 const ANN: &[u8] = b"REG 1 Ann Li";
 
+const LONG: &[u8] = &[66; 600];
+
 fn vote(alloc: Global) -> Result<Vote, Fail> {
     Ok(Vote {
         pos: 0,
@@ -34,7 +36,7 @@ fn change(alloc: Global, at: u32) -> Result<Change, Fail> {
         1 => Change::Promised(Ballot { round: 1, desk: 3 }),
         2 => Change::Voted(vote(alloc)?),
         3 => Change::Appended(Entry::new(alloc, 7, ANN)?),
-        _ => Change::Appended(Entry::new(alloc, 9_223_372_036_854_775_807, &[66; 600])?),
+        _ => Change::Appended(Entry::new(alloc, 9_223_372_036_854_775_807, LONG)?),
     })
 }
 
@@ -64,13 +66,29 @@ fn load<K: Keeper>(alloc: Global, keeper: &mut K) -> Result<(Stored, Log), Fail>
     }
 }
 
+fn has_text(log: &Log, at: u32, text: &[u8]) -> bool {
+    match log.entry(at) {
+        Some(entry) => entry.text() == text,
+        None => false,
+    }
+}
+
+/// Whether the vote and both entries have the texts that were saved.
+fn has_texts(stored: &Stored, log: &Log) -> bool {
+    let is_voted = match &stored.vote {
+        Some(vote) => vote.entry.text() == ANN,
+        None => false,
+    };
+    is_voted && has_text(log, 0, ANN) && has_text(log, 1, LONG)
+}
+
 /// Whether the five changes are there, and nothing else.
 fn has_all<K: Keeper>(alloc: Global, keeper: &mut K) -> Result<bool, Fail> {
     let (stored, log) = load(alloc, keeper)?;
     let is_log = log.len() == 2
         && log.position_of(7) == Some(0)
         && log.position_of(9_223_372_036_854_775_807) == Some(1);
-    Ok(is_log && stored == voted(alloc, 2)?)
+    Ok(is_log && has_texts(&stored, &log) && stored == voted(alloc, 2)?)
 }
 
 /// Whether it holds this state and no entry.
@@ -173,43 +191,87 @@ fn finds_again_beside_another_table(rt: HostRuntime) -> Result<(), Fail> {
     Ok(())
 }
 
-fn is_refused(alloc: Global, conn: Connection<MemStore>, home: Home, wanted: OpenFault) -> bool {
+fn is_refused<S: Alter + Drop>(
+    alloc: Global,
+    conn: Connection<S>,
+    home: Home,
+    wanted: OpenFault,
+) -> bool {
     match open(alloc, conn, home) {
         Ok(_) => false,
         Err((fault, _)) => fault == wanted,
     }
 }
 
+/// A store with the five changes is refused so, once this was done to it.
+fn check_refused(rt: &impl Abort, alloc: Global, sql: &str, wanted: OpenFault) -> Result<(), Fail> {
+    let conn = spoiled(rt, alloc, sql)?;
+    assert!(rt; is_refused(alloc, conn, OURS, wanted), "{sql}");
+    Ok(())
+}
+
+/// Each of these damages a store with the five changes.
+const DAMAGES: &[&str] = &[
+    "DROP TABLE desk",
+    "DROP TABLE entries",
+    "DELETE FROM desk",
+    "INSERT INTO desk (k, hall, number, desks, promised_round, promised_desk, tried) VALUES (2, 7, 1, 3, 0, 0, 0)",
+    "UPDATE desk SET k = 2",
+    "UPDATE desk SET hall = -1",
+    "UPDATE desk SET hall = 4294967296",
+    "UPDATE desk SET number = 0",
+    "UPDATE desk SET number = 4",
+    "UPDATE desk SET desks = 4",
+    "UPDATE desk SET promised_round = 0, promised_desk = 1, vote_pos = NULL, vote_round = NULL, vote_desk = NULL, vote_id = NULL, vote_body = NULL",
+    "UPDATE desk SET promised_round = 4294967296",
+    "UPDATE desk SET promised_desk = 4",
+    "UPDATE desk SET tried = -1",
+    "UPDATE desk SET tried = 4294967296",
+    "UPDATE desk SET vote_pos = 65536",
+    "UPDATE desk SET vote_pos = NULL",
+    "UPDATE desk SET vote_round = 0",
+    "UPDATE desk SET vote_round = 3",
+    "UPDATE desk SET vote_desk = 0",
+    "UPDATE desk SET vote_id = 0",
+    "UPDATE desk SET vote_id = NULL",
+    "UPDATE desk SET vote_body = NULL",
+    "UPDATE entries SET pos = -1 WHERE pos = 0",
+    "UPDATE entries SET pos = 2 WHERE pos = 1",
+    "UPDATE entries SET id = 0 WHERE pos = 1",
+];
+
 #[test]
 fn refuses_what_is_damaged(rt: HostRuntime) -> Result<(), Fail> {
-    for sql in [
-        "DROP TABLE entries",
-        "UPDATE desk SET k = 2",
-        "UPDATE desk SET vote_id = NULL",
-        "UPDATE desk SET vote_round = 3",
-        "UPDATE desk SET promised_desk = 4",
-        "UPDATE entries SET id = 0 WHERE pos = 1",
-        "UPDATE entries SET pos = 2 WHERE pos = 1",
-        "DELETE FROM desk",
-    ] {
-        let conn = spoiled(&rt, rt.alloc(), sql)?;
-        assert!(rt;
-            is_refused(rt.alloc(), conn, OURS, OpenFault::Damaged),
-            "{sql}"
-        );
+    for sql in DAMAGES {
+        check_refused(&rt, rt.alloc(), sql, OpenFault::Damaged)?;
     }
     Ok(())
 }
 
 #[test]
-fn refuses_a_body_of_601_bytes(rt: HostRuntime) -> Result<(), Fail> {
-    let mut conn = spoiled(&rt, rt.alloc(), "")?;
-    conn.execute(
-        "UPDATE entries SET body = ?1",
-        &[ValueRef::Blob(&[66; 601])],
-    )?;
-    assert!(rt; is_refused(rt.alloc(), conn, OURS, OpenFault::Damaged));
+fn refuses_the_row_of_another_desk(rt: HostRuntime) -> Result<(), Fail> {
+    for sql in [
+        "UPDATE desk SET hall = 8",
+        "UPDATE desk SET number = 2",
+        "UPDATE desk SET desks = 5",
+    ] {
+        check_refused(&rt, rt.alloc(), sql, OpenFault::WrongDesk)?;
+    }
     Ok(())
+}
+
+/// A store with the five changes is damaged by this, of a body of 601 bytes.
+fn check_long_body(rt: &impl Abort, alloc: Global, sql: &str) -> Result<(), Fail> {
+    let mut conn = spoiled(rt, alloc, "")?;
+    conn.execute(sql, &[ValueRef::Blob(&[66; 601])])?;
+    assert!(rt; is_refused(alloc, conn, OURS, OpenFault::Damaged), "{sql}");
+    Ok(())
+}
+
+#[test]
+fn refuses_a_body_of_601_bytes(rt: HostRuntime) -> Result<(), Fail> {
+    check_long_body(&rt, rt.alloc(), "UPDATE entries SET body = ?1")?;
+    check_long_body(&rt, rt.alloc(), "UPDATE desk SET vote_body = ?1")
 }
 
 #[test]
@@ -292,5 +354,38 @@ fn finds_again_in_a_file(rt: HostRuntime) -> Result<(), Fail> {
     assert!(rt; save_in_file(&rt, "desk_store_test/desk")?);
     assert!(rt; file_has_all(&rt, "desk_store_test/desk")?);
     fs::remove_dir_all(&rt, "desk_store_test")?;
+    Ok(())
+}
+
+fn spoil<S: Alter + Drop>(mut conn: Connection<S>, sql: &str) -> Result<(), Fail> {
+    conn.execute_batch(sql)?;
+    Ok(())
+}
+
+/// Whether the store in the file is refused so, once this was done to it.
+fn file_is_refused(
+    rt: &HostRuntime,
+    path: &str,
+    sql: &str,
+    wanted: OpenFault,
+) -> Result<bool, Fail> {
+    spoil(Connection::open(rt, path)?, sql)?;
+    let conn = Connection::open(rt, path)?;
+    Ok(is_refused(rt.alloc(), conn, OURS, wanted))
+}
+
+#[test]
+fn refuses_a_file(rt: HostRuntime) -> Result<(), Fail> {
+    let _ = fs::remove_dir_all(&rt, "desk_store_refused");
+    fs::create_dir(&rt, "desk_store_refused")?;
+    assert!(rt; save_in_file(&rt, "desk_store_refused/desk")?);
+    for (sql, wanted) in [
+        ("UPDATE desk SET number = 2", OpenFault::WrongDesk),
+        ("UPDATE desk SET number = 4", OpenFault::Damaged),
+    ] {
+        let is_so = file_is_refused(&rt, "desk_store_refused/desk", sql, wanted)?;
+        assert!(rt; is_so, "{sql}");
+    }
+    fs::remove_dir_all(&rt, "desk_store_refused")?;
     Ok(())
 }

@@ -24,7 +24,7 @@ returns-in-Start-clause-left g c down honest =
     let x = c.args.desk.now in
     let s = c.start-planned.ensures in
     rw c.in-Start.is
-    (left_as x c.start-planned.new.self c.start-planned.result (step x.desks x.number x.desk Start) _ s.same (record { plan = s.plan; refused = s.refused })
+    (left_as x c.start-planned.new.self c.start-planned.result (step x.desks x.number x.desk Start) _ _ s.same (record { plan = s.plan; refused = s.refused })
     (λ t p. c.carry_out.ensures.left t p down honest))
 
 pub returns-in-Tick-clause-takes : goal.returns-in-Tick-clause-takes
@@ -39,7 +39,7 @@ returns-in-Tick-clause-left g c down honest =
     let x = c.args.desk.now in
     let s = c.tick-planned.ensures in
     rw c.in-Tick.is
-    (left_as x c.tick-planned.new.self c.tick-planned.result (step x.desks x.number x.desk Tick) _ s.same (record { plan = s.plan; refused = s.refused })
+    (left_as x c.tick-planned.new.self c.tick-planned.result (step x.desks x.number x.desk Tick) _ _ s.same (record { plan = s.plan; refused = s.refused })
     (λ t p. c.carry_out-in-Tick.ensures.left t p down honest))
 
 pub returns-in-Deliver-clause-takes : goal.returns-in-Deliver-clause-takes
@@ -55,5 +55,5 @@ returns-in-Deliver-clause-left g c down honest =
     let x = c.args.desk.now in
     let s = c.plan_message-planned.ensures in
     rw c.in-Deliver.is
-    (left_as x c.plan_message-planned.new.desk c.plan_message-planned.result (step x.desks x.number x.desk (Deliver c.in-Deliver.message)) _ s.same
+    (left_as x c.plan_message-planned.new.desk c.plan_message-planned.result (step x.desks x.number x.desk (Deliver c.in-Deliver.message)) _ _ s.same
     (record { plan = s.plan; refused = s.refused }) (λ t p. c.carry_out-in-Deliver.ensures.left t p down honest))

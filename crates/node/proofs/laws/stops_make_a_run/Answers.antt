@@ -1,3 +1,4 @@
+use Rattle.node.proofs.Calls.{answer_is_event, openings_are_restarts}
 use Rattle.node.proofs.Stopping.{stops_make_a_run as law, real_logs_agree, real_entries_are_submitted}
 use Rattle.node.proofs.laws.stops_make_a_run.Goals as goal
 
@@ -9,3 +10,9 @@ returns-clause-agree c = real_logs_agree c.logs_agree.ensures
 
 pub returns-clause-submitted : goal.returns-clause-submitted
 returns-clause-submitted c = real_entries_are_submitted c.logs_are_submitted.ensures
+
+pub returns-clause-answered : goal.returns-clause-answered
+returns-clause-answered c = answer_is_event
+
+pub returns-clause-opened : goal.returns-clause-opened
+returns-clause-opened c = openings_are_restarts
