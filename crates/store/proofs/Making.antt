@@ -1,6 +1,6 @@
 -- What the three statements that make a store leave.
-use Rattle.std.proofs.Common.{◌≡◌, ◌⊎◌, inl, inr, ℕ, pos, List, [], ◌∷◌, map, IsPermutation, Bool, true, false, cond, Some, None, Ok, Err, Result, refl, sym, ap, subst, ◌∙◌, arith}
-use Rattle.sqlite.specs.declared.types.Value.TheVariants.{Null, Int}
+use Rattle.std.proofs.Common.{◌≡◌, ℕ, pos, [], ◌∷◌, map, IsPermutation, false, None, Ok, refl, sym, ap, subst, ◌∙◌, arith}
+use Rattle.sqlite.specs.declared.types.Value.TheVariants.{Int}
 use Rattle.sqlite.specs.Order.{Row}
 use Rattle.sqlite.specs.Tree.{Trees}
 use Rattle.sqlite.specs.Term.{eval_all}
@@ -15,7 +15,6 @@ use Rattle.sqlite.specs.Rows.{Written}
 use Rattle.sqlite.specs.Effect.{Database}
 use Rattle.sqlite.specs.State.{State, mode_of, Writes, Executes, Shows}
 use Rattle.sqlite.proofs.Callers.{runs_as, one_step}
-use Rattle.acceptor.specs.declared.stored.Stored.{Stored}
 use Rattle.store.specs.declared.home.Home.{Home}
 use Rattle.store.specs.Layout.{desk_table, entries_table, store_schema, no_schema}
 use Rattle.store.specs.Holding.{desk_values, shown_desk, shown_entry, Holds}

@@ -1,8 +1,7 @@
 -- What the two queries give, and what they leave.
-use Rattle.std.proofs.Common.{◌≡◌, ◌⊎◌, inl, inr, ℕ, pos, List, [], ◌∷◌, ◌++◌, map, IsPermutation, Bool, true, false, Some, None, Ok, Err, Result, IsTrue, refl, sym, ap, subst, subst₂, ◌∙◌}
+use Rattle.std.proofs.Common.{◌≡◌, inl, inr, ℕ, List, [], ◌∷◌, map, IsPermutation, false, IsTrue, refl, sym, ap, subst, subst₂, ◌∙◌}
 use Rattle.std.specs.List.{flat_map}
-use Rattle.std.proofs.lemmas.List.Sorted.{IsPermutation-map, IsPermutation-sym}
-use Rattle.std.proofs.lemmas.Bool.{cases_Bool}
+use Rattle.std.proofs.lemmas.List.Sorted.{IsPermutation-map}
 use Rattle.sqlite.specs.Order.{Row}
 use Rattle.sqlite.specs.Tree.{Trees}
 use Rattle.sqlite.specs.Term.{Term, eval_all, Env}
@@ -11,19 +10,16 @@ use Rattle.sqlite.specs.Program.{overlay}
 use Rattle.sqlite_value.specs.declared.keys.Key.{Key}
 use Rattle.sqlite.specs.Command.{Command}
 use Rattle.sqlite.specs.Table.{Table}
-use Rattle.sqlite_schema.specs.declared.schema.Index.{Index}
-use Rattle.sqlite_schema.specs.declared.schema.View.{View}
 use Rattle.sqlite.specs.declared.error.Error.{Error}
-use Rattle.sqlite.specs.Listing.{understood, reads_listing}
-use Rattle.sqlite.specs.Effect.{Database}
-use Rattle.sqlite.specs.State.{State, IsUnchanged, IsNotRun, FailsToQuery, Shown, CommitsShowing, shows_rows}
-use Rattle.sqlite.proofs.Callers.{IsPlain, command_of, reads_as, never_commits}
+use Rattle.sqlite.specs.Listing.{understood}
+use Rattle.sqlite.specs.State.{State, IsUnchanged, IsNotRun, FailsToQuery, Shown, CommitsShowing}
+use Rattle.sqlite.proofs.Callers.{IsPlain, reads_as, never_commits}
 use Rattle.acceptor.specs.declared.entry.Entry.{Entry}
 use Rattle.acceptor.specs.declared.stored.Stored.{Stored}
 use Rattle.store.specs.declared.home.Home.{Home}
 use Rattle.store.specs.Layout.{store_schema, IsOurs}
 use Rattle.store.specs.Holding.{shown_desk, shown_entry, by_first}
-use Rattle.std.proofs.Common.{ℕ, ◌+◌, ◌<◌, length, arith, ap₂, IsSorted, get_or}
+use Rattle.std.proofs.Common.{ℕ, ◌+◌, ◌<◌, length, arith, ap₂, IsSorted}
 use Rattle.std.specs.List.{AllByRecursion}
 use Rattle.std.specs.Ordering.{is_lt}
 use Rattle.std.proofs.lemmas.List.{get_or-map, length-map}

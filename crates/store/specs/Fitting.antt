@@ -1,5 +1,5 @@
 -- Which changes keep a state in its ranges.
-use Rattle.std.proofs.Common.{ℕ, ◌≡◌, ◌<◌, inr, true, false, List, [], ◌∷◌, ◌++◌, length, Option, Some, None, refl, arith, length-append}
+use Rattle.std.proofs.Common.{ℕ, ◌≡◌, ◌<◌, inr, true, false, List, [], ◌∷◌, length, Option, Some, None, arith, length-append}
 use Rattle.std.proofs.lemmas.Bool.Decides.{nat_tests}
 use Rattle.acceptor.specs.declared.ballot.Ballot.{Ballot}
 use Rattle.acceptor.specs.declared.entry.Entry.{Entry}
@@ -8,7 +8,6 @@ use Rattle.acceptor.specs.declared.stored.Stored.{Stored}
 use Rattle.acceptor.specs.declared.stored.Change.{Change}
 use Rattle.acceptor.specs.declared.stored.Change.TheVariants.{Promised, Voted, Tried, Appended}
 use Rattle.acceptor.specs.Ballots.{is_below}
-use Rattle.learner.specs.Order.{IsAtMost}
 use Rattle.learner.specs.Ranges.{IsReal}
 use Rattle.store.specs.Ranges.{IsFit, VoteIsFit}
 use Rattle.store.specs.Keeping.{IsFitAfter}

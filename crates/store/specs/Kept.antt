@@ -1,8 +1,7 @@
 -- What a connection keeps of a desk, and what a statement that saves leaves.
-use Rattle.std.specs.Prelude.{◌≡◌, ◌⊎◌, false, ℕ, List, [], ◌∷◌, map, Result, OnOk, OnErr, IsTrue}
+use Rattle.std.specs.Prelude.{◌≡◌, ◌⊎◌, false, List, [], ◌∷◌, map, Result, OnOk, OnErr, IsTrue}
 use Rattle.sqlite.specs.Tree.{Trees}
 use Rattle.sqlite.specs.declared.error.Error.{Error}
-use Rattle.sqlite.specs.Effect.{Database}
 use Rattle.sqlite.specs.State.{State}
 use Rattle.acceptor.specs.declared.entry.Entry.{Entry}
 use Rattle.store.specs.declared.home.Home.{Home}

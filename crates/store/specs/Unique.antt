@@ -1,5 +1,5 @@
 -- The two tables have one state.
-use Rattle.std.proofs.Common.{◌≡◌, ◌⊎◌, inl, inr, ℕ, zero, suc, pos, drop, get_or, ap₂, ◌+◌, ◌<◌, List, [], ◌∷◌, ◌++◌, map, length, Option, Some, None, false, refl, sym, ap, subst, ◌∙◌, arith, IsPermutation, Ordering, Less, IsSorted, IsTrue}
+use Rattle.std.proofs.Common.{◌≡◌, ℕ, zero, suc, pos, drop, get_or, ap₂, ◌+◌, ◌<◌, List, [], ◌∷◌, length, Option, Some, None, false, refl, sym, ap, subst, ◌∙◌, arith, IsPermutation, Less, IsSorted, IsTrue}
 use Rattle.std.specs.List.{AllByRecursion}
 use Rattle.std.specs.Ordering.{nat_cmp, on, is_lt}
 use Rattle.std.specs.Cmp.{on_total, nat_cmp_total}
@@ -7,7 +7,7 @@ use Rattle.std.proofs.lemmas.Bool.Decides.{nat_tests}
 use Rattle.std.proofs.lemmas.List.Sorted.{IsPermutation-sym, IsPermutation-trans}
 use Rattle.sqlite_keyed.proofs.SortLemmas.{sorted_unique}
 use Rattle.sqlite.specs.declared.types.Value.{Value}
-use Rattle.sqlite.specs.declared.types.Value.TheVariants.{Null, Int, Blob, Real, Text}
+use Rattle.sqlite.specs.declared.types.Value.TheVariants.{Int}
 use Rattle.sqlite.specs.Order.{Row, column}
 use Rattle.sqlite.specs.Tree.{Trees, IsAscending}
 use Rattle.acceptor.specs.declared.entry.Entry.{Entry}
@@ -18,7 +18,7 @@ use Rattle.sqlite.specs.Effect.{Database}
 use Rattle.sqlite.specs.State.{State}
 use Rattle.store.specs.Kept.{Keeps, MayBreak}
 use Rattle.store.specs.Keeping.{HoldsOnly}
-use Rattle.store.specs.Holding.{Holds, desk_values, vote_values, entry_values, log_values, shown_entry}
+use Rattle.store.specs.Holding.{Holds, desk_values, vote_values, log_values}
 
 -- the position that a shown row names
 abbrev pub at_of : Row → ℕ

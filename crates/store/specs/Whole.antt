@@ -1,5 +1,5 @@
 -- A desk's row and its log, with each field in the range of its column.
-use Rattle.std.specs.Prelude.{ℕ, ◌<◌, ◌≤◌, ◌^◌, List, length, Option, Some, None}
+use Rattle.std.specs.Prelude.{◌<◌, ◌≤◌, ◌^◌, List, length, Option, Some, None}
 use Rattle.std.specs.List.{AllByRecursion}
 use Rattle.acceptor.specs.Entries.{IsId, IsText}
 use Rattle.acceptor.specs.declared.entry.Entry.{Entry}

@@ -1,4 +1,4 @@
-ghost use Rattle.std.specs.Prelude.{◌≡◌, ◌≢◌, ◌↔◌, ◌<◌, ℕ, Bool, List, Result, IsTrue, IfOk, OnOk, false};
+ghost use Rattle.std.specs.Prelude.{◌≡◌, ◌≢◌, ◌↔◌, ◌<◌, ℕ, Bool, List, Result, IsTrue, IfOk, OnOk, OnErr, false};
 ghost use Rattle.acceptor.specs.declared.entry.Entry.{Entry};
 ghost use Rattle.acceptor.specs.declared.stored.Stored.{Stored as State};
 ghost use Rattle.acceptor.specs.declared.stored.Change.{Change as Step};
@@ -60,7 +60,7 @@ pub trait Keeper {
     ///
     /// Where the keeper is Down, or its failures are 2^64 - 1, the answer is Down. Else it is Ok, and the
     /// store holds the new state alone; or NoMemory, and it holds the old one alone; or Device, and it
-    /// holds one of the two. Device counts a failure, and the keeper is Down from then on.
+    /// holds one of the two. Device counts a failure, and the keeper is Down from then on, until a load is Ok.
     fn save(&mut self, change: &Change) -> Result<(), SaveFault>
         ensures honest { is_honest self.new → is_honest self.old }
         ensures home { home_of self.new ≡ home_of self.old }
@@ -78,9 +78,9 @@ pub trait Keeper {
     /// The state and the log that the store holds.
     ///
     /// At Ok the keeper is not Down, and its store holds what was given alone. Damaged: what the store
-    /// holds is not a state in its ranges, or the failures are 2^64 - 1. Device: the device refused, and a
-    /// failure is counted. NoMemory leaves the keeper as it was. Whatever the answer, an opening finds nothing
-    /// that it could not find before.
+    /// holds is not a state in its ranges, or the failures are 2^64 - 1. Device: the device refused, a
+    /// failure is counted, and the keeper is Down. NoMemory leaves it as it was. A keeper that is Down stays so
+    /// until a load is Ok. Whatever the answer, an opening finds nothing that it could not find before.
     fn load(&mut self, alloc: Global) -> Result<(Stored, Log), LoadFault>
         ensures honest { is_honest self.new → is_honest self.old }
         ensures home { home_of self.new ≡ home_of self.old }
@@ -97,6 +97,8 @@ pub trait Keeper {
         ensures counted { result ≡ Err LoadFault.Device → failures_of self.old < failures_of self.new }
         ensures uncounted { result ≢ Err LoadFault.Device → failures_of self.new ≡ failures_of self.old }
         ensures down { result ≢ Err LoadFault.Device → IsTrue (is_down self.new) → IsTrue (is_down self.old) }
+        ensures ended { result ≡ Err LoadFault.Device → IsTrue (is_down self.new) }
+        ensures stays { OnErr result (IsTrue (is_down self.old) → IsTrue (is_down self.new)) }
         ensures more { load_gives self.old result self.new };
 
     /// What a keeper keeps is what an opening finds.

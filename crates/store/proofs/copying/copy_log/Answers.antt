@@ -1,4 +1,4 @@
-use Rattle.std.proofs.Common.{◌≡◌, ◌∙◌, sym, ap, arith, rules}
+use Rattle.std.proofs.Common.{sym, arith, rules}
 use Rattle.store.proofs.Copies.{one_more, all_copied, there}
 use Rattle.store.proofs.copying.copy_log.Goals.{else-loop-pos-test, then-loop-pos-test+in_default}
 use Rattle.store.proofs.copying.copy_log.Goals as goal

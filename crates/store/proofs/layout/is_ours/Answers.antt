@@ -1,5 +1,5 @@
-use Rattle.std.proofs.Common.{◌≡◌, ◌∙◌, ap, ap₂, ◌∷◌, [], sym, subst, drop, length, arith}
-use Rattle.store.specs.Layout.{HasNoKey, store_schema}
+use Rattle.std.proofs.Common.{◌∙◌, ap, ap₂, ◌∷◌, sym, subst, drop}
+use Rattle.store.specs.Layout.{HasNoKey}
 use Rattle.store.proofs.Patterns.{two_and_more, rest}
 use Rattle.store.proofs.layout.is_ours.Goals as goal
 

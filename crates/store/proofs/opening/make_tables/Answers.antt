@@ -1,7 +1,6 @@
-use Rattle.std.proofs.Common.{◌≡◌, ◌⊎◌, inl, inr, refl, sym, subst, arith, rules, OnOk, true, []}
+use Rattle.std.proofs.Common.{◌≡◌, inl, inr, sym, subst, arith, rules, OnOk, true, []}
 use Rattle.std.proofs.lemmas.Result.{IfOk-weaker}
 use Rattle.sqlite.specs.State.{HasCleanDisk}
-use Rattle.sqlite.specs.Tree.{Trees}
 use Rattle.sqlite.specs.Held.{state}
 use Rattle.acceptor.specs.Storing.{first_stored}
 use Rattle.store.specs.Holding.{Holds}

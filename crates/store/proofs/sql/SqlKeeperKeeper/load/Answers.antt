@@ -1,4 +1,3 @@
-use Rattle.std.proofs.Common.{sym, ◌∙◌, ap}
 use Rattle.sqlite.specs.Held.{state}
 use Rattle.store.specs.Unique.{one_state, alone}
 use Rattle.store.proofs.Saving.{kept_unchanged}
