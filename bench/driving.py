@@ -60,6 +60,8 @@ def run_rt(words, folder, log):
 
 def build(program, on):
     name, below = program.name, crates_below(on)
+    if not shutil.which("rt"):
+        sys.exit(f"{name}: the toolchain's command rt is not on the path")
     log = OUT / f"{name}.log"
     OUT.mkdir(exist_ok=True)
     log.write_bytes(b"")
