@@ -1,5 +1,6 @@
--- What a desk stores and answers at a Prepare and at an Accept: phases 1b and 2b of 'Paxos Made Simple', section 2.2.
--- Own rule: a desk promises and votes at its log's length alone, so that the log has no gap.
+-- What a desk stores and answers at a Prepare and at an Accept: phases 1b and 2b of 'Paxos Made
+-- Simple', section 2.2. Own rule: a desk promises and votes at its log's length alone, so that the
+-- log has no gap.
 use Rattle.std.specs.Prelude.{ℕ, if◌then◌else◌, Option, Some, None, ◌==◌}
 use Rattle.acceptor.specs.declared.ballot.Ballot.{Ballot}
 use Rattle.acceptor.specs.declared.entry.Entry.{Entry}
@@ -20,7 +21,8 @@ pub record Reply : Type 0 where
 -- the vote, where it was given at this position
 abbrev pub reported : Option Vote → ℕ → Option Report
 reported None pos = None
-reported (Some v) pos = if v.pos == pos then Some (record { ballot = v.ballot; entry = v.entry }) else None
+reported (Some v) pos =
+    if v.pos == pos then Some (record { ballot = v.ballot; entry = v.entry }) else None
 
 -- an entry that is there is told, and a position past the log's end is answered by its length
 abbrev pub elsewhere : Option Entry → ℕ → ℕ → Reply
@@ -36,14 +38,19 @@ prepare_here s b pos =
 
 -- len is the log's length, and there the entry at the position, where there is one
 abbrev pub prepare_reply : Stored → ℕ → Option Entry → Ballot → ℕ → Reply
-prepare_reply s len there b pos = if pos == len then prepare_here s b pos else elsewhere there len pos
+prepare_reply s len there b pos =
+    if pos == len then prepare_here s b pos else elsewhere there len pos
 
 -- a ballot that is not below the promised one gets the vote
 abbrev pub accept_here : Stored → Ballot → ℕ → Entry → Reply
 accept_here s b pos e =
     if is_below b s.promised
     then record { change = None; body = Nack b pos s.promised }
-    else record { change = Some (Voted (record { pos = pos; ballot = b; entry = e })); body = Accepted b pos }
+    else record {
+      change = Some (Voted (record { pos = pos; ballot = b; entry = e }));
+      body = Accepted b pos;
+    }
 
 abbrev pub accept_reply : Stored → ℕ → Option Entry → Ballot → ℕ → Entry → Reply
-accept_reply s len there b pos e = if pos == len then accept_here s b pos e else elsewhere there len pos
+accept_reply s len there b pos e =
+    if pos == len then accept_here s b pos e else elsewhere there len pos

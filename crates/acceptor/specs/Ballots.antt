@@ -1,4 +1,5 @@
--- Ballots, the proposal numbers of 'Paxos Made Simple', section 2.2. Each names the desk that makes it, so no two desks share one (section 2.5).
+-- Ballots, the proposal numbers of 'Paxos Made Simple', section 2.2. Each names the desk that makes
+-- it, so no two desks share one (section 2.5).
 use Rattle.std.specs.Prelude.{Bool, false, if◌then◌else◌, nat_lt, ◌==◌}
 use Rattle.acceptor.specs.declared.ballot.Ballot.{Ballot}
 

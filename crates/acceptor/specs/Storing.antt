@@ -1,4 +1,5 @@
--- What a desk keeps in stable storage ('Paxos Made Simple', section 2.5), and what a change leaves there.
+-- What a desk keeps in stable storage ('Paxos Made Simple', section 2.5), and what a change leaves
+-- there.
 use Rattle.std.specs.Prelude.{List, [], ◌∷◌, ◌++◌, Option, Some, None}
 use Rattle.acceptor.specs.declared.entry.Entry.{Entry}
 use Rattle.acceptor.specs.declared.stored.Stored.{Stored}

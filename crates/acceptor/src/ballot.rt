@@ -1,7 +1,9 @@
+//! Ballots, which name attempts to decide.
+
 /// The name of one attempt to decide: a round, and the desk that makes the attempt.
 ///
-/// A real ballot has a round of at least 1 and a desk of 1 to the number of desks. 'Paxos Made Simple',
-/// section 2.2, calls it a proposal number.
+/// A real ballot has a round of at least 1 and a desk of 1 to the number of desks. 'Paxos Made
+/// Simple', section 2.2, calls it a proposal number.
 #[derive(Clone, Copy, PartialEq, Eq, Debug)]
 pub struct Ballot {
     pub round: u32,

@@ -1,3 +1,5 @@
+//! Entries, which stand in the log.
+
 ghost use Rattle.std.specs.Prelude.{◌≡◌, ◌≤◌, ◌<◌, ◌^◌, ◌↔◌, IfOk, IsErrOf, length};
 ghost use Rattle.acceptor.specs.Entries.{IsId, IsText};
 

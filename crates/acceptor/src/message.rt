@@ -1,3 +1,5 @@
+//! What the desks say to one another.
+
 use crate::NoMemory;
 use crate::ballot::Ballot;
 use crate::entry::Entry;
@@ -14,9 +16,9 @@ pub struct Report {
 
 /// What one desk says to another. Positions are 0 to 65,535.
 ///
-/// Prepare and Promise are phase 1, Accept and Accepted phase 2 of 'Paxos Made Simple', section 2.2;
-/// Nack is its hint that a proposer had better abandon its ballot. Decided is what learners are told
-/// (section 2.3), and with Behind a desk says how long its log is.
+/// Prepare and Promise are phase 1, Accept and Accepted phase 2 of 'Paxos Made Simple', section
+/// 2.2; Nack is its hint that a proposer had better abandon its ballot. Decided is what learners
+/// are told (section 2.3), and with Behind a desk says how long its log is.
 #[derive(PartialEq, Eq, Debug, Drop)]
 pub enum Body {
     /// Asks for a promise to this ballot, at this position.
@@ -24,7 +26,8 @@ pub enum Body {
         ballot: Ballot,
         pos: u32,
     },
-    /// The desk will vote for no lower ballot. `vote` is its last vote at this position, where it has one.
+    /// The desk will vote for no lower ballot. `vote` is its last vote at this position, where it
+    /// has one.
     Promise {
         ballot: Ballot,
         pos: u32,

@@ -1,3 +1,5 @@
+//! What a desk stores and answers when it is asked for a promise or for a vote.
+
 ghost use Rattle.std.specs.Prelude.{◌≡◌, IfOk, option_map};
 ghost use Rattle.acceptor.specs.Answers.{reported, elsewhere, prepare_reply, accept_reply};
 
@@ -16,12 +18,13 @@ pub struct Here<'a> {
     pub entry: Option<&'a Entry>,
 }
 
-/// What a desk stores and answers when it is asked for a promise, by a Prepare of this ballot at this
-/// position ('Paxos Made Simple', section 2.2, phase 1b).
+/// What a desk stores and answers when it is asked for a promise, by a Prepare of this ballot at
+/// this position ('Paxos Made Simple', section 2.2, phase 1b).
 ///
-/// At its log's length it promises a ballot above the one that it has promised, and reports its vote
-/// where that was given at this very position; any other ballot is answered by a Nack. At a position of
-/// its log it answers with the decided entry, and past its log's end with the log's length.
+/// At its log's length it promises a ballot above the one that it has promised, and reports its
+/// vote where that was given at this very position; any other ballot is answered by a Nack. At a
+/// position of its log it answers with the decided entry, and past its log's end with the log's
+/// length.
 pub fn on_prepare(
     alloc: Global,
     stored: &Stored,
@@ -30,9 +33,11 @@ pub fn on_prepare(
     pos: u32,
 ) -> Result<(Option<Change>, Body), NoMemory>
     ensures change { let there = option_map (λ e. e.now) here.entry.entry in
-        IfOk result (λ r. r.0 ≡ (prepare_reply stored.now here.entry.len there ballot pos).change) }
+        let reply = prepare_reply stored.now here.entry.len there ballot pos in
+        IfOk result (λ r. r.0 ≡ reply.change) }
     ensures body { let there = option_map (λ e. e.now) here.entry.entry in
-        IfOk result (λ r. r.1 ≡ (prepare_reply stored.now here.entry.len there ballot pos).body) }
+        let reply = prepare_reply stored.now here.entry.len there ballot pos in
+        IfOk result (λ r. r.1 ≡ reply.body) }
 {
     if pos != here.len {
         return Ok((None, told(alloc, here, pos)?));
@@ -55,11 +60,11 @@ pub fn on_prepare(
     ))
 }
 
-/// What a desk stores and answers when it is asked for its vote, by an Accept of this ballot at this
-/// position for this entry ('Paxos Made Simple', section 2.2, phase 2b).
+/// What a desk stores and answers when it is asked for its vote, by an Accept of this ballot at
+/// this position for this entry ('Paxos Made Simple', section 2.2, phase 2b).
 ///
-/// At its log's length it votes, unless it has promised a higher ballot: then it answers with a Nack.
-/// At any other position it answers as to a Prepare.
+/// At its log's length it votes, unless it has promised a higher ballot: then it answers with a
+/// Nack. At any other position it answers as to a Prepare.
 pub fn on_accept(
     alloc: Global,
     stored: &Stored,
@@ -69,9 +74,11 @@ pub fn on_accept(
     entry: &Entry,
 ) -> Result<(Option<Change>, Body), NoMemory>
     ensures change { let there = option_map (λ e. e.now) here.entry.entry in
-        IfOk result (λ r. r.0 ≡ (accept_reply stored.now here.entry.len there ballot pos entry.now).change) }
+        let reply = accept_reply stored.now here.entry.len there ballot pos entry.now in
+        IfOk result (λ r. r.0 ≡ reply.change) }
     ensures body { let there = option_map (λ e. e.now) here.entry.entry in
-        IfOk result (λ r. r.1 ≡ (accept_reply stored.now here.entry.len there ballot pos entry.now).body) }
+        let reply = accept_reply stored.now here.entry.len there ballot pos entry.now in
+        IfOk result (λ r. r.1 ≡ reply.body) }
 {
     if pos != here.len {
         return Ok((None, told(alloc, here, pos)?));

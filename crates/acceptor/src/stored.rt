@@ -1,3 +1,5 @@
+//! What a desk keeps in stable storage, beside its log.
+
 use crate::ballot::Ballot;
 use crate::entry::Entry;
 

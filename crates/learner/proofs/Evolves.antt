@@ -19,26 +19,46 @@ pub prefix_self : (xs : List Entry) → IsPrefix xs xs
 prefix_self xs = ([], append-nil xs)
 
 pub prefix_trans : (xs ys zs : List Entry) → IsPrefix xs ys → IsPrefix ys zs → IsPrefix xs zs
-prefix_trans xs ys zs p q = (p.0 ++ q.0, sym (append_assoc xs p.0 q.0) ∙ (ap (λ w. w ++ q.0) p.1 ∙ q.1))
+prefix_trans xs ys zs p q =
+    (p.0 ++ q.0, sym (append_assoc xs p.0 q.0) ∙ (ap (λ w. w ++ q.0) p.1 ∙ q.1))
 
 -- desk d goes from x to y
 pub record Evolves (d : ℕ) (x y : Desk) : Type 0 where
   pub promised : IsAtMost x.stored.promised y.stored.promised
   pub tried : x.stored.tried ≤ y.stored.tried
   pub log : IsPrefix x.log y.log
-  pub vote : (b : Ballot) → IsAtMost b x.stored.promised → length x.log ≡ length y.log → Covers x.stored.vote (length x.log) b → Covers y.stored.vote (length x.log) b
-  pub role : (b : Ballot) (pos : ℕ) → b.round ≤ x.stored.tried → RoleAllows x.role (length x.log) b pos → RoleAllows y.role (length y.log) b pos
+  pub vote : (b : Ballot) → IsAtMost b x.stored.promised → length x.log ≡ length y.log
+      → Covers x.stored.vote (length x.log) b → Covers y.stored.vote (length x.log) b
+  pub role : (b : Ballot) (pos : ℕ) → b.round ≤ x.stored.tried
+      → RoleAllows x.role (length x.log) b pos → RoleAllows y.role (length y.log) b pos
 
 pub evolves_self : (d : ℕ) (x : Desk) → Evolves d x x
 evolves_self d x =
-    record { promised = at_most_self x.stored.promised; tried = omega arith; log = prefix_self x.log; vote = λ b p s c. c; role = λ b pos t a. a }
+    record {
+      promised = at_most_self x.stored.promised;
+      tried = omega arith;
+      log = prefix_self x.log;
+      vote = λ b p s c. c;
+      role = λ b pos t a. a;
+    }
 
-pub evolves : (n : ℕ) (sent : List Message) (d : ℕ) (x y : Desk) → Evolves d x y → (body : Body) → Stands n sent d x body → Stands n sent d y body
+pub evolves : (n : ℕ) (sent : List Message) (d : ℕ) (x y : Desk) → Evolves d x y → (body : Body)
+    → Stands n sent d x body → Stands n sent d y body
 evolves n sent d x y go (Prepare b pos) h = tt
-evolves n sent d x y go (Promise b pos v) h = record { promised = at_most_trans b x.stored.promised y.stored.promised h.promised go.promised; vote = h.vote }
+evolves n sent d x y go (Promise b pos v) h =
+    record {
+      promised = at_most_trans b x.stored.promised y.stored.promised h.promised go.promised;
+      vote = h.vote;
+    }
 evolves n sent d x y go (Accept b pos e) h =
     let t = h.tried in
-    let u = go.tried in record { own = h.own; tried = omega arith; role = go.role b pos h.tried h.role; backed = h.backed }
+    let u = go.tried in
+    record {
+      own = h.own;
+      tried = omega arith;
+      role = go.role b pos h.tried h.role;
+      backed = h.backed;
+    }
 evolves n sent d x y go (Accepted b pos) h =
     let p = h.place in
     let l = length_prefix x.log y.log go.log in
@@ -51,7 +71,9 @@ evolves n sent d x y go (Accepted b pos) h =
           λ e.
           let here : pos ≡ length x.log = omega arith in
           let same : length x.log ≡ length y.log = omega arith in
-          subst (λ (k : ℕ). Covers y.stored.vote k b) (sym here) (go.vote b h.promised same (subst (λ (k : ℕ). Covers x.stored.vote k b) here (h.vote here)));
+          subst (λ (k : ℕ). Covers y.stored.vote k b) (sym here)
+          (go.vote b h.promised same
+          (subst (λ (k : ℕ). Covers x.stored.vote k b) here (h.vote here)));
     }
 evolves n sent d x y go (Nack b pos promised) h = tt
 evolves n sent d x y go (Behind len) h = tt

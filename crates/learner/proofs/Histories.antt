@@ -10,7 +10,7 @@ use Rattle.acceptor.specs.Storing.{first_stored}
 use Rattle.acceptor.specs.Messages.{message}
 use Rattle.proposer.specs.declared.faults.Refusal.{Refusal}
 use Rattle.proposer.specs.declared.faults.Refusal.TheVariants.{Busy, BallotsSpent}
-use Rattle.proposer.specs.declared.role.Role.TheVariants.{Idle, Gathering, Proposing}
+use Rattle.proposer.specs.declared.role.Role.TheVariants.{Idle, Gathering, Proposing, Leading}
 use Rattle.learner.specs.declared.event.Event.TheVariants.{Submit, Start, Deliver}
 use Rattle.learner.specs.declared.event.WorldEvent.{WorldEvent}
 use Rattle.learner.specs.declared.event.WorldEvent.TheVariants.{Submit as SubmitAt, Start as StartAt, Tick as TickAt, Deliver as DeliverNth, Restart as RestartAt}
@@ -18,22 +18,24 @@ use Rattle.learner.specs.Desks.{Desk, first_desk}
 use Rattle.learner.specs.Steps.{Done, step}
 use Rattle.learner.specs.Worlds.{after, log_of}
 
-abbrev a : Entry
+abbrev pub a : Entry
 a = record { id = 7; text = codes "REG 1 Ann Li" }
 
-abbrev b : Entry
+abbrev pub b : Entry
 b = record { id = 8; text = codes "REG 2 Bo Ek" }
 
-abbrev ballot : ℕ → ℕ → Ballot
+abbrev pub ballot : ℕ → ℕ → Ballot
 ballot round desk = record { round = round; desk = desk }
 
-abbrev deliver : List ℕ → List WorldEvent
+abbrev pub deliver : List ℕ → List WorldEvent
 deliver [] = []
 deliver (k ∷ ks) = DeliverNth k ∷ deliver ks
 
 -- One entry at desk 1, decided with desk 2; desk 3, which nothing has reached, asks and is told.
 abbrev one_entry : List WorldEvent
-one_entry = SubmitAt 1 a ∷ StartAt 1 ∷ deliver (1 ∷ 2 ∷ 4 ∷ 5 ∷ 6 ∷ 7 ∷ 9 ∷ 10 ∷ 11 ∷ []) ++ TickAt 3 ∷ deliver (14 ∷ 16 ∷ [])
+one_entry =
+    SubmitAt 1 a ∷ StartAt 1 ∷ deliver (1 ∷ 2 ∷ 4 ∷ 5 ∷ 6 ∷ 7 ∷ 9 ∷ 10 ∷ 11 ∷ []) ++ TickAt 3 ∷
+    deliver (14 ∷ 16 ∷ [])
 
 one_entry_sent : (after 3 one_entry).sent
     ≡ message 1 1 (Prepare (ballot 1 1) 0)
@@ -65,11 +67,17 @@ one_entry_log_2 = refl
 one_entry_log_3 : log_of 3 one_entry 3 ≡ a ∷ []
 one_entry_log_3 = refl
 
--- Desk 1 votes for its entry, and that is lost. Desk 2, with a higher ballot, hears of the vote and proposes that entry; its own follows at the next position.
+-- Desk 1 votes for its entry, and that is lost. Desk 2, with a higher ballot, hears of the vote and
+-- proposes that entry; its own follows at the next position, by the same ballot.
+abbrev taking_over : List WorldEvent
+taking_over =
+    SubmitAt 1 a ∷ StartAt 1 ∷ deliver (1 ∷ 2 ∷ 4 ∷ 5 ∷ 6 ∷ [])
+    ++ SubmitAt 2 b ∷ StartAt 2 ∷ deliver (10 ∷ 11 ∷ 13 ∷ 14 ∷ [])
+
 abbrev taken_over : List WorldEvent
 taken_over =
-    SubmitAt 1 a ∷ StartAt 1 ∷ deliver (1 ∷ 2 ∷ 4 ∷ 5 ∷ 6 ∷ []) ++ SubmitAt 2 b ∷ StartAt 2 ∷ deliver (10 ∷ 11 ∷ 13 ∷ 14 ∷ 15 ∷ 16 ∷ 18 ∷ 19 ∷ [])
-    ++ StartAt 2 ∷ deliver (20 ∷ 22 ∷ 23 ∷ 26 ∷ 27 ∷ 28 ∷ 29 ∷ 31 ∷ 32 ∷ 33 ∷ [])
+    taking_over ++ deliver (15 ∷ 16 ∷ 18 ∷ 19 ∷ [])
+    ++ StartAt 2 ∷ deliver (20 ∷ 22 ∷ 23 ∷ 26 ∷ 27 ∷ 28 ∷ [])
 
 taken_over_sent : drop 8 (after 3 taken_over).sent
     ≡ message 1 1 (Accepted (ballot 1 1) 0)
@@ -85,17 +93,12 @@ taken_over_sent : drop 8 (after 3 taken_over).sent
     ∷ message 2 2 (Accepted (ballot 2 2) 0)
     ∷ message 2 1 (Decided 0 a)
     ∷ message 2 3 (Decided 0 a)
-    ∷ message 2 1 (Prepare (ballot 3 2) 1)
-    ∷ message 2 2 (Prepare (ballot 3 2) 1)
-    ∷ message 2 3 (Prepare (ballot 3 2) 1)
+    ∷ message 2 1 (Accept (ballot 2 2) 1 b)
+    ∷ message 2 2 (Accept (ballot 2 2) 1 b)
+    ∷ message 2 3 (Accept (ballot 2 2) 1 b)
     ∷ message 1 2 (Behind 1)
-    ∷ message 1 2 (Promise (ballot 3 2) 1 None)
-    ∷ message 2 2 (Promise (ballot 3 2) 1 None)
-    ∷ message 2 1 (Accept (ballot 3 2) 1 b)
-    ∷ message 2 2 (Accept (ballot 3 2) 1 b)
-    ∷ message 2 3 (Accept (ballot 3 2) 1 b)
-    ∷ message 1 2 (Accepted (ballot 3 2) 1)
-    ∷ message 2 2 (Accepted (ballot 3 2) 1)
+    ∷ message 1 2 (Accepted (ballot 2 2) 1)
+    ∷ message 2 2 (Accepted (ballot 2 2) 1)
     ∷ message 2 1 (Decided 1 b)
     ∷ message 2 3 (Decided 1 b)
     ∷ message 1 2 (Behind 2)
@@ -111,23 +114,45 @@ taken_over_log_2 = refl
 taken_over_log_3 : log_of 3 taken_over 3 ≡ []
 taken_over_log_3 = refl
 
--- Desk 1 has sent Accept and restarts. A late Accepted changes nothing and is not answered, the queue is empty, and the next ballot is of a new round.
-abbrev restarted_desk : List WorldEvent
-restarted_desk = SubmitAt 1 a ∷ SubmitAt 1 b ∷ StartAt 1 ∷ deliver (1 ∷ 2 ∷ 4 ∷ 5 ∷ 6 ∷ 7 ∷ []) ++ RestartAt 1 ∷ []
+-- A desk that proposes asks again for the same entry, whatever waits first in its queue.
+taking_over_queue : ((after 3 taking_over).desks 2).queue ≡ b ∷ []
+taking_over_queue = refl
 
-restarted_desk_late : (after 3 (restarted_desk ++ deliver (9 ∷ 10 ∷ []))).desks 1 ≡ (after 3 restarted_desk).desks 1
+taking_over_tick : drop 17 (after 3 (taking_over ++ TickAt 2 ∷ [])).sent
+    ≡ message 2 1 (Accept (ballot 2 2) 0 a)
+    ∷ message 2 2 (Accept (ballot 2 2) 0 a)
+    ∷ message 2 3 (Accept (ballot 2 2) 0 a)
+    ∷ []
+taking_over_tick = refl
+
+-- Desk 1 has sent Accept and restarts. A late Accepted changes nothing and is not answered, the
+-- queue is empty, and the next ballot is of a new round.
+abbrev restarted_desk : List WorldEvent
+restarted_desk =
+    SubmitAt 1 a ∷ SubmitAt 1 b ∷ StartAt 1 ∷ deliver (1 ∷ 2 ∷ 4 ∷ 5 ∷ 6 ∷ 7 ∷ []) ++ RestartAt 1 ∷
+    []
+
+restarted_desk_late : (after 3 (restarted_desk ++ deliver (9 ∷ 10 ∷ []))).desks 1
+    ≡ (after 3 restarted_desk).desks 1
 restarted_desk_late = refl
 
-restarted_desk_unanswered : (after 3 (restarted_desk ++ deliver (9 ∷ 10 ∷ []))).sent ≡ (after 3 restarted_desk).sent
+restarted_desk_unanswered : (after 3 (restarted_desk ++ deliver (9 ∷ 10 ∷ []))).sent
+    ≡ (after 3 restarted_desk).sent
 restarted_desk_unanswered = refl
 
 restarted_desk_queue : ((after 3 restarted_desk).desks 1).queue ≡ []
 restarted_desk_queue = refl
 
-restarted_desk_vote : ((after 3 restarted_desk).desks 1).stored ≡ record { promised = ballot 1 1; vote = Some (record { pos = 0; ballot = ballot 1 1; entry = a }); tried = 1 }
+restarted_desk_vote : ((after 3 restarted_desk).desks 1).stored
+    ≡ record {
+      promised = ballot 1 1;
+      vote = Some (record { pos = 0; ballot = ballot 1 1; entry = a });
+      tried = 1;
+    }
 restarted_desk_vote = refl
 
-restarted_desk_role : ((after 3 (restarted_desk ++ StartAt 1 ∷ [])).desks 1).role ≡ Gathering (ballot 2 1) 0 []
+restarted_desk_role : ((after 3 (restarted_desk ++ StartAt 1 ∷ [])).desks 1).role
+    ≡ Gathering (ballot 2 1) 0 []
 restarted_desk_role = refl
 
 -- The vote of a position that is decided is still stored, and is not reported for the next one.
@@ -142,7 +167,8 @@ next_position_sent : drop 17 (after 3 next_position).sent
     ∷ []
 next_position_sent = refl
 
-next_position_vote : ((after 3 next_position).desks 1).stored.vote ≡ Some (record { pos = 0; ballot = ballot 1 1; entry = a })
+next_position_vote : ((after 3 next_position).desks 1).stored.vote
+    ≡ Some (record { pos = 0; ballot = ballot 1 1; entry = a })
 next_position_vote = refl
 
 abbrev desk_of : Result Done Refusal → Desk
@@ -153,9 +179,14 @@ desk_of (Err why) = first_desk
 abbrev desk_1 : Desk
 desk_1 =
     record {
-      stored = record { promised = ballot 1 1; vote = Some (record { pos = 0; ballot = ballot 1 1; entry = a }); tried = 1 };
+      stored =
+          record {
+            promised = ballot 1 1;
+            vote = Some (record { pos = 0; ballot = ballot 1 1; entry = a });
+            tried = 1;
+          };
       log = a ∷ [];
-      role = Idle;
+      role = Leading (ballot 1 1);
       queue = [];
       seen = 0;
     }
@@ -163,7 +194,7 @@ desk_1 =
 one_entry_stored : ((after 3 one_entry).desks 1).stored ≡ desk_1.stored
 one_entry_stored = refl
 
-one_entry_role : ((after 3 one_entry).desks 1).role ≡ Idle
+one_entry_role : ((after 3 one_entry).desks 1).role ≡ Leading (ballot 1 1)
 one_entry_role = refl
 
 one_entry_queue : ((after 3 one_entry).desks 1).queue ≡ []
@@ -177,7 +208,8 @@ answer from body = step 3 1 desk_1 (Deliver (message from 1 body))
 abbrev says : List Message → Result Done Refusal
 says messages = Ok (record { desk = desk_1; messages = messages })
 
--- a question for an earlier position is answered by the entry there, and one for a later position by the log's length
+-- a question for an earlier position is answered by the entry there, and one for a later position
+-- by the log's length
 earlier_position : answer 2 (Prepare (ballot 2 2) 0) ≡ says (message 1 2 (Decided 0 a) ∷ [])
 earlier_position = refl
 
@@ -193,14 +225,21 @@ earlier_accept = refl
 later_accept : answer 2 (Accept (ballot 2 2) 3 b) ≡ says (message 1 2 (Behind 1) ∷ [])
 later_accept = refl
 
--- a ballot that is not above the promised one gets a Nack, and a vote needs one that is not below it
-low_prepare : answer 2 (Prepare (ballot 1 1) 1) ≡ says (message 1 2 (Nack (ballot 1 1) 1 (ballot 1 1)) ∷ [])
+-- a ballot that is not above the promised one gets a Nack, and a vote needs one that is not below
+-- it
+low_prepare : answer 2 (Prepare (ballot 1 1) 1)
+    ≡ says (message 1 2 (Nack (ballot 1 1) 1 (ballot 1 1)) ∷ [])
 low_prepare = refl
 
 abbrev promised_desk : Desk
 promised_desk = record desk_1 { stored = record { promised = ballot 2 2; vote = None; tried = 1 } }
 
-low_accept : step 3 1 promised_desk (Deliver (message 3 1 (Accept (ballot 1 3) 1 b))) ≡ Ok (record { desk = promised_desk; messages = message 1 3 (Nack (ballot 1 3) 1 (ballot 2 2)) ∷ [] })
+low_accept : step 3 1 promised_desk (Deliver (message 3 1 (Accept (ballot 1 3) 1 b)))
+    ≡ Ok
+    (record {
+      desk = promised_desk;
+      messages = message 1 3 (Nack (ballot 1 3) 1 (ballot 2 2)) ∷ [];
+    })
 low_accept = refl
 
 -- an earlier entry changes nothing, a later one is answered by the log's length
@@ -226,22 +265,34 @@ past_the_last = refl
 no_such_sender : answer 4 (Prepare (ballot 2 2) 0) ≡ says []
 no_such_sender = refl
 
--- Of five desks, one that promises three times counts once, and the third distinct one completes the majority.
+-- Of five desks, one that promises three times counts once, and the third distinct one completes
+-- the majority.
 abbrev five_desks : List WorldEvent
 five_desks = SubmitAt 1 a ∷ StartAt 1 ∷ deliver (1 ∷ 2 ∷ 3 ∷ 7 ∷ 7 ∷ 7 ∷ 6 ∷ [])
 
-five_desks_heard : ((after 5 five_desks).desks 1).role ≡ Gathering (ballot 1 1) 0 (record { desk = 1; vote = None } ∷ record { desk = 2; vote = None } ∷ [])
+five_desks_heard : ((after 5 five_desks).desks 1).role
+    ≡ Gathering (ballot 1 1) 0
+    (record { desk = 1; vote = None } ∷ record { desk = 2; vote = None } ∷ [])
 five_desks_heard = refl
 
-five_desks_majority : ((after 5 (five_desks ++ DeliverNth 8 ∷ [])).desks 1).role ≡ Proposing (ballot 1 1) 0 a []
+five_desks_majority : ((after 5 (five_desks ++ DeliverNth 8 ∷ [])).desks 1).role
+    ≡ Proposing (ballot 1 1) 0 a []
 five_desks_majority = refl
 
--- A Nack with a higher ballot ends the ballot, and the next one is above it. One that is no higher does not.
+-- A Nack with a higher ballot ends the ballot, and the next one is above it. One that is no higher
+-- does not.
 abbrev gathers : List WorldEvent
 gathers = SubmitAt 1 a ∷ StartAt 1 ∷ []
 
 abbrev gathering_desk : Desk
-gathering_desk = record { stored = record { promised = ballot 0 0; vote = None; tried = 1 }; log = []; role = Gathering (ballot 1 1) 0 []; queue = a ∷ []; seen = 0 }
+gathering_desk =
+    record {
+      stored = record { promised = ballot 0 0; vote = None; tried = 1 };
+      log = [];
+      role = Gathering (ballot 1 1) 0 [];
+      queue = a ∷ [];
+      seen = 0;
+    }
 
 gathers_stored : ((after 3 gathers).desks 1).stored ≡ gathering_desk.stored
 gathers_stored = refl
@@ -250,18 +301,28 @@ gathers_role : ((after 3 gathers).desks 1).role ≡ gathering_desk.role
 gathers_role = refl
 
 abbrev idle_desk : Desk
-idle_desk = record { stored = record { promised = ballot 0 0; vote = None; tried = 1 }; log = []; role = Idle; queue = a ∷ []; seen = 4 }
+idle_desk =
+    record {
+      stored = record { promised = ballot 0 0; vote = None; tried = 1 };
+      log = [];
+      role = Idle;
+      queue = a ∷ [];
+      seen = 4;
+    }
 
-higher_nack : step 3 1 gathering_desk (Deliver (message 2 1 (Nack (ballot 1 1) 0 (ballot 4 2)))) ≡ Ok (record { desk = idle_desk; messages = [] })
+higher_nack : step 3 1 gathering_desk (Deliver (message 2 1 (Nack (ballot 1 1) 0 (ballot 4 2))))
+    ≡ Ok (record { desk = idle_desk; messages = [] })
 higher_nack = refl
 
 next_ballot : (desk_of (step 3 1 idle_desk Start)).role ≡ Gathering (ballot 5 1) 0 []
 next_ballot = refl
 
-equal_nack : step 3 1 gathering_desk (Deliver (message 2 1 (Nack (ballot 1 1) 0 (ballot 1 1)))) ≡ Ok (record { desk = gathering_desk; messages = [] })
+equal_nack : step 3 1 gathering_desk (Deliver (message 2 1 (Nack (ballot 1 1) 0 (ballot 1 1))))
+    ≡ Ok (record { desk = gathering_desk; messages = [] })
 equal_nack = refl
 
--- At a Tick a desk that gathers makes a new ballot, one that proposes asks those again that it has not heard, and an idle one with nothing to propose tells its log's length.
+-- At a Tick a desk that gathers makes a new ballot, one that proposes asks those again that it has
+-- not heard, and an idle one with nothing to propose tells its log's length.
 tick_gathering : drop 3 (after 3 (gathers ++ TickAt 1 ∷ [])).sent
     ≡ message 1 1 (Prepare (ballot 2 1) 0)
     ∷ message 1 2 (Prepare (ballot 2 1) 0)
@@ -269,7 +330,8 @@ tick_gathering : drop 3 (after 3 (gathers ++ TickAt 1 ∷ [])).sent
     ∷ []
 tick_gathering = refl
 
-tick_proposing : drop 9 (after 3 (gathers ++ deliver (1 ∷ 2 ∷ 4 ∷ 5 ∷ 7 ∷ 9 ∷ []) ++ TickAt 1 ∷ [])).sent
+tick_proposing : drop 9
+    (after 3 (gathers ++ deliver (1 ∷ 2 ∷ 4 ∷ 5 ∷ 7 ∷ 9 ∷ []) ++ TickAt 1 ∷ [])).sent
     ≡ message 1 1 (Accept (ballot 1 1) 0 a)
     ∷ message 1 3 (Accept (ballot 1 1) 0 a)
     ∷ []

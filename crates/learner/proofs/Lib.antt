@@ -23,3 +23,4 @@ pub mod Origins
 pub mod Ranges
 pub mod InRange
 pub mod Histories
+pub mod Leaderships

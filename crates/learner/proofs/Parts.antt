@@ -10,8 +10,12 @@ use Rattle.learner.specs.Parts.{HasOneEntry, VotesStand, PromisesStand, AcceptsA
 pub has_one_entry : (n : ℕ) (w : World) → IsSound n w → HasOneEntry w
 has_one_entry n w sound = sound.one
 
-vote_stands : (n : ℕ) (w : World) → IsSound n w → (d : ℕ) (v : Vote) → (w.desks d).stored.vote ≡ Some v → IsAtMost v.ballot (w.desks d).stored.promised × Asked w.sent v.ballot v.pos v.entry
-vote_stands n w sound d v e = subst (λ (o : Option Vote). VoteStands w.sent (w.desks d).stored.promised o) e (sound.desks d).vote
+vote_stands : (n : ℕ) (w : World) → IsSound n w → (d : ℕ) (v : Vote)
+    → (w.desks d).stored.vote ≡ Some v
+    → IsAtMost v.ballot (w.desks d).stored.promised × Asked w.sent v.ballot v.pos v.entry
+vote_stands n w sound d v e =
+    subst (λ (o : Option Vote). VoteStands w.sent (w.desks d).stored.promised o) e
+    (sound.desks d).vote
 
 pub votes_stand : (n : ℕ) (w : World) → IsSound n w → VotesStand w
 votes_stand n w sound =
@@ -28,13 +32,18 @@ promises_stand n w sound =
       promised = λ d b pos v h. (sound.messages d (Promise b pos v) h).promised;
       below = λ d b pos r h. (sound.messages d (Promise b pos (Some r)) h).vote.0;
       kept = λ d b c pos v h k. (sound.kept d b pos v c pos h k).same refl;
+      later = λ d b c pos above v h k. (sound.kept d b pos v c above h k).later;
     }
 
 pub accepts_are_backed : (n : ℕ) (w : World) → IsSound n w → AcceptsAreBacked n w
 accepts_are_backed n w sound d b pos e h = (sound.messages d (Accept b pos e) h).backed
 
 pub decisions_are_chosen : (n : ℕ) (w : World) → IsSound n w → DecisionsAreChosen n w
-decisions_are_chosen n w sound = record { log = λ d pos e h. (sound.desks d).log pos e h; told = λ d pos e h. sound.messages d (Decided pos e) h }
+decisions_are_chosen n w sound =
+    record {
+      log = λ d pos e h. (sound.desks d).log pos e h;
+      told = λ d pos e h. sound.messages d (Decided pos e) h;
+    }
 
 pub roles_stand : (n : ℕ) (w : World) → IsSound n w → RolesStand n w
 roles_stand n w sound =

@@ -1,5 +1,5 @@
--- When an entry is chosen at a position: "a value is chosen when a single proposal with that value has been accepted by a majority of the
--- acceptors" ('Paxos Made Simple', section 2.2).
+-- When an entry is chosen at a position: "a value is chosen when a single proposal with that value
+-- has been accepted by a majority of the acceptors" ('Paxos Made Simple', section 2.2).
 use Rattle.std.specs.Prelude.{ℕ, ◌≡◌, ◌<◌, ◌*◌, ◌⊎◌, List, [], ◌∷◌, length}
 use Rattle.acceptor.specs.declared.ballot.Ballot.{Ballot}
 use Rattle.acceptor.specs.declared.entry.Entry.{Entry}

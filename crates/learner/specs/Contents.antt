@@ -1,4 +1,5 @@
--- Where entries and ballots stand in desks and messages: P is a property of entries, Q one of ballots.
+-- Where entries and ballots stand in desks and messages: P is a property of entries, Q one of
+-- ballots.
 use Rattle.std.specs.Prelude.{ℕ, ◌≡◌, ◌≤◌, ◌⊎◌, List, [], ◌∷◌, Option, Some, None}
 use Rattle.acceptor.specs.declared.ballot.Ballot.{Ballot}
 use Rattle.acceptor.specs.declared.entry.Entry.{Entry}
@@ -10,7 +11,7 @@ use Rattle.acceptor.specs.declared.stored.Vote.{Vote}
 use Rattle.acceptor.specs.Ballots.{no_ballot}
 use Rattle.proposer.specs.declared.role.Heard.{Heard}
 use Rattle.proposer.specs.declared.role.Role.{Role}
-use Rattle.proposer.specs.declared.role.Role.TheVariants.{Idle, Gathering, Proposing}
+use Rattle.proposer.specs.declared.role.Role.TheVariants.{Idle, Gathering, Proposing, Leading}
 use Rattle.learner.specs.Desks.{Desk}
 use Rattle.learner.specs.Steps.{IsDesk}
 use Rattle.learner.specs.Worlds.{World}
@@ -48,6 +49,7 @@ abbrev pub RoleHolds : (Entry → Type 0) → (Ballot → Type 0) → Role → T
 RoleHolds P Q Idle = Unit {0}
 RoleHolds P Q (Gathering b pos heard) = Q b × HeardHolds P Q heard
 RoleHolds P Q (Proposing b pos e heard) = Q b × P e
+RoleHolds P Q (Leading b) = Q b
 
 pub record DeskHolds (P : Entry → Type 0) (Q : Ballot → Type 0) (x : Desk) : Type 0 where
   pub promised : (x.stored.promised ≡ no_ballot) ⊎ Q x.stored.promised
@@ -60,7 +62,8 @@ pub record WorldHolds (P : Entry → Type 0) (Q : Ballot → Type 0) (w : World)
   pub desks : (d : ℕ) → DeskHolds P Q (w.desks d)
   pub sent : MessagesHold P Q w.sent
 
--- the ballot is of a round from 1 on, and the desk that it names is one of n and has tried that round
+-- the ballot is of a round from 1 on, and the desk that it names is one of n and has tried that
+-- round
 pub record IsTried (n : ℕ) (w : World) (b : Ballot) : Type 0 where
   pub round : 1 ≤ b.round
   pub desk : IsDesk n b.desk

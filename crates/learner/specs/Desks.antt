@@ -1,5 +1,5 @@
--- All that a desk knows, and how a plan changes it. A desk is proposer, acceptor and learner in one, and may stop and restart ('Paxos Made Simple',
--- sections 2.1 and 2.5).
+-- All that a desk knows, and how a plan changes it. A desk is proposer, acceptor and learner in
+-- one, and may stop and restart ('Paxos Made Simple', sections 2.1 and 2.5).
 use Rattle.std.specs.Prelude.{ℕ, List, []}
 use Rattle.acceptor.specs.declared.entry.Entry.{Entry}
 use Rattle.acceptor.specs.declared.stored.Stored.{Stored}

@@ -12,7 +12,7 @@ use Rattle.acceptor.specs.declared.stored.Vote.{Vote}
 use Rattle.proposer.specs.declared.role.Heard.{Heard}
 use Rattle.proposer.specs.declared.role.Role.{Role}
 use Rattle.learner.specs.Desks.{Desk}
-use Rattle.proposer.specs.declared.role.Role.TheVariants.{Idle, Gathering, Proposing}
+use Rattle.proposer.specs.declared.role.Role.TheVariants.{Idle, Gathering, Proposing, Leading}
 use Rattle.proposer.specs.Proposing.{highest}
 use Rattle.learner.specs.Steps.{IsDesk}
 use Rattle.learner.specs.Worlds.{World}
@@ -36,8 +36,9 @@ abbrev pub IsEntryOf : Option Report → Entry → Type 0
 IsEntryOf None e = Unit {0}
 IsEntryOf (Some r) e = r.entry ≡ e
 
--- a majority promised the ballot at one position, no later than this one; where it is this one, the entry is that of their highest vote, where there
--- is one (condition P2c of 'Paxos Made Simple', section 2.2)
+-- a majority promised the ballot at one position, no later than this one; where it is this one, the
+-- entry is that of their highest vote, where there is one (condition P2c of 'Paxos Made Simple',
+-- section 2.2)
 pub record IsBacked (n : ℕ) (sent : List Message) (b : Ballot) (pos : ℕ) (e : Entry) : Type 0 where
   pub at : ℕ
   pub heard : List Heard
@@ -55,14 +56,18 @@ abbrev pub CoversReport : Option Report → Ballot → Type 0
 CoversReport None b = ⊥
 CoversReport (Some r) b = IsAtMost b r.ballot
 
--- with this role and a log of this length, the desk may have asked for votes for this ballot at this position
+-- with this role and a log of this length, the desk may have asked for votes for this ballot at
+-- this position
 abbrev pub RoleAllows : Role → ℕ → Ballot → ℕ → Type 0
 RoleAllows Idle len b pos = Unit {0}
 RoleAllows (Gathering own at heard) len b pos = ¬ (own ≡ b)
 RoleAllows (Proposing own at e heard) len b pos = own ≡ b → pos ≤ len
+RoleAllows (Leading own) len b pos = own ≡ b → pos < len
 
--- an Accept names its sender, whose `tried` is no lower, whose role allows it, and a majority backs it
-pub record AcceptStands (n : ℕ) (sent : List Message) (d : ℕ) (x : Desk) (b : Ballot) (pos : ℕ) (e : Entry) : Type 0 where
+-- an Accept names its sender, whose `tried` is no lower, whose role allows it, and a majority backs
+-- it
+pub record AcceptStands (n : ℕ) (sent : List Message) (d : ℕ) (x : Desk) (b : Ballot) (pos : ℕ)
+    (e : Entry) : Type 0 where
   pub own : b.desk ≡ d
   pub tried : b.round ≤ x.stored.tried
   pub role : RoleAllows x.role (length x.log) b pos
@@ -72,12 +77,15 @@ abbrev pub ReportStands : List Message → Ballot → ℕ → Option Report → 
 ReportStands sent b pos None = Unit {0}
 ReportStands sent b pos (Some r) = IsBelow r.ballot b × Asked sent r.ballot pos r.entry
 
--- who promised a ballot has it or a higher one stored; what it reported was asked for, under a lower ballot
-pub record PromiseStands (sent : List Message) (x : Desk) (b : Ballot) (pos : ℕ) (v : Option Report) : Type 0 where
+-- who promised a ballot has it or a higher one stored; what it reported was asked for, under a
+-- lower ballot
+pub record PromiseStands (sent : List Message) (x : Desk) (b : Ballot) (pos : ℕ)
+    (v : Option Report) : Type 0 where
   pub promised : IsAtMost b x.stored.promised
   pub vote : ReportStands sent b pos v
 
--- who voted has that ballot or a higher one stored, at no position past its log; at its log's length the stored vote is of that ballot or a higher one
+-- who voted has that ballot or a higher one stored, at no position past its log; at its log's
+-- length the stored vote is of that ballot or a higher one
 pub record AcceptedStands (sent : List Message) (x : Desk) (b : Ballot) (pos : ℕ) : Type 0 where
   pub entry : Entry
   pub asked : Asked sent b pos entry
@@ -96,16 +104,19 @@ Stands n sent d x (Behind len) = Unit {0}
 Stands n sent d x (Decided pos e) = IsChosen n sent pos e
 
 -- the promises that were heard were sent, each by another desk
-pub record GatheringStands (n : ℕ) (sent : List Message) (d top len : ℕ) (b : Ballot) (pos : ℕ) (heard : List Heard) : Type 0 where
+pub record GatheringStands (n : ℕ) (sent : List Message) (d top len : ℕ) (b : Ballot) (pos : ℕ)
+    (heard : List Heard) : Type 0 where
   pub own : b.desk ≡ d
   pub tried : b.round ≤ top
   pub place : pos ≡ len
   pub distinct : IsDistinct (desks_of heard)
   pub ours : (k : ℕ) → Has (desks_of heard) k → IsDesk n k
-  pub promised : (k : ℕ) (v : Option Report) → HeardFrom heard k v → Sent sent k (Promise b pos v)
+  pub promised : (k : ℕ) (v : Option Report)
+      → HeardFrom heard k v → Sent sent k (Promise b pos v)
 
 -- its Accept was sent, and so were the votes that were heard, each by another desk
-pub record ProposingStands (n : ℕ) (sent : List Message) (d top len : ℕ) (b : Ballot) (pos : ℕ) (e : Entry) (heard : List ℕ) : Type 0 where
+pub record ProposingStands (n : ℕ) (sent : List Message) (d top len : ℕ) (b : Ballot) (pos : ℕ)
+    (e : Entry) (heard : List ℕ) : Type 0 where
   pub own : b.desk ≡ d
   pub tried : b.round ≤ top
   pub place : pos ≡ len
@@ -114,10 +125,24 @@ pub record ProposingStands (n : ℕ) (sent : List Message) (d top len : ℕ) (b 
   pub ours : (k : ℕ) → Has heard k → IsDesk n k
   pub accepted : (k : ℕ) → Has heard k → Sent sent k (Accepted b pos)
 
+-- a majority promised the ballot, at one position, which is decided by now
+pub record LeadingStands (n : ℕ) (sent : List Message) (d top len : ℕ) (b : Ballot) : Type 0 where
+  pub own : b.desk ≡ d
+  pub tried : b.round ≤ top
+  pub at : ℕ
+  pub before : at < len
+  pub heard : List Heard
+  pub majority : IsMajority n (desks_of heard)
+  pub promised : (k : ℕ) (v : Option Report)
+      → HeardFrom heard k v → Sent sent k (Promise b at v)
+
 abbrev pub RoleStands : ℕ → List Message → ℕ → ℕ → ℕ → Role → Type 0
 RoleStands n sent d top len Idle = Unit {0}
-RoleStands n sent d top len (Gathering b pos heard) = GatheringStands n sent d top len b pos heard
-RoleStands n sent d top len (Proposing b pos e heard) = ProposingStands n sent d top len b pos e heard
+RoleStands n sent d top len (Gathering b pos heard) =
+    GatheringStands n sent d top len b pos heard
+RoleStands n sent d top len (Proposing b pos e heard) =
+    ProposingStands n sent d top len b pos e heard
+RoleStands n sent d top len (Leading b) = LeadingStands n sent d top len b
 
 abbrev pub VoteStands : List Message → Ballot → Option Vote → Type 0
 VoteStands sent promised None = Unit {0}
@@ -134,17 +159,21 @@ pub record DeskStands (n : ℕ) (sent : List Message) (d : ℕ) (x : Desk) : Typ
 
 -- one entry per ballot and position
 abbrev pub OneEntry : List Message → Type 0
-OneEntry sent = (s t : ℕ) (b : Ballot) (pos : ℕ) (e f : Entry) → Sent sent s (Accept b pos e) → Sent sent t (Accept b pos f) → e ≡ f
+OneEntry sent =
+    (s t : ℕ) (b : Ballot) (pos : ℕ) (e f : Entry)
+    → Sent sent s (Accept b pos e) → Sent sent t (Accept b pos f) → e ≡ f
 
--- a vote below a promise of the same desk was reported, or surpassed, where both are at one position; and none is at a later position (condition P1a
--- of 'Paxos Made Simple', section 2.2, and what a promise reports)
+-- a vote below a promise of the same desk was reported, or surpassed, where both are at one
+-- position; and none is at a later position (condition P1a of 'Paxos Made Simple', section 2.2, and
+-- what a promise reports)
 pub record IsKept (b : Ballot) (at : ℕ) (v : Option Report) (c : Ballot) (pos : ℕ) : Type 0 where
   pub same : pos ≡ at → IsBelow c b → CoversReport v c
   pub later : at < pos → IsAtMost b c
 
 abbrev pub KeepsPromises : List Message → Type 0
 KeepsPromises sent =
-    (d : ℕ) (b : Ballot) (at : ℕ) (v : Option Report) (c : Ballot) (pos : ℕ) → Sent sent d (Promise b at v) → Sent sent d (Accepted c pos) → IsKept b at v c pos
+    (d : ℕ) (b : Ballot) (at : ℕ) (v : Option Report) (c : Ballot) (pos : ℕ)
+    → Sent sent d (Promise b at v) → Sent sent d (Accepted c pos) → IsKept b at v c pos
 
 pub record IsSound (n : ℕ) (w : World) : Type 0 where
   pub desks : (d : ℕ) → DeskStands n w.sent d (w.desks d)

@@ -12,7 +12,8 @@ use Rattle.learner.specs.declared.event.Event.{Event}
 use Rattle.learner.specs.Desks.{Desk}
 use Rattle.learner.specs.Steps.{IsDesk, step}
 
--- what stands in a log is chosen: nobody learns that a value is chosen unless it is ('Paxos Made Simple', section 2.1)
+-- what stands in a log is chosen: nobody learns that a value is chosen unless it is ('Paxos Made
+-- Simple', section 2.1)
 abbrev pub LogsAreChosen : Type 0
 LogsAreChosen =
     (n : ℕ) (events : List WorldEvent) (d pos : ℕ) (e : Entry)
@@ -24,7 +25,8 @@ OneIsChosen =
     (n : ℕ) (events : List WorldEvent) (pos : ℕ) (e f : Entry)
     → IsChosen n (after n events).sent pos e → IsChosen n (after n events).sent pos f → e ≡ f
 
--- what stands in a log was submitted before, to a desk that took it: only what was proposed is chosen ('Paxos Made Simple', section 2.1)
+-- what stands in a log was submitted before, to a desk that took it: only what was proposed is
+-- chosen ('Paxos Made Simple', section 2.1)
 abbrev pub LogsAreSubmitted : Type 0
 LogsAreSubmitted =
     (n : ℕ) (events : List WorldEvent) (d pos : ℕ) (e : Entry)
@@ -38,7 +40,8 @@ IsPrefix xs ys = (rest : List Entry) × (xs ++ rest ≡ ys)
 abbrev pub LogsAgree : Type 0
 LogsAgree =
     (n : ℕ) (events : List WorldEvent) (i j d k : ℕ)
-    → IsPrefix (log_of n (take i events) d) (log_of n (take j events) k) ⊎ IsPrefix (log_of n (take j events) k) (log_of n (take i events) d)
+    → IsPrefix (log_of n (take i events) d) (log_of n (take j events) k)
+    ⊎ IsPrefix (log_of n (take j events) k) (log_of n (take i events) d)
 
 -- a log only grows
 abbrev pub LogsGrow : Type 0
@@ -51,24 +54,34 @@ abbrev pub EntriesStay : Type 0
 EntriesStay =
     (n : ℕ) (events : List WorldEvent) (i j d k pos : ℕ) (e : Entry)
     → slice_get (log_of n (take i events) d) pos ≡ Some e
-    → pos < length (log_of n (take j events) k) → slice_get (log_of n (take j events) k) pos ≡ Some e
+    → pos < length (log_of n (take j events) k)
+    → slice_get (log_of n (take j events) k) pos ≡ Some e
 
 -- this holds after every list of events
 abbrev pub Always : (ℕ → World → Type 0) → Type 0
 Always P = (n : ℕ) (events : List WorldEvent) → P n (after n events)
 
--- each entry in a queue, a role, a vote, a log or a message was submitted, and each ballot there is of a round that the desk which it names has tried
+-- each entry in a queue, a role, a vote, a log or a message was submitted, and each ballot there is
+-- of a round that the desk which it names has tried
 abbrev pub ContentsStand : Type 0
-ContentsStand = (n : ℕ) (events : List WorldEvent) → WorldHolds (IsSubmitted n events) (IsTried n (after n events)) (after n events)
+ContentsStand =
+    (n : ℕ) (events : List WorldEvent)
+    → WorldHolds (IsSubmitted n events) (IsTried n (after n events)) (after n events)
 
 -- each message is from a desk of the hall to a desk of the hall, with its fields in their ranges
 abbrev pub MessagesAreInRange : Type 0
-MessagesAreInRange = (n : ℕ) (events : List WorldEvent) (k : ℕ) (m : Message) → slice_get (after n events).sent k ≡ Some m → IsInRange n m
+MessagesAreInRange =
+    (n : ℕ) (events : List WorldEvent) (k : ℕ) (m : Message)
+    → slice_get (after n events).sent k ≡ Some m → IsInRange n m
 
--- no log is longer than 65,536 entries, no desk gathers promises or proposes at a full one, and all ballots are real
+-- no log is longer than 65,536 entries, no desk gathers promises or proposes at a full one, and all
+-- ballots are real
 abbrev pub DesksAreInRange : Type 0
-DesksAreInRange = (n : ℕ) (events : List WorldEvent) (d : ℕ) → DeskIsInRange n ((after n events).desks d)
+DesksAreInRange =
+    (n : ℕ) (events : List WorldEvent) (d : ℕ) → DeskIsInRange n ((after n events).desks d)
 
 -- a step of a desk in range leaves it in range, and what it sends is from that desk and in range
 abbrev pub StepsStayInRange : Type 0
-StepsStayInRange = (n d : ℕ) (x : Desk) (event : Event) → IsDesk n d → DeskIsInRange n x → DoneIsInRange n d (step n d x event)
+StepsStayInRange =
+    (n d : ℕ) (x : Desk) (event : Event) → IsDesk n d → DeskIsInRange n x
+    → DoneIsInRange n d (step n d x event)

@@ -1,5 +1,5 @@
--- How a desk learns what was decided, and catches up ('Paxos Made Simple', section 2.3). Own rule: a desk takes only the entry for its next position,
--- and asks for what it lacks.
+-- How a desk learns what was decided, and catches up ('Paxos Made Simple', section 2.3). Own rule:
+-- a desk takes only the entry for its next position, and asks for what it lacks.
 use Rattle.std.specs.Prelude.{ℕ, suc, ◌+◌, if◌then◌else◌, List, [], ◌∷◌, ◌==◌, nat_lt, length, take, drop}
 use Rattle.acceptor.specs.declared.entry.Entry.{Entry}
 use Rattle.acceptor.specs.declared.message.Message.{Message}
@@ -16,14 +16,17 @@ abbrev pub on_decided : ℕ → List Entry → Passing → ℕ → ℕ → Entry
 on_decided d log p from pos e =
     if pos == length log
     then append p e Idle (message d from (Behind (length log + 1)) ∷ [])
-    else (if nat_lt (length log) pos then only_say p (message d from (Behind (length log)) ∷ []) else only_say p [])
+    else (if nat_lt (length log) pos
+    then only_say p (message d from (Behind (length log)) ∷ [])
+    else only_say p [])
 
 -- the entries from the position on, each told by a message of its own
 abbrev pub told : ℕ → ℕ → ℕ → List Entry → List Message
 told d from pos [] = []
 told d from pos (e ∷ es) = message d from (Decided pos e) ∷ told d from (suc pos) es
 
--- a desk that lacks entries is told the next of them, and one that has more is told the log's length
+-- a desk that lacks entries is told the next of them, and one that has more is told the log's
+-- length
 abbrev pub on_behind : ℕ → List Entry → Passing → ℕ → ℕ → Plan
 on_behind d log p from len =
     if nat_lt (length log) len

@@ -1,5 +1,5 @@
 pub mod Logs
-pub mod Indexes
+pub mod model
 pub mod Learning
 pub mod Desks
 pub mod Steps

@@ -4,7 +4,7 @@ use Rattle.acceptor.specs.declared.ballot.Ballot.{Ballot}
 use Rattle.acceptor.specs.declared.message.Message.{Message}
 use Rattle.acceptor.specs.declared.stored.Vote.{Vote}
 use Rattle.proposer.specs.declared.role.Role.{Role}
-use Rattle.proposer.specs.declared.role.Role.TheVariants.{Idle, Gathering, Proposing}
+use Rattle.proposer.specs.declared.role.Role.TheVariants.{Idle, Gathering, Proposing, Leading}
 use Rattle.learner.specs.Order.{IsAtMost}
 use Rattle.learner.specs.Desks.{Desk}
 use Rattle.learner.specs.Steps.{IsDesk, is_in_range, Done}
@@ -21,19 +21,21 @@ pub record IsInRange (n : ℕ) (m : Message) : Type 0 where
 abbrev pub IsReal : ℕ → Ballot → Type 0
 IsReal n b = (1 ≤ b.round) × IsDesk n b.desk
 
--- a role's position is the log's length, and the log has room for it
+-- a role's position, where it has one, is the log's length, and the log has room for it
 abbrev pub RoleIsPlaced : ℕ → Role → Type 0
 RoleIsPlaced len Idle = Unit {0}
 RoleIsPlaced len (Gathering b pos heard) = (pos ≡ len) × (len < 65536)
 RoleIsPlaced len (Proposing b pos e heard) = (pos ≡ len) × (len < 65536)
+RoleIsPlaced len (Leading b) = Unit {0}
 
 -- a stored vote is at a position of a log, and no higher than the promise
 abbrev pub VoteIsPlaced : Ballot → Option Vote → Type 0
 VoteIsPlaced promised None = Unit {0}
 VoteIsPlaced promised (Some v) = (v.pos < 65536) × IsAtMost v.ballot promised
 
--- the log is no longer than 65,536 entries, and the desk neither gathers promises nor proposes at a full one; its vote is at a position of a log, and
--- no higher than its promise; all its ballots are real, but for the promise that it has at first
+-- the log is no longer than 65,536 entries, and the desk neither gathers promises nor proposes at a
+-- full one; its vote is at a position of a log, and no higher than its promise; all its ballots are
+-- real, but for the promise that it has at first
 pub record DeskIsInRange (n : ℕ) (x : Desk) : Type 0 where
   pub log : length x.log ≤ 65536
   pub role : RoleIsPlaced (length x.log) x.role

@@ -1,4 +1,5 @@
--- What one event changes at a desk, and what the desk sends. The message steps are those of 'Paxos Made Simple', sections 2.2 and 2.3.
+-- What one event changes at a desk, and what the desk sends. The message steps are those of 'Paxos
+-- Made Simple', sections 2.2 and 2.3.
 use Rattle.std.specs.Prelude.{ℕ, ◌≤◌, Bool, false, if◌then◌else◌, List, [], ◌∷◌, Some, None, Result, Ok, Err, ◌==◌, ◌&&◌, nat_lt, nat_le, length, slice_get}
 use Rattle.acceptor.specs.declared.ballot.Ballot.{Ballot}
 use Rattle.acceptor.specs.declared.message.Message.{Message}
@@ -43,13 +44,22 @@ is_heeded n d m = (m.to == d) && is_desk n m.from && is_in_range n m.body
 
 -- the acceptor's reply goes to the sender
 abbrev pub answered : ℕ → Desk → ℕ → Reply → Plan
-answered d x from r = record { role = None; seen = x.seen; drop_first = false; change = r.change; messages = message d from r.body ∷ [] }
+answered d x from r =
+    record {
+      role = None;
+      seen = x.seen;
+      drop_first = false;
+      change = r.change;
+      messages = message d from r.body ∷ [];
+    }
 
 -- what desk d plans at a message from this desk
 abbrev pub on_body : ℕ → ℕ → Desk → ℕ → Body → Plan
-on_body n d x from (Prepare b pos) = answered d x from (prepare_reply x.stored (length x.log) (slice_get x.log pos) b pos)
+on_body n d x from (Prepare b pos) =
+    answered d x from (prepare_reply x.stored (length x.log) (slice_get x.log pos) b pos)
 on_body n d x from (Promise b pos vote) = on_promise n d (passing x) from b pos vote
-on_body n d x from (Accept b pos e) = answered d x from (accept_reply x.stored (length x.log) (slice_get x.log pos) b pos e)
+on_body n d x from (Accept b pos e) =
+    answered d x from (accept_reply x.stored (length x.log) (slice_get x.log pos) b pos e)
 on_body n d x from (Accepted b pos) = on_accepted n d (passing x) from b pos
 on_body n d x from (Nack b pos promised) = on_nack (passing x) b promised
 on_body n d x from (Behind len) = on_behind d x.log (passing x) from len
@@ -73,7 +83,18 @@ idle x = record { desk = x; messages = [] }
 
 -- only what passes at a restart is changed
 abbrev pub passed : Desk → Result Passing Refusal → Result Done Refusal
-passed x (Ok p) = Ok (record { desk = record { stored = x.stored; log = x.log; role = p.role; queue = p.queue; seen = p.seen }; messages = [] })
+passed x (Ok p) =
+    Ok (record {
+      desk =
+          record {
+            stored = x.stored;
+            log = x.log;
+            role = p.role;
+            queue = p.queue;
+            seen = p.seen;
+          };
+      messages = [];
+    })
 passed x (Err why) = Err why
 
 -- a step of desk d of n
@@ -81,4 +102,5 @@ abbrev pub step : ℕ → ℕ → Desk → Event → Result Done Refusal
 step n d x (Submit e) = passed x (submit (length x.log) (passing x) e)
 step n d x Start = planned x (start n d x.stored (length x.log) (passing x))
 step n d x Tick = planned x (tick n d x.stored (length x.log) (passing x))
-step n d x (Deliver m) = if is_heeded n d m then Ok (done x (on_body n d x m.from m.body)) else Ok (idle x)
+step n d x (Deliver m) =
+    if is_heeded n d m then Ok (done x (on_body n d x m.from m.body)) else Ok (idle x)

@@ -1,5 +1,6 @@
--- n desks and all that they ever sent, under a list of events: the model of 'Paxos Made Simple', section 2.1. Desks stop and restart. Messages take
--- any time, and may be lost (no event names one), repeated (events name one twice) and overtaken; none is altered.
+-- n desks and all that they ever sent, under a list of events: the model of 'Paxos Made Simple',
+-- section 2.1. Desks stop and restart. Messages take any time, and may be lost (no event names
+-- one), repeated (events name one twice) and overtaken; none is altered.
 use Rattle.std.specs.Prelude.{ℕ, zero, suc, if◌then◌else◌, List, [], ◌∷◌, ◌++◌, Option, Some, None, Result, Ok, Err, ◌==◌, slice_get}
 use Rattle.acceptor.specs.declared.entry.Entry.{Entry}
 use Rattle.acceptor.specs.declared.message.Message.{Message}
@@ -43,7 +44,9 @@ delivered n w None = w
 delivered n w (Some m) = at_desk n w m.to (Deliver m)
 
 abbrev pub restart_at : ℕ → World → ℕ → World
-restart_at n w d = if is_desk n d then record { desks = put w.desks d (restarted (w.desks d)); sent = w.sent } else w
+restart_at n w d =
+    if is_desk n d then record { desks = put w.desks d (restarted (w.desks d)); sent = w.sent }
+    else w
 
 abbrev pub happens : ℕ → World → WorldEvent → World
 happens n w (SubmitAt d e) = at_desk n w d (Submit e)

@@ -1,5 +1,6 @@
-//! The laws of agreement among the desks of a hall. Each is the contract of a function that does nothing: it holds after every list of
-//! submissions, starts, ticks, deliveries (also lost, repeated and late ones) and restarts, for every number of desks.
+//! The laws of agreement among the desks of a hall. Each is the contract of a function that does
+//! nothing: it holds after every list of submissions, starts, ticks, deliveries (also lost,
+//! repeated and late ones) and restarts, for every number of desks.
 
 ghost use Rattle.learner.specs.Laws.{LogsAreChosen, OneIsChosen, LogsAreSubmitted, LogsAgree, LogsGrow, EntriesStay, Always, ContentsStand, MessagesAreInRange, DesksAreInRange, StepsStayInRange};
 ghost use Rattle.learner.specs.Invariant.{IsSound};

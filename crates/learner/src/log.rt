@@ -1,3 +1,5 @@
+//! A desk's log.
+
 ghost use Rattle.std.specs.Prelude.{◌≡◌};
 
 use acceptor::NoMemory;
@@ -31,7 +33,8 @@ impl From<AllocError> for ReserveFault {
     }
 }
 
-/// The entries that a desk knows to be decided, by position, and the room that was reserved for the next one (0 or 1).
+/// The entries that a desk knows to be decided, by position, and the room that was reserved for the
+/// next one (0 or 1).
 #[derive(Drop)]
 pub struct Log {
     entries: Vec<Entry>,
@@ -41,7 +44,7 @@ pub struct Log {
 
 impl Model for Log {
     ghost use Rattle.learner.specs.Logs.{LogValue};
-    ghost use Rattle.learner.specs.Indexes.{IsIndexed};
+    ghost use Rattle.learner.specs.model.Indexes.{IsIndexed};
 
     ghost Value = { LogValue };
 
@@ -54,8 +57,8 @@ impl Log {
     ghost use Rattle.std.specs.Prelude.{◌<◌, ◌≤◌, ◌↔◌, [], IsTrue, IsOk, IfOk, OnOk, OnErr, length, slice_get, option_map};
     ghost use Rattle.learner.specs.Logs.{empty_log, appended, reserved, position_of};
 
-    /// The log with no entry, and with no room reserved. It takes its first memory here; where that is
-    /// refused, the answer is NoMemory.
+    /// The log with no entry, and with no room reserved. It takes its first memory here; where that
+    /// is refused, the answer is NoMemory.
     pub fn new(alloc: Global) -> Result<Log, NoMemory>
         ensures { IfOk result (λ log. log ≡ empty_log) }
     {
@@ -66,10 +69,11 @@ impl Log {
         })
     }
 
-    /// Makes room for one more entry, where there is none. With room there already, it takes no memory.
+    /// Makes room for one more entry, where there is none. With room there already, it takes no
+    /// memory.
     ///
-    /// With 65,536 entries the log is LogFull. Else, where memory is refused, the answer is NoMemory.
-    /// Either leaves the log as it was.
+    /// With 65,536 entries the log is LogFull. Else, where memory is refused, the answer is
+    /// NoMemory. Either leaves the log as it was.
     pub fn reserve(&mut self) -> Result<(), ReserveFault>
         ensures ok { OnOk result (self.new ≡ reserved self.old) }
         ensures room { 0 < self.old.room → IsOk result }
@@ -121,8 +125,8 @@ impl Log {
         self.entries.is_empty()
     }
 
-    /// The first position that has an entry of this id, where there is one. It is looked up in a table,
-    /// whatever the log's length.
+    /// The first position that has an entry of this id, where there is one. It is looked up in a
+    /// table, whatever the log's length.
     pub fn position_of(&self, id: u64) -> Option<u32>
         ensures { result ≡ position_of self.now.entries id }
     {

@@ -1,5 +1,5 @@
 -- What a desk loses at a restart, and what a step plans to change and to send.
-use Rattle.std.specs.Prelude.{ℕ, Bool, false, if◌then◌else◌, ◌≡◌, List, [], ◌∷◌, Option, Some, None}
+use Rattle.std.specs.Prelude.{ℕ, max, Bool, false, if◌then◌else◌, ◌≡◌, List, [], ◌∷◌, Option, Some, None}
 use Rattle.acceptor.specs.declared.entry.Entry.{Entry}
 use Rattle.acceptor.specs.Entries.{is_same_entry}
 use Rattle.acceptor.specs.declared.message.Message.{Message}
@@ -30,25 +30,56 @@ queue_after (e ∷ es) drop = if drop then es else e ∷ es
 
 -- the passing part once the plan is taken
 abbrev pub passing_after : Passing → Plan → Passing
-passing_after p plan = record { role = role_after p.role plan.role; queue = queue_after p.queue plan.drop_first; seen = plan.seen }
+passing_after p plan =
+    record {
+      role = role_after p.role plan.role;
+      queue = queue_after p.queue plan.drop_first;
+      seen = plan.seen;
+    }
 
 -- nothing changes, and this is sent
 abbrev pub only_say : Passing → List Message → Plan
-only_say p messages = record { role = None; seen = p.seen; drop_first = false; change = None; messages = messages }
+only_say p messages =
+    record { role = None; seen = p.seen; drop_first = false; change = None; messages = messages }
 
 -- the role changes, and this is sent
 abbrev pub become : Passing → Role → List Message → Plan
-become p role messages = record { role = Some role; seen = p.seen; drop_first = false; change = None; messages = messages }
+become p role messages =
+    record {
+      role = Some role;
+      seen = p.seen;
+      drop_first = false;
+      change = None;
+      messages = messages;
+    }
+
+-- the desk gives its ballot up, and keeps in mind the round that was shown
+abbrev pub give_way : Passing → ℕ → Plan
+give_way p round =
+    record {
+      role = Some Idle;
+      seen = max p.seen round;
+      drop_first = false;
+      change = None;
+      messages = [];
+    }
 
 -- the first of the queue is equal to the entry
 abbrev pub begins_with : List Entry → Entry → Bool
 begins_with [] e = false
 begins_with (first ∷ rest) e = is_same_entry first e
 
--- the log grows by the entry, which leaves the queue where it is first there; the role becomes this one, and this is sent
+-- the log grows by the entry, which leaves the queue where it is first there; the role becomes this
+-- one, and this is sent
 abbrev pub append : Passing → Entry → Role → List Message → Plan
 append p e role messages =
-    record { role = Some role; seen = p.seen; drop_first = begins_with p.queue e; change = Some (Appended e); messages = messages }
+    record {
+      role = Some role;
+      seen = p.seen;
+      drop_first = begins_with p.queue e;
+      change = Some (Appended e);
+      messages = messages;
+    }
 
 -- the plan neither changes nor sends anything
 abbrev pub IsNothing : Plan → Type 0

@@ -1,3 +1,5 @@
+//! Why a step is refused.
+
 use std::alloc::{AllocError, AllocFailed};
 
 /// Why a desk does not do what it is asked for. It is then as it was.

@@ -2,11 +2,19 @@
 #![tactic(auto)]
 
 pub mod faults;
+mod gathering;
+mod idle;
+mod leading;
 pub mod plan;
+mod planning;
 pub mod proposer;
+mod proposing;
 pub mod role;
-#[cfg(test)]
-mod tests;
-#[cfg(test)]
-mod tests_heard;
+mod steps;
 pub mod votes;
+
+pub use faults::{Refusal, StepFault};
+pub use plan::Plan;
+pub use proposer::Proposer;
+pub use role::{Heard, Promises, Role};
+pub use votes::Votes;

@@ -1,3 +1,5 @@
+//! What a desk is doing, and the promises that it has heard.
+
 use crate::votes::Votes;
 use acceptor::NoMemory;
 use acceptor::ballot::Ballot;
@@ -128,4 +130,26 @@ pub enum Role {
         entry: Entry,
         heard: Votes,
     },
+    /// A majority has promised its ballot at an earlier position, and an entry was decided by it.
+    /// The ballot serves the next positions too.
+    Leading {
+        ballot: Ballot,
+    },
+}
+
+impl Role {
+    ghost use Rattle.std.specs.Prelude.{◌≡◌};
+    ghost use Rattle.proposer.specs.Proposing.{is_ballot_of};
+
+    /// Whether this is the ballot of the role.
+    pub fn has_ballot(&self, ballot: Ballot) -> bool
+        ensures { result ≡ is_ballot_of self.now ballot }
+    {
+        match self {
+            Role::Idle => false,
+            Role::Gathering { ballot: own, .. } => *own == ballot,
+            Role::Proposing { ballot: own, .. } => *own == ballot,
+            Role::Leading { ballot: own } => *own == ballot,
+        }
+    }
 }

@@ -1,3 +1,5 @@
+//! The votes that a desk has heard.
+
 use acceptor::NoMemory;
 use std::alloc::Global;
 use std::marker::Model;

@@ -20,18 +20,28 @@ invariant_of-self c =
     elim c.if-not-contains_key.branch [
       | then-not-contains_key w ↦
           let room : 0 < spare c.self.inside.first = grind (arith, common_steps) in
-          let put = at_ok w.insert.result (w.insert.ensures.succeeds room) w.insert.ensures.updates in
-          let absent = subst (λ id. is_some (old id) ≡ false) c.id-id.ensures.id (sym c.contains_key.ensures ∙ w.if-not-contains_key.true) in
+          let put =
+          at_ok w.insert.result (w.insert.ensures.succeeds room) w.insert.ensures.updates in
+          let absent =
+          subst (λ id. is_some (old id) ≡ false) c.id-id.ensures.id
+          (sym c.contains_key.ensures ∙ w.if-not-contains_key.true) in
           record {
-            index = rw (w.self-inside-is, pushed) (indexed_new entries e old (λ id. get nat_eq w.insert.new.self id) c.self.invariant.index absent (λ q. rw (← c.id-id.ensures.id, ← place) (put.0 q)));
+            index =
+                rw (w.self-inside-is, pushed)
+                (indexed_new entries e old (λ id. get nat_eq w.insert.new.self id)
+                c.self.invariant.index absent (λ q. rw (← c.id-id.ensures.id, ← place) (put.0 q)));
             most = grind (arith, common_steps);
             spare = grind (arith, common_steps);
             capacity = grind (arith, common_steps);
           }
       | else-not-contains_key w ↦
-          let there = subst (λ id. is_some (old id) ≡ true) c.id-id.ensures.id (sym c.contains_key.ensures ∙ w.if-not-contains_key.false) in
+          let there =
+          subst (λ id. is_some (old id) ≡ true) c.id-id.ensures.id
+          (sym c.contains_key.ensures ∙ w.if-not-contains_key.false) in
           record {
-            index = rw (w.self-inside-is, pushed) (indexed_again entries e old c.self.invariant.index there);
+            index =
+                rw (w.self-inside-is, pushed)
+                (indexed_again entries e old c.self.invariant.index there);
             most = grind (arith, common_steps);
             spare = grind (arith, common_steps);
             capacity = grind (arith, common_steps);

@@ -1,0 +1,2 @@
+-- Models of the code: what the parts of a value keep to. No public contract cites them.
+pub mod Indexes
