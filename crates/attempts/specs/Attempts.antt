@@ -22,9 +22,11 @@ abbrev pub solution_value : Fm → Value
 solution_value (fm.Moves n) = value.Number n
 solution_value fm.Dnf = value.Dnf
 
--- the value of an attempt under a limit: the limit is for the measured time alone, and each penalty adds two seconds
+-- the value of an attempt under a limit: the limit is for the measured time alone, and each penalty
+-- adds two seconds
 abbrev pub value_of : Option ℕ → Outcome → Value
-value_of limit (outcome.Time time penalties) = if reaches limit time then value.Dnf else value.Number (rounded (time + 200 * penalties))
+value_of limit (outcome.Time time penalties) =
+    if reaches limit time then value.Dnf else value.Number (rounded (time + 200 * penalties))
 value_of limit (outcome.Solution result) = solution_value result
 value_of limit outcome.Dnf = value.Dnf
 value_of limit outcome.Dns = value.Dns

@@ -13,7 +13,8 @@ two_digits n = (48 + n / 10 % 10) ∷ (48 + n % 10) ∷ []
 abbrev pub time_text : ℕ → List ℕ
 time_text n =
     if nat_lt n 6000 then decimal (n / 100) ++ codes "." ++ two_digits (n % 100)
-    else decimal (n / 6000) ++ codes ":" ++ two_digits (n / 100 % 60) ++ codes "." ++ two_digits (n % 100)
+    else decimal (n / 6000) ++ codes ":" ++ two_digits (n / 100 % 60) ++ codes "."
+    ++ two_digits (n % 100)
 
 abbrev pub number_text : Measure → ℕ → List ℕ
 number_text Time n = time_text n

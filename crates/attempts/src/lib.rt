@@ -1,8 +1,9 @@
 //! Attempts: what a judge enters, what it counts as, and how that is printed.
 //!
-//! Times are in hundredths of a second. The rules are those of the WCA Regulations: results in article
-//! 9f, penalties of two seconds in article 10e, time limits in article A1a, fewest moves in article E.
-//! Where these leave the rounding open, a value above ten minutes goes to the nearest second, a half up.
+//! Times are in hundredths of a second. The rules are those of the WCA Regulations: results in
+//! article 9f, penalties of two seconds in article 10e, time limits in article A1a, fewest moves in
+//! article E. Where these leave the rounding open, a value above ten minutes goes to the nearest
+//! second, a half up.
 #![tactic(auto)]
 
 ghost use Rattle.std.specs.Prelude.{◌≡◌, ◌≤◌, ◌↔◌, IsTrue};
@@ -62,9 +63,9 @@ pub fn in_range(value: Value) -> bool
 
 /// The value of an attempt under a time limit in hundredths, or under none.
 ///
-/// A measured time that is not below the limit is DNF, whatever its penalties. Otherwise the value is
-/// the time with 200 hundredths more for each penalty, and above 60,000 hundredths it is rounded to
-/// whole seconds, a half up. A solution's value is its result; no limit applies to it.
+/// A measured time that is not below the limit is DNF, whatever its penalties. Otherwise the value
+/// is the time with 200 hundredths more for each penalty, and above 60,000 hundredths it is rounded
+/// to whole seconds, a half up. A solution's value is its result; no limit applies to it.
 pub fn settle(outcome: Outcome, limit: Option<u32>) -> Value
     requires { IsOutcome outcome }
     ensures value { result ≡ value_of limit outcome }
@@ -98,6 +99,3 @@ fn rounded(sum: u32) -> u32
         (sum + 50) / 100 * 100
     }
 }
-
-#[cfg(test)]
-mod tests;

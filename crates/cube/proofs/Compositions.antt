@@ -18,7 +18,8 @@ abbrev pub once : Kind → List Colour → List Colour
 once kind a = turned (record { kind = kind; quarter = Clockwise }) a
 
 -- a half turn is two quarter turns
-pub half_turned : (kind : Kind) (a : List Colour) → turned (record { kind = kind; quarter = Half }) a ≡ once kind (once kind a)
+pub half_turned : (kind : Kind) (a : List Colour)
+    → turned (record { kind = kind; quarter = Half }) a ≡ once kind (once kind a)
 unfolding turned
 half_turned (Face U) a = refl
 half_turned (Face R) a = refl
@@ -37,7 +38,9 @@ half_turned (Turn Y) a = refl
 half_turned (Turn Z) a = refl
 
 -- a quarter turn against the clock is three with it
-pub anticlockwise_turned : (kind : Kind) (a : List Colour) → turned (record { kind = kind; quarter = Anticlockwise }) a ≡ once kind (once kind (once kind a))
+pub anticlockwise_turned : (kind : Kind) (a : List Colour)
+    → turned (record { kind = kind; quarter = Anticlockwise }) a
+    ≡ once kind (once kind (once kind a))
 unfolding turned
 anticlockwise_turned (Face U) a = refl
 anticlockwise_turned (Face R) a = refl
@@ -56,7 +59,8 @@ anticlockwise_turned (Turn Y) a = refl
 anticlockwise_turned (Turn Z) a = refl
 
 -- the opposite face and the whole cube turned are the block turned
-pub block_turned : (side : Side) (a : List Colour) → turned (rotation side) (once (Face (opposite side)) a) ≡ once (Block side) a
+pub block_turned : (side : Side) (a : List Colour)
+    → turned (rotation side) (once (Face (opposite side)) a) ≡ once (Block side) a
 unfolding turned
 block_turned U a = refl
 block_turned R a = refl
@@ -66,7 +70,8 @@ block_turned L a = refl
 block_turned B a = refl
 
 -- four quarter turns read every number of an arrangement at its own place
-four_read : (kind : Kind) (a : List Colour) → once kind (once kind (once kind (once kind a))) ≡ map (λ n. get_or a n colours.U) (range_with_len 0 54)
+four_read : (kind : Kind) (a : List Colour) → once kind (once kind (once kind (once kind a)))
+    ≡ map (λ n. get_or a n colours.U) (range_with_len 0 54)
 unfolding turned
 four_read (Face U) a = refl
 four_read (Face R) a = refl
@@ -86,10 +91,20 @@ four_read (Turn Z) a = refl
 
 -- four quarter turns are none
 pub four_none : (kind : Kind) → IsNoneFourTimes kind
-four_none kind a long = four_read kind a ∙ sym (fill_by_all (λ n. get_or a n colours.U) a 54 colours.U long (λ k h. refl))
+four_none kind a long =
+    four_read kind a
+    ∙ sym (fill_by_all (λ n. get_or a n colours.U) a 54 colours.U long (λ k h. refl))
 
 -- a move and its inverse are none
-pub inverse_undoes : (kind : Kind) (quarter : Quarter) → Undoes (record { kind = kind; quarter = quarter }) (record { kind = kind; quarter = reverse quarter })
-inverse_undoes kind Clockwise a long = anticlockwise_turned kind (once kind a) ∙ four_none kind a long
-inverse_undoes kind Half a long = ap (turned (record { kind = kind; quarter = Half })) (half_turned kind a) ∙ half_turned kind _ ∙ four_none kind a long
-inverse_undoes kind Anticlockwise a long = ap (once kind) (anticlockwise_turned kind a) ∙ four_none kind a long
+pub inverse_undoes : (kind : Kind) (quarter : Quarter)
+    → Undoes (record { kind = kind; quarter = quarter }) (record {
+      kind = kind;
+      quarter = reverse quarter;
+    })
+inverse_undoes kind Clockwise a long =
+    anticlockwise_turned kind (once kind a) ∙ four_none kind a long
+inverse_undoes kind Half a long =
+    ap (turned (record { kind = kind; quarter = Half })) (half_turned kind a) ∙ half_turned kind _
+    ∙ four_none kind a long
+inverse_undoes kind Anticlockwise a long =
+    ap (once kind) (anticlockwise_turned kind a) ∙ four_none kind a long

@@ -1,4 +1,5 @@
--- A move rearranges the stickers: a table for each move, checked by computation, and what follows from it.
+-- A move rearranges the stickers: a table for each move, checked by computation, and what follows
+-- from it.
 use Rattle.std.proofs.Common.{◌≡◌, ℕ, ◌+◌, ◌*◌, Bool, true, false, cond, ◌&&◌, eqb, nat_lt, List, [], ◌∷◌, map, length, get_or, refl, sym, ap, ◌∙◌, subst}
 use Rattle.std.proofs.lemmas.Bool.{eqb-true, and_parts, ltb-true}
 use Rattle.std.proofs.lemmas.List.{get_or-map}
@@ -38,16 +39,22 @@ to_front : (x : ℕ) (ys : List ℕ) → has x ys ≡ true → IsPermutation ys 
 to_front x [] h = cc
 to_front x (y ∷ ys) h = at (eqb x y) refl (to_front x ys) h
   where
-    at : (b : Bool) → eqb x y ≡ b → (has x ys ≡ true → IsPermutation ys (x ∷ without x ys)) → cond b true (has x ys) ≡ true → IsPermutation (y ∷ ys) (x ∷ cond b ys (y ∷ without x ys))
-    at true e rest k = subst (λ z. IsPermutation (y ∷ ys) (z ∷ ys)) (sym (eqb-true x y e)) (IsPermutation-refl (y ∷ ys))
-    at false e rest k = IsPermutation-trans _ _ _ (IsPermutation-cons y _ _ (rest k)) (IsPermutation-middle (y ∷ []) x (without x ys))
+    at : (b : Bool) → eqb x y ≡ b → (has x ys ≡ true → IsPermutation ys (x ∷ without x ys))
+        → cond b true (has x ys) ≡ true → IsPermutation (y ∷ ys) (x ∷ cond b ys (y ∷ without x ys))
+    at true e rest k =
+        subst (λ z. IsPermutation (y ∷ ys) (z ∷ ys)) (sym (eqb-true x y e))
+        (IsPermutation-refl (y ∷ ys))
+    at false e rest k =
+        IsPermutation-trans _ _ _ (IsPermutation-cons y _ _ (rest k)) (IsPermutation-middle (y ∷
+        []) x (without x ys))
 
 permutation_from : (xs ys : List ℕ) → rearranges xs ys ≡ true → IsPermutation ys xs
 permutation_from [] [] h = IsPermutation-refl []
 permutation_from [] (y ∷ ys) h = cc
 permutation_from (x ∷ xs) ys h =
     let p = and_parts _ _ h in
-    IsPermutation-trans ys (x ∷ without x ys) (x ∷ xs) (to_front x ys p.0) (IsPermutation-cons x _ _ (permutation_from xs (without x ys) p.1))
+    IsPermutation-trans ys (x ∷ without x ys) (x ∷ xs) (to_front x ys p.0) (IsPermutation-cons x _ _
+    (permutation_from xs (without x ys) p.1))
 
 -- for each place the number of the place that a move fills it from
 abbrev sources : Move → List ℕ
@@ -55,15 +62,21 @@ sources move = map (λ s. number (moved (inverse move) s)) stickers
 
 -- where a move takes a sticker, it is taken from
 abbrev is_taken : Move → List ℕ → Sticker → Bool
-is_taken move from s = nat_lt (number (moved move s)) 54 && eqb (get_or from (number (moved move s)) 0) (number s)
+is_taken move from s =
+    nat_lt (number (moved move s)) 54 && eqb (get_or from (number (moved move s)) 0) (number s)
 
 abbrev table : Move → List ℕ → Bool
 table move from = rearranges from (range_with_len 0 54) && list_all (is_taken move from) stickers
 
 abbrev Holds : Kind → Quarter → Type 0
-Holds kind quarter = table (record { kind = kind; quarter = quarter }) (sources (record { kind = kind; quarter = quarter })) ≡ true
+Holds kind quarter =
+    table (record { kind = kind; quarter = quarter }) (sources (record {
+      kind = kind;
+      quarter = quarter;
+    })) ≡ true
 
-by_quarter : (kind : Kind) → Holds kind Clockwise → Holds kind Half → Holds kind Anticlockwise → (quarter : Quarter) → Holds kind quarter
+by_quarter : (kind : Kind) → Holds kind Clockwise → Holds kind Half → Holds kind Anticlockwise
+    → (quarter : Quarter) → Holds kind quarter
 by_quarter kind c h a Clockwise = c
 by_quarter kind c h a Half = h
 by_quarter kind c h a Anticlockwise = a
@@ -85,7 +98,8 @@ table_holds (Turn X) = by_quarter (Turn X) refl refl refl
 table_holds (Turn Y) = by_quarter (Turn Y) refl refl refl
 table_holds (Turn Z) = by_quarter (Turn Z) refl refl refl
 
-turned-sources : (move : Move) (a : List Colour) → turned move a ≡ map (λ n. get_or a n colours.U) (sources move)
+turned-sources : (move : Move) (a : List Colour)
+    → turned move a ≡ map (λ n. get_or a n colours.U) (sources move)
 unfolding turned
 turned-sources move a = refl
 
@@ -94,10 +108,12 @@ unfolding turned
 length-turned move a = refl
 
 -- a move only rearranges the colours
-pub turned-rearranged : (move : Move) (a : List Colour) → length a ≡ 54 → IsPermutation a (turned move a)
+pub turned-rearranged : (move : Move) (a : List Colour) → length a ≡ 54
+    → IsPermutation a (turned move a)
 turned-rearranged move a long =
     let read : ℕ → Colour = λ n. get_or a n colours.U in
-    let all : a ≡ map read (range_with_len 0 54) = fill_by_all read a 54 colours.U long (λ k h. refl) in
+    let all : a ≡ map read (range_with_len 0 54) =
+    fill_by_all read a 54 colours.U long (λ k h. refl) in
     let h = and_parts _ _ (table_holds move.kind move.quarter) in
     subst (λ b. IsPermutation b (turned move a)) (sym all)
     (subst (λ b. IsPermutation (map read (range_with_len 0 54)) b) (sym (turned-sources move a))
@@ -108,16 +124,24 @@ pub carries : (move : Move) (a : List Colour) → CarriesStickers move a (turned
 carries move a s (side, stands) =
     let from = sources move in
     let n = rank side * 9 + cell (free side s.place).0 (free side s.place).1 in
-    let e : sticker_at n ≡ s = at_number side (free side s.place).0 (free side s.place).1 ∙ sym (on_side side s stands) in
-    let all = AllPass-from_list_all (is_taken move from) stickers (and_parts _ _ (table_holds move.kind move.quarter)).1 in
-    let here = and_parts _ _ (subst (λ t. is_taken move from t ≡ true) e (all n (sticker_on U Minus Minus) (number_below side _ _))) in
+    let e : sticker_at n ≡ s = at_number side (free side s.place).0 (free side s.place).1
+    ∙ sym (on_side side s stands) in
+    let all =
+    AllPass-from_list_all (is_taken move from) stickers
+    (and_parts _ _ (table_holds move.kind move.quarter)).1 in
+    let here =
+    and_parts _ _ (subst (λ t. is_taken move from t ≡ true) e (all n (sticker_on U Minus Minus)
+    (number_below side _ _))) in
     ap (λ b. get_or b (number (moved move s)) colours.U) (turned-sources move a)
-    ∙ get_or-map (λ k. get_or a k colours.U) from (number (moved move s)) 0 colours.U (ltb-true _ _ here.0)
+    ∙ get_or-map (λ k. get_or a k colours.U) from (number (moved move s)) 0 colours.U
+    (ltb-true _ _ here.0)
     ∙ ap (λ k. get_or a k colours.U) (eqb-true _ _ here.1)
 
 -- what is a rearrangement of the first arrangement has each colour nine times
 pub nine_of_each : (a : List Colour) → IsPermutation first_arrangement a → HasNineOfEach a
-nine_of_each a h colour = sum_by-IsPermutation (λ other. cond (eqb (code other) (code colour)) 1 0) first_arrangement a h ∙ nine colour
+nine_of_each a h colour =
+    sum_by-IsPermutation (λ other. cond (eqb (code other) (code colour)) 1 0) first_arrangement a h
+    ∙ nine colour
   where
     nine : (colour : Colour) → count_of colour first_arrangement ≡ 9
     nine colours.U = refl

@@ -1,3 +1,3 @@
 pub mod Stickers
 pub mod Turns
-pub mod Pieces
+pub mod model

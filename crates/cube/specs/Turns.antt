@@ -44,7 +44,8 @@ is_not_minus Minus = false
 is_not_minus Zero = true
 is_not_minus Plus = true
 
--- what a move takes along: a face move the places with product 1, a block move those with 0 too, a rotation all
+-- what a move takes along: a face move the places with product 1, a block move those with 0 too,
+-- a rotation all
 abbrev pub takes : Kind → Vector → Bool
 takes (Face side) place = is_plus (along side place)
 takes (Block side) place = is_not_minus (along side place)
@@ -52,7 +53,13 @@ takes (Turn axis) place = true
 
 -- where a quarter turn takes a sticker
 abbrev pub quarter_moved : Kind → Sticker → Sticker
-quarter_moved kind s = if takes kind s.place then record { place = rotated (direction kind) s.place; normal = rotated (direction kind) s.normal } else s
+quarter_moved kind s =
+    if takes kind s.place
+    then record {
+      place = rotated (direction kind) s.place;
+      normal = rotated (direction kind) s.normal;
+    }
+    else s
 
 -- a quarter turn once, twice or three times
 abbrev pub times : {A : Type 0} → Quarter → (A → A) → A → A
@@ -91,6 +98,15 @@ colour_of D = colours.D
 colour_of L = colours.L
 colour_of B = colours.B
 
+-- the colour at the opposite side of the first arrangement
+abbrev pub opposite_colour : Colour → Colour
+opposite_colour colours.U = colours.D
+opposite_colour colours.R = colours.L
+opposite_colour colours.F = colours.B
+opposite_colour colours.D = colours.U
+opposite_colour colours.L = colours.R
+opposite_colour colours.B = colours.F
+
 -- An arrangement is the list of the colours of the 54 stickers by number.
 -- The first gives each sticker the colour of the side that its normal points out of.
 abbrev pub first_arrangement : List Colour
@@ -120,11 +136,14 @@ after (move ∷ moves) arrangement = after moves (turned move arrangement)
 
 -- any two stickers with equal normals have equal colours
 abbrev pub IsSolved : List Colour → Type 0
-IsSolved arrangement = (s t : Sticker) → IsSticker s → IsSticker t → s.normal ≡ t.normal → colour_at arrangement s ≡ colour_at arrangement t
+IsSolved arrangement =
+    (s t : Sticker) → IsSticker s → IsSticker t → s.normal ≡ t.normal
+    → colour_at arrangement s ≡ colour_at arrangement t
 
 -- after a move each sticker's colour stands where the move takes the sticker
 abbrev pub CarriesStickers : Move → List Colour → List Colour → Type 0
-CarriesStickers move old new = (s : Sticker) → IsSticker s → colour_at new (moved move s) ≡ colour_at old s
+CarriesStickers move old new =
+    (s : Sticker) → IsSticker s → colour_at new (moved move s) ≡ colour_at old s
 
 -- how many stickers have a colour
 abbrev pub count_of : Colour → List Colour → ℕ
@@ -136,7 +155,9 @@ HasNineOfEach arrangement = (colour : Colour) → count_of colour arrangement �
 
 -- a second move takes every arrangement of the 54 stickers back to what it was before the first
 abbrev pub Undoes : Move → Move → Type 0
-Undoes first second = (arrangement : List Colour) → length arrangement ≡ 54 → turned second (turned first arrangement) ≡ arrangement
+Undoes first second =
+    (arrangement : List Colour) → length arrangement ≡ 54
+    → turned second (turned first arrangement) ≡ arrangement
 
 -- a quarter turn, made four times, leaves every arrangement of the 54 stickers
 abbrev pub quarter_turned : Kind → List Colour → List Colour
@@ -144,4 +165,6 @@ quarter_turned kind = turned (record { kind = kind; quarter = Clockwise })
 
 abbrev pub IsNoneFourTimes : Kind → Type 0
 IsNoneFourTimes kind = (arrangement : List Colour) → length arrangement ≡ 54 →
-    quarter_turned kind (quarter_turned kind (quarter_turned kind (quarter_turned kind arrangement))) ≡ arrangement
+    quarter_turned kind
+    (quarter_turned kind (quarter_turned kind (quarter_turned kind arrangement)))
+    ≡ arrangement

@@ -1,4 +1,4 @@
-// Laws of the definitions, for every sticker and every arrangement.
+//! Laws of the definitions, for every sticker and every arrangement.
 
 ghost use Rattle.std.specs.Prelude.{◌≡◌, All, length, slice_get, Some};
 ghost use Rattle.cube.specs.Stickers.{Sticker, IsSticker, stickers, number};

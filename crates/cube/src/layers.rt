@@ -1,8 +1,8 @@
-// Quarter turns of the pieces. Each is a table of the places that the pieces at the places in order come
-// from, and of how they are twisted and flipped on the way.
+//! Quarter turns of the pieces. Each is a table of the places that the pieces at the places in
+//! order come from, and of how they are twisted and flipped on the way.
 
 ghost use Rattle.std.specs.Prelude.{◌≡◌};
-ghost use Rattle.cube.specs.Pieces.{colours_of};
+ghost use Rattle.cube.specs.model.Pieces.{colours_of};
 ghost use Rattle.cube.specs.Turns.{turned as turned_by, quarter_turned as quarter_turned_by, rotation};
 
 use crate::moves::{Axis, Kind, Move, Quarter, Side};

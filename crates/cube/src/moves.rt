@@ -1,9 +1,8 @@
-// Moves of the cube, and the sides, axes and colours that they are said by.
+//! Moves of the cube, and the sides, axes and colours that they are said by.
 
 ghost use Rattle.std.specs.Prelude.{◌≡◌};
-ghost use Rattle.cube.specs.Pieces.{opposite};
-ghost use Rattle.cube.specs.Stickers.{opposite as opposite_side};
-ghost use Rattle.cube.specs.Turns.{inverse, Undoes};
+ghost use Rattle.cube.specs.Stickers.{opposite};
+ghost use Rattle.cube.specs.Turns.{inverse, Undoes, opposite_colour};
 
 /// A side of the cube as it is held: up, right, front, down, left and back.
 #[derive(Clone, Copy, PartialEq, Eq, Debug)]
@@ -16,7 +15,8 @@ pub enum Side {
     B,
 }
 
-/// An axis through the cube: `X` points to the right side, `Y` to the upper and `Z` to the front one.
+/// An axis through the cube: `X` points to the right side, `Y` to the upper and `Z` to the front
+/// one.
 #[derive(Clone, Copy, PartialEq, Eq, Debug)]
 pub enum Axis {
     X,
@@ -88,7 +88,7 @@ impl Move {
 impl Side {
     /// The side across the cube.
     pub fn opposite(self) -> Side
-        ensures { result ≡ opposite_side self }
+        ensures { result ≡ opposite self }
     {
         match self {
             Side::U => Side::D,
@@ -104,7 +104,7 @@ impl Side {
 impl Colour {
     /// The colour at the opposite side of a solved cube.
     pub fn opposite(self) -> Colour
-        ensures { result ≡ opposite self }
+        ensures { result ≡ opposite_colour self }
     {
         match self {
             Colour::U => Colour::D,

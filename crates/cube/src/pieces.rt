@@ -1,8 +1,8 @@
-// The cube as it is kept: which corner stands at each corner's place and how it is twisted, which edge
-// stands at each edge's place and whether it is flipped, and how the centres face.
+//! The cube as it is kept: which corner stands at each corner's place and how it is twisted, which
+//! edge stands at each edge's place and whether it is flipped, and how the centres face.
 
 ghost use Rattle.std.specs.Prelude.{◌≡◌};
-ghost use Rattle.cube.specs.Pieces.{corner_piece_colours, edge_piece_colours, corner_colours, edge_colours, colours_of, opposite};
+ghost use Rattle.cube.specs.model.Pieces.{corner_piece_colours, edge_piece_colours, corner_colours, edge_colours, colours_of};
 
 use crate::moves::Colour;
 
@@ -211,7 +211,7 @@ impl EdgePiece {
 
 impl Corner {
     /// The colours that it shows, clockwise from the upper or lower side.
-    #[tactic(auto, unfolding(crate::specs::Pieces::corner_colours))]
+    #[tactic(auto, unfolding(crate::specs::model::Pieces::corner_colours))]
     pub fn colours(self) -> (Colour, Colour, Colour)
         ensures { result ≡ corner_colours self }
     {
@@ -224,7 +224,7 @@ impl Corner {
     }
 
     /// The corner after a third of a turn clockwise.
-    #[tactic(auto, unfolding(crate::specs::Pieces::corner_colours))]
+    #[tactic(auto, unfolding(crate::specs::model::Pieces::corner_colours))]
     pub fn clockwise(self) -> Corner
         ensures { corner_colours result ≡ (let c = corner_colours self in (c.2, c.0, c.1)) }
     {
@@ -240,7 +240,7 @@ impl Corner {
     }
 
     /// The corner after a third of a turn against the clock.
-    #[tactic(auto, unfolding(crate::specs::Pieces::corner_colours))]
+    #[tactic(auto, unfolding(crate::specs::model::Pieces::corner_colours))]
     pub fn anticlockwise(self) -> Corner
         ensures { corner_colours result ≡ (let c = corner_colours self in (c.1, c.2, c.0)) }
     {
@@ -258,7 +258,7 @@ impl Corner {
 
 impl Edge {
     /// The colours that it shows.
-    #[tactic(auto, unfolding(crate::specs::Pieces::edge_colours))]
+    #[tactic(auto, unfolding(crate::specs::model::Pieces::edge_colours))]
     pub fn colours(self) -> (Colour, Colour)
         ensures { result ≡ edge_colours self }
     {
@@ -271,7 +271,7 @@ impl Edge {
     }
 
     /// The edge turned over.
-    #[tactic(auto, unfolding(crate::specs::Pieces::edge_colours))]
+    #[tactic(auto, unfolding(crate::specs::model::Pieces::edge_colours))]
     pub fn flip(self) -> Edge
         ensures { edge_colours result ≡ (let e = edge_colours self in (e.1, e.0)) }
     {

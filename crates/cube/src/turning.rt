@@ -1,4 +1,4 @@
-// The cube: turned, looked at, and found solved or not.
+//! The cube: turned, looked at, and found solved or not.
 
 ghost use Rattle.std.specs.Prelude.{◌≡◌, ◌<◌, ◌↔◌, List, IsTrue, Some, slice_get};
 ghost use Rattle.cube.specs.Turns.{turned, first_arrangement, IsSolved, CarriesStickers, HasNineOfEach};
@@ -7,10 +7,10 @@ use crate::moves::{Colour, Move};
 use crate::pieces::{Pieces, SOLVED};
 use std::marker::Model;
 
-/// A 3x3x3 cube. Contracts see it as its arrangement: the colours of its 54 stickers by the number of
-/// their places. That number is 9 times the rank of the side in the order U, R, F, D, L, B, plus
-/// `3 * (a + 1) + (b + 1)`, where a and b are the two coordinates that vary on the side, each −1, 0 or
-/// 1, in the order x (to the right), y (upwards), z (to the front).
+/// A 3x3x3 cube. Contracts see it as its arrangement: the colours of its 54 stickers by the number
+/// of their places. That number is 9 times the rank of the side in the order U, R, F, D, L, B, plus
+/// `3 * (a + 1) + (b + 1)`, where a and b are the two coordinates that vary on the side, each −1, 0
+/// or 1, in the order x (to the right), y (upwards), z (to the front).
 #[derive(Drop)]
 pub struct Cube {
     pieces: Pieces,
@@ -21,7 +21,7 @@ impl Model for Cube {
     ghost use Rattle.std.specs.List.Sorted.{IsPermutation};
     ghost use Rattle.cube.specs.declared.moves.Colour.{Colour};
     ghost use Rattle.cube.specs.Turns.{first_arrangement};
-    ghost use Rattle.cube.specs.Pieces.{colours_of};
+    ghost use Rattle.cube.specs.model.Pieces.{colours_of};
 
     ghost Value = { List Colour };
 
@@ -40,8 +40,8 @@ impl Cube {
         Cube { pieces: SOLVED }
     }
 
-    /// Makes a move (WCA Regulations, article 12): turns a layer, an outer block of two layers or the
-    /// whole cube once, twice or three times by a quarter. Takes constant time and no memory.
+    /// Makes a move (WCA Regulations, article 12): turns a layer, an outer block of two layers or
+    /// the whole cube once, twice or three times by a quarter. Takes constant time and no memory.
     pub fn turn(&mut self, turn: Move)
         ensures arrangement { self.new ≡ turned turn self.old }
         // Each sticker is where the quarter turns of space take it.

@@ -15,7 +15,8 @@ abbrev made : Kind → Quarter → Move
 made kind quarter = record { kind = kind; quarter = quarter }
 
 -- solved, and held another way than at the start; the rotation does not count
-held_another_way : result_of (made (Face R) Clockwise ∷ []) (made (Turn Y) Clockwise ∷ made (Face F) Anticlockwise ∷ []) ≡ Moves 1
+held_another_way : result_of (made (Face R) Clockwise ∷ []) (made (Turn Y) Clockwise ∷
+    made (Face F) Anticlockwise ∷ []) ≡ Moves 1
 unfolding result_of is_solution is_solved turned
 held_another_way = refl
 
@@ -23,6 +24,7 @@ turned_too_far : result_of (made (Face R) Clockwise ∷ []) (made (Face R) Half 
 unfolding result_of is_solution is_solved turned
 turned_too_far = refl
 
-block_takes_a_face_back : result_of (made (Face L) Clockwise ∷ []) (made (Block R) Anticlockwise ∷ []) ≡ Moves 1
+block_takes_a_face_back : result_of (made (Face L) Clockwise ∷ [])
+    (made (Block R) Anticlockwise ∷ []) ≡ Moves 1
 unfolding result_of is_solution is_solved turned
 block_takes_a_face_back = refl

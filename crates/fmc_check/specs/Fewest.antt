@@ -14,7 +14,8 @@ use Rattle.fmc_check.specs.declared.Fm.TheVariants.{Moves, Dnf}
 abbrev pub final : List Move → List Move → List Colour
 final scramble solution = after (scramble ++ solution) first_arrangement
 
--- a solution has at most 80 moves, rotations included, and any two stickers that face one way then have one colour
+-- a solution has at most 80 moves, rotations included, and any two stickers that face one way then
+-- have one colour
 pub record Solves (scramble solution : List Move) : Type 0 where
   pub short : length solution ≤ 80
   pub solved : IsSolved (final scramble solution)
@@ -25,7 +26,8 @@ centre side = sticker_on side Zero Zero
 
 -- a sticker has the colour of the one in the middle of its side
 abbrev pub is_as_its_centre : List Colour → Sticker → Bool
-is_as_its_centre arrangement s = code (colour_at arrangement s) == code (colour_at arrangement (centre (side_of s.normal)))
+is_as_its_centre arrangement s =
+    code (colour_at arrangement s) == code (colour_at arrangement (centre (side_of s.normal)))
 
 -- each sticker has the colour of the one in the middle of its side: a test of what `IsSolved` says
 unfoldable pub is_solved : List Colour → Bool
@@ -35,9 +37,11 @@ is_solved arrangement = list_all (is_as_its_centre arrangement) stickers
 unfoldable pub is_solution : List Move → List Move → Bool
 is_solution scramble solution = nat_le (length solution) 80 && is_solved (final scramble solution)
 
--- the result of a solution: its moves in the outer block turn metric where it solves the scramble, else DNF
+-- the result of a solution: its moves in the outer block turn metric where it solves the scramble,
+-- else DNF
 unfoldable pub result_of : List Move → List Move → Fm
-result_of scramble solution = if is_solution scramble solution then Moves (turn_count solution) else Dnf
+result_of scramble solution =
+    if is_solution scramble solution then Moves (turn_count solution) else Dnf
 
 -- a result is at most 80 moves
 abbrev pub IsResult : Fm → Type 0

@@ -26,13 +26,14 @@ pub enum Fm {
 
 /// The result of a solution against its scramble.
 ///
-/// It is the number of the solution's moves in the outer block turn metric (WCA Regulations, article
-/// 12) where the solution has at most 80 moves, rotations included, and the scramble and then the
-/// solution leave each side of a solved cube with one colour, however the cube is held at the end.
-/// Otherwise it is DNF. Takes no memory, and a constant time for each move.
+/// It is the number of the solution's moves in the outer block turn metric (WCA Regulations,
+/// article 12) where the solution has at most 80 moves, rotations included, and the scramble and
+/// then the solution leave each side of a solved cube with one colour, however the cube is held at
+/// the end. Otherwise it is DNF. Takes no memory, and a constant time for each move.
 pub fn check(scramble: &[Move], solution: &[Move]) -> Fm
     ensures value { result ≡ result_of scramble.now solution.now }
-    ensures solved { Solves scramble.now solution.now → result ≡ Fm.Moves (turn_count solution.now) }
+    ensures solved { Solves scramble.now solution.now
+        → result ≡ Fm.Moves (turn_count solution.now) }
     ensures unsolved { ¬ Solves scramble.now solution.now → result ≡ Fm.Dnf }
     ensures in_range { IsResult result }
 {
@@ -66,6 +67,3 @@ fn turn_all(cube: &mut Cube, moves: &[Move])
         cube.turn(*turn);
     }
 }
-
-#[cfg(test)]
-mod tests;

@@ -1,3 +1,4 @@
 pub mod Examples
 pub mod Naming
+pub mod SameEvent
 pub mod Sums

@@ -7,7 +7,8 @@ use Rattle.formats.specs.declared.events.Format.{Format}
 use Rattle.formats.specs.declared.events.Format.TheVariants.{Ao5, Mo3, Bo1, Bo2, Bo3}
 use Rattle.formats.specs.Events.{events, event_name, event_named, event_number, event_numbered, formats, format_name, format_named}
 
-found_first : {X : Type 0} (p : X → Bool) (x y : X) (rest : Option X) (b : Bool) → p x ≡ b → (rest ≡ Some y → p y ≡ true) → cond b (Some x) rest ≡ Some y → p y ≡ true
+found_first : {X : Type 0} (p : X → Bool) (x y : X) (rest : Option X) (b : Bool) → p x ≡ b
+    → (rest ≡ Some y → p y ≡ true) → cond b (Some x) rest ≡ Some y → p y ≡ true
 found_first p x y rest true e later h = subst (λ z. p z ≡ true) (ap (λ o. unwrap_or o x) h) e
 found_first p x y rest false e later h = later h
 
@@ -40,13 +41,17 @@ event_named-event_name Blind5 = refl
 
 event_named-found : (text : List ℕ) (e : Event) → event_named text ≡ Some e → text ≡ event_name e
 unfolding event_named
-event_named-found text e h = sym (equal_bytes (event_name e) text (find-passes (λ event. bytes_eq (event_name event) text) events e h))
+event_named-found text e h =
+    sym (equal_bytes (event_name e) text
+    (find-passes (λ event. bytes_eq (event_name event) text) events e h))
 
 event_named-name : (text : List ℕ) (e : Event) → text ≡ event_name e → event_named text ≡ Some e
-event_named-name text e h = subst (λ name. event_named name ≡ Some e) (sym h) (event_named-event_name e)
+event_named-name text e h =
+    subst (λ name. event_named name ≡ Some e) (sym h) (event_named-event_name e)
 
 -- a text names the event just where it is the event's name
-pub only_name-event : (e : Event) (text : List ℕ) → (event_named text ≡ Some e) ↔ (text ≡ event_name e)
+pub only_name-event : (e : Event) (text : List ℕ) → (event_named text ≡ Some e)
+    ↔ (text ≡ event_name e)
 only_name-event e text = (event_named-found text e, event_named-name text e)
 
 pub ruleset event_names = only_name-event
@@ -70,15 +75,21 @@ event_numbered-event_number Square1 = refl
 event_numbered-event_number Blind4 = refl
 event_numbered-event_number Blind5 = refl
 
-event_numbered-found : (number : ℕ) (e : Event) → event_numbered number ≡ Some e → number ≡ event_number e
+event_numbered-found : (number : ℕ) (e : Event) → event_numbered number ≡ Some e
+    → number ≡ event_number e
 unfolding event_numbered
-event_numbered-found number e h = sym (eqb-true (event_number e) number (find-passes (λ event. event_number event == number) events e h))
+event_numbered-found number e h =
+    sym (eqb-true (event_number e) number
+    (find-passes (λ event. event_number event == number) events e h))
 
-event_numbered-number : (number : ℕ) (e : Event) → number ≡ event_number e → event_numbered number ≡ Some e
-event_numbered-number number e h = subst (λ n. event_numbered n ≡ Some e) (sym h) (event_numbered-event_number e)
+event_numbered-number : (number : ℕ) (e : Event) → number ≡ event_number e
+    → event_numbered number ≡ Some e
+event_numbered-number number e h =
+    subst (λ n. event_numbered n ≡ Some e) (sym h) (event_numbered-event_number e)
 
 -- a number is an event's just where it is the number of the event
-pub only_number-event : (e : Event) (number : ℕ) → (event_numbered number ≡ Some e) ↔ (number ≡ event_number e)
+pub only_number-event : (e : Event) (number : ℕ) → (event_numbered number ≡ Some e)
+    ↔ (number ≡ event_number e)
 only_number-event e number = (event_numbered-found number e, event_numbered-number number e)
 
 pub ruleset event_numbers = only_number-event
@@ -91,15 +102,20 @@ format_named-format_name Bo1 = refl
 format_named-format_name Bo2 = refl
 format_named-format_name Bo3 = refl
 
-format_named-found : (text : List ℕ) (f : Format) → format_named text ≡ Some f → text ≡ format_name f
+format_named-found : (text : List ℕ) (f : Format) → format_named text ≡ Some f
+    → text ≡ format_name f
 unfolding format_named
-format_named-found text f h = sym (equal_bytes (format_name f) text (find-passes (λ format. bytes_eq (format_name format) text) formats f h))
+format_named-found text f h =
+    sym (equal_bytes (format_name f) text
+    (find-passes (λ format. bytes_eq (format_name format) text) formats f h))
 
 format_named-name : (text : List ℕ) (f : Format) → text ≡ format_name f → format_named text ≡ Some f
-format_named-name text f h = subst (λ name. format_named name ≡ Some f) (sym h) (format_named-format_name f)
+format_named-name text f h =
+    subst (λ name. format_named name ≡ Some f) (sym h) (format_named-format_name f)
 
 -- a text names the format just where it is the format's name
-pub only_name-format : (f : Format) (text : List ℕ) → (format_named text ≡ Some f) ↔ (text ≡ format_name f)
+pub only_name-format : (f : Format) (text : List ℕ) → (format_named text ≡ Some f)
+    ↔ (text ≡ format_name f)
 only_name-format f text = (format_named-found text f, format_named-name text f)
 
 pub ruleset format_names = only_name-format

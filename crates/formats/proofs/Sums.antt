@@ -11,9 +11,11 @@ use Rattle.formats.specs.Results.{numbers}
 sum-number : (n : ℕ) (vs : List Value) → sum (numbers (value.Number n ∷ vs)) ≡ n + sum (numbers vs)
 sum-number n vs = sum_by-cons (λ x. x) n (numbers vs)
 
-by_recursion : (vs : List Value) → AllByRecursion IsInRange vs → sum (numbers vs) ≤ 2000000 * length vs
+by_recursion : (vs : List Value) → AllByRecursion IsInRange vs
+    → sum (numbers vs) ≤ 2000000 * length vs
 by_recursion [] h = omega arith
-by_recursion (value.Number n ∷ vs) h = let e = sum-number n vs in omega (arith, by_recursion vs h.1, h.0, e)
+by_recursion (value.Number n ∷ vs) h = let e =
+    sum-number n vs in omega (arith, by_recursion vs h.1, h.0, e)
 by_recursion (value.Dnf ∷ vs) h = omega (arith, by_recursion vs h.1)
 by_recursion (value.Dns ∷ vs) h = omega (arith, by_recursion vs h.1)
 

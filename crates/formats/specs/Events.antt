@@ -1,6 +1,5 @@
 -- Events and formats: their names and numbers, and which format an event may have.
-use Rattle.std.specs.Prelude.{ℕ, ◌-◌, Bool, true, false, ◌==◌, ◌≡◌, refl, List, [], ◌∷◌, codes, bytes_eq, find, slice_index_or, Option}
-use Rattle.std.proofs.Common.{sym, ap, ◌∙◌, eqb-true}
+use Rattle.std.specs.Prelude.{ℕ, Bool, true, false, ◌==◌, List, [], ◌∷◌, codes, bytes_eq, find, Option}
 use Rattle.attempts.specs.declared.Unit.{Unit as Measure}
 use Rattle.attempts.specs.declared.Unit.TheVariants.{Time, Moves}
 use Rattle.formats.specs.declared.events.Event.{Event}
@@ -10,7 +9,8 @@ use Rattle.formats.specs.declared.events.Format.TheVariants.{Ao5, Mo3, Bo1, Bo2,
 
 -- all events, in the order of their numbers
 abbrev pub events : List Event
-events = Cube3 ∷ Cube2 ∷ Cube4 ∷ Cube5 ∷ Cube6 ∷ Cube7 ∷ Blind3 ∷ FewestMoves ∷ OneHanded ∷ Clock ∷ Megaminx ∷ Pyraminx ∷ Skewb ∷ Square1 ∷ Blind4 ∷ Blind5 ∷ []
+events = Cube3 ∷ Cube2 ∷ Cube4 ∷ Cube5 ∷ Cube6 ∷ Cube7 ∷ Blind3 ∷ FewestMoves ∷ OneHanded ∷ Clock ∷
+    Megaminx ∷ Pyraminx ∷ Skewb ∷ Square1 ∷ Blind4 ∷ Blind5 ∷ []
 
 abbrev pub event_name : Event → List ℕ
 event_name Cube3 = codes "333"
@@ -110,31 +110,6 @@ event_number Blind5 = 16
 unfoldable pub event_numbered : ℕ → Option Event
 event_numbered number = find (λ event. event_number event == number) events
 
+-- whether two events are one, by their numbers
 abbrev pub same_event : Event → Event → Bool
 same_event a b = event_number a == event_number b
-
-event_at : ℕ → Event
-event_at n = slice_index_or events (n - 1) Cube3
-
-event_at-event_number : (e : Event) → event_at (event_number e) ≡ e
-unfolding event_at
-event_at-event_number Cube3 = refl
-event_at-event_number Cube2 = refl
-event_at-event_number Cube4 = refl
-event_at-event_number Cube5 = refl
-event_at-event_number Cube6 = refl
-event_at-event_number Cube7 = refl
-event_at-event_number Blind3 = refl
-event_at-event_number FewestMoves = refl
-event_at-event_number OneHanded = refl
-event_at-event_number Clock = refl
-event_at-event_number Megaminx = refl
-event_at-event_number Pyraminx = refl
-event_at-event_number Skewb = refl
-event_at-event_number Square1 = refl
-event_at-event_number Blind4 = refl
-event_at-event_number Blind5 = refl
-
--- events of one number are one event
-pub same_event-equal : (a b : Event) → same_event a b ≡ true → a ≡ b
-same_event-equal a b h = sym (event_at-event_number a) ∙ ap event_at (eqb-true (event_number a) (event_number b) h) ∙ event_at-event_number b

@@ -45,7 +45,8 @@ number_or None other = other
 abbrev pub best_of : List Value → Value
 best_of vs = number_or (least (numbers vs)) (without_number (list_any is_dnf vs))
 
--- a third of a sum: of times to the hundredth, above ten minutes to the second; of moves to the hundredth of a move
+-- a third of a sum: of times to the hundredth, above ten minutes to the second; of moves to the
+-- hundredth of a move
 abbrev pub third_of : Measure → ℕ → ℕ
 third_of Time s = if nat_le s 180000 then (2 * s + 3) / 6 else (s + 150) / 300 * 100
 third_of Moves s = (200 * s + 3) / 6
@@ -57,7 +58,8 @@ without_least ns = sum ns - unwrap_or (least ns) 0
 -- the average of five attempts of which these are numbers
 abbrev pub trimmed : Measure → List ℕ → Averaged
 trimmed unit ns =
-    if length ns == 5 then averaged.Number (third_of unit (without_least ns - unwrap_or (greatest ns) 0))
+    if length ns == 5
+    then averaged.Number (third_of unit (without_least ns - unwrap_or (greatest ns) 0))
     else if length ns == 4 then averaged.Number (third_of unit (without_least ns))
     else averaged.Dnf
 
@@ -87,7 +89,8 @@ has_average Bo3 = false
 
 abbrev pub key_of : Format → Measure → List Value → RankKey
 key_of format unit vs =
-    if has_average format then record { main = averaged_number (average_of format unit vs); tie = number_of (best_of vs) }
+    if has_average format
+    then record { main = averaged_number (average_of format unit vs); tie = number_of (best_of vs) }
     else record { main = number_of (best_of vs); tie = None }
 
 -- a number is less than a greater one, and than none

@@ -88,7 +88,8 @@ impl Event {
     #[tactic(auto, using(crate::proofs::Naming::event_numbers))]
     pub fn number(self) -> u8
         ensures value { result ≡ event_number self }
-        ensures only { (number : ℕ) → (event_numbered number ≡ Some self) ↔ (number ≡ event_number self) }
+        ensures only { (number : ℕ) → (event_numbered number ≡ Some self)
+            ↔ (number ≡ event_number self) }
     {
         match self {
             Event::Cube3 => 1,
@@ -162,7 +163,8 @@ impl Format {
     #[tactic(auto, using(crate::proofs::Naming::format_names))]
     pub fn name(self) -> &'static str
         ensures value { result.now ≡ format_name self }
-        ensures only { (text : List ℕ) → (format_named text ≡ Some self) ↔ (text ≡ format_name self) }
+        ensures only { (text : List ℕ) → (format_named text ≡ Some self)
+            ↔ (text ≡ format_name self) }
     {
         match self {
             Format::Ao5 => "ao5",

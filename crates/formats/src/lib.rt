@@ -1,11 +1,10 @@
-//! Events and formats: what a competitor's attempts make together, and the order of competitors.
+//! Events and formats: what a competitor's attempts make together, the order of competitors, and who may advance.
 #![tactic(auto)]
 
+mod advance;
 mod events;
 mod results;
 
+pub use advance::Advance;
 pub use events::{Event, Format, allowed, attempts_of, unit_of};
 pub use results::{Averaged, RankKey, average, best, better, key, print_average};
-
-#[cfg(test)]
-mod tests;

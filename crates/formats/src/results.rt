@@ -89,8 +89,8 @@ pub fn better(a: RankKey, b: RankKey) -> bool
     is_less(a.main, b.main) || a.main == b.main && is_less(a.tie, b.tie)
 }
 
-/// A third of a sum of three: of times to the hundredth, above ten minutes to the second, of moves to
-/// the hundredth of a move, each time a half up.
+/// A third of a sum of three: of times to the hundredth, above ten minutes to the second, of moves
+/// to the hundredth of a move, each time a half up.
 fn third_of(sum: u32, unit: Unit) -> u32
     requires { sum ≤ 10000000 }
     ensures { result ≡ third_of unit sum }
@@ -151,8 +151,9 @@ fn mean(values: &[Value], unit: Unit) -> Averaged
 
 /// The average of an ao5, or the mean of an mo3 (WCA Regulations, article 9f).
 ///
-/// It is Missing until all attempts of the format are there, and in the best-of formats. Times are in
-/// hundredths of a second, above ten minutes in whole seconds; moves are in hundredths of a move.
+/// It is Missing until all attempts of the format are there, and in the best-of formats. Times are
+/// in hundredths of a second, above ten minutes in whole seconds; moves are in hundredths of a
+/// move.
 pub fn average(format: Format, unit: Unit, values: &[Value]) -> Averaged
     requires { All IsInRange values.now }
     ensures { result ≡ average_of format unit values.now }
@@ -194,8 +195,8 @@ fn averaged_number(average: Averaged) -> Option<u32>
 
 /// An average as a sheet has it, or `NoMemory` where its text finds none.
 ///
-/// A time is printed as a value is, moves as whole moves, a point and two digits (`25.67`). The others
-/// are `DNF`, and `-` where there is none.
+/// A time is printed as a value is, moves as whole moves, a point and two digits (`25.67`). The
+/// others are `DNF`, and `-` where there is none.
 pub fn print_average(alloc: Global, average: Averaged, unit: Unit) -> Result<Vec<u8>, NoMemory>
     ensures { IfOk result (λ text. text.items ≡ average_text unit average) }
 {

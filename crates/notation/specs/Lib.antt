@@ -1,3 +1,3 @@
 pub mod Tokens
 pub mod Notation
-pub mod Scan
+pub mod model

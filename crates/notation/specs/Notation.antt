@@ -12,11 +12,14 @@ use Rattle.notation.specs.Tokens.{token}
 abbrev pub AreSpaces : List ℕ → Type 0
 AreSpaces gap = (n : ℕ) × (0 < n) × (gap ≡ replicate n 32)
 
--- the text is the tokens of at least one move, in order, one or more spaces between neighbours and none at the ends
+-- the text is the tokens of at least one move, in order, one or more spaces between neighbours and
+-- none at the ends
 abbrev pub Spells : List ℕ → List Move → Type 0
 Spells text [] = ⊥
 Spells text (move ∷ []) = text ≡ token move
-Spells text (move ∷ next ∷ moves) = (gap : List ℕ) × (rest : List ℕ) × AreSpaces gap × (text ≡ token move ++ (gap ++ rest)) × Spells rest (next ∷ moves)
+Spells text (move ∷ next ∷ moves) =
+    (gap : List ℕ) × (rest : List ℕ) × AreSpaces gap × (text ≡ token move ++ (gap ++ rest))
+    × Spells rest (next ∷ moves)
 
 -- the text of moves with one space between neighbours; of no moves the empty text
 abbrev pub spelling : List Move → List ℕ
@@ -35,13 +38,16 @@ turn_count moves = count_by (λ move. is_turn move.kind) moves
 -- the tokens of moves in order, each with one or more spaces behind it
 abbrev pub Leads : List ℕ → List Move → Type 0
 Leads front [] = front ≡ []
-Leads front (move ∷ moves) = (gap : List ℕ) × (rest : List ℕ) × AreSpaces gap × (front ≡ token move ++ (gap ++ rest)) × Leads rest moves
+Leads front (move ∷ moves) =
+    (gap : List ℕ) × (rest : List ℕ) × AreSpaces gap × (front ≡ token move ++ (gap ++ rest))
+    × Leads rest moves
 
 abbrev pub BeginsWithSpace : List ℕ → Type 0
 BeginsWithSpace [] = ⊥
 BeginsWithSpace (c ∷ cs) = c ≡ 32
 
--- behind these moves of the text, and all the spaces behind them, this is the rest, where a token is expected
+-- behind these moves of the text, and all the spaces behind them, this is the rest, where a token
+-- is expected
 pub record IsBehind (moves : List Move) (text rest : List ℕ) : Type 0 where
   pub front : List ℕ
   pub parts : text ≡ front ++ rest
@@ -50,10 +56,11 @@ pub record IsBehind (moves : List Move) (text rest : List ℕ) : Type 0 where
 
 -- the bytes begin with the token of a move, and behind it they end or a space comes
 abbrev pub BeginsWithMove : List ℕ → Type 0
-BeginsWithMove bytes = (move : Move) × (more : List ℕ) × (bytes ≡ token move ++ more) × ((more ≡ []) ⊎ BeginsWithSpace more)
+BeginsWithMove bytes = (move : Move) × (more : List ℕ) × (bytes ≡ token move ++ more)
+    × ((more ≡ []) ⊎ BeginsWithSpace more)
 
--- the offset in the text where a token was expected, behind at most 400 moves, and no move stands; behind 400
--- moves that is the end of the text, since anything else there is too much
+-- the offset in the text where a token was expected, behind at most 400 moves, and no move stands;
+-- behind 400 moves that is the end of the text, since anything else there is too much
 pub record IsBadTokenAt (text : List ℕ) (at : ℕ) : Type 0 where
   pub some_text : text ≢ []
   pub moves : List Move

@@ -1,4 +1,4 @@
-// Laws of the notation.
+//! Laws of the notation.
 
 ghost use Rattle.std.specs.Prelude.{◌≡◌, ◌<◌, ℕ, List, length};
 ghost use Rattle.cube.specs.declared.moves.Move.{Move};

@@ -12,6 +12,3 @@ pub use moves::Moves;
 pub use printing::{count, print};
 pub use reading::{MOST_MOVES, ReadFault, read};
 pub use std::alloc::AllocError as NoMemory;
-
-#[cfg(test)]
-mod tests;

@@ -1,4 +1,4 @@
-// A list of moves.
+//! A list of moves.
 
 ghost use Rattle.std.specs.Prelude.{◌≡◌, List};
 

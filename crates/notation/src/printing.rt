@@ -1,4 +1,4 @@
-// Counting and printing moves.
+//! Counting and printing moves.
 
 ghost use Rattle.std.specs.Prelude.{◌≡◌, ◌≤◌, length, IfOk};
 ghost use Rattle.notation.specs.Notation.{turn_count, is_turn as is_counted, spelling};
@@ -7,8 +7,8 @@ use crate::tokens::push_token;
 use cube::{Kind, Move};
 use std::alloc::{AllocError as NoMemory, Global};
 
-/// The number of moves in the outer block turn metric (WCA Regulations, article 12): a face or block
-/// move counts 1 and a rotation 0. For lists of at most 400 moves.
+/// The number of moves in the outer block turn metric (WCA Regulations, article 12): a face or
+/// block move counts 1 and a rotation 0. For lists of at most 400 moves.
 pub fn count(moves: &[Move]) -> u32
     requires { length moves.now ≤ 400 }
     ensures { result ≡ turn_count moves.now }

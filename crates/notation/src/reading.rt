@@ -1,9 +1,9 @@
-// Reading moves in notation.
+//! Reading moves in notation.
 
 ghost use Rattle.std.specs.Prelude.{◌≡◌, ◌≤◌, ◌↔◌, ◌⊎◌, ℕ, List, [], length, IfOk, Ok, Err};
 ghost use Rattle.cube.specs.declared.moves.Move.{Move};
 ghost use Rattle.notation.specs.Notation.{Spells, IsBadTokenAt, IsTooMany, IsUnlessNoMemory};
-ghost use Rattle.notation.specs.Scan.{word_len as length_of_word, space_len as length_of_spaces, behind_spaces, scan};
+ghost use Rattle.notation.specs.model.Scan.{word_len as length_of_word, space_len as length_of_spaces, behind_spaces, scan};
 
 use crate::moves::Moves;
 use crate::tokens::move_of;
@@ -17,7 +17,8 @@ pub const MOST_MOVES: usize = 400;
 pub enum ReadFault {
     /// The text has no bytes.
     Empty,
-    /// A token was expected at this offset, and no move stands there up to the next space or the end.
+    /// A token was expected at this offset, and no move stands there up to the next space or the
+    /// end.
     BadToken { at: usize },
     /// Behind 400 moves and one or more spaces another byte comes, whatever follows it.
     TooMany,
@@ -47,22 +48,27 @@ impl<T: Drop> From<AllocFailed<T>> for ReadFault {
     }
 }
 
-/// Reads a text in notation (WCA Regulations, article 12): the tokens of 1 to 400 moves, parted by one
-/// or more spaces, none at the ends. A token is the letter of a face (`F`, `B`, `R`, `L`, `U`, `D`), that
-/// letter and `w` for the outer block of two layers, or `x`, `y`, `z` for a turn of the whole cube; then
-/// nothing for a quarter turn clockwise, `'` for one against the clock, or `2` for a half turn.
+/// Reads a text in notation (WCA Regulations, article 12): the tokens of 1 to 400 moves, parted by
+/// one or more spaces, none at the ends. A token is the letter of a face (`F`, `B`, `R`, `L`, `U`,
+/// `D`), that letter and `w` for the outer block of two layers, or `x`, `y`, `z` for a turn of the
+/// whole cube; then nothing for a quarter turn clockwise, `'` for one against the clock, or `2` for
+/// a half turn.
 ///
-/// A text without bytes is `Empty`. Otherwise the text is read from the left, and the first token that is
-/// none is told as `BadToken`, or, behind 400 moves and a space, the first further byte as `TooMany`.
-/// `NoMemory` comes only where a growth was refused, in place of any of these but `Empty`.
+/// A text without bytes is `Empty`. Otherwise the text is read from the left, and the first token
+/// that is none is told as `BadToken`, or, behind 400 moves and a space, the first further byte as
+/// `TooMany`. `NoMemory` comes only where a growth was refused, in place of any of these but
+/// `Empty`.
 pub fn read(alloc: Global, text: &[u8]) -> Result<Moves, ReadFault>
     // What is read is spelled so, and has at most 400 moves.
-    ensures found { (moves : List Move) → result ≡ Ok moves → Spells text.now moves × (length moves ≤ 400) }
+    ensures found { (moves : List Move) → result ≡ Ok moves
+        → Spells text.now moves × (length moves ≤ 400) }
     // What is spelled so, with at most 400 moves, is read, unless memory runs out.
-    ensures only { (moves : List Move) → Spells text.now moves → length moves ≤ 400 → IsUnlessNoMemory result (Ok moves) }
+    ensures only { (moves : List Move) → Spells text.now moves → length moves ≤ 400
+        → IsUnlessNoMemory result (Ok moves) }
     ensures empty { (result ≡ Err ReadFault.Empty) ↔ (text.now ≡ []) }
     ensures bad_token { (at : ℕ) → result ≡ Err (ReadFault.BadToken at) → IsBadTokenAt text.now at }
-    ensures bad_token_only { (at : ℕ) → IsBadTokenAt text.now at → IsUnlessNoMemory result (Err (ReadFault.BadToken at)) }
+    ensures bad_token_only { (at : ℕ) → IsBadTokenAt text.now at
+        → IsUnlessNoMemory result (Err (ReadFault.BadToken at)) }
     ensures too_many { result ≡ Err ReadFault.TooMany → IsTooMany text.now }
     ensures too_many_only { IsTooMany text.now → IsUnlessNoMemory result (Err ReadFault.TooMany) }
 {

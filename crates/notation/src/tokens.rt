@@ -1,8 +1,8 @@
-// The tokens of moves.
+//! The tokens of moves.
 
 ghost use Rattle.std.specs.Prelude.{◌≡◌, [], ◌∷◌, ◌++◌, OnOk};
 ghost use Rattle.notation.specs.Tokens.{side_letter, axis_letter, stem, token};
-ghost use Rattle.notation.specs.Scan.{side_named, kind_named, block_of as block_at, quarter_named, move_named};
+ghost use Rattle.notation.specs.model.Scan.{side_named, kind_named, block_of as block_at, quarter_named, move_named};
 
 use cube::{Axis, Kind, Move, Quarter, Side};
 use std::alloc::AllocError;
@@ -53,7 +53,7 @@ fn quarter_of(mark: u8) -> Option<Quarter>
 }
 
 /// The move whose token the bytes are.
-#[tactic(auto, unfolding(crate::specs::Scan::move_named))]
+#[tactic(auto, unfolding(crate::specs::model::Scan::move_named))]
 pub fn move_of(token: &[u8]) -> Option<Move>
     ensures { result ≡ move_named token.now }
 {
@@ -92,7 +92,8 @@ fn axis_byte(axis: Axis) -> u8
     }
 }
 
-/// Writes the token of a move at the end of a text. Where memory runs out, a part of it may stand there.
+/// Writes the token of a move at the end of a text. Where memory runs out, a part of it may stand
+/// there.
 pub fn push_token(text: &mut Vec<u8>, turn: Move) -> Result<(), AllocError>
     ensures { OnOk result (text.new.items ≡ text.old.items ++ token turn) }
 {

@@ -14,10 +14,12 @@ use Rattle.sheets.specs.Sheet.{right}
 
 -- Lists
 
-pub append_short : (a b : ℕ) (xs ys : List ℕ) → length xs ≤ a → length ys ≤ b → length (xs ++ ys) ≤ a + b
+pub append_short : (a b : ℕ) (xs ys : List ℕ) → length xs ≤ a → length ys ≤ b
+    → length (xs ++ ys) ≤ a + b
 append_short a b xs ys x y = let long = length-append xs ys in omega (arith, long, x, y)
 
-pub right_short : (width most : ℕ) (text : List ℕ) → width ≤ most → length text ≤ most → length (right width text) ≤ most
+pub right_short : (width most : ℕ) (text : List ℕ) → width ≤ most → length text ≤ most
+    → length (right width text) ≤ most
 right_short width most text wide short =
     let long = length-append (replicate (width - length text) 32) text in
     let space : ℕ = 32 in
@@ -25,7 +27,8 @@ right_short width most text wide short =
     omega (arith, long, spaces, wide, short)
 
 -- lists of at most so many items each
-pub each_short : (most : ℕ) (f : ℕ → List ℕ) → ((n : ℕ) → length (f n) ≤ most) → (ns : List ℕ) → length (flat_map f ns) ≤ most * length ns
+pub each_short : (most : ℕ) (f : ℕ → List ℕ) → ((n : ℕ) → length (f n) ≤ most) → (ns : List ℕ)
+    → length (flat_map f ns) ≤ most * length ns
 each_short most f each [] = omega arith
 each_short most f each (n ∷ ns) =
     let long = length-append (f n) (flat_map f ns) in
@@ -41,21 +44,33 @@ pub record IsShown (n : ℕ) (e : Entrant) : Type 0 where
   pub number : n ≤ 9999
   pub parts : IsSmallEntrant e
 
-found_in : (n : ℕ) (es : List Entrant) → AllByRecursion IsSmallEntrant es → IfSome (find (has_number n) es) (IsShown n)
+found_in : (n : ℕ) (es : List Entrant) → AllByRecursion IsSmallEntrant es
+    → IfSome (find (has_number n) es) (IsShown n)
 found_in n [] are = tt
 found_in n (e ∷ es) are = step (has_number n e) refl are.0 (found_in n es are.1)
   where
-    step : (b : Bool) → has_number n e ≡ b → IsSmallEntrant e → IfSome (find (has_number n) es) (IsShown n) → IfSome (cond b (Some e) (find (has_number n) es)) (IsShown n)
-    step true is small later = let same : n ≡ e.number = eqb-true n e.number is in record { number = let most = small.number in omega (arith, same, most); parts = small }
+    step : (b : Bool) → has_number n e ≡ b → IsSmallEntrant e
+        → IfSome (find (has_number n) es) (IsShown n)
+        → IfSome (cond b (Some e) (find (has_number n) es)) (IsShown n)
+    step true is small later = let same : n ≡ e.number =
+        eqb-true n e.number is in record {
+          number = let most = small.number in
+              omega (arith, same, most);
+          parts = small;
+        }
     step false is small later = later
 
-pub shown : (t : Table) → AllByRecursion IsSmallEntrant t.entrants → (n : ℕ) → IfSome (entrant t n) (IsShown n)
+pub shown : (t : Table) → AllByRecursion IsSmallEntrant t.entrants → (n : ℕ)
+    → IfSome (entrant t n) (IsShown n)
 shown t are n = found_in n t.entrants are
 
 pub place_small : (t : Table) → length t.entrants ≤ 999 → (e : Entrant) → place t e ≤ 1000
-place_small t few e = let less = count_by-le-length (λ other. is_better (key t other) (key t e)) t.entrants in omega (arith, less, few)
+place_small t few e = let less =
+    count_by-le-length (λ other. is_better (key t other) (key t e)) t.entrants in
+    omega (arith, less, few)
 
-pub name_given_short : (name : Option (List ℕ)) → IfSome name (λ bytes. length bytes ≤ 80) → length (unwrap_or name []) ≤ 80
+pub name_given_short : (name : Option (List ℕ)) → IfSome name (λ bytes. length bytes ≤ 80)
+    → length (unwrap_or name []) ≤ 80
 name_given_short None h = omega arith
 name_given_short (Some name) h = h
 

@@ -18,8 +18,8 @@ use Rattle.formats.specs.declared.events.Format.TheVariants.{Ao5, Mo3, Bo1, Bo2,
 use Rattle.formats.specs.declared.results.Averaged.{Averaged}
 use Rattle.formats.specs.declared.results.Averaged.TheVariants as averaged
 use Rattle.formats.specs.Results.{numbers, least, greatest, number_or, without_number, is_dnf, best_of, third_of, without_least, trimmed, mean_of, average_of, moves_text, averaged_text, average_text}
-use Rattle.commands.proofs.Cuts.{and-true}
-use Rattle.commands.proofs.FieldSpellings.{decimal_digits}
+use Rattle.texts.proofs.Cuts.{and-true}
+use Rattle.texts.proofs.FieldSpellings.{decimal_digits}
 use Rattle.sheets.specs.Sheet.{best_text, attempt_text}
 
 -- the byte is no quote mark
@@ -31,11 +31,13 @@ pub record IsPlain (most : ℕ) (text : List ℕ) : Type 0 where
   pub short : length text ≤ most
   pub unquoted : AllByRecursion IsNoQuote text
 
-unquoted_append : (xs ys : List ℕ) → AllByRecursion IsNoQuote xs → AllByRecursion IsNoQuote ys → AllByRecursion IsNoQuote (xs ++ ys)
+unquoted_append : (xs ys : List ℕ) → AllByRecursion IsNoQuote xs → AllByRecursion IsNoQuote ys
+    → AllByRecursion IsNoQuote (xs ++ ys)
 unquoted_append [] ys h k = k
 unquoted_append (x ∷ xs) ys h k = (h.0, unquoted_append xs ys h.1 k)
 
-pub plain_append : (a b most : ℕ) (xs ys : List ℕ) → a + b ≤ most → IsPlain a xs → IsPlain b ys → IsPlain most (xs ++ ys)
+pub plain_append : (a b most : ℕ) (xs ys : List ℕ) → a + b ≤ most → IsPlain a xs → IsPlain b ys
+    → IsPlain most (xs ++ ys)
 plain_append a b most xs ys room x y = record {
   short = let long = length-append xs ys in omega (arith, long, x.short, y.short, room);
   unquoted = unquoted_append xs ys x.unquoted y.unquoted;
@@ -44,7 +46,8 @@ plain_append a b most xs ys room x y = record {
 plain_more : (a most : ℕ) (xs : List ℕ) → a ≤ most → IsPlain a xs → IsPlain most xs
 plain_more a most xs room x = record { short = omega (arith, x.short, room); unquoted = x.unquoted }
 
-digits_unquoted : (bytes : List ℕ) → list_all is_ascii_digit bytes ≡ true → AllByRecursion IsNoQuote bytes
+digits_unquoted : (bytes : List ℕ) → list_all is_ascii_digit bytes ≡ true
+    → AllByRecursion IsNoQuote bytes
 digits_unquoted [] h = tt
 digits_unquoted (b ∷ bytes) h =
     let both = and-true (is_ascii_digit b) (list_all is_ascii_digit bytes) h in
@@ -62,7 +65,11 @@ plain_decimal k n some fits small = record {
 }
 
 plain_two : (n : ℕ) → IsPlain 2 (two_digits n)
-plain_two n = record { short = omega arith; unquoted = (grind (arith, nat_tests), (grind (arith, nat_tests), tt)) }
+plain_two n =
+    record {
+      short = omega arith;
+      unquoted = (grind (arith, nat_tests), (grind (arith, nat_tests), tt));
+    }
 
 plain_point : IsPlain 1 (codes ".")
 plain_point = record { short = omega arith; unquoted = (refl, tt) }
@@ -72,18 +79,24 @@ plain_colon = record { short = omega arith; unquoted = (refl, tt) }
 
 -- Times and moves
 
-plain_seconds : (n : ℕ) → n < 6000 → IsPlain 11 (decimal (n / 100) ++ codes "." ++ two_digits (n % 100))
+plain_seconds : (n : ℕ) → n < 6000 → IsPlain 11 (decimal (n / 100) ++ codes "."
+    ++ two_digits (n % 100))
 plain_seconds n small =
     plain_append 3 2 11 (decimal (n / 100) ++ codes ".") (two_digits (n % 100)) (omega arith)
-    (plain_append 2 1 3 (decimal (n / 100)) (codes ".") (omega arith) (plain_decimal 2 (n / 100) (omega arith) (omega arith) (omega arith)) plain_point)
+    (plain_append 2 1 3 (decimal (n / 100)) (codes ".") (omega arith) (plain_decimal 2 (n / 100)
+    (omega arith) (omega arith) (omega arith)) plain_point)
     (plain_two (n % 100))
 
-plain_minutes : (n : ℕ) → n < 600000000 → IsPlain 11 (decimal (n / 6000) ++ codes ":" ++ two_digits (n / 100 % 60) ++ codes "." ++ two_digits (n % 100))
+plain_minutes : (n : ℕ) → n < 600000000 → IsPlain 11 (decimal (n / 6000) ++ codes ":"
+    ++ two_digits (n / 100 % 60) ++ codes "." ++ two_digits (n % 100))
 plain_minutes n small =
-    plain_append 9 2 11 (decimal (n / 6000) ++ codes ":" ++ two_digits (n / 100 % 60) ++ codes ".") (two_digits (n % 100)) (omega arith)
-    (plain_append 8 1 9 (decimal (n / 6000) ++ codes ":" ++ two_digits (n / 100 % 60)) (codes ".") (omega arith)
+    plain_append 9 2 11 (decimal (n / 6000) ++ codes ":" ++ two_digits (n / 100 % 60) ++ codes ".")
+    (two_digits (n % 100)) (omega arith)
+    (plain_append 8 1 9 (decimal (n / 6000) ++ codes ":" ++ two_digits (n / 100 % 60))
+    (codes ".") (omega arith)
     (plain_append 6 2 8 (decimal (n / 6000) ++ codes ":") (two_digits (n / 100 % 60)) (omega arith)
-    (plain_append 5 1 6 (decimal (n / 6000)) (codes ":") (omega arith) (plain_decimal 5 (n / 6000) (omega arith) (omega arith) (omega arith)) plain_colon)
+    (plain_append 5 1 6 (decimal (n / 6000)) (codes ":") (omega arith) (plain_decimal 5 (n / 6000)
+    (omega arith) (omega arith) (omega arith)) plain_colon)
     (plain_two (n / 100 % 60)))
     plain_point)
     (plain_two (n % 100))
@@ -91,14 +104,18 @@ plain_minutes n small =
 plain_time : (n : ℕ) → n < 600000000 → IsPlain 11 (time_text n)
 plain_time n small = step (nat_lt n 6000) refl
   where
-    step : (b : Bool) → nat_lt n 6000 ≡ b → IsPlain 11 (cond b (decimal (n / 100) ++ codes "." ++ two_digits (n % 100)) (decimal (n / 6000) ++ codes ":" ++ two_digits (n / 100 % 60) ++ codes "." ++ two_digits (n % 100)))
+    step : (b : Bool) → nat_lt n 6000 ≡ b
+        → IsPlain 11 (cond b (decimal (n / 100) ++ codes "." ++ two_digits (n % 100))
+        (decimal (n / 6000) ++ codes ":" ++ two_digits (n / 100 % 60) ++ codes "."
+        ++ two_digits (n % 100)))
     step true is = plain_seconds n (grind (arith, nat_tests))
     step false is = plain_minutes n small
 
 plain_moves : (n : ℕ) → n < 1000000000 → IsPlain 11 (moves_text n)
 plain_moves n small =
     plain_append 8 2 11 (decimal (n / 100) ++ codes ".") (two_digits (n % 100)) (omega arith)
-    (plain_append 7 1 8 (decimal (n / 100)) (codes ".") (omega arith) (plain_decimal 7 (n / 100) (omega arith) (omega arith) (omega arith)) plain_point)
+    (plain_append 7 1 8 (decimal (n / 100)) (codes ".") (omega arith) (plain_decimal 7 (n / 100)
+    (omega arith) (omega arith) (omega arith)) plain_point)
     (plain_two (n % 100))
 
 -- Values
@@ -108,14 +125,18 @@ plain_dnf = record { short = omega arith; unquoted = (refl, (refl, (refl, tt))) 
 
 pub plain_value : (unit : Measure) (v : Value) → IsInRange v → IsPlain 11 (value_text unit v)
 plain_value Time (value.Number n) is = plain_time n (omega arith)
-plain_value Moves (value.Number n) is = plain_more 7 11 (decimal n) (omega arith) (plain_decimal 7 n (omega arith) (omega arith) (omega arith))
+plain_value Moves (value.Number n) is =
+    plain_more 7 11 (decimal n) (omega arith) (plain_decimal 7 n (omega arith)
+    (omega arith) (omega arith))
 plain_value unit value.Dnf is = plain_dnf
-plain_value unit value.Dns is = record { short = omega arith; unquoted = (refl, (refl, (refl, tt))) }
+plain_value unit value.Dns is =
+    record { short = omega arith; unquoted = (refl, (refl, (refl, tt))) }
 
 pub plain_dash : IsPlain 11 (codes "-")
 plain_dash = record { short = omega arith; unquoted = (refl, tt) }
 
-pub plain_attempt : (unit : Measure) (vs : List Value) → AllByRecursion IsInRange vs → (k : ℕ) → IsPlain 11 (attempt_text unit vs k)
+pub plain_attempt : (unit : Measure) (vs : List Value) → AllByRecursion IsInRange vs → (k : ℕ)
+    → IsPlain 11 (attempt_text unit vs k)
 plain_attempt unit [] are k = plain_dash
 plain_attempt unit (v ∷ vs) are zero = plain_value unit v are.0
 plain_attempt unit (v ∷ vs) are (suc k) = plain_attempt unit vs are.1 k
@@ -125,7 +146,8 @@ plain_attempt unit (v ∷ vs) are (suc k) = plain_attempt unit vs are.1 k
 abbrev IsSmallNumber : ℕ → Type 0
 IsSmallNumber n = n ≤ 2000000
 
-numbers_small : (vs : List Value) → AllByRecursion IsInRange vs → AllByRecursion IsSmallNumber (numbers vs)
+numbers_small : (vs : List Value) → AllByRecursion IsInRange vs
+    → AllByRecursion IsSmallNumber (numbers vs)
 numbers_small [] are = tt
 numbers_small (value.Number n ∷ vs) are = (are.0, numbers_small vs are.1)
 numbers_small (value.Dnf ∷ vs) are = numbers_small vs are.1
@@ -133,21 +155,25 @@ numbers_small (value.Dns ∷ vs) are = numbers_small vs are.1
 
 fold_small : (n : ℕ) (ns : List ℕ) → n ≤ 2000000 → fold min n ns ≤ 2000000
 fold_small n [] is = is
-fold_small n (m ∷ ns) is = fold_small (min n m) ns (let less = min-le_left n m in omega (arith, less, is))
+fold_small n (m ∷ ns) is =
+    fold_small (min n m) ns (let less = min-le_left n m in omega (arith, less, is))
 
 least_small : (ns : List ℕ) → AllByRecursion IsSmallNumber ns → IfSome (least ns) IsSmallNumber
 least_small [] are = tt
 least_small (n ∷ ns) are = fold_small n ns are.0
 
 best_small : (vs : List Value) → AllByRecursion IsInRange vs → IsInRange (best_of vs)
-best_small vs are = step (least (numbers vs)) (list_any is_dnf vs) (least_small (numbers vs) (numbers_small vs are))
+best_small vs are =
+    step (least (numbers vs)) (list_any is_dnf vs) (least_small (numbers vs) (numbers_small vs are))
   where
-    step : (o : Option ℕ) (b : Bool) → IfSome o IsSmallNumber → IsInRange (number_or o (without_number b))
+    step : (o : Option ℕ) (b : Bool) → IfSome o IsSmallNumber
+        → IsInRange (number_or o (without_number b))
     step (Some n) b is = is
     step None true is = tt
     step None false is = tt
 
-pub plain_best : (unit : Measure) (vs : List Value) → AllByRecursion IsInRange vs → IsPlain 11 (best_text unit vs)
+pub plain_best : (unit : Measure) (vs : List Value) → AllByRecursion IsInRange vs
+    → IsPlain 11 (best_text unit vs)
 plain_best unit [] are = plain_dash
 plain_best unit (v ∷ vs) are = plain_value unit (best_of (v ∷ vs)) (best_small (v ∷ vs) are)
 
@@ -155,7 +181,8 @@ plain_best unit (v ∷ vs) are = plain_value unit (best_of (v ∷ vs)) (best_sma
 
 sum_small : (ns : List ℕ) → AllByRecursion IsSmallNumber ns → sum ns ≤ length ns * 2000000
 sum_small [] are = omega arith
-sum_small (n ∷ ns) are = let rest = sum_small ns are.1 in let first = are.0 in let more = sum_by-cons (λ (x : ℕ). x) n ns in omega (arith, rest, first, more)
+sum_small (n ∷ ns) are = let rest = sum_small ns are.1 in let first = are.0 in let more =
+    sum_by-cons (λ (x : ℕ). x) n ns in omega (arith, rest, first, more)
 
 third_small : (unit : Measure) (s : ℕ) → s ≤ 10000000 → third_of unit s < 600000000
 third_small Time s small = step (nat_le s 180000)
@@ -165,43 +192,59 @@ third_small Time s small = step (nat_le s 180000)
     step false = omega arith
 third_small Moves s small = omega arith
 
-plain_third : (printed unit : Measure) (s : ℕ) → s ≤ 10000000 → IsPlain 11 (averaged_text printed (third_of unit s))
+plain_third : (printed unit : Measure) (s : ℕ) → s ≤ 10000000
+    → IsPlain 11 (averaged_text printed (third_of unit s))
 plain_third Time unit s small = plain_time (third_of unit s) (third_small unit s small)
-plain_third Moves unit s small = let low = third_small unit s small in plain_moves (third_of unit s) (omega (arith, low))
+plain_third Moves unit s small = let low =
+    third_small unit s small in plain_moves (third_of unit s) (omega (arith, low))
 
-plain_trimmed : (printed unit : Measure) (ns : List ℕ) → AllByRecursion IsSmallNumber ns → IsPlain 11 (average_text printed (trimmed unit ns))
+plain_trimmed : (printed unit : Measure) (ns : List ℕ) → AllByRecursion IsSmallNumber ns
+    → IsPlain 11 (average_text printed (trimmed unit ns))
 plain_trimmed printed unit ns are = step (length ns == 5) (length ns == 4) refl refl
   where
     step : (a b : Bool) → (length ns == 5) ≡ a → (length ns == 4) ≡ b
-        → IsPlain 11 (average_text printed (cond a (averaged.Number (third_of unit (without_least ns - unwrap_or (greatest ns) 0))) (cond b (averaged.Number (third_of unit (without_least ns))) averaged.Dnf)))
+        → IsPlain 11
+        (average_text printed
+        (cond a (averaged.Number (third_of unit (without_least ns - unwrap_or (greatest ns) 0)))
+        (cond b (averaged.Number (third_of unit (without_least ns))) averaged.Dnf)))
     step true b is_a is_b =
         let five : length ns ≡ 5 = eqb-true (length ns) 5 is_a in
         let all = sum_small ns are in
-        plain_third printed unit (without_least ns - unwrap_or (greatest ns) 0) (omega (arith, five, all))
+        plain_third printed unit (without_least ns - unwrap_or (greatest ns) 0)
+        (omega (arith, five, all))
     step false true is_a is_b =
         let four : length ns ≡ 4 = eqb-true (length ns) 4 is_b in
         let all = sum_small ns are in
         plain_third printed unit (without_least ns) (omega (arith, four, all))
     step false false is_a is_b = plain_dnf
 
-plain_mean : (printed unit : Measure) (ns : List ℕ) → AllByRecursion IsSmallNumber ns → IsPlain 11 (average_text printed (mean_of unit ns))
+plain_mean : (printed unit : Measure) (ns : List ℕ) → AllByRecursion IsSmallNumber ns
+    → IsPlain 11 (average_text printed (mean_of unit ns))
 plain_mean printed unit ns are = step (length ns == 3) refl
   where
-    step : (a : Bool) → (length ns == 3) ≡ a → IsPlain 11 (average_text printed (cond a (averaged.Number (third_of unit (sum ns))) averaged.Dnf))
+    step : (a : Bool) → (length ns == 3) ≡ a
+        → IsPlain 11
+        (average_text printed (cond a (averaged.Number (third_of unit (sum ns))) averaged.Dnf))
     step true is =
         let three : length ns ≡ 3 = eqb-true (length ns) 3 is in
         let all = sum_small ns are in
         plain_third printed unit (sum ns) (omega (arith, three, all))
     step false is = plain_dnf
 
-plain_if : (printed : Measure) (b : Bool) (x : Averaged) → IsPlain 11 (average_text printed x) → IsPlain 11 (average_text printed (cond b x averaged.Missing))
+plain_if : (printed : Measure) (b : Bool) (x : Averaged) → IsPlain 11 (average_text printed x)
+    → IsPlain 11 (average_text printed (cond b x averaged.Missing))
 plain_if printed true x is = is
 plain_if printed false x is = plain_dash
 
 -- an average, printed as the event has it
-pub plain_average : (printed : Measure) (format : Format) (unit : Measure) (vs : List Value) → AllByRecursion IsInRange vs → IsPlain 11 (average_text printed (average_of format unit vs))
-plain_average printed Ao5 unit vs are = plain_if printed (length vs == 5) (trimmed unit (numbers vs)) (plain_trimmed printed unit (numbers vs) (numbers_small vs are))
-plain_average printed Mo3 unit vs are = plain_if printed (length vs == 3) (mean_of unit (numbers vs)) (plain_mean printed unit (numbers vs) (numbers_small vs are))
+pub plain_average : (printed : Measure) (format : Format) (unit : Measure) (vs : List Value)
+    → AllByRecursion IsInRange vs → IsPlain 11 (average_text printed (average_of format unit vs))
+plain_average printed Ao5 unit vs are =
+    plain_if printed (length vs == 5) (trimmed unit (numbers vs)) (plain_trimmed printed unit
+    (numbers vs) (numbers_small vs are))
+plain_average printed Mo3 unit vs are =
+    plain_if printed (length vs == 3) (mean_of unit (numbers vs))
+    (plain_mean printed unit (numbers vs) (numbers_small vs are))
 plain_average printed Bo1 unit vs are = plain_dash
 plain_average printed Bo2 unit vs are = plain_dash
 plain_average printed Bo3 unit vs are = plain_dash

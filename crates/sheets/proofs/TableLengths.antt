@@ -11,8 +11,8 @@ use Rattle.formats.specs.declared.results.Averaged.{Averaged}
 use Rattle.formats.specs.Events.{attempts_of, unit_of}
 use Rattle.formats.specs.Results.{average_of, average_text}
 use Rattle.rounds.specs.Tables.{Entrant, Table, entrant, place, standings}
-use Rattle.commands.specs.declared.command.Command.{Command}
-use Rattle.commands.specs.declared.command.Settings.{Settings}
+use Rattle.texts.specs.declared.command.Command.{Command}
+use Rattle.texts.specs.declared.command.Settings.{Settings}
 use Rattle.commands.specs.Accepted.{name_of}
 use Rattle.commands.proofs.Sizes.{IsSmall, IsSmallRound, IsSmallEntrant, standings_few}
 use Rattle.sheets.specs.Sheet.{attempt_text, best_text, is_marked, name_text, yes_or_no, header, entrant_fields, entrant_record, record_of, table_of_round}
@@ -21,7 +21,8 @@ use Rattle.sheets.proofs.Lengths.{append_short, each_short, IsShown, shown, plac
 
 -- Fields
 
-escaped_plain : (text : List ℕ) → AllByRecursion IsNoQuote text → length (escaped default_writer text) ≡ length text
+escaped_plain : (text : List ℕ) → AllByRecursion IsNoQuote text
+    → length (escaped default_writer text) ≡ length text
 unfolding escaped
 escaped_plain [] are = refl
 escaped_plain (b ∷ bytes) are = rw are.0 (ap (λ (n : ℕ). suc n) (escaped_plain bytes are.1))
@@ -32,28 +33,37 @@ unfolding escaped
 escaped_short [] = omega arith
 escaped_short (b ∷ bytes) = step (b == 34) (escaped_short bytes)
   where
-    step : (t : Bool) → length (escaped default_writer bytes) ≤ 2 * length bytes → length (cond t (34 ∷ b ∷ escaped default_writer bytes) (b ∷ escaped default_writer bytes)) ≤ 2 * length (b ∷ bytes)
+    step : (t : Bool) → length (escaped default_writer bytes) ≤ 2 * length bytes
+        → length (cond t (34 ∷ b ∷ escaped default_writer bytes) (b ∷ escaped default_writer bytes))
+        ≤ 2 * length (b ∷ bytes)
     step true rest = omega (arith, rest)
     step false rest = omega (arith, rest)
 
-field_plain : (most : ℕ) (text : List ℕ) → IsPlain most text → length (field_text default_writer text) ≤ most + 2
+field_plain : (most : ℕ) (text : List ℕ) → IsPlain most text
+    → length (field_text default_writer text) ≤ most + 2
 field_plain most text is = step (needs_quotes default_writer text)
   where
     step : (b : Bool) → length (cond b (quoted default_writer text) text) ≤ most + 2
-    step true = let long = length-append (escaped default_writer text) (34 ∷ []) in let same = escaped_plain text is.unquoted in let short = is.short in omega (arith, long, same, short)
+    step true = let long = length-append (escaped default_writer text) (34 ∷ []) in let same =
+        escaped_plain text is.unquoted in let short = is.short in omega (arith, long, same, short)
     step false = let short = is.short in omega (arith, short)
 
 field_short : (text : List ℕ) → length text ≤ 80 → length (field_text default_writer text) ≤ 162
 field_short text short = step (needs_quotes default_writer text)
   where
     step : (b : Bool) → length (cond b (quoted default_writer text) text) ≤ 162
-    step true = let long = length-append (escaped default_writer text) (34 ∷ []) in let twice = escaped_short text in omega (arith, long, twice, short)
+    step true = let long = length-append (escaped default_writer text) (34 ∷ []) in let twice =
+        escaped_short text in omega (arith, long, twice, short)
     step false = omega (arith, short)
 
 -- one more field, behind a comma
-fields_short : (a b : ℕ) (field : List ℕ) (rest : List (List ℕ)) → length (field_text default_writer field) ≤ a → length (fields_text default_writer rest) ≤ b → length (fields_text default_writer (field ∷ rest)) ≤ 1 + a + b
+fields_short : (a b : ℕ) (field : List ℕ) (rest : List (List ℕ))
+    → length (field_text default_writer field) ≤ a → length (fields_text default_writer rest) ≤ b
+    → length (fields_text default_writer (field ∷ rest)) ≤ 1 + a + b
 unfolding fields_text
-fields_short a b field rest first later = let long = length-append (field_text default_writer field) (fields_text default_writer rest) in omega (arith, long, first, later)
+fields_short a b field rest first later = let long =
+    length-append (field_text default_writer field) (fields_text default_writer rest) in
+    omega (arith, long, first, later)
 
 -- what ends a row, behind two quote marks or none
 abbrev row_end : Bool → List ℕ
@@ -63,10 +73,15 @@ end_short : (b : Bool) → length (row_end b) ≤ 3
 end_short true = omega arith
 end_short false = omega arith
 
-row_short : (a b : ℕ) (field : List ℕ) (rest : List (List ℕ)) → length (field_text default_writer field) ≤ a → length (fields_text default_writer rest) ≤ b → length (row_text default_writer (field ∷ rest)) ≤ a + b + 3
+row_short : (a b : ℕ) (field : List ℕ) (rest : List (List ℕ))
+    → length (field_text default_writer field) ≤ a → length (fields_text default_writer rest) ≤ b
+    → length (row_text default_writer (field ∷ rest)) ≤ a + b + 3
 row_short a b field rest first later =
-    append_short (a + b) 3 (field_text default_writer field ++ fields_text default_writer rest) (row_end (is_blank default_writer (field ∷ rest)))
-    (append_short a b (field_text default_writer field) (fields_text default_writer rest) first later) (end_short (is_blank default_writer (field ∷ rest)))
+    append_short (a + b) 3 (field_text default_writer field ++ fields_text default_writer rest)
+    (row_end (is_blank default_writer (field ∷ rest)))
+    (append_short a b (field_text default_writer field)
+    (fields_text default_writer rest) first later)
+    (end_short (is_blank default_writer (field ∷ rest)))
 
 -- Records
 
@@ -82,53 +97,85 @@ abbrev IsColumn : (ℕ → List ℕ) → ℕ → Type 0
 IsColumn f k = IsPlain 11 (f k)
 
 -- a column for each of some numbers, and the last one
-columns_short : (f : ℕ → List ℕ) (last : List ℕ) (most : ℕ) → length (field_text default_writer last) ≤ most → (ks : List ℕ) → AllByRecursion (IsColumn f) ks
+columns_short : (f : ℕ → List ℕ) (last : List ℕ) (most : ℕ)
+    → length (field_text default_writer last) ≤ most → (ks : List ℕ)
+    → AllByRecursion (IsColumn f) ks
     → length (fields_text default_writer (map f ks ++ last ∷ [])) ≤ 14 * length ks + (1 + most)
-columns_short f last most is [] are = let one = fields_short most 0 last [] is none_left in omega (arith, one)
+columns_short f last most is [] are = let one =
+    fields_short most 0 last [] is none_left in omega (arith, one)
 columns_short f last most is (k ∷ ks) are =
     let rest = columns_short f last most is ks are.1 in
-    let more = fields_short 13 (14 * length ks + (1 + most)) (f k) (map f ks ++ last ∷ []) (field_plain 11 (f k) are.0) rest in
+    let more =
+    fields_short 13 (14 * length ks + (1 + most)) (f k) (map f ks ++ last ∷ [])
+    (field_plain 11 (f k) are.0) rest in
     omega (arith, more)
 
-each_column : (f : ℕ → List ℕ) → ((k : ℕ) → IsPlain 11 (f k)) → (ks : List ℕ) → AllByRecursion (IsColumn f) ks
+each_column : (f : ℕ → List ℕ) → ((k : ℕ) → IsPlain 11 (f k)) → (ks : List ℕ)
+    → AllByRecursion (IsColumn f) ks
 each_column f each [] = tt
 each_column f each (k ∷ ks) = (each k, each_column f each ks)
 
 numbered_columns : (a n : ℕ) → a + n ≤ 10 → AllByRecursion (IsColumn decimal) (range_with_len a n)
 numbered_columns a zero few = tt
-numbered_columns a (suc n) few = (plain_decimal 11 a (omega arith) (omega arith) (omega arith), numbered_columns (a + 1) n (omega arith))
+numbered_columns a (suc n) few = (
+  plain_decimal 11 a (omega arith) (omega arith) (omega arith),
+  numbered_columns (a + 1) n (omega arith),
+)
 
-fields_of_short : (unit : Measure) (n at number : ℕ) (name : List ℕ) (average : Averaged) (vs : List Value) (marked : Bool) → n ≤ 5 → at ≤ 1000 → number ≤ 9999 → length name ≤ 80
-    → IsPlain 11 (average_text unit average) → AllByRecursion IsInRange vs → length (row_text default_writer (entrant_fields unit n at number name average vs marked)) ≤ 283
+fields_of_short : (unit : Measure) (n at number : ℕ) (name : List ℕ) (average : Averaged)
+    (vs : List Value) (marked : Bool) → n ≤ 5 → at ≤ 1000 → number ≤ 9999 → length name ≤ 80
+    → IsPlain 11 (average_text unit average) → AllByRecursion IsInRange vs
+    → length (row_text default_writer (entrant_fields unit n at number name average vs marked))
+    ≤ 283
 fields_of_short unit n at number name average vs marked columns low small short is are =
-    let all = columns_short (attempt_text unit vs) (yes_or_no marked) 5 (field_plain 3 (yes_or_no marked) (answer_plain marked)) (range_with_len 0 n) (each_column (attempt_text unit vs) (plain_attempt unit vs are) (range_with_len 0 n)) in
+    let all =
+    columns_short (attempt_text unit vs) (yes_or_no marked) 5 (field_plain 3 (yes_or_no marked)
+    (answer_plain marked)) (range_with_len 0 n) (each_column (attempt_text unit vs)
+    (plain_attempt unit vs are) (range_with_len 0 n)) in
     let count = length-range_with_len 0 n in
-    let last : length (fields_text default_writer (map (attempt_text unit vs) (range_with_len 0 n) ++ yes_or_no marked ∷ [])) ≤ 76 = omega (arith, all, count, columns) in
-    row_short 6 274 (decimal at) _ (field_plain 4 (decimal at) (plain_decimal 4 at (omega arith) (omega arith) (omega arith)))
-    (fields_short 6 267 (decimal number) _ (field_plain 4 (decimal number) (plain_decimal 4 number (omega arith) (omega arith) (omega arith)))
+    let last : length (fields_text default_writer (map (attempt_text unit vs) (range_with_len 0 n)
+    ++ yes_or_no marked ∷ [])) ≤ 76 = omega (arith, all, count, columns) in
+    row_short 6 274 (decimal at) _ (field_plain 4 (decimal at) (plain_decimal 4 at (omega arith)
+    (omega arith) (omega arith)))
+    (fields_short 6 267 (decimal number) _ (field_plain 4 (decimal number)
+    (plain_decimal 4 number (omega arith) (omega arith) (omega arith)))
     (fields_short 162 104 name _ (field_short name short)
-    (fields_short 13 90 (average_text unit average) _ (field_plain 11 (average_text unit average) is)
-    (fields_short 13 76 (best_text unit vs) _ (field_plain 11 (best_text unit vs) (plain_best unit vs are)) last))))
+    (fields_short 13 90 (average_text unit average) _
+    (field_plain 11 (average_text unit average) is)
+    (fields_short 13 76 (best_text unit vs) _ (field_plain 11 (best_text unit vs)
+    (plain_best unit vs are)) last))))
 
-record_short : (unit : Measure) (settings : Settings) (t : Table) (number : ℕ) (name : List ℕ) (e : Entrant) → length t.entrants ≤ 999 → length name ≤ 80 → IsShown number e
+record_short : (unit : Measure) (settings : Settings) (t : Table) (number : ℕ) (name : List ℕ)
+    (e : Entrant) → length t.entrants ≤ 999 → length name ≤ 80 → IsShown number e
     → length (entrant_record unit settings t number name e) ≤ 283
 unfolding entrant_record
 record_short unit settings t number name e few short is =
-    fields_of_short unit (attempts_of settings.format) (place t e) number name (average_of t.format t.unit e.values) e.values (is_marked settings t number)
-    (at_most_five settings.format) (place_small t few e) is.number short (plain_average unit t.format t.unit e.values is.parts.values) is.parts.values
+    fields_of_short unit (attempts_of settings.format) (place t e) number name
+    (average_of t.format t.unit e.values) e.values (is_marked settings t number)
+    (at_most_five settings.format) (place_small t few e) is.number short
+    (plain_average unit t.format t.unit e.values is.parts.values) is.parts.values
 
-record_of_short : (unit : Measure) (cs : List Command) (settings : Settings) (t : Table) → IsSmall cs → length t.entrants ≤ 999 → AllByRecursion IsSmallEntrant t.entrants → (n : ℕ) → length (record_of unit cs settings t n) ≤ 283
+record_of_short : (unit : Measure) (cs : List Command) (settings : Settings) (t : Table)
+    → IsSmall cs → length t.entrants ≤ 999 → AllByRecursion IsSmallEntrant t.entrants → (n : ℕ)
+    → length (record_of unit cs settings t n) ≤ 283
 record_of_short unit cs settings t small few are n = step (entrant t n) (shown t are n)
   where
-    step : (o : Option Entrant) → IfSome o (IsShown n) → length (unwrap_or (option_map (entrant_record unit settings t n (name_text cs n)) o) []) ≤ 283
+    step : (o : Option Entrant) → IfSome o (IsShown n)
+        → length (unwrap_or (option_map (entrant_record unit settings t n (name_text cs n)) o) [])
+        ≤ 283
     step None is = omega arith
-    step (Some e) is = record_short unit settings t n (name_text cs n) e few (name_given_short (name_of cs n) (small.names n)) is
+    step (Some e) is =
+        record_short unit settings t n (name_text cs n) e few (name_given_short (name_of cs n)
+        (small.names n)) is
 
 header_short : (n : ℕ) → n ≤ 5 → length (row_text default_writer (header n)) ≤ 1050
 header_short n few =
-    let all = columns_short decimal (codes "advances") 162 (field_short (codes "advances") (omega arith)) (range_with_len 1 n) (numbered_columns 1 n (omega arith)) in
+    let all =
+    columns_short decimal (codes "advances") 162 (field_short (codes "advances") (omega arith))
+    (range_with_len 1 n) (numbered_columns 1 n (omega arith)) in
     let count = length-range_with_len 1 n in
-    let last : length (fields_text default_writer (map decimal (range_with_len 1 n) ++ codes "advances" ∷ [])) ≤ 233 = omega (arith, all, count, few) in
+    let last : length (fields_text default_writer (map decimal (range_with_len 1 n)
+    ++ codes "advances" ∷ [])) ≤ 233 = omega (arith, all, count, few) in
     row_short 162 885 (codes "place") _ (field_short (codes "place") (omega arith))
     (fields_short 162 722 (codes "number") _ (field_short (codes "number") (omega arith))
     (fields_short 162 559 (codes "name") _ (field_short (codes "name") (omega arith))
@@ -136,10 +183,21 @@ header_short n few =
     (fields_short 162 233 (codes "best") _ (field_short (codes "best") (omega arith)) last))))
 
 -- the table of a round
-pub table_short : (cs : List Command) (event : Event) (round : ℕ) (r : Settings × Table) → IsSmall cs → IsSmallRound round r → length (table_of_round cs event r) ≤ 299992
+pub table_short : (cs : List Command) (event : Event) (round : ℕ) (r : Settings × Table)
+    → IsSmall cs → IsSmallRound round r → length (table_of_round cs event r) ≤ 299992
 table_short cs event round r small is =
-    let records = each_short 283 (record_of (unit_of event) cs r.0 r.1) (record_of_short (unit_of event) cs r.0 r.1 small is.few is.entrants) (standings r.1) in
+    let records =
+    each_short 283 (record_of (unit_of event) cs r.0 r.1)
+    (record_of_short (unit_of event) cs r.0 r.1 small is.few is.entrants) (standings r.1) in
     let count = standings_few r.1 in
     let few = is.few in
-    let whole = append_short 1050 282717 (row_text default_writer (header (attempts_of r.0.format))) (flat_map (record_of (unit_of event) cs r.0 r.1) (standings r.1)) (header_short (attempts_of r.0.format) (at_most_five r.0.format)) (omega (arith, records, count, few)) in
+    let whole =
+    append_short 1050 282717 (row_text default_writer (header (attempts_of r.0.format)))
+    (flat_map (record_of (unit_of event) cs r.0 r.1) (standings r.1))
+    (header_short (attempts_of r.0.format) (at_most_five r.0.format)) (omega (
+      arith,
+      records,
+      count,
+      few,
+    )) in
     omega (arith, whole)

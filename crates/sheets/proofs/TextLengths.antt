@@ -12,11 +12,11 @@ use Rattle.formats.specs.declared.results.Averaged.{Averaged}
 use Rattle.formats.specs.Events.{event_name, format_name, attempts_of, unit_of}
 use Rattle.formats.specs.Results.{average_of, average_text}
 use Rattle.rounds.specs.Tables.{Entrant, Table, entrant, place, standings}
-use Rattle.commands.specs.declared.command.Command.{Command}
-use Rattle.commands.specs.declared.command.Settings.{Settings}
+use Rattle.texts.specs.declared.command.Command.{Command}
+use Rattle.texts.specs.declared.command.Settings.{Settings}
 use Rattle.commands.specs.Accepted.{name_of}
-use Rattle.commands.specs.Spelling.{IsFitSettings, cutoff_text, limit_text, advance_text}
-use Rattle.commands.proofs.FieldSpellings.{event_short, format_short, cutoff_short, limit_short, advance_short}
+use Rattle.texts.specs.Spelling.{IsFitSettings, cutoff_text, limit_text, advance_text}
+use Rattle.texts.proofs.FieldSpellings.{event_short, format_short, cutoff_short, limit_short, advance_short}
 use Rattle.commands.proofs.Sizes.{IsSmall, IsSmallRound, IsSmallEntrant, standings_few}
 use Rattle.sheets.specs.Sheet.{state_text, right, mark, title, standing, first_line, second_line, results, attempts, person, attempt_text, best_text, is_marked, name_text, entrant_line, line_of, text_of_round}
 use Rattle.sheets.proofs.ShortTexts.{IsPlain, plain_attempt, plain_best, plain_average}
@@ -30,9 +30,11 @@ mark_short : (marked : Bool) → length (mark marked) ≤ 1
 mark_short true = omega arith
 mark_short false = omega arith
 
-title_short : (event : Event) (round : ℕ) (format : Format) → round ≤ 4 → length (title event round format) ≤ 169
+title_short : (event : Event) (round : ℕ) (format : Format) → round ≤ 4
+    → length (title event round format) ≤ 169
 title_short event round format last =
-    append_short 89 80 (event_name event ++ codes " round " ++ decimal round ++ codes " ") (format_name format)
+    append_short 89 80 (event_name event ++ codes " round " ++ decimal round ++ codes " ")
+    (format_name format)
     (append_short 88 1 (event_name event ++ codes " round " ++ decimal round) (codes " ")
     (append_short 87 1 (event_name event ++ codes " round ") (decimal round)
     (append_short 80 7 (event_name event) (codes " round ") (event_short event) (omega arith))
@@ -40,9 +42,11 @@ title_short event round format last =
     (omega arith))
     (format_short format)
 
-standing_short : (closed : Bool) (position : ℕ) → position < 2 ^ 32 → length (standing closed position) ≤ 28
+standing_short : (closed : Bool) (position : ℕ) → position < 2 ^ 32
+    → length (standing closed position) ≤ 28
 standing_short closed position fits =
-    append_short 27 1 (codes " " ++ state_text closed ++ codes " position " ++ decimal position) (codes "\n")
+    append_short 27 1 (codes " " ++ state_text closed ++ codes " position "
+    ++ decimal position) (codes "\n")
     (append_short 17 10 (codes " " ++ state_text closed ++ codes " position ") (decimal position)
     (append_short 7 10 (codes " " ++ state_text closed) (codes " position ")
     (append_short 1 6 (codes " ") (state_text closed) (omega arith) (state_short closed))
@@ -52,68 +56,108 @@ standing_short closed position fits =
 
 second_short : (settings : Settings) → IsFitSettings settings → length (second_line settings) ≤ 264
 second_short settings fits =
-    append_short 174 90 ((codes "cutoff " ++ cutoff_text settings.cutoff) ++ (codes " limit " ++ limit_text settings.limit)) (codes " advance " ++ advance_text settings.advance ++ codes "\n")
-    (append_short 87 87 (codes "cutoff " ++ cutoff_text settings.cutoff) (codes " limit " ++ limit_text settings.limit)
-    (append_short 7 80 (codes "cutoff ") (cutoff_text settings.cutoff) (omega arith) (cutoff_short settings.cutoff fits.0))
-    (append_short 7 80 (codes " limit ") (limit_text settings.limit) (omega arith) (limit_short settings.limit fits.1)))
+    append_short 174 90 ((codes "cutoff " ++ cutoff_text settings.cutoff)
+    ++ (codes " limit " ++ limit_text settings.limit)) (codes " advance "
+    ++ advance_text settings.advance ++ codes "\n")
+    (append_short 87 87 (codes "cutoff " ++ cutoff_text settings.cutoff) (codes " limit "
+    ++ limit_text settings.limit)
+    (append_short 7 80 (codes "cutoff ") (cutoff_text settings.cutoff) (omega arith)
+    (cutoff_short settings.cutoff fits.0))
+    (append_short 7 80 (codes " limit ") (limit_text settings.limit) (omega arith)
+    (limit_short settings.limit fits.1)))
     (append_short 89 1 (codes " advance " ++ advance_text settings.advance) (codes "\n")
-    (append_short 9 80 (codes " advance ") (advance_text settings.advance) (omega arith) (advance_short settings.advance fits.2))
+    (append_short 9 80 (codes " advance ") (advance_text settings.advance) (omega arith)
+    (advance_short settings.advance fits.2))
     (omega arith))
 
-results_short : (unit : Measure) (at : ℕ) (average : Averaged) (vs : List Value) → at ≤ 1000 → IsPlain 11 (average_text unit average) → IsPlain 11 (best_text unit vs) → length (results unit at average vs) ≤ 28
+results_short : (unit : Measure) (at : ℕ) (average : Averaged) (vs : List Value) → at ≤ 1000
+    → IsPlain 11 (average_text unit average) → IsPlain 11 (best_text unit vs)
+    → length (results unit at average vs) ≤ 28
 results_short unit at average vs low is best =
-    append_short 17 11 (right 3 (decimal at) ++ codes " " ++ right 9 (average_text unit average) ++ codes " ") (right 9 (best_text unit vs))
-    (append_short 16 1 (right 3 (decimal at) ++ codes " " ++ right 9 (average_text unit average)) (codes " ")
+    append_short 17 11 (right 3 (decimal at) ++ codes " " ++ right 9 (average_text unit average)
+    ++ codes " ") (right 9 (best_text unit vs))
+    (append_short 16 1 (right 3 (decimal at) ++ codes " "
+    ++ right 9 (average_text unit average)) (codes " ")
     (append_short 5 11 (right 3 (decimal at) ++ codes " ") (right 9 (average_text unit average))
-    (append_short 4 1 (right 3 (decimal at)) (codes " ") (right_short 3 4 (decimal at) (omega arith) (length-decimal-le 4 at (omega arith) (omega arith) (omega arith))) (omega arith))
+    (append_short 4 1 (right 3 (decimal at)) (codes " ") (right_short 3 4 (decimal at) (omega arith)
+    (length-decimal-le 4 at (omega arith) (omega arith) (omega arith))) (omega arith))
     (right_short 9 11 (average_text unit average) (omega arith) is.short))
     (omega arith))
     (right_short 9 11 (best_text unit vs) (omega arith) best.short)
 
-attempts_short : (unit : Measure) (format : Format) (vs : List Value) → AllByRecursion IsInRange vs → length (attempts unit (attempts_of format) vs) ≤ 60
+attempts_short : (unit : Measure) (format : Format) (vs : List Value) → AllByRecursion IsInRange vs
+    → length (attempts unit (attempts_of format) vs) ≤ 60
 attempts_short unit format vs are =
     let all = each_short 12 (λ k. codes " " ++ right 9 (attempt_text unit vs k))
-    (λ k. append_short 1 11 (codes " ") (right 9 (attempt_text unit vs k)) (omega arith) (right_short 9 11 (attempt_text unit vs k) (omega arith) (plain_attempt unit vs are k).short))
+    (λ k. append_short 1 11 (codes " ") (right 9 (attempt_text unit vs k)) (omega arith)
+    (right_short 9 11 (attempt_text unit vs k) (omega arith)
+    (plain_attempt unit vs are k).short))
     (range_with_len 0 (attempts_of format)) in
     let count = length-range_with_len 0 (attempts_of format) in
     let few = at_most_five format in
     omega (arith, all, count, few)
 
-person_short : (number : ℕ) (marked : Bool) (name : List ℕ) → number ≤ 9999 → length name ≤ 80 → length (person number marked name) ≤ 89
+person_short : (number : ℕ) (marked : Bool) (name : List ℕ) → number ≤ 9999 → length name ≤ 80
+    → length (person number marked name) ≤ 89
 person_short number marked name low short =
-    append_short 7 82 (codes " " ++ right 4 (decimal number) ++ codes " " ++ mark marked) (codes " " ++ name ++ codes "\n")
+    append_short 7 82 (codes " " ++ right 4 (decimal number) ++ codes " " ++ mark marked) (codes " "
+    ++ name ++ codes "\n")
     (append_short 6 1 (codes " " ++ right 4 (decimal number) ++ codes " ") (mark marked)
     (append_short 5 1 (codes " " ++ right 4 (decimal number)) (codes " ")
-    (append_short 1 4 (codes " ") (right 4 (decimal number)) (omega arith) (right_short 4 4 (decimal number) (omega arith) (length-decimal-le 4 number (omega arith) (omega arith) (omega arith))))
+    (append_short 1 4 (codes " ") (right 4 (decimal number)) (omega arith)
+    (right_short 4 4 (decimal number) (omega arith) (length-decimal-le 4 number (omega arith)
+    (omega arith) (omega arith))))
     (omega arith))
     (mark_short marked))
-    (append_short 81 1 (codes " " ++ name) (codes "\n") (append_short 1 80 (codes " ") name (omega arith) short) (omega arith))
+    (append_short 81 1 (codes " " ++ name) (codes "\n") (append_short 1 80 (codes " ") name
+    (omega arith) short) (omega arith))
 
-entrant_line_short : (unit : Measure) (settings : Settings) (t : Table) (number : ℕ) (name : List ℕ) (e : Entrant) → length t.entrants ≤ 999 → length name ≤ 80 → IsShown number e
+entrant_line_short : (unit : Measure) (settings : Settings) (t : Table) (number : ℕ) (name : List ℕ)
+    (e : Entrant) → length t.entrants ≤ 999 → length name ≤ 80 → IsShown number e
     → length (entrant_line unit settings t number name e) ≤ 177
 unfolding entrant_line
 entrant_line_short unit settings t number name e few short is =
-    append_short 88 89 (results unit (place t e) (average_of t.format t.unit e.values) e.values ++ attempts unit (attempts_of settings.format) e.values) (person number (is_marked settings t number) name)
-    (append_short 28 60 (results unit (place t e) (average_of t.format t.unit e.values) e.values) (attempts unit (attempts_of settings.format) e.values)
-    (results_short unit (place t e) (average_of t.format t.unit e.values) e.values (place_small t few e) (plain_average unit t.format t.unit e.values is.parts.values) (plain_best unit e.values is.parts.values))
+    append_short 88 89 (results unit (place t e) (average_of t.format t.unit e.values) e.values
+    ++ attempts unit (attempts_of settings.format) e.values)
+    (person number (is_marked settings t number) name)
+    (append_short 28 60 (results unit (place t e) (average_of t.format t.unit e.values) e.values)
+    (attempts unit (attempts_of settings.format) e.values)
+    (results_short unit (place t e) (average_of t.format t.unit e.values) e.values
+    (place_small t few e) (plain_average unit t.format t.unit e.values is.parts.values)
+    (plain_best unit e.values is.parts.values))
     (attempts_short unit settings.format e.values is.parts.values))
     (person_short number (is_marked settings t number) name is.number short)
 
-line_short : (unit : Measure) (cs : List Command) (settings : Settings) (t : Table) → IsSmall cs → length t.entrants ≤ 999 → AllByRecursion IsSmallEntrant t.entrants → (n : ℕ) → length (line_of unit cs settings t n) ≤ 177
+line_short : (unit : Measure) (cs : List Command) (settings : Settings) (t : Table) → IsSmall cs
+    → length t.entrants ≤ 999 → AllByRecursion IsSmallEntrant t.entrants → (n : ℕ)
+    → length (line_of unit cs settings t n) ≤ 177
 line_short unit cs settings t small few are n = step (entrant t n) (shown t are n)
   where
-    step : (o : Option Entrant) → IfSome o (IsShown n) → length (unwrap_or (option_map (entrant_line unit settings t n (name_text cs n)) o) []) ≤ 177
+    step : (o : Option Entrant) → IfSome o (IsShown n)
+        → length (unwrap_or (option_map (entrant_line unit settings t n (name_text cs n)) o) [])
+        ≤ 177
     step None is = omega arith
-    step (Some e) is = entrant_line_short unit settings t n (name_text cs n) e few (name_given_short (name_of cs n) (small.names n)) is
+    step (Some e) is =
+        entrant_line_short unit settings t n (name_text cs n) e few (name_given_short (name_of cs n)
+        (small.names n)) is
 
 -- the text of a round
-pub text_short : (cs : List Command) (event : Event) (round position : ℕ) (r : Settings × Table) → IsSmall cs → IsSmallRound round r → position < 2 ^ 32 → length (text_of_round cs event round position r) ≤ 299992
+pub text_short : (cs : List Command) (event : Event) (round position : ℕ) (r : Settings × Table)
+    → IsSmall cs → IsSmallRound round r → position < 2 ^ 32
+    → length (text_of_round cs event round position r) ≤ 299992
 text_short cs event round position r small is fits =
-    let lines = each_short 177 (line_of (unit_of event) cs r.0 r.1) (line_short (unit_of event) cs r.0 r.1 small is.few is.entrants) (standings r.1) in
+    let lines =
+    each_short 177 (line_of (unit_of event) cs r.0 r.1)
+    (line_short (unit_of event) cs r.0 r.1 small is.few is.entrants) (standings r.1) in
     let count = standings_few r.1 in
     let few = is.few in
-    let top = append_short 197 264 (first_line event round r.0 r.1.is_closed position) (second_line r.0)
-    (append_short 169 28 (title event round r.0.format) (standing r.1.is_closed position) (title_short event round r.0.format is.last) (standing_short r.1.is_closed position fits))
+    let top =
+    append_short 197 264 (first_line event round r.0 r.1.is_closed position) (second_line r.0)
+    (append_short 169 28 (title event round r.0.format) (standing r.1.is_closed position)
+    (title_short event round r.0.format is.last) (standing_short r.1.is_closed position fits))
     (second_short r.0 is.settings) in
-    let whole = append_short 461 176823 (first_line event round r.0 r.1.is_closed position ++ second_line r.0) (flat_map (line_of (unit_of event) cs r.0 r.1) (standings r.1)) top (omega (arith, lines, count, few)) in
+    let whole =
+    append_short 461 176823 (first_line event round r.0 r.1.is_closed position
+    ++ second_line r.0) (flat_map (line_of (unit_of event) cs r.0 r.1) (standings r.1)) top
+    (omega (arith, lines, count, few)) in
     omega (arith, whole)

@@ -1,4 +1,4 @@
 pub mod Sheet
 pub mod Faults
 pub mod FrameLaw
-pub mod Output
+pub mod model

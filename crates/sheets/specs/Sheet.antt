@@ -1,4 +1,5 @@
--- The result sheet of a round, as a function of the accepted commands, the event, the round and the position.
+-- The result sheet of a round, as a function of the accepted commands, the event, the round and the
+-- position.
 use Rattle.std.specs.Prelude.{ℕ, ◌-◌, Bool, true, false, ◌&&◌, List, [], ◌∷◌, ◌++◌, length, replicate, map, flat_map, slice_get, unwrap_or, codes, decimal, Option}
 use Rattle.std.specs.List.{range_with_len}
 use Rattle.std.specs.Option.{option_map}
@@ -11,10 +12,10 @@ use Rattle.formats.specs.declared.events.Format.{Format}
 use Rattle.formats.specs.Events.{event_name, format_name, attempts_of, unit_of}
 use Rattle.formats.specs.declared.results.Averaged.{Averaged}
 use Rattle.formats.specs.Results.{best_of, average_of, average_text}
-use Rattle.commands.specs.declared.command.Command.{Command}
-use Rattle.commands.specs.declared.command.Settings.{Settings}
+use Rattle.texts.specs.declared.command.Command.{Command}
+use Rattle.texts.specs.declared.command.Settings.{Settings}
 use Rattle.advancement.specs.Advancing.{goes_on}
-use Rattle.commands.specs.Spelling.{cutoff_text, limit_text, advance_text}
+use Rattle.texts.specs.Spelling.{cutoff_text, limit_text, advance_text}
 use Rattle.rounds.specs.Tables.{Entrant, Table, entrant, place, standings}
 use Rattle.commands.specs.Accepted.{name_of, round_of}
 use Rattle.sheets.specs.declared.Style.{Style}
@@ -56,28 +57,39 @@ mark false = codes "-"
 
 -- the first line
 abbrev pub title : Event → ℕ → Format → List ℕ
-title event round format = event_name event ++ codes " round " ++ decimal round ++ codes " " ++ format_name format
+title event round format =
+    event_name event ++ codes " round " ++ decimal round ++ codes " " ++ format_name format
 
 abbrev pub standing : Bool → ℕ → List ℕ
-standing closed position = codes " " ++ state_text closed ++ codes " position " ++ decimal position ++ codes "\n"
+standing closed position =
+    codes " " ++ state_text closed ++ codes " position " ++ decimal position ++ codes "\n"
 
 abbrev pub first_line : Event → ℕ → Settings → Bool → ℕ → List ℕ
-first_line event round settings closed position = title event round settings.format ++ standing closed position
+first_line event round settings closed position =
+    title event round settings.format ++ standing closed position
 
 -- the second line, its parts spelled as in the command that opens a round
 abbrev pub second_line : Settings → List ℕ
 second_line settings =
-    (codes "cutoff " ++ cutoff_text settings.cutoff) ++ (codes " limit " ++ limit_text settings.limit) ++ (codes " advance " ++ advance_text settings.advance ++ codes "\n")
+    (codes "cutoff " ++ cutoff_text settings.cutoff)
+    ++ (codes " limit " ++ limit_text settings.limit)
+    ++ (codes " advance " ++ advance_text settings.advance ++ codes "\n")
 
--- the line of an entrant: place, average and best; a column for each attempt of the format; number, mark and name
+-- the line of an entrant: place, average and best; a column for each attempt of the format; number,
+-- mark and name
 abbrev pub results : Measure → ℕ → Averaged → List Value → List ℕ
-results unit place average vs = right 3 (decimal place) ++ codes " " ++ right 9 (average_text unit average) ++ codes " " ++ right 9 (best_text unit vs)
+results unit place average vs =
+    right 3 (decimal place) ++ codes " " ++ right 9 (average_text unit average) ++ codes " "
+    ++ right 9 (best_text unit vs)
 
 abbrev pub attempts : Measure → ℕ → List Value → List ℕ
-attempts unit n vs = flat_map (λ k. codes " " ++ right 9 (attempt_text unit vs k)) (range_with_len 0 n)
+attempts unit n vs =
+    flat_map (λ k. codes " " ++ right 9 (attempt_text unit vs k)) (range_with_len 0 n)
 
 abbrev pub person : ℕ → Bool → List ℕ → List ℕ
-person number marked name = codes " " ++ right 4 (decimal number) ++ codes " " ++ mark marked ++ (codes " " ++ name ++ codes "\n")
+person number marked name =
+    codes " " ++ right 4 (decimal number) ++ codes " " ++ mark marked
+    ++ (codes " " ++ name ++ codes "\n")
 
 unfoldable pub entrant_line : Measure → Settings → Table → ℕ → List ℕ → Entrant → List ℕ
 entrant_line unit settings t number name e =
@@ -87,15 +99,18 @@ entrant_line unit settings t number name e =
 
 -- the line of the entrant with a number
 abbrev pub line_of : Measure → List Command → Settings → Table → ℕ → List ℕ
-line_of unit cs settings t n = unwrap_or (option_map (entrant_line unit settings t n (name_text cs n)) (entrant t n)) []
+line_of unit cs settings t n =
+    unwrap_or (option_map (entrant_line unit settings t n (name_text cs n)) (entrant t n)) []
 
 abbrev pub text_of_round : List Command → Event → ℕ → ℕ → Settings × Table → List ℕ
 text_of_round cs event round position r =
-    first_line event round r.0 r.1.is_closed position ++ second_line r.0 ++ flat_map (line_of (unit_of event) cs r.0 r.1) (standings r.1)
+    first_line event round r.0 r.1.is_closed position ++ second_line r.0
+    ++ flat_map (line_of (unit_of event) cs r.0 r.1) (standings r.1)
 
 -- the text, where the round was opened
 abbrev pub text_sheet : List Command → Event → ℕ → ℕ → Option (List ℕ)
-text_sheet cs event round position = option_map (text_of_round cs event round position) (round_of cs event round)
+text_sheet cs event round position =
+    option_map (text_of_round cs event round position) (round_of cs event round)
 
 -- ---- the table
 
@@ -111,7 +126,8 @@ header n =
     ++ codes "advances" ∷ []
 
 -- the fields of an entrant
-abbrev pub entrant_fields : Measure → ℕ → ℕ → ℕ → List ℕ → Averaged → List Value → Bool → List (List ℕ)
+abbrev pub entrant_fields : Measure → ℕ → ℕ → ℕ → List ℕ → Averaged → List Value → Bool
+    → List (List ℕ)
 entrant_fields unit n place number name average vs marked =
     decimal place ∷ decimal number ∷ name ∷ []
     ++ average_text unit average ∷ best_text unit vs ∷ []
@@ -121,14 +137,19 @@ entrant_fields unit n place number name average vs marked =
 -- the record of an entrant, as the CSV writer writes it
 unfoldable pub entrant_record : Measure → Settings → Table → ℕ → List ℕ → Entrant → List ℕ
 entrant_record unit settings t number name e =
-    row_text default_writer (entrant_fields unit (attempts_of settings.format) (place t e) number name (average_of t.format t.unit e.values) e.values (is_marked settings t number))
+    row_text default_writer (entrant_fields unit (attempts_of settings.format)
+    (place t e) number name (average_of t.format t.unit e.values) e.values
+    (is_marked settings t number))
 
 -- the record of the entrant with a number
 abbrev pub record_of : Measure → List Command → Settings → Table → ℕ → List ℕ
-record_of unit cs settings t n = unwrap_or (option_map (entrant_record unit settings t n (name_text cs n)) (entrant t n)) []
+record_of unit cs settings t n =
+    unwrap_or (option_map (entrant_record unit settings t n (name_text cs n)) (entrant t n)) []
 
 abbrev pub table_of_round : List Command → Event → Settings × Table → List ℕ
-table_of_round cs event r = row_text default_writer (header (attempts_of r.0.format)) ++ flat_map (record_of (unit_of event) cs r.0 r.1) (standings r.1)
+table_of_round cs event r =
+    row_text default_writer (header (attempts_of r.0.format))
+    ++ flat_map (record_of (unit_of event) cs r.0 r.1) (standings r.1)
 
 -- the table, where the round was opened
 abbrev pub table_sheet : List Command → Event → ℕ → Option (List ℕ)

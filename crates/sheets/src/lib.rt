@@ -1,14 +1,14 @@
 //! The result sheet of a round: as text for reading, and as a table of comma-separated values.
 #![tactic(auto)]
 
+mod as_table;
+mod as_text;
 mod laws;
-mod lines;
-mod records;
 mod shown;
 
+pub use as_table::table;
+pub use as_text::text;
 pub use laws::fits_in_a_frame;
-pub use lines::text;
-pub use records::table;
 
 /// How a sheet is printed.
 #[derive(Clone, Copy, Debug, PartialEq, Eq)]

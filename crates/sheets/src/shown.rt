@@ -25,7 +25,8 @@ pub struct Shown<'a> {
 pub fn shown_round(meet: &Meet, event: Event, round: u8) -> Option<Shown<'_>>
     ensures meet { IfSome result (λ shown. shown.meet.now ≡ meet.now) }
     ensures event { IfSome result (λ shown. shown.event ≡ event) }
-    ensures round { option_map (λ shown. (shown.settings, shown.table.now)) result ≡ round_of meet.now.accepted event round }
+    ensures round { option_map (λ shown. (shown.settings, shown.table.now)) result
+        ≡ round_of meet.now.accepted event round }
 {
     let (Some(table), Some(settings)) = (meet.round(event, round), meet.settings(event, round))
     else {

@@ -15,11 +15,18 @@ from_not false h = cc
 pub returns-then-ne : goal.returns-then-ne
 returns-then-ne c = (
   λ (h : IsTrue false). absurd cc,
-  λ solved. absurd (same_false the_type _ _ (not_from _ (sym c.if-ne.true ∙ c.ne.ensures)) (one_colour_from c.args.colours.now solved c.loop-place.place c.loop-place-test.true)),
+  λ solved. absurd (same_false the_type _ _ (not_from _ (sym c.if-ne.true ∙ c.ne.ensures))
+      (one_colour_from c.args.colours.now solved c.loop-place.place c.loop-place-test.true)),
 )
 
 pub loop-place-preserved : goal.loop-place-preserved
-loop-place-preserved c = below_more _ _ c.loop-place.invariant (same_true the_type (search rules) _ _ (from_not _ (sym c.if-ne.false ∙ c.ne.ensures)))
+loop-place-preserved c =
+    below_more _ _ c.loop-place.invariant (same_true the_type (search rules) _ _
+    (from_not _ (sym c.if-ne.false ∙ c.ne.ensures)))
 
 pub returns : goal.returns
-returns c = (λ _. solved_from c.args.colours.now (λ n h. c.loop-place.invariant n (omega (arith, h, c.loop-place-test.false))), λ _. search rules)
+returns c = (
+  λ _. solved_from c.args.colours.now (λ n h. c.loop-place.invariant n
+      (omega (arith, h, c.loop-place-test.false))),
+  λ _. search rules,
+)

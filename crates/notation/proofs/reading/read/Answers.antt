@@ -6,21 +6,25 @@ use Rattle.notation.proofs.reading.read.Goals as goal
 
 pub returns-then-is_empty-clause-only : goal.returns-then-is_empty-clause-only
 returns-then-is_empty-clause-only c = λ moves spelled few.
-    absurd (empty_spells moves (subst (λ t. Spells t moves) (empty_from c.args.text.now (sym c.is_empty.ensures ∙ c.if-is_empty.true)) spelled))
+    absurd (empty_spells moves (subst (λ t. Spells t moves) (empty_from c.args.text.now
+    (sym c.is_empty.ensures ∙ c.if-is_empty.true)) spelled))
 
 pub returns-then-is_empty-clause-too_many_only : goal.returns-then-is_empty-clause-too_many_only
 returns-then-is_empty-clause-too_many_only c = λ many.
-    absurd (empty_many (subst IsTooMany (empty_from c.args.text.now (sym c.is_empty.ensures ∙ c.if-is_empty.true)) many))
+    absurd (empty_many (subst IsTooMany (empty_from c.args.text.now (sym c.is_empty.ensures
+    ∙ c.if-is_empty.true)) many))
 
 pub returns : goal.returns
 returns c =
     let text = c.args.text.now in
-    let some : text ≢ [] = some_from c.args.text.now (sym c.is_empty.ensures ∙ c.if-is_empty.false) in
+    let some : text ≢ [] =
+    some_from c.args.text.now (sym c.is_empty.ensures ∙ c.if-is_empty.false) in
     let result = c.read_tokens.result in
     let reads = c.read_tokens.ensures in
     record {
       found = told_moves text some result reads;
-      only = λ moves spelled few. reads_as text result _ reads (spells_scan _ 400 text moves spelled few);
+      only = λ moves spelled few. reads_as text result _ reads
+          (spells_scan _ 400 text moves spelled few);
       empty = (λ e. absurd (told_empty text some result reads e), λ e. absurd (some e));
       bad_token = told_bad text some result reads;
       bad_token_only = λ at bad. reads_as text result _ reads (bad_scan text at bad);

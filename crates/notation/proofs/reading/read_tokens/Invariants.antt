@@ -1,5 +1,5 @@
 use Rattle.std.proofs.Common.{◌≡◌, ◌≤◌, ◌-◌, length}
-use Rattle.notation.specs.Scan.{scan}
+use Rattle.notation.specs.model.Scan.{scan}
 use Rattle.notation.proofs.Joined.{with_moves}
 use Rattle.notation.proofs.reading.read_tokens.Given as goal
 
@@ -7,5 +7,6 @@ use Rattle.notation.proofs.reading.read_tokens.Given as goal
 abbrev pub invariant-loop-taken : goal.invariant-loop-taken
 invariant-loop-taken l = record {
   within : length l.rest ≤ length l.text;
-  told : with_moves l.moves.items (scan (length l.text) (400 - l._taken) l.rest) ≡ scan (length l.text) 400 l.text;
+  told : with_moves l.moves.items (scan (length l.text) (400 - l._taken) l.rest)
+      ≡ scan (length l.text) 400 l.text;
 }

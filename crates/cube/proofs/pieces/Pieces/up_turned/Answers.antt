@@ -1,4 +1,4 @@
-use Rattle.cube.specs.Pieces.{colours_of, shown}
+use Rattle.cube.specs.model.Pieces.{colours_of, shown}
 use Rattle.cube.proofs.QuarterTurns.{face_U}
 use Rattle.cube.proofs.pieces.Pieces.up_turned.Goals as goal
 

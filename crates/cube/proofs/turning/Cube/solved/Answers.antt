@@ -1,6 +1,6 @@
 use Rattle.std.proofs.Common.{refl}
 use Rattle.std.proofs.lemmas.List.Sorted.{IsPermutation-refl}
-use Rattle.cube.specs.Pieces.{colours_of, arranged, corner_colours, edge_colours}
+use Rattle.cube.specs.model.Pieces.{colours_of, arranged, corner_colours, edge_colours}
 use Rattle.cube.specs.Turns.{first_arrangement}
 use Rattle.cube.proofs.Rearranged.{nine_of_each}
 use Rattle.cube.proofs.Solved.{first_solved}
