@@ -1,2 +1,3 @@
 pub mod EachOnce
+pub mod Through
 pub mod Whom

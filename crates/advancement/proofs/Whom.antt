@@ -1,37 +1,35 @@
 -- A number is among those who advance exactly where its entrant does.
 use Rattle.std.proofs.Common.{◌≡◌, ℕ, Bool, true, false, cond, ◌||◌, ◌&&◌, List, [], ◌∷◌, map, filter, find, nat_eq, Option, Some, None, refl, sym, ap, ◌∙◌, arith, eqb-true}
 use Rattle.std.specs.List.{list_any}
+use Rattle.std.proofs.lemmas.List.Elements.{filter_agree}
 use Rattle.std.specs.List.Sorted.{IsPermutation}
 use Rattle.std.proofs.lemmas.List.Sorted.{list_any-IsPermutation}
 use Rattle.std.proofs.lemmas.Map.Views.{any-filter_same}
 use Rattle.std.proofs.lemmas.Bool.Decides.{nat_tests}
-use Rattle.rounds.specs.Tables.{Entrant, Table, entrant, has_number, number_of_entrant, started, standings}
-use Rattle.advancement.specs.declared.Advance.{Advance}
-use Rattle.advancement.specs.Advancing.{holds_of, has_result, is_reached_by_few, is_among, quota, advances, goes_on, advancing}
-
--- two tests of an entrant
-pub both : (t : Table) (most : ℕ) (o : Option Entrant) → (holds_of (is_reached_by_few t most) o && holds_of has_result o) ≡ holds_of (is_among t most) o
-both t most None = refl
-both t most (Some e) = either (is_reached_by_few t most e) (has_result e)
-  where
-    either : (a b : Bool) → (a && b) ≡ (b && a)
-    either true true = refl
-    either true false = refl
-    either false true = refl
-    either false false = refl
+use Rattle.rounds.specs.Tables.{Entrant, Table, entrant, has_number, number_of_entrant, standings}
+use Rattle.formats.specs.declared.advance.Advance.{Advance}
+use Rattle.advancement.specs.Advancing.{holds_of, is_before, IsBorder, advances, goes_on, advancing}
 
 -- of those of the standings that are kept
-pub kept_is : (t : Table) (advance : Advance) (kept numbers : List ℕ) (most : ℕ) → kept ≡ filter (λ n. holds_of (is_among t most) (entrant t n)) numbers → most ≡ quota advance (started t) → numbers ≡ standings t
+pub kept_is : (t : Table) (advance : Advance) (border : ℕ) (kept numbers : List ℕ)
+    → kept ≡ filter (λ n. holds_of (is_before t border) (entrant t n)) numbers
+    → IsBorder t advance border → numbers ≡ standings t
     → kept ≡ advancing t advance
-kept_is t advance kept numbers most is quota_is all =
-    is ∙ ap (λ m. filter (λ n. holds_of (is_among t m) (entrant t n)) numbers) quota_is ∙ ap (filter (goes_on t advance)) all
+kept_is t advance border kept numbers is law all =
+    is
+    ∙ filter_agree (λ n. holds_of (is_before t border) (entrant t n)) (goes_on t advance)
+    (λ n. sym (law n)) numbers
+    ∙ ap (filter (goes_on t advance)) all
 
 flips : (x y : ℕ) → nat_eq x y ≡ nat_eq y x
 flips x y = grind (arith, nat_tests)
 
 -- the first entrant of a number is the one with that number
-found_or : (test : Entrant → Bool) (here : Bool) (e : Entrant) (rest : Option Entrant) (others : Bool) → (holds_of test rest && others) ≡ holds_of test rest
-    → (holds_of test (cond here (Some e) rest) && (here || others)) ≡ holds_of test (cond here (Some e) rest)
+found_or : (test : Entrant → Bool) (here : Bool) (e : Entrant) (rest : Option Entrant)
+    (others : Bool)
+    → (holds_of test rest && others) ≡ holds_of test rest
+    → (holds_of test (cond here (Some e) rest) && (here || others))
+    ≡ holds_of test (cond here (Some e) rest)
 found_or test true e rest others h = and_true (test e)
   where
     and_true : (b : Bool) → (b && true) ≡ b
@@ -40,14 +38,27 @@ found_or test true e rest others h = and_true (test e)
 found_or test false e rest others h = h
 
 -- an entrant that is found is among the entrants
-among_entrants : (test : Entrant → Bool) (n : ℕ) (es : List Entrant) → (holds_of test (find (has_number n) es) && list_any (λ m. nat_eq m n) (map number_of_entrant es)) ≡ holds_of test (find (has_number n) es)
+among_entrants : (test : Entrant → Bool) (n : ℕ) (es : List Entrant)
+    → (holds_of test (find (has_number n) es) && list_any (λ m. nat_eq m n)
+    (map number_of_entrant es))
+    ≡ holds_of test (find (has_number n) es)
 among_entrants test n [] = refl
 among_entrants test n (e ∷ es) =
-    ap (λ b. holds_of test (cond (has_number n e) (Some e) (find (has_number n) es)) && (b || list_any (λ m. nat_eq m n) (map number_of_entrant es))) (flips e.number n)
-    ∙ found_or test (has_number n e) e (find (has_number n) es) (list_any (λ m. nat_eq m n) (map number_of_entrant es)) (among_entrants test n es)
+    ap
+    (λ b.
+    holds_of test (cond (has_number n e) (Some e) (find (has_number n) es)) &&
+    (b || list_any (λ m. nat_eq m n) (map number_of_entrant es)))
+    (flips e.number n)
+    ∙ found_or test (has_number n e) e (find (has_number n) es)
+    (list_any (λ m. nat_eq m n) (map number_of_entrant es)) (among_entrants test n es)
 
-pub is_advancing : (t : Table) (advance : Advance) → IsPermutation (map number_of_entrant t.entrants) (standings t) → (n : ℕ) → list_any (λ m. nat_eq m n) (advancing t advance) ≡ goes_on t advance n
+pub is_advancing : (t : Table) (advance : Advance)
+    → IsPermutation (map number_of_entrant t.entrants) (standings t) → (n : ℕ)
+    → list_any (λ m. nat_eq m n) (advancing t advance) ≡ goes_on t advance n
 is_advancing t advance all n =
-    any-filter_same (λ m. nat_eq m n) (goes_on t advance) (goes_on t advance n) (λ m same. ap (goes_on t advance) (eqb-true m n same)) (standings t)
-    ∙ ap (λ b. goes_on t advance n && b) (sym (list_any-IsPermutation (λ m. nat_eq m n) (map number_of_entrant t.entrants) (standings t) all))
+    any-filter_same (λ m. nat_eq m n) (goes_on t advance) (goes_on t advance n)
+    (λ m same. ap (goes_on t advance) (eqb-true m n same)) (standings t)
+    ∙ ap (λ b. goes_on t advance n && b)
+    (sym
+    (list_any-IsPermutation (λ m. nat_eq m n) (map number_of_entrant t.entrants) (standings t) all))
     ∙ among_entrants (advances t advance) n t.entrants

@@ -1,9 +1,9 @@
 -- How many rounds may follow, and who goes on to the next one.
-use Rattle.std.specs.Prelude.{ℕ, ◌*◌, ◌/◌, ◌&&◌, Bool, false, nat_le, if◌then◌else◌, min, is_some, List, filter, Option, None, Some}
+use Rattle.std.specs.Prelude.{◌≡◌, ℕ, ◌*◌, ◌/◌, ◌&&◌, Bool, false, nat_le, nat_lt, if◌then◌else◌, min, is_some, List, filter, Option, None, Some}
 use Rattle.formats.specs.Results.{best_of, number_of}
-use Rattle.rounds.specs.Tables.{Entrant, Table, entrant, started, not_worse, standings}
-use Rattle.advancement.specs.declared.Advance.{Advance}
-use Rattle.advancement.specs.declared.Advance.TheVariants.{Final, Top, Percent}
+use Rattle.rounds.specs.Tables.{Entrant, Table, entrant, place, started, not_worse, standings}
+use Rattle.formats.specs.declared.advance.Advance.{Advance}
+use Rattle.formats.specs.declared.advance.Advance.TheVariants.{Final, Top, Percent}
 
 -- the most rounds that may follow one of so many competitors (WCA Regulations, article 9m)
 abbrev pub later_rounds : ℕ → ℕ
@@ -15,7 +15,8 @@ wanted Final n = 0
 wanted (Top number) n = number
 wanted (Percent percent) n = n * percent / 100
 
--- how many may advance: as many as are wanted, and at most three quarters (WCA Regulations, article 9p1)
+-- how many may advance: as many as are wanted, and at most three quarters (WCA Regulations, article
+-- 9p1)
 abbrev pub quota : Advance → ℕ → ℕ
 quota advance n = min (wanted advance n) (3 * n / 4)
 
@@ -30,8 +31,9 @@ is_reached_by_few t most e = nat_le (not_worse t e) most
 abbrev pub is_among : Table → ℕ → Entrant → Bool
 is_among t most e = has_result e && is_reached_by_few t most e
 
--- an entrant advances whose best attempt is a number, and for whom no more than the quota of the round's competitors, who are those
--- that have started, are not worse, this one included; so those who are tied over the border stay out together
+-- an entrant advances whose best attempt is a number, and for whom no more than the quota of the
+-- round's competitors, who are those that have started, are not worse, this one included; so those
+-- who are tied over the border stay out together
 abbrev pub advances : Table → Advance → Entrant → Bool
 advances t advance e = is_among t (quota advance (started t)) e
 
@@ -46,3 +48,12 @@ goes_on t advance n = holds_of (advances t advance) (entrant t n)
 -- the numbers of those who advance, in order of standings
 abbrev pub advancing : Table → Advance → List ℕ
 advancing t advance = filter (goes_on t advance) (standings t)
+
+-- the best attempt is a number, and the place is before another one
+abbrev pub is_before : Table → ℕ → Entrant → Bool
+is_before t border e = has_result e && nat_lt (place t e) border
+
+-- those who advance are those with a result who are placed before this place
+abbrev pub IsBorder : Table → Advance → ℕ → Type 0
+IsBorder t advance border =
+    (n : ℕ) → goes_on t advance n ≡ holds_of (is_before t border) (entrant t n)

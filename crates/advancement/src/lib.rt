@@ -1,26 +1,17 @@
-//! Advancement: how many rounds may follow one, and who goes on to the next (WCA Regulations, article 9).
+//! Advancement: how many rounds may follow one, and who goes on to the next (WCA Regulations,
+//! article 9).
 #![tactic(auto)]
 
-ghost use Rattle.std.specs.Prelude.{◌≡◌, ◌≤◌, ◌==◌, ℕ, IfOk, filter, is_some, length, nat_eq};
+ghost use Rattle.std.specs.Prelude.{◌≡◌, ◌≤◌, ◌==◌, ◌&&◌, ℕ, IfOk, filter, is_some, length, nat_eq, nat_lt};
 ghost use Rattle.std.specs.List.{IsDistinct, list_any};
 ghost use Rattle.formats.specs.Results.{number_of};
 ghost use Rattle.rounds.specs.Tables.{entrant};
-ghost use Rattle.advancement.specs.Advancing.{later_rounds, quota, goes_on, advancing, holds_of, has_result, is_reached_by_few, is_among};
+ghost use Rattle.advancement.specs.Advancing.{later_rounds, quota, goes_on, advancing, holds_of, is_before, IsBorder};
 
 use attempts::{NoMemory, Value};
+pub use formats::Advance;
 use rounds::RoundTable;
 use std::alloc::Global;
-
-/// Who advances from a round to the next one.
-#[derive(Clone, Copy, Debug, PartialEq, Eq)]
-pub enum Advance {
-    /// Nobody: the round is the event's last.
-    Final,
-    /// So many competitors, 1 to 999.
-    Top(u16),
-    /// So many in a hundred of the round's competitors, 1 to 75.
-    Percent(u8),
-}
 
 /// How many rounds may follow one with so many competitors (WCA Regulations, article 9m): at most 7
 /// competitors allow none, at most 15 one, at most 99 two, and more three.
@@ -35,8 +26,8 @@ pub fn later_rounds(competitors: u16) -> u8
     }
 }
 
-/// How many of a round's competitors may advance: as many as are wanted, a percentage rounded down, and
-/// at most three quarters, rounded down (WCA Regulations, article 9p1). From a final it is 0.
+/// How many of a round's competitors may advance: as many as are wanted, a percentage rounded down,
+/// and at most three quarters, rounded down (WCA Regulations, article 9p1). From a final it is 0.
 pub fn quota(advance: Advance, competitors: u16) -> u16
     ensures { result ≡ quota advance competitors }
 {
@@ -49,62 +40,74 @@ pub fn quota(advance: Advance, competitors: u16) -> u16
     wanted.min(3 * competitors / 4) as u16
 }
 
+/// The place at which nobody advances any more: those advance whose best attempt is a number and
+/// whose place is before it. Who asks for many entrants of a round finds it once.
+pub fn border(table: &RoundTable, advance: Advance) -> u16
+    ensures { IsBorder table.now advance result }
+{
+    table.place_at(quota(advance, table.started()) + 1)
+}
+
+/// Whether an entrant with this best attempt and this place is placed before the border of its
+/// round, with a number as best.
+pub fn is_through(best: Value, place: u16, border: u16) -> bool
+    ensures { result ≡ (is_some (number_of best) && nat_lt place border) }
+{
+    is_number(best) && place < border
+}
+
 /// Whether an entrant advances; nobody else does.
 ///
-/// The competitors of the round are the entrants with an attempt that is not DNS. An entrant advances
-/// whose best attempt is a number and for whom no more competitors than the quota are not worse, the
-/// entrant included. So those who are tied over the border stay out together. Takes no memory.
+/// The competitors of the round are the entrants with an attempt that is not DNS. An entrant
+/// advances whose best attempt is a number and for whom no more competitors than the quota are not
+/// worse, the entrant included. So those who are tied over the border stay out together. Takes no
+/// memory.
 pub fn advances(table: &RoundTable, advance: Advance, number: u16) -> bool
     ensures { result ≡ goes_on table.now advance number }
 {
-    is_among(table, quota(advance, table.started()), number)
+    is_before(table, border(table, advance), number)
 }
 
-/// The numbers of those who advance, in order of standings, each once; at most 999. It is `NoMemory`
-/// only where a growth was refused.
+/// The numbers of those who advance, in order of standings, each once; at most 999. It is
+/// `NoMemory` only where a growth was refused.
 pub fn advancing(alloc: Global, table: &RoundTable, advance: Advance) -> Result<Vec<u16>, NoMemory>
     ensures order { IfOk result (λ numbers. numbers.items ≡ advancing table.now advance) }
     // These and no others advance.
-    ensures whom { IfOk result (λ numbers. (number : ℕ) → list_any (λ other. other == number) numbers.items ≡ goes_on table.now advance number) }
+    ensures whom { IfOk result
+        (λ numbers. (number : ℕ)
+        → list_any (λ other. other == number) numbers.items ≡ goes_on table.now advance number) }
     ensures each_once { IfOk result (λ numbers. IsDistinct nat_eq numbers.items) }
     ensures few { IfOk result (λ numbers. length numbers.items ≤ 999) }
 {
     let order = table.standings()?;
-    let most = quota(advance, table.started());
-    among(alloc, table, most, &order)
+    let limit = border(table, advance);
+    those_before(alloc, table, limit, &order)
 }
 
-/// Those of the numbers for whose entrants at most so many competitors are not worse.
-fn among(
+/// Those of the numbers whose entrants are placed before a border, with a result.
+fn those_before(
     alloc: Global,
     table: &RoundTable,
-    most: u16,
+    border: u16,
     numbers: &[u16],
 ) -> Result<Vec<u16>, NoMemory>
-    ensures { IfOk result (λ kept. kept.items ≡ filter (λ n. holds_of (is_among table.now most) (entrant table.now n)) numbers.now) }
+    ensures { IfOk result
+        (λ kept. kept.items
+        ≡ filter (λ n. holds_of (is_before table.now border) (entrant table.now n)) numbers.now) }
 {
     numbers
         .iter()
         .copied()
-        .filter(|number| is_among(table, most, *number))
+        .filter(|number| is_before(table, border, *number))
         .collect(alloc)
 }
 
-/// Whether a number is of an entrant whose best attempt is a number, and at most so many competitors
-/// are not worse.
-#[tactic(auto, using(crate::proofs::Whom::both))]
-fn is_among(table: &RoundTable, most: u16, number: u16) -> bool
-    ensures { result ≡ holds_of (is_among table.now most) (entrant table.now number) }
+/// Whether a number is of an entrant who is placed before a border, with a result.
+fn is_before(table: &RoundTable, border: u16, number: u16) -> bool
+    ensures { result ≡ holds_of (is_before table.now border) (entrant table.now number) }
 {
-    is_reached_by_few(table, most, number) && has_result(table, number)
-}
-
-/// Whether a number is of an entrant whose best attempt is a number.
-fn has_result(table: &RoundTable, number: u16) -> bool
-    ensures { result ≡ holds_of has_result (entrant table.now number) }
-{
-    match table.row(number) {
-        Some(row) => is_number(row.best),
+    match table.kept(number) {
+        Some(kept) => is_through(kept.best, kept.place, border),
         None => false,
     }
 }
@@ -115,16 +118,3 @@ fn is_number(value: Value) -> bool
 {
     matches!(value, Value::Number(_))
 }
-
-/// Whether a number is of an entrant for whom at most so many competitors are not worse.
-fn is_reached_by_few(table: &RoundTable, most: u16, number: u16) -> bool
-    ensures { result ≡ holds_of (is_reached_by_few table.now most) (entrant table.now number) }
-{
-    match table.not_worse(number) {
-        Some(competitors) => competitors <= most,
-        None => false,
-    }
-}
-
-#[cfg(test)]
-mod tests;

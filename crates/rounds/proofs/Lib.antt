@@ -1,7 +1,14 @@
 pub mod Allotted
+pub mod Changing
 pub mod CutoffOrder
-pub mod EachOnce
+pub mod Entering
+pub mod EntrantLines
+pub mod Finished
 pub mod InOrder
+pub mod KeyOrder
 pub mod NotWorse
+pub mod Passing
+pub mod Refusals
 pub mod StandingOrder
-pub mod TableLines
+pub mod TableCalls
+pub mod Within

@@ -1,6 +1,5 @@
 pub mod CutoffLaw
-pub mod Done
-pub mod Lines
+pub mod model
+pub mod Positions
 pub mod Rows
-pub mod TableKept
 pub mod Tables

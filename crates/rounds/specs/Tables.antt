@@ -34,7 +34,8 @@ pub record Table : Type 0 where
 
 -- a round that was just opened
 abbrev pub empty_table : Format → Measure → Option (ℕ × ℕ) → Table
-empty_table format unit cutoff = record { format = format; unit = unit; cutoff = cutoff; is_closed = false; entrants = [] }
+empty_table format unit cutoff =
+    record { format = format; unit = unit; cutoff = cutoff; is_closed = false; entrants = [] }
 
 -- a cutoff is after 1 attempt at least, and before the last one of the format
 abbrev pub IsCutoff : Format → Option (ℕ × ℕ) → Type 0
@@ -100,7 +101,8 @@ next_fault format cutoff k (Some e) =
     else None
 
 abbrev pub put_fault : Table → ℕ → ℕ → Option PutFault
-put_fault t n k = if t.is_closed then Some put.Closed else next_fault t.format t.cutoff k (entrant t n)
+put_fault t n k =
+    if t.is_closed then Some put.Closed else next_fault t.format t.cutoff k (entrant t n)
 
 abbrev pub plus_value : ℕ → Value → Entrant → Entrant
 plus_value n v e = if has_number n e then record e { values = e.values ++ v ∷ [] } else e
@@ -132,7 +134,8 @@ change_fault cutoff k v (Some e) =
     else None
 
 abbrev pub correct_fault : Table → ℕ → ℕ → Value → Option CorrectFault
-correct_fault t n k v = if t.is_closed then Some correct.Closed else change_fault t.cutoff k v (entrant t n)
+correct_fault t n k v =
+    if t.is_closed then Some correct.Closed else change_fault t.cutoff k v (entrant t n)
 
 abbrev pub with_replaced : ℕ → ℕ → Value → Entrant → Entrant
 with_replaced n k v e = if has_number n e then record e { values = replaced k v e.values } else e
@@ -179,7 +182,8 @@ number_of_entrant e = e.number
 
 -- the numbers of the entrants of place 1, then of place 2, ..
 abbrev pub standings : Table → List ℕ
-standings t = flat_map (λ p. map number_of_entrant (at_place t p)) (range_with_len 1 (length t.entrants))
+standings t =
+    flat_map (λ p. map number_of_entrant (at_place t p)) (range_with_len 1 (length t.entrants))
 
 -- Started and finished
 
@@ -196,9 +200,11 @@ has_started e = list_any is_started_attempt e.values
 abbrev pub started : Table → ℕ
 started t = count_by has_started t.entrants
 
--- how many of those who have started are not worse than an entrant, that one included where it has started
+-- how many of those who have started are not worse than an entrant, that one included where it has
+-- started
 abbrev pub not_worse : Table → Entrant → ℕ
-not_worse t e = count_by (λ other. has_started other && not (is_better (key t e) (key t other))) t.entrants
+not_worse t e =
+    count_by (λ other. has_started other && not (is_better (key t e) (key t other))) t.entrants
 
 abbrev pub has_finished : Table → Entrant → Bool
 has_finished t e = nat_le (allotted t.format t.cutoff e.values) (length e.values)

@@ -2,12 +2,18 @@
 #![tactic(auto)]
 
 mod cutoff;
+mod entrants;
 mod faults;
+mod kept;
 mod laws;
-mod line;
 mod ranking;
+mod rules;
+mod running;
+mod standing;
 mod table;
+mod value_row;
 
 pub use faults::{CloseFault, CorrectFault, EnterFault, PutFault, StrikeFault};
+pub use kept::Kept;
 pub use laws::who_met_the_cutoff_is_better;
 pub use table::{RoundTable, Row};

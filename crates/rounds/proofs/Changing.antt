@@ -1,0 +1,249 @@
+-- One entrant has other values: what is kept stays true.
+use Rattle.std.proofs.Common.{◌≡◌, ℕ, ◌+◌, ◌<◌, ◌≤◌, Bool, true, false, cond, List, [], ◌∷◌, ◌++◌, map, length, All, count_by, nat_lt, slice_get, Option, Some, zero, suc, refl, sym, ap, ◌∙◌, arith, subst}
+use Rattle.std.specs.List.{list_any, AllByRecursion}
+use Rattle.std.specs.Map.{values_of}
+use Rattle.std.proofs.lemmas.List.{length-map}
+use Rattle.std.proofs.lemmas.List.Elements.{All-from_recursion, recursion_from_All}
+use Rattle.std.proofs.lemmas.List.Sums.{sum_by-cons}
+use Rattle.attempts.specs.declared.Value.{Value}
+use Rattle.formats.specs.declared.results.RankKey.{RankKey}
+use Rattle.formats.specs.Results.{is_better}
+use Rattle.indexmap.specs.IndexMap.{set_value_at}
+use Rattle.rounds.specs.declared.rules.Rules.{Rules}
+use Rattle.rounds.specs.declared.kept.Kept.{Kept}
+use Rattle.rounds.specs.declared.standing.Standing.{Standing}
+use Rattle.rounds.specs.Tables.{Entrant, allotted, is_started_attempt}
+use Rattle.rounds.specs.model.Field.{set_values_at}
+use Rattle.rounds.specs.model.Standings.{kept_of, one_if, recounted, passed_by, is_unfinished, place_among}
+use Rattle.rounds.specs.model.Running.{entrant_of, entrants_of, no_result, IsMade, IsPlaced, IsAllotted, Runs}
+use Rattle.rounds.proofs.CutoffOrder.{not_better}
+use Rattle.rounds.proofs.Passing.{passed, recounts, is_counted_in}
+use Rattle.rounds.proofs.EntrantLines.{part_at}
+
+-- another line at an index
+pub set_all : (P : ℕ × Standing → Type 0) (es : List (ℕ × Standing)) (i : ℕ) (s : Standing)
+    → All P es → ((n : ℕ) → P (n, s)) → All P (set_value_at es i s)
+set_all P es i s h is = All-from_recursion P _ (put es i (recursion_from_All P es h))
+  where
+    put : (xs : List (ℕ × Standing)) (j : ℕ) → AllByRecursion P xs
+        → AllByRecursion P (set_value_at xs j s)
+    put [] j h = h
+    put (x ∷ xs) zero h = (is x.0, h.1)
+    put (x ∷ xs) (suc j) h = (h.0, put xs j h.1)
+
+-- what holds of each line after it was passed by
+pass_each : (P Q : ℕ × Standing → Type 0) (old new : RankKey)
+    → ((e : ℕ × Standing) → P e → Q (passed_by old new e)) → (es : List (ℕ × Standing)) → All P es
+    → All Q (map (passed_by old new) es)
+pass_each P Q old new step es h = All-from_recursion Q _ (go es (recursion_from_All P es h))
+  where
+    go : (xs : List (ℕ × Standing)) → AllByRecursion P xs
+        → AllByRecursion Q (map (passed_by old new) xs)
+    go [] h = h
+    go (x ∷ xs) h = (step x h.0, go xs h.1)
+
+length-set_value_at : (es : List (ℕ × Standing)) (i : ℕ) (s : Standing)
+    → length (set_value_at es i s) ≡ length es
+length-set_value_at [] i s = refl
+length-set_value_at (e ∷ es) zero s = refl
+length-set_value_at (e ∷ es) (suc i) s = ap suc (length-set_value_at es i s)
+
+-- The entrants
+
+rows_passed : (old new : RankKey) (es : List (ℕ × Standing))
+    → entrants_of (map (passed_by old new) es) ≡ entrants_of es
+rows_passed old new [] = refl
+rows_passed old new (e ∷ es) = ap (λ xs. entrant_of e ∷ xs) (rows_passed old new es)
+
+rows_set : (es : List (ℕ × Standing)) (i : ℕ) (s : Standing)
+    → entrants_of (set_value_at es i s) ≡ set_values_at (entrants_of es) i s.row
+rows_set [] i s = refl
+rows_set (e ∷ es) zero s = refl
+rows_set (e ∷ es) (suc i) s = ap (λ xs. entrant_of e ∷ xs) (rows_set es i s)
+
+pub rows_changed : (old new : RankKey) (es : List (ℕ × Standing)) (i : ℕ) (s : Standing)
+    → entrants_of (set_value_at (map (passed_by old new) es) i s)
+    ≡ set_values_at (entrants_of es) i s.row
+rows_changed old new es i s =
+    rows_set (map (passed_by old new) es) i s
+    ∙ ap (λ xs. set_values_at xs i s.row) (rows_passed old new es)
+
+-- The counts
+
+-- a count that does not go by places
+same_count : (p : Standing → Bool) (old new : RankKey)
+    → ((s : Standing) → p (passed old new s) ≡ p s) → (es : List (ℕ × Standing))
+    → values_of (map (passed_by old new) es) ≡ map (passed old new) (values_of es)
+same_count p old new same [] = refl
+same_count p old new same (e ∷ es) =
+    ap (λ ss. passed old new e.1 ∷ ss) (same_count p old new same es)
+
+count_same : (p : Standing → Bool) (old new : RankKey)
+    → ((s : Standing) → p (passed old new s) ≡ p s) → (ss : List Standing)
+    → count_by p (map (passed old new) ss) ≡ count_by p ss
+count_same p old new same [] = refl
+count_same p old new same (s ∷ ss) =
+    sum_by-cons (λ x. cond (p x) 1 0) (passed old new s) (map (passed old new) ss)
+    ∙ ap (λ b. cond b 1 0 + count_by p (map (passed old new) ss)) (same s)
+    ∙ ap (λ m. cond (p s) 1 0 + m) (count_same p old new same ss)
+    ∙ sym (sum_by-cons (λ x. cond (p x) 1 0) s ss)
+
+-- a count over all, once one of them changed and passed the others
+pub counts_after : (p : Standing → Bool) (old new : RankKey)
+    → ((s : Standing) → p (passed old new s) ≡ p s)
+    → (es : List (ℕ × Standing)) (i : ℕ) (e : ℕ × Standing) (s : Standing) → slice_get es i ≡ Some e
+    → count_by p (values_of (set_value_at (map (passed_by old new) es) i s))
+    ≡ recounted (count_by p (values_of es)) (p e.1) (p s)
+counts_after p old new same es i e s at =
+    recounts p (map (passed_by old new) es) i (passed_by old new e) s
+    (part_at (passed_by old new) es i e at)
+    ∙ ap (λ m. recounted m (p (passed old new e.1)) (p s))
+    (ap (count_by p) (same_count p old new same es) ∙ count_same p old new same (values_of es))
+    ∙ ap (λ b. recounted (count_by p (values_of es)) b (p s)) (same e.1)
+
+-- The places
+
+recounted_place : (n : ℕ) (before after : Bool) → one_if before ≤ n
+    → recounted (1 + n) before after ≡ 1 + recounted n before after
+recounted_place n before after h = omega (arith, h)
+
+module _ (rules : Rules) (es : List (ℕ × Standing)) (i : ℕ) (e : ℕ × Standing)
+    (at : slice_get es i ≡ Some e) (s : Standing) where
+  abbrev old_key : RankKey
+  old_key = e.1.kept.key
+
+  abbrev new_key : RankKey
+  new_key = s.kept.key
+
+  -- the lines after the change
+  abbrev pub changed_lines : List (ℕ × Standing)
+  changed_lines = set_value_at (map (passed_by old_key new_key) es) i s
+
+  place_after : (k : RankKey)
+      → place_among (values_of changed_lines) k
+      ≡ recounted (place_among (values_of es) k) (is_better old_key k) (is_better new_key k)
+  place_after k =
+      ap (λ m. 1 + m)
+      (counts_after (λ x. is_better x.kept.key k) old_key new_key (λ x. refl) es i e s at)
+      ∙ sym
+      (recounted_place _ (is_better old_key k) (is_better new_key k)
+      (is_counted_in (λ x. is_better x.kept.key k) es i e at))
+
+  placed_after : All (IsPlaced (values_of es)) es
+      → s.kept.place ≡ place_among (values_of changed_lines) new_key
+      → All (IsPlaced (values_of changed_lines)) changed_lines
+  placed_after placed own =
+      set_all (IsPlaced (values_of changed_lines)) (map (passed_by old_key new_key) es) i s
+      (pass_each (IsPlaced (values_of es)) (IsPlaced (values_of changed_lines)) old_key new_key
+      (λ x h.
+      ap (λ m. recounted m (is_better old_key x.1.kept.key) (is_better new_key x.1.kept.key)) h
+      ∙ sym (place_after x.1.kept.key))
+      es placed)
+      (λ n. own)
+
+  made_after : All (IsMade rules) es → s.kept ≡ kept_of rules s.row s.kept.place
+      → All (IsMade rules) changed_lines
+  made_after made own =
+      set_all (IsMade rules) (map (passed_by old_key new_key) es) i s
+      (pass_each (IsMade rules) (IsMade rules) old_key new_key
+      (λ x h.
+      ap
+      (λ (k : Kept).
+      record k {
+        place =
+            recounted x.1.kept.place (is_better old_key x.1.kept.key) (is_better new_key x.1.kept.key);
+      })
+      h)
+      es made)
+      (λ n. own)
+
+  within_after : All (IsAllotted rules) es → length s.row ≤ allotted rules.format rules.cutoff s.row
+      → All (IsAllotted rules) changed_lines
+  within_after within own =
+      set_all (IsAllotted rules) (map (passed_by old_key new_key) es) i s
+      (pass_each (IsAllotted rules) (IsAllotted rules) old_key new_key (λ x h. h) es within)
+      (λ n. own)
+
+  -- what is kept stays true
+  pub runs_after : (started unfinished ranked ahead : ℕ) → Runs rules es started unfinished ranked
+      → length s.row ≤ allotted rules.format rules.cutoff s.row
+      → s.kept ≡ kept_of rules s.row s.kept.place
+      → ahead ≡ count_by (λ x. is_better x.kept.key new_key) (values_of es)
+      → s.kept.place ≡ 1 + recounted ahead (is_better old_key new_key) false
+      → Runs rules changed_lines
+      (recounted started (list_any is_started_attempt e.1.row) (list_any is_started_attempt s.row))
+      (recounted unfinished (is_unfinished rules e.1.row) (is_unfinished rules s.row))
+      (recounted ranked (is_better old_key no_result) (is_better new_key no_result))
+  runs_after started unfinished ranked ahead runs few own is_ahead is_place =
+      record {
+        few =
+            omega (
+              arith,
+              runs.few,
+              length-set_value_at (map (passed_by old_key new_key) es) i s,
+              length-map es (passed_by old_key new_key),
+            );
+        cutoff = runs.cutoff;
+        made = made_after runs.made own;
+        placed = placed_after runs.placed
+            (is_place
+            ∙ ap (λ m. 1 + recounted m (is_better old_key new_key) false) is_ahead
+            ∙ ap
+            (λ b.
+            1 + recounted (count_by (λ x. is_better x.kept.key new_key) (values_of es))
+            (is_better old_key new_key) b)
+            (sym (not_better new_key))
+            ∙ ap (λ m. 1 + m)
+            (sym
+            (counts_after (λ x. is_better x.kept.key new_key) old_key new_key (λ x. refl) es i e s
+            at)));
+        within = within_after runs.within few;
+        starts =
+            ap
+            (λ m.
+            recounted m (list_any is_started_attempt e.1.row) (list_any is_started_attempt s.row))
+            runs.starts
+            ∙ sym
+            (counts_after (λ x. list_any is_started_attempt x.row) old_key new_key (λ x. refl) es i
+            e s at);
+        unfinishes =
+            ap (λ m. recounted m (is_unfinished rules e.1.row) (is_unfinished rules s.row))
+            runs.unfinishes
+            ∙ sym
+            (counts_after (λ x. is_unfinished rules x.row) old_key new_key (λ x. refl) es i e s at);
+        ranks =
+            ap (λ m. recounted m (is_better old_key no_result) (is_better new_key no_result))
+            runs.ranks
+            ∙ sym
+            (counts_after (λ x. is_better x.kept.key no_result) old_key new_key (λ x. refl) es i e s
+            at);
+      }
+
+-- What a call read and worked out
+
+-- the line of what is read at an index
+pub line_read : (es : List (ℕ × Standing)) (i : ℕ) (s : Standing)
+    → slice_get (values_of es) i ≡ Some s → (n : ℕ) × (slice_get es i ≡ Some (n, s))
+line_read [] i s at = cc
+line_read (x ∷ es) zero s at = let same : x.1 ≡ s = cc in (x.0, ap (λ y. Some (x.0, y)) same)
+line_read (x ∷ es) (suc i) s at = line_read es i s at
+
+-- who is counted is in the count
+pub is_in_count : (p : Standing → Bool) (es : List (ℕ × Standing)) (i : ℕ) (s : Standing)
+    → slice_get (values_of es) i ≡ Some s → (b : Bool) (n : ℕ) → b ≡ p s
+    → n ≡ count_by p (values_of es) → one_if b ≤ n
+is_in_count p es i s at b n test is =
+    let line = line_read es i s at in
+    omega (arith, ap one_if test, is, is_counted_in p es i (line.0, s) line.1)
+
+pub recounted_same : (n : ℕ) (a b x y : Bool) → a ≡ x → b ≡ y → (r : ℕ) → r ≡ recounted n a b
+    → recounted n x y ≡ r
+recounted_same n a b x y one other r is =
+    sym (is ∙ ap (λ z. recounted n z b) one ∙ ap (recounted n x) other)
+
+pub runs_same : (rules : Rules) (es es' : List (ℕ × Standing)) (st st' un un' ra ra' : ℕ) → es ≡ es'
+    → st ≡ st' → un ≡ un' → ra ≡ ra' → Runs rules es st un ra → Runs rules es' st' un' ra'
+runs_same rules es es' st st' un un' ra ra' lines a b c h =
+    subst (λ x. Runs rules x st' un' ra') lines
+    (subst (λ x. Runs rules es x un' ra') a
+    (subst (λ x. Runs rules es st x ra') b (subst (λ x. Runs rules es st un x) c h)))

@@ -1,0 +1,149 @@
+-- One entrant more: what is kept stays true.
+use Rattle.std.proofs.Common.{◌≡◌, ℕ, ◌+◌, ◌<◌, ◌≤◌, Bool, true, false, cond, ◌&&◌, List, [], ◌∷◌, ◌++◌, map, length, take, All, count_by, nat_lt, Option, None, Some, zero, suc, refl, sym, ap, ◌∙◌, arith, subst, length-append, add-zero}
+use Rattle.std.specs.List.{list_any, AllByRecursion}
+use Rattle.std.specs.Map.{values_of}
+use Rattle.std.proofs.lemmas.Bool.Decides.{nat_tests}
+use Rattle.std.proofs.lemmas.List.Elements.{All-from_recursion, recursion_from_All, All-push}
+use Rattle.std.proofs.lemmas.List.Sums.{sum_by-cons}
+use Rattle.attempts.specs.declared.Value.{Value}
+use Rattle.formats.specs.declared.events.Format.{Format}
+use Rattle.formats.specs.declared.events.Format.TheVariants.{Ao5, Mo3, Bo1, Bo2, Bo3}
+use Rattle.formats.specs.declared.results.RankKey.{RankKey}
+use Rattle.formats.specs.Events.{attempts_of}
+use Rattle.formats.specs.Results.{key_of, is_better, is_same, is_less}
+use Rattle.rounds.specs.declared.rules.Rules.{Rules}
+use Rattle.rounds.specs.declared.kept.Kept.{Kept}
+use Rattle.attempts.specs.declared.Value.TheVariants.{Dns}
+use Rattle.formats.specs.declared.results.Averaged.TheVariants.{Missing}
+use Rattle.rounds.specs.declared.standing.Standing.{Standing}
+use Rattle.rounds.specs.Tables.{IsCutoff, allotted, meets, is_started_attempt}
+use Rattle.rounds.specs.model.Standings.{kept_of, one_if, is_unfinished, place_among}
+use Rattle.rounds.specs.model.Running.{no_result, IsMade, IsPlaced, IsAllotted, Runs}
+
+-- nobody without a result is better than anyone
+none_better : (k : RankKey) → is_better no_result k ≡ false
+none_better k = step (is_same None k.main)
+  where
+    step : (b : Bool) → (b && false) ≡ false
+    step true = refl
+    step false = refl
+
+some_attempts : (format : Format) → 0 < attempts_of format
+some_attempts Ao5 = omega arith
+some_attempts Mo3 = omega arith
+some_attempts Bo1 = omega arith
+some_attempts Bo2 = omega arith
+some_attempts Bo3 = omega arith
+
+some_allotted : (format : Format) (cutoff : Option (ℕ × ℕ)) → IsCutoff format cutoff
+    → 0 < allotted format cutoff []
+some_allotted format None is = some_attempts format
+some_allotted format (Some cutoff) is = step (meets cutoff [])
+  where
+    step : (b : Bool) → 0 < cond b (attempts_of format) cutoff.0
+    step true = some_attempts format
+    step false = omega (arith, is.0)
+
+less_than : (m : ℕ) → 0 < m → nat_lt 0 m ≡ true
+less_than m h = grind (arith, nat_tests)
+
+-- a count with one more
+count_push : (p : Standing → Bool) (es : List (ℕ × Standing)) (n : ℕ) (s : Standing)
+    → count_by p (values_of (es ++ (n, s) ∷ [])) ≡ count_by p (values_of es) + one_if (p s)
+count_push p [] n s =
+    let one : count_by p (s ∷ []) ≡ one_if (p s) + count_by p [] =
+    sum_by-cons (λ y. cond (p y) 1 0) s [] in
+    omega (arith, one)
+count_push p (e ∷ es) n s =
+    let more : count_by p (values_of ((e ∷ es) ++ (n, s) ∷ []))
+    ≡ one_if (p e.1) + count_by p (values_of (es ++ (n, s) ∷ [])) =
+    sum_by-cons (λ y. cond (p y) 1 0) e.1 (values_of (es ++ (n, s) ∷ [])) in
+    let before : count_by p (values_of (e ∷ es)) ≡ one_if (p e.1) + count_by p (values_of es) =
+    sum_by-cons (λ y. cond (p y) 1 0) e.1 (values_of es) in
+    omega (arith, more, before, count_push p es n s)
+
+-- who is not counted changes no count
+count_push_none : (p : Standing → Bool) (es : List (ℕ × Standing)) (n : ℕ) (s : Standing)
+    → p s ≡ false → count_by p (values_of (es ++ (n, s) ∷ [])) ≡ count_by p (values_of es)
+count_push_none p es n s not = omega (arith, count_push p es n s, ap one_if not)
+
+count_push_one : (p : Standing → Bool) (es : List (ℕ × Standing)) (n : ℕ) (s : Standing)
+    → p s ≡ true → count_by p (values_of (es ++ (n, s) ∷ [])) ≡ count_by p (values_of es) + 1
+count_push_one p es n s is = omega (arith, count_push p es n s, ap one_if is)
+
+all_step : (P Q : ℕ × Standing → Type 0) → ((e : ℕ × Standing) → P e → Q e)
+    → (es : List (ℕ × Standing)) → All P es → All Q es
+all_step P Q step es h = All-from_recursion Q es (go es (recursion_from_All P es h))
+  where
+    go : (xs : List (ℕ × Standing)) → AllByRecursion P xs → AllByRecursion Q xs
+    go [] h = h
+    go (x ∷ xs) h = (step x h.0, go xs h.1)
+
+module _ (rules : Rules) (es : List (ℕ × Standing)) (n : ℕ) (s : Standing)
+    (new : s.kept.key ≡ no_result) where
+  place_stays : (k : RankKey)
+      → place_among (values_of (es ++ (n, s) ∷ [])) k ≡ place_among (values_of es) k
+  place_stays k =
+      ap (λ m. 1 + m)
+      (count_push_none (λ x. is_better x.kept.key k) es n s
+      (ap (λ x. is_better x k) new ∙ none_better k))
+
+  pub runs_entered : (started unfinished ranked : ℕ) → Runs rules es started unfinished ranked
+      → length es < 999 → s.row ≡ [] → s.kept ≡ kept_of rules s.row s.kept.place
+      → s.kept.place ≡ ranked + 1
+      → Runs rules (es ++ (n, s) ∷ []) started (unfinished + 1) ranked
+  runs_entered started unfinished ranked runs room none own is_place =
+      record {
+        few = omega (arith, room, length-append es ((n, s) ∷ []));
+        cutoff = runs.cutoff;
+        made = All-push (IsMade rules) es (n, s) runs.made own;
+        placed = All-push (IsPlaced (values_of (es ++ (n, s) ∷ []))) es (n, s)
+            (all_step (IsPlaced (values_of es)) (IsPlaced (values_of (es ++ (n, s) ∷ [])))
+            (λ x h. h ∙ sym (place_stays x.1.kept.key)) es runs.placed)
+            (let ranks : ranked + 1 ≡ place_among (values_of es) no_result =
+            omega (arith, runs.ranks) in
+            is_place ∙ ranks ∙ ap (place_among (values_of es)) (sym new)
+            ∙ sym (place_stays s.kept.key));
+        within =
+            All-push (IsAllotted rules) es (n, s) runs.within
+            (subst (λ vs. length vs ≤ allotted rules.format rules.cutoff vs) (sym none)
+            (omega arith));
+        starts =
+            runs.starts
+            ∙ sym
+            (count_push_none (λ x. list_any is_started_attempt x.row) es n s
+            (ap (list_any is_started_attempt) none));
+        unfinishes =
+            (let few : nat_lt 0 (allotted rules.format rules.cutoff []) ≡ true =
+            less_than (allotted rules.format rules.cutoff [])
+            (some_allotted rules.format rules.cutoff runs.cutoff) in
+            ap (λ m. m + 1) runs.unfinishes
+            ∙ sym
+            (count_push_one (λ x. is_unfinished rules x.row) es n s
+            (ap (is_unfinished rules) none ∙ few)));
+        ranks =
+            runs.ranks
+            ∙ sym
+            (count_push_none (λ x. is_better x.kept.key no_result) es n s
+            (ap (λ x. is_better x no_result) new ∙ none_better no_result));
+      }
+
+-- what no values make
+pub own_of_none : (rules : Rules) (vs : List Value) (place : ℕ) → vs ≡ []
+    → let k : Kept = record { best = Dns; average = Missing; key = no_result; place = place } in
+    k ≡ kept_of rules vs place
+own_of_none rules vs place none =
+    subst
+    (λ ws. let k : Kept =
+    record { best = Dns; average = Missing; key = no_result; place = place } in
+    k ≡ kept_of rules ws place)
+    (sym none) (by rules.format refl)
+  where
+    by : (format : Format) → rules.format ≡ format
+        → let k : Kept = record { best = Dns; average = Missing; key = no_result; place = place } in
+        k ≡ kept_of rules [] place
+    by Ao5 is = rw is refl
+    by Mo3 is = rw is refl
+    by Bo1 is = rw is refl
+    by Bo2 is = rw is refl
+    by Bo3 is = rw is refl

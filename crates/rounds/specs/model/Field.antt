@@ -1,0 +1,56 @@
+-- The entrants of a round as the table sees them.
+use Rattle.std.specs.Prelude.{◌≡◌, ◌<◌, ◌≤◌, ℕ, zero, suc, Bool, false, if◌then◌else◌, List, [], ◌∷◌, ◌++◌, Some, find, length, map, slice_get}
+use Rattle.attempts.specs.declared.Value.{Value}
+use Rattle.rounds.specs.declared.rules.Rules.{Rules}
+use Rattle.rounds.specs.declared.standing.Standing.{Standing}
+use Rattle.rounds.specs.Tables.{Entrant, Table, IsCutoff, allotted, has_number, place}
+use Rattle.rounds.specs.model.Standings.{kept_of}
+
+-- what the round was opened with, and the entrants in order of entry
+pub record Field : Type 0 where
+  pub rules : Rules
+  pub entrants : List Entrant
+
+-- the round that they make
+abbrev pub as_table : Bool → Field → Table
+as_table is_closed f =
+    record {
+      format = f.rules.format;
+      unit = f.rules.unit;
+      cutoff = f.rules.cutoff;
+      is_closed = is_closed;
+      entrants = f.entrants;
+    }
+
+abbrev pub with_newcomer : Field → ℕ → Field
+with_newcomer f n = record f { entrants = f.entrants ++ record { number = n; values = [] } ∷ [] }
+
+-- the entrant at an index has other values
+abbrev pub set_values_at : List Entrant → ℕ → List Value → List Entrant
+set_values_at [] i vs = []
+set_values_at (e ∷ es) zero vs = record e { values = vs } ∷ es
+set_values_at (e ∷ es) (suc i) vs = e ∷ set_values_at es i vs
+
+abbrev pub with_values_at : Field → ℕ → List Value → Field
+with_values_at f i vs = record f { entrants = set_values_at f.entrants i vs }
+
+-- the values of the entrant with a number are changed
+abbrev pub with_change : ℕ → (List Value → List Value) → Entrant → Entrant
+with_change n change e = if has_number n e then record e { values = change e.values } else e
+
+-- the entrant at an index is the one with a number
+pub record IsEntrantAt (n : ℕ) (f : Field) (i : ℕ) : Type 0 where
+  pub entrant : Entrant
+  pub within : i < length f.entrants
+  pub there : slice_get f.entrants i ≡ Some entrant
+  pub found : find (has_number n) f.entrants ≡ Some entrant
+  pub cutoff : IsCutoff f.rules.format f.rules.cutoff
+  pub few : length entrant.values ≤ allotted f.rules.format f.rules.cutoff entrant.values
+  pub changed : (change : List Value → List Value)
+      → set_values_at f.entrants i (change entrant.values) ≡ map (with_change n change) f.entrants
+
+-- what is kept of the entrant with a number
+pub record IsStandingOf (f : Field) (n : ℕ) (e : Entrant) (s : Standing) : Type 0 where
+  pub found : find (has_number n) f.entrants ≡ Some e
+  pub row : s.row ≡ e.values
+  pub kept : s.kept ≡ kept_of f.rules e.values (place (as_table false f) e)

@@ -1,0 +1,14 @@
+-- How the values of one entrant are kept.
+use Rattle.std.specs.Prelude.{◌≡◌, ◌≤◌, length, take, All}
+use Rattle.attempts.specs.Attempts.{IsInRange}
+use Rattle.rounds.specs.model.ValueRows.{Values}
+use Rattle.rounds.specs.declared.value_row.ValueRow.TheInside.{Inside}
+
+abbrev pub values_of_row : Inside → Values
+values_of_row a = take a.done a.values
+
+-- no more values than there is room for
+pub record IsRowOfFive (a : Inside) : Type 0 where
+  pub few : a.done ≤ 5
+  pub room : length a.values ≡ 5
+  pub in_range : All IsInRange (take a.done a.values)

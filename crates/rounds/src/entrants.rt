@@ -1,0 +1,217 @@
+//! The entrants of a round, in order of entry, with what is kept of them.
+
+ghost use Rattle.std.specs.Prelude.{◌≡◌, ℕ, ◌<◌, ◌≤◌, ◌&&◌, not, [], None, Some, IfOk, IfSome, OnOk, OnErr, MatchOption, count_by, false, find, length, map, nat_eq, option_map, slice_get};
+ghost use Rattle.std.specs.List.{list_any, IsDistinct};
+ghost use Rattle.std.specs.List.Sorted.{IsPermutation};
+ghost use Rattle.rounds.specs.Tables.{Entrant, IsCutoff, KeepsAllotted, allotted, has_number, has_started, is_finished, not_worse, number_of_entrant, standings, started};
+ghost use Rattle.rounds.specs.CutoffLaw.{MetIsBetterIn};
+ghost use Rattle.rounds.specs.Positions.{place_at};
+ghost use Rattle.rounds.specs.model.Field.{as_table, with_newcomer, with_values_at, IsEntrantAt, IsStandingOf};
+ghost use Rattle.rounds.specs.model.Standings.{is_unfinished};
+
+use crate::cutoff::{allotted, has_started};
+use crate::kept::Kept;
+use crate::ranking::{not_worse_among, order_of, place_at};
+use crate::rules::Rules;
+use crate::running::{pass_all, recounted};
+use crate::standing::Standing;
+use crate::value_row::ValueRow;
+use attempts::{NoMemory, Value};
+use formats::{Averaged, RankKey, better};
+use indexmap::IndexMap;
+use std::alloc::Global;
+use std::marker::Model;
+
+/// What an entrant without a result is ranked by.
+const NO_RESULT: RankKey = RankKey {
+    main: None,
+    tie: None,
+};
+
+/// The entrants in order of entry. The counts are of those who have started, of those who have not
+/// done all allotted attempts, and of those who are better than an entrant without a result.
+#[derive(Drop)]
+pub(crate) struct Entrants {
+    rules: Rules,
+    standings: IndexMap<u16, Standing>,
+    started: u16,
+    unfinished: u16,
+    ranked: u16,
+}
+
+impl Model for Entrants {
+    ghost use Rattle.rounds.specs.CutoffLaw.{MetIsBetterIn};
+    ghost use Rattle.rounds.specs.model.Field.{Field};
+
+    ghost Value = { Field };
+
+    ghost use Rattle.rounds.specs.model.Running.{field_of, IsRunning};
+
+    ghost view = { field_of };
+
+    ghost invariant = { IsRunning };
+}
+
+impl Entrants {
+    pub(crate) fn new(alloc: Global, rules: Rules) -> Result<Self, NoMemory>
+        requires { IsCutoff rules.format rules.cutoff }
+        ensures { IfOk result (λ entrants. entrants ≡ record { rules = rules; entrants = [] }) }
+    {
+        Ok(Entrants {
+            rules,
+            standings: IndexMap::with_capacity(alloc, 16)?,
+            started: 0,
+            unfinished: 0,
+            ranked: 0,
+        })
+    }
+
+    pub(crate) fn rules(&self) -> Rules
+        ensures value { result ≡ self.now.rules }
+        ensures cutoff { IsCutoff result.format result.cutoff }
+    {
+        self.rules
+    }
+
+    pub(crate) fn len(&self) -> usize
+        ensures { result ≡ length self.now.entrants }
+    {
+        self.standings.len()
+    }
+
+    /// Whether a competitor is entered.
+    pub(crate) fn contains(&self, number: u16) -> bool
+        ensures { result ≡ list_any (has_number number) self.now.entrants }
+    {
+        self.standings.contains_key(&number)
+    }
+
+    /// The index of an entrant.
+    pub(crate) fn index_of(&self, number: u16) -> Option<usize>
+        ensures { MatchOption result (find (has_number number) self.now.entrants ≡ None)
+            (IsEntrantAt number self.now) }
+    {
+        self.standings.get_index_of(&number)
+    }
+
+    /// The values of the entrant at an index.
+    pub(crate) fn row_at(&self, index: usize) -> &ValueRow
+        requires { index < length self.now.entrants }
+        ensures { (e : Entrant) → slice_get self.now.entrants index ≡ Some e → result.now ≡ e.values }
+    {
+        &self.standings[index].row
+    }
+
+    /// Adds an entrant without attempts. Nobody's place changes, since nobody is worse.
+    pub(crate) fn enter(&mut self, number: u16) -> Result<(), NoMemory>
+        requires absent { list_any (has_number number) self.old.entrants ≡ false }
+        requires room { length self.old.entrants < 999 }
+        ensures entered { OnOk result (self.new ≡ with_newcomer self.old number) }
+        ensures unchanged { OnErr result (self.new ≡ self.old) }
+    {
+        let newcomer = Standing {
+            row: ValueRow::new(),
+            kept: Kept {
+                best: Value::Dns,
+                average: Averaged::Missing,
+                key: NO_RESULT,
+                place: self.ranked + 1,
+            },
+        };
+        self.standings.insert(number, newcomer)?;
+        self.unfinished += 1;
+        Ok(())
+    }
+
+    /// Gives the entrant at an index other values. Every other entrant's key is compared once with
+    /// the old key and once with the new one, and takes no memory.
+    pub(crate) fn replace(&mut self, index: usize, row: ValueRow)
+        requires within { index < length self.old.entrants }
+        requires few { length row ≤ allotted self.old.rules.format self.old.rules.cutoff row }
+        ensures { self.new ≡ with_values_at self.old index row }
+    {
+        let before = &self.standings[index];
+        let mut kept = Kept::of(self.rules, row.values(), 0);
+        let (old, new) = (before.kept.key, kept.key);
+        self.started = recounted(
+            self.started,
+            has_started(before.row.values()),
+            has_started(row.values()),
+        );
+        self.unfinished = recounted(
+            self.unfinished,
+            is_unfinished(self.rules, before.row.values()),
+            is_unfinished(self.rules, row.values()),
+        );
+        self.ranked = recounted(self.ranked, better(old, NO_RESULT), better(new, NO_RESULT));
+        let ahead = pass_all(&mut self.standings, old, new);
+        kept.place = 1 + recounted(ahead, better(old, new), false);
+        self.standings[index] = Standing { row, kept };
+    }
+
+    /// What is kept of an entrant.
+    pub(crate) fn get(&self, number: u16) -> Option<&Standing>
+        ensures { MatchOption result (find (has_number number) self.now.entrants ≡ None)
+            (λ s. (e : Entrant) × IsStandingOf self.now number e s.now) }
+    {
+        self.standings.get(&number)
+    }
+
+    pub(crate) fn started(&self) -> u16
+        ensures { result ≡ started (as_table false self.now) }
+    {
+        self.started
+    }
+
+    /// Whether all have done what they are allotted.
+    pub(crate) fn are_finished(&self) -> bool
+        ensures { result ≡ is_finished (as_table false self.now) }
+    {
+        self.unfinished == 0
+    }
+
+    /// The numbers by place, and those of one place in order of entry.
+    pub(crate) fn standings(&self) -> Result<Vec<u16>, NoMemory>
+        ensures order { IfOk result (λ order. order.items ≡ standings (as_table false self.now)) }
+        ensures all { IfOk result
+            (λ order. IsPermutation (map number_of_entrant self.now.entrants) order.items) }
+        ensures each_once { IfOk result (λ order. IsDistinct nat_eq order.items) }
+        ensures few { IfOk result (λ order. length order.items ≤ 999) }
+    {
+        order_of(&self.standings)
+    }
+
+    /// How many of those who have started are not worse than an entrant.
+    pub(crate) fn not_worse(&self, number: u16) -> Option<u16>
+        ensures { result
+            ≡ option_map (not_worse (as_table false self.now))
+            (find (has_number number) self.now.entrants) }
+    {
+        let key = self.standings.get(&number)?.kept.key;
+        Some(not_worse_among(&self.standings, key))
+    }
+
+    /// The place at a position of the standings.
+    pub(crate) fn place_at(&self, position: u16) -> u16
+        ensures { result ≡ place_at (as_table false self.now) position }
+    {
+        place_at(&self.standings, position)
+    }
+
+    /// The cutoff of the round.
+    pub(crate) fn cutoff(&self) -> Option<(u8, u32)>
+        ensures value { result ≡ self.now.rules.cutoff }
+        ensures allotted { KeepsAllotted (as_table false self.now) }
+        ensures met { IfSome result (λ cutoff. MetIsBetterIn cutoff (as_table false self.now)) }
+    {
+        self.rules.cutoff
+    }
+}
+
+/// Whether less is done than is allotted.
+fn is_unfinished(rules: Rules, values: &[Value]) -> bool
+    requires { IsCutoff rules.format rules.cutoff }
+    ensures { result ≡ is_unfinished rules values.now }
+{
+    values.len() < usize::from(allotted(rules.format, rules.cutoff, values))
+}

@@ -1,0 +1,11 @@
+//! What an entrant did, and what the table keeps of it.
+
+use crate::kept::Kept;
+use crate::value_row::ValueRow;
+
+/// An entrant's values, with what they make and the place.
+#[derive(Drop)]
+pub(crate) struct Standing {
+    pub row: ValueRow,
+    pub kept: Kept,
+}
