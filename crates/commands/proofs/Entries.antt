@@ -4,31 +4,40 @@ use Rattle.std.specs.List.{list_any}
 use Rattle.std.proofs.lemmas.List.Folds.{list_any-append}
 use Rattle.std.proofs.lemmas.List.Sums.{fold-append}
 use Rattle.commands.specs.History.{History, nothing, added_read, is_seen, answer_of, answer_to, entry_refusal, read_refusal, after, history, StandsFor}
-use Rattle.commands.specs.declared.command.Command.{Command}
-use Rattle.commands.specs.Reading.{command_of}
+use Rattle.texts.specs.declared.command.Command.{Command}
+use Rattle.texts.specs.Reading.{command_of}
 
 -- a history that stands for a list stands, after one more entry, for the list and that entry
 pub stands_more : (h new : History) (id : ℕ) (text : List ℕ) → new ≡ after h id text
-    → (entries : List (ℕ × List ℕ)) → StandsFor h entries → StandsFor new (entries ++ (id, text) ∷ [])
+    → (entries : List (ℕ × List ℕ)) → StandsFor h entries
+    → StandsFor new (entries ++ (id, text) ∷ [])
 stands_more h new id text is entries stands =
-    is ∙ ap (λ (x : History). after x id text) stands ∙ sym (fold-append (λ (x : History) (entry : ℕ × List ℕ). after x entry.0 entry.1) nothing entries ((id, text) ∷ []))
+    is ∙ ap (λ (x : History). after x id text) stands
+    ∙ sym
+    (fold-append (λ (x : History) (entry : ℕ × List ℕ). after x entry.0 entry.1) nothing entries
+    ((id, text) ∷ []))
 
 -- the id of an entry was seen
 pub after_seen : (h : History) (id : ℕ) (text : List ℕ) → is_seen h id ≡ true → h ≡ after h id text
 unfolding after
 after_seen h id text seen = rw seen refl
 
-pub answer_new : (h : History) (id : ℕ) (text : List ℕ) → is_seen h id ≡ false → answer_to h id text ≡ answer_of (read_refusal h.accepted (command_of text))
+pub answer_new : (h : History) (id : ℕ) (text : List ℕ) → is_seen h id ≡ false
+    → answer_to h id text ≡ answer_of (read_refusal h.accepted (command_of text))
 unfolding entry_refusal
 answer_new h id text new = rw new refl
 
 -- the id of an entry is new
-pub after_new : (h new : History) (id : ℕ) (text : List ℕ) → is_seen h id ≡ false → new.ids ≡ h.ids ++ id ∷ []
-    → new.accepted ≡ h.accepted ++ added_read (read_refusal h.accepted (command_of text)) (command_of text) → new ≡ after h id text
+pub after_new : (h new : History) (id : ℕ) (text : List ℕ) → is_seen h id ≡ false
+    → new.ids ≡ h.ids ++ id ∷ []
+    → new.accepted
+    ≡ h.accepted ++ added_read (read_refusal h.accepted (command_of text)) (command_of text)
+    → new ≡ after h id text
 unfolding after
 after_new h new id text unseen ids accepted = rw (unseen, ← ids, ← accepted) refl
 
-seen_same : (i id : ℕ) (ids : List ℕ) → (id == i) ≡ true → list_any (λ other. i == other) ids ≡ true → list_any (λ other. id == other) ids ≡ true
+seen_same : (i id : ℕ) (ids : List ℕ) → (id == i) ≡ true → list_any (λ other. i == other) ids ≡ true
+    → list_any (λ other. id == other) ids ≡ true
 seen_same i id ids same seen = rw (eqb-true id i same) seen
 
 or_none : (a : Bool) → a ≡ (a || false)
@@ -41,7 +50,8 @@ or_last false true = refl
 or_last false false = refl
 
 -- one more entry is one more id
-after_ids : (h : History) (i id : ℕ) (text : List ℕ) → is_seen (after h i text) id ≡ (is_seen h id || id == i)
+after_ids : (h : History) (i id : ℕ) (text : List ℕ)
+    → is_seen (after h i text) id ≡ (is_seen h id || id == i)
 unfolding after
 after_ids h i id text = step (is_seen h i) refl
   where
@@ -53,21 +63,28 @@ after_ids h i id text = step (is_seen h i) refl
     old false true h2 = h2 refl
     old false false h2 = refl
 
-    step : (b : Bool) → is_seen h i ≡ b → is_seen (cond b h (let new : History = record { ids = h.ids ++ i ∷ []; accepted = more } in new)) id ≡ (is_seen h id || id == i)
+    step : (b : Bool) → is_seen h i ≡ b
+        → is_seen
+        (cond b h (let new : History = record { ids = h.ids ++ i ∷ []; accepted = more } in new)) id
+        ≡ (is_seen h id || id == i)
     step true seen = old (is_seen h id) (id == i) (λ same. seen_same i id h.ids same seen)
-    step false seen = list_any-append (λ other. id == other) h.ids (i ∷ []) ∙ or_last (is_seen h id) (id == i)
+    step false seen =
+        list_any-append (λ other. id == other) h.ids (i ∷ []) ∙ or_last (is_seen h id) (id == i)
 
 or_assoc : (a b c : Bool) → ((a || b) || c) ≡ (a || (b || c))
 or_assoc true b c = refl
 or_assoc false b c = refl
 
 ids_after : (h : History) (entries : List (ℕ × List ℕ)) (id : ℕ)
-    → is_seen (fold (λ (x : History) (entry : ℕ × List ℕ). after x entry.0 entry.1) h entries) id ≡ (is_seen h id || list_any (λ (entry : ℕ × List ℕ). id == entry.0) entries)
+    → is_seen (fold (λ (x : History) (entry : ℕ × List ℕ). after x entry.0 entry.1) h entries) id
+    ≡ (is_seen h id || list_any (λ (entry : ℕ × List ℕ). id == entry.0) entries)
 ids_after h [] id = or_none (is_seen h id)
 ids_after h (e ∷ es) id =
     ids_after (after h e.0 e.1) es id
-    ∙ ap (λ (b : Bool). b || list_any (λ (entry : ℕ × List ℕ). id == entry.0) es) (after_ids h e.0 id e.1)
+    ∙ ap (λ (b : Bool). b || list_any (λ (entry : ℕ × List ℕ). id == entry.0) es)
+    (after_ids h e.0 id e.1)
     ∙ or_assoc (is_seen h id) (id == e.0) (list_any (λ (entry : ℕ × List ℕ). id == entry.0) es)
 
-pub each_id_seen : (entries : List (ℕ × List ℕ)) (id : ℕ) → is_seen (history entries) id ≡ list_any (λ (entry : ℕ × List ℕ). id == entry.0) entries
+pub each_id_seen : (entries : List (ℕ × List ℕ)) (id : ℕ)
+    → is_seen (history entries) id ≡ list_any (λ (entry : ℕ × List ℕ). id == entry.0) entries
 each_id_seen entries id = ids_after nothing entries id

@@ -1,16 +1,10 @@
-pub mod Cuts
+pub mod EachCommand
 pub mod Entries
-pub mod Faults
-pub mod FieldSpellings
 pub mod Indexed
 pub mod KeptLemmas
 pub mod Lookups
-pub mod MoveSpellings
 pub mod Newcomers
-pub mod Numerals
 pub mod OneMore
 pub mod Places
 pub mod Registrations
 pub mod Sizes
-pub mod Spelled
-pub mod Words

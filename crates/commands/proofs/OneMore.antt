@@ -1,23 +1,20 @@
 -- What one more command makes of a list of accepted commands.
-use Rattle.std.proofs.Common.{◌≡◌, ℕ, zero, suc, ◌-◌, ◌≤◌, Bool, true, false, ◌&&◌, ◌||◌, ◌==◌, cond, unwrap_or, List, [], ◌∷◌, ◌++◌, map, Option, Some, None, option_map, option_to_list, is_some, refl, ap, ◌∙◌, sym, append_assoc, append-nil, arith, eqb-true}
+use Rattle.std.proofs.Common.{◌≡◌, ℕ, zero, suc, Bool, true, false, ◌||◌, cond, unwrap_or, List, [], ◌∷◌, ◌++◌, map, Option, Some, None, option_map, option_to_list, is_some, refl, ap, ◌∙◌, sym, append_assoc, append-nil}
 use Rattle.std.specs.Option.{option_or, option_and_then}
 use Rattle.std.specs.List.{list_any}
 use Rattle.std.proofs.lemmas.Bool.{false≢true}
-use Rattle.std.proofs.lemmas.Bool.Decides.{nat_tests}
 use Rattle.std.proofs.lemmas.List.{map-append}
 use Rattle.std.proofs.lemmas.List.Folds.{list_any-append}
 use Rattle.cube.specs.declared.moves.Move.{Move}
 use Rattle.attempts.specs.declared.Value.{Value}
 use Rattle.formats.specs.declared.events.Event.{Event}
-use Rattle.formats.specs.Events.{same_event, same_event-equal, unit_of}
-use Rattle.commands.specs.declared.command.Command.{Command}
-use Rattle.commands.specs.declared.command.Command.TheVariants.{Register, Open, Enter, Scramble, Attempt, Correct, Strike, SetAdvance, Close}
-use Rattle.commands.specs.declared.command.Entered.{Entered}
-use Rattle.commands.specs.declared.command.Settings.{Settings}
-use Rattle.rounds.specs.Tables.{Entrant, Table, empty_table, replaced, without_last}
-use Rattle.advancement.specs.declared.Advance.{Advance}
-use Rattle.commands.specs.Kept.{with_attempt, with_correction, with_strike, with_advance, with_end, with_entry, newcomer, with_newcomers}
-use Rattle.commands.specs.Accepted.{Opened, opened, opening, scrambling, scramble_since, scramble_of, settled, entering, one_value, values_after, entrant_after, entrants_after, closing, advance_given, advance_after, settings_now, table_of, round_at, who_advance, round_in, round_of}
+use Rattle.formats.specs.Events.{unit_of}
+use Rattle.texts.specs.declared.command.Command.{Command}
+use Rattle.texts.specs.declared.command.Settings.{Settings}
+use Rattle.rounds.specs.Tables.{Entrant, Table, empty_table}
+use Rattle.formats.specs.declared.advance.Advance.{Advance}
+use Rattle.commands.specs.model.Kept.{newcomer}
+use Rattle.commands.specs.Accepted.{Opened, opened, opening, scrambling, scramble_since, scramble_of, entering, one_value, values_after, entrant_after, entrants_after, closing, advance_given, advance_after, settings_now, table_of, round_at, who_advance, round_in, round_of}
 use Rattle.commands.proofs.Lookups.{or_none, first_push}
 
 -- a round with one more command since its opening
@@ -29,42 +26,69 @@ just_opened before settings = record { before = before; settings = settings; sin
 
 -- one more command is one more since the opening, or it opens the round
 pub opened_push : (e : Event) (r : ℕ) (earlier cs : List Command) (c : Command)
-    → opened e r earlier (cs ++ c ∷ []) ≡ option_or (option_map (plus_command c) (opened e r earlier cs)) (option_map (just_opened (earlier ++ cs)) (opening e r c))
-opened_push e r earlier [] c = or_none _ ∙ ap (λ (before : List Command). option_map (just_opened before) (opening e r c)) (sym (append-nil earlier))
+    → opened e r earlier (cs ++ c ∷ [])
+    ≡ option_or (option_map (plus_command c) (opened e r earlier cs))
+    (option_map (just_opened (earlier ++ cs)) (opening e r c))
+opened_push e r earlier [] c =
+    or_none _
+    ∙ ap (λ (before : List Command). option_map (just_opened before) (opening e r c))
+    (sym (append-nil earlier))
 opened_push e r earlier (d ∷ ds) c =
     step (opening e r d)
     (opened_push e r (earlier ++ d ∷ []) ds c
-    ∙ ap (λ (before : List Command). option_or (option_map (plus_command c) (opened e r (earlier ++ d ∷ []) ds)) (option_map (just_opened before) (opening e r c))) (append_assoc earlier (d ∷ []) ds))
+    ∙ ap
+    (λ (before : List Command).
+    option_or (option_map (plus_command c) (opened e r (earlier ++ d ∷ []) ds))
+    (option_map (just_opened before) (opening e r c)))
+    (append_assoc earlier (d ∷ []) ds))
   where
     now : List Command → Settings → Opened
     now since settings = record { before = earlier; settings = settings; since = since }
 
     step : (o : Option Settings)
-        → opened e r (earlier ++ d ∷ []) (ds ++ c ∷ []) ≡ option_or (option_map (plus_command c) (opened e r (earlier ++ d ∷ []) ds)) (option_map (just_opened (earlier ++ d ∷ ds)) (opening e r c))
-        → option_or (option_map (now (ds ++ c ∷ [])) o) (opened e r (earlier ++ d ∷ []) (ds ++ c ∷ []))
-        ≡ option_or (option_map (plus_command c) (option_or (option_map (now ds) o) (opened e r (earlier ++ d ∷ []) ds))) (option_map (just_opened (earlier ++ d ∷ ds)) (opening e r c))
+        → opened e r (earlier ++ d ∷ []) (ds ++ c ∷ [])
+        ≡ option_or (option_map (plus_command c) (opened e r (earlier ++ d ∷ []) ds))
+        (option_map (just_opened (earlier ++ d ∷ ds)) (opening e r c))
+        → option_or (option_map (now (ds ++ c ∷ [])) o)
+        (opened e r (earlier ++ d ∷ []) (ds ++ c ∷ []))
+        ≡ option_or
+        (option_map (plus_command c)
+        (option_or (option_map (now ds) o) (opened e r (earlier ++ d ∷ []) ds)))
+        (option_map (just_opened (earlier ++ d ∷ ds)) (opening e r c))
     step None h = h
     step (Some s) h = refl
 
 -- one more command changes the values by that command alone
-pub values_push : (e : Event) (r : ℕ) (settings : Settings) (n : ℕ) (earlier : List Command) (vs : List Value) (cs : List Command) (c : Command)
-    → values_after e r settings n earlier vs (cs ++ c ∷ []) ≡ one_value e r settings n (earlier ++ cs) (values_after e r settings n earlier vs cs) c
-values_push e r settings n earlier vs [] c = ap (λ (before : List Command). one_value e r settings n before vs c) (sym (append-nil earlier))
+pub values_push : (e : Event) (r : ℕ) (settings : Settings) (n : ℕ) (earlier : List Command)
+    (vs : List Value) (cs : List Command) (c : Command)
+    → values_after e r settings n earlier vs (cs ++ c ∷ [])
+    ≡ one_value e r settings n (earlier ++ cs) (values_after e r settings n earlier vs cs) c
+values_push e r settings n earlier vs [] c =
+    ap (λ (before : List Command). one_value e r settings n before vs c) (sym (append-nil earlier))
 values_push e r settings n earlier vs (d ∷ ds) c =
     values_push e r settings n (earlier ++ d ∷ []) (one_value e r settings n earlier vs d) ds c
-    ∙ ap (λ (before : List Command). one_value e r settings n before (values_after e r settings n (earlier ++ d ∷ []) (one_value e r settings n earlier vs d) ds) c) (append_assoc earlier (d ∷ []) ds)
+    ∙ ap
+    (λ (before : List Command).
+    one_value e r settings n before
+    (values_after e r settings n (earlier ++ d ∷ []) (one_value e r settings n earlier vs d) ds) c)
+    (append_assoc earlier (d ∷ []) ds)
 
 -- an entrant after one more command
 abbrev pub one_more : Event → ℕ → Settings → List Command → Command → Entrant → Entrant
-one_more e r settings earlier c x = record { number = x.number; values = one_value e r settings x.number earlier x.values c }
+one_more e r settings earlier c x =
+    record { number = x.number; values = one_value e r settings x.number earlier x.values c }
 
 -- one more command changes each entrant by itself, and may enter one
-pub entrants_push : (e : Event) (r : ℕ) (settings : Settings) (earlier cs : List Command) (c : Command)
+pub entrants_push : (e : Event) (r : ℕ) (settings : Settings) (earlier cs : List Command)
+    (c : Command)
     → entrants_after e r settings earlier (cs ++ c ∷ [])
-    ≡ map (one_more e r settings (earlier ++ cs) c) (entrants_after e r settings earlier cs) ++ option_to_list (option_map newcomer (entering e r c))
+    ≡ map (one_more e r settings (earlier ++ cs) c) (entrants_after e r settings earlier cs) ++
+    option_to_list (option_map newcomer (entering e r c))
 entrants_push e r settings earlier [] c = append-nil _
 entrants_push e r settings earlier (d ∷ ds) c =
-    step (entering e r d) (entrants_push e r settings here ds c ∙ ap (λ (before : List Command). map (one_more e r settings before c) there ++ last) along)
+    step (entering e r d)
+    (entrants_push e r settings here ds c
+    ∙ ap (λ (before : List Command). map (one_more e r settings before c) there ++ last) along)
   where
     here : List Command
     here = earlier ++ d ∷ []
@@ -78,30 +102,48 @@ entrants_push e r settings earlier (d ∷ ds) c =
     along : here ++ ds ≡ earlier ++ d ∷ ds
     along = append_assoc earlier (d ∷ []) ds
 
-    entrant : (n : ℕ) → entrant_after e r settings here (ds ++ c ∷ []) n ≡ one_more e r settings (earlier ++ d ∷ ds) c (entrant_after e r settings here ds n)
+    entrant : (n : ℕ)
+        → entrant_after e r settings here (ds ++ c ∷ []) n
+        ≡ one_more e r settings (earlier ++ d ∷ ds) c (entrant_after e r settings here ds n)
     entrant n =
         ap (λ (vs : List Value). let x : Entrant = record { number = n; values = vs } in x)
-        (values_push e r settings n here [] ds c ∙ ap (λ (before : List Command). one_value e r settings n before (values_after e r settings n here [] ds) c) along)
+        (values_push e r settings n here [] ds c
+        ∙ ap
+        (λ (before : List Command).
+        one_value e r settings n before (values_after e r settings n here [] ds) c)
+        along)
 
-    step : (x : Option ℕ) → entrants_after e r settings here (ds ++ c ∷ []) ≡ map (one_more e r settings (earlier ++ d ∷ ds) c) there ++ last
-        → option_to_list (option_map (entrant_after e r settings here (ds ++ c ∷ [])) x) ++ entrants_after e r settings here (ds ++ c ∷ [])
-        ≡ map (one_more e r settings (earlier ++ d ∷ ds) c) (option_to_list (option_map (entrant_after e r settings here ds) x) ++ there) ++ last
+    step : (x : Option ℕ)
+        → entrants_after e r settings here (ds ++ c ∷ [])
+        ≡ map (one_more e r settings (earlier ++ d ∷ ds) c) there ++ last
+        → option_to_list (option_map (entrant_after e r settings here (ds ++ c ∷ [])) x) ++
+        entrants_after e r settings here (ds ++ c ∷ [])
+        ≡ map (one_more e r settings (earlier ++ d ∷ ds) c)
+        (option_to_list (option_map (entrant_after e r settings here ds) x) ++ there) ++ last
     step None h = h
     step (Some n) h = rw (entrant n, h) refl
 
 -- one more command changes the advance by that command alone
-advance_push : (e : Event) (r : ℕ) (advance : Advance) (cs : List Command) (c : Command)
-    → advance_after e r advance (cs ++ c ∷ []) ≡ unwrap_or (advance_given e r c) (advance_after e r advance cs)
+pub advance_push : (e : Event) (r : ℕ) (advance : Advance) (cs : List Command) (c : Command)
+    → advance_after e r advance (cs ++ c ∷ [])
+    ≡ unwrap_or (advance_given e r c) (advance_after e r advance cs)
 advance_push e r advance [] c = refl
-advance_push e r advance (d ∷ ds) c = advance_push e r (unwrap_or (advance_given e r d) advance) ds c
+advance_push e r advance (d ∷ ds) c =
+    advance_push e r (unwrap_or (advance_given e r d) advance) ds c
 
 -- one more command changes each of those who came in at the opening by itself
-first_more : (e : Event) (r : ℕ) (settings : Settings) (cs : List Command) (c : Command) (ns : List ℕ)
-    → map (entrant_after e r settings [] (cs ++ c ∷ [])) ns ≡ map (one_more e r settings cs c) (map (entrant_after e r settings [] cs) ns)
+pub first_more : (e : Event) (r : ℕ) (settings : Settings) (cs : List Command) (c : Command)
+    (ns : List ℕ)
+    → map (entrant_after e r settings [] (cs ++ c ∷ [])) ns
+    ≡ map (one_more e r settings cs c) (map (entrant_after e r settings [] cs) ns)
 first_more e r settings cs c [] = refl
 first_more e r settings cs c (n ∷ ns) =
-    ap (λ (x : Entrant). x ∷ map (entrant_after e r settings [] (cs ++ c ∷ [])) ns) (ap (λ (vs : List Value). let x : Entrant = record { number = n; values = vs } in x) (values_push e r settings n [] [] cs c))
-    ∙ ap (λ (xs : List Entrant). one_more e r settings cs c (entrant_after e r settings [] cs n) ∷ xs) (first_more e r settings cs c ns)
+    ap (λ (x : Entrant). x ∷ map (entrant_after e r settings [] (cs ++ c ∷ [])) ns)
+    (ap (λ (vs : List Value). let x : Entrant = record { number = n; values = vs } in x)
+    (values_push e r settings n [] [] cs c))
+    ∙ ap
+    (λ (xs : List Entrant). one_more e r settings cs c (entrant_after e r settings [] cs n) ∷ xs)
+    (first_more e r settings cs c ns)
 
 -- the table of a round in which nobody is entered yet
 abbrev pub new_table : Event → Settings → Table
@@ -115,15 +157,26 @@ abbrev pub with_table : Settings → Table → Settings × Table
 with_table settings t = (settings, t)
 
 -- what one more command makes of the entrants of a round that is open
-abbrev entrants_with : Event → ℕ → List ℕ → Opened → Command → List Entrant
-entrants_with e r first o c = map (one_more e r o.settings o.since c) (table_of e r first o).entrants ++ option_to_list (option_map newcomer (entering e r c))
+abbrev pub entrants_with : Event → ℕ → List ℕ → Opened → Command → List Entrant
+entrants_with e r first o c =
+    map (one_more e r o.settings o.since c) (table_of e r first o).entrants ++ option_to_list
+    (option_map newcomer (entering e r c))
 
-entrants_more : (e : Event) (r : ℕ) (first : List ℕ) (o : Opened) (c : Command) → (table_of e r first (plus_command c o)).entrants ≡ entrants_with e r first o c
+pub entrants_more : (e : Event) (r : ℕ) (first : List ℕ) (o : Opened) (c : Command)
+    → (table_of e r first (plus_command c o)).entrants ≡ entrants_with e r first o c
 entrants_more e r first o c =
-    ap (λ (xs : List Entrant). xs ++ entrants_after e r o.settings [] (o.since ++ c ∷ [])) (first_more e r o.settings o.since c first)
-    ∙ ap (λ (xs : List Entrant). map one (map (entrant_after e r o.settings [] o.since) first) ++ xs) (entrants_push e r o.settings [] o.since c)
-    ∙ sym (append_assoc (map one (map (entrant_after e r o.settings [] o.since) first)) (map one (entrants_after e r o.settings [] o.since)) last)
-    ∙ ap (λ (xs : List Entrant). xs ++ last) (sym (map-append one (map (entrant_after e r o.settings [] o.since) first) (entrants_after e r o.settings [] o.since)))
+    ap (λ (xs : List Entrant). xs ++ entrants_after e r o.settings [] (o.since ++ c ∷ []))
+    (first_more e r o.settings o.since c first)
+    ∙ ap
+    (λ (xs : List Entrant). map one (map (entrant_after e r o.settings [] o.since) first) ++ xs)
+    (entrants_push e r o.settings [] o.since c)
+    ∙ sym
+    (append_assoc (map one (map (entrant_after e r o.settings [] o.since) first))
+    (map one (entrants_after e r o.settings [] o.since)) last)
+    ∙ ap (λ (xs : List Entrant). xs ++ last)
+    (sym
+    (map-append one (map (entrant_after e r o.settings [] o.since) first)
+    (entrants_after e r o.settings [] o.since)))
   where
     one : Entrant → Entrant
     one = one_more e r o.settings o.since c
@@ -132,68 +185,107 @@ entrants_more e r first o c =
     last = option_to_list (option_map newcomer (entering e r c))
 
 -- a round with another advance, closed or not, and other entrants
-abbrev with_parts : Event → ℕ → List ℕ → Opened → Advance → Bool → List Entrant → Settings × Table
-with_parts e r first o advance closed es = (record o.settings { advance = advance }, record (table_of e r first o) { is_closed = closed; entrants = es })
+abbrev pub with_parts : Event → ℕ → List ℕ → Opened → Advance → Bool → List Entrant → Settings × Table
+with_parts e r first o advance closed es = (
+  record o.settings { advance = advance },
+  record (table_of e r first o) { is_closed = closed; entrants = es },
+)
 
-abbrev advance_of : Event → ℕ → Opened → Advance
+abbrev pub advance_of : Event → ℕ → Opened → Advance
 advance_of e r o = advance_after e r o.settings.advance o.since
 
-abbrev is_ended : Event → ℕ → Opened → Bool
+abbrev pub is_ended : Event → ℕ → Opened → Bool
 is_ended e r o = list_any (closing e r) o.since
 
-or_last : (a b : Bool) → (a || (b || false)) ≡ (a || b)
+pub or_last : (a b : Bool) → (a || (b || false)) ≡ (a || b)
 or_last true b = refl
 or_last false true = refl
 or_last false false = refl
 
-or_false : (a : Bool) → (a || false) ≡ a
+pub or_false : (a : Bool) → (a || false) ≡ a
 or_false true = refl
 or_false false = refl
 
-or_true : (a : Bool) → (a || true) ≡ true
+pub or_true : (a : Bool) → (a || true) ≡ true
 or_true true = refl
 or_true false = refl
 
 -- what one more command makes of a round that is open
-round_more : (e : Event) (r : ℕ) (first : List ℕ) (o : Opened) (c : Command)
-    → round_at e r first (plus_command c o) ≡ with_parts e r first o (unwrap_or (advance_given e r c) (advance_of e r o)) (is_ended e r o || closing e r c) (entrants_with e r first o c)
+pub round_more : (e : Event) (r : ℕ) (first : List ℕ) (o : Opened) (c : Command)
+    → round_at e r first (plus_command c o)
+    ≡ with_parts e r first o (unwrap_or (advance_given e r c) (advance_of e r o))
+    (is_ended e r o || closing e r c) (entrants_with e r first o c)
 round_more e r first o c =
-    ap (λ (a : Advance). with_parts e r first o a (list_any (closing e r) (o.since ++ c ∷ [])) (table_of e r first (plus_command c o)).entrants) (advance_push e r o.settings.advance o.since c)
-    ∙ ap (λ (b : Bool). with_parts e r first o (unwrap_or (advance_given e r c) (advance_of e r o)) b (table_of e r first (plus_command c o)).entrants) (list_any-append (closing e r) o.since (c ∷ []) ∙ or_last (is_ended e r o) (closing e r c))
-    ∙ ap (λ (xs : List Entrant). with_parts e r first o (unwrap_or (advance_given e r c) (advance_of e r o)) (is_ended e r o || closing e r c) xs) (entrants_more e r first o c)
+    ap
+    (λ (a : Advance).
+    with_parts e r first o a (list_any (closing e r) (o.since ++ c ∷ []))
+    (table_of e r first (plus_command c o)).entrants)
+    (advance_push e r o.settings.advance o.since c)
+    ∙ ap
+    (λ (b : Bool).
+    with_parts e r first o (unwrap_or (advance_given e r c) (advance_of e r o)) b
+    (table_of e r first (plus_command c o)).entrants)
+    (list_any-append (closing e r) o.since (c ∷ []) ∙ or_last (is_ended e r o) (closing e r c))
+    ∙ ap
+    (λ (xs : List Entrant).
+    with_parts e r first o (unwrap_or (advance_given e r c) (advance_of e r o))
+    (is_ended e r o || closing e r c) xs)
+    (entrants_more e r first o c)
 
 -- a command that gives no advance and closes no round
-round_with : (e : Event) (r : ℕ) (first : List ℕ) (c : Command) (o : Opened) (es : List Entrant) → advance_given e r c ≡ None → closing e r c ≡ false → entrants_with e r first o c ≡ es
-    → round_at e r first (plus_command c o) ≡ with_table (settings_now e r o) (with_entrants (table_of e r first o) es)
+pub round_with : (e : Event) (r : ℕ) (first : List ℕ) (c : Command) (o : Opened) (es : List Entrant)
+    → advance_given e r c ≡ None → closing e r c ≡ false → entrants_with e r first o c ≡ es
+    → round_at e r first (plus_command c o)
+    ≡ with_table (settings_now e r o) (with_entrants (table_of e r first o) es)
 round_with e r first c o es none stays h =
     round_more e r first o c
-    ∙ ap (λ (x : Option Advance). with_parts e r first o (unwrap_or x (advance_of e r o)) (is_ended e r o || closing e r c) (entrants_with e r first o c)) none
-    ∙ ap (λ (b : Bool). with_parts e r first o (advance_of e r o) b (entrants_with e r first o c)) (ap (λ (b : Bool). is_ended e r o || b) stays ∙ or_false (is_ended e r o))
+    ∙ ap
+    (λ (x : Option Advance).
+    with_parts e r first o (unwrap_or x (advance_of e r o)) (is_ended e r o || closing e r c)
+    (entrants_with e r first o c))
+    none
+    ∙ ap (λ (b : Bool). with_parts e r first o (advance_of e r o) b (entrants_with e r first o c))
+    (ap (λ (b : Bool). is_ended e r o || b) stays ∙ or_false (is_ended e r o))
     ∙ ap (λ (xs : List Entrant). with_parts e r first o (advance_of e r o) (is_ended e r o) xs) h
 
-map_same : {X : Type 0} (f : X → X) → ((x : X) → f x ≡ x) → (xs : List X) → map f xs ≡ xs
+pub map_same : {X : Type 0} (f : X → X) → ((x : X) → f x ≡ x) → (xs : List X) → map f xs ≡ xs
 map_same f h [] = refl
 map_same f h (x ∷ xs) = rw (h x, map_same f h xs) refl
 
-map_alike : {X : Type 0} (f g : X → X) → ((x : X) → f x ≡ g x) → (xs : List X) → map f xs ≡ map g xs
+pub map_alike : {X : Type 0} (f g : X → X) → ((x : X) → f x ≡ g x) → (xs : List X) → map f xs ≡ map g xs
 map_alike f g h [] = refl
 map_alike f g h (x ∷ xs) = rw (h x, map_alike f g h xs) refl
 
 -- a command changes no values
 abbrev pub KeepsValues : Event → ℕ → Command → Type 0
-KeepsValues e r c = (settings : Settings) (earlier : List Command) (x : Entrant) → one_more e r settings earlier c x ≡ x
+KeepsValues e r c =
+    (settings : Settings) (earlier : List Command) (x : Entrant)
+    → one_more e r settings earlier c x ≡ x
 
 -- a command that changes no values and enters nobody leaves the entrants as they are
-same_entrants : (e : Event) (r : ℕ) (first : List ℕ) (o : Opened) (c : Command) → entering e r c ≡ None → KeepsValues e r c → entrants_with e r first o c ≡ (table_of e r first o).entrants
-same_entrants e r first o c nobody keeps = rw nobody (append-nil _ ∙ map_same (one_more e r o.settings o.since c) (keeps o.settings o.since) (table_of e r first o).entrants)
+pub same_entrants : (e : Event) (r : ℕ) (first : List ℕ) (o : Opened) (c : Command)
+    → entering e r c ≡ None → KeepsValues e r c
+    → entrants_with e r first o c ≡ (table_of e r first o).entrants
+same_entrants e r first o c nobody keeps =
+    rw nobody
+    (append-nil _
+    ∙ map_same (one_more e r o.settings o.since c) (keeps o.settings o.since)
+    (table_of e r first o).entrants)
 
-still : (e : Event) (r : ℕ) (first : List ℕ) (c : Command) (o : Opened) → advance_given e r c ≡ None → closing e r c ≡ false → entering e r c ≡ None → KeepsValues e r c
+pub still : (e : Event) (r : ℕ) (first : List ℕ) (c : Command) (o : Opened) → advance_given e r c ≡ None
+    → closing e r c ≡ false → entering e r c ≡ None → KeepsValues e r c
     → round_at e r first (plus_command c o) ≡ round_at e r first o
-still e r first c o none stays nobody keeps = round_with e r first c o (table_of e r first o).entrants none stays (same_entrants e r first o c nobody keeps)
+still e r first c o none stays nobody keeps =
+    round_with e r first c o (table_of e r first o).entrants none stays
+    (same_entrants e r first o c nobody keeps)
 
 -- a command that opens no round makes this change of a round that is open, or none
-pub round_changed : (e : Event) (r : ℕ) (cs : List Command) (c : Command) (b : Bool) (change : Settings × Table → Settings × Table) → opening e r c ≡ None
-    → ((o : Opened) (first : List ℕ) → opened e r [] cs ≡ Some o → round_at e r first (plus_command c o) ≡ cond b (change (round_at e r first o)) (round_at e r first o))
+pub round_changed : (e : Event) (r : ℕ) (cs : List Command) (c : Command) (b : Bool)
+    (change : Settings × Table → Settings × Table)
+    → opening e r c ≡ None
+    → ((o : Opened) (first : List ℕ) → opened e r [] cs ≡ Some o
+    → round_at e r first (plus_command c o)
+    ≡ cond b (change (round_at e r first o)) (round_at e r first o))
     → round_of (cs ++ c ∷ []) e r ≡ cond b (option_map change (round_of cs e r)) (round_of cs e r)
 unfolding round_in
 round_changed e zero cs c b change closed changes = none b
@@ -201,7 +293,9 @@ round_changed e zero cs c b change closed changes = none b
     none : (t : Bool) → None ≡ cond t (option_map change None) None
     none true = refl
     none false = refl
-round_changed e (suc r) cs c b change closed changes = ap (option_map at) (opened_push e (suc r) [] cs c) ∙ rw closed (step (opened e (suc r) [] cs) refl)
+round_changed e (suc r) cs c b change closed changes =
+    ap (option_map at) (opened_push e (suc r) [] cs c)
+    ∙ rw closed (step (opened e (suc r) [] cs) refl)
   where
     at : Opened → Settings × Table
     at o = round_at e (suc r) (who_advance (round_in e r o.before)) o
@@ -210,220 +304,62 @@ round_changed e (suc r) cs c b change closed changes = ap (option_map at) (opene
     none true = refl
     none false = refl
 
-    some : (t : Bool) (y : Settings × Table) → Some (cond t (change y) y) ≡ cond t (option_map change (Some y)) (Some y)
+    some : (t : Bool) (y : Settings × Table)
+        → Some (cond t (change y) y) ≡ cond t (option_map change (Some y)) (Some y)
     some true y = refl
     some false y = refl
 
     step : (x : Option Opened) → opened e (suc r) [] cs ≡ x
-        → option_map at (option_or (option_map (plus_command c) x) (option_map (just_opened cs) None)) ≡ cond b (option_map change (option_map at x)) (option_map at x)
+        → option_map at
+        (option_or (option_map (plus_command c) x) (option_map (just_opened cs) None))
+        ≡ cond b (option_map change (option_map at x)) (option_map at x)
     step None h = none b
     step (Some o) h = ap Some (changes o (who_advance (round_in e r o.before)) h) ∙ some b (at o)
 
 -- one more command changes the scramble of an attempt by itself, where the round is open
 pub scramble_push : (e : Event) (r k : ℕ) (cs : List Command) (c : Command)
-    → scramble_of (cs ++ c ∷ []) e r k ≡ option_and_then (λ (o : Opened). option_or (scramble_since e r k o) (scrambling e r k c)) (opened e r [] cs)
-scramble_push e r k cs c = ap (option_and_then (scramble_since e r k)) (opened_push e r [] cs c) ∙ step (opened e r [] cs) (opening e r c)
+    → scramble_of (cs ++ c ∷ []) e r k
+    ≡ option_and_then (λ (o : Opened). option_or (scramble_since e r k o) (scrambling e r k c))
+    (opened e r [] cs)
+scramble_push e r k cs c =
+    ap (option_and_then (scramble_since e r k)) (opened_push e r [] cs c)
+    ∙ step (opened e r [] cs) (opening e r c)
   where
     step : (x : Option Opened) (y : Option Settings)
-        → option_and_then (scramble_since e r k) (option_or (option_map (plus_command c) x) (option_map (just_opened cs) y))
-        ≡ option_and_then (λ (o : Opened). option_or (scramble_since e r k o) (scrambling e r k c)) x
+        → option_and_then (scramble_since e r k)
+        (option_or (option_map (plus_command c) x) (option_map (just_opened cs) y))
+        ≡ option_and_then (λ (o : Opened). option_or (scramble_since e r k o) (scrambling e r k c))
+        x
     step None None = refl
     step None (Some s) = refl
     step (Some o) y = first_push (scrambling e r k) o.since c
 
 -- a command that sets no scramble for an attempt leaves it as it is
-pub scramble_kept : (e : Event) (r k : ℕ) (cs : List Command) (c : Command) → scrambling e r k c ≡ None → scramble_of (cs ++ c ∷ []) e r k ≡ scramble_of cs e r k
+pub scramble_kept : (e : Event) (r k : ℕ) (cs : List Command) (c : Command)
+    → scrambling e r k c ≡ None → scramble_of (cs ++ c ∷ []) e r k ≡ scramble_of cs e r k
 scramble_kept e r k cs c none = scramble_push e r k cs c ∙ rw none (step (opened e r [] cs))
   where
-    step : (x : Option Opened) → option_and_then (λ (o : Opened). option_or (scramble_since e r k o) None) x ≡ option_and_then (scramble_since e r k) x
+    step : (x : Option Opened)
+        → option_and_then (λ (o : Opened). option_or (scramble_since e r k o) None) x
+        ≡ option_and_then (scramble_since e r k) x
     step None = refl
     step (Some o) = or_none _
 
 -- a command that sets the first scramble of an attempt
-pub scramble_new : (e : Event) (r k : ℕ) (cs : List Command) (c : Command) (moves : List Move) → scrambling e r k c ≡ Some moves → is_some (round_of cs e r) ≡ true
+pub scramble_new : (e : Event) (r k : ℕ) (cs : List Command) (c : Command) (moves : List Move)
+    → scrambling e r k c ≡ Some moves → is_some (round_of cs e r) ≡ true
     → scramble_of cs e r k ≡ None → scramble_of (cs ++ c ∷ []) e r k ≡ Some moves
 unfolding round_in
 scramble_new e zero k cs c moves sets there absent = absurd (false≢true there)
-scramble_new e (suc r) k cs c moves sets there absent = scramble_push e (suc r) k cs c ∙ rw sets (step (opened e (suc r) [] cs) there absent)
+scramble_new e (suc r) k cs c moves sets there absent =
+    scramble_push e (suc r) k cs c ∙ rw sets (step (opened e (suc r) [] cs) there absent)
   where
-    step : (x : Option Opened) → is_some (option_map (λ (o : Opened). round_at e (suc r) (who_advance (round_in e r o.before)) o) x) ≡ true → option_and_then (scramble_since e (suc r) k) x ≡ None
-        → option_and_then (λ (o : Opened). option_or (scramble_since e (suc r) k o) (Some moves)) x ≡ Some moves
+    step : (x : Option Opened)
+        → is_some
+        (option_map (λ (o : Opened). round_at e (suc r) (who_advance (round_in e r o.before)) o) x)
+        ≡ true
+        → option_and_then (scramble_since e (suc r) k) x ≡ None
+        → option_and_then (λ (o : Opened). option_or (scramble_since e (suc r) k o) (Some moves)) x
+        ≡ Some moves
     step None h absent = absurd (false≢true h)
     step (Some o) h absent = rw absent refl
-
--- a change of the values of one number
-abbrev pub change_of : ℕ → (List Value → List Value) → Entrant → Entrant
-change_of m change x = cond (m == x.number) (record x { values = change x.values }) x
-
-abbrev with_change : Event → ℕ → List ℕ → Opened → ℕ → (List Value → List Value) → Settings × Table
-with_change e r first o m change = with_table (settings_now e r o) (with_entrants (table_of e r first o) (map (change_of m change) (table_of e r first o).entrants))
-
--- a command that changes the values of one number makes that change of the entrants, or none
-values_changed : (e : Event) (r : ℕ) (first : List ℕ) (c : Command) (o : Opened) (m : ℕ) (change : List Value → List Value) (b : Bool)
-    → advance_given e r c ≡ None → closing e r c ≡ false → entering e r c ≡ None
-    → ((x : Entrant) → one_more e r o.settings o.since c x ≡ (let y : Entrant = record { number = x.number; values = cond (b && m == x.number) (change x.values) x.values } in y))
-    → round_at e r first (plus_command c o) ≡ cond b (with_change e r first o m change) (round_at e r first o)
-values_changed e r first c o m change b none stays nobody is =
-    round_with e r first c o _ none stays (rw nobody (ap (λ (xs : List Entrant). xs ++ []) (map_alike _ _ each (table_of e r first o).entrants) ∙ all b (table_of e r first o).entrants)) ∙ both b
-  where
-    at : (a t : Bool) (x : Entrant) → (let y : Entrant = record { number = x.number; values = cond (a && t) (change x.values) x.values } in y) ≡ cond a (cond t (record x { values = change x.values }) x) x
-    at true true x = refl
-    at true false x = refl
-    at false t x = refl
-
-    each : (x : Entrant) → one_more e r o.settings o.since c x ≡ cond b (change_of m change x) x
-    each x = is x ∙ at b (m == x.number) x
-
-    all : (a : Bool) (xs : List Entrant) → map (λ (x : Entrant). cond a (change_of m change x) x) xs ++ [] ≡ cond a (map (change_of m change) xs) xs
-    all true xs = append-nil _
-    all false xs = append-nil _ ∙ map_same _ (λ x. refl) xs
-
-    both : (a : Bool) → with_table (settings_now e r o) (with_entrants (table_of e r first o) (cond a (map (change_of m change) (table_of e r first o).entrants) (table_of e r first o).entrants))
-        ≡ cond a (with_change e r first o m change) (round_at e r first o)
-    both true = refl
-    both false = refl
-
--- the scramble of an attempt, by the commands since the opening of its round
-scramble_here : (e f : Event) (r s k : ℕ) (cs : List Command) (o : Opened) → opened e r [] cs ≡ Some o → (same_event e f && r == s) ≡ true → scramble_since e r k o ≡ scramble_of cs f s k
-scramble_here e f r s k cs o is here =
-    let event : e ≡ f = same_event-equal e f (grind arith) in
-    let round : r ≡ s = eqb-true r s (grind arith) in
-    sym (ap (option_and_then (scramble_since e r k)) is) ∙ ap (λ (x : Event). scramble_of cs x r k) event ∙ ap (λ (n : ℕ). scramble_of cs f n k) round
-
--- a change that asks for the scramble of an attempt
-under_scramble : (e f : Event) (r s k : ℕ) (first : List ℕ) (cs : List Command) (o : Opened) (change : Option (List Move) → Settings × Table → Settings × Table) → opened e r [] cs ≡ Some o
-    → (b : Bool) → (same_event e f && r == s) ≡ b
-    → cond b (change (scramble_since e r k o) (round_at e r first o)) (round_at e r first o) ≡ cond b (change (scramble_of cs f s k) (round_at e r first o)) (round_at e r first o)
-under_scramble e f r s k first cs o change is true here = ap (λ (scramble : Option (List Move)). change scramble (round_at e r first o)) (scramble_here e f r s k cs o is here)
-under_scramble e f r s k first cs o change is false here = refl
-
--- an attempt adds a value in its round, and changes no other
-pub round_attempt : (e f : Event) (r s k m : ℕ) (x : Entered) (cs : List Command)
-    → round_of (cs ++ Attempt f s k m x ∷ []) e r ≡ cond (same_event e f && r == s) (option_map (with_attempt m (scramble_of cs f s k) x) (round_of cs e r)) (round_of cs e r)
-round_attempt e f r s k m x cs = round_changed e r cs (Attempt f s k m x) (same_event e f && r == s) (with_attempt m (scramble_of cs f s k) x) refl changes
-  where
-    changes : (o : Opened) (first : List ℕ) → opened e r [] cs ≡ Some o
-        → round_at e r first (plus_command (Attempt f s k m x) o) ≡ cond (same_event e f && r == s) (with_attempt m (scramble_of cs f s k) x (round_at e r first o)) (round_at e r first o)
-    changes o first is =
-        values_changed e r first (Attempt f s k m x) o m (λ vs. vs ++ settled o.settings (scramble_since e r k o) x ∷ []) (same_event e f && r == s) refl refl refl (λ y. refl)
-        ∙ under_scramble e f r s k first cs o (λ scramble. with_attempt m scramble x) is (same_event e f && r == s) refl
-
--- a correction replaces a value in its round, and changes no other
-pub round_correct : (e f : Event) (r s k m : ℕ) (x : Entered) (cs : List Command)
-    → round_of (cs ++ Correct f s k m x ∷ []) e r ≡ cond (same_event e f && r == s) (option_map (with_correction m k (scramble_of cs f s k) x) (round_of cs e r)) (round_of cs e r)
-round_correct e f r s k m x cs = round_changed e r cs (Correct f s k m x) (same_event e f && r == s) (with_correction m k (scramble_of cs f s k) x) refl changes
-  where
-    changes : (o : Opened) (first : List ℕ) → opened e r [] cs ≡ Some o
-        → round_at e r first (plus_command (Correct f s k m x) o) ≡ cond (same_event e f && r == s) (with_correction m k (scramble_of cs f s k) x (round_at e r first o)) (round_at e r first o)
-    changes o first is =
-        values_changed e r first (Correct f s k m x) o m (λ vs. replaced k (settled o.settings (scramble_since e r k o) x) vs) (same_event e f && r == s) refl refl refl (λ y. refl)
-        ∙ under_scramble e f r s k first cs o (λ scramble. with_correction m k scramble x) is (same_event e f && r == s) refl
-
--- a strike removes a value in its round, and changes no other
-pub round_strike : (e f : Event) (r s m : ℕ) (cs : List Command)
-    → round_of (cs ++ Strike f s m ∷ []) e r ≡ cond (same_event e f && r == s) (option_map (with_strike m) (round_of cs e r)) (round_of cs e r)
-round_strike e f r s m cs =
-    round_changed e r cs (Strike f s m) (same_event e f && r == s) (with_strike m) refl
-    (λ o first is. values_changed e r first (Strike f s m) o m without_last (same_event e f && r == s) refl refl refl (λ y. refl))
-
--- an advance that is given stands in its round, and in no other
-pub round_advance : (e f : Event) (r s : ℕ) (advance : Advance) (cs : List Command)
-    → round_of (cs ++ SetAdvance f s advance ∷ []) e r ≡ cond (same_event e f && r == s) (option_map (with_advance advance) (round_of cs e r)) (round_of cs e r)
-round_advance e f r s advance cs = round_changed e r cs c (same_event e f && r == s) (with_advance advance) refl (λ o first is. changes o first)
-  where
-    c : Command
-    c = SetAdvance f s advance
-
-    step : (o : Opened) (first : List ℕ) (b : Bool)
-        → with_parts e r first o (unwrap_or (cond b (Some advance) None) (advance_of e r o)) (is_ended e r o) (table_of e r first o).entrants ≡ cond b (with_advance advance (round_at e r first o)) (round_at e r first o)
-    step o first true = refl
-    step o first false = refl
-
-    changes : (o : Opened) (first : List ℕ) → round_at e r first (plus_command c o) ≡ cond (same_event e f && r == s) (with_advance advance (round_at e r first o)) (round_at e r first o)
-    changes o first =
-        round_more e r first o c
-        ∙ ap (λ (b : Bool). with_parts e r first o (unwrap_or (advance_given e r c) (advance_of e r o)) b (entrants_with e r first o c)) (or_false (is_ended e r o))
-        ∙ ap (λ (xs : List Entrant). with_parts e r first o (unwrap_or (advance_given e r c) (advance_of e r o)) (is_ended e r o) xs) (same_entrants e r first o c refl (λ settings earlier x. refl))
-        ∙ step o first (same_event e f && r == s)
-
--- a closing closes its round, and no other
-pub round_close : (e f : Event) (r s : ℕ) (cs : List Command)
-    → round_of (cs ++ Close f s ∷ []) e r ≡ cond (same_event e f && r == s) (option_map with_end (round_of cs e r)) (round_of cs e r)
-round_close e f r s cs = round_changed e r cs c (same_event e f && r == s) with_end refl (λ o first is. changes o first)
-  where
-    c : Command
-    c = Close f s
-
-    step : (o : Opened) (first : List ℕ) (b : Bool)
-        → with_parts e r first o (advance_of e r o) (is_ended e r o || b) (table_of e r first o).entrants ≡ cond b (with_end (round_at e r first o)) (round_at e r first o)
-    step o first true = ap (λ (t : Bool). with_parts e r first o (advance_of e r o) t (table_of e r first o).entrants) (or_true (is_ended e r o))
-    step o first false = ap (λ (t : Bool). with_parts e r first o (advance_of e r o) t (table_of e r first o).entrants) (or_false (is_ended e r o))
-
-    changes : (o : Opened) (first : List ℕ) → round_at e r first (plus_command c o) ≡ cond (same_event e f && r == s) (with_end (round_at e r first o)) (round_at e r first o)
-    changes o first =
-        round_more e r first o c
-        ∙ ap (λ (xs : List Entrant). with_parts e r first o (advance_of e r o) (is_ended e r o || closing e r c) xs) (same_entrants e r first o c refl (λ settings earlier x. refl))
-        ∙ step o first (same_event e f && r == s)
-
--- an entry adds an entrant to the first round, and changes no other
-pub round_enter : (e f : Event) (r n : ℕ) (cs : List Command)
-    → round_of (cs ++ Enter f n ∷ []) e r ≡ cond (same_event e f && r == 1) (option_map (with_entry n) (round_of cs e r)) (round_of cs e r)
-round_enter e f r n cs = round_changed e r cs (Enter f n) (same_event e f && r == 1) (with_entry n) refl (λ o first is. changes o first)
-  where
-    both : (b : Bool) (o : Opened) (first : List ℕ)
-        → with_table (settings_now e r o) (with_entrants (table_of e r first o) ((table_of e r first o).entrants ++ option_to_list (option_map newcomer (cond b (Some n) None)))) ≡ cond b (with_entry n (round_at e r first o)) (round_at e r first o)
-    both true o first = refl
-    both false o first = ap (λ (xs : List Entrant). with_table (settings_now e r o) (with_entrants (table_of e r first o) xs)) (append-nil _)
-
-    changes : (o : Opened) (first : List ℕ) → round_at e r first (plus_command (Enter f n) o) ≡ cond (same_event e f && r == 1) (with_entry n (round_at e r first o)) (round_at e r first o)
-    changes o first =
-        round_with e r first (Enter f n) o _ refl refl (ap (λ (xs : List Entrant). xs ++ option_to_list (option_map newcomer (entering e r (Enter f n)))) (map_same _ (λ x. refl) (table_of e r first o).entrants))
-        ∙ both (same_event e f && r == 1) o first
-
--- a command that opens no round, changes no values, enters nobody, gives no advance and closes no round changes no round
-round_same : (e : Event) (r : ℕ) (cs : List Command) (c : Command) → opening e r c ≡ None → advance_given e r c ≡ None → closing e r c ≡ false → entering e r c ≡ None → KeepsValues e r c
-    → round_of (cs ++ c ∷ []) e r ≡ round_of cs e r
-round_same e r cs c closed none stays nobody keeps = round_changed e r cs c false (λ round. round) closed (λ o first is. still e r first c o none stays nobody keeps)
-
-pub round_register : (e : Event) (r n : ℕ) (name : List ℕ) (cs : List Command) → round_of (cs ++ Register n name ∷ []) e r ≡ round_of cs e r
-round_register e r n name cs = round_same e r cs (Register n name) refl refl refl refl (λ settings earlier x. refl)
-
-pub round_scramble : (e f : Event) (r s k : ℕ) (moves : List Move) (cs : List Command) → round_of (cs ++ Scramble f s k moves ∷ []) e r ≡ round_of cs e r
-round_scramble e f r s k moves cs = round_same e r cs (Scramble f s k moves) refl refl refl refl (λ settings earlier x. refl)
-
--- the table of a round that is opened behind these commands
-abbrev pub opening_table : Event → ℕ → Settings → List Command → Table
-opening_table e r settings cs = with_newcomers (new_table e settings) (who_advance (round_of cs e (r - 1)))
-
--- an opening adds a round with those in it who advance from the one before, and changes no round that is open
-pub round_open : (e f : Event) (r s : ℕ) (settings : Settings) (cs : List Command) → 1 ≤ s
-    → round_of (cs ++ Open f s settings ∷ []) e r ≡ option_or (round_of cs e r) (cond (same_event e f && r == s) (Some (with_table settings (opening_table f s settings cs))) None)
-unfolding round_in
-round_open e f zero s settings cs low =
-    let other : (same_event e f && 0 == s) ≡ false = grind (arith, nat_tests) in
-    rw other refl
-round_open e f (suc r) s settings cs low = ap (option_map at) (opened_push e (suc r) [] cs (Open f s settings)) ∙ step (opened e (suc r) [] cs) (same_event e f && suc r == s) refl
-  where
-    at : Opened → Settings × Table
-    at o = round_at e (suc r) (who_advance (round_in e r o.before)) o
-
-    made : List ℕ → Event → Settings × Table
-    made first x = with_table settings (with_newcomers (new_table x settings) first)
-
-    fresh : (b : Bool) → (same_event e f && suc r == s) ≡ b
-        → option_map at (option_map (just_opened cs) (cond b (Some settings) None)) ≡ cond b (Some (with_table settings (opening_table f s settings cs))) None
-    fresh true h =
-        let event : e ≡ f = same_event-equal e f (grind arith) in
-        let round : suc r ≡ s = eqb-true (suc r) s (grind arith) in
-        let before : r ≡ s - 1 = omega arith in
-        ap Some
-        (ap (λ (xs : List Entrant). with_table settings (with_entrants (new_table e settings) xs)) (append-nil (map newcomer (who_advance (round_in e r cs))))
-        ∙ ap (λ (x : Event). made (who_advance (round_in x r cs)) x) event
-        ∙ ap (λ (n : ℕ). made (who_advance (round_in f n cs)) f) before)
-    fresh false h = refl
-
-    step : (x : Option Opened) (b : Bool) → (same_event e f && suc r == s) ≡ b
-        → option_map at (option_or (option_map (plus_command (Open f s settings)) x) (option_map (just_opened cs) (cond b (Some settings) None)))
-        ≡ option_or (option_map at x) (cond b (Some (with_table settings (opening_table f s settings cs))) None)
-    step None b h = fresh b h
-    step (Some o) b h = ap Some (still e (suc r) (who_advance (round_in e r o.before)) (Open f s settings) o refl refl refl (λ settings earlier x. refl))

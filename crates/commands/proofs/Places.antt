@@ -10,7 +10,8 @@ get_some [] k h = absurd (omega arith)
 get_some (x ∷ xs) zero h = (x, refl)
 get_some (x ∷ xs) (suc k) h = get_some xs k (omega arith)
 
-found_here : {X : Type 0} (p : X → Bool) (y x : X) (rest : Option X) (b : Bool) → p y ≡ b → (rest ≡ Some x → p x ≡ true) → cond b (Some y) rest ≡ Some x → p x ≡ true
+found_here : {X : Type 0} (p : X → Bool) (y x : X) (rest : Option X) (b : Bool) → p y ≡ b
+    → (rest ≡ Some x → p x ≡ true) → cond b (Some y) rest ≡ Some x → p x ≡ true
 found_here p y x rest true is later f = let same : y ≡ x = cc in ap p (sym same) ∙ is
 found_here p y x rest false is later f = later f
 
@@ -26,14 +27,26 @@ pub record IsFound {X : Type 0} (p : X → Bool) (xs : List X) (i : ℕ) : Type 
   pub found : find p xs ≡ Some item
   pub first : i ≡ position_or_len p xs
 
-at_slot : {X : Type 0} (p : X → Bool) (xs : List X) (k : ℕ) (b : Bool) → nat_lt k (length xs) ≡ b → find p xs ≡ slice_get xs k → k ≡ position_or_len p xs
+at_slot : {X : Type 0} (p : X → Bool) (xs : List X) (k : ℕ) (b : Bool) → nat_lt k (length xs) ≡ b
+    → find p xs ≡ slice_get xs k → k ≡ position_or_len p xs
     → MatchOption (cond b (Some k) None) (find p xs ≡ None) (IsFound p xs)
 at_slot p xs k true e f first =
     let below : k < length xs = grind (arith, nat_tests) in
     let got = get_some xs k below in
-    record { item = got.0; at = got.1; passes = find_passes p xs got.0 (f ∙ got.1); found = f ∙ got.1; first = first }
-at_slot p xs k false e f first = let above : length xs ≤ k = grind (arith, nat_tests) in f ∙ slice_get_past xs k above
+    record {
+      item = got.0;
+      at = got.1;
+      passes = find_passes p xs got.0 (f ∙ got.1);
+      found = f
+          ∙ got.1;
+      first = first;
+    }
+at_slot p xs k false e f first =
+    let above : length xs ≤ k = grind (arith, nat_tests) in f ∙ slice_get_past xs k above
 
 -- what a place, or none, says of the items
-pub found_at : {X : Type 0} (p : X → Bool) (xs : List X) → MatchOption (position p xs) (find p xs ≡ None) (IsFound p xs)
-found_at p xs = at_slot p xs (position_or_len p xs) (nat_lt (position_or_len p xs) (length xs)) refl (find_at p xs) refl
+pub found_at : {X : Type 0} (p : X → Bool) (xs : List X)
+    → MatchOption (position p xs) (find p xs ≡ None) (IsFound p xs)
+found_at p xs =
+    at_slot p xs (position_or_len p xs) (nat_lt (position_or_len p xs) (length xs)) refl
+    (find_at p xs) refl

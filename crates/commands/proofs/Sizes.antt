@@ -1,4 +1,5 @@
--- What every list of accepted commands keeps to: names and numbers in their ranges, and at most 999 entrants in a round.
+-- What every list of accepted commands keeps to: names and numbers in their ranges, and at most 999
+-- entrants in a round.
 use Rattle.std.proofs.Common.{◌≡◌, ℕ, zero, suc, ◌+◌, ◌-◌, ◌*◌, ◌/◌, ◌<◌, ◌≤◌, Bool, true, false, ◌&&◌, ◌==◌, not, cond, nat_le, List, [], ◌∷◌, ◌++◌, length, take, set, map, filter, flat_map, fold, Option, Some, None, IfSome, option_map, is_some, Result, Ok, Err, IfOk, refl, sym, ap, ◌∙◌, subst, arith, append-nil, length-append, eqb-true}
 use Rattle.std.specs.List.{range_with_len, AllByRecursion, list_any}
 use Rattle.std.specs.Option.{option_or, option_and_then}
@@ -15,28 +16,30 @@ use Rattle.attempts.specs.declared.Value.{Value}
 use Rattle.attempts.specs.declared.Value.TheVariants as value
 use Rattle.attempts.specs.Attempts.{rounded, reaches, solution_value, IsInRange}
 use Rattle.formats.specs.declared.events.Event.{Event}
-use Rattle.formats.specs.Events.{same_event, same_event-equal}
+use Rattle.formats.specs.Events.{same_event}
+use Rattle.formats.proofs.SameEvent.{same_event-equal}
 use Rattle.rounds.specs.Tables.{Entrant, Table, has_number, enter_fault, plus_value, with_replaced, less_last, number_of_entrant, place, standings}
 use Rattle.rounds.specs.declared.faults.EnterFault.TheVariants as enter
-use Rattle.advancement.specs.declared.Advance.{Advance}
+use Rattle.formats.specs.declared.advance.Advance.{Advance}
 use Rattle.advancement.specs.Advancing.{goes_on}
-use Rattle.commands.specs.declared.answer.Code.{Code}
-use Rattle.commands.specs.declared.answer.Code.TheVariants as code
-use Rattle.commands.specs.declared.command.Command.{Command}
-use Rattle.commands.specs.declared.command.Command.TheVariants.{Register, Open, Enter, Scramble, Attempt, Correct, Strike, SetAdvance, Close}
-use Rattle.commands.specs.declared.command.Entered.{Entered}
-use Rattle.commands.specs.declared.command.Entered.TheVariants as entered
-use Rattle.commands.specs.declared.command.Settings.{Settings}
-use Rattle.commands.specs.declared.reading.CommandFault.{CommandFault}
-use Rattle.commands.specs.Spelling.{IsFit, IsFitSettings, IsFitAdvance, IsEntered}
-use Rattle.commands.specs.Reading.{command_of}
+use Rattle.texts.specs.declared.answer.Code.{Code}
+use Rattle.texts.specs.declared.answer.Code.TheVariants as code
+use Rattle.texts.specs.declared.command.Command.{Command}
+use Rattle.texts.specs.declared.command.Command.TheVariants.{Register, Open, Enter, Scramble, Attempt, Correct, Strike, SetAdvance, Close}
+use Rattle.texts.specs.declared.command.Entered.{Entered}
+use Rattle.texts.specs.declared.command.Entered.TheVariants as entered
+use Rattle.texts.specs.declared.command.Settings.{Settings}
+use Rattle.texts.specs.declared.reading.CommandFault.{CommandFault}
+use Rattle.texts.specs.Spelling.{IsFit, IsFitSettings, IsFitAdvance, IsEntered}
+use Rattle.texts.specs.Reading.{command_of}
 use Rattle.commands.specs.Accepted.{name_given, name_of, is_registered, settled, who_advance, round_in, round_of, refusal, enter_code, enter_refusal, scramble_of}
-use Rattle.commands.specs.Kept.{with_attempt, with_correction, with_strike, with_advance, with_end, with_entry, newcomer}
+use Rattle.commands.specs.model.Kept.{with_attempt, with_correction, with_strike, with_advance, with_end, with_entry, newcomer}
 use Rattle.commands.specs.History.{History, nothing, is_seen, added_read, read_refusal, after, history}
 use Rattle.commands.proofs.Lookups.{first_push}
-use Rattle.commands.proofs.FieldSpellings.{name_short}
-use Rattle.commands.proofs.OneMore.{with_table, opening_table, round_open, round_enter, round_scramble, round_attempt, round_correct, round_strike, round_advance, round_close, round_register}
-use Rattle.commands.proofs.Words.{spelled_only}
+use Rattle.texts.proofs.FieldSpellings.{name_short}
+use Rattle.commands.proofs.EachCommand.{opening_table, round_open, round_enter, round_scramble, round_attempt, round_correct, round_strike, round_advance, round_close, round_register}
+use Rattle.commands.proofs.OneMore.{with_table}
+use Rattle.texts.proofs.Words.{spelled_only}
 
 -- an entrant's number and values are in their ranges
 pub record IsSmallEntrant (e : Entrant) : Type 0 where
@@ -57,43 +60,53 @@ pub record IsSmall (cs : List Command) : Type 0 where
 
 -- Lists
 
-all_append : {X : Type 0} (P : X → Type 0) (xs ys : List X) → AllByRecursion P xs → AllByRecursion P ys → AllByRecursion P (xs ++ ys)
+all_append : {X : Type 0} (P : X → Type 0) (xs ys : List X) → AllByRecursion P xs
+    → AllByRecursion P ys → AllByRecursion P (xs ++ ys)
 all_append P [] ys h k = k
 all_append P (x ∷ xs) ys h k = (h.0, all_append P xs ys h.1 k)
 
-all_map : {X Y : Type 0} (P : X → Type 0) (Q : Y → Type 0) (f : X → Y) → ((x : X) → P x → Q (f x)) → (xs : List X) → AllByRecursion P xs → AllByRecursion Q (map f xs)
+all_map : {X Y : Type 0} (P : X → Type 0) (Q : Y → Type 0) (f : X → Y) → ((x : X) → P x → Q (f x))
+    → (xs : List X) → AllByRecursion P xs → AllByRecursion Q (map f xs)
 all_map P Q f each [] h = tt
 all_map P Q f each (x ∷ xs) h = (each x h.0, all_map P Q f each xs h.1)
 
-all_take : {X : Type 0} (P : X → Type 0) (k : ℕ) (xs : List X) → AllByRecursion P xs → AllByRecursion P (take k xs)
+all_take : {X : Type 0} (P : X → Type 0) (k : ℕ) (xs : List X) → AllByRecursion P xs
+    → AllByRecursion P (take k xs)
 all_take P zero xs h = tt
 all_take P (suc k) [] h = tt
 all_take P (suc k) (x ∷ xs) h = (h.0, all_take P k xs h.1)
 
-all_set : {X : Type 0} (P : X → Type 0) (xs : List X) (i : ℕ) (y : X) → AllByRecursion P xs → P y → AllByRecursion P (set xs i y)
+all_set : {X : Type 0} (P : X → Type 0) (xs : List X) (i : ℕ) (y : X) → AllByRecursion P xs → P y
+    → AllByRecursion P (set xs i y)
 all_set P [] i y h is = h
 all_set P (x ∷ xs) zero y h is = (is, h.1)
 all_set P (x ∷ xs) (suc i) y h is = (h.0, all_set P xs i y h.1 is)
 
-all_filter : {X : Type 0} (P : X → Type 0) (p : X → Bool) (xs : List X) → AllByRecursion P xs → AllByRecursion P (filter p xs)
+all_filter : {X : Type 0} (P : X → Type 0) (p : X → Bool) (xs : List X) → AllByRecursion P xs
+    → AllByRecursion P (filter p xs)
 all_filter P p [] h = tt
 all_filter {X} P p (x ∷ xs) h = step (p x) (all_filter P p xs h.1)
   where
-    step : (b : Bool) → AllByRecursion P (filter p xs) → AllByRecursion P (cond b (x ∷ filter p xs) (filter p xs))
+    step : (b : Bool) → AllByRecursion P (filter p xs)
+        → AllByRecursion P (cond b (x ∷ filter p xs) (filter p xs))
     step true rest = (h.0, rest)
     step false rest = rest
 
-all_flat_map : {X Y : Type 0} (P : Y → Type 0) (f : X → List Y) → ((x : X) → AllByRecursion P (f x)) → (xs : List X) → AllByRecursion P (flat_map f xs)
+all_flat_map : {X Y : Type 0} (P : Y → Type 0) (f : X → List Y) → ((x : X) → AllByRecursion P (f x))
+    → (xs : List X) → AllByRecursion P (flat_map f xs)
 all_flat_map P f each [] = tt
-all_flat_map P f each (x ∷ xs) = all_append P (f x) (flat_map f xs) (each x) (all_flat_map P f each xs)
+all_flat_map P f each (x ∷ xs) =
+    all_append P (f x) (flat_map f xs) (each x) (all_flat_map P f each xs)
 
 -- Standings
 
 -- those at a place and those behind it are no more than those from the place on
 from_place : (f : Entrant → ℕ) (a : ℕ) (es : List Entrant)
-    → length (filter (λ e. f e == a) es) + length (filter (λ e. nat_le (a + 1) (f e)) es) ≤ length (filter (λ e. nat_le a (f e)) es)
+    → length (filter (λ e. f e == a) es) + length (filter (λ e. nat_le (a + 1) (f e)) es) ≤ length
+    (filter (λ e. nat_le a (f e)) es)
 from_place f a [] = omega arith
-from_place f a (e ∷ es) = step (f e == a) (nat_le (a + 1) (f e)) (nat_le a (f e)) refl refl refl (from_place f a es)
+from_place f a (e ∷ es) =
+    step (f e == a) (nat_le (a + 1) (f e)) (nat_le a (f e)) refl refl refl (from_place f a es)
   where
     here : List Entrant
     here = filter (λ x. f x == a) es
@@ -104,8 +117,10 @@ from_place f a (e ∷ es) = step (f e == a) (nat_le (a + 1) (f e)) (nat_le a (f 
     from : List Entrant
     from = filter (λ x. nat_le a (f x)) es
 
-    step : (p q r : Bool) → (f e == a) ≡ p → nat_le (a + 1) (f e) ≡ q → nat_le a (f e) ≡ r → length here + length behind ≤ length from
-        → length (cond p (e ∷ here) here) + length (cond q (e ∷ behind) behind) ≤ length (cond r (e ∷ from) from)
+    step : (p q r : Bool) → (f e == a) ≡ p → nat_le (a + 1) (f e) ≡ q → nat_le a (f e) ≡ r
+        → length here + length behind ≤ length from
+        → length (cond p (e ∷ here) here) + length (cond q (e ∷ behind) behind) ≤ length
+        (cond r (e ∷ from) from)
     step true true r is_p is_q is_r h = absurd (grind (arith, nat_tests))
     step true false true is_p is_q is_r h = omega arith
     step true false false is_p is_q is_r h = absurd (grind (arith, nat_tests))
@@ -115,22 +130,41 @@ from_place f a (e ∷ es) = step (f e == a) (nat_le (a + 1) (f e)) (nat_le a (f 
     step false false false is_p is_q is_r h = h
 
 by_places : (f : Entrant → ℕ) (es : List Entrant) (a n : ℕ)
-    → length (flat_map (λ p. map number_of_entrant (filter (λ e. f e == p) es)) (range_with_len a n)) ≤ length (filter (λ e. nat_le a (f e)) es)
+    → length
+    (flat_map (λ p. map number_of_entrant (filter (λ e. f e == p) es)) (range_with_len a n)) ≤
+    length (filter (λ e. nat_le a (f e)) es)
 by_places f es a zero = omega arith
 by_places f es a (suc n) =
     let here : List Entrant = filter (λ e. f e == a) es in
-    let rest = flat_map (λ p. map number_of_entrant (filter (λ e. f e == p) es)) (range_with_len (a + 1) n) in
-    omega (arith, length-append (map number_of_entrant here) rest, length-map here number_of_entrant, by_places f es (a + 1) n, from_place f a es)
+    let rest =
+    flat_map (λ p. map number_of_entrant (filter (λ e. f e == p) es)) (range_with_len (a + 1) n) in
+    omega (
+      arith,
+      length-append (map number_of_entrant here) rest,
+      length-map here number_of_entrant,
+      by_places f es (a + 1) n,
+      from_place f a es,
+    )
 
 -- standings have no more numbers than the table has entrants
 pub standings_few : (t : Table) → length (standings t) ≤ length t.entrants
 standings_few t =
-    omega (arith, by_places (place t) t.entrants 1 (length t.entrants), length-filter (λ e. nat_le 1 (place t e)) t.entrants, count_by-le-length (λ e. nat_le 1 (place t e)) t.entrants)
+    omega (
+      arith,
+      by_places (place t) t.entrants 1 (length t.entrants),
+      length-filter (λ e. nat_le 1 (place t e)) t.entrants,
+      count_by-le-length (λ e. nat_le 1 (place t e)) t.entrants,
+    )
 
-standings_small : (t : Table) → AllByRecursion IsSmallEntrant t.entrants → AllByRecursion (λ n. n ≤ 9999) (standings t)
+standings_small : (t : Table) → AllByRecursion IsSmallEntrant t.entrants
+    → AllByRecursion (λ n. n ≤ 9999) (standings t)
 standings_small t h =
-    all_flat_map (λ n. n ≤ 9999) (λ p. map number_of_entrant (filter (λ e. place t e == p) t.entrants))
-    (λ p. all_map IsSmallEntrant (λ n. n ≤ 9999) number_of_entrant (λ e is. is.number) (filter (λ e. place t e == p) t.entrants) (all_filter IsSmallEntrant (λ e. place t e == p) t.entrants h))
+    all_flat_map (λ n. n ≤ 9999)
+    (λ p. map number_of_entrant (filter (λ e. place t e == p) t.entrants))
+    (λ p.
+    all_map IsSmallEntrant (λ n. n ≤ 9999) number_of_entrant (λ e is. is.number)
+    (filter (λ e. place t e == p) t.entrants)
+    (all_filter IsSmallEntrant (λ e. place t e == p) t.entrants h))
     (range_with_len 1 (length t.entrants))
 
 -- Values
@@ -143,18 +177,24 @@ rounded_small n small = step (nat_le n 60000)
     step false = let less = div-mul-le_self (n + 50) 100 in omega (arith, less, small)
 
 -- what was entered settles to a value in its range
-settled_small : (settings : Settings) (scramble : Option (List Move)) (x : Entered) → IsEntered x → IsInRange (settled settings scramble x)
+settled_small : (settings : Settings) (scramble : Option (List Move)) (x : Entered) → IsEntered x
+    → IsInRange (settled settings scramble x)
 unfolding result_of
-settled_small settings scramble (entered.Time time penalties) is = step (reaches settings.limit time)
+settled_small settings scramble (entered.Time time penalties) is =
+    step (reaches settings.limit time)
   where
-    step : (b : Bool) → IsInRange (cond b value.Dnf (value.Number (rounded (time + 200 * penalties))))
+    step : (b : Bool)
+        → IsInRange (cond b value.Dnf (value.Number (rounded (time + 200 * penalties))))
     step true = tt
     step false = rounded_small (time + 200 * penalties) (omega (arith, is.0.1, is.1.1))
 settled_small settings None (entered.Solution solution) is = tt
-settled_small settings (Some scramble) (entered.Solution solution) is = step (is_solution scramble solution)
+settled_small settings (Some scramble) (entered.Solution solution) is =
+    step (is_solution scramble solution)
   where
     step : (b : Bool) → IsInRange (solution_value (cond b (fm.Moves (turn_count solution)) fm.Dnf))
-    step true = let less = count_by-le-length (λ (move : Move). is_turn move.kind) solution in omega (arith, less, is.1)
+    step true =
+        let less = count_by-le-length (λ (move : Move). is_turn move.kind) solution in
+        omega (arith, less, is.1)
     step false = tt
 settled_small settings scramble entered.Dnf is = tt
 settled_small settings scramble entered.Dns is = tt
@@ -162,12 +202,15 @@ settled_small settings scramble entered.Dns is = tt
 -- Entrants and rounds
 
 -- an entrant whose values are changed, or not
-entrant_small : (b : Bool) (e : Entrant) (vs : List Value) → IsSmallEntrant e → AllByRecursion IsInRange vs → IsSmallEntrant (cond b (record e { values = vs }) e)
+entrant_small : (b : Bool) (e : Entrant) (vs : List Value) → IsSmallEntrant e
+    → AllByRecursion IsInRange vs → IsSmallEntrant (cond b (record e { values = vs }) e)
 entrant_small true e vs h is = record { number = h.number; values = is }
 entrant_small false e vs h is = h
 
 -- a round of which each entrant is changed
-each_small : (r : ℕ) (f : Entrant → Entrant) → ((e : Entrant) → IsSmallEntrant e → IsSmallEntrant (f e)) → (x : Settings × Table) → IsSmallRound r x
+each_small : (r : ℕ) (f : Entrant → Entrant)
+    → ((e : Entrant) → IsSmallEntrant e → IsSmallEntrant (f e)) → (x : Settings × Table)
+    → IsSmallRound r x
     → IsSmallRound r (x.0, record x.1 { entrants = map f x.1.entrants })
 each_small r f each x h = record {
   last = h.last;
@@ -176,78 +219,133 @@ each_small r f each x h = record {
   entrants = all_map IsSmallEntrant IsSmallEntrant f each x.1.entrants h.entrants;
 }
 
-attempt_small : (r n : ℕ) (scramble : Option (List Move)) (y : Entered) → IsEntered y → (x : Settings × Table) → IsSmallRound r x → IsSmallRound r (with_attempt n scramble y x)
+attempt_small : (r n : ℕ) (scramble : Option (List Move)) (y : Entered) → IsEntered y
+    → (x : Settings × Table) → IsSmallRound r x → IsSmallRound r (with_attempt n scramble y x)
 attempt_small r n scramble y fits x h =
     each_small r (plus_value n (settled x.0 scramble y))
-    (λ e is. entrant_small (has_number n e) e _ is (all_append IsInRange e.values _ is.values (settled_small x.0 scramble y fits, tt))) x h
+    (λ e is.
+    entrant_small (has_number n e) e _ is
+    (all_append IsInRange e.values _ is.values (settled_small x.0 scramble y fits, tt)))
+    x h
 
-correction_small : (r n k : ℕ) (scramble : Option (List Move)) (y : Entered) → IsEntered y → (x : Settings × Table) → IsSmallRound r x → IsSmallRound r (with_correction n k scramble y x)
+correction_small : (r n k : ℕ) (scramble : Option (List Move)) (y : Entered) → IsEntered y
+    → (x : Settings × Table) → IsSmallRound r x → IsSmallRound r (with_correction n k scramble y x)
 correction_small r n k scramble y fits x h =
     each_small r (with_replaced n k (settled x.0 scramble y))
-    (λ e is. entrant_small (has_number n e) e _ is (all_set IsInRange e.values (k - 1) _ is.values (settled_small x.0 scramble y fits))) x h
+    (λ e is.
+    entrant_small (has_number n e) e _ is
+    (all_set IsInRange e.values (k - 1) _ is.values (settled_small x.0 scramble y fits)))
+    x h
 
-strike_small : (r n : ℕ) (x : Settings × Table) → IsSmallRound r x → IsSmallRound r (with_strike n x)
+strike_small : (r n : ℕ) (x : Settings × Table) → IsSmallRound r x
+    → IsSmallRound r (with_strike n x)
 strike_small r n x h =
-    each_small r (less_last n) (λ e is. entrant_small (has_number n e) e _ is (all_take IsInRange (length e.values - 1) e.values is.values)) x h
+    each_small r (less_last n)
+    (λ e is.
+    entrant_small (has_number n e) e _ is
+    (all_take IsInRange (length e.values - 1) e.values is.values))
+    x h
 
-advance_small : (r : ℕ) (advance : Advance) → IsFitAdvance advance → (x : Settings × Table) → IsSmallRound r x → IsSmallRound r (with_advance advance x)
-advance_small r advance fits x h = record { last = h.last; settings = (h.settings.0, h.settings.1, fits); few = h.few; entrants = h.entrants }
+advance_small : (r : ℕ) (advance : Advance) → IsFitAdvance advance → (x : Settings × Table)
+    → IsSmallRound r x → IsSmallRound r (with_advance advance x)
+advance_small r advance fits x h =
+    record {
+      last = h.last;
+      settings = (h.settings.0, h.settings.1, fits);
+      few = h.few;
+      entrants = h.entrants;
+    }
 
 end_small : (r : ℕ) (x : Settings × Table) → IsSmallRound r x → IsSmallRound r (with_end x)
-end_small r x h = record { last = h.last; settings = h.settings; few = h.few; entrants = h.entrants }
+end_small r x h =
+    record { last = h.last; settings = h.settings; few = h.few; entrants = h.entrants }
 
-entry_small : (r n : ℕ) → n ≤ 9999 → (x : Settings × Table) → length x.1.entrants < 999 → IsSmallRound r x → IsSmallRound r (with_entry n x)
+entry_small : (r n : ℕ) → n ≤ 9999 → (x : Settings × Table) → length x.1.entrants < 999
+    → IsSmallRound r x → IsSmallRound r (with_entry n x)
 entry_small r n fits x room h = record {
   last = h.last;
   settings = h.settings;
   few = let long = length-append x.1.entrants (newcomer n ∷ []) in omega (arith, long, room);
-  entrants = all_append IsSmallEntrant x.1.entrants (newcomer n ∷ []) h.entrants (record { number = fits; values = tt }, tt);
+  entrants =
+      all_append IsSmallEntrant x.1.entrants (newcomer n ∷ []) h.entrants
+      (record { number = fits; values = tt }, tt);
 }
 
 some≢none : {X : Type 0} (x : X) → Some x ≡ None → ⊥
 some≢none x h = false≢true (sym (ap is_some h))
 
 -- a table that takes an entry has room for it
-has_room : (n : ℕ) (t : Table) → option_and_then enter_code (enter_fault t n) ≡ None → length t.entrants < 999
-has_room n t h = let room = step t.is_closed (list_any (has_number n) t.entrants) (nat_le 999 (length t.entrants)) h in grind (arith, nat_tests)
+has_room : (n : ℕ) (t : Table) → option_and_then enter_code (enter_fault t n) ≡ None
+    → length t.entrants < 999
+has_room n t h =
+    let room =
+    step t.is_closed (list_any (has_number n) t.entrants) (nat_le 999 (length t.entrants)) h in
+    grind (arith, nat_tests)
   where
-    step : (a b c : Bool) → option_and_then enter_code (cond a (Some enter.Closed) (cond b (Some enter.Already) (cond c (Some enter.Full) None))) ≡ None → c ≡ false
+    step : (a b c : Bool)
+        → option_and_then enter_code
+        (cond a (Some enter.Closed) (cond b (Some enter.Already) (cond c (Some enter.Full) None)))
+        ≡ None
+        → c ≡ false
     step true b c h = absurd (some≢none code.Closed h)
     step false true c h = absurd (some≢none code.Already h)
     step false false true h = absurd (some≢none code.Full h)
     step false false false h = refl
 
-enters : (n : ℕ) (b : Bool) (round : Option (Settings × Table)) → cond (not b) (Some code.UnknownCompetitor) (enter_refusal n round) ≡ None → enter_refusal n round ≡ None
+enters : (n : ℕ) (b : Bool) (round : Option (Settings × Table))
+    → cond (not b) (Some code.UnknownCompetitor) (enter_refusal n round) ≡ None
+    → enter_refusal n round ≡ None
 enters n true round h = h
 enters n false round h = absurd (some≢none code.UnknownCompetitor h)
 
 -- those who advance from a small round
-advance_few : (r : ℕ) (x : Option (Settings × Table)) → IfSome x (IsSmallRound r) → length (who_advance x) ≤ 999
+advance_few : (r : ℕ) (x : Option (Settings × Table)) → IfSome x (IsSmallRound r)
+    → length (who_advance x) ≤ 999
 advance_few r None h = omega arith
 advance_few r (Some x) h =
-    omega (arith, length-filter (goes_on x.1 x.0.advance) (standings x.1), count_by-le-length (goes_on x.1 x.0.advance) (standings x.1), standings_few x.1, h.few)
+    omega (
+      arith,
+      length-filter (goes_on x.1 x.0.advance) (standings x.1),
+      count_by-le-length (goes_on x.1 x.0.advance) (standings x.1),
+      standings_few x.1,
+      h.few,
+    )
 
-advance_numbers : (r : ℕ) (x : Option (Settings × Table)) → IfSome x (IsSmallRound r) → AllByRecursion (λ n. n ≤ 9999) (who_advance x)
+advance_numbers : (r : ℕ) (x : Option (Settings × Table)) → IfSome x (IsSmallRound r)
+    → AllByRecursion (λ n. n ≤ 9999) (who_advance x)
 advance_numbers r None h = tt
-advance_numbers r (Some x) h = all_filter (λ n. n ≤ 9999) (goes_on x.1 x.0.advance) (standings x.1) (standings_small x.1 h.entrants)
+advance_numbers r (Some x) h =
+    all_filter (λ n. n ≤ 9999) (goes_on x.1 x.0.advance) (standings x.1)
+    (standings_small x.1 h.entrants)
 
-opening_small : (e : Event) (r : ℕ) (settings : Settings) (cs : List Command) → r ≤ 4 → IsFitSettings settings → IsSmall cs → IsSmallRound r (with_table settings (opening_table e r settings cs))
+opening_small : (e : Event) (r : ℕ) (settings : Settings) (cs : List Command) → r ≤ 4
+    → IsFitSettings settings → IsSmall cs
+    → IsSmallRound r (with_table settings (opening_table e r settings cs))
 opening_small e r settings cs last fits h =
     let first : List ℕ = who_advance (round_of cs e (r - 1)) in
     record {
       last = last;
       settings = fits;
-      few = let few = advance_few (r - 1) (round_of cs e (r - 1)) (h.rounds e (r - 1)) in let same = length-map first newcomer in omega (arith, few, same);
-      entrants = all_map (λ n. n ≤ 9999) IsSmallEntrant newcomer (λ n is. record { number = is; values = tt }) first (advance_numbers (r - 1) (round_of cs e (r - 1)) (h.rounds e (r - 1)));
+      few =
+          let few = advance_few (r - 1) (round_of cs e (r - 1)) (h.rounds e (r - 1)) in
+          let same = length-map first newcomer in omega (arith, few, same);
+      entrants =
+          all_map (λ n. n ≤ 9999) IsSmallEntrant newcomer
+          (λ n is. record { number = is; values = tt }) first
+          (advance_numbers (r - 1) (round_of cs e (r - 1)) (h.rounds e (r - 1)));
     }
 
 -- One more command
 
-either : {X : Type 0} (P : X → Type 0) (a b : Option X) → IfSome a P → IfSome b P → IfSome (option_or a b) P
+either : {X : Type 0} (P : X → Type 0) (a b : Option X) → IfSome a P → IfSome b P
+    → IfSome (option_or a b) P
 either P None b h k = k
 either P (Some x) b h k = h
 
-changed : (r : ℕ) (b : Bool) (change : Settings × Table → Settings × Table) (x : Option (Settings × Table)) → IfSome x (IsSmallRound r) → ((y : Settings × Table) → IsSmallRound r y → IsSmallRound r (change y))
+changed : (r : ℕ) (b : Bool) (change : Settings × Table → Settings × Table)
+    (x : Option (Settings × Table))
+    → IfSome x (IsSmallRound r)
+    → ((y : Settings × Table) → IsSmallRound r y → IsSmallRound r (change y))
     → IfSome (cond b (option_map change x) x) (IsSmallRound r)
 changed r true change None h f = tt
 changed r true change (Some y) h f = f y h
@@ -257,14 +355,22 @@ abbrev HasShortName : Command → Type 0
 HasShortName c = (n : ℕ) → IfSome (name_given n c) (λ name. length name ≤ 80)
 
 -- one more command that gives no long name and makes no large round
-small_with : (cs : List Command) (c : Command) → HasShortName c → ((e : Event) (r : ℕ) → IfSome (round_of (cs ++ c ∷ []) e r) (IsSmallRound r)) → IsSmall cs → IsSmall (cs ++ c ∷ [])
+small_with : (cs : List Command) (c : Command) → HasShortName c
+    → ((e : Event) (r : ℕ) → IfSome (round_of (cs ++ c ∷ []) e r) (IsSmallRound r)) → IsSmall cs
+    → IsSmall (cs ++ c ∷ [])
 small_with cs c named rounds h = record {
-  names = λ n. subst (λ o. IfSome o (λ (name : List ℕ). length name ≤ 80)) (sym (first_push (name_given n) cs c)) (either (λ (name : List ℕ). length name ≤ 80) (name_of cs n) (name_given n c) (h.names n) (named n));
+  names =
+      λ n.
+      subst (λ o. IfSome o (λ (name : List ℕ). length name ≤ 80))
+      (sym (first_push (name_given n) cs c))
+      (either (λ (name : List ℕ). length name ≤ 80) (name_of cs n) (name_given n c) (h.names n)
+      (named n));
   rounds = rounds;
 }
 
 -- by what the round is after the command
-round_is : (r : ℕ) (new old : Option (Settings × Table)) → new ≡ old → IfSome old (IsSmallRound r) → IfSome new (IsSmallRound r)
+round_is : (r : ℕ) (new old : Option (Settings × Table)) → new ≡ old → IfSome old (IsSmallRound r)
+    → IfSome new (IsSmallRound r)
 round_is r new old is h = subst (λ o. IfSome o (IsSmallRound r)) (sym is) h
 
 register_small : (n : ℕ) (name : List ℕ) → length name ≤ 80 → HasShortName (Register n name)
@@ -274,86 +380,141 @@ register_small n name short m = step (n == m)
     step true = short
     step false = tt
 
-entered_small : (cs : List Command) (e f : Event) (r n : ℕ) → n ≤ 9999 → enter_refusal n (round_of cs f 1) ≡ None → IsSmall cs
-    → IfSome (cond (same_event e f && r == 1) (option_map (with_entry n) (round_of cs e r)) (round_of cs e r)) (IsSmallRound r)
+entered_small : (cs : List Command) (e f : Event) (r n : ℕ) → n ≤ 9999
+    → enter_refusal n (round_of cs f 1) ≡ None → IsSmall cs
+    → IfSome
+    (cond (same_event e f && r == 1) (option_map (with_entry n) (round_of cs e r))
+    (round_of cs e r))
+    (IsSmallRound r)
 entered_small cs e f r n fits allowed h = step (same_event e f && r == 1) refl
   where
-    there : (x : Option (Settings × Table)) → IfSome x (IsSmallRound r) → enter_refusal n x ≡ None → IfSome (option_map (with_entry n) x) (IsSmallRound r)
+    there : (x : Option (Settings × Table)) → IfSome x (IsSmallRound r) → enter_refusal n x ≡ None
+        → IfSome (option_map (with_entry n) x) (IsSmallRound r)
     there None is enters = tt
     there (Some x) is enters = entry_small r n fits x (has_room n x.1 enters) is
 
-    step : (b : Bool) → (same_event e f && r == 1) ≡ b → IfSome (cond b (option_map (with_entry n) (round_of cs e r)) (round_of cs e r)) (IsSmallRound r)
+    step : (b : Bool) → (same_event e f && r == 1) ≡ b
+        → IfSome (cond b (option_map (with_entry n) (round_of cs e r)) (round_of cs e r))
+        (IsSmallRound r)
     step true here =
         let event : e ≡ f = same_event-equal e f (grind arith) in
         let round : r ≡ 1 = eqb-true r 1 (grind arith) in
-        there (round_of cs e r) (h.rounds e r) (ap (λ (x : Event). enter_refusal n (round_of cs x r)) event ∙ ap (λ (s : ℕ). enter_refusal n (round_of cs f s)) round ∙ allowed)
+        there (round_of cs e r) (h.rounds e r)
+        (ap (λ (x : Event). enter_refusal n (round_of cs x r)) event
+        ∙ ap (λ (s : ℕ). enter_refusal n (round_of cs f s)) round ∙ allowed)
     step false other = h.rounds e r
 
-opened_small : (cs : List Command) (e f : Event) (r s : ℕ) (settings : Settings) → s ≤ 4 → IsFitSettings settings → IsSmall cs
-    → IfSome (cond (same_event e f && r == s) (Some (with_table settings (opening_table f s settings cs))) None) (IsSmallRound r)
+opened_small : (cs : List Command) (e f : Event) (r s : ℕ) (settings : Settings) → s ≤ 4
+    → IsFitSettings settings → IsSmall cs
+    → IfSome
+    (cond (same_event e f && r == s) (Some (with_table settings (opening_table f s settings cs)))
+    None)
+    (IsSmallRound r)
 opened_small cs e f r s settings last fits h = step (same_event e f && r == s) refl
   where
-    step : (b : Bool) → (same_event e f && r == s) ≡ b → IfSome (cond b (Some (with_table settings (opening_table f s settings cs))) None) (IsSmallRound r)
+    step : (b : Bool) → (same_event e f && r == s) ≡ b
+        → IfSome (cond b (Some (with_table settings (opening_table f s settings cs))) None)
+        (IsSmallRound r)
     step true here =
         let round : r ≡ s = eqb-true r s (grind arith) in
-        subst (λ (k : ℕ). IsSmallRound k (with_table settings (opening_table f s settings cs))) (sym round) (opening_small f s settings cs last fits h)
+        subst (λ (k : ℕ). IsSmallRound k (with_table settings (opening_table f s settings cs)))
+        (sym round) (opening_small f s settings cs last fits h)
     step false other = tt
 
 -- one more command that is accepted
-small_more : (cs : List Command) (c : Command) → IsFit c → refusal cs c ≡ None → IsSmall cs → IsSmall (cs ++ c ∷ [])
+small_more : (cs : List Command) (c : Command) → IsFit c → refusal cs c ≡ None → IsSmall cs
+    → IsSmall (cs ++ c ∷ [])
 small_more cs (Register n name) fits allowed h =
-    small_with cs (Register n name) (register_small n name (name_short name fits.1)) (λ e r. round_is r _ _ (round_register e r n name cs) (h.rounds e r)) h
+    small_with cs (Register n name) (register_small n name (name_short name fits.1))
+    (λ e r. round_is r _ _ (round_register e r n name cs) (h.rounds e r)) h
 small_more cs (Open f s settings) fits allowed h =
-    small_with cs (Open f s settings) (λ n. tt) (λ e r. round_is r _ _ (round_open e f r s settings cs fits.0.0) (either (IsSmallRound r) _ _ (h.rounds e r) (opened_small cs e f r s settings fits.0.1 fits.1 h))) h
+    small_with cs (Open f s settings) (λ n. tt)
+    (λ e r.
+    round_is r _ _ (round_open e f r s settings cs fits.0.0)
+    (either (IsSmallRound r) _ _ (h.rounds e r)
+    (opened_small cs e f r s settings fits.0.1 fits.1 h)))
+    h
 small_more cs (Enter f n) fits allowed h =
     let free = enters n (is_registered cs n) (round_of cs f 1) allowed in
-    small_with cs (Enter f n) (λ m. tt) (λ e r. round_is r _ _ (round_enter e f r n cs) (entered_small cs e f r n fits.1 free h)) h
+    small_with cs (Enter f n) (λ m. tt)
+    (λ e r. round_is r _ _ (round_enter e f r n cs) (entered_small cs e f r n fits.1 free h)) h
 small_more cs (Scramble f s k moves) fits allowed h =
-    small_with cs (Scramble f s k moves) (λ n. tt) (λ e r. round_is r _ _ (round_scramble e f r s k moves cs) (h.rounds e r)) h
+    small_with cs (Scramble f s k moves) (λ n. tt)
+    (λ e r. round_is r _ _ (round_scramble e f r s k moves cs) (h.rounds e r)) h
 small_more cs (Attempt f s k m x) fits allowed h =
     small_with cs (Attempt f s k m x) (λ n. tt)
-    (λ e r. round_is r _ _ (round_attempt e f r s k m x cs) (changed r (same_event e f && r == s) (with_attempt m (scramble_of cs f s k) x) (round_of cs e r) (h.rounds e r) (attempt_small r m (scramble_of cs f s k) x fits.3))) h
+    (λ e r.
+    round_is r _ _ (round_attempt e f r s k m x cs)
+    (changed r (same_event e f && r == s) (with_attempt m (scramble_of cs f s k) x)
+    (round_of cs e r) (h.rounds e r) (attempt_small r m (scramble_of cs f s k) x fits.3)))
+    h
 small_more cs (Correct f s k m x) fits allowed h =
     small_with cs (Correct f s k m x) (λ n. tt)
-    (λ e r. round_is r _ _ (round_correct e f r s k m x cs) (changed r (same_event e f && r == s) (with_correction m k (scramble_of cs f s k) x) (round_of cs e r) (h.rounds e r) (correction_small r m k (scramble_of cs f s k) x fits.3))) h
+    (λ e r.
+    round_is r _ _ (round_correct e f r s k m x cs)
+    (changed r (same_event e f && r == s) (with_correction m k (scramble_of cs f s k) x)
+    (round_of cs e r) (h.rounds e r) (correction_small r m k (scramble_of cs f s k) x fits.3)))
+    h
 small_more cs (Strike f s m) fits allowed h =
     small_with cs (Strike f s m) (λ n. tt)
-    (λ e r. round_is r _ _ (round_strike e f r s m cs) (changed r (same_event e f && r == s) (with_strike m) (round_of cs e r) (h.rounds e r) (strike_small r m))) h
+    (λ e r.
+    round_is r _ _ (round_strike e f r s m cs)
+    (changed r (same_event e f && r == s) (with_strike m) (round_of cs e r) (h.rounds e r)
+    (strike_small r m)))
+    h
 small_more cs (SetAdvance f s advance) fits allowed h =
     small_with cs (SetAdvance f s advance) (λ n. tt)
-    (λ e r. round_is r _ _ (round_advance e f r s advance cs) (changed r (same_event e f && r == s) (with_advance advance) (round_of cs e r) (h.rounds e r) (advance_small r advance fits.1))) h
+    (λ e r.
+    round_is r _ _ (round_advance e f r s advance cs)
+    (changed r (same_event e f && r == s) (with_advance advance) (round_of cs e r) (h.rounds e r)
+    (advance_small r advance fits.1)))
+    h
 small_more cs (Close f s) fits allowed h =
     small_with cs (Close f s) (λ n. tt)
-    (λ e r. round_is r _ _ (round_close e f r s cs) (changed r (same_event e f && r == s) with_end (round_of cs e r) (h.rounds e r) (end_small r))) h
+    (λ e r.
+    round_is r _ _ (round_close e f r s cs)
+    (changed r (same_event e f && r == s) with_end (round_of cs e r) (h.rounds e r) (end_small r)))
+    h
 
 -- Entries
 
-small_answered : (cs : List Command) (c : Command) → IsFit c → IsSmall cs → (refused : Option Code) → refusal cs c ≡ refused → IsSmall (cs ++ added_read refused (Ok c))
+small_answered : (cs : List Command) (c : Command) → IsFit c → IsSmall cs → (refused : Option Code)
+    → refusal cs c ≡ refused → IsSmall (cs ++ added_read refused (Ok c))
 small_answered cs c fits h None is = small_more cs c fits is h
 small_answered cs c fits h (Some why) is = subst IsSmall (sym (append-nil cs)) h
 
-small_read : (cs : List Command) (read : Result Command CommandFault) → IfOk read IsFit → IsSmall cs → IsSmall (cs ++ added_read (read_refusal cs read) read)
+small_read : (cs : List Command) (read : Result Command CommandFault) → IfOk read IsFit → IsSmall cs
+    → IsSmall (cs ++ added_read (read_refusal cs read) read)
 small_read cs (Ok c) fits h = small_answered cs c fits h (refusal cs c) refl
 small_read cs (Err fault) fits h = subst IsSmall (sym (append-nil cs)) h
 
-read_fits : (bytes : List ℕ) (read : Result Command CommandFault) → command_of bytes ≡ read → IfOk read IsFit
+read_fits : (bytes : List ℕ) (read : Result Command CommandFault) → command_of bytes ≡ read
+    → IfOk read IsFit
 read_fits bytes (Ok c) is = (spelled_only bytes c is).0
 read_fits bytes (Err fault) is = tt
 
-small_after : (h : History) (id : ℕ) (text : List ℕ) → IsSmall h.accepted → IsSmall (after h id text).accepted
+small_after : (h : History) (id : ℕ) (text : List ℕ) → IsSmall h.accepted
+    → IsSmall (after h id text).accepted
 unfolding after
 small_after h id text small = step (is_seen h id)
   where
     more : List Command
     more = h.accepted ++ added_read (read_refusal h.accepted (command_of text)) (command_of text)
 
-    step : (b : Bool) → IsSmall (cond b h (let new : History = record { ids = h.ids ++ id ∷ []; accepted = more } in new)).accepted
+    step : (b : Bool)
+        → IsSmall
+        (cond b h
+        (let new : History = record { ids = h.ids ++ id ∷ []; accepted = more } in new)).accepted
     step true = small
-    step false = small_read h.accepted (command_of text) (read_fits text (command_of text) refl) small
+    step false =
+        small_read h.accepted (command_of text) (read_fits text (command_of text) refl) small
 
-small_fold : (h : History) (entries : List (ℕ × List ℕ)) → IsSmall h.accepted → IsSmall (fold (λ (x : History) (entry : ℕ × List ℕ). after x entry.0 entry.1) h entries).accepted
+small_fold : (h : History) (entries : List (ℕ × List ℕ)) → IsSmall h.accepted
+    → IsSmall
+    (fold (λ (x : History) (entry : ℕ × List ℕ). after x entry.0 entry.1) h entries).accepted
 small_fold h [] small = small
-small_fold h (entry ∷ entries) small = small_fold (after h entry.0 entry.1) entries (small_after h entry.0 entry.1 small)
+small_fold h (entry ∷ entries) small =
+    small_fold (after h entry.0 entry.1) entries (small_after h entry.0 entry.1 small)
 
 none_opened : (e : Event) (r : ℕ) → IfSome (round_of [] e r) (IsSmallRound r)
 unfolding round_in
@@ -362,4 +523,5 @@ none_opened e (suc r) = tt
 
 -- what a list of entries comes to is small
 pub small_history : (entries : List (ℕ × List ℕ)) → IsSmall (history entries).accepted
-small_history entries = small_fold nothing entries (record { names = λ n. tt; rounds = none_opened })
+small_history entries =
+    small_fold nothing entries (record { names = λ n. tt; rounds = none_opened })

@@ -1,4 +1,5 @@
--- What a list of accepted commands says: who is registered, which rounds were opened, and what was done in them.
+-- What a list of accepted commands says: who is registered, which rounds were opened, and what was
+-- done in them.
 use Rattle.std.specs.Prelude.{ℕ, zero, suc, ◌+◌, ◌-◌, Bool, true, false, not, ◌==◌, ◌&&◌, nat_lt, if◌then◌else◌, List, [], ◌∷◌, ◌++◌, map, unwrap_or, bytes_eq, option_to_list, is_some, Option, None, Some}
 use Rattle.std.specs.List.{list_any, range_with_len}
 use Rattle.std.specs.Option.{option_or, option_map, option_and_then}
@@ -13,13 +14,13 @@ use Rattle.attempts.specs.declared.Unit.TheVariants as measure
 use Rattle.formats.specs.declared.events.Event.{Event}
 use Rattle.formats.specs.declared.events.Format.{Format}
 use Rattle.formats.specs.Events.{same_event, unit_of, is_allowed, attempts_of}
-use Rattle.commands.specs.declared.command.Command.{Command}
-use Rattle.commands.specs.declared.command.Command.TheVariants.{Register, Open, Enter, Scramble, Attempt, Correct, Strike, SetAdvance, Close}
-use Rattle.commands.specs.declared.command.Entered.{Entered}
-use Rattle.commands.specs.declared.command.Entered.TheVariants as entered
-use Rattle.commands.specs.declared.command.Settings.{Settings}
-use Rattle.commands.specs.declared.answer.Code.{Code}
-use Rattle.commands.specs.declared.answer.Code.TheVariants as code
+use Rattle.texts.specs.declared.command.Command.{Command}
+use Rattle.texts.specs.declared.command.Command.TheVariants.{Register, Open, Enter, Scramble, Attempt, Correct, Strike, SetAdvance, Close}
+use Rattle.texts.specs.declared.command.Entered.{Entered}
+use Rattle.texts.specs.declared.command.Entered.TheVariants as entered
+use Rattle.texts.specs.declared.command.Settings.{Settings}
+use Rattle.texts.specs.declared.answer.Code.{Code}
+use Rattle.texts.specs.declared.answer.Code.TheVariants as code
 use Rattle.rounds.specs.declared.faults.EnterFault.{EnterFault}
 use Rattle.rounds.specs.declared.faults.EnterFault.TheVariants as enter
 use Rattle.rounds.specs.declared.faults.PutFault.{PutFault}
@@ -31,8 +32,8 @@ use Rattle.rounds.specs.declared.faults.StrikeFault.TheVariants as strike
 use Rattle.rounds.specs.declared.faults.CloseFault.{CloseFault}
 use Rattle.rounds.specs.declared.faults.CloseFault.TheVariants as close
 use Rattle.rounds.specs.Tables.{Entrant, Table, enter_fault, put_fault, replaced, correct_fault, without_last, strike_fault, started, close_fault}
-use Rattle.advancement.specs.declared.Advance.{Advance}
-use Rattle.advancement.specs.declared.Advance.TheVariants.{Final, Top, Percent}
+use Rattle.formats.specs.declared.advance.Advance.{Advance}
+use Rattle.formats.specs.declared.advance.Advance.TheVariants.{Final, Top, Percent}
 use Rattle.advancement.specs.Advancing.{later_rounds, advancing}
 
 -- Competitors
@@ -61,7 +62,8 @@ names_other n name _ = false
 
 -- Rounds
 
--- a round that was opened: the commands before its opening, the settings that it was opened with, and the commands since
+-- a round that was opened: the commands before its opening, the settings that it was opened with,
+-- and the commands since
 pub record Opened : Type 0 where
   pub before : List Command
   pub settings : Settings
@@ -76,11 +78,17 @@ opening e r _ = None
 abbrev pub opened : Event → ℕ → List Command → List Command → Option Opened
 opened e r earlier [] = None
 opened e r earlier (c ∷ cs) =
-    option_or (option_map (λ settings. record { before = earlier; settings = settings; since = cs }) (opening e r c)) (opened e r (earlier ++ c ∷ []) cs)
+    option_or (option_map (λ settings. record {
+      before =
+          earlier;
+      settings = settings;
+      since = cs;
+    }) (opening e r c)) (opened e r (earlier ++ c ∷ []) cs)
 
 -- the scramble that a command sets for an attempt
 abbrev pub scrambling : Event → ℕ → ℕ → Command → Option (List Move)
-scrambling e r k (Scramble f s j moves) = if same_event e f && r == s && k == j then Some moves else None
+scrambling e r k (Scramble f s j moves) =
+    if same_event e f && r == s && k == j then Some moves else None
 scrambling e r k _ = None
 
 -- the scramble of an attempt: the first that was set for it since its round was opened
@@ -111,29 +119,38 @@ abbrev pub entering : Event → ℕ → Command → Option ℕ
 entering e r (Enter f n) = if same_event e f && r == 1 then Some n else None
 entering e r _ = None
 
--- the values of a number after one more command; `earlier` are the commands between the opening and this one
+-- the values of a number after one more command; `earlier` are the commands between the opening and
+-- this one
 abbrev pub one_value : Event → ℕ → Settings → ℕ → List Command → List Value → Command → List Value
 one_value e r settings n earlier values (Attempt f s k m x) =
-    if same_event e f && r == s && m == n then values ++ settled settings (first_of (scrambling e r k) earlier) x ∷ [] else values
+    if same_event e f && r == s && m == n
+    then values ++ settled settings (first_of (scrambling e r k) earlier) x ∷ [] else values
 one_value e r settings n earlier values (Correct f s k m x) =
-    if same_event e f && r == s && m == n then replaced k (settled settings (first_of (scrambling e r k) earlier) x) values else values
-one_value e r settings n earlier values (Strike f s m) = if same_event e f && r == s && m == n then without_last values else values
+    if same_event e f && r == s && m == n
+    then replaced k (settled settings (first_of (scrambling e r k) earlier) x) values else values
+one_value e r settings n earlier values (Strike f s m) =
+    if same_event e f && r == s && m == n then without_last values else values
 one_value e r settings n earlier values _ = values
 
 -- the values of a number after more commands, one after the other
-abbrev pub values_after : Event → ℕ → Settings → ℕ → List Command → List Value → List Command → List Value
+abbrev pub values_after : Event → ℕ → Settings → ℕ → List Command → List Value → List Command
+    → List Value
 values_after e r settings n earlier values [] = values
-values_after e r settings n earlier values (c ∷ cs) = values_after e r settings n (earlier ++ c ∷ []) (one_value e r settings n earlier values c) cs
+values_after e r settings n earlier values (c ∷ cs) =
+    values_after e r settings n (earlier ++ c ∷ []) (one_value e r settings n earlier values c) cs
 
--- an entrant, with the values that these commands make; `earlier` are those between the opening and the entry
+-- an entrant, with the values that these commands make; `earlier` are those between the opening and
+-- the entry
 abbrev pub entrant_after : Event → ℕ → Settings → List Command → List Command → ℕ → Entrant
-entrant_after e r settings earlier cs n = record { number = n; values = values_after e r settings n earlier [] cs }
+entrant_after e r settings earlier cs n =
+    record { number = n; values = values_after e r settings n earlier [] cs }
 
 -- those whom these commands enter, in order of entry, each with the values since the entry
 abbrev pub entrants_after : Event → ℕ → Settings → List Command → List Command → List Entrant
 entrants_after e r settings earlier [] = []
 entrants_after e r settings earlier (c ∷ cs) =
-    option_to_list (option_map (entrant_after e r settings (earlier ++ c ∷ []) cs) (entering e r c)) ++ entrants_after e r settings (earlier ++ c ∷ []) cs
+    option_to_list (option_map (entrant_after e r settings (earlier ++ c ∷ []) cs) (entering e r c))
+    ++ entrants_after e r settings (earlier ++ c ∷ []) cs
 
 -- a command closes a round
 abbrev pub closing : Event → ℕ → Command → Bool
@@ -154,14 +171,17 @@ advance_after e r advance (c ∷ cs) = advance_after e r (unwrap_or (advance_giv
 abbrev pub settings_now : Event → ℕ → Opened → Settings
 settings_now e r o = record o.settings { advance = advance_after e r o.settings.advance o.since }
 
--- the table of a round that was opened with these entrants: they come before those who were entered since
+-- the table of a round that was opened with these entrants: they come before those who were entered
+-- since
 abbrev pub table_of : Event → ℕ → List ℕ → Opened → Table
 table_of e r first o = record {
   format = o.settings.format;
   unit = unit_of e;
   cutoff = o.settings.cutoff;
   is_closed = list_any (closing e r) o.since;
-  entrants = map (entrant_after e r o.settings [] o.since) first ++ entrants_after e r o.settings [] o.since;
+  entrants =
+      map (entrant_after e r o.settings [] o.since) first ++ entrants_after e r o.settings []
+      o.since;
 }
 
 abbrev pub round_at : Event → ℕ → List ℕ → Opened → Settings × Table
@@ -172,11 +192,14 @@ abbrev pub who_advance : Option (Settings × Table) → List ℕ
 who_advance None = []
 who_advance (Some round) = advancing round.1 round.0.advance
 
--- a round: its settings as they stand now, and its table. The entrants of a later round are those who advance from the one
--- before, as the commands before the opening make that one. Rounds are counted from 1.
+-- a round: its settings as they stand now, and its table. The entrants of a later round are those
+-- who advance from the one before, as the commands before the opening make that one. Rounds are
+-- counted from 1.
 unfoldable pub round_in : Event → ℕ → List Command → Option (Settings × Table)
 round_in e zero cs = None
-round_in e (suc r) cs = option_map (λ o. round_at e (suc r) (who_advance (round_in e r o.before)) o) (opened e (suc r) [] cs)
+round_in e (suc r) cs =
+    option_map (λ o. round_at e (suc r) (who_advance (round_in e r o.before)) o)
+    (opened e (suc r) [] cs)
 
 abbrev pub round_of : List Command → Event → ℕ → Option (Settings × Table)
 round_of cs e r = round_in e r cs
@@ -239,7 +262,8 @@ lacks_scramble scramble entered.Dnf = false
 lacks_scramble scramble entered.Dns = false
 
 -- the first check of a scramble that fails
-abbrev pub scramble_refusal : Event → ℕ → Option (List Move) → Option (Settings × Table) → Option Code
+abbrev pub scramble_refusal : Event → ℕ → Option (List Move) → Option (Settings × Table)
+    → Option Code
 scramble_refusal e k scramble None = Some code.RoundUnknown
 scramble_refusal e k scramble (Some round) =
     if round.1.is_closed then Some code.Closed
@@ -256,15 +280,18 @@ unfit_refusal e scramble x =
     else None
 
 -- the first check of an attempt, or of its correction, that fails; the table's own checks come last
-abbrev pub entered_refusal : Event → Entered → Option (List Move) → (Settings × Table → Option Code) → Option (Settings × Table) → Option Code
+abbrev pub entered_refusal : Event → Entered → Option (List Move) → (Settings × Table → Option Code)
+    → Option (Settings × Table) → Option Code
 entered_refusal e x scramble table_refusal None = Some code.RoundUnknown
-entered_refusal e x scramble table_refusal (Some round) = option_or (unfit_refusal e scramble x) (table_refusal round)
+entered_refusal e x scramble table_refusal (Some round) =
+    option_or (unfit_refusal e scramble x) (table_refusal round)
 
 abbrev pub put_refusal : ℕ → ℕ → Settings × Table → Option Code
 put_refusal n k round = option_map put_code (put_fault round.1 n k)
 
 abbrev pub correct_refusal : ℕ → ℕ → Option (List Move) → Entered → Settings × Table → Option Code
-correct_refusal n k scramble x round = option_map correct_code (correct_fault round.1 n k (settled round.0 scramble x))
+correct_refusal n k scramble x round =
+    option_map correct_code (correct_fault round.1 n k (settled round.0 scramble x))
 
 abbrev pub strike_refusal : ℕ → Option (Settings × Table) → Option Code
 strike_refusal n None = Some code.RoundUnknown
@@ -293,18 +320,22 @@ competitors_of (Some round) = started round.1
 abbrev pub has_too_few : (ℕ → Option (Settings × Table)) → ℕ → ℕ → Bool
 has_too_few rounds r j = nat_lt (later_rounds (competitors_of (rounds j))) (r + 1 - j)
 
--- the number of later rounds that competitors allow: round r is not the last, and one of those up to it has too few
+-- the number of later rounds that competitors allow: round r is not the last, and one of those up
+-- to it has too few
 abbrev pub breaks_rounds_rule : (ℕ → Option (Settings × Table)) → ℕ → Advance → Bool
-breaks_rounds_rule rounds r advance = not (is_final advance) && list_any (has_too_few rounds r) (range_with_len 1 r)
+breaks_rounds_rule rounds r advance =
+    not (is_final advance) && list_any (has_too_few rounds r) (range_with_len 1 r)
 
 -- the first check of a closing that fails, of a table that is there
 abbrev pub end_refusal : Option CloseFault → Bool → Option Code
 end_refusal (Some fault) breaks = Some (close_code fault)
 end_refusal None breaks = if breaks then Some code.RoundsRule else None
 
-abbrev pub close_refusal : (ℕ → Option (Settings × Table)) → ℕ → Option (Settings × Table) → Option Code
+abbrev pub close_refusal : (ℕ → Option (Settings × Table)) → ℕ → Option (Settings × Table)
+    → Option Code
 close_refusal rounds r None = Some code.RoundUnknown
-close_refusal rounds r (Some round) = end_refusal (close_fault round.1) (breaks_rounds_rule rounds r round.0.advance)
+close_refusal rounds r (Some round) =
+    end_refusal (close_fault round.1) (breaks_rounds_rule rounds r round.0.advance)
 
 -- a cutoff counts fewer attempts than the format has
 abbrev pub is_cutoff : Format → Option (ℕ × ℕ) → Bool
@@ -338,7 +369,8 @@ refusal cs (Attempt e r k n x) =
     else entered_refusal e x (scramble_of cs e r k) (put_refusal n k) (round_of cs e r)
 refusal cs (Correct e r k n x) =
     if not (is_registered cs n) then Some code.UnknownCompetitor
-    else entered_refusal e x (scramble_of cs e r k) (correct_refusal n k (scramble_of cs e r k) x) (round_of cs e r)
+    else entered_refusal e x (scramble_of cs e r k) (correct_refusal n k (scramble_of cs e r k) x)
+    (round_of cs e r)
 refusal cs (Strike e r n) =
     if not (is_registered cs n) then Some code.UnknownCompetitor
     else strike_refusal n (round_of cs e r)

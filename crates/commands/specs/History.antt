@@ -1,13 +1,13 @@
 -- What a list of entries, each an id and a text, comes to.
 use Rattle.std.specs.Prelude.{◌≡◌, ℕ, Bool, ◌==◌, if◌then◌else◌, List, [], ◌∷◌, ◌++◌, fold, Option, None, Some, Result, Ok, Err}
 use Rattle.std.specs.List.{list_any}
-use Rattle.commands.specs.declared.command.Command.{Command}
-use Rattle.commands.specs.declared.answer.Answer.{Answer}
-use Rattle.commands.specs.declared.answer.Answer.TheVariants.{Done, Refused}
-use Rattle.commands.specs.declared.answer.Code.{Code}
-use Rattle.commands.specs.declared.answer.Code.TheVariants as code
-use Rattle.commands.specs.declared.reading.CommandFault.{CommandFault}
-use Rattle.commands.specs.Reading.{command_of}
+use Rattle.texts.specs.declared.command.Command.{Command}
+use Rattle.texts.specs.declared.answer.Answer.{Answer}
+use Rattle.texts.specs.declared.answer.Answer.TheVariants.{Done, Refused}
+use Rattle.texts.specs.declared.answer.Code.{Code}
+use Rattle.texts.specs.declared.answer.Code.TheVariants as code
+use Rattle.texts.specs.declared.reading.CommandFault.{CommandFault}
+use Rattle.texts.specs.Reading.{command_of}
 use Rattle.commands.specs.Accepted.{refusal}
 
 -- the ids seen so far, and the accepted commands, each in order
@@ -31,7 +31,8 @@ abbrev pub added : Option Code → Command → List Command
 added None c = c ∷ []
 added (Some why) c = []
 
--- the first check that fails for what a text reads as: that it is a command, then the checks of the command
+-- the first check that fails for what a text reads as: that it is a command, then the checks of the
+-- command
 abbrev pub read_refusal : List Command → Result Command CommandFault → Option Code
 read_refusal cs (Ok c) = refusal cs c
 read_refusal cs (Err fault) = Some code.Unread
@@ -42,7 +43,8 @@ added_read refused (Err fault) = []
 
 -- the first check that fails for an entry: that its id is new, then those of its text
 unfoldable pub entry_refusal : History → ℕ → List ℕ → Option Code
-entry_refusal h id text = if is_seen h id then Some code.Repeat else read_refusal h.accepted (command_of text)
+entry_refusal h id text =
+    if is_seen h id then Some code.Repeat else read_refusal h.accepted (command_of text)
 
 -- what an entry is answered
 abbrev pub answer_to : History → ℕ → List ℕ → Answer
@@ -52,7 +54,12 @@ answer_to h id text = answer_of (entry_refusal h id text)
 unfoldable pub after : History → ℕ → List ℕ → History
 after h id text =
     if is_seen h id then h
-    else record { ids = h.ids ++ id ∷ []; accepted = h.accepted ++ added_read (read_refusal h.accepted (command_of text)) (command_of text) }
+    else record {
+      ids =
+          h.ids ++ id ∷ [];
+      accepted =
+          h.accepted ++ added_read (read_refusal h.accepted (command_of text)) (command_of text);
+    }
 
 -- the history of entries, each an id and a text, taken one after the other
 abbrev pub history : List (ℕ × List ℕ) → History
@@ -62,6 +69,9 @@ history entries = fold (λ h entry. after h entry.0 entry.1) nothing entries
 abbrev pub StandsFor : History → List (ℕ × List ℕ) → Type 0
 StandsFor h entries = h ≡ history entries
 
--- an id is seen in the history of entries where it is the id of one of them, whatever that one was answered
+-- an id is seen in the history of entries where it is the id of one of them, whatever that one was
+-- answered
 abbrev pub SeesEachId : Type 0
-SeesEachId = (entries : List (ℕ × List ℕ)) (id : ℕ) → is_seen (history entries) id ≡ list_any (λ entry. id == entry.0) entries
+SeesEachId =
+    (entries : List (ℕ × List ℕ)) (id : ℕ)
+    → is_seen (history entries) id ≡ list_any (λ entry. id == entry.0) entries

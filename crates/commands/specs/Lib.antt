@@ -1,8 +1,8 @@
 pub mod Accepted
-pub mod Codes
-pub mod Fields
 pub mod History
-pub mod Kept
-pub mod Numerals
-pub mod Reading
-pub mod Spelling
+pub mod model
+pub use Rattle.texts.specs.Codes
+pub use Rattle.texts.specs.Fields
+pub use Rattle.texts.specs.Numerals
+pub use Rattle.texts.specs.Reading
+pub use Rattle.texts.specs.Spelling

@@ -4,14 +4,13 @@ ghost use Rattle.std.specs.Prelude.{◌≡◌, ◌++◌, ◌∷◌, [], None, On
 ghost use Rattle.std.specs.List.{list_any};
 ghost use Rattle.commands.specs.Accepted.{name_of, is_registered, names_other, refusal};
 ghost use Rattle.commands.specs.History.{added};
-ghost use Rattle.commands.specs.Kept.{name_at, is_taken, AreCompetitors};
-ghost use Rattle.commands.specs.declared.command.Command.TheVariants as command;
+ghost use Rattle.commands.specs.model.Kept.{name_at, is_taken, AreCompetitors};
+ghost use Rattle.texts.specs.declared.command.Command.TheVariants as command;
 
-use crate::answer::Code;
-use crate::command::{Command, Name};
 use attempts::NoMemory;
 use std::alloc::Global;
 use std::collections::{HashMap, HashSet};
+use texts::{Code, Command, Name};
 
 /// Where the registrations stand among the accepted commands, and the names that they gave.
 #[derive(Drop)]
@@ -84,7 +83,8 @@ impl Competitors {
     ) -> Result<(), NoMemory>
         requires kept { AreCompetitors accepted.now self.old }
         requires allowed { refusal accepted.now (command.Register number name.now) ≡ None }
-        ensures ok { OnOk result (AreCompetitors (accepted.now ++ command.Register number name.now ∷ []) self.new) }
+        ensures ok { OnOk result
+            (AreCompetitors (accepted.now ++ command.Register number name.now ∷ []) self.new) }
         ensures err { OnErr result (AreCompetitors accepted.now self.new) }
     {
         let copy = Vec::from_slice(alloc, name.as_bytes())?;
@@ -103,8 +103,10 @@ impl Competitors {
         name: &Name,
     ) -> Result<Option<Code>, NoMemory>
         requires { AreCompetitors accepted.now self.old }
-        ensures code { IfOk result (λ code. code ≡ refusal accepted.now (command.Register number name.now)) }
-        ensures kept { IfOk result (λ code. AreCompetitors (accepted.now ++ added code (command.Register number name.now)) self.new) }
+        ensures code { IfOk result
+            (λ code. code ≡ refusal accepted.now (command.Register number name.now)) }
+        ensures kept { IfOk result (λ code. AreCompetitors
+            (accepted.now ++ added code (command.Register number name.now)) self.new) }
         ensures err { OnErr result (AreCompetitors accepted.now self.new) }
     {
         if let Some(code) = self.refusal(accepted, number, name) {

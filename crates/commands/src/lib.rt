@@ -1,20 +1,17 @@
-//! Commands, and what a list of them means: competitors, rounds and their attempts.
+//! What a list of commands means: competitors, rounds and their attempts. What a text spells is
+//! said in `texts`.
 #![tactic(auto)]
 
-mod answer;
-mod book;
-mod command;
+mod accepted;
+mod codes;
 mod competitors;
-mod fields;
+mod index;
+mod kept_rounds;
 mod meet;
-mod opened;
 mod outcomes;
-mod printing;
-mod reading;
 
-pub use advancement::Advance;
-pub use answer::{Answer, Code};
-pub use command::{Command, Entered, Name, Settings};
 pub use meet::{Meet, every_id_is_seen};
-pub use printing::{print, print_advance, print_cutoff, print_limit};
-pub use reading::{CommandFault, one_spelling, read};
+pub use texts::{
+    Advance, Answer, Code, Command, CommandFault, Entered, Name, Settings, one_spelling, print,
+    print_advance, print_cutoff, print_limit, read,
+};

@@ -2,19 +2,17 @@
 
 ghost use Rattle.std.specs.Prelude.{◌≡◌, ◌++◌, ◌∷◌, [], List, ℕ, true, Ok, IfOk, OnOk, OnErr, option_map};
 ghost use Rattle.commands.specs.History.{is_seen, answer_to, answer_of, added_read, read_refusal, after, nothing, StandsFor, SeesEachId};
-ghost use Rattle.commands.specs.Reading.{command_of};
+ghost use Rattle.texts.specs.Reading.{command_of};
 ghost use Rattle.commands.specs.Accepted.{name_of, round_of};
 
-use crate::answer::{Answer, Code};
-use crate::book::Book;
-use crate::command::Settings;
-use crate::reading::{CommandFault, read};
+use crate::accepted::AcceptedCommands;
 use attempts::NoMemory;
 use formats::Event;
 use indexmap::IndexSet;
 use rounds::RoundTable;
 use std::alloc::{AllocError, Global};
 use std::marker::Model;
+use texts::{Answer, Code, CommandFault, Settings, read};
 
 /// What a list of entries comes to: the ids seen so far, and the accepted commands.
 ///
@@ -24,7 +22,7 @@ use std::marker::Model;
 pub struct Meet {
     alloc: Global,
     ids: IndexSet<u64>,
-    book: Book,
+    accepted: AcceptedCommands,
 }
 
 impl Model for Meet {
@@ -32,17 +30,21 @@ impl Model for Meet {
 
     ghost Value = { History };
 
-    ghost view = { λ m. record { ids = m.ids.keys; accepted = m.book } };
+    ghost view = { λ m. record { ids = m.ids.keys; accepted = m.accepted } };
 }
 
 /// Does the command of a text, or says why not.
-fn do_text(book: &mut Book, alloc: Global, text: &[u8]) -> Result<Answer, NoMemory>
-    ensures answer { IfOk result (λ answer. answer ≡ answer_of (read_refusal book.old (command_of text.now))) }
-    ensures added { OnOk result (book.new ≡ book.old ++ added_read (read_refusal book.old (command_of text.now)) (command_of text.now)) }
-    ensures err { OnErr result (book.new ≡ book.old) }
+fn do_text(accepted: &mut AcceptedCommands, alloc: Global, text: &[u8]) -> Result<Answer, NoMemory>
+    ensures answer { IfOk result
+        (λ answer. answer ≡ answer_of (read_refusal accepted.old (command_of text.now))) }
+    ensures added { OnOk result
+        (accepted.new
+        ≡ accepted.old ++ added_read (read_refusal accepted.old (command_of text.now))
+        (command_of text.now)) }
+    ensures err { OnErr result (accepted.new ≡ accepted.old) }
 {
     match read(alloc, text) {
-        Ok(command) => book.apply(alloc, command),
+        Ok(command) => accepted.apply(alloc, command),
         Err(CommandFault::NoMemory) => Err(AllocError),
         Err(CommandFault::TooLong) => Ok(Answer::Refused(Code::Unread)),
         Err(CommandFault::NotACommand) => Ok(Answer::Refused(Code::Unread)),
@@ -59,7 +61,7 @@ impl Meet {
         Ok(Meet {
             alloc,
             ids: IndexSet::new(alloc),
-            book: Book::new(alloc),
+            accepted: AcceptedCommands::new(alloc),
         })
     }
 
@@ -77,14 +79,17 @@ impl Meet {
         // Memory is taken for an id that is new, and for no other.
         ensures repeat { is_seen self.old id ≡ true → result ≡ Ok (Answer.Refused Code.Repeat) }
 
-        // Whatever list of entries the meet stands for, it then stands for that list and this entry.
-        ensures stands { OnOk result ((entries : List (ℕ × List ℕ)) → StandsFor self.old entries → StandsFor self.new (entries ++ (id, text.now) ∷ [])) }
+        // Whatever list of entries the meet stands for, it then stands for that list and this
+        // entry.
+        ensures stands { OnOk result
+            ((entries : List (ℕ × List ℕ)) → StandsFor self.old entries
+            → StandsFor self.new (entries ++ (id, text.now) ∷ [])) }
     {
         if self.ids.contains(&id) {
             return Ok(Answer::Refused(Code::Repeat));
         }
         self.ids.reserve(1)?;
-        let answer = do_text(&mut self.book, self.alloc, text)?;
+        let answer = do_text(&mut self.accepted, self.alloc, text)?;
         self.ids.insert(id).unwrap();
         Ok(answer)
     }
@@ -93,28 +98,27 @@ impl Meet {
     pub fn name(&self, number: u16) -> Option<&[u8]>
         ensures { option_map (λ name. name.now) result ≡ name_of self.now.accepted number }
     {
-        self.book.name(number)
+        self.accepted.name(number)
     }
 
     /// The table of a round, where it was opened.
     pub fn round(&self, event: Event, round: u8) -> Option<&RoundTable>
-        ensures { option_map (λ table. table.now) result ≡ option_map (λ r. r.1) (round_of self.now.accepted event round) }
+        ensures { option_map (λ table. table.now) result
+            ≡ option_map (λ r. r.1) (round_of self.now.accepted event round) }
     {
-        self.book.round(event, round)
+        self.accepted.round(event, round)
     }
 
     /// The settings of a round as they stand now, where it was opened.
     pub fn settings(&self, event: Event, round: u8) -> Option<Settings>
         ensures { result ≡ option_map (λ r. r.0) (round_of self.now.accepted event round) }
     {
-        self.book.settings(event, round)
+        self.accepted.settings(event, round)
     }
 }
 
-/// A law: the ids that are seen after a list of entries are the ids of its entries, those of refused ones included.
+/// A law: the ids that are seen after a list of entries are the ids of its entries, those of
+/// refused ones included.
 pub fn every_id_is_seen()
     ensures { SeesEachId }
 {}
-
-#[cfg(test)]
-mod tests;

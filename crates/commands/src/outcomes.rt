@@ -3,14 +3,13 @@
 ghost use Rattle.std.specs.Prelude.{◌≡◌, option_map};
 ghost use Rattle.attempts.specs.Attempts.{IsOutcome};
 ghost use Rattle.commands.specs.Accepted.{outcome_of, is_wrong, is_moves, lacks_scramble, unfit_refusal};
-ghost use Rattle.commands.specs.Spelling.{IsEntered};
+ghost use Rattle.texts.specs.Spelling.{IsEntered};
 
-use crate::answer::Code;
-use crate::command::Entered;
 use attempts::{Outcome, Unit};
 use cube::Move;
 use fmc_check::check;
 use formats::{Event, unit_of};
+use texts::{Code, Entered};
 
 /// Whether solutions are entered, and not times.
 pub(crate) fn is_moves(unit: Unit) -> bool
@@ -45,7 +44,8 @@ fn lacks_scramble(scramble: Option<&[Move]>, entered: &Entered) -> bool
 
 /// Why an event does not take what was entered, under the scramble that the attempt has.
 pub(crate) fn refusal(event: Event, entered: &Entered, scramble: Option<&[Move]>) -> Option<Code>
-    ensures { result ≡ unfit_refusal event (option_map (λ moves. moves.now) scramble.entry) entered.now }
+    ensures { result
+        ≡ unfit_refusal event (option_map (λ moves. moves.now) scramble.entry) entered.now }
 {
     if is_wrong(unit_of(event), entered) {
         return Some(Code::WrongOutcome);
@@ -59,7 +59,8 @@ pub(crate) fn refusal(event: Event, entered: &Entered, scramble: Option<&[Move]>
 /// What was entered, a solution by its result under the scramble.
 pub(crate) fn outcome_of(scramble: Option<&[Move]>, entered: &Entered) -> Outcome
     requires { IsEntered entered.now }
-    ensures value { result ≡ outcome_of (option_map (λ moves. moves.now) scramble.entry) entered.now }
+    ensures value { result
+        ≡ outcome_of (option_map (λ moves. moves.now) scramble.entry) entered.now }
     ensures outcome { IsOutcome result }
 {
     match entered {

@@ -1,0 +1,12 @@
+use Rattle.std.proofs.Common.{◌≡◌, ◌+◌, ◌-◌}
+use Rattle.std.specs.List.{list_any, range_with_len}
+use Rattle.commands.specs.Accepted.{has_too_few}
+use Rattle.commands.specs.model.Kept.{kept_round}
+use Rattle.commands.proofs.kept_rounds.KeptRounds.allows_no_further.Given as goal
+
+abbrev pub invariant-loop-earlier : goal.invariant-loop-earlier
+invariant-loop-earlier l =
+    list_any (has_too_few (λ j. kept_round l.event j l.self.opened.items) l.round)
+    (range_with_len 1 l.round)
+    ≡ list_any (has_too_few (λ j. kept_round l.event j l.self.opened.items) l.round)
+    (range_with_len l.earlier (l.round + 1 - l.earlier))

@@ -1,0 +1,35 @@
+use Rattle.std.proofs.Common.{refl, sym, ap, ◌∙◌, option_map, Some}
+use Rattle.attempts.specs.Attempts.{value_of}
+use Rattle.rounds.specs.Tables.{correct_fault}
+use Rattle.commands.specs.Accepted.{correct_code}
+use Rattle.commands.proofs.KeptLemmas.{round_changed_to, refused_unfit, answered_by_table, kept_is}
+use Rattle.commands.proofs.kept_rounds.KeptRounds.correct.Goals as goal
+
+pub returns-in-Some-refusal-clause-code : goal.returns-in-Some-refusal-clause-code
+returns-in-Some-refusal-clause-code c =
+    refused_unfit _ _ _ _ _ _ (rw c.deref.ensures.value at c.in-Some.ensures.there)
+    (sym c.in-Some-refusal.ensures)
+
+pub returns-in-Ok-clause-done : goal.returns-in-Ok-clause-done
+returns-in-Ok-clause-done c =
+    round_changed_to c.args.self.now.opened.items c.args.event c.args.round c.in-Some.place
+    c.index_mut-kept.result.now _ _ (rw c.deref.ensures.value at c.in-Some.ensures)
+    c.index_mut-kept.ensures.value refl refl refl
+    (rw (c.in-Ok.ensures.corrected, c.settle-value.ensures.value, c.outcome_of.ensures.value) refl)
+
+pub returns-in-Err-clause-code : goal.returns-in-Err-clause-code
+returns-in-Err-clause-code c =
+    answered_by_table _ _ _ _ _ _ _
+    (kept_is c.args.self.now.opened.items c.args.event c.args.round c.in-Some.place
+    c.index_mut-kept.result.now (rw c.deref.ensures.value at c.in-Some.ensures)
+    c.index_mut-kept.ensures.value)
+    (sym c.in_default-refusal.ensures)
+    (ap
+    (λ v.
+    option_map correct_code
+    (correct_fault c.index_mut-kept.result.now.table c.args.number c.args.attempt v))
+    (sym
+    (c.settle-value.ensures.value
+    ∙ ap (value_of c.index_mut-kept.result.now.settings.limit) c.outcome_of.ensures.value))
+    ∙ ap (option_map correct_code) c.in-Err.ensures.refused
+    ∙ ap Some (sym c.correct_code.ensures))

@@ -1,0 +1,15 @@
+use Rattle.std.proofs.Common.{refl, sym}
+use Rattle.commands.proofs.KeptLemmas.{round_changed_to, refused_unfit}
+use Rattle.commands.proofs.kept_rounds.KeptRounds.put.Goals as goal
+
+pub returns-in-Some-refusal-clause-code : goal.returns-in-Some-refusal-clause-code
+returns-in-Some-refusal-clause-code c =
+    refused_unfit _ _ _ _ _ _ (rw c.deref.ensures.value at c.in-Some.ensures.there)
+    (sym c.in-Some-refusal.ensures)
+
+pub returns-in-Ok-clause-done : goal.returns-in-Ok-clause-done
+returns-in-Ok-clause-done c =
+    round_changed_to c.args.self.now.opened.items c.args.event c.args.round c.in-Some.place
+    c.index_mut-kept.result.now _ _ (rw c.deref.ensures.value at c.in-Some.ensures)
+    c.index_mut-kept.ensures.value refl refl refl
+    (rw (c.in-Ok.ensures.put, c.settle-value.ensures.value, c.outcome_of.ensures.value) refl)

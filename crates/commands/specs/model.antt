@@ -1,0 +1,3 @@
+-- Models of the code: what it keeps beside the accepted commands, for proofs to step through. No
+-- public contract cites them.
+pub mod Kept

@@ -1,0 +1,48 @@
+//! The code for each refusal of a round's table.
+
+ghost use Rattle.std.specs.Prelude.{◌≡◌};
+ghost use Rattle.commands.specs.Accepted.{put_code, correct_code, strike_code, close_code};
+
+use rounds::{CloseFault, CorrectFault, PutFault, StrikeFault};
+use texts::Code;
+
+pub(crate) fn put_code(fault: PutFault) -> Code
+    ensures { result ≡ put_code fault }
+{
+    match fault {
+        PutFault::Closed => Code::Closed,
+        PutFault::NotEntered => Code::NotEntered,
+        PutFault::OutOfOrder => Code::OutOfOrder,
+        PutFault::NoMoreAttempts => Code::NoMoreAttempts,
+    }
+}
+
+pub(crate) fn correct_code(fault: CorrectFault) -> Code
+    ensures { result ≡ correct_code fault }
+{
+    match fault {
+        CorrectFault::Closed => Code::Closed,
+        CorrectFault::NotEntered => Code::NotEntered,
+        CorrectFault::NoSuchAttempt => Code::NoSuchAttempt,
+        CorrectFault::CutoffLost => Code::CutoffLost,
+    }
+}
+
+pub(crate) fn strike_code(fault: StrikeFault) -> Code
+    ensures { result ≡ strike_code fault }
+{
+    match fault {
+        StrikeFault::Closed => Code::Closed,
+        StrikeFault::NotEntered => Code::NotEntered,
+        StrikeFault::NoSuchAttempt => Code::NoSuchAttempt,
+    }
+}
+
+pub(crate) fn close_code(fault: CloseFault) -> Code
+    ensures { result ≡ close_code fault }
+{
+    match fault {
+        CloseFault::Closed => Code::Closed,
+        CloseFault::Unfinished => Code::Unfinished,
+    }
+}

@@ -1,0 +1,255 @@
+-- When a text is too long, and when it is no command: no field is at fault then.
+use Rattle.std.proofs.Common.{◌≡◌, ℕ, ◌<◌, ◌≤◌, Bool, true, false, ◌||◌, cond, nat_lt, List, length, codes, bytes_eq, Option, Some, None, Result, Ok, Err, refl, sym, ◌∙◌, subst, arith, ◌↔◌}
+use Rattle.std.specs.Option.{ok_or}
+use Rattle.std.proofs.lemmas.Bool.{false≢true}
+use Rattle.std.proofs.lemmas.Bool.Decides.{nat_tests}
+use Rattle.texts.specs.declared.command.Command.{Command}
+use Rattle.texts.specs.declared.reading.CommandFault.{CommandFault}
+use Rattle.texts.specs.declared.reading.CommandFault.TheVariants as fault
+use Rattle.texts.specs.Fields.{cut}
+use Rattle.texts.specs.Reading.{◌>>=◌, field, last_field, no_field, register_of, open_of, enter_of, scramble_of, attempt_of, correct_of, strike_of, set_advance_of, close_of, is_word, by_word, command_of, Gives}
+
+-- what is read of fields: a value, or a field at fault
+abbrev IsOfFields : {A : Type 0} → Result A CommandFault → Type 0
+IsOfFields (Ok x) = Unit {0}
+IsOfFields (Err (fault.BadField index)) = Unit {0}
+IsOfFields (Err fault.TooLong) = ⊥
+IsOfFields (Err fault.NotACommand) = ⊥
+IsOfFields (Err fault.NoMemory) = ⊥
+
+then : {A B : Type 0} (r : Result A CommandFault) (f : A → Result B CommandFault) → IsOfFields r
+    → ((x : A) → IsOfFields (f x)) → IsOfFields (r >>= f)
+then (Ok x) f h each = each x
+then (Err (fault.BadField index)) f h each = tt
+then (Err fault.TooLong) f h each = absurd h
+then (Err fault.NotACommand) f h each = absurd h
+then (Err fault.NoMemory) f h each = absurd h
+
+given : {A : Type 0} (o : Option A) (index : ℕ)
+    → IsOfFields (ok_or o (let e : CommandFault = fault.BadField index in e))
+given None index = tt
+given (Some x) index = tt
+
+field-IsOfFields : {A : Type 0} (index : ℕ) (of : List ℕ → Option A) (left : Option (List ℕ))
+    → IsOfFields (field index of left)
+field-IsOfFields index of None = tt
+field-IsOfFields index of (Some bytes) = then _ _ (given (of (cut 32 bytes).0) index) (λ x. tt)
+
+last-IsOfFields : {A : Type 0} (index : ℕ) (of : List ℕ → Option A) (left : Option (List ℕ))
+    → IsOfFields (last_field index of left)
+last-IsOfFields index of None = tt
+last-IsOfFields index of (Some bytes) = given (of bytes) index
+
+none-IsOfFields : (index : ℕ) (left : Option (List ℕ)) → IsOfFields (no_field index left)
+none-IsOfFields index None = tt
+none-IsOfFields index (Some bytes) = tt
+
+register : (left : Option (List ℕ)) → IsOfFields (register_of left)
+unfolding register_of
+register left =
+    then _ _ (field-IsOfFields _ _ left) (λ n. then _ _ (last-IsOfFields _ _ n.1) (λ name. tt))
+
+opening : (left : Option (List ℕ)) → IsOfFields (open_of left)
+unfolding open_of
+opening left =
+    then _ _ (field-IsOfFields _ _ left)
+    (λ e.
+    then _ _ (field-IsOfFields _ _ e.1)
+    (λ r. then _ _ (field-IsOfFields _ _ r.1) (λ f. then _ _ (field-IsOfFields _ _ f.1)
+    (λ c.
+    then _ _ (field-IsOfFields _ _ c.1)
+    (λ l. then _ _ (field-IsOfFields _ _ l.1) (λ a. then _ _ (none-IsOfFields _ a.1) (λ u. tt)))))))
+
+enter : (left : Option (List ℕ)) → IsOfFields (enter_of left)
+unfolding enter_of
+enter left =
+    then _ _ (field-IsOfFields _ _ left)
+    (λ e. then _ _ (field-IsOfFields _ _ e.1) (λ n. then _ _ (none-IsOfFields _ n.1) (λ u. tt)))
+
+scramble : (left : Option (List ℕ)) → IsOfFields (scramble_of left)
+unfolding scramble_of
+scramble left =
+    then _ _ (field-IsOfFields _ _ left)
+    (λ e. then _ _ (field-IsOfFields _ _ e.1) (λ r. then _ _ (field-IsOfFields _ _ r.1)
+    (λ k. then _ _ (last-IsOfFields _ _ k.1) (λ m. tt))))
+
+attempt : (left : Option (List ℕ)) → IsOfFields (attempt_of left)
+unfolding attempt_of
+attempt left =
+    then _ _ (field-IsOfFields _ _ left)
+    (λ e. then _ _ (field-IsOfFields _ _ e.1) (λ r. then _ _ (field-IsOfFields _ _ r.1)
+    (λ k. then _ _ (field-IsOfFields _ _ k.1) (λ n. then _ _ (last-IsOfFields _ _ n.1) (λ o. tt)))))
+
+correct : (left : Option (List ℕ)) → IsOfFields (correct_of left)
+unfolding correct_of
+correct left =
+    then _ _ (field-IsOfFields _ _ left)
+    (λ e. then _ _ (field-IsOfFields _ _ e.1) (λ r. then _ _ (field-IsOfFields _ _ r.1)
+    (λ k. then _ _ (field-IsOfFields _ _ k.1) (λ n. then _ _ (last-IsOfFields _ _ n.1) (λ o. tt)))))
+
+strike : (left : Option (List ℕ)) → IsOfFields (strike_of left)
+unfolding strike_of
+strike left =
+    then _ _ (field-IsOfFields _ _ left)
+    (λ e. then _ _ (field-IsOfFields _ _ e.1) (λ r. then _ _ (field-IsOfFields _ _ r.1)
+    (λ n. then _ _ (none-IsOfFields _ n.1) (λ u. tt))))
+
+set_advance : (left : Option (List ℕ)) → IsOfFields (set_advance_of left)
+unfolding set_advance_of
+set_advance left =
+    then _ _ (field-IsOfFields _ _ left)
+    (λ e. then _ _ (field-IsOfFields _ _ e.1) (λ r. then _ _ (field-IsOfFields _ _ r.1)
+    (λ a. then _ _ (none-IsOfFields _ a.1) (λ u. tt))))
+
+close : (left : Option (List ℕ)) → IsOfFields (close_of left)
+unfolding close_of
+close left =
+    then _ _ (field-IsOfFields _ _ left)
+    (λ e. then _ _ (field-IsOfFields _ _ e.1) (λ r. then _ _ (none-IsOfFields _ r.1) (λ u. tt)))
+
+-- What is said where no word stands is said of no word.
+
+word-short : (b : Bool) (read others : Result Command CommandFault) → IsOfFields read
+    → (others ≡ Err fault.TooLong → ⊥) → cond b read others ≡ Err fault.TooLong → ⊥
+word-short false read others h other e = other e
+word-short true read others h other e =
+    subst (λ (r : Result Command CommandFault). IsOfFields r) e h
+
+by_word-short : (text : List ℕ × Option (List ℕ)) → by_word text ≡ Err fault.TooLong → ⊥
+by_word-short text =
+    word-short (bytes_eq text.0 (codes "REG")) (register_of text.1) _ (register text.1)
+    (word-short (bytes_eq text.0 (codes "OPEN")) (open_of text.1) _ (opening text.1)
+    (word-short (bytes_eq text.0 (codes "ENT")) (enter_of text.1) _ (enter text.1)
+    (word-short (bytes_eq text.0 (codes "SCR")) (scramble_of text.1) _ (scramble text.1)
+    (word-short (bytes_eq text.0 (codes "ATT")) (attempt_of text.1) _ (attempt text.1)
+    (word-short (bytes_eq text.0 (codes "COR")) (correct_of text.1) _ (correct text.1)
+    (word-short (bytes_eq text.0 (codes "STR")) (strike_of text.1) _ (strike text.1)
+    (word-short (bytes_eq text.0 (codes "ADV")) (set_advance_of text.1) _ (set_advance text.1)
+    (word-short (bytes_eq text.0 (codes "CLOSE")) (close_of text.1) (Err fault.NotACommand)
+    (close text.1)
+    (λ e. let bad : Err fault.NotACommand ≡ Err fault.TooLong = e in cc)))))))))
+
+word-none : (b rest : Bool) (read others : Result Command CommandFault) → IsOfFields read
+    → (others ≡ Err fault.NotACommand) ↔ (rest ≡ false)
+    → (cond b read others ≡ Err fault.NotACommand) ↔ ((b || rest) ≡ false)
+word-none false rest read others h other = other
+word-none true rest read others h other = (
+  λ e. absurd (subst (λ (r : Result Command CommandFault). IsOfFields r) e h),
+  λ e.
+      absurd (false≢true (sym e)),
+)
+
+by_word-none : (text : List ℕ × Option (List ℕ))
+    → (by_word text ≡ Err fault.NotACommand) ↔ (is_word text.0 ≡ false)
+by_word-none text =
+    word-none (bytes_eq text.0 (codes "REG")) _ (register_of text.1) _ (register text.1)
+    (word-none (bytes_eq text.0 (codes "OPEN")) _ (open_of text.1) _ (opening text.1)
+    (word-none (bytes_eq text.0 (codes "ENT")) _ (enter_of text.1) _ (enter text.1)
+    (word-none (bytes_eq text.0 (codes "SCR")) _ (scramble_of text.1) _ (scramble text.1)
+    (word-none (bytes_eq text.0 (codes "ATT")) _ (attempt_of text.1) _ (attempt text.1)
+    (word-none (bytes_eq text.0 (codes "COR")) _ (correct_of text.1) _ (correct text.1)
+    (word-none (bytes_eq text.0 (codes "STR")) _ (strike_of text.1) _ (strike text.1)
+    (word-none (bytes_eq text.0 (codes "ADV")) _ (set_advance_of text.1) _ (set_advance text.1)
+    (word-none (bytes_eq text.0 (codes "CLOSE")) false (close_of text.1) (Err fault.NotACommand)
+    (close text.1)
+    (λ e. refl, λ e. refl)))))))))
+
+-- What `read` answers.
+
+too_long : (bytes : List ℕ) → (command_of bytes ≡ Err fault.TooLong) ↔ (600 < length bytes)
+unfolding command_of
+too_long bytes = (
+  λ e. step (nat_lt 600 (length bytes)) refl e,
+  λ long. let yes : nat_lt 600 (length bytes)
+      ≡ true = grind (arith, nat_tests) in
+      rw yes refl,
+)
+  where
+    step : (b : Bool) → nat_lt 600 (length bytes) ≡ b
+        → cond b (Err fault.TooLong) (by_word (cut 32 bytes)) ≡ Err fault.TooLong
+        → 600 < length bytes
+    step true is e = grind (arith, nat_tests)
+    step false is e = absurd (by_word-short (cut 32 bytes) e)
+
+not_a_command : (bytes : List ℕ)
+    → (command_of bytes ≡ Err fault.NotACommand)
+    ↔ ((length bytes ≤ 600) × (is_word (cut 32 bytes).0 ≡ false))
+unfolding command_of
+not_a_command bytes = (
+  λ e. step (nat_lt 600 (length bytes)) refl e,
+  λ h. let no : nat_lt 600 (length bytes) ≡ false =
+      short h.0 in
+      rw no ((by_word-none (cut 32 bytes)).1 h.1),
+)
+  where
+    short : length bytes ≤ 600 → nat_lt 600 (length bytes) ≡ false
+    short h = grind (arith, nat_tests)
+
+    step : (b : Bool) → nat_lt 600 (length bytes) ≡ b
+        → cond b (Err fault.TooLong) (by_word (cut 32 bytes)) ≡ Err fault.NotACommand
+        → (length bytes ≤ 600) × (is_word (cut 32 bytes).0 ≡ false)
+    step true is e = absurd (let bad : Err fault.TooLong ≡ Err fault.NotACommand = e in cc)
+    step false is e = (grind (arith, nat_tests), (by_word-none (cut 32 bytes)).0 e)
+
+answers_too_long : (moves : ℕ) (r said : Result Command CommandFault) → Gives moves r said
+    → (r ≡ Err fault.TooLong) ↔ (said ≡ Err fault.TooLong)
+answers_too_long moves (Ok c) said h = (
+  λ e. absurd (let bad : Ok c ≡ Err fault.TooLong = e in cc),
+  λ e.
+      absurd (let bad : Ok c ≡ Err fault.TooLong = sym h ∙ e in cc),
+)
+answers_too_long moves (Err fault.TooLong) said h = (λ e. h, λ e. refl)
+answers_too_long moves (Err fault.NotACommand) said h = (
+  λ e. absurd (let bad : Err fault.NotACommand ≡ Err fault.TooLong = e in cc),
+  λ e.
+      absurd (let bad : Err fault.NotACommand ≡ Err fault.TooLong = sym h ∙ e in cc),
+)
+answers_too_long moves (Err (fault.BadField index)) said h = (
+  λ e. absurd (let bad : Err (fault.BadField index) ≡ Err fault.TooLong = e in cc),
+  λ e.
+      absurd (let bad : Err (fault.BadField index) ≡ Err fault.TooLong = sym h ∙ e in cc),
+)
+answers_too_long moves (Err fault.NoMemory) said h = (
+  λ e. absurd (let bad : Err fault.NoMemory ≡ Err fault.TooLong = e in cc),
+  λ e.
+      absurd (subst (λ (r : Result Command CommandFault). Gives moves (Err fault.NoMemory) r) e h),
+)
+
+answers_not_a_command : (moves : ℕ) (r said : Result Command CommandFault) → Gives moves r said
+    → (r ≡ Err fault.NotACommand) ↔ (said ≡ Err fault.NotACommand)
+answers_not_a_command moves (Ok c) said h = (
+  λ e. absurd (let bad : Ok c ≡ Err fault.NotACommand = e in cc),
+  λ e.
+      absurd (let bad : Ok c ≡ Err fault.NotACommand = sym h ∙ e in cc),
+)
+answers_not_a_command moves (Err fault.NotACommand) said h = (λ e. h, λ e. refl)
+answers_not_a_command moves (Err fault.TooLong) said h = (
+  λ e. absurd (let bad : Err fault.TooLong ≡ Err fault.NotACommand = e in cc),
+  λ e.
+      absurd (let bad : Err fault.TooLong ≡ Err fault.NotACommand = sym h ∙ e in cc),
+)
+answers_not_a_command moves (Err (fault.BadField index)) said h = (
+  λ e. absurd (let bad : Err (fault.BadField index) ≡ Err fault.NotACommand = e in cc),
+  λ e.
+      absurd (let bad : Err (fault.BadField index) ≡ Err fault.NotACommand = sym h ∙ e in cc),
+)
+answers_not_a_command moves (Err fault.NoMemory) said h = (
+  λ e. absurd (let bad : Err fault.NoMemory ≡ Err fault.NotACommand = e in cc),
+  λ e.
+      absurd (subst (λ (r : Result Command CommandFault). Gives moves (Err fault.NoMemory) r) e h),
+)
+
+pub gives_too_long_alone : (moves : ℕ) (r : Result Command CommandFault) (bytes : List ℕ)
+    → Gives moves r (command_of bytes) → (r ≡ Err fault.TooLong) ↔ (600 < length bytes)
+gives_too_long_alone moves r bytes h =
+    let answer = answers_too_long moves r (command_of bytes) h in
+    let text = too_long bytes in
+    (λ e. text.0 (answer.0 e), λ long. answer.1 (text.1 long))
+
+pub gives_not_a_command : (moves : ℕ) (r : Result Command CommandFault) (bytes : List ℕ)
+    → Gives moves r (command_of bytes)
+    → (r ≡ Err fault.NotACommand) ↔ ((length bytes ≤ 600) × (is_word (cut 32 bytes).0 ≡ false))
+gives_not_a_command moves r bytes h =
+    let answer = answers_not_a_command moves r (command_of bytes) h in
+    let text = not_a_command bytes in
+    (λ e. text.0 (answer.0 e), λ no. answer.1 (text.1 no))

@@ -1,0 +1,532 @@
+-- A field is read from its one spelling.
+use Rattle.std.proofs.Common.{◌≡◌, ℕ, ◌+◌, ◌<◌, ◌≤◌, Bool, true, false, ◌&&◌, ◌==◌, not, cond, nat_le, IsTrue, List, [], ◌∷◌, ◌++◌, length, take, drop, codes, decimal, bytes_eq, Option, Some, None, refl, sym, ap, ◌∙◌, subst, arith, append_assoc, eqb-true, take-append-drop, length-append}
+use Rattle.std.specs.Char.{is_ascii_digit}
+use Rattle.std.specs.List.{list_all}
+use Rattle.std.specs.Option.{option_map, option_and_then}
+use Rattle.std.proofs.lemmas.Bool.{false≢true}
+use Rattle.std.proofs.lemmas.Bool.Decides.{nat_tests}
+use Rattle.std.proofs.lemmas.Fmt.{digits_decimal, length-decimal-le, decimal_nonempty}
+use Rattle.formats.specs.declared.events.Event.{Event}
+use Rattle.formats.specs.declared.events.Event.TheVariants.{Cube3, Cube2, Cube4, Cube5, Cube6, Cube7, Blind3, FewestMoves, OneHanded, Clock, Megaminx, Pyraminx, Skewb, Square1, Blind4, Blind5}
+use Rattle.formats.specs.declared.events.Format.{Format}
+use Rattle.formats.specs.declared.events.Format.TheVariants.{Ao5, Mo3, Bo1, Bo2, Bo3}
+use Rattle.formats.specs.Events.{events, event_name, event_named, formats, format_name, format_named}
+use Rattle.cube.specs.declared.moves.Move.{Move}
+use Rattle.notation.specs.Notation.{spelling as moves_text}
+use Rattle.formats.specs.declared.advance.Advance.{Advance}
+use Rattle.formats.specs.declared.advance.Advance.TheVariants.{Final, Top, Percent}
+use Rattle.texts.specs.declared.command.Entered.{Entered}
+use Rattle.texts.specs.declared.command.Entered.TheVariants.{Time, Solution, Dnf, Dns}
+use Rattle.texts.specs.Numerals.{digits_value, within}
+use Rattle.texts.specs.Spelling.{is_name, IsWithin, IsFitCutoff, IsFitLimit, IsFitAdvance, IsEntered, cutoff_text, limit_text, advance_text, entered_text}
+use Rattle.texts.specs.Fields.{number_between, name_of, cutoff_of, limit_of, advance_of, cut, pair_with, second_number, two_numbers, moves_of, time_with, time_of, entered_of}
+use Rattle.texts.proofs.Numerals.{own, number_between-decimal}
+use Rattle.texts.proofs.Cuts.{and-true, lacks, behind, cut_spelled, cut-behind}
+use Rattle.texts.proofs.Spelled.{IsSpelled, chosen, bytes_eq-equal, find-only}
+use Rattle.texts.proofs.MoveSpellings.{moves_spelled}
+
+-- Numbers.
+
+pub number_spelled : (low high : ℕ) → high < 10000000
+    → IsSpelled (number_between low high) decimal (IsWithin low high)
+unfolding number_between
+number_spelled low high small = record {
+  only = λ bytes n h.
+      let first =
+      chosen (bytes_eq bytes (decimal (digits_value bytes))) (within low high (digits_value bytes))
+      None n h refl in
+      let second =
+      chosen (nat_le low (digits_value bytes) && nat_le (digits_value bytes) high)
+      (Some (digits_value bytes)) None n first.1 refl in
+      let value : digits_value bytes ≡ n = let e = second.1 in cc in
+      let above : low ≤ digits_value bytes = grind (arith, nat_tests, second.0) in
+      let below : digits_value bytes ≤ high = grind (arith, nat_tests, second.0) in
+      ((omega arith, omega arith), bytes_eq-equal bytes _ first.0 ∙ ap decimal value);
+  found = λ n fits. number_between-decimal low high n fits.0 fits.1 small;
+}
+
+pub number_short : (n : ℕ) → n < 10000000 → length (decimal n) ≤ 80
+number_short n small =
+    let few = length-decimal-le 7 n (omega arith) (omega arith) (omega arith) in omega arith
+
+digits_lack : (by : ℕ) → is_ascii_digit by ≡ false → (bytes : List ℕ)
+    → list_all is_ascii_digit bytes ≡ true → lacks by bytes ≡ true
+digits_lack by other [] h = refl
+digits_lack by other (b ∷ bytes) h =
+    let both = and-true (is_ascii_digit b) (list_all is_ascii_digit bytes) h in
+    let first : not (b == by) ≡ true = step (b == by) refl both.0 in
+    rw (first, digits_lack by other bytes both.1) refl
+  where
+    step : (t : Bool) → (b == by) ≡ t → is_ascii_digit b ≡ true → not t ≡ true
+    step false is digit = refl
+    step true is digit =
+        absurd (false≢true (sym other ∙ ap is_ascii_digit (sym (eqb-true b by is)) ∙ digit))
+
+pub decimal_digits : (n : ℕ) → n < 10000000 → list_all is_ascii_digit (decimal n) ≡ true
+decimal_digits n small = digits_decimal own n (omega arith)
+
+pub decimal_no_space : (n : ℕ) → n < 10000000 → lacks 32 (decimal n) ≡ true
+decimal_no_space n small = digits_lack 32 refl (decimal n) (decimal_digits n small)
+
+pub decimal_no_colon : (n : ℕ) → n < 10000000 → lacks 58 (decimal n) ≡ true
+decimal_no_colon n small = digits_lack 58 refl (decimal n) (decimal_digits n small)
+
+decimal_no_dash : (n : ℕ) → n < 10000000 → bytes_eq (decimal n) (codes "-") ≡ false
+decimal_no_dash n small = step (bytes_eq (decimal n) (codes "-")) refl
+  where
+    step : (b : Bool) → bytes_eq (decimal n) (codes "-") ≡ b → b ≡ false
+    step false is = refl
+    step true is =
+        let digit : list_all is_ascii_digit (codes "-") ≡ true =
+        subst (λ (x : List ℕ). list_all is_ascii_digit x ≡ true)
+        (bytes_eq-equal (decimal n) (codes "-") is) (decimal_digits n small) in
+        absurd (false≢true digit)
+
+-- Names.
+
+pub name_spelled : IsSpelled name_of (λ bytes. bytes) (λ bytes. IsTrue (is_name bytes))
+unfolding name_of
+name_spelled = record {
+  only = λ bytes x h.
+      let yes = chosen (is_name bytes) (Some bytes) None x h refl in
+      let same : bytes ≡ x = let e = yes.1 in cc in
+      (subst (λ (y : List ℕ). is_name y ≡ true) same yes.0, same);
+  found = λ bytes fits. rw fits refl;
+}
+
+pub name_short : (bytes : List ℕ) → IsTrue (is_name bytes) → length bytes ≤ 80
+name_short bytes fits = grind (arith, nat_tests)
+
+-- Events and formats.
+
+pub event_spelled : IsSpelled event_named event_name (λ x. Unit {0})
+unfolding event_named
+event_spelled =
+    record { only = λ bytes x h. (tt, find-only event_name bytes events x h); found = found }
+  where
+    found : (x : Event) → Unit {0} → event_named (event_name x) ≡ Some x
+    found Cube3 fits = refl
+    found Cube2 fits = refl
+    found Cube4 fits = refl
+    found Cube5 fits = refl
+    found Cube6 fits = refl
+    found Cube7 fits = refl
+    found Blind3 fits = refl
+    found FewestMoves fits = refl
+    found OneHanded fits = refl
+    found Clock fits = refl
+    found Megaminx fits = refl
+    found Pyraminx fits = refl
+    found Skewb fits = refl
+    found Square1 fits = refl
+    found Blind4 fits = refl
+    found Blind5 fits = refl
+
+pub event_short : (x : Event) → length (event_name x) ≤ 80
+event_short Cube3 = omega arith
+event_short Cube2 = omega arith
+event_short Cube4 = omega arith
+event_short Cube5 = omega arith
+event_short Cube6 = omega arith
+event_short Cube7 = omega arith
+event_short Blind3 = omega arith
+event_short FewestMoves = omega arith
+event_short OneHanded = omega arith
+event_short Clock = omega arith
+event_short Megaminx = omega arith
+event_short Pyraminx = omega arith
+event_short Skewb = omega arith
+event_short Square1 = omega arith
+event_short Blind4 = omega arith
+event_short Blind5 = omega arith
+
+pub event_no_space : (x : Event) → lacks 32 (event_name x) ≡ true
+event_no_space Cube3 = refl
+event_no_space Cube2 = refl
+event_no_space Cube4 = refl
+event_no_space Cube5 = refl
+event_no_space Cube6 = refl
+event_no_space Cube7 = refl
+event_no_space Blind3 = refl
+event_no_space FewestMoves = refl
+event_no_space OneHanded = refl
+event_no_space Clock = refl
+event_no_space Megaminx = refl
+event_no_space Pyraminx = refl
+event_no_space Skewb = refl
+event_no_space Square1 = refl
+event_no_space Blind4 = refl
+event_no_space Blind5 = refl
+
+pub format_spelled : IsSpelled format_named format_name (λ x. Unit {0})
+unfolding format_named
+format_spelled =
+    record { only = λ bytes x h. (tt, find-only format_name bytes formats x h); found = found }
+  where
+    found : (x : Format) → Unit {0} → format_named (format_name x) ≡ Some x
+    found Ao5 fits = refl
+    found Mo3 fits = refl
+    found Bo1 fits = refl
+    found Bo2 fits = refl
+    found Bo3 fits = refl
+
+pub format_short : (x : Format) → length (format_name x) ≤ 80
+format_short Ao5 = omega arith
+format_short Mo3 = omega arith
+format_short Bo1 = omega arith
+format_short Bo2 = omega arith
+format_short Bo3 = omega arith
+
+pub format_no_space : (x : Format) → lacks 32 (format_name x) ≡ true
+format_no_space Ao5 = refl
+format_no_space Mo3 = refl
+format_no_space Bo1 = refl
+format_no_space Bo2 = refl
+format_no_space Bo3 = refl
+
+-- Two numbers with a colon between.
+
+abbrev pair_text : ℕ × ℕ → List ℕ
+pair_text p = decimal p.0 ++ codes ":" ++ decimal p.1
+
+abbrev ArePair : (ℕ → Type 0) → (ℕ → Type 0) → List ℕ × Option (List ℕ) → ℕ × ℕ → Type 0
+ArePair First Second parts p =
+    (First p.0 × Second p.1) × (parts.0 ++ behind 58 parts.1 ≡ pair_text p)
+
+pair-only : (first second : List ℕ → Option ℕ) (First Second : ℕ → Type 0)
+    → IsSpelled first decimal First → IsSpelled second decimal Second
+    → (parts : List ℕ × Option (List ℕ)) (p : ℕ × ℕ) → two_numbers first second parts ≡ Some p
+    → ArePair First Second parts p
+pair-only first second First Second one two parts p h = start (first parts.0) refl h
+  where
+    third : (a b : ℕ) (back : List ℕ) → first parts.0 ≡ Some a → parts.1 ≡ Some back
+        → second back ≡ Some b → pair_with a b ≡ p → ArePair First Second parts p
+    third a b back front is end e =
+        let x = one.only parts.0 a front in
+        let y = two.only back b end in
+        subst (ArePair First Second parts) e ((x.0, y.0), rw (is, x.1, y.1) (simp append_assoc))
+
+    next : (a : ℕ) (back : List ℕ) → first parts.0 ≡ Some a → parts.1 ≡ Some back → (o : Option ℕ)
+        → second back ≡ o → option_map (pair_with a) o ≡ Some p → ArePair First Second parts p
+    next a back front is None end e = absurd (let bad : None ≡ Some p = e in cc)
+    next a back front is (Some b) end e =
+        third a b back front is end (let same : pair_with a b ≡ p = cc in same)
+
+    after : (a : ℕ) → first parts.0 ≡ Some a → (o : Option (List ℕ)) → parts.1 ≡ o
+        → second_number second a o ≡ Some p → ArePair First Second parts p
+    after a front None is e = absurd (let bad : None ≡ Some p = e in cc)
+    after a front (Some back) is e = next a back front is (second back) refl e
+
+    start : (o : Option ℕ) → first parts.0 ≡ o
+        → option_and_then (λ a. second_number second a parts.1) o ≡ Some p
+        → ArePair First Second parts p
+    start None front e = absurd (let bad : None ≡ Some p = e in cc)
+    start (Some a) front e = after a front parts.1 refl e
+
+pair-found : (first second : List ℕ → Option ℕ) (First Second : ℕ → Type 0)
+    → IsSpelled first decimal First → IsSpelled second decimal Second → (a b : ℕ) → a < 10000000
+    → First a → Second b
+    → two_numbers first second (cut 58 (decimal a ++ codes ":" ++ decimal b)) ≡ Some (pair_with a b)
+pair-found first second First Second one two a b small x y =
+    rw (append_assoc (decimal a) (codes ":") (decimal b))
+    (rw (cut-behind 58 (decimal a) (Some (decimal b)) (decimal_no_colon a small))
+    (rw (one.found a x, two.found b y) refl))
+
+lacks-append : (by : ℕ) (xs ys : List ℕ) → lacks by xs ≡ true → lacks by ys ≡ true
+    → lacks by (xs ++ ys) ≡ true
+lacks-append by [] ys front back = back
+lacks-append by (x ∷ xs) ys front back =
+    let both = and-true (not (x == by)) (lacks by xs) front in
+    rw (both.0, lacks-append by xs ys both.1 back) refl
+
+pair_no_space : (a b : ℕ) → a < 10000000 → b < 10000000
+    → lacks 32 (pair_text (pair_with a b)) ≡ true
+pair_no_space a b small small' =
+    lacks-append 32 (decimal a ++ codes ":") (decimal b)
+    (lacks-append 32 (decimal a) (codes ":") (decimal_no_space a small) refl)
+    (decimal_no_space b small')
+
+pair_length : (a b : ℕ)
+    → length (pair_text (pair_with a b)) ≡ length (decimal a) + 1 + length (decimal b)
+pair_length a b =
+    length-append (decimal a ++ codes ":") (decimal b)
+    ∙ ap (λ n. n + length (decimal b)) (length-append (decimal a) (codes ":"))
+
+pair_short : (a b : ℕ) → a < 10000000 → b < 10000000 → length (pair_text (pair_with a b)) ≤ 80
+pair_short a b small small' =
+    let first = length-decimal-le 7 a (omega arith) (omega arith) (omega arith) in
+    let last = length-decimal-le 7 b (omega arith) (omega arith) (omega arith) in
+    omega (arith, pair_length a b)
+
+pair_no_dash : (a b : ℕ) → 1 ≤ a → 1 ≤ b → a < 10000000 → b < 10000000
+    → bytes_eq (pair_text (pair_with a b)) (codes "-") ≡ false
+pair_no_dash a b some some' small small' =
+    step (bytes_eq (pair_text (pair_with a b)) (codes "-")) refl
+  where
+    step : (t : Bool) → bytes_eq (pair_text (pair_with a b)) (codes "-") ≡ t → t ≡ false
+    step false is = refl
+    step true is =
+        let one : length (pair_text (pair_with a b)) ≡ 1 =
+        ap length (bytes_eq-equal (pair_text (pair_with a b)) (codes "-") is) in
+        let first = decimal_nonempty a (omega arith) in
+        absurd (omega (arith, pair_length a b))
+
+-- Cutoffs, limits and who advances.
+
+attempts : IsSpelled (number_between 1 4) decimal (IsWithin 1 4)
+attempts = number_spelled 1 4 (omega arith)
+
+border : IsSpelled (number_between 1 360000) decimal (IsWithin 1 360000)
+border = number_spelled 1 360000 (omega arith)
+
+pub cutoff_spelled : IsSpelled cutoff_of cutoff_text IsFitCutoff
+cutoff_spelled =
+    record {
+      only = λ bytes x h.
+          only bytes x (bytes_eq bytes (codes "-")) refl
+          (two_numbers (number_between 1 4) (number_between 1 360000) (cut 58 bytes)) refl h;
+      found = found;
+    }
+  where
+    only : (bytes : List ℕ) (x : Option (ℕ × ℕ)) (t : Bool) → bytes_eq bytes (codes "-") ≡ t
+        → (o : Option (ℕ × ℕ))
+        → two_numbers (number_between 1 4) (number_between 1 360000) (cut 58 bytes) ≡ o
+        → cond t (Some None) (option_map Some o) ≡ Some x → IsFitCutoff x × (bytes ≡ cutoff_text x)
+    only bytes None true dash o is h = (tt, bytes_eq-equal bytes (codes "-") dash)
+    only bytes (Some p) true dash o is h = absurd (let bad : None ≡ Some p = cc in cc)
+    only bytes x false dash None is h = absurd (let bad : None ≡ Some x = h in cc)
+    only bytes None false dash (Some p) is h = absurd (let bad : Some p ≡ None = cc in cc)
+    only bytes (Some p) false dash (Some q) is h =
+        let same : q ≡ p = cc in
+        let read = pair-only _ _ _ _ attempts border (cut 58 bytes) p (is ∙ ap Some same) in
+        (read.0, cut_spelled 58 bytes ∙ read.1)
+
+    found : (x : Option (ℕ × ℕ)) → IsFitCutoff x → cutoff_of (cutoff_text x) ≡ Some x
+    found None fits = refl
+    found (Some p) fits =
+        rw (pair_no_dash p.0 p.1 fits.0.0 fits.1.0 (omega arith) (omega arith))
+        (rw (pair-found _ _ _ _ attempts border p.0 p.1 (omega arith) fits.0 fits.1) refl)
+
+pub cutoff_short : (x : Option (ℕ × ℕ)) → IsFitCutoff x → length (cutoff_text x) ≤ 80
+cutoff_short None fits = omega arith
+cutoff_short (Some p) fits = pair_short p.0 p.1 (omega arith) (omega arith)
+
+pub cutoff_no_space : (x : Option (ℕ × ℕ)) → IsFitCutoff x → lacks 32 (cutoff_text x) ≡ true
+cutoff_no_space None fits = refl
+cutoff_no_space (Some p) fits = pair_no_space p.0 p.1 (omega arith) (omega arith)
+
+abbrev pub number_or_dash : Bool → Option ℕ → Option (Option ℕ)
+number_or_dash b o = cond b (Some None) (option_map Some o)
+
+pub limit_spelled : IsSpelled limit_of limit_text IsFitLimit
+limit_spelled = record {
+  only =
+      λ bytes x h.
+      only bytes x (bytes_eq bytes (codes "-")) (number_between 1 360000 bytes) refl refl h;
+  found = found;
+}
+  where
+    number : IsSpelled (number_between 1 360000) decimal (IsWithin 1 360000)
+    number = number_spelled 1 360000 (omega arith)
+
+    only : (bytes : List ℕ) (x : Option ℕ) (b : Bool) (o : Option ℕ)
+        → bytes_eq bytes (codes "-") ≡ b → number_between 1 360000 bytes ≡ o
+        → number_or_dash b o ≡ Some x → IsFitLimit x × (bytes ≡ limit_text x)
+    only bytes None true o dash is h = (tt, bytes_eq-equal bytes (codes "-") dash)
+    only bytes (Some n) true o dash is h = absurd (let bad : None ≡ Some n = cc in cc)
+    only bytes x false None dash is h = absurd (let bad : None ≡ Some x = h in cc)
+    only bytes None false (Some m) dash is h = absurd (let bad : Some m ≡ None = cc in cc)
+    only bytes (Some n) false (Some m) dash is h =
+        let same : m ≡ n = cc in number.only bytes n (is ∙ ap Some same)
+
+    found : (x : Option ℕ) → IsFitLimit x → limit_of (limit_text x) ≡ Some x
+    found None fits = refl
+    found (Some n) fits = rw (decimal_no_dash n (omega arith), number.found n fits) refl
+
+pub limit_short : (x : Option ℕ) → IsFitLimit x → length (limit_text x) ≤ 80
+limit_short None fits = omega arith
+limit_short (Some n) fits = number_short n (omega arith)
+
+pub limit_no_space : (x : Option ℕ) → IsFitLimit x → lacks 32 (limit_text x) ≡ true
+limit_no_space None fits = refl
+limit_no_space (Some n) fits = decimal_no_space n (omega arith)
+
+top : IsSpelled (number_between 1 999) decimal (IsWithin 1 999)
+top = number_spelled 1 999 (omega arith)
+
+percent : IsSpelled (number_between 1 75) decimal (IsWithin 1 75)
+percent = number_spelled 1 75 (omega arith)
+
+abbrev IsAdvance : List ℕ → Advance → Type 0
+IsAdvance bytes x = IsFitAdvance x × (bytes ≡ advance_text x)
+
+-- a number behind four bytes that say what it is of
+behind_word : (make : ℕ → Advance) (word bytes : List ℕ) (of : List ℕ → Option ℕ) (x : Advance)
+    → bytes_eq (take 4 bytes) word ≡ true → ((n : ℕ) → word ++ decimal n ≡ advance_text (make n))
+    → ((n : ℕ) → of (drop 4 bytes) ≡ Some n → IsFitAdvance (make n) × (drop 4 bytes ≡ decimal n))
+    → (o : Option ℕ) → of (drop 4 bytes) ≡ o → option_map make o ≡ Some x → IsAdvance bytes x
+behind_word make word bytes of x is text read None e h = absurd (let bad : None ≡ Some x = h in cc)
+behind_word make word bytes of x is text read (Some n) e h =
+    let same : make n ≡ x = cc in
+    let number = read n e in
+    subst (IsAdvance bytes) same (
+      number.0,
+      sym (take-append-drop 4 bytes) ∙ ap (λ y. take 4 bytes ++ y) number.1
+          ∙ ap (λ y. y ++ decimal n) (bytes_eq-equal (take 4 bytes) word is) ∙ text n,
+    )
+
+pub advance_spelled : IsSpelled advance_of advance_text IsFitAdvance
+advance_spelled = record {
+  only = λ bytes x h. final bytes x (bytes_eq bytes (codes "final")) refl h;
+  found = found;
+}
+  where
+    percents : (bytes : List ℕ) (x : Advance) (b : Bool)
+        → bytes_eq (take 4 bytes) (codes "pct:") ≡ b
+        → cond b (option_map Percent (number_between 1 75 (drop 4 bytes))) None ≡ Some x
+        → IsAdvance bytes x
+    percents bytes x false is h = absurd (let bad : None ≡ Some x = h in cc)
+    percents bytes x true is h =
+        behind_word Percent (codes "pct:") bytes (number_between 1 75) x is (λ n. refl)
+        (λ n e. percent.only (drop 4 bytes) n e) (number_between 1 75 (drop 4 bytes)) refl h
+
+    tops : (bytes : List ℕ) (x : Advance) (b : Bool) → bytes_eq (take 4 bytes) (codes "top:") ≡ b
+        → cond b (option_map Top (number_between 1 999 (drop 4 bytes)))
+        (cond (bytes_eq (take 4 bytes) (codes "pct:"))
+        (option_map Percent (number_between 1 75 (drop 4 bytes))) None)
+        ≡ Some x
+        → IsAdvance bytes x
+    tops bytes x false is h = percents bytes x (bytes_eq (take 4 bytes) (codes "pct:")) refl h
+    tops bytes x true is h =
+        behind_word Top (codes "top:") bytes (number_between 1 999) x is (λ n. refl)
+        (λ n e. top.only (drop 4 bytes) n e) (number_between 1 999 (drop 4 bytes)) refl h
+
+    final : (bytes : List ℕ) (x : Advance) (b : Bool) → bytes_eq bytes (codes "final") ≡ b
+        → cond b (Some Final)
+        (cond (bytes_eq (take 4 bytes) (codes "top:"))
+        (option_map Top (number_between 1 999 (drop 4 bytes)))
+        (cond (bytes_eq (take 4 bytes) (codes "pct:"))
+        (option_map Percent (number_between 1 75 (drop 4 bytes))) None))
+        ≡ Some x
+        → IsAdvance bytes x
+    final bytes x false is h = tops bytes x (bytes_eq (take 4 bytes) (codes "top:")) refl h
+    final bytes x true is h =
+        let same : Final ≡ x = cc in
+        subst (IsAdvance bytes) same (tt, bytes_eq-equal bytes (codes "final") is)
+
+    found : (x : Advance) → IsFitAdvance x → advance_of (advance_text x) ≡ Some x
+    found Final fits = refl
+    found (Top n) fits = rw (top.found n fits) refl
+    found (Percent n) fits = rw (percent.found n fits) refl
+
+pub advance_short : (x : Advance) → IsFitAdvance x → length (advance_text x) ≤ 80
+advance_short Final fits = omega arith
+advance_short (Top n) fits =
+    let few = length-decimal-le 7 n (omega arith) (omega arith) (omega arith) in omega arith
+advance_short (Percent n) fits =
+    let few = length-decimal-le 7 n (omega arith) (omega arith) (omega arith) in omega arith
+
+pub advance_no_space : (x : Advance) → IsFitAdvance x → lacks 32 (advance_text x) ≡ true
+advance_no_space Final fits = refl
+advance_no_space (Top n) fits = decimal_no_space n (omega arith)
+advance_no_space (Percent n) fits = decimal_no_space n (omega arith)
+
+-- Outcomes.
+
+hundredths : IsSpelled (number_between 1 999999) decimal (IsWithin 1 999999)
+hundredths = number_spelled 1 999999 (omega arith)
+
+penalties : IsSpelled (number_between 0 9) decimal (IsWithin 0 9)
+penalties = number_spelled 0 9 (omega arith)
+
+-- a time and its penalties, behind `T:`
+abbrev IsTime : List ℕ × Option (List ℕ) → Entered → Type 0
+IsTime parts x = IsEntered x × (codes "T:" ++ (parts.0 ++ behind 58 parts.1) ≡ entered_text x)
+
+time-only : (parts : List ℕ × Option (List ℕ)) (x : Entered) → time_of parts ≡ Some x
+    → IsTime parts x
+time-only parts x h = step (two_numbers (number_between 1 999999) (number_between 0 9) parts) refl h
+  where
+    step : (o : Option (ℕ × ℕ))
+        → two_numbers (number_between 1 999999) (number_between 0 9) parts ≡ o
+        → option_map time_with o ≡ Some x → IsTime parts x
+    step None is e = absurd (let bad : None ≡ Some x = e in cc)
+    step (Some p) is e =
+        let same : time_with p ≡ x = cc in
+        let read = pair-only _ _ _ _ hundredths penalties parts p is in
+        subst (IsTime parts) same (read.0, ap (λ y. codes "T:" ++ y) read.1)
+
+abbrev IsRead : List ℕ → Entered → Type 0
+IsRead bytes x = IsEntered x × (bytes ≡ entered_text x)
+
+pub entered_spelled : IsSpelled entered_of entered_text IsEntered
+unfolding entered_of
+entered_spelled = record {
+  only = λ bytes x h. dnf bytes x (bytes_eq bytes (codes "DNF")) refl h;
+  found = found;
+}
+  where
+    moves : (bytes : List ℕ) (x : Entered) (o : Option (List Move))
+        → bytes_eq (take 2 bytes) (codes "S:") ≡ true → moves_of (drop 2 bytes) ≡ o
+        → option_map Solution o ≡ Some x → IsRead bytes x
+    moves bytes x None is are h = absurd (let bad : None ≡ Some x = h in cc)
+    moves bytes x (Some ms) is are h =
+        let same : Solution ms ≡ x = cc in
+        let read = moves_spelled.only (drop 2 bytes) ms are in
+        subst (IsRead bytes) same (
+          read.0,
+          sym (take-append-drop 2 bytes) ∙ ap (λ y. take 2 bytes ++ y) read.1
+              ∙ ap (λ y. y ++ moves_text ms) (bytes_eq-equal (take 2 bytes) (codes "S:") is),
+        )
+
+    solution : (bytes : List ℕ) (x : Entered) (b : Bool) → bytes_eq (take 2 bytes) (codes "S:") ≡ b
+        → cond b (option_map Solution (moves_of (drop 2 bytes))) None ≡ Some x → IsRead bytes x
+    solution bytes x false is h = absurd (let bad : None ≡ Some x = h in cc)
+    solution bytes x true is h = moves bytes x (moves_of (drop 2 bytes)) is refl h
+
+    time : (bytes : List ℕ) (x : Entered) (b : Bool) → bytes_eq (take 2 bytes) (codes "T:") ≡ b
+        → cond b (time_of (cut 58 (drop 2 bytes)))
+        (cond (bytes_eq (take 2 bytes) (codes "S:")) (option_map Solution (moves_of (drop 2 bytes)))
+        None)
+        ≡ Some x
+        → IsRead bytes x
+    time bytes x false is h = solution bytes x (bytes_eq (take 2 bytes) (codes "S:")) refl h
+    time bytes x true is h =
+        let spelled = time-only (cut 58 (drop 2 bytes)) x h in (
+          spelled.0,
+          sym (take-append-drop 2 bytes)
+              ∙ ap (λ y. take 2 bytes ++ y) (cut_spelled 58 (drop 2 bytes))
+              ∙ rw (bytes_eq-equal (take 2 bytes) (codes "T:") is) spelled.1,
+        )
+
+    dns : (bytes : List ℕ) (x : Entered) (b : Bool) → bytes_eq bytes (codes "DNS") ≡ b
+        → cond b (Some Dns)
+        (cond (bytes_eq (take 2 bytes) (codes "T:")) (time_of (cut 58 (drop 2 bytes)))
+        (cond (bytes_eq (take 2 bytes) (codes "S:")) (option_map Solution (moves_of (drop 2 bytes)))
+        None))
+        ≡ Some x
+        → IsRead bytes x
+    dns bytes x false is h = time bytes x (bytes_eq (take 2 bytes) (codes "T:")) refl h
+    dns bytes x true is h =
+        let same : Dns ≡ x = cc in
+        subst (IsRead bytes) same (tt, bytes_eq-equal bytes (codes "DNS") is)
+
+    dnf : (bytes : List ℕ) (x : Entered) (b : Bool) → bytes_eq bytes (codes "DNF") ≡ b
+        → cond b (Some Dnf)
+        (cond (bytes_eq bytes (codes "DNS")) (Some Dns)
+        (cond (bytes_eq (take 2 bytes) (codes "T:")) (time_of (cut 58 (drop 2 bytes)))
+        (cond (bytes_eq (take 2 bytes) (codes "S:")) (option_map Solution (moves_of (drop 2 bytes)))
+        None)))
+        ≡ Some x
+        → IsRead bytes x
+    dnf bytes x false is h = dns bytes x (bytes_eq bytes (codes "DNS")) refl h
+    dnf bytes x true is h =
+        let same : Dnf ≡ x = cc in
+        subst (IsRead bytes) same (tt, bytes_eq-equal bytes (codes "DNF") is)
+
+    found : (x : Entered) → IsEntered x → entered_of (entered_text x) ≡ Some x
+    found (Time t p) fits =
+        rw (pair-found _ _ _ _ hundredths penalties t p (omega arith) fits.0 fits.1) refl
+    found (Solution ms) fits = rw (moves_spelled.found ms fits) refl
+    found Dnf fits = refl
+    found Dns fits = refl

@@ -1,0 +1,512 @@
+-- A text is read as a command exactly where it is the spelling of the command.
+use Rattle.std.proofs.Common.{◌≡◌, ℕ, ◌+◌, ◌*◌, ◌≤◌, Bool, true, false, cond, nat_lt, List, [], ◌∷◌, ◌++◌, length, codes, decimal, bytes_eq, Option, Some, None, Result, Ok, Err, refl, sym, ap, ◌∙◌, subst, arith, length-append}
+use Rattle.std.specs.List.{join_with_byte}
+use Rattle.std.specs.Option.{ok_or}
+use Rattle.std.specs.Result.{IfOk}
+use Rattle.std.proofs.lemmas.Bool.Decides.{nat_tests}
+use Rattle.std.proofs.lemmas.List.{append-nil}
+use Rattle.formats.specs.declared.events.Event.{Event}
+use Rattle.formats.specs.Events.{event_name, event_named, format_name}
+use Rattle.formats.specs.declared.advance.Advance.{Advance}
+use Rattle.cube.specs.declared.moves.Move.{Move}
+use Rattle.notation.specs.Notation.{spelling as moves_text}
+use Rattle.texts.specs.declared.command.Command.{Command}
+use Rattle.texts.specs.declared.command.Command.TheVariants.{Register, Open, Enter, Scramble, Attempt, Correct, Strike, SetAdvance, Close}
+use Rattle.texts.specs.declared.command.Entered.{Entered}
+use Rattle.texts.specs.declared.command.Settings.{Settings}
+use Rattle.texts.specs.declared.reading.CommandFault.{CommandFault}
+use Rattle.texts.specs.declared.reading.CommandFault.TheVariants as fault
+use Rattle.texts.specs.Spelling.{spelling, IsFit, IsWithin, last_round, cutoff_text, limit_text, advance_text, entered_text}
+use Rattle.texts.specs.Fields.{cut, number_between}
+use Rattle.texts.specs.Reading.{◌>>=◌, field, last_field, no_field, register_of, open_of, enter_of, scramble_of, attempt_of, correct_of, strike_of, set_advance_of, close_of, moves_field, by_word, command_of, Gives, ReadsAs}
+use Rattle.texts.proofs.Cuts.{behind, cut_spelled, cut-behind, lacks}
+use Rattle.texts.proofs.Spelled.{IsSpelled, bytes_eq-equal}
+use Rattle.texts.proofs.MoveSpellings.{moves_spelled}
+use Rattle.texts.proofs.FieldSpellings.{number_spelled, number_short, decimal_no_space, name_spelled, name_short, event_spelled, event_short, event_no_space, format_spelled, format_short, format_no_space, cutoff_spelled, cutoff_short, cutoff_no_space, limit_spelled, limit_short, limit_no_space, advance_spelled, advance_short, advance_no_space, entered_spelled}
+use Rattle.texts.proofs.TakenFields.{field_only, last_only, none_only, field_then, field_last, ok_equal}
+
+-- What the words take.
+
+abbrev pub Spells : List ℕ → Command → Type 0
+Spells bytes c = IsFit c × (bytes ≡ spelling c)
+
+number : IsSpelled (number_between 1 9999) decimal (IsWithin 1 9999)
+number = number_spelled 1 9999 (omega arith)
+
+round : IsSpelled (number_between 1 last_round) decimal (IsWithin 1 last_round)
+round = number_spelled 1 last_round (omega arith)
+
+attempt : IsSpelled (number_between 1 5) decimal (IsWithin 1 5)
+attempt = number_spelled 1 5 (omega arith)
+
+register_only : (left : Option (List ℕ)) (c : Command) → register_of left ≡ Ok c
+    → Spells (codes "REG" ++ behind 32 left) c
+unfolding register_of
+register_only left c h =
+    let n = field_only number 1 left _ c h in
+    let name = last_only name_spelled 2 n.left' _ c n.next in
+    let same : Register n.value name.value ≡ c = ok_equal _ c name.next in
+    subst (Spells (codes "REG" ++ behind 32 left)) same
+    ((n.fits, name.fits), rw (n.spelled, name.spelled) refl)
+
+open_only : (left : Option (List ℕ)) (c : Command) → open_of left ≡ Ok c
+    → Spells (codes "OPEN" ++ behind 32 left) c
+unfolding open_of
+open_only left c h =
+    let event = field_only event_spelled 1 left _ c h in
+    let r = field_only round 2 event.left' _ c event.next in
+    let form = field_only format_spelled 3 r.left' _ c r.next in
+    let cutoff = field_only cutoff_spelled 4 form.left' _ c form.next in
+    let limit = field_only limit_spelled 5 cutoff.left' _ c cutoff.next in
+    let advance = field_only advance_spelled 6 limit.left' _ c limit.next in
+    let end = none_only 7 advance.left' _ c advance.next in
+    let settings : Settings =
+    record {
+      format = form.value;
+      cutoff = cutoff.value;
+      limit = limit.value;
+      advance = advance.value;
+    } in
+    let same : Open event.value r.value settings ≡ c = ok_equal _ c end.1 in
+    subst (Spells (codes "OPEN" ++ behind 32 left)) same (
+      (r.fits, (cutoff.fits, limit.fits, advance.fits)),
+      rw (
+        event.spelled,
+        r.spelled,
+        form.spelled,
+        cutoff.spelled,
+        limit.spelled,
+        advance.spelled,
+        end.0,
+        append-nil,
+      )
+          refl,
+    )
+
+enter_only : (left : Option (List ℕ)) (c : Command) → enter_of left ≡ Ok c
+    → Spells (codes "ENT" ++ behind 32 left) c
+unfolding enter_of
+enter_only left c h =
+    let event = field_only event_spelled 1 left _ c h in
+    let n = field_only number 2 event.left' _ c event.next in
+    let end = none_only 3 n.left' _ c n.next in
+    let same : Enter event.value n.value ≡ c = ok_equal _ c end.1 in
+    subst (Spells (codes "ENT" ++ behind 32 left)) same
+    (n.fits, rw (event.spelled, n.spelled, end.0, append-nil) refl)
+
+scramble_only : (left : Option (List ℕ)) (c : Command)
+    → length (codes "SCR" ++ behind 32 left) ≤ 600 → scramble_of left ≡ Ok c
+    → Spells (codes "SCR" ++ behind 32 left) c
+unfolding scramble_of
+scramble_only left c short h =
+    let event = field_only event_spelled 1 left _ c h in
+    let r = field_only round 2 event.left' _ c event.next in
+    let k = field_only attempt 3 r.left' _ c r.next in
+    let moves = last_only moves_spelled 4 k.left' _ c k.next in
+    let same : Scramble event.value r.value k.value moves.value ≡ c = ok_equal _ c moves.next in
+    let spelled : codes "SCR" ++ behind 32 left
+    ≡ spelling (Scramble event.value r.value k.value moves.value) =
+    rw (event.spelled, r.spelled, k.spelled, moves.spelled) refl in
+    subst (Spells (codes "SCR" ++ behind 32 left)) same
+    ((r.fits, k.fits, moves.fits, subst (λ (x : List ℕ). length x ≤ 600) spelled short), spelled)
+
+attempt_only : (left : Option (List ℕ)) (c : Command) → length (codes "ATT" ++ behind 32 left) ≤ 600
+    → attempt_of left ≡ Ok c → Spells (codes "ATT" ++ behind 32 left) c
+unfolding attempt_of
+attempt_only left c short h =
+    let event = field_only event_spelled 1 left _ c h in
+    let r = field_only round 2 event.left' _ c event.next in
+    let k = field_only attempt 3 r.left' _ c r.next in
+    let n = field_only number 4 k.left' _ c k.next in
+    let outcome = last_only entered_spelled 5 n.left' _ c n.next in
+    let same : Attempt event.value r.value k.value n.value outcome.value ≡ c =
+    ok_equal _ c outcome.next in
+    let spelled : codes "ATT" ++ behind 32 left
+    ≡ spelling (Attempt event.value r.value k.value n.value outcome.value) =
+    rw (event.spelled, r.spelled, k.spelled, n.spelled, outcome.spelled) refl in
+    subst (Spells (codes "ATT" ++ behind 32 left)) same (
+      (r.fits, k.fits, n.fits, outcome.fits, subst (λ (x : List ℕ). length x ≤ 600) spelled short),
+      spelled,
+    )
+
+correct_only : (left : Option (List ℕ)) (c : Command) → length (codes "COR" ++ behind 32 left) ≤ 600
+    → correct_of left ≡ Ok c → Spells (codes "COR" ++ behind 32 left) c
+unfolding correct_of
+correct_only left c short h =
+    let event = field_only event_spelled 1 left _ c h in
+    let r = field_only round 2 event.left' _ c event.next in
+    let k = field_only attempt 3 r.left' _ c r.next in
+    let n = field_only number 4 k.left' _ c k.next in
+    let outcome = last_only entered_spelled 5 n.left' _ c n.next in
+    let same : Correct event.value r.value k.value n.value outcome.value ≡ c =
+    ok_equal _ c outcome.next in
+    let spelled : codes "COR" ++ behind 32 left
+    ≡ spelling (Correct event.value r.value k.value n.value outcome.value) =
+    rw (event.spelled, r.spelled, k.spelled, n.spelled, outcome.spelled) refl in
+    subst (Spells (codes "COR" ++ behind 32 left)) same (
+      (r.fits, k.fits, n.fits, outcome.fits, subst (λ (x : List ℕ). length x ≤ 600) spelled short),
+      spelled,
+    )
+
+strike_only : (left : Option (List ℕ)) (c : Command) → strike_of left ≡ Ok c
+    → Spells (codes "STR" ++ behind 32 left) c
+unfolding strike_of
+strike_only left c h =
+    let event = field_only event_spelled 1 left _ c h in
+    let r = field_only round 2 event.left' _ c event.next in
+    let n = field_only number 3 r.left' _ c r.next in
+    let end = none_only 4 n.left' _ c n.next in
+    let same : Strike event.value r.value n.value ≡ c = ok_equal _ c end.1 in
+    subst (Spells (codes "STR" ++ behind 32 left)) same
+    ((r.fits, n.fits), rw (event.spelled, r.spelled, n.spelled, end.0, append-nil) refl)
+
+set_advance_only : (left : Option (List ℕ)) (c : Command) → set_advance_of left ≡ Ok c
+    → Spells (codes "ADV" ++ behind 32 left) c
+unfolding set_advance_of
+set_advance_only left c h =
+    let event = field_only event_spelled 1 left _ c h in
+    let r = field_only round 2 event.left' _ c event.next in
+    let advance = field_only advance_spelled 3 r.left' _ c r.next in
+    let end = none_only 4 advance.left' _ c advance.next in
+    let same : SetAdvance event.value r.value advance.value ≡ c = ok_equal _ c end.1 in
+    subst (Spells (codes "ADV" ++ behind 32 left)) same
+    ((r.fits, advance.fits), rw (event.spelled, r.spelled, advance.spelled, end.0, append-nil) refl)
+
+close_only : (left : Option (List ℕ)) (c : Command) → close_of left ≡ Ok c
+    → Spells (codes "CLOSE" ++ behind 32 left) c
+unfolding close_of
+close_only left c h =
+    let event = field_only event_spelled 1 left _ c h in
+    let r = field_only round 2 event.left' _ c event.next in
+    let end = none_only 3 r.left' _ c r.next in
+    let same : Close event.value r.value ≡ c = ok_equal _ c end.1 in
+    subst (Spells (codes "CLOSE" ++ behind 32 left)) same
+    (r.fits, rw (event.spelled, r.spelled, end.0, append-nil) refl)
+
+-- a word, where it is the first of those that may stand there
+abbrev IsOnly : List ℕ × Option (List ℕ) → Result Command CommandFault → Command → Type 0
+IsOnly text read c = read ≡ Ok c → Spells (text.0 ++ behind 32 text.1) c
+
+word_only : (word : List ℕ) (of : Option (List ℕ) → Result Command CommandFault)
+    (others : Result Command CommandFault) (text : List ℕ × Option (List ℕ)) (c : Command)
+    (b : Bool)
+    → bytes_eq text.0 word ≡ b → length (text.0 ++ behind 32 text.1) ≤ 600
+    → ((left : Option (List ℕ)) → length (word ++ behind 32 left) ≤ 600 → of left ≡ Ok c
+    → Spells (word ++ behind 32 left) c)
+    → IsOnly text others c → IsOnly text (cond b (of text.1) others) c
+word_only word of others text c false is short this other h = other h
+word_only word of others text c true is short this other h =
+    let same = bytes_eq-equal text.0 word is in
+    rw same
+    (this text.1 (subst (λ (x : List ℕ). length (x ++ behind 32 text.1) ≤ 600) same short) h)
+
+by_word_only : (text : List ℕ × Option (List ℕ)) (c : Command)
+    → length (text.0 ++ behind 32 text.1) ≤ 600 → IsOnly text (by_word text) c
+by_word_only text c short =
+    word_only (codes "REG") register_of _ text c _ refl short (λ left s. register_only left c)
+    (word_only (codes "OPEN") open_of _ text c _ refl short (λ left s. open_only left c)
+    (word_only (codes "ENT") enter_of _ text c _ refl short (λ left s. enter_only left c)
+    (word_only (codes "SCR") scramble_of _ text c _ refl short (λ left s. scramble_only left c s)
+    (word_only (codes "ATT") attempt_of _ text c _ refl short (λ left s. attempt_only left c s)
+    (word_only (codes "COR") correct_of _ text c _ refl short (λ left s. correct_only left c s)
+    (word_only (codes "STR") strike_of _ text c _ refl short (λ left s. strike_only left c)
+    (word_only (codes "ADV") set_advance_of _ text c _ refl short
+    (λ left s. set_advance_only left c)
+    (word_only (codes "CLOSE") close_of (Err fault.NotACommand) text c _ refl short
+    (λ left s. close_only left c)
+    (λ e. absurd (let bad : Err fault.NotACommand ≡ Ok c = e in cc))))))))))
+
+pub spelled_only : (bytes : List ℕ) (c : Command) → command_of bytes ≡ Ok c → Spells bytes c
+unfolding command_of
+spelled_only bytes c h = step (nat_lt 600 (length bytes)) refl h
+  where
+    step : (b : Bool) → nat_lt 600 (length bytes) ≡ b
+        → cond b (Err fault.TooLong) (by_word (cut 32 bytes)) ≡ Ok c → Spells bytes c
+    step true is e = absurd (let bad : Err fault.TooLong ≡ Ok c = e in cc)
+    step false is e =
+        let short : length bytes ≤ 600 = grind (arith, nat_tests, is) in
+        let whole = cut_spelled 32 bytes in
+        subst (λ (x : List ℕ). Spells x c) (sym whole)
+        (by_word_only (cut 32 bytes) c (subst (λ (x : List ℕ). length x ≤ 600) whole short) e)
+
+-- What is spelled is short.
+
+abbrev AllShort : List (List ℕ) → Type 0
+AllShort [] = Unit {0}
+AllShort (word ∷ words) = (length word ≤ 80) × AllShort words
+
+join_short : (word : List ℕ) (words : List (List ℕ)) → AllShort (word ∷ words)
+    → length (join_with_byte 32 (word ∷ words)) + 1 ≤ 81 * (length words + 1)
+join_short word [] short = let h = short.0 in omega arith
+join_short word (other ∷ words) short =
+    let h = short.0 in
+    let rest = join_short other words short.1 in
+    let total = length-append word (32 ∷ join_with_byte 32 (other ∷ words)) in
+    omega arith
+
+pub spelling_short : (c : Command) → IsFit c → length (spelling c) ≤ 600
+spelling_short (Register n name) fits =
+    let whole =
+    join_short (codes "REG") (decimal n ∷ name ∷ [])
+    (omega arith, (number_short n (omega arith), (name_short name fits.1, tt))) in
+    omega arith
+spelling_short (Open e r s) fits =
+    let whole =
+    join_short (codes "OPEN")
+    (event_name e ∷ decimal r ∷ format_name s.format ∷ cutoff_text s.cutoff ∷ limit_text s.limit ∷
+    advance_text s.advance ∷ []) (
+      omega arith,
+      (
+        event_short e,
+        (
+          number_short r (omega arith),
+          (
+            format_short s.format,
+            (
+              cutoff_short s.cutoff fits.1.0,
+              (limit_short s.limit fits.1.1, (advance_short s.advance fits.1.2, tt)),
+            ),
+          ),
+        ),
+      ),
+    ) in
+    omega arith
+spelling_short (Enter e n) fits =
+    let whole =
+    join_short (codes "ENT") (event_name e ∷ decimal n ∷ [])
+    (omega arith, (event_short e, (number_short n (omega arith), tt))) in
+    omega arith
+spelling_short (Scramble e r k moves) fits = fits.3
+spelling_short (Attempt e r k n outcome) fits = fits.4
+spelling_short (Correct e r k n outcome) fits = fits.4
+spelling_short (Strike e r n) fits =
+    let whole =
+    join_short (codes "STR") (event_name e ∷ decimal r ∷ decimal n ∷ []) (
+      omega arith,
+      (event_short e, (number_short r (omega arith), (number_short n (omega arith), tt))),
+    ) in
+    omega arith
+spelling_short (SetAdvance e r advance) fits =
+    let whole =
+    join_short (codes "ADV") (event_name e ∷ decimal r ∷ advance_text advance ∷ []) (
+      omega arith,
+      (event_short e, (number_short r (omega arith), (advance_short advance fits.1, tt))),
+    ) in
+    omega arith
+spelling_short (Close e r) fits =
+    let whole =
+    join_short (codes "CLOSE") (event_name e ∷ decimal r ∷ [])
+    (omega arith, (event_short e, (number_short r (omega arith), tt))) in
+    omega arith
+
+-- What is spelled is read.
+
+number_no_space : (n : ℕ) → n ≤ 9999 → lacks 32 (decimal n) ≡ true
+number_no_space n small = decimal_no_space n (omega arith)
+
+register_found : (n : ℕ) (name : List ℕ) → IsFit (Register n name)
+    → register_of (Some (decimal n ++ 32 ∷ name)) ≡ Ok (Register n name)
+unfolding register_of
+register_found n name fits =
+    rw (
+      field_then number 1 n (Some name) fits.0 (number_no_space n (omega arith)),
+      name_spelled.found name fits.1,
+    )
+    refl
+
+enter_found : (e : Event) (n : ℕ) → IsFit (Enter e n)
+    → enter_of (Some (event_name e ++ 32 ∷ decimal n)) ≡ Ok (Enter e n)
+unfolding enter_of
+enter_found e n fits =
+    rw (
+      field_then event_spelled 1 e (Some (decimal n)) tt (event_no_space e),
+      field_last number 2 n fits (number_no_space n (omega arith)),
+    )
+    refl
+
+-- the first field, an event
+event_then : (e : Event) (left : List ℕ)
+    → field 1 event_named (Some (event_name e ++ 32 ∷ left)) ≡ Ok (e, Some left)
+event_then e left = field_then event_spelled 1 e (Some left) tt (event_no_space e)
+
+open_found : (e : Event) (r : ℕ) (s : Settings) → IsFit (Open e r s)
+    → open_of
+    (Some
+    (event_name e ++ 32 ∷
+    (decimal r ++ 32 ∷
+    (format_name s.format ++ 32 ∷
+    (cutoff_text s.cutoff ++ 32 ∷ (limit_text s.limit ++ 32 ∷ advance_text s.advance))))))
+    ≡ Ok (Open e r s)
+unfolding open_of
+open_found e r s fits =
+    rw (event_then e
+    (decimal r ++ 32 ∷
+    (format_name s.format ++ 32 ∷
+    (cutoff_text s.cutoff ++ 32 ∷ (limit_text s.limit ++ 32 ∷ advance_text s.advance)))))
+    (rw
+    (field_then round 2 r
+    (Some
+    (format_name s.format ++ 32 ∷
+    (cutoff_text s.cutoff ++ 32 ∷ (limit_text s.limit ++ 32 ∷ advance_text s.advance))))
+    fits.0 (decimal_no_space r (omega arith)))
+    (rw
+    (field_then format_spelled 3 s.format
+    (Some (cutoff_text s.cutoff ++ 32 ∷ (limit_text s.limit ++ 32 ∷ advance_text s.advance))) tt
+    (format_no_space s.format))
+    (rw
+    (field_then cutoff_spelled 4 s.cutoff (Some (limit_text s.limit ++ 32 ∷ advance_text s.advance))
+    fits.1.0 (cutoff_no_space s.cutoff fits.1.0))
+    (rw
+    (field_then limit_spelled 5 s.limit (Some (advance_text s.advance)) fits.1.1
+    (limit_no_space s.limit fits.1.1))
+    (rw (field_last advance_spelled 6 s.advance fits.1.2 (advance_no_space s.advance fits.1.2))
+    refl)))))
+
+scramble_found : (e : Event) (r k : ℕ) (moves : List Move) → IsFit (Scramble e r k moves)
+    → scramble_of
+    (Some (event_name e ++ 32 ∷ (decimal r ++ 32 ∷ (decimal k ++ 32 ∷ moves_text moves))))
+    ≡ Ok (Scramble e r k moves)
+unfolding scramble_of
+scramble_found e r k moves fits =
+    rw (event_then e (decimal r ++ 32 ∷ (decimal k ++ 32 ∷ moves_text moves)))
+    (rw
+    (field_then round 2 r (Some (decimal k ++ 32 ∷ moves_text moves)) fits.0
+    (decimal_no_space r (omega arith)))
+    (rw (field_then attempt 3 k (Some (moves_text moves)) fits.1 (decimal_no_space k (omega arith)))
+    (rw (moves_spelled.found moves fits.2) refl)))
+
+attempt_found : (e : Event) (r k n : ℕ) (outcome : Entered) → IsFit (Attempt e r k n outcome)
+    → attempt_of
+    (Some
+    (event_name e ++ 32 ∷
+    (decimal r ++ 32 ∷ (decimal k ++ 32 ∷ (decimal n ++ 32 ∷ entered_text outcome)))))
+    ≡ Ok (Attempt e r k n outcome)
+unfolding attempt_of
+attempt_found e r k n outcome fits =
+    rw (event_then e
+    (decimal r ++ 32 ∷ (decimal k ++ 32 ∷ (decimal n ++ 32 ∷ entered_text outcome))))
+    (rw
+    (field_then round 2 r (Some (decimal k ++ 32 ∷ (decimal n ++ 32 ∷ entered_text outcome))) fits.0
+    (decimal_no_space r (omega arith)))
+    (rw
+    (field_then attempt 3 k (Some (decimal n ++ 32 ∷ entered_text outcome)) fits.1
+    (decimal_no_space k (omega arith)))
+    (rw
+    (field_then number 4 n (Some (entered_text outcome)) fits.2 (number_no_space n (omega arith)))
+    (rw (entered_spelled.found outcome fits.3) refl))))
+
+correct_found : (e : Event) (r k n : ℕ) (outcome : Entered) → IsFit (Correct e r k n outcome)
+    → correct_of
+    (Some
+    (event_name e ++ 32 ∷
+    (decimal r ++ 32 ∷ (decimal k ++ 32 ∷ (decimal n ++ 32 ∷ entered_text outcome)))))
+    ≡ Ok (Correct e r k n outcome)
+unfolding correct_of
+correct_found e r k n outcome fits =
+    rw (event_then e
+    (decimal r ++ 32 ∷ (decimal k ++ 32 ∷ (decimal n ++ 32 ∷ entered_text outcome))))
+    (rw
+    (field_then round 2 r (Some (decimal k ++ 32 ∷ (decimal n ++ 32 ∷ entered_text outcome))) fits.0
+    (decimal_no_space r (omega arith)))
+    (rw
+    (field_then attempt 3 k (Some (decimal n ++ 32 ∷ entered_text outcome)) fits.1
+    (decimal_no_space k (omega arith)))
+    (rw
+    (field_then number 4 n (Some (entered_text outcome)) fits.2 (number_no_space n (omega arith)))
+    (rw (entered_spelled.found outcome fits.3) refl))))
+
+strike_found : (e : Event) (r n : ℕ) → IsFit (Strike e r n)
+    → strike_of (Some (event_name e ++ 32 ∷ (decimal r ++ 32 ∷ decimal n))) ≡ Ok (Strike e r n)
+unfolding strike_of
+strike_found e r n fits =
+    rw (event_then e (decimal r ++ 32 ∷ decimal n))
+    (rw (field_then round 2 r (Some (decimal n)) fits.0 (decimal_no_space r (omega arith)))
+    (rw (field_last number 3 n fits.1 (number_no_space n (omega arith))) refl))
+
+set_advance_found : (e : Event) (r : ℕ) (advance : Advance) → IsFit (SetAdvance e r advance)
+    → set_advance_of (Some (event_name e ++ 32 ∷ (decimal r ++ 32 ∷ advance_text advance)))
+    ≡ Ok (SetAdvance e r advance)
+unfolding set_advance_of
+set_advance_found e r advance fits =
+    rw (event_then e (decimal r ++ 32 ∷ advance_text advance))
+    (rw
+    (field_then round 2 r (Some (advance_text advance)) fits.0 (decimal_no_space r (omega arith)))
+    (rw (field_last advance_spelled 3 advance fits.1 (advance_no_space advance fits.1)) refl))
+
+close_found : (e : Event) (r : ℕ) → IsFit (Close e r)
+    → close_of (Some (event_name e ++ 32 ∷ decimal r)) ≡ Ok (Close e r)
+unfolding close_of
+close_found e r fits =
+    rw (event_then e (decimal r))
+    (rw (field_last round 2 r fits (decimal_no_space r (omega arith))) refl)
+
+word_found : (word left : List ℕ) → lacks 32 word ≡ true → length (word ++ 32 ∷ left) ≤ 600
+    → command_of (word ++ 32 ∷ left) ≡ by_word (word, Some left)
+unfolding command_of
+word_found word left none short =
+    let fits : nat_lt 600 (length (word ++ 32 ∷ left)) ≡ false = grind (arith, nat_tests) in
+    rw (fits, cut-behind 32 word (Some left) none) refl
+
+pub spelled_found : (c : Command) → IsFit c → command_of (spelling c) ≡ Ok c
+spelled_found (Register n name) fits =
+    word_found (codes "REG") _ refl (spelling_short (Register n name) fits)
+    ∙ register_found n name fits
+spelled_found (Open e r s) fits =
+    word_found (codes "OPEN") _ refl (spelling_short (Open e r s) fits) ∙ open_found e r s fits
+spelled_found (Enter e n) fits =
+    word_found (codes "ENT") _ refl (spelling_short (Enter e n) fits) ∙ enter_found e n fits
+spelled_found (Scramble e r k moves) fits =
+    word_found (codes "SCR") _ refl (spelling_short (Scramble e r k moves) fits)
+    ∙ scramble_found e r k moves fits
+spelled_found (Attempt e r k n outcome) fits =
+    word_found (codes "ATT") _ refl (spelling_short (Attempt e r k n outcome) fits)
+    ∙ attempt_found e r k n outcome fits
+spelled_found (Correct e r k n outcome) fits =
+    word_found (codes "COR") _ refl (spelling_short (Correct e r k n outcome) fits)
+    ∙ correct_found e r k n outcome fits
+spelled_found (Strike e r n) fits =
+    word_found (codes "STR") _ refl (spelling_short (Strike e r n) fits) ∙ strike_found e r n fits
+spelled_found (SetAdvance e r advance) fits =
+    word_found (codes "ADV") _ refl (spelling_short (SetAdvance e r advance) fits)
+    ∙ set_advance_found e r advance fits
+spelled_found (Close e r) fits =
+    word_found (codes "CLOSE") _ refl (spelling_short (Close e r) fits) ∙ close_found e r fits
+
+pub spelled_once : (c d : Command) → IsFit c → IsFit d → spelling c ≡ spelling d → c ≡ d
+spelled_once c d fits fits' same =
+    ok_equal c d (sym (spelled_found c fits) ∙ ap command_of same ∙ spelled_found d fits')
+
+-- What `read` answers.
+
+pub gives_too_long : (moves : ℕ) (bytes : List ℕ) → nat_lt 600 (length bytes) ≡ true
+    → Gives moves (Err fault.TooLong) (command_of bytes)
+unfolding command_of
+gives_too_long moves bytes long = rw long refl
+
+pub gives_word : (r : Result Command CommandFault) (bytes : List ℕ)
+    (parts : List ℕ × Option (List ℕ))
+    → nat_lt 600 (length bytes) ≡ false → parts ≡ cut 32 bytes
+    → Gives (moves_field parts.0) r (by_word parts)
+    → Gives (moves_field (cut 32 bytes).0) r (command_of bytes)
+unfolding command_of
+gives_word r bytes parts short same h =
+    rw short
+    (subst (λ (p : List ℕ × Option (List ℕ)). Gives (moves_field p.0) r (by_word p)) same h)
+
+pub gives_found : (moves : ℕ) (r : Result Command CommandFault) (bytes : List ℕ)
+    → Gives moves r (command_of bytes) → (c : Command) → IsFit c → bytes ≡ spelling c → ReadsAs r c
+gives_found moves r bytes h c fits same =
+    step r (subst (Gives moves r) (ap command_of same ∙ spelled_found c fits) h)
+  where
+    step : (r : Result Command CommandFault) → Gives moves r (Ok c) → ReadsAs r c
+    step (Ok d) e = sym (ok_equal c d e)
+    step (Err fault.NoMemory) e = refl
+    step (Err fault.TooLong) e = absurd (let bad : Ok c ≡ Err fault.TooLong = e in cc)
+    step (Err fault.NotACommand) e = absurd (let bad : Ok c ≡ Err fault.NotACommand = e in cc)
+    step (Err (fault.BadField index)) e =
+        absurd (let bad : Ok c ≡ Err (fault.BadField index) = e in cc)
+
+pub gives_only : (moves : ℕ) (r : Result Command CommandFault) (bytes : List ℕ)
+    → Gives moves r (command_of bytes) → IfOk r (λ c. IsFit c × (bytes ≡ spelling c))
+gives_only moves (Ok c) bytes h = spelled_only bytes c h
+gives_only moves (Err e) bytes h = _

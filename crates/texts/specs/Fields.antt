@@ -1,0 +1,127 @@
+-- The fields of commands. Each is read from its bytes, or is misspelt.
+use Rattle.std.specs.Prelude.{ℕ, ◌+◌, ◌==◌, if◌then◌else◌, List, [], ◌∷◌, map, flat_map, find, length, nat_le, take, drop, position, bytes_eq, codes, decimal, Option, Some, None}
+use Rattle.std.specs.List.{slice_split}
+use Rattle.std.specs.Option.{option_and_then, option_map}
+use Rattle.cube.specs.declared.moves.Side.TheVariants.{U, R, F, D, L, B}
+use Rattle.cube.specs.declared.moves.Axis.TheVariants.{X, Y, Z}
+use Rattle.cube.specs.declared.moves.Kind.{Kind}
+use Rattle.cube.specs.declared.moves.Kind.TheVariants.{Face, Block, Turn}
+use Rattle.cube.specs.declared.moves.Quarter.{Quarter}
+use Rattle.cube.specs.declared.moves.Quarter.TheVariants.{Clockwise, Half, Anticlockwise}
+use Rattle.cube.specs.declared.moves.Move.{Move}
+use Rattle.notation.specs.Tokens.{token}
+use Rattle.formats.specs.declared.advance.Advance.{Advance}
+use Rattle.formats.specs.declared.advance.Advance.TheVariants.{Final, Top, Percent}
+use Rattle.texts.specs.declared.command.Entered.{Entered}
+use Rattle.texts.specs.declared.command.Entered.TheVariants as entered
+use Rattle.texts.specs.Numerals.{digits_value, within}
+use Rattle.texts.specs.Spelling.{is_name}
+
+-- What stands before the first of a byte, and what stands behind it, where it is there.
+abbrev pub cut_at : List ℕ → Option ℕ → List ℕ × Option (List ℕ)
+cut_at bytes None = (bytes, None)
+cut_at bytes (Some i) = (take i bytes, Some (drop (i + 1) bytes))
+
+unfoldable pub cut : ℕ → List ℕ → List ℕ × Option (List ℕ)
+cut by bytes = cut_at bytes (position (λ b. b == by) bytes)
+
+-- a number in a range, as it is printed in decimal
+unfoldable pub number_between : ℕ → ℕ → List ℕ → Option ℕ
+number_between low high bytes =
+    if bytes_eq bytes (decimal (digits_value bytes)) then within low high (digits_value bytes)
+    else None
+
+unfoldable pub name_of : List ℕ → Option (List ℕ)
+name_of bytes = if is_name bytes then Some bytes else None
+
+-- two numbers, each read in its way
+abbrev pub pair_with : ℕ → ℕ → ℕ × ℕ
+pair_with a b = (a, b)
+
+abbrev pub second_number : (List ℕ → Option ℕ) → ℕ → Option (List ℕ) → Option (ℕ × ℕ)
+second_number of a None = None
+second_number of a (Some bytes) = option_map (pair_with a) (of bytes)
+
+abbrev pub two_numbers : (List ℕ → Option ℕ) → (List ℕ → Option ℕ) → List ℕ × Option (List ℕ)
+    → Option (ℕ × ℕ)
+two_numbers first second parts =
+    option_and_then (λ a. second_number second a parts.1) (first parts.0)
+
+-- `-`, or attempts and what is to be below, with a colon between
+abbrev pub cutoff_of : List ℕ → Option (Option (ℕ × ℕ))
+cutoff_of bytes =
+    if bytes_eq bytes (codes "-") then Some None
+    else option_map Some (two_numbers (number_between 1 4) (number_between 1 360000) (cut 58 bytes))
+
+abbrev pub limit_of : List ℕ → Option (Option ℕ)
+limit_of bytes =
+    if bytes_eq bytes (codes "-") then Some None
+    else option_map Some (number_between 1 360000 bytes)
+
+abbrev pub percent_of : List ℕ → Option Advance
+percent_of bytes =
+    if bytes_eq (take 4 bytes) (codes "pct:")
+    then option_map Percent (number_between 1 75 (drop 4 bytes)) else None
+
+abbrev pub advance_of : List ℕ → Option Advance
+advance_of bytes =
+    if bytes_eq bytes (codes "final") then Some Final
+    else if bytes_eq (take 4 bytes) (codes "top:")
+    then option_map Top (number_between 1 999 (drop 4 bytes))
+    else percent_of bytes
+
+abbrev pub kinds : List Kind
+kinds =
+    Face U ∷ Face R ∷ Face F ∷ Face D ∷ Face L ∷ Face B
+    ∷ Block U ∷ Block R ∷ Block F ∷ Block D ∷ Block L ∷ Block B ∷ Turn X ∷ Turn Y ∷ Turn Z ∷ []
+
+abbrev pub quarters : List Quarter
+quarters = Clockwise ∷ Half ∷ Anticlockwise ∷ []
+
+abbrev pub move_by : Kind → Quarter → Move
+move_by kind quarter = record { kind = kind; quarter = quarter }
+
+abbrev pub every_move : List Move
+every_move = flat_map (λ kind. map (move_by kind) quarters) kinds
+
+-- the move of a token
+unfoldable pub move_of : List ℕ → Option Move
+move_of bytes = find (λ move. bytes_eq (token move) bytes) every_move
+
+-- what all of these are, where each is there
+abbrev pub all_of : {A : Type 0} → List (Option A) → Option (List A)
+all_of [] = Some []
+all_of (o ∷ os) = option_and_then (λ x. option_map (λ xs. x ∷ xs) (all_of os)) o
+
+abbrev pub at_most_400 : List Move → Option (List Move)
+at_most_400 moves = if nat_le (length moves) 400 then Some moves else None
+
+-- moves in notation with exactly one space between tokens: each part between spaces is a token
+unfoldable pub moves_of : List ℕ → Option (List Move)
+moves_of bytes =
+    option_and_then at_most_400 (all_of (map move_of (slice_split (λ b. b == 32) bytes)))
+
+abbrev pub time_with : ℕ × ℕ → Entered
+time_with time = entered.Time time.0 time.1
+
+abbrev pub time_of : List ℕ × Option (List ℕ) → Option Entered
+time_of parts =
+    option_map time_with (two_numbers (number_between 1 999999) (number_between 0 9) parts)
+
+unfoldable pub entered_of : List ℕ → Option Entered
+entered_of bytes =
+    if bytes_eq bytes (codes "DNF") then Some entered.Dnf
+    else if bytes_eq bytes (codes "DNS") then Some entered.Dns
+    else if bytes_eq (take 2 bytes) (codes "T:") then time_of (cut 58 (drop 2 bytes))
+    else if bytes_eq (take 2 bytes) (codes "S:")
+    then option_map entered.Solution (moves_of (drop 2 bytes))
+    else None
+
+abbrev pub IsSolution : Entered → Type 0
+IsSolution (entered.Solution moves) = Unit {0}
+IsSolution _ = ⊥
+
+-- a solution, or misspelt
+abbrev pub MayBeSolution : Option Entered → Type 0
+MayBeSolution None = Unit {0}
+MayBeSolution (Some outcome) = IsSolution outcome

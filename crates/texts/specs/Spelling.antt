@@ -1,0 +1,133 @@
+-- How a command is spelled: a word and its fields, parted by one space each. And the ranges of the
+-- fields.
+use Rattle.std.specs.Prelude.{◌≤◌, ℕ, Bool, ◌==◌, ◌&&◌, not, nat_lt, nat_le, IsTrue, List, [], ◌∷◌, ◌++◌, length, codes, decimal, Option, None, Some}
+use Rattle.std.specs.List.{list_all, slice_split, join_with_byte}
+use Rattle.std.specs.Str.{is_utf8}
+use Rattle.formats.specs.Events.{event_name, format_name}
+use Rattle.cube.specs.declared.moves.Move.{Move}
+use Rattle.notation.specs.Notation.{spelling as moves_text}
+use Rattle.formats.specs.declared.advance.Advance.{Advance}
+use Rattle.formats.specs.declared.advance.Advance.TheVariants.{Final, Top, Percent}
+use Rattle.texts.specs.declared.command.Command.{Command}
+use Rattle.texts.specs.declared.command.Command.TheVariants.{Register, Open, Enter, Scramble, Attempt, Correct, Strike, SetAdvance, Close}
+use Rattle.texts.specs.declared.command.Entered.{Entered}
+use Rattle.texts.specs.declared.command.Entered.TheVariants as entered
+use Rattle.texts.specs.declared.command.Settings.{Settings}
+
+-- after k attempts, below c: `k:c`
+abbrev pub cutoff_text : Option (ℕ × ℕ) → List ℕ
+cutoff_text None = codes "-"
+cutoff_text (Some cutoff) = decimal cutoff.0 ++ codes ":" ++ decimal cutoff.1
+
+abbrev pub limit_text : Option ℕ → List ℕ
+limit_text None = codes "-"
+limit_text (Some limit) = decimal limit
+
+abbrev pub advance_text : Advance → List ℕ
+advance_text Final = codes "final"
+advance_text (Top number) = codes "top:" ++ decimal number
+advance_text (Percent percent) = codes "pct:" ++ decimal percent
+
+-- a time in hundredths and its penalties: `T:h:p`; a solution: `S:` and its moves, one space
+-- between neighbours
+abbrev pub entered_text : Entered → List ℕ
+entered_text (entered.Time time penalties) =
+    codes "T:" ++ decimal time ++ codes ":" ++ decimal penalties
+entered_text (entered.Solution moves) = codes "S:" ++ moves_text moves
+entered_text entered.Dnf = codes "DNF"
+entered_text entered.Dns = codes "DNS"
+
+-- the words of a command: its own, and its fields
+abbrev pub words_of : Command → List (List ℕ)
+words_of (Register number name) = codes "REG" ∷ decimal number ∷ name ∷ []
+words_of (Open event round settings) =
+    codes "OPEN" ∷ event_name event ∷ decimal round ∷ format_name settings.format
+    ∷ cutoff_text settings.cutoff ∷ limit_text settings.limit ∷ advance_text settings.advance ∷ []
+words_of (Enter event number) = codes "ENT" ∷ event_name event ∷ decimal number ∷ []
+words_of (Scramble event round attempt moves) =
+    codes "SCR" ∷ event_name event ∷ decimal round ∷ decimal attempt ∷ moves_text moves ∷ []
+words_of (Attempt event round attempt number outcome) =
+    codes "ATT" ∷ event_name event ∷ decimal round ∷ decimal attempt ∷ decimal number
+    ∷ entered_text outcome ∷ []
+words_of (Correct event round attempt number outcome) =
+    codes "COR" ∷ event_name event ∷ decimal round ∷ decimal attempt ∷ decimal number
+    ∷ entered_text outcome ∷ []
+words_of (Strike event round number) =
+    codes "STR" ∷ event_name event ∷ decimal round ∷ decimal number ∷ []
+words_of (SetAdvance event round advance) =
+    codes "ADV" ∷ event_name event ∷ decimal round ∷ advance_text advance ∷ []
+words_of (Close event round) = codes "CLOSE" ∷ event_name event ∷ decimal round ∷ []
+
+-- the spelling of a command
+abbrev pub spelling : Command → List ℕ
+spelling c = join_with_byte 32 (words_of c)
+
+-- The ranges of the fields.
+
+abbrev pub IsWithin : ℕ → ℕ → ℕ → Type 0
+IsWithin low high n = (low ≤ n) × (n ≤ high)
+
+abbrev pub last_round : ℕ
+last_round = 4
+
+abbrev pub is_name_byte : ℕ → Bool
+is_name_byte b = nat_le 32 b && not (b == 127)
+
+-- each part between spaces has a byte: no space is at an end, and no two are in a row
+abbrev pub has_single_spaces : List ℕ → Bool
+has_single_spaces bytes =
+    list_all (λ part. nat_lt 0 (length part)) (slice_split (λ b. b == 32) bytes)
+
+-- a name: 1 to 80 bytes of UTF-8, none below 32 and none 127, no space at an end, no two in a row
+abbrev pub is_name : List ℕ → Bool
+is_name bytes =
+    nat_le 1 (length bytes) && nat_le (length bytes) 80 && is_utf8 bytes && list_all is_name_byte
+    bytes && has_single_spaces bytes
+
+abbrev pub IsFitCutoff : Option (ℕ × ℕ) → Type 0
+IsFitCutoff None = Unit {0}
+IsFitCutoff (Some cutoff) = IsWithin 1 4 cutoff.0 × IsWithin 1 360000 cutoff.1
+
+abbrev pub IsFitLimit : Option ℕ → Type 0
+IsFitLimit None = Unit {0}
+IsFitLimit (Some limit) = IsWithin 1 360000 limit
+
+abbrev pub IsFitAdvance : Advance → Type 0
+IsFitAdvance Final = Unit {0}
+IsFitAdvance (Top number) = IsWithin 1 999 number
+IsFitAdvance (Percent percent) = IsWithin 1 75 percent
+
+abbrev pub IsFitSettings : Settings → Type 0
+IsFitSettings s = IsFitCutoff s.cutoff × IsFitLimit s.limit × IsFitAdvance s.advance
+
+abbrev pub AreMoves : List Move → Type 0
+AreMoves moves = IsWithin 1 400 (length moves)
+
+abbrev pub IsEntered : Entered → Type 0
+IsEntered (entered.Time time penalties) = IsWithin 1 999999 time × IsWithin 0 9 penalties
+IsEntered (entered.Solution moves) = AreMoves moves
+IsEntered entered.Dnf = Unit {0}
+IsEntered entered.Dns = Unit {0}
+
+-- the spelling has at most 600 bytes
+abbrev pub IsShort : Command → Type 0
+IsShort c = length (spelling c) ≤ 600
+
+-- a command whose fields are in their ranges, and whose moves leave it short: its spelling is one
+-- of the language
+abbrev pub IsFit : Command → Type 0
+IsFit (Register number name) = IsWithin 1 9999 number × IsTrue (is_name name)
+IsFit (Open event round settings) = IsWithin 1 last_round round × IsFitSettings settings
+IsFit (Enter event number) = IsWithin 1 9999 number
+IsFit (Scramble event round attempt moves) =
+    IsWithin 1 last_round round × IsWithin 1 5 attempt × AreMoves moves
+    × IsShort (Scramble event round attempt moves)
+IsFit (Attempt event round attempt number outcome) =
+    IsWithin 1 last_round round × IsWithin 1 5 attempt × IsWithin 1 9999 number × IsEntered outcome
+    × IsShort (Attempt event round attempt number outcome)
+IsFit (Correct event round attempt number outcome) =
+    IsWithin 1 last_round round × IsWithin 1 5 attempt × IsWithin 1 9999 number × IsEntered outcome
+    × IsShort (Correct event round attempt number outcome)
+IsFit (Strike event round number) = IsWithin 1 last_round round × IsWithin 1 9999 number
+IsFit (SetAdvance event round advance) = IsWithin 1 last_round round × IsFitAdvance advance
+IsFit (Close event round) = IsWithin 1 last_round round

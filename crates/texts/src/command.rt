@@ -1,0 +1,137 @@
+//! Commands: what a text of the list asks for.
+
+ghost use Rattle.std.specs.Prelude.{◌≡◌};
+
+use formats::{Advance, Event, Format};
+use notation::Moves;
+use std::marker::Model;
+
+/// A competitor's name, as bytes of text.
+#[derive(Drop)]
+pub struct Name {
+    bytes: Vec<u8>,
+}
+
+impl Model for Name {
+    ghost use Rattle.std.specs.Prelude.{List, ℕ};
+
+    ghost Value = { List ℕ };
+
+    ghost view = { λ name. name.bytes.items };
+}
+
+impl Name {
+    /// A name of these bytes. Whether they are a name that a command may give is for its reader to
+    /// say.
+    pub fn new(bytes: Vec<u8>) -> Self
+        ensures { result ≡ bytes.items }
+    {
+        Name { bytes }
+    }
+
+    /// The bytes of the name.
+    pub fn as_bytes(&self) -> &[u8]
+        ensures { result.now ≡ self.now }
+    {
+        &self.bytes
+    }
+
+    /// Gives the bytes back.
+    pub fn into_bytes(self) -> Vec<u8>
+        ensures { result.items ≡ self }
+    {
+        self.bytes
+    }
+}
+
+/// How a round is run.
+#[derive(Clone, Copy, Debug, PartialEq, Eq)]
+pub struct Settings {
+    /// How many attempts there are, and what counts of them.
+    pub format: Format,
+    /// After so many attempts (1 to 4) only those do the others who have one below so many
+    /// hundredths of a second, or moves in fewest moves (1 to 360,000).
+    pub cutoff: Option<(u8, u32)>,
+    /// The hundredths of a second (1 to 360,000) at which an attempt is too long.
+    pub limit: Option<u32>,
+    /// Who goes on to the next round.
+    pub advance: Advance,
+}
+
+/// What a judge enters for an attempt.
+#[derive(Drop)]
+pub enum Entered {
+    /// `T:`: a measured time of 1 to 999,999 hundredths of a second, and 0 to 9 penalties.
+    Time { hundredths: u32, penalties: u8 },
+    /// `S:`: a solution for the scramble of its attempt, as many moves as its text of at most 600
+    /// bytes holds.
+    Solution { moves: Moves },
+    /// `DNF`: did not finish.
+    Dnf,
+    /// `DNS`: did not start.
+    Dns,
+}
+
+/// What a text of the list asks for. Competitors' numbers are 1 to 9,999, rounds 1 to 4, attempts 1
+/// to 5.
+#[derive(Drop)]
+pub enum Command {
+    /// `REG`: gives a competitor a number and a name.
+    Register {
+        number: u16,
+        name: Name,
+    },
+    /// `OPEN`: opens a round of an event.
+    Open {
+        event: Event,
+        round: u8,
+        settings: Settings,
+    },
+    /// `ENT`: enters a competitor for the first round of an event.
+    Enter {
+        event: Event,
+        number: u16,
+    },
+    /// `SCR`: sets the scramble of an attempt of a round, as many moves as its text of at most 600
+    /// bytes holds.
+    Scramble {
+        event: Event,
+        round: u8,
+        attempt: u8,
+        moves: Moves,
+    },
+    /// `ATT`: what a competitor did in the next attempt of a round.
+    Attempt {
+        event: Event,
+        round: u8,
+        attempt: u8,
+        number: u16,
+        outcome: Entered,
+    },
+    /// `COR`: what a competitor did in an attempt of a round, in place of what was entered for it
+    /// before.
+    Correct {
+        event: Event,
+        round: u8,
+        attempt: u8,
+        number: u16,
+        outcome: Entered,
+    },
+    /// `STR`: strikes out a competitor's last attempt of a round.
+    Strike {
+        event: Event,
+        round: u8,
+        number: u16,
+    },
+    /// `ADV`: changes who advances from a round.
+    SetAdvance {
+        event: Event,
+        round: u8,
+        advance: Advance,
+    },
+    /// `CLOSE`: closes a round.
+    Close {
+        event: Event,
+        round: u8,
+    },
+}

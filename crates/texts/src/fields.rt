@@ -1,0 +1,235 @@
+//! The fields of commands, each from its bytes.
+
+ghost use Rattle.std.specs.Prelude.{◌≡◌, ◌≤◌, ◌==◌, ◌<◌, length, option_map, IfOk, IfSome, OnErr, position, true};
+ghost use Rattle.std.specs.List.{list_all};
+ghost use Rattle.std.specs.Str.{is_utf8};
+ghost use Rattle.texts.specs.Spelling.{is_name, is_name_byte, has_single_spaces};
+ghost use Rattle.std.specs.Char.{is_ascii_digit};
+ghost use Rattle.texts.specs.Numerals.{is_numeral, digits_value};
+ghost use Rattle.texts.specs.Fields.{cut, number_between, cutoff_of, two_numbers, limit_of, percent_of, advance_of, moves_of, time_of, entered_of, MayBeSolution};
+
+use crate::command::Entered;
+use formats::Advance;
+use notation::{Moves, NoMemory, ReadFault, printed_is_spelled};
+use std::alloc::Global;
+
+/// The last round that commands name.
+pub const LAST_ROUND: u32 = 4;
+
+fn place_of(bytes: &[u8], by: u8) -> Option<usize>
+    ensures value { result ≡ position (λ b. b == by) bytes.now }
+    ensures within { IfSome result (λ place. place < length bytes.now) }
+{
+    bytes.iter().position(|byte| *byte == by)
+}
+
+/// Parts a text at the first of a byte.
+#[tactic(auto, unfolding(crate::specs::Fields::cut))]
+pub fn cut(bytes: &[u8], by: u8) -> (&[u8], Option<&[u8]>)
+    ensures { (result.0.now, option_map (λ s. s.now) result.1) ≡ cut by bytes.now }
+{
+    match place_of(bytes, by) {
+        Some(place) => (&bytes[..place], Some(&bytes[place + 1..])),
+        None => (bytes, None),
+    }
+}
+
+fn is_digits(bytes: &[u8]) -> bool
+    ensures { result ≡ list_all is_ascii_digit bytes.now }
+{
+    bytes.iter().all(|byte| byte.is_ascii_digit())
+}
+
+/// One to seven decimal digits, with no zero in front of another.
+fn is_numeral(bytes: &[u8]) -> bool
+    ensures { result ≡ is_numeral bytes.now }
+{
+    !bytes.is_empty()
+        && bytes.len() <= 7
+        && is_digits(bytes)
+        && (bytes.len() == 1 || bytes[0] != b'0')
+}
+
+/// The number that digits stand for.
+fn digits_value(bytes: &[u8]) -> u32
+    requires few { length bytes.now ≤ 7 }
+    requires digits { list_all is_ascii_digit bytes.now ≡ true }
+    ensures { result ≡ digits_value bytes.now }
+{
+    let mut value: u32 = 0;
+    for byte in bytes {
+        value = 10 * value + u32::from(*byte - 48);
+    }
+    value
+}
+
+/// A number in a range, which ends below 10,000,000.
+#[tactic(auto, using(crate::proofs::Numerals::readings))]
+pub fn number_between(low: u32, high: u32, bytes: &[u8]) -> Option<u32>
+    requires { high < 10000000 }
+    ensures value { result ≡ number_between low high bytes.now }
+    ensures within { IfSome result (λ n. (low ≤ n) × (n ≤ high)) }
+{
+    if !is_numeral(bytes) {
+        return None;
+    }
+    let value = digits_value(bytes);
+    if low <= value && value <= high {
+        Some(value)
+    } else {
+        None
+    }
+}
+
+/// UTF-8.
+fn is_text(bytes: &[u8]) -> bool
+    ensures { result ≡ is_utf8 bytes.now }
+{
+    str::from_utf8(bytes).is_ok()
+}
+
+/// No control characters.
+fn is_printable(bytes: &[u8]) -> bool
+    ensures { result ≡ list_all is_name_byte bytes.now }
+{
+    bytes.iter().all(|byte| b' ' <= *byte && *byte != 127)
+}
+
+/// No space at an end, and no two in a row.
+fn has_single_spaces(bytes: &[u8]) -> bool
+    ensures { result ≡ has_single_spaces bytes.now }
+{
+    bytes
+        .split(|byte| *byte == b' ')
+        .all(|part| !part.is_empty())
+}
+
+/// A name: 1 to 80 bytes of UTF-8 without control characters, whose words are parted by one space
+/// each.
+pub fn is_name(bytes: &[u8]) -> bool
+    ensures { result ≡ is_name bytes.now }
+{
+    !bytes.is_empty()
+        && bytes.len() <= 80
+        && is_text(bytes)
+        && is_printable(bytes)
+        && has_single_spaces(bytes)
+}
+
+/// After how many attempts (1 to 4), and below what (1 to 360,000).
+#[tactic(auto, unfolding(crate::specs::Fields::cut))]
+fn below_of(bytes: &[u8]) -> Option<(u8, u32)>
+    ensures { result
+        ≡ two_numbers (number_between 1 4) (number_between 1 360000) (cut 58 bytes.now) }
+{
+    let (attempts, left) = cut(bytes, b':');
+    let attempts = number_between(1, 4, attempts)?;
+    let below = number_between(1, 360_000, left?)?;
+    Some((attempts as u8, below))
+}
+
+/// A cutoff, or none.
+pub fn cutoff_of(bytes: &[u8]) -> Option<Option<(u8, u32)>>
+    ensures { result ≡ cutoff_of bytes.now }
+{
+    if bytes == b"-".as_slice() {
+        Some(None)
+    } else {
+        match below_of(bytes) {
+            Some(cutoff) => Some(Some(cutoff)),
+            None => None,
+        }
+    }
+}
+
+/// A time limit of 1 to 360,000 hundredths of a second, or none.
+pub fn limit_of(bytes: &[u8]) -> Option<Option<u32>>
+    ensures { result ≡ limit_of bytes.now }
+{
+    if bytes == b"-".as_slice() {
+        Some(None)
+    } else {
+        match number_between(1, 360_000, bytes) {
+            Some(limit) => Some(Some(limit)),
+            None => None,
+        }
+    }
+}
+
+/// A percentage of those who started.
+fn percent_of(bytes: &[u8]) -> Option<Advance>
+    ensures { result ≡ percent_of bytes.now }
+{
+    if bytes.len() >= 4 && &bytes[..4] == b"pct:".as_slice() {
+        let percent = number_between(1, 75, &bytes[4..])?;
+        Some(Advance::Percent(percent as u8))
+    } else {
+        None
+    }
+}
+
+/// Who advances.
+pub fn advance_of(bytes: &[u8]) -> Option<Advance>
+    ensures { result ≡ advance_of bytes.now }
+{
+    if bytes == b"final".as_slice() {
+        Some(Advance::Final)
+    } else if bytes.len() >= 4 && &bytes[..4] == b"top:".as_slice() {
+        let number = number_between(1, 999, &bytes[4..])?;
+        Some(Advance::Top(number as u16))
+    } else {
+        percent_of(bytes)
+    }
+}
+
+/// Moves in notation, with exactly one space between tokens.
+pub fn moves_of(alloc: Global, bytes: &[u8]) -> Result<Option<Moves>, NoMemory>
+    ensures { IfOk result (λ moves. moves ≡ moves_of bytes.now) }
+{
+    printed_is_spelled();
+    if has_single_spaces(bytes) {
+        match notation::read(alloc, bytes) {
+            Ok(moves) => Ok(Some(moves)),
+            Err(fault) => match fault {
+                ReadFault::NoMemory => Err(NoMemory),
+                _ => Ok(None),
+            },
+        }
+    } else {
+        Ok(None)
+    }
+}
+
+/// A time and its penalties.
+#[tactic(auto, unfolding(crate::specs::Fields::cut))]
+fn time_of(bytes: &[u8]) -> Option<Entered>
+    ensures { result ≡ time_of (cut 58 bytes.now) }
+{
+    let (time, left) = cut(bytes, b':');
+    let hundredths = number_between(1, 999_999, time)?;
+    let penalties = number_between(0, 9, left?)?;
+    Some(Entered::Time {
+        hundredths,
+        penalties: penalties as u8,
+    })
+}
+
+/// What a judge enters: a time, a solution, or no result.
+#[tactic(auto, unfolding(crate::specs::Fields::entered_of))]
+pub fn entered_of(alloc: Global, bytes: &[u8]) -> Result<Option<Entered>, NoMemory>
+    ensures value { IfOk result (λ outcome. outcome ≡ entered_of bytes.now) }
+    ensures memory { OnErr result (MayBeSolution (entered_of bytes.now)) }
+{
+    if bytes == b"DNF".as_slice() {
+        Ok(Some(Entered::Dnf))
+    } else if bytes == b"DNS".as_slice() {
+        Ok(Some(Entered::Dns))
+    } else if bytes.len() >= 2 && &bytes[..2] == b"T:".as_slice() {
+        Ok(time_of(&bytes[2..]))
+    } else if bytes.len() >= 2 && &bytes[..2] == b"S:".as_slice() {
+        let moves = moves_of(alloc, &bytes[2..])?;
+        Ok(moves.map(|moves| Entered::Solution { moves }))
+    } else {
+        Ok(None)
+    }
+}

@@ -1,0 +1,14 @@
+//! Commands as texts: their fields, how they are read and printed, and what they are answered.
+#![tactic(auto)]
+
+mod answer;
+mod command;
+mod fields;
+mod printing;
+mod reading;
+
+pub use answer::{Answer, Code};
+pub use command::{Command, Entered, Name, Settings};
+pub use formats::Advance;
+pub use printing::{print, print_advance, print_cutoff, print_limit};
+pub use reading::{CommandFault, one_spelling, read};

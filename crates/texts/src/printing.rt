@@ -1,0 +1,333 @@
+//! Commands as texts.
+
+ghost use Rattle.std.specs.Prelude.{◌≡◌, ◌++◌, IfOk, OnOk, codes, decimal};
+ghost use Rattle.formats.specs.Events.{event_name, format_name};
+ghost use Rattle.notation.specs.Notation.{spelling as moves_text};
+ghost use Rattle.texts.specs.Spelling.{cutoff_text, limit_text, advance_text, entered_text, spelling};
+ghost use Rattle.texts.specs.declared.command.Command.TheVariants.{Register as RegisterOf, Open as OpenOf, Enter as EnterOf, Scramble as ScrambleOf, Attempt as AttemptOf, Correct as CorrectOf, Strike as StrikeOf, SetAdvance as SetAdvanceOf, Close as CloseOf};
+ghost use Rattle.texts.specs.declared.command.Entered.TheVariants.{Time as TimeOf, Solution as SolutionOf};
+
+use crate::command::{Command, Entered, Settings};
+use attempts::{NoMemory, push_decimal};
+use cube::Move;
+use formats::{Advance, Event};
+use std::alloc::Global;
+
+fn push_cutoff(out: &mut Vec<u8>, cutoff: Option<(u8, u32)>) -> Result<(), NoMemory>
+    ensures { OnOk result (out.new.items ≡ out.old.items ++ cutoff_text cutoff) }
+{
+    match cutoff {
+        Some((attempts, below)) => {
+            push_decimal(out, u32::from(attempts))?;
+            out.extend_from_slice(b":")?;
+            push_decimal(out, below)
+        }
+        None => out.extend_from_slice(b"-"),
+    }
+}
+
+fn push_limit(out: &mut Vec<u8>, limit: Option<u32>) -> Result<(), NoMemory>
+    ensures { OnOk result (out.new.items ≡ out.old.items ++ limit_text limit) }
+{
+    match limit {
+        Some(limit) => push_decimal(out, limit),
+        None => out.extend_from_slice(b"-"),
+    }
+}
+
+fn push_advance(out: &mut Vec<u8>, advance: Advance) -> Result<(), NoMemory>
+    ensures { OnOk result (out.new.items ≡ out.old.items ++ advance_text advance) }
+{
+    match advance {
+        Advance::Final => out.extend_from_slice(b"final"),
+        Advance::Top(number) => {
+            out.extend_from_slice(b"top:")?;
+            push_decimal(out, u32::from(number))
+        }
+        Advance::Percent(percent) => {
+            out.extend_from_slice(b"pct:")?;
+            push_decimal(out, u32::from(percent))
+        }
+    }
+}
+
+/// A cutoff as commands and sheets have it: the attempts, a colon and what one of them has to be
+/// below, in hundredths of a second or moves; `-` where there is none.
+pub fn print_cutoff(alloc: Global, cutoff: Option<(u8, u32)>) -> Result<Vec<u8>, NoMemory>
+    ensures { IfOk result (λ text. text.items ≡ cutoff_text cutoff) }
+{
+    let mut text = Vec::new(alloc);
+    push_cutoff(&mut text, cutoff)?;
+    Ok(text)
+}
+
+/// A time limit as commands and sheets have it: hundredths of a second; `-` where there is none.
+pub fn print_limit(alloc: Global, limit: Option<u32>) -> Result<Vec<u8>, NoMemory>
+    ensures { IfOk result (λ text. text.items ≡ limit_text limit) }
+{
+    let mut text = Vec::new(alloc);
+    push_limit(&mut text, limit)?;
+    Ok(text)
+}
+
+/// Who advances, as commands and sheets have it.
+pub fn print_advance(alloc: Global, advance: Advance) -> Result<Vec<u8>, NoMemory>
+    ensures { IfOk result (λ text. text.items ≡ advance_text advance) }
+{
+    let mut text = Vec::new(alloc);
+    push_advance(&mut text, advance)?;
+    Ok(text)
+}
+
+fn push_moves(alloc: Global, out: &mut Vec<u8>, moves: &[Move]) -> Result<(), NoMemory>
+    ensures { OnOk result (out.new.items ≡ out.old.items ++ moves_text moves.now) }
+{
+    let text = notation::print(alloc, moves)?;
+    out.extend_from_slice(&text)
+}
+
+fn push_time(out: &mut Vec<u8>, hundredths: u32, penalties: u8) -> Result<(), NoMemory>
+    ensures { OnOk result
+        (out.new.items ≡ out.old.items ++ entered_text (TimeOf hundredths penalties)) }
+{
+    out.extend_from_slice(b"T:")?;
+    push_decimal(out, hundredths)?;
+    out.extend_from_slice(b":")?;
+    push_decimal(out, u32::from(penalties))
+}
+
+fn push_solution(alloc: Global, out: &mut Vec<u8>, moves: &[Move]) -> Result<(), NoMemory>
+    ensures { OnOk result (out.new.items ≡ out.old.items ++ entered_text (SolutionOf moves.now)) }
+{
+    out.extend_from_slice(b"S:")?;
+    push_moves(alloc, out, moves)
+}
+
+fn push_entered(alloc: Global, out: &mut Vec<u8>, outcome: &Entered) -> Result<(), NoMemory>
+    ensures { OnOk result (out.new.items ≡ out.old.items ++ entered_text outcome.now) }
+{
+    match outcome {
+        Entered::Time {
+            hundredths,
+            penalties,
+        } => push_time(out, *hundredths, *penalties),
+        Entered::Solution { moves } => push_solution(alloc, out, moves.as_slice()),
+        Entered::Dnf => out.extend_from_slice(b"DNF"),
+        Entered::Dns => out.extend_from_slice(b"DNS"),
+    }
+}
+
+fn push_number(out: &mut Vec<u8>, number: u32) -> Result<(), NoMemory>
+    ensures { OnOk result (out.new.items ≡ out.old.items ++ codes " " ++ decimal number) }
+{
+    out.extend_from_slice(b" ")?;
+    push_decimal(out, number)
+}
+
+fn push_field(out: &mut Vec<u8>, field: &[u8]) -> Result<(), NoMemory>
+    ensures { OnOk result (out.new.items ≡ out.old.items ++ codes " " ++ field.now) }
+{
+    out.extend_from_slice(b" ")?;
+    out.extend_from_slice(field)
+}
+
+fn push_round(out: &mut Vec<u8>, event: Event, round: u8) -> Result<(), NoMemory>
+    ensures { OnOk result (out.new.items ≡ out.old.items
+        ++ codes " " ++ event_name event ++ codes " " ++ decimal round) }
+{
+    push_field(out, event.name().as_bytes())?;
+    push_number(out, u32::from(round))
+}
+
+fn push_settings(out: &mut Vec<u8>, settings: Settings) -> Result<(), NoMemory>
+    ensures { OnOk result (out.new.items ≡ out.old.items
+        ++ codes " " ++ format_name settings.format ++ codes " " ++ cutoff_text settings.cutoff
+        ++ codes " " ++ limit_text settings.limit ++ codes " " ++ advance_text settings.advance) }
+{
+    push_field(out, settings.format.name().as_bytes())?;
+    out.extend_from_slice(b" ")?;
+    push_cutoff(out, settings.cutoff)?;
+    out.extend_from_slice(b" ")?;
+    push_limit(out, settings.limit)?;
+    out.extend_from_slice(b" ")?;
+    push_advance(out, settings.advance)
+}
+
+fn push_register(out: &mut Vec<u8>, number: u16, name: &[u8]) -> Result<(), NoMemory>
+    ensures { OnOk result (out.new.items ≡ out.old.items ++ spelling (RegisterOf number name.now)) }
+{
+    out.extend_from_slice(b"REG")?;
+    push_number(out, u32::from(number))?;
+    push_field(out, name)
+}
+
+fn push_open(out: &mut Vec<u8>, event: Event, round: u8, settings: Settings) -> Result<(), NoMemory>
+    ensures { OnOk result
+        (out.new.items ≡ out.old.items ++ spelling (OpenOf event round settings)) }
+{
+    out.extend_from_slice(b"OPEN")?;
+    push_round(out, event, round)?;
+    push_settings(out, settings)
+}
+
+fn push_enter(out: &mut Vec<u8>, event: Event, number: u16) -> Result<(), NoMemory>
+    ensures { OnOk result (out.new.items ≡ out.old.items ++ spelling (EnterOf event number)) }
+{
+    out.extend_from_slice(b"ENT")?;
+    push_field(out, event.name().as_bytes())?;
+    push_number(out, u32::from(number))
+}
+
+fn push_scramble(
+    alloc: Global,
+    out: &mut Vec<u8>,
+    event: Event,
+    round: u8,
+    attempt: u8,
+    moves: &[Move],
+) -> Result<(), NoMemory>
+    ensures { OnOk result
+        (out.new.items ≡ out.old.items ++ spelling (ScrambleOf event round attempt moves.now)) }
+{
+    out.extend_from_slice(b"SCR")?;
+    push_round(out, event, round)?;
+    push_number(out, u32::from(attempt))?;
+    out.extend_from_slice(b" ")?;
+    push_moves(alloc, out, moves)
+}
+
+/// The fields of an attempt.
+fn push_done(
+    alloc: Global,
+    out: &mut Vec<u8>,
+    event: Event,
+    round: u8,
+    attempt: u8,
+    number: u16,
+    outcome: &Entered,
+) -> Result<(), NoMemory>
+    ensures { OnOk result (out.new.items ≡ out.old.items
+        ++ codes " " ++ event_name event ++ codes " " ++ decimal round
+        ++ codes " " ++ decimal attempt ++ codes " " ++ decimal number
+        ++ codes " " ++ entered_text outcome.now) }
+{
+    push_round(out, event, round)?;
+    push_number(out, u32::from(attempt))?;
+    push_number(out, u32::from(number))?;
+    out.extend_from_slice(b" ")?;
+    push_entered(alloc, out, outcome)
+}
+
+fn push_attempt(
+    alloc: Global,
+    out: &mut Vec<u8>,
+    event: Event,
+    round: u8,
+    attempt: u8,
+    number: u16,
+    outcome: &Entered,
+) -> Result<(), NoMemory>
+    ensures { OnOk result
+        (out.new.items
+        ≡ out.old.items ++ spelling (AttemptOf event round attempt number outcome.now)) }
+{
+    out.extend_from_slice(b"ATT")?;
+    push_done(alloc, out, event, round, attempt, number, outcome)
+}
+
+fn push_correct(
+    alloc: Global,
+    out: &mut Vec<u8>,
+    event: Event,
+    round: u8,
+    attempt: u8,
+    number: u16,
+    outcome: &Entered,
+) -> Result<(), NoMemory>
+    ensures { OnOk result
+        (out.new.items
+        ≡ out.old.items ++ spelling (CorrectOf event round attempt number outcome.now)) }
+{
+    out.extend_from_slice(b"COR")?;
+    push_done(alloc, out, event, round, attempt, number, outcome)
+}
+
+fn push_strike(out: &mut Vec<u8>, event: Event, round: u8, number: u16) -> Result<(), NoMemory>
+    ensures { OnOk result
+        (out.new.items ≡ out.old.items ++ spelling (StrikeOf event round number)) }
+{
+    out.extend_from_slice(b"STR")?;
+    push_round(out, event, round)?;
+    push_number(out, u32::from(number))
+}
+
+fn push_set_advance(
+    out: &mut Vec<u8>,
+    event: Event,
+    round: u8,
+    advance: Advance,
+) -> Result<(), NoMemory>
+    ensures { OnOk result
+        (out.new.items ≡ out.old.items ++ spelling (SetAdvanceOf event round advance)) }
+{
+    out.extend_from_slice(b"ADV")?;
+    push_round(out, event, round)?;
+    out.extend_from_slice(b" ")?;
+    push_advance(out, advance)
+}
+
+fn push_close(out: &mut Vec<u8>, event: Event, round: u8) -> Result<(), NoMemory>
+    ensures { OnOk result (out.new.items ≡ out.old.items ++ spelling (CloseOf event round)) }
+{
+    out.extend_from_slice(b"CLOSE")?;
+    push_round(out, event, round)
+}
+
+/// The spelling of a command. `read` takes it where the fields are in their ranges and it has at
+/// most 600 bytes, which only moves can exceed. It is `NoMemory` only where a growth was refused.
+pub fn print(alloc: Global, command: &Command) -> Result<Vec<u8>, NoMemory>
+    ensures { IfOk result (λ text. text.items ≡ spelling command.now) }
+{
+    let mut out = Vec::new(alloc);
+    match command {
+        Command::Register { number, name } => push_register(&mut out, *number, name.as_bytes())?,
+        Command::Open {
+            event,
+            round,
+            settings,
+        } => push_open(&mut out, *event, *round, *settings)?,
+        Command::Enter { event, number } => push_enter(&mut out, *event, *number)?,
+        Command::Scramble {
+            event,
+            round,
+            attempt,
+            moves,
+        } => push_scramble(alloc, &mut out, *event, *round, *attempt, moves.as_slice())?,
+        Command::Attempt {
+            event,
+            round,
+            attempt,
+            number,
+            outcome,
+        } => push_attempt(alloc, &mut out, *event, *round, *attempt, *number, outcome)?,
+        Command::Correct {
+            event,
+            round,
+            attempt,
+            number,
+            outcome,
+        } => push_correct(alloc, &mut out, *event, *round, *attempt, *number, outcome)?,
+        Command::Strike {
+            event,
+            round,
+            number,
+        } => push_strike(&mut out, *event, *round, *number)?,
+        Command::SetAdvance {
+            event,
+            round,
+            advance,
+        } => push_set_advance(&mut out, *event, *round, *advance)?,
+        Command::Close { event, round } => push_close(&mut out, *event, *round)?,
+    }
+    Ok(out)
+}

@@ -1,0 +1,321 @@
+//! Commands from their texts.
+
+ghost use Rattle.std.specs.Prelude.{◌≡◌, ◌<◌, ◌≤◌, ◌↔◌, false, nat_lt, length, option_map, ok_or, Option, Some, None, IfOk};
+ghost use Rattle.texts.specs.Spelling.{IsFit, spelling};
+ghost use Rattle.texts.specs.Fields.{cut};
+ghost use Rattle.texts.specs.Reading.{Gives, moves_field, is_word, Reads, ReadsAs, front, no_field, register_of, open_of, enter_of, scramble_of, attempt_of, correct_of, strike_of, set_advance_of, close_of, by_word, command_of, ReadsWhatIsSpelled, SpellsWhatIsRead, SpellsOneCommand, SpellsShort};
+ghost use Rattle.texts.specs.declared.reading.CommandFault.TheVariants.{NoMemory as OutOfMemory, BadField as BadFieldAt};
+
+use crate::command::{Command, Name, Settings};
+use crate::fields::{
+    LAST_ROUND, advance_of, cut, cutoff_of, entered_of, is_name, limit_of, moves_of, number_between,
+};
+use formats::{Event, Format};
+use std::alloc::{AllocError, Global};
+
+/// Why a text is no command.
+#[derive(Clone, Copy, Debug, PartialEq, Eq)]
+pub enum CommandFault {
+    /// Above 600 bytes.
+    TooLong,
+    /// What stands before the first space is no word of a command.
+    NotACommand,
+    /// The first field, from the left, that is missing or misspelt; or, where all are right, the
+    /// one too many.
+    BadField { index: u8 },
+    /// Memory ran out.
+    NoMemory,
+}
+
+impl From<AllocError> for CommandFault {
+    ghost from_gives = { λ _ e. e ≡ OutOfMemory };
+
+    fn from(_e: AllocError) -> CommandFault {
+        CommandFault::NoMemory
+    }
+}
+
+/// The next field, and what is left behind it.
+fn field(index: u8, left: Option<&[u8]>) -> Result<(&[u8], Option<&[u8]>), CommandFault>
+    ensures { Reads (λ x. (x.0.now, option_map (λ s. s.now) x.1)) result
+        (front index (option_map (λ s. s.now) left.entry)) }
+{
+    match left {
+        Some(bytes) => Ok(cut(bytes, b' ')),
+        None => Err(CommandFault::BadField { index }),
+    }
+}
+
+/// All that is left, as the last field.
+fn last_field(index: u8, left: Option<&[u8]>) -> Result<&[u8], CommandFault>
+    ensures { Reads (λ x. x.now) result
+        (ok_or (option_map (λ s. s.now) left.entry) (BadFieldAt index)) }
+{
+    match left {
+        Some(bytes) => Ok(bytes),
+        None => Err(CommandFault::BadField { index }),
+    }
+}
+
+/// Nothing is left.
+fn no_field(index: u8, left: Option<&[u8]>) -> Result<(), CommandFault>
+    ensures { result ≡ no_field index (option_map (λ s. s.now) left.entry) }
+{
+    match left {
+        Some(_) => Err(CommandFault::BadField { index }),
+        None => Ok(()),
+    }
+}
+
+/// `REG`: number, name.
+#[tactic(auto, unfolding(crate::specs::Reading::register_of, crate::specs::Fields::name_of))]
+fn register_of(alloc: Global, left: Option<&[u8]>) -> Result<Command, CommandFault>
+    ensures { Gives 0 result (register_of (option_map (λ s. s.now) left.entry)) }
+{
+    let (bytes, left) = field(1, left)?;
+    let number = number_between(1, 9999, bytes).ok_or(CommandFault::BadField { index: 1 })?;
+    let bytes = last_field(2, left)?;
+    if !is_name(bytes) {
+        return Err(CommandFault::BadField { index: 2 });
+    }
+    let name = Vec::from_slice(alloc, bytes)?;
+    Ok(Command::Register {
+        number: number as u16,
+        name: Name::new(name),
+    })
+}
+
+/// `OPEN`: event, round, format, cutoff, limit, advance.
+#[tactic(auto, unfolding(crate::specs::Reading::open_of))]
+fn open_of(left: Option<&[u8]>) -> Result<Command, CommandFault>
+    ensures { Gives 0 result (open_of (option_map (λ s. s.now) left.entry)) }
+{
+    let (bytes, left) = field(1, left)?;
+    let event = Event::from_name(bytes).ok_or(CommandFault::BadField { index: 1 })?;
+    let (bytes, left) = field(2, left)?;
+    let round = number_between(1, LAST_ROUND, bytes).ok_or(CommandFault::BadField { index: 2 })?;
+    let (bytes, left) = field(3, left)?;
+    let format = Format::from_name(bytes).ok_or(CommandFault::BadField { index: 3 })?;
+    let (bytes, left) = field(4, left)?;
+    let cutoff = cutoff_of(bytes).ok_or(CommandFault::BadField { index: 4 })?;
+    let (bytes, left) = field(5, left)?;
+    let limit = limit_of(bytes).ok_or(CommandFault::BadField { index: 5 })?;
+    let (bytes, left) = field(6, left)?;
+    let advance = advance_of(bytes).ok_or(CommandFault::BadField { index: 6 })?;
+    no_field(7, left)?;
+    Ok(Command::Open {
+        event,
+        round: round as u8,
+        settings: Settings {
+            format,
+            cutoff,
+            limit,
+            advance,
+        },
+    })
+}
+
+/// `ENT`: event, number.
+#[tactic(auto, unfolding(crate::specs::Reading::enter_of))]
+fn enter_of(left: Option<&[u8]>) -> Result<Command, CommandFault>
+    ensures { Gives 0 result (enter_of (option_map (λ s. s.now) left.entry)) }
+{
+    let (bytes, left) = field(1, left)?;
+    let event = Event::from_name(bytes).ok_or(CommandFault::BadField { index: 1 })?;
+    let (bytes, left) = field(2, left)?;
+    let number = number_between(1, 9999, bytes).ok_or(CommandFault::BadField { index: 2 })?;
+    no_field(3, left)?;
+    Ok(Command::Enter {
+        event,
+        number: number as u16,
+    })
+}
+
+/// `SCR`: event, round, attempt, moves.
+#[tactic(auto, unfolding(crate::specs::Reading::scramble_of))]
+fn scramble_of(alloc: Global, left: Option<&[u8]>) -> Result<Command, CommandFault>
+    ensures { Gives 4 result (scramble_of (option_map (λ s. s.now) left.entry)) }
+{
+    let (bytes, left) = field(1, left)?;
+    let event = Event::from_name(bytes).ok_or(CommandFault::BadField { index: 1 })?;
+    let (bytes, left) = field(2, left)?;
+    let round = number_between(1, LAST_ROUND, bytes).ok_or(CommandFault::BadField { index: 2 })?;
+    let (bytes, left) = field(3, left)?;
+    let attempt = number_between(1, 5, bytes).ok_or(CommandFault::BadField { index: 3 })?;
+    let bytes = last_field(4, left)?;
+    let moves = moves_of(alloc, bytes)?.ok_or(CommandFault::BadField { index: 4 })?;
+    Ok(Command::Scramble {
+        event,
+        round: round as u8,
+        attempt: attempt as u8,
+        moves,
+    })
+}
+
+/// `ATT`: event, round, attempt, number, outcome.
+#[tactic(auto, unfolding(crate::specs::Reading::attempt_of))]
+fn attempt_of(alloc: Global, left: Option<&[u8]>) -> Result<Command, CommandFault>
+    ensures { Gives 5 result (attempt_of (option_map (λ s. s.now) left.entry)) }
+{
+    let (bytes, left) = field(1, left)?;
+    let event = Event::from_name(bytes).ok_or(CommandFault::BadField { index: 1 })?;
+    let (bytes, left) = field(2, left)?;
+    let round = number_between(1, LAST_ROUND, bytes).ok_or(CommandFault::BadField { index: 2 })?;
+    let (bytes, left) = field(3, left)?;
+    let attempt = number_between(1, 5, bytes).ok_or(CommandFault::BadField { index: 3 })?;
+    let (bytes, left) = field(4, left)?;
+    let number = number_between(1, 9999, bytes).ok_or(CommandFault::BadField { index: 4 })?;
+    let bytes = last_field(5, left)?;
+    let outcome = entered_of(alloc, bytes)?.ok_or(CommandFault::BadField { index: 5 })?;
+    Ok(Command::Attempt {
+        event,
+        round: round as u8,
+        attempt: attempt as u8,
+        number: number as u16,
+        outcome,
+    })
+}
+
+/// `COR`: event, round, attempt, number, outcome.
+#[tactic(auto, unfolding(crate::specs::Reading::correct_of))]
+fn correct_of(alloc: Global, left: Option<&[u8]>) -> Result<Command, CommandFault>
+    ensures { Gives 5 result (correct_of (option_map (λ s. s.now) left.entry)) }
+{
+    let (bytes, left) = field(1, left)?;
+    let event = Event::from_name(bytes).ok_or(CommandFault::BadField { index: 1 })?;
+    let (bytes, left) = field(2, left)?;
+    let round = number_between(1, LAST_ROUND, bytes).ok_or(CommandFault::BadField { index: 2 })?;
+    let (bytes, left) = field(3, left)?;
+    let attempt = number_between(1, 5, bytes).ok_or(CommandFault::BadField { index: 3 })?;
+    let (bytes, left) = field(4, left)?;
+    let number = number_between(1, 9999, bytes).ok_or(CommandFault::BadField { index: 4 })?;
+    let bytes = last_field(5, left)?;
+    let outcome = entered_of(alloc, bytes)?.ok_or(CommandFault::BadField { index: 5 })?;
+    Ok(Command::Correct {
+        event,
+        round: round as u8,
+        attempt: attempt as u8,
+        number: number as u16,
+        outcome,
+    })
+}
+
+/// `STR`: event, round, number.
+#[tactic(auto, unfolding(crate::specs::Reading::strike_of))]
+fn strike_of(left: Option<&[u8]>) -> Result<Command, CommandFault>
+    ensures { Gives 0 result (strike_of (option_map (λ s. s.now) left.entry)) }
+{
+    let (bytes, left) = field(1, left)?;
+    let event = Event::from_name(bytes).ok_or(CommandFault::BadField { index: 1 })?;
+    let (bytes, left) = field(2, left)?;
+    let round = number_between(1, LAST_ROUND, bytes).ok_or(CommandFault::BadField { index: 2 })?;
+    let (bytes, left) = field(3, left)?;
+    let number = number_between(1, 9999, bytes).ok_or(CommandFault::BadField { index: 3 })?;
+    no_field(4, left)?;
+    Ok(Command::Strike {
+        event,
+        round: round as u8,
+        number: number as u16,
+    })
+}
+
+/// `ADV`: event, round, advance.
+#[tactic(auto, unfolding(crate::specs::Reading::set_advance_of))]
+fn set_advance_of(left: Option<&[u8]>) -> Result<Command, CommandFault>
+    ensures { Gives 0 result (set_advance_of (option_map (λ s. s.now) left.entry)) }
+{
+    let (bytes, left) = field(1, left)?;
+    let event = Event::from_name(bytes).ok_or(CommandFault::BadField { index: 1 })?;
+    let (bytes, left) = field(2, left)?;
+    let round = number_between(1, LAST_ROUND, bytes).ok_or(CommandFault::BadField { index: 2 })?;
+    let (bytes, left) = field(3, left)?;
+    let advance = advance_of(bytes).ok_or(CommandFault::BadField { index: 3 })?;
+    no_field(4, left)?;
+    Ok(Command::SetAdvance {
+        event,
+        round: round as u8,
+        advance,
+    })
+}
+
+/// `CLOSE`: event, round.
+#[tactic(auto, unfolding(crate::specs::Reading::close_of))]
+fn close_of(left: Option<&[u8]>) -> Result<Command, CommandFault>
+    ensures { Gives 0 result (close_of (option_map (λ s. s.now) left.entry)) }
+{
+    let (bytes, left) = field(1, left)?;
+    let event = Event::from_name(bytes).ok_or(CommandFault::BadField { index: 1 })?;
+    let (bytes, left) = field(2, left)?;
+    let round = number_between(1, LAST_ROUND, bytes).ok_or(CommandFault::BadField { index: 2 })?;
+    no_field(3, left)?;
+    Ok(Command::Close {
+        event,
+        round: round as u8,
+    })
+}
+
+/// The command of a word and what is left behind it.
+fn command_of_word(alloc: Global, word: &[u8], left: Option<&[u8]>) -> Result<Command, CommandFault>
+    ensures { Gives (moves_field word.now) result
+        (by_word (word.now, option_map (λ s. s.now) left.entry)) }
+{
+    if word == b"REG".as_slice() {
+        register_of(alloc, left)
+    } else if word == b"OPEN".as_slice() {
+        open_of(left)
+    } else if word == b"ENT".as_slice() {
+        enter_of(left)
+    } else if word == b"SCR".as_slice() {
+        scramble_of(alloc, left)
+    } else if word == b"ATT".as_slice() {
+        attempt_of(alloc, left)
+    } else if word == b"COR".as_slice() {
+        correct_of(alloc, left)
+    } else if word == b"STR".as_slice() {
+        strike_of(left)
+    } else if word == b"ADV".as_slice() {
+        set_advance_of(left)
+    } else if word == b"CLOSE".as_slice() {
+        close_of(left)
+    } else {
+        Err(CommandFault::NotACommand)
+    }
+}
+
+/// Above 600 bytes.
+fn is_too_long(text: &[u8]) -> bool
+    ensures { result ≡ nat_lt 600 (length text.now) }
+{
+    text.len() > 600
+}
+
+/// The command that a text spells: a word and its fields, parted by one space each, of at most 600
+/// bytes. The faults stand in the order of `CommandFault`. Memory is taken for a name and for
+/// moves.
+pub fn read(alloc: Global, text: &[u8]) -> Result<Command, CommandFault>
+    ensures value { Gives (moves_field (cut 32 text.now).0) result (command_of text.now) }
+
+    ensures too_long { (result ≡ Err CommandFault.TooLong) ↔ (600 < length text.now) }
+    ensures not_a_command { (result ≡ Err CommandFault.NotACommand)
+        ↔ ((length text.now ≤ 600) × (is_word (cut 32 text.now).0 ≡ false)) }
+
+    // Exactly the spellings of commands whose fields are in their ranges are read.
+    ensures found { (c : Command) → IsFit c → text.now ≡ spelling c → ReadsAs result c }
+    ensures only { IfOk result (λ c. IsFit c × (text.now ≡ spelling c)) }
+{
+    if is_too_long(text) {
+        return Err(CommandFault::TooLong);
+    }
+    let (word, left) = cut(text, b' ');
+    command_of_word(alloc, word, left)
+}
+
+/// The laws of reading and spelling: a command in its ranges is read from its spelling, which has
+/// at most 600 bytes; what is read from a text is a command in its ranges, whose spelling is that
+/// text; and a text spells at most one command.
+pub fn one_spelling()
+    ensures found { ReadsWhatIsSpelled }
+    ensures only { SpellsWhatIsRead }
+    ensures once { SpellsOneCommand }
+    ensures short { SpellsShort }
+{}
