@@ -3,20 +3,20 @@ use Rattle.std.proofs.Common.{◌≡◌, ℕ, zero, suc, ◌^◌, ◌<◌, ◌�
 use Rattle.std.specs.Prelude.{find, map}
 use Rattle.std.specs.Option.{option_map}
 use Rattle.std.specs.Int.{w32, w64, to_be_bytes}
-use Rattle.commands.specs.Codes.{code_number}
+use Rattle.texts.specs.Codes.{code_number}
 use Rattle.formats.specs.declared.events.Event.{Event}
 use Rattle.formats.specs.declared.events.Event.TheVariants.{Cube3, Cube2, Cube4, Cube5, Cube6, Cube7, Blind3, FewestMoves, OneHanded, Clock, Megaminx, Pyraminx, Skewb, Square1, Blind4, Blind5}
 use Rattle.formats.specs.Events.{events, event_number}
-use Rattle.commands.specs.declared.answer.Answer.{Answer}
-use Rattle.commands.specs.declared.answer.Answer.TheVariants as answer
-use Rattle.commands.specs.declared.answer.Code.{Code}
-use Rattle.commands.specs.declared.answer.Code.TheVariants as code
-use Rattle.wire.specs.declared.frame.Refusal.{Refusal}
-use Rattle.wire.specs.declared.frame.Refusal.TheVariants as refusal
-use Rattle.wire.specs.declared.frame.Standing.{Standing}
-use Rattle.wire.specs.declared.frame.Standing.TheVariants.{Unknown, Pending, Done}
-use Rattle.wire.specs.declared.frame.Style.{Style}
-use Rattle.wire.specs.declared.frame.Style.TheVariants.{Text, Table}
+use Rattle.texts.specs.declared.answer.Answer.{Answer}
+use Rattle.texts.specs.declared.answer.Answer.TheVariants as answer
+use Rattle.texts.specs.declared.answer.Code.{Code}
+use Rattle.texts.specs.declared.answer.Code.TheVariants as code
+use Rattle.wire.specs.declared.values.ClientRefusal.{ClientRefusal}
+use Rattle.wire.specs.declared.values.ClientRefusal.TheVariants as refusal
+use Rattle.wire.specs.declared.values.Standing.{Standing}
+use Rattle.wire.specs.declared.values.Standing.TheVariants.{Unknown, Pending, Done}
+use Rattle.wire.specs.declared.values.SheetStyle.{SheetStyle}
+use Rattle.wire.specs.declared.values.SheetStyle.TheVariants.{Text, Table}
 use Rattle.wire.specs.Fields.{byte_at, number_at, two, numbered}
 use Rattle.wire.specs.Numbers.{answers, answer_number, refusals, refusal_number, styles, style_number}
 use Rattle.wire.specs.Ranges.{IsBallot, IsPosition, IsId, IsEntry, IsReport, IsStanding}
@@ -36,13 +36,21 @@ pub ballot_field : IsField ballot_bytes IsBallot ballot_at
 ballot_field = record { takes = ballot_takes; again = ballot_again }
 
 pub limited_field : (limit : ℕ) → limit < 2 ^ 32 → IsField u32 (λ n. n ≤ limit) (limited_at limit)
-limited_field limit small = record { takes = limited_takes limit; again = λ n rest le. limited_again limit n rest small le }
+limited_field limit small = record {
+  takes = limited_takes limit;
+  again =
+      λ n rest le. limited_again limit n rest small le;
+}
 
 pub position_field : IsField u32 IsPosition position_at
 position_field = limited_field 65535 (omega arith)
 
 pub any_field : IsField u32 (λ n. n < 2 ^ 32) (number_at w32)
-any_field = record { takes = number_takes w32 (2 ^ 32) wide32; again = number_again w32 (2 ^ 32) wide32 }
+any_field = record {
+  takes = number_takes w32 (2 ^ 32) wide32;
+  again =
+      number_again w32 (2 ^ 32) wide32;
+}
 
 pub byte_field : IsField (λ (b : ℕ). b ∷ []) (λ (b : ℕ). b < 256) byte_at
 unfolding byte_at
@@ -77,17 +85,19 @@ event_found Square1 = refl
 event_found Blind4 = refl
 event_found Blind5 = refl
 
-pub event_field : IsField (λ (x : Event). event_number x ∷ []) (λ (x : Event). Unit {0}) (member_at event_number events)
+pub event_field : IsField (λ (x : Event). event_number x ∷ []) (λ (x : Event). Unit {0})
+    (member_at event_number events)
 event_field = member_field event_number events event_found
 
-style_found : (x : Style) → numbered style_number styles (style_number x) ≡ Some x
+style_found : (x : SheetStyle) → numbered style_number styles (style_number x) ≡ Some x
 style_found Text = refl
 style_found Table = refl
 
-pub style_field : IsField (λ (x : Style). style_number x ∷ []) (λ (x : Style). Unit {0}) (member_at style_number styles)
+pub style_field : IsField (λ (x : SheetStyle). style_number x ∷ []) (λ (x : SheetStyle). Unit {0})
+    (member_at style_number styles)
 style_field = member_field style_number styles style_found
 
-refusal_found : (x : Refusal) → numbered refusal_number refusals (refusal_number x) ≡ Some x
+refusal_found : (x : ClientRefusal) → numbered refusal_number refusals (refusal_number x) ≡ Some x
 refusal_found refusal.Busy = refl
 refusal_found refusal.LogFull = refl
 refusal_found refusal.BallotsSpent = refl
@@ -97,7 +107,8 @@ refusal_found refusal.NotThere = refl
 refusal_found refusal.NoSuchRound = refl
 refusal_found refusal.Foreign = refl
 
-pub refusal_field : IsField (λ (x : Refusal). refusal_number x ∷ []) (λ (x : Refusal). Unit {0}) (member_at refusal_number refusals)
+pub refusal_field : IsField (λ (x : ClientRefusal). refusal_number x ∷ [])
+    (λ (x : ClientRefusal). Unit {0}) (member_at refusal_number refusals)
 refusal_field = member_field refusal_number refusals refusal_found
 
 answer_found : (x : Answer) → numbered answer_number answers (answer_number x) ≡ Some x
@@ -126,38 +137,68 @@ answer_found (answer.Refused code.CutoffLost) = refl
 answer_found (answer.Refused code.Unfinished) = refl
 
 -- a refusal has the number of its code
-pub answer_numbered : (cs : List Code) (n : ℕ) → find (λ (x : Answer). eqb (answer_number x) n) (map (λ c. answer.Refused c) cs) ≡ option_map (λ c. answer.Refused c) (find (λ c. eqb (code_number c) n) cs)
+pub answer_numbered : (cs : List Code) (n : ℕ) → find (λ (x : Answer). eqb (answer_number x) n)
+    (map (λ c. answer.Refused c) cs) ≡ option_map (λ c. answer.Refused c)
+    (find (λ c. eqb (code_number c) n) cs)
 answer_numbered [] n = refl
 answer_numbered (c ∷ cs) n = go (eqb (code_number c) n) (answer_numbered cs n) where
-  go : (b : Bool) → find (λ (x : Answer). eqb (answer_number x) n) (map (λ c. answer.Refused c) cs) ≡ option_map (λ c. answer.Refused c) (find (λ c. eqb (code_number c) n) cs)
-      → cond b (Some (answer.Refused c)) (find (λ (x : Answer). eqb (answer_number x) n) (map (λ c. answer.Refused c) cs)) ≡ option_map (λ c. answer.Refused c) (cond b (Some c) (find (λ c. eqb (code_number c) n) cs))
+  go : (b : Bool) → find (λ (x : Answer). eqb (answer_number x) n) (map (λ c. answer.Refused c) cs)
+      ≡ option_map (λ c. answer.Refused c) (find (λ c. eqb (code_number c) n) cs)
+      → cond b (Some (answer.Refused c))
+      (find (λ (x : Answer). eqb (answer_number x) n) (map (λ c. answer.Refused c) cs)) ≡
+      option_map (λ c. answer.Refused c)
+      (cond b (Some c) (find (λ c. eqb (code_number c) n) cs))
   go true rest = refl
   go false rest = rest
 
-pub answer_field : IsField (λ (x : Answer). answer_number x ∷ []) (λ (x : Answer). Unit {0}) (member_at answer_number answers)
+pub answer_field : IsField (λ (x : Answer). answer_number x ∷ []) (λ (x : Answer). Unit {0})
+    (member_at answer_number answers)
 answer_field = member_field answer_number answers answer_found
 
 -- ---- what became of a command
 
-abbrev done_field : IsField (λ (p : ℕ × Answer). u32 p.0 ++ answer_number p.1 ∷ []) (λ (p : ℕ × Answer). IsPosition p.0 × Unit {0}) (two position_at (member_at answer_number answers))
-done_field = two_fields u32 IsPosition position_at (λ (x : Answer). answer_number x ∷ []) (λ (x : Answer). Unit {0}) (member_at answer_number answers) position_field answer_field
+abbrev done_field : IsField (λ (p : ℕ × Answer). u32 p.0 ++ answer_number p.1 ∷ [])
+    (λ (p : ℕ × Answer). IsPosition p.0 × Unit {0})
+    (two position_at (member_at answer_number answers))
+done_field = two_fields u32 IsPosition position_at (λ (x : Answer). answer_number x ∷ [])
+    (λ (x : Answer). Unit {0}) (member_at answer_number answers) position_field answer_field
 
-standing_takes : (bytes : List ℕ) (x : Standing × List ℕ) → IsBytes bytes → standing_at bytes ≡ Some x → Takes bytes (standing_bytes x.0) x.1 × IsStanding x.0
+standing_takes : (bytes : List ℕ) (x : Standing × List ℕ) → IsBytes bytes
+    → standing_at bytes ≡ Some x → Takes bytes (standing_bytes x.0) x.1 × IsStanding x.0
 unfolding standing_at
 standing_takes [] x fits e = absurd cc
 standing_takes (zero ∷ rest) x fits e =
-    subst (λ (y : Standing × List ℕ). Takes (0 ∷ rest) (standing_bytes y.0) y.1 × IsStanding y.0) (some_is (Unknown, rest) x e) (record { parts = refl; are_bytes = IsBytes-rest 0 rest fits }, tt)
+    subst (λ (y : Standing × List ℕ). Takes (0 ∷ rest) (standing_bytes y.0) y.1 × IsStanding y.0)
+    (some_is (Unknown, rest) x e) (
+      record {
+        parts = refl;
+        are_bytes =
+            IsBytes-rest 0 rest fits;
+      },
+      tt,
+    )
 standing_takes (suc zero ∷ rest) x fits e =
-    subst (λ (y : Standing × List ℕ). Takes (1 ∷ rest) (standing_bytes y.0) y.1 × IsStanding y.0) (some_is (Pending, rest) x e) (record { parts = refl; are_bytes = IsBytes-rest 1 rest fits }, tt)
+    subst (λ (y : Standing × List ℕ). Takes (1 ∷ rest) (standing_bytes y.0) y.1 × IsStanding y.0)
+    (some_is (Pending, rest) x e) (
+      record {
+        parts = refl;
+        are_bytes =
+            IsBytes-rest 1 rest fits;
+      },
+      tt,
+    )
 standing_takes (suc (suc zero) ∷ rest) x fits e =
-    let a = bind_some (two position_at (member_at answer_number answers) rest) (λ p. Some (Done p.0.0 p.0.1, p.1)) x e in
+    let a = bind_some (two position_at (member_at answer_number answers) rest)
+    (λ p. Some (Done p.0.0 p.0.1, p.1)) x e in
     let t = done_field.takes rest a.0 (IsBytes-rest 2 rest fits) a.1 in
     let made : Standing × List ℕ = (Done a.0.0.0 a.0.0.1, a.0.1) in
-    subst (λ (y : Standing × List ℕ). Takes (2 ∷ rest) (standing_bytes y.0) y.1 × IsStanding y.0) (some_is made x a.2)
+    subst (λ (y : Standing × List ℕ). Takes (2 ∷ rest) (standing_bytes y.0) y.1 × IsStanding y.0)
+    (some_is made x a.2)
     (record { parts = ap (λ (w : List ℕ). 2 ∷ w) t.0.parts; are_bytes = t.0.are_bytes }, t.1.0)
 standing_takes (suc (suc (suc k)) ∷ rest) x fits e = absurd cc
 
-standing_again : (x : Standing) (rest : List ℕ) → IsStanding x → standing_at (standing_bytes x ++ rest) ≡ Some (x, rest)
+standing_again : (x : Standing) (rest : List ℕ) → IsStanding x
+    → standing_at (standing_bytes x ++ rest) ≡ Some (x, rest)
 unfolding standing_at
 standing_again Unknown rest fits = refl
 standing_again Pending rest fits = refl

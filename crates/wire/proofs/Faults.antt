@@ -24,22 +24,29 @@ Shows (Err BadKind) version kind = (version ≡ 1) × (is_kind kind ≡ false)
 Shows (Err BadBody) version kind = (version ≡ 1) × (is_kind kind ≡ true)
 Shows (Err NoMemory) version kind = ⊥
 
-from_shows : (hall from to version kind : ℕ) (o : Option What) → version ≡ 1 → is_kind kind ≡ true → Shows (frame_from hall from to o) version kind
+from_shows : (hall from to version kind : ℕ) (o : Option What) → version ≡ 1 → is_kind kind ≡ true
+    → Shows (frame_from hall from to o) version kind
 from_shows hall from to version kind None v k = (v, k)
 from_shows hall from to version kind (Some w) v k = go (goes (way_of w) from to) where
-  go : (b : Bool) → Shows (cond b (Ok (record { hall = hall; from = from; to = to; what = w })) (Err BadBody)) version kind
+  go : (b : Bool) → Shows (cond b (Ok (record { hall = hall; from = from; to = to; what = w }))
+      (Err BadBody)) version kind
   go true = (v, k)
   go false = (v, k)
 
-kind_shows : (version kind : ℕ) (r : Result Frame WireFault) → version ≡ 1 → (is_kind kind ≡ true → Shows r version kind) → (b : Bool) → is_kind kind ≡ b → Shows (cond (not b) (Err BadKind) r) version kind
+kind_shows : (version kind : ℕ) (r : Result Frame WireFault) → version ≡ 1
+    → (is_kind kind ≡ true → Shows r version kind) → (b : Bool) → is_kind kind ≡ b
+    → Shows (cond (not b) (Err BadKind) r) version kind
 kind_shows version kind r v later true e = later e
 kind_shows version kind r v later false e = (v, e)
 
-version_shows : (version kind : ℕ) (r : Result Frame WireFault) → (version ≡ 1 → Shows r version kind) → (b : Bool) → eqb version 1 ≡ b → Shows (cond (not b) (Err BadVersion) r) version kind
+version_shows : (version kind : ℕ) (r : Result Frame WireFault)
+    → (version ≡ 1 → Shows r version kind) → (b : Bool) → eqb version 1 ≡ b
+    → Shows (cond (not b) (Err BadVersion) r) version kind
 version_shows version kind r later true e = later (eqb-true _ _ e)
 version_shows version kind r later false e = eqb-false _ _ e
 
-frame_shows : (bytes : List ℕ) → 8 ≤ length bytes → Shows (frame_of bytes) (get_or bytes 0 0) (get_or bytes 7 0)
+frame_shows : (bytes : List ℕ) → 8 ≤ length bytes → Shows (frame_of bytes) (get_or bytes 0 0)
+    (get_or bytes 7 0)
 unfolding frame_of
 frame_shows [] le = absurd (omega (arith, le))
 frame_shows (version ∷ []) le = absurd (omega (arith, le))
@@ -50,22 +57,30 @@ frame_shows (version ∷ a ∷ b ∷ c ∷ d ∷ []) le = absurd (omega (arith, 
 frame_shows (version ∷ a ∷ b ∷ c ∷ d ∷ from ∷ []) le = absurd (omega (arith, le))
 frame_shows (version ∷ a ∷ b ∷ c ∷ d ∷ from ∷ to ∷ []) le = absurd (omega (arith, le))
 frame_shows (version ∷ a ∷ b ∷ c ∷ d ∷ from ∷ to ∷ kind ∷ bytes) le =
-    version_shows version kind (cond (not (is_kind kind)) (Err BadKind) (frame_from (from_be_bytes w32 (a ∷ b ∷ c ∷ d ∷ [])) from to (what_of kind bytes)))
-    (λ v. kind_shows version kind (frame_from (from_be_bytes w32 (a ∷ b ∷ c ∷ d ∷ [])) from to (what_of kind bytes)) v (from_shows (from_be_bytes w32 (a ∷ b ∷ c ∷ d ∷ [])) from to version kind (what_of kind bytes) v) (is_kind kind) refl)
+    version_shows version kind (cond (not (is_kind kind)) (Err BadKind)
+    (frame_from (from_be_bytes w32 (a ∷ b ∷ c ∷ d ∷ [])) from to (what_of kind bytes)))
+    (λ v. kind_shows version kind (frame_from (from_be_bytes w32 (a ∷ b ∷ c ∷ d ∷ [])) from to
+    (what_of kind bytes)) v (from_shows (from_be_bytes w32 (a ∷ b ∷ c ∷ d ∷ [])) from to version
+    kind (what_of kind bytes) v) (is_kind kind) refl)
     (eqb version 1) refl
 
 -- ---- what the front says of bytes
 
-abbrev Tells : Front → List ℕ → Type 0
-Tells Waits bytes = (4 ≤ length bytes → IsLength (length_at bytes) × (length bytes < 4 + length_at bytes))
-Tells (Begins f rest) bytes = IsWhole bytes × (get_or bytes 4 0 ≡ 1) × (is_kind (get_or bytes 11 0) ≡ true)
+abbrev pub Tells : Front → List ℕ → Type 0
+Tells Waits bytes = (4 ≤ length bytes → IsLength (length_at bytes)
+    × (length bytes < 4 + length_at bytes))
+Tells (Begins f rest) bytes = IsWhole bytes × (get_or bytes 4 0 ≡ 1)
+    × (is_kind (get_or bytes 11 0) ≡ true)
 Tells (Breaks BadLength) bytes = (4 ≤ length bytes) × (IsLength (length_at bytes) → ⊥)
 Tells (Breaks BadVersion) bytes = IsWhole bytes × (get_or bytes 4 0 ≡ 1 → ⊥)
-Tells (Breaks BadKind) bytes = IsWhole bytes × (get_or bytes 4 0 ≡ 1) × (is_kind (get_or bytes 11 0) ≡ false)
-Tells (Breaks BadBody) bytes = IsWhole bytes × (get_or bytes 4 0 ≡ 1) × (is_kind (get_or bytes 11 0) ≡ true)
+Tells (Breaks BadKind) bytes = IsWhole bytes × (get_or bytes 4 0 ≡ 1)
+    × (is_kind (get_or bytes 11 0) ≡ false)
+Tells (Breaks BadBody) bytes = IsWhole bytes × (get_or bytes 4 0 ≡ 1)
+    × (is_kind (get_or bytes 11 0) ≡ true)
 Tells (Breaks NoMemory) bytes = ⊥
 
-by_frame_tells : (r : Result Frame WireFault) (rest bytes : List ℕ) → IsWhole bytes → Shows r (get_or bytes 4 0) (get_or bytes 11 0) → Tells (by_frame r rest) bytes
+by_frame_tells : (r : Result Frame WireFault) (rest bytes : List ℕ) → IsWhole bytes
+    → Shows r (get_or bytes 4 0) (get_or bytes 11 0) → Tells (by_frame r rest) bytes
 by_frame_tells (Ok f) rest bytes whole s = (whole, s.0, s.1)
 by_frame_tells (Err BadLength) rest bytes whole s = absurd s
 by_frame_tells (Err BadVersion) rest bytes whole s = (whole, s)
@@ -74,36 +89,55 @@ by_frame_tells (Err BadBody) rest bytes whole s = (whole, s.0, s.1)
 by_frame_tells (Err NoMemory) rest bytes whole s = absurd s
 
 -- a byte behind the length
-behind_at : (bytes : List ℕ) (n i : ℕ) → i < n → get_or (take n (drop 4 bytes)) i 0 ≡ get_or bytes (4 + i) 0
+behind_at : (bytes : List ℕ) (n i : ℕ) → i < n → get_or (take n (drop 4 bytes)) i 0 ≡ get_or bytes
+    (4 + i) 0
 behind_at bytes n i lt = get_or-take n (drop 4 bytes) i 0 lt ∙ get_or-drop 4 bytes i 0
 
-all_there : (bytes : List ℕ) (n : ℕ) → 4 ≤ length bytes → n ≤ length (drop 4 bytes) → 4 + n ≤ length bytes
+all_there : (bytes : List ℕ) (n : ℕ) → 4 ≤ length bytes → n ≤ length (drop 4 bytes)
+    → 4 + n ≤ length bytes
 all_there bytes n four le = omega (arith, four, le, length-drop 4 bytes)
 
-not_there : (bytes : List ℕ) (n : ℕ) → 4 ≤ length bytes → length (drop 4 bytes) < n → length bytes < 4 + n
+not_there : (bytes : List ℕ) (n : ℕ) → 4 ≤ length bytes → length (drop 4 bytes) < n
+    → length bytes < 4 + n
 not_there bytes n four lt = omega (arith, four, lt, length-drop 4 bytes)
 
 -- a frame whose length is n, if all of it is there
-size_tells : (bytes : List ℕ) (n : ℕ) → IsLength n → (n ≤ length (drop 4 bytes) → IsWhole bytes) → (length (drop 4 bytes) < n → Tells Waits bytes) → (b : Bool) → ltb (length (drop 4 bytes)) n ≡ b
-    → Tells (cond b Waits (by_frame (frame_of (take n (drop 4 bytes))) (drop n (drop 4 bytes)))) bytes
+size_tells : (bytes : List ℕ) (n : ℕ) → IsLength n → (n ≤ length (drop 4 bytes) → IsWhole bytes)
+    → (length (drop 4 bytes) < n → Tells Waits bytes) → (b : Bool)
+    → ltb (length (drop 4 bytes)) n ≡ b
+    → Tells (cond b Waits (by_frame (frame_of (take n (drop 4 bytes))) (drop n (drop 4 bytes))))
+    bytes
 size_tells bytes n range whole waits true e = waits (ltb-true _ _ e)
 size_tells bytes n range whole waits false e =
     let there : n ≤ length (drop 4 bytes) = ltb-false _ _ e in
     let low : 8 ≤ n = range.0 in
-    let long : 8 ≤ length (take n (drop 4 bytes)) = omega (arith, length-take n (drop 4 bytes), there, low) in
-    let shows : Shows (frame_of (take n (drop 4 bytes))) (get_or (take n (drop 4 bytes)) 0 0) (get_or (take n (drop 4 bytes)) 7 0) = frame_shows (take n (drop 4 bytes)) long in
-    let v : get_or (take n (drop 4 bytes)) 0 0 ≡ get_or bytes 4 0 = behind_at bytes n 0 (omega (arith, low)) in
-    let k : get_or (take n (drop 4 bytes)) 7 0 ≡ get_or bytes 11 0 = behind_at bytes n 7 (omega (arith, low)) in
+    let long : 8 ≤ length (take n (drop 4 bytes)) =
+    omega (arith, length-take n (drop 4 bytes), there, low) in
+    let shows : Shows (frame_of (take n (drop 4 bytes))) (get_or (take n (drop 4 bytes)) 0 0)
+    (get_or (take n (drop 4 bytes)) 7 0) = frame_shows (take n (drop 4 bytes)) long in
+    let v : get_or (take n (drop 4 bytes)) 0 0 ≡ get_or bytes 4 0 =
+    behind_at bytes n 0 (omega (arith, low)) in
+    let k : get_or (take n (drop 4 bytes)) 7 0 ≡ get_or bytes 11 0 =
+    behind_at bytes n 7 (omega (arith, low)) in
     by_frame_tells (frame_of (take n (drop 4 bytes))) (drop n (drop 4 bytes)) bytes (whole there)
-    (subst (λ (x : ℕ). Shows (frame_of (take n (drop 4 bytes))) x (get_or bytes 11 0)) v (subst (λ (x : ℕ). Shows (frame_of (take n (drop 4 bytes))) (get_or (take n (drop 4 bytes)) 0 0) x) k shows))
+    (subst (λ (x : ℕ). Shows (frame_of (take n (drop 4 bytes))) x (get_or bytes 11 0)) v
+    (subst (λ (x : ℕ). Shows (frame_of (take n (drop 4 bytes)))
+    (get_or (take n (drop 4 bytes)) 0 0) x) k shows))
 
-range_tells : (bytes : List ℕ) (n : ℕ) → 4 ≤ length bytes → n ≡ length_at bytes → (b : Bool) → between 8 300000 n ≡ b
-    → Tells (cond (not b) (Breaks BadLength) (cond (ltb (length (drop 4 bytes)) n) Waits (by_frame (frame_of (take n (drop 4 bytes))) (drop n (drop 4 bytes))))) bytes
+range_tells : (bytes : List ℕ) (n : ℕ) → 4 ≤ length bytes → n ≡ length_at bytes → (b : Bool)
+    → between 8 300000 n ≡ b
+    → Tells (cond (not b) (Breaks BadLength)
+    (cond (ltb (length (drop 4 bytes)) n) Waits
+    (by_frame (frame_of (take n (drop 4 bytes))) (drop n (drop 4 bytes))))) bytes
 range_tells bytes n four is true e =
     let range : IsLength n = between_is 8 300000 n e in
     let known : IsLength (length_at bytes) = subst (λ (x : ℕ). IsLength x) is range in
     size_tells bytes n range
-    (λ le. record { counted = known; there = subst (λ (x : ℕ). 4 + x ≤ length bytes) is (all_there bytes n four le) })
+    (λ le. record {
+      counted = known;
+      there = subst (λ (x : ℕ). 4 + x ≤ length bytes) is
+          (all_there bytes n four le);
+    })
     (λ lt. λ _. (known, subst (λ (x : ℕ). length bytes < 4 + x) is (not_there bytes n four lt)))
     (ltb (length (drop 4 bytes)) n) refl
 range_tells bytes n four is false e = (
@@ -114,13 +148,16 @@ range_tells bytes n four is false e = (
       absurd cc,
 )
 
-length_tells : (bytes : List ℕ) → 4 ≤ length bytes → Tells (by_length (length_at bytes) (drop 4 bytes)) bytes
-length_tells bytes four = range_tells bytes (length_at bytes) four refl (between 8 300000 (length_at bytes)) refl
+length_tells : (bytes : List ℕ) → 4 ≤ length bytes
+    → Tells (by_length (length_at bytes) (drop 4 bytes)) bytes
+length_tells bytes four = range_tells bytes (length_at bytes) four refl
+    (between 8 300000 (length_at bytes)) refl
 
-tells : (bytes : List ℕ) → Tells (front bytes) bytes
+pub tells : (bytes : List ℕ) → Tells (front bytes) bytes
 unfolding front
 tells bytes = go (ltb (length bytes) 4) refl where
-  go : (b : Bool) → ltb (length bytes) 4 ≡ b → Tells (cond b Waits (by_length (length_at bytes) (drop 4 bytes))) bytes
+  go : (b : Bool) → ltb (length bytes) 4 ≡ b
+      → Tells (cond b Waits (by_length (length_at bytes) (drop 4 bytes))) bytes
   go true e = λ four. absurd (omega (arith, four, ltb-true _ _ e))
   go false e = length_tells bytes (ltb-false _ _ e)
 
@@ -128,10 +165,12 @@ tells bytes = go (ltb (length bytes) 4) refl where
 
 no_frame : (bytes : List ℕ) (e : WireFault) → front bytes ≡ Breaks e → BeginsWithFrame bytes → ⊥
 no_frame bytes e b has =
-    let begins : Begins has.0 has.1 ≡ Breaks e = sym (ap front has.3 ∙ front_again has.0 has.1 has.2) ∙ b in
+    let begins : Begins has.0 has.1 ≡ Breaks e =
+    sym (ap front has.3 ∙ front_again has.0 has.1 has.2) ∙ b in
     absurd cc
 
-first_is : (bytes : List ℕ) (e : WireFault) → Tells (Breaks e) bytes → (BeginsWithFrame bytes → ⊥) → IsFirstFault e bytes
+first_is : (bytes : List ℕ) (e : WireFault) → Tells (Breaks e) bytes → (BeginsWithFrame bytes → ⊥)
+    → IsFirstFault e bytes
 first_is bytes BadLength t none = t
 first_is bytes BadVersion t none = t
 first_is bytes BadKind t none = t
@@ -139,7 +178,8 @@ first_is bytes BadBody t none = (t.0, t.1, t.2, none)
 first_is bytes NoMemory t none = t
 
 breaks_first : (bytes : List ℕ) (e : WireFault) → front bytes ≡ Breaks e → IsFirstFault e bytes
-breaks_first bytes e b = first_is bytes e (subst (λ (x : Front). Tells x bytes) b (tells bytes)) (no_frame bytes e b)
+breaks_first bytes e b = first_is bytes e (subst (λ (x : Front). Tells x bytes) b (tells bytes))
+    (no_frame bytes e b)
 
 true_not_false : (b : Bool) → b ≡ true → b ≡ false → ⊥
 true_not_false b t f = let bad : true ≡ false = sym t ∙ f in absurd cc
@@ -183,21 +223,26 @@ no_wait bytes BadBody p t = short bytes p.0 t
 no_wait bytes NoMemory p t = p
 
 -- nor does a frame stand there
-no_begin : (bytes : List ℕ) (e : WireFault) (f : Frame) (rest : List ℕ) → IsFirstFault e bytes → BeginsWithFrame bytes → Tells (Begins f rest) bytes → ⊥
+no_begin : (bytes : List ℕ) (e : WireFault) (f : Frame) (rest : List ℕ) → IsFirstFault e bytes
+    → BeginsWithFrame bytes → Tells (Begins f rest) bytes → ⊥
 no_begin bytes BadLength f rest p has t = p.1 t.0.counted
 no_begin bytes BadVersion f rest p has t = p.1 t.1
 no_begin bytes BadKind f rest p has t = true_not_false (is_kind (get_or bytes 11 0)) t.2 p.2
 no_begin bytes BadBody f rest p has t = p.3 has
 no_begin bytes NoMemory f rest p has t = p
 
-first_breaks : (bytes : List ℕ) (e : WireFault) → AreBytes bytes → IsFirstFault e bytes → front bytes ≡ Breaks e
+first_breaks : (bytes : List ℕ) (e : WireFault) → AreBytes bytes → IsFirstFault e bytes
+    → front bytes ≡ Breaks e
 first_breaks bytes e fits p = go (front bytes) refl where
   go : (at : Front) → front bytes ≡ at → at ≡ Breaks e
   go Waits is = absurd (no_wait bytes e p (subst (λ (x : Front). Tells x bytes) is (tells bytes)))
   go (Begins f rest) is =
       let begun = front_takes bytes f rest fits is in
-      absurd (no_begin bytes e f rest p (f, rest, begun.fits, begun.spelled) (subst (λ (x : Front). Tells x bytes) is (tells bytes)))
-  go (Breaks x) is = ap (λ (y : WireFault). Breaks y) (one_first bytes x e (breaks_first bytes x is) p)
+      absurd (no_begin bytes e f rest p (f, rest, begun.fits, begun.spelled)
+      (subst (λ (x : Front). Tells x bytes) is (tells bytes)))
+  go (Breaks x) is = ap (λ (y : WireFault). Breaks y)
+      (one_first bytes x e (breaks_first bytes x is) p)
 
-pub fault_where_first : (bytes : List ℕ) (e : WireFault) → AreBytes bytes → IsFaultWhereFirst bytes e
+pub fault_where_first : (bytes : List ℕ) (e : WireFault) → AreBytes bytes
+    → IsFaultWhereFirst bytes e
 fault_where_first bytes e fits = (breaks_first bytes e, first_breaks bytes e fits)

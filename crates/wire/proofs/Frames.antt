@@ -6,8 +6,8 @@ use Rattle.acceptor.specs.declared.entry.Entry.{Entry}
 use Rattle.acceptor.specs.declared.message.Report.{Report}
 use Rattle.formats.specs.declared.events.Event.{Event}
 use Rattle.formats.specs.Events.{events, event_number}
-use Rattle.wire.specs.declared.frame.Standing.{Standing}
-use Rattle.wire.specs.declared.frame.Style.{Style}
+use Rattle.wire.specs.declared.values.Standing.{Standing}
+use Rattle.wire.specs.declared.values.SheetStyle.{SheetStyle}
 use Rattle.wire.specs.declared.frame.What.{What}
 use Rattle.wire.specs.declared.frame.What.TheVariants.{Prepare, Promise, Accept, Accepted, Nack, Behind, Decided, Submit, Ask, Sheet, Tick, Stop, Taken, Told, SheetText, Refused, Fine}
 use Rattle.wire.specs.Fields.{byte_at, number_at, two, all_of}
@@ -27,133 +27,215 @@ pub record IsWhat (kind : ℕ) (bytes : List ℕ) (w : What) : Type 0 where
 
 -- ---- the fields of each kind, as one field
 
-bp_field : IsField (λ (p : Ballot × ℕ). ballot_bytes p.0 ++ u32 p.1) (λ (p : Ballot × ℕ). IsBallot p.0 × IsPosition p.1) (two ballot_at position_at)
-bp_field = two_fields ballot_bytes IsBallot ballot_at u32 IsPosition position_at ballot_field position_field
+bp_field : IsField (λ (p : Ballot × ℕ). ballot_bytes p.0 ++ u32 p.1)
+    (λ (p : Ballot × ℕ). IsBallot p.0 × IsPosition p.1) (two ballot_at position_at)
+bp_field = two_fields ballot_bytes IsBallot ballot_at u32 IsPosition position_at ballot_field
+    position_field
 
-pv_field : IsField (λ (p : ℕ × Option Report). u32 p.0 ++ report_bytes p.1) (λ (p : ℕ × Option Report). IsPosition p.0 × IsReport p.1) (two position_at report_at)
-pv_field = two_fields u32 IsPosition position_at report_bytes IsReport report_at position_field report_field
+pv_field : IsField (λ (p : ℕ × Option Report). u32 p.0 ++ report_bytes p.1)
+    (λ (p : ℕ × Option Report). IsPosition p.0 × IsReport p.1) (two position_at report_at)
+pv_field = two_fields u32 IsPosition position_at report_bytes IsReport report_at position_field
+    report_field
 
-bpv_field : IsField (λ (p : Ballot × (ℕ × Option Report)). ballot_bytes p.0 ++ (u32 p.1.0 ++ report_bytes p.1.1)) (λ (p : Ballot × (ℕ × Option Report)). IsBallot p.0 × (IsPosition p.1.0 × IsReport p.1.1)) (two ballot_at (two position_at report_at))
-bpv_field = two_fields ballot_bytes IsBallot ballot_at (λ (p : ℕ × Option Report). u32 p.0 ++ report_bytes p.1) (λ (p : ℕ × Option Report). IsPosition p.0 × IsReport p.1) (two position_at report_at) ballot_field pv_field
+bpv_field : IsField (λ (p : Ballot × (ℕ × Option Report)). ballot_bytes
+    p.0 ++ (u32 p.1.0 ++ report_bytes p.1.1)) (λ (p : Ballot × (ℕ × Option Report)). IsBallot p.0
+    × (IsPosition p.1.0 × IsReport p.1.1)) (two ballot_at (two position_at report_at))
+bpv_field = two_fields ballot_bytes IsBallot ballot_at
+    (λ (p : ℕ × Option Report). u32 p.0 ++ report_bytes p.1)
+    (λ (p : ℕ × Option Report). IsPosition p.0 × IsReport p.1) (two position_at report_at)
+    ballot_field pv_field
 
-pe_field : IsField (λ (p : ℕ × Entry). u32 p.0 ++ entry_bytes p.1) (λ (p : ℕ × Entry). IsPosition p.0 × IsEntry p.1) (two position_at entry_at)
-pe_field = two_fields u32 IsPosition position_at entry_bytes IsEntry entry_at position_field entry_field
+pe_field : IsField (λ (p : ℕ × Entry). u32 p.0 ++ entry_bytes p.1)
+    (λ (p : ℕ × Entry). IsPosition p.0 × IsEntry p.1) (two position_at entry_at)
+pe_field = two_fields u32 IsPosition position_at entry_bytes IsEntry entry_at position_field
+    entry_field
 
-bpe_field : IsField (λ (p : Ballot × (ℕ × Entry)). ballot_bytes p.0 ++ (u32 p.1.0 ++ entry_bytes p.1.1)) (λ (p : Ballot × (ℕ × Entry)). IsBallot p.0 × (IsPosition p.1.0 × IsEntry p.1.1)) (two ballot_at (two position_at entry_at))
-bpe_field = two_fields ballot_bytes IsBallot ballot_at (λ (p : ℕ × Entry). u32 p.0 ++ entry_bytes p.1) (λ (p : ℕ × Entry). IsPosition p.0 × IsEntry p.1) (two position_at entry_at) ballot_field pe_field
+bpe_field : IsField (λ (p : Ballot × (ℕ × Entry)). ballot_bytes
+    p.0 ++ (u32 p.1.0 ++ entry_bytes p.1.1)) (λ (p : Ballot × (ℕ × Entry)). IsBallot p.0
+    × (IsPosition p.1.0 × IsEntry p.1.1)) (two ballot_at (two position_at entry_at))
+bpe_field = two_fields ballot_bytes IsBallot ballot_at
+    (λ (p : ℕ × Entry). u32 p.0 ++ entry_bytes p.1) (λ (p : ℕ × Entry). IsPosition p.0
+    × IsEntry p.1) (two position_at entry_at) ballot_field pe_field
 
-pb_field : IsField (λ (p : ℕ × Ballot). u32 p.0 ++ ballot_bytes p.1) (λ (p : ℕ × Ballot). IsPosition p.0 × IsBallot p.1) (two position_at ballot_at)
-pb_field = two_fields u32 IsPosition position_at ballot_bytes IsBallot ballot_at position_field ballot_field
+pb_field : IsField (λ (p : ℕ × Ballot). u32 p.0 ++ ballot_bytes p.1)
+    (λ (p : ℕ × Ballot). IsPosition p.0 × IsBallot p.1) (two position_at ballot_at)
+pb_field = two_fields u32 IsPosition position_at ballot_bytes IsBallot ballot_at position_field
+    ballot_field
 
-bpb_field : IsField (λ (p : Ballot × (ℕ × Ballot)). ballot_bytes p.0 ++ (u32 p.1.0 ++ ballot_bytes p.1.1)) (λ (p : Ballot × (ℕ × Ballot)). IsBallot p.0 × (IsPosition p.1.0 × IsBallot p.1.1)) (two ballot_at (two position_at ballot_at))
-bpb_field = two_fields ballot_bytes IsBallot ballot_at (λ (p : ℕ × Ballot). u32 p.0 ++ ballot_bytes p.1) (λ (p : ℕ × Ballot). IsPosition p.0 × IsBallot p.1) (two position_at ballot_at) ballot_field pb_field
+bpb_field : IsField (λ (p : Ballot × (ℕ × Ballot)). ballot_bytes
+    p.0 ++ (u32 p.1.0 ++ ballot_bytes p.1.1)) (λ (p : Ballot × (ℕ × Ballot)). IsBallot p.0
+    × (IsPosition p.1.0 × IsBallot p.1.1)) (two ballot_at (two position_at ballot_at))
+bpb_field = two_fields ballot_bytes IsBallot ballot_at
+    (λ (p : ℕ × Ballot). u32 p.0 ++ ballot_bytes p.1) (λ (p : ℕ × Ballot). IsPosition p.0
+    × IsBallot p.1) (two position_at ballot_at) ballot_field pb_field
 
-is_field : IsField (λ (p : ℕ × Standing). u64 p.0 ++ standing_bytes p.1) (λ (p : ℕ × Standing). IsId p.0 × IsStanding p.1) (two id_at standing_at)
+is_field : IsField (λ (p : ℕ × Standing). u64 p.0 ++ standing_bytes p.1)
+    (λ (p : ℕ × Standing). IsId p.0 × IsStanding p.1) (two id_at standing_at)
 is_field = two_fields u64 IsId id_at standing_bytes IsStanding standing_at id_field standing_field
 
-ps_field : IsField (λ (p : ℕ × Style). u32 p.0 ++ style_number p.1 ∷ []) (λ (p : ℕ × Style). (p.0 < 2 ^ 32) × Unit {0}) (two (number_at w32) (member_at style_number styles))
-ps_field = two_fields u32 (λ n. n < 2 ^ 32) (number_at w32) (λ (x : Style). style_number x ∷ []) (λ (x : Style). Unit {0}) (member_at style_number styles) any_field style_field
+ps_field : IsField (λ (p : ℕ × SheetStyle). u32 p.0 ++ style_number p.1 ∷ [])
+    (λ (p : ℕ × SheetStyle). (p.0 < 2 ^ 32) × Unit {0})
+    (two (number_at w32) (member_at style_number styles))
+ps_field = two_fields u32 (λ n. n < 2 ^ 32) (number_at w32)
+    (λ (x : SheetStyle). style_number x ∷ []) (λ (x : SheetStyle). Unit {0})
+    (member_at style_number styles) any_field style_field
 
-rps_field : IsField (λ (p : ℕ × (ℕ × Style)). (p.0 ∷ []) ++ (u32 p.1.0 ++ style_number p.1.1 ∷ [])) (λ (p : ℕ × (ℕ × Style)). (p.0 < 256) × ((p.1.0 < 2 ^ 32) × Unit {0})) (two byte_at (two (number_at w32) (member_at style_number styles)))
-rps_field = two_fields (λ (b : ℕ). b ∷ []) (λ (b : ℕ). b < 256) byte_at (λ (p : ℕ × Style). u32 p.0 ++ style_number p.1 ∷ []) (λ (p : ℕ × Style). (p.0 < 2 ^ 32) × Unit {0}) (two (number_at w32) (member_at style_number styles)) byte_field ps_field
+rps_field : IsField (λ (p : ℕ × (ℕ × SheetStyle)).
+    (p.0 ∷ []) ++ (u32 p.1.0 ++ style_number p.1.1 ∷ [])) (λ (p : ℕ × (ℕ × SheetStyle)). (p.0 < 256)
+    × ((p.1.0 < 2 ^ 32) × Unit {0}))
+    (two byte_at (two (number_at w32) (member_at style_number styles)))
+rps_field = two_fields (λ (b : ℕ). b ∷ []) (λ (b : ℕ). b < 256) byte_at
+    (λ (p : ℕ × SheetStyle). u32 p.0 ++ style_number p.1 ∷ [])
+    (λ (p : ℕ × SheetStyle). (p.0 < 2 ^ 32) × Unit {0})
+    (two (number_at w32) (member_at style_number styles)) byte_field ps_field
 
-erps_field : IsField (λ (p : Event × (ℕ × (ℕ × Style))). (event_number p.0 ∷ []) ++ ((p.1.0 ∷ []) ++ (u32 p.1.1.0 ++ style_number p.1.1.1 ∷ []))) (λ (p : Event × (ℕ × (ℕ × Style))). Unit {0} × ((p.1.0 < 256) × ((p.1.1.0 < 2 ^ 32) × Unit {0}))) (two (member_at event_number events) (two byte_at (two (number_at w32) (member_at style_number styles))))
-erps_field = two_fields (λ (x : Event). event_number x ∷ []) (λ (x : Event). Unit {0}) (member_at event_number events) (λ (p : ℕ × (ℕ × Style)). (p.0 ∷ []) ++ (u32 p.1.0 ++ style_number p.1.1 ∷ [])) (λ (p : ℕ × (ℕ × Style)). (p.0 < 256) × ((p.1.0 < 2 ^ 32) × Unit {0})) (two byte_at (two (number_at w32) (member_at style_number styles))) event_field rps_field
+erps_field : IsField (λ (p : Event × (ℕ × (ℕ × SheetStyle))). (event_number p.0 ∷ []) ++
+    ((p.1.0 ∷ []) ++ (u32 p.1.1.0 ++ style_number p.1.1.1 ∷ [])))
+    (λ (p : Event × (ℕ × (ℕ × SheetStyle))). Unit {0}
+    × ((p.1.0 < 256) × ((p.1.1.0 < 2 ^ 32) × Unit {0})))
+    (two (member_at event_number events)
+    (two byte_at (two (number_at w32) (member_at style_number styles))))
+erps_field = two_fields (λ (x : Event). event_number x ∷ []) (λ (x : Event). Unit {0})
+    (member_at event_number events)
+    (λ (p : ℕ × (ℕ × SheetStyle)). (p.0 ∷ []) ++ (u32 p.1.0 ++ style_number p.1.1 ∷ []))
+    (λ (p : ℕ × (ℕ × SheetStyle)). (p.0 < 256) × ((p.1.0 < 2 ^ 32) × Unit {0}))
+    (two byte_at (two (number_at w32) (member_at style_number styles))) event_field rps_field
 
 -- ---- what is read is spelled so
 
-pub prepare_takes : (bytes : List ℕ) (w : What) → IsBytes bytes → prepare_of bytes ≡ Some w → IsWhat 1 bytes w
+pub prepare_takes : (bytes : List ℕ) (w : What) → IsBytes bytes → prepare_of bytes ≡ Some w
+    → IsWhat 1 bytes w
 prepare_takes bytes w fits e =
-    let a = bind_some (all_of (two ballot_at position_at) bytes) (λ x. Some (Prepare x.0 x.1)) w e in
+    let a = bind_some (all_of (two ballot_at position_at) bytes) (λ x. Some (Prepare x.0 x.1)) w
+    e in
     let t = all_takes _ _ _ bp_field bytes a.0 fits a.1 in
-    subst (λ (y : What). IsWhat 1 bytes y) (some_is (Prepare a.0.0 a.0.1) w a.2) (record { number = refl; spelled = t.0; fits = t.1 })
+    subst (λ (y : What). IsWhat 1 bytes y) (some_is (Prepare a.0.0 a.0.1) w a.2)
+    (record { number = refl; spelled = t.0; fits = t.1 })
 
-pub promise_takes : (bytes : List ℕ) (w : What) → IsBytes bytes → promise_of bytes ≡ Some w → IsWhat 2 bytes w
+pub promise_takes : (bytes : List ℕ) (w : What) → IsBytes bytes → promise_of bytes ≡ Some w
+    → IsWhat 2 bytes w
 promise_takes bytes w fits e =
-    let a = bind_some (all_of (two ballot_at (two position_at report_at)) bytes) (λ x. Some (Promise x.0 x.1.0 x.1.1)) w e in
+    let a = bind_some (all_of (two ballot_at (two position_at report_at)) bytes)
+    (λ x. Some (Promise x.0 x.1.0 x.1.1)) w e in
     let t = all_takes _ _ _ bpv_field bytes a.0 fits a.1 in
-    subst (λ (y : What). IsWhat 2 bytes y) (some_is (Promise a.0.0 a.0.1.0 a.0.1.1) w a.2) (record { number = refl; spelled = t.0; fits = (t.1.0, t.1.1.0, t.1.1.1) })
+    subst (λ (y : What). IsWhat 2 bytes y) (some_is (Promise a.0.0 a.0.1.0 a.0.1.1) w a.2)
+    (record { number = refl; spelled = t.0; fits = (t.1.0, t.1.1.0, t.1.1.1) })
 
-pub accept_takes : (bytes : List ℕ) (w : What) → IsBytes bytes → accept_of bytes ≡ Some w → IsWhat 3 bytes w
+pub accept_takes : (bytes : List ℕ) (w : What) → IsBytes bytes → accept_of bytes ≡ Some w
+    → IsWhat 3 bytes w
 accept_takes bytes w fits e =
-    let a = bind_some (all_of (two ballot_at (two position_at entry_at)) bytes) (λ x. Some (Accept x.0 x.1.0 x.1.1)) w e in
+    let a = bind_some (all_of (two ballot_at (two position_at entry_at)) bytes)
+    (λ x. Some (Accept x.0 x.1.0 x.1.1)) w e in
     let t = all_takes _ _ _ bpe_field bytes a.0 fits a.1 in
-    subst (λ (y : What). IsWhat 3 bytes y) (some_is (Accept a.0.0 a.0.1.0 a.0.1.1) w a.2) (record { number = refl; spelled = t.0; fits = (t.1.0, t.1.1.0, t.1.1.1) })
+    subst (λ (y : What). IsWhat 3 bytes y) (some_is (Accept a.0.0 a.0.1.0 a.0.1.1) w a.2)
+    (record { number = refl; spelled = t.0; fits = (t.1.0, t.1.1.0, t.1.1.1) })
 
-pub accepted_takes : (bytes : List ℕ) (w : What) → IsBytes bytes → accepted_of bytes ≡ Some w → IsWhat 4 bytes w
+pub accepted_takes : (bytes : List ℕ) (w : What) → IsBytes bytes → accepted_of bytes ≡ Some w
+    → IsWhat 4 bytes w
 accepted_takes bytes w fits e =
-    let a = bind_some (all_of (two ballot_at position_at) bytes) (λ x. Some (Accepted x.0 x.1)) w e in
+    let a = bind_some (all_of (two ballot_at position_at) bytes) (λ x. Some (Accepted x.0 x.1)) w
+    e in
     let t = all_takes _ _ _ bp_field bytes a.0 fits a.1 in
-    subst (λ (y : What). IsWhat 4 bytes y) (some_is (Accepted a.0.0 a.0.1) w a.2) (record { number = refl; spelled = t.0; fits = t.1 })
+    subst (λ (y : What). IsWhat 4 bytes y) (some_is (Accepted a.0.0 a.0.1) w a.2)
+    (record { number = refl; spelled = t.0; fits = t.1 })
 
-pub nack_takes : (bytes : List ℕ) (w : What) → IsBytes bytes → nack_of bytes ≡ Some w → IsWhat 5 bytes w
+pub nack_takes : (bytes : List ℕ) (w : What) → IsBytes bytes → nack_of bytes ≡ Some w
+    → IsWhat 5 bytes w
 nack_takes bytes w fits e =
-    let a = bind_some (all_of (two ballot_at (two position_at ballot_at)) bytes) (λ x. Some (Nack x.0 x.1.0 x.1.1)) w e in
+    let a = bind_some (all_of (two ballot_at (two position_at ballot_at)) bytes)
+    (λ x. Some (Nack x.0 x.1.0 x.1.1)) w e in
     let t = all_takes _ _ _ bpb_field bytes a.0 fits a.1 in
-    subst (λ (y : What). IsWhat 5 bytes y) (some_is (Nack a.0.0 a.0.1.0 a.0.1.1) w a.2) (record { number = refl; spelled = t.0; fits = (t.1.0, t.1.1.0, t.1.1.1) })
+    subst (λ (y : What). IsWhat 5 bytes y) (some_is (Nack a.0.0 a.0.1.0 a.0.1.1) w a.2)
+    (record { number = refl; spelled = t.0; fits = (t.1.0, t.1.1.0, t.1.1.1) })
 
-pub behind_takes : (bytes : List ℕ) (w : What) → IsBytes bytes → behind_of bytes ≡ Some w → IsWhat 6 bytes w
+pub behind_takes : (bytes : List ℕ) (w : What) → IsBytes bytes → behind_of bytes ≡ Some w
+    → IsWhat 6 bytes w
 behind_takes bytes w fits e =
     let a = bind_some (all_of (limited_at 65536) bytes) (λ x. Some (Behind x)) w e in
     let t = all_takes _ _ _ (limited_field 65536 (omega arith)) bytes a.0 fits a.1 in
-    subst (λ (y : What). IsWhat 6 bytes y) (some_is (Behind a.0) w a.2) (record { number = refl; spelled = t.0; fits = t.1 })
+    subst (λ (y : What). IsWhat 6 bytes y) (some_is (Behind a.0) w a.2)
+    (record { number = refl; spelled = t.0; fits = t.1 })
 
-pub decided_takes : (bytes : List ℕ) (w : What) → IsBytes bytes → decided_of bytes ≡ Some w → IsWhat 7 bytes w
+pub decided_takes : (bytes : List ℕ) (w : What) → IsBytes bytes → decided_of bytes ≡ Some w
+    → IsWhat 7 bytes w
 decided_takes bytes w fits e =
     let a = bind_some (all_of (two position_at entry_at) bytes) (λ x. Some (Decided x.0 x.1)) w e in
     let t = all_takes _ _ _ pe_field bytes a.0 fits a.1 in
-    subst (λ (y : What). IsWhat 7 bytes y) (some_is (Decided a.0.0 a.0.1) w a.2) (record { number = refl; spelled = t.0; fits = t.1 })
+    subst (λ (y : What). IsWhat 7 bytes y) (some_is (Decided a.0.0 a.0.1) w a.2)
+    (record { number = refl; spelled = t.0; fits = t.1 })
 
-pub submit_takes : (bytes : List ℕ) (w : What) → IsBytes bytes → submit_of bytes ≡ Some w → IsWhat 16 bytes w
+pub submit_takes : (bytes : List ℕ) (w : What) → IsBytes bytes → submit_of bytes ≡ Some w
+    → IsWhat 16 bytes w
 submit_takes bytes w fits e =
     let a = bind_some (all_of entry_at bytes) (λ x. Some (Submit x)) w e in
     let t = all_takes _ _ _ entry_field bytes a.0 fits a.1 in
-    subst (λ (y : What). IsWhat 16 bytes y) (some_is (Submit a.0) w a.2) (record { number = refl; spelled = t.0; fits = t.1 })
+    subst (λ (y : What). IsWhat 16 bytes y) (some_is (Submit a.0) w a.2)
+    (record { number = refl; spelled = t.0; fits = t.1 })
 
-pub ask_takes : (bytes : List ℕ) (w : What) → IsBytes bytes → ask_of bytes ≡ Some w → IsWhat 17 bytes w
+pub ask_takes : (bytes : List ℕ) (w : What) → IsBytes bytes → ask_of bytes ≡ Some w
+    → IsWhat 17 bytes w
 ask_takes bytes w fits e =
     let a = bind_some (all_of id_at bytes) (λ x. Some (Ask x)) w e in
     let t = all_takes _ _ _ id_field bytes a.0 fits a.1 in
-    subst (λ (y : What). IsWhat 17 bytes y) (some_is (Ask a.0) w a.2) (record { number = refl; spelled = t.0; fits = t.1 })
+    subst (λ (y : What). IsWhat 17 bytes y) (some_is (Ask a.0) w a.2)
+    (record { number = refl; spelled = t.0; fits = t.1 })
 
-pub sheet_takes : (bytes : List ℕ) (w : What) → IsBytes bytes → sheet_of bytes ≡ Some w → IsWhat 18 bytes w
+pub sheet_takes : (bytes : List ℕ) (w : What) → IsBytes bytes → sheet_of bytes ≡ Some w
+    → IsWhat 18 bytes w
 sheet_takes bytes w fits e =
-    let a = bind_some (all_of (two (member_at event_number events) (two byte_at (two (number_at w32) (member_at style_number styles)))) bytes) (λ x. Some (Sheet x.0 x.1.0 x.1.1.0 x.1.1.1)) w e in
+    let a = bind_some (all_of (two (member_at event_number events)
+    (two byte_at (two (number_at w32) (member_at style_number styles)))) bytes)
+    (λ x. Some (Sheet x.0 x.1.0 x.1.1.0 x.1.1.1)) w e in
     let t = all_takes _ _ _ erps_field bytes a.0 fits a.1 in
-    subst (λ (y : What). IsWhat 18 bytes y) (some_is (Sheet a.0.0 a.0.1.0 a.0.1.1.0 a.0.1.1.1) w a.2) (record { number = refl; spelled = t.0; fits = (t.1.1.0, t.1.1.1.0) })
+    subst (λ (y : What). IsWhat 18 bytes y)
+    (some_is (Sheet a.0.0 a.0.1.0 a.0.1.1.0 a.0.1.1.1) w a.2)
+    (record { number = refl; spelled = t.0; fits = (t.1.1.0, t.1.1.1.0) })
 
-pub taken_takes : (bytes : List ℕ) (w : What) → IsBytes bytes → taken_of bytes ≡ Some w → IsWhat 32 bytes w
+pub taken_takes : (bytes : List ℕ) (w : What) → IsBytes bytes → taken_of bytes ≡ Some w
+    → IsWhat 32 bytes w
 taken_takes bytes w fits e =
     let a = bind_some (all_of id_at bytes) (λ x. Some (Taken x)) w e in
     let t = all_takes _ _ _ id_field bytes a.0 fits a.1 in
-    subst (λ (y : What). IsWhat 32 bytes y) (some_is (Taken a.0) w a.2) (record { number = refl; spelled = t.0; fits = t.1 })
+    subst (λ (y : What). IsWhat 32 bytes y) (some_is (Taken a.0) w a.2)
+    (record { number = refl; spelled = t.0; fits = t.1 })
 
-pub told_takes : (bytes : List ℕ) (w : What) → IsBytes bytes → told_of bytes ≡ Some w → IsWhat 33 bytes w
+pub told_takes : (bytes : List ℕ) (w : What) → IsBytes bytes → told_of bytes ≡ Some w
+    → IsWhat 33 bytes w
 told_takes bytes w fits e =
     let a = bind_some (all_of (two id_at standing_at) bytes) (λ x. Some (Told x.0 x.1)) w e in
     let t = all_takes _ _ _ is_field bytes a.0 fits a.1 in
-    subst (λ (y : What). IsWhat 33 bytes y) (some_is (Told a.0.0 a.0.1) w a.2) (record { number = refl; spelled = t.0; fits = t.1 })
+    subst (λ (y : What). IsWhat 33 bytes y) (some_is (Told a.0.0 a.0.1) w a.2)
+    (record { number = refl; spelled = t.0; fits = t.1 })
 
-pub refused_takes : (bytes : List ℕ) (w : What) → IsBytes bytes → refused_of bytes ≡ Some w → IsWhat 35 bytes w
+pub refused_takes : (bytes : List ℕ) (w : What) → IsBytes bytes → refused_of bytes ≡ Some w
+    → IsWhat 35 bytes w
 refused_takes bytes w fits e =
-    let a = bind_some (all_of (member_at refusal_number refusals) bytes) (λ x. Some (Refused x)) w e in
+    let a = bind_some (all_of (member_at refusal_number refusals) bytes) (λ x. Some (Refused x)) w
+    e in
     let t = all_takes _ _ _ refusal_field bytes a.0 fits a.1 in
-    subst (λ (y : What). IsWhat 35 bytes y) (some_is (Refused a.0) w a.2) (record { number = refl; spelled = t.0; fits = tt })
+    subst (λ (y : What). IsWhat 35 bytes y) (some_is (Refused a.0) w a.2)
+    (record { number = refl; spelled = t.0; fits = tt })
 
 -- ---- what is spelled so is read
 
 pub what_again : (w : What) → IsBody w → what_of (kind_of w) (body w) ≡ Some w
 unfolding what_of
 what_again (Prepare b pos) fits = rw (all_again _ _ _ bp_field (b, pos) fits) refl
-what_again (Promise b pos vote) fits = rw (all_again _ _ _ bpv_field (b, (pos, vote)) (fits.0, (fits.1, fits.2))) refl
-what_again (Accept b pos e) fits = rw (all_again _ _ _ bpe_field (b, (pos, e)) (fits.0, (fits.1, fits.2))) refl
+what_again (Promise b pos vote) fits =
+    rw (all_again _ _ _ bpv_field (b, (pos, vote)) (fits.0, (fits.1, fits.2))) refl
+what_again (Accept b pos e) fits =
+    rw (all_again _ _ _ bpe_field (b, (pos, e)) (fits.0, (fits.1, fits.2))) refl
 what_again (Accepted b pos) fits = rw (all_again _ _ _ bp_field (b, pos) fits) refl
-what_again (Nack b pos promised) fits = rw (all_again _ _ _ bpb_field (b, (pos, promised)) (fits.0, (fits.1, fits.2))) refl
-what_again (Behind len) fits = rw (all_again _ _ _ (limited_field 65536 (omega arith)) len fits) refl
+what_again (Nack b pos promised) fits =
+    rw (all_again _ _ _ bpb_field (b, (pos, promised)) (fits.0, (fits.1, fits.2))) refl
+what_again (Behind len) fits = rw (all_again _ _ _ (limited_field 65536 (omega arith)) len fits)
+    refl
 what_again (Decided pos e) fits = rw (all_again _ _ _ pe_field (pos, e) fits) refl
 what_again (Submit e) fits = rw (all_again _ _ _ entry_field e fits) refl
 what_again (Ask id) fits = rw (all_again _ _ _ id_field id fits) refl
-what_again (Sheet event round position style) fits = rw (all_again _ _ _ erps_field (event, (round, (position, style))) (tt, (fits.0, (fits.1, tt)))) refl
+what_again (Sheet event round position style) fits =
+    rw (all_again _ _ _ erps_field (event, (round, (position, style))) (tt, (fits.0, (fits.1, tt))))
+    refl
 what_again Tick fits = refl
 what_again Stop fits = refl
 what_again (Taken id) fits = rw (all_again _ _ _ id_field id fits) refl

@@ -4,6 +4,9 @@ pub mod Sequences
 pub mod Bodies
 pub mod Frames
 pub mod Whole
+pub mod WhatKind
+pub mod Finishing
+pub mod Keeping
 pub mod Streams
 pub mod Feeding
 pub mod Pieces

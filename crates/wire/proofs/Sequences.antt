@@ -7,11 +7,14 @@ use Rattle.wire.specs.Reading.{member_at}
 use Rattle.wire.proofs.Taking.{IsBytes, bind_some, passed, some_is, Takes, Takes-then, byte_takes}
 
 -- a reader and a spelling belong together
-pub record IsField {A : Type 0} (spell : A → List ℕ) (Fits : A → Type 0) (read : List ℕ → Read A) : Type 0 where
-  pub takes : (bytes : List ℕ) (x : A × List ℕ) → IsBytes bytes → read bytes ≡ Some x → Takes bytes (spell x.0) x.1 × Fits x.0
+pub record IsField {A : Type 0} (spell : A → List ℕ) (Fits : A → Type 0) (read : List ℕ → Read A) :
+    Type 0 where
+  pub takes : (bytes : List ℕ) (x : A × List ℕ) → IsBytes bytes → read bytes ≡ Some x
+      → Takes bytes (spell x.0) x.1 × Fits x.0
   pub again : (x : A) (rest : List ℕ) → Fits x → read (spell x ++ rest) ≡ Some (x, rest)
 
-pub two_fields : {A B : Type 0} (s : A → List ℕ) (F : A → Type 0) (r : List ℕ → Read A) (t : B → List ℕ) (G : B → Type 0) (q : List ℕ → Read B) → IsField s F r → IsField t G q
+pub two_fields : {A B : Type 0} (s : A → List ℕ) (F : A → Type 0) (r : List ℕ → Read A)
+    (t : B → List ℕ) (G : B → Type 0) (q : List ℕ → Read B) → IsField s F r → IsField t G q
     → IsField (λ (p : A × B). s p.0 ++ t p.1) (λ (p : A × B). F p.0 × G p.1) (two r q)
 two_fields {A} {B} s F r t G q f g = record {
   takes = λ bytes x fits e.
@@ -20,45 +23,61 @@ two_fields {A} {B} s F r t G q f g = record {
       let t0 = f.takes bytes a.0 fits a.1 in
       let t1 = g.takes a.0.1 b.0 t0.0.are_bytes b.1 in
       let made : (A × B) × List ℕ = ((a.0.0, b.0.0), b.0.1) in
-      subst (λ (y : (A × B) × List ℕ). Takes bytes (s y.0.0 ++ t y.0.1) y.1 × (F y.0.0 × G y.0.1)) (some_is made x b.2)
+      subst (λ (y : (A × B) × List ℕ). Takes bytes (s y.0.0 ++ t y.0.1) y.1 × (F y.0.0 × G y.0.1))
+      (some_is made x b.2)
       (Takes-then bytes (s a.0.0) a.0.1 (t b.0.0) b.0.1 t0.0 t1.0, (t0.1, t1.1));
   again = λ x rest fits.
-      let regrouped : (s x.0 ++ t x.1) ++ rest ≡ s x.0 ++ (t x.1 ++ rest) = append_assoc (s x.0) (t x.1) rest in
-      ap (two r q) regrouped ∙ rw (f.again x.0 (t x.1 ++ rest) fits.0, g.again x.1 rest fits.1) refl;
+      let regrouped : (s x.0 ++ t x.1) ++ rest ≡ s x.0 ++ (t x.1 ++ rest) =
+      append_assoc (s x.0) (t x.1) rest in
+      ap (two r q) regrouped ∙ rw (f.again x.0 (t x.1 ++ rest) fits.0, g.again x.1 rest fits.1)
+      refl;
 }
 
-pub all_takes : {A : Type 0} (s : A → List ℕ) (F : A → Type 0) (r : List ℕ → Read A) → IsField s F r → (bytes : List ℕ) (x : A) → IsBytes bytes → all_of r bytes ≡ Some x → (bytes ≡ s x) × F x
+pub all_takes : {A : Type 0} (s : A → List ℕ) (F : A → Type 0) (r : List ℕ → Read A) → IsField s F r
+    → (bytes : List ℕ) (x : A) → IsBytes bytes → all_of r bytes ≡ Some x → (bytes ≡ s x) × F x
 all_takes {A} s F r f bytes x fits e =
     let a = bind_some (r bytes) (λ x. cond (eqb (length x.1) 0) (Some x.0) None) x e in
     let b = passed (eqb (length a.0.1) 0) a.0.0 x a.2 in
     let t = f.takes bytes a.0 fits a.1 in
     let nothing : a.0.1 ≡ [] = nil_from_length a.0.1 (eqb-true _ _ b.0) in
-    let whole : bytes ≡ s a.0.0 = t.0.parts ∙ ap (λ (rest : List ℕ). s a.0.0 ++ rest) nothing ∙ append-nil (s a.0.0) in
+    let whole : bytes ≡ s a.0.0 = t.0.parts ∙ ap (λ (rest : List ℕ). s a.0.0 ++ rest) nothing
+    ∙ append-nil (s a.0.0) in
     subst (λ (y : A). (bytes ≡ s y) × F y) b.1 (whole, t.1)
 
-pub all_again : {A : Type 0} (s : A → List ℕ) (F : A → Type 0) (r : List ℕ → Read A) → IsField s F r → (x : A) → F x → all_of r (s x) ≡ Some x
+pub all_again : {A : Type 0} (s : A → List ℕ) (F : A → Type 0) (r : List ℕ → Read A) → IsField s F r
+    → (x : A) → F x → all_of r (s x) ≡ Some x
 all_again s F r f x fits =
     let read : r (s x) ≡ Some (x, []) = ap r (sym (append-nil (s x))) ∙ f.again x [] fits in
     rw read refl
 
 -- ---- one byte for a member of a list
 
-numbered_is : {A : Type 0} (number_of : A → ℕ) (members : List A) (n : ℕ) (x : A) → numbered number_of members n ≡ Some x → number_of x ≡ n
+numbered_is : {A : Type 0} (number_of : A → ℕ) (members : List A) (n : ℕ) (x : A)
+    → numbered number_of members n ≡ Some x → number_of x ≡ n
 numbered_is number_of [] n x e = absurd cc
-numbered_is {A} number_of (m ∷ ms) n x e = go (eqb (number_of m) n) refl (numbered_is number_of ms n x) e where
-  go : (b : Bool) → eqb (number_of m) n ≡ b → (numbered number_of ms n ≡ Some x → number_of x ≡ n) → cond b (Some m) (numbered number_of ms n) ≡ Some x → number_of x ≡ n
-  go true t later h = subst (λ (y : A). number_of y ≡ n) (some_is m x h) (eqb-true _ _ t)
-  go false t later h = later h
+numbered_is {A} number_of (m ∷ ms) n x e = go (eqb (number_of m) n) refl
+    (numbered_is number_of ms n x) e where
+      go : (b : Bool) → eqb (number_of m) n ≡ b → (numbered number_of ms n ≡ Some x → number_of x ≡ n)
+          → cond b (Some m) (numbered number_of ms n) ≡ Some x → number_of x ≡ n
+      go true t later h = subst (λ (y : A). number_of y ≡ n) (some_is m x h) (eqb-true _ _ t)
+      go false t later h = later h
 
-pub member_field : {A : Type 0} (number_of : A → ℕ) (members : List A) → ((x : A) → numbered number_of members (number_of x) ≡ Some x) → IsField (λ (x : A). number_of x ∷ []) (λ (x : A). Unit {0}) (member_at number_of members)
+pub member_field : {A : Type 0} (number_of : A → ℕ) (members : List A)
+    → ((x : A) → numbered number_of members (number_of x) ≡ Some x)
+    → IsField (λ (x : A). number_of x ∷ []) (λ (x : A). Unit {0}) (member_at number_of members)
 unfolding member_at byte_at
 member_field {A} number_of members found = record {
   takes = λ bytes x fits e.
-      let a = bind_some (byte_at bytes) (λ n. numbered number_of members n.0 >>= λ m. Some (m, n.1)) x e in
+      let a = bind_some (byte_at bytes) (λ n. numbered number_of members n.0 >>= λ m. Some (m, n.1))
+      x e in
       let b = bind_some (numbered number_of members a.0.0) (λ m. Some (m, a.0.1)) x a.2 in
       let t = byte_takes bytes a.0 fits a.1 in
       let made : A × List ℕ = (b.0, a.0.1) in
-      subst (λ (y : A × List ℕ). Takes bytes (number_of y.0 ∷ []) y.1 × Unit {0}) (some_is made x b.2)
-      (subst (λ (n : ℕ). Takes bytes (n ∷ []) a.0.1) (sym (numbered_is number_of members a.0.0 b.0 b.1)) t.0, tt);
+      subst (λ (y : A × List ℕ). Takes bytes (number_of y.0 ∷ []) y.1 × Unit {0})
+      (some_is made x b.2) (
+        subst (λ (n : ℕ). Takes bytes (n ∷ []) a.0.1)
+            (sym (numbered_is number_of members a.0.0 b.0 b.1)) t.0,
+        tt,
+      );
   again = λ x rest fits. rw (found x) refl;
 }

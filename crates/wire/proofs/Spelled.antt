@@ -8,7 +8,8 @@ use Rattle.wire.specs.Spelling.{spelling}
 use Rattle.wire.specs.Stream.{front}
 use Rattle.wire.proofs.Streams.{front_takes, front_again, prefix_free}
 
-pub read_where_spelled : (bytes : List ℕ) (f : Frame) (rest : List ℕ) → AreBytes bytes → IsReadWhereSpelled bytes f rest
+pub read_where_spelled : (bytes : List ℕ) (f : Frame) (rest : List ℕ) → AreBytes bytes
+    → IsReadWhereSpelled bytes f rest
 read_where_spelled bytes f rest fits = (
   λ e. let begun = front_takes bytes f rest fits e in (begun.fits, begun.spelled),
   λ h. ap front h.1 ∙ front_again f rest h.0,

@@ -16,25 +16,32 @@ use Rattle.wire.proofs.FieldLaws.{and_true, both_true, between_is, between_holds
 use Rattle.wire.proofs.Frames.{IsWhat, prepare_takes, promise_takes, accept_takes, accepted_takes, nack_takes, behind_takes, decided_takes, submit_takes, ask_takes, sheet_takes, taken_takes, told_takes, refused_takes, what_again}
 
 -- a kind without fields
-empty_takes : (kind : ℕ) (what : What) (bytes : List ℕ) (w : What) → kind_of what ≡ kind → body what ≡ [] → IsBody what → empty_of what bytes ≡ Some w → IsWhat kind bytes w
+empty_takes : (kind : ℕ) (what : What) (bytes : List ℕ) (w : What) → kind_of what ≡ kind
+    → body what ≡ [] → IsBody what → empty_of what bytes ≡ Some w → IsWhat kind bytes w
 empty_takes kind what bytes w number empty fits e =
     let a = passed (eqb (length bytes) 0) what w e in
     let nothing : bytes ≡ [] = nil_from_length bytes (eqb-true _ _ a.0) in
-    subst (λ (y : What). IsWhat kind bytes y) a.1 (record { number = number; spelled = nothing ∙ sym empty; fits = fits })
+    subst (λ (y : What). IsWhat kind bytes y) a.1
+    (record { number = number; spelled = nothing ∙ sym empty; fits = fits })
 
-text_takes : (bytes : List ℕ) (w : What) → length bytes ≤ 299992 → Some (SheetText bytes) ≡ Some w → IsWhat 34 bytes w
+text_takes : (bytes : List ℕ) (w : What) → length bytes ≤ 299992 → Some (SheetText bytes) ≡ Some w
+    → IsWhat 34 bytes w
 text_takes bytes w short e =
     let same : SheetText bytes ≡ w = cc in
-    subst (λ (y : What). IsWhat 34 bytes y) same (record { number = refl; spelled = refl; fits = short })
+    subst (λ (y : What). IsWhat 34 bytes y) same
+    (record { number = refl; spelled = refl; fits = short })
 
 -- one test of the chain: the kind is this one, or the chain goes on
-pick : (kind k : ℕ) (bytes : List ℕ) (w : What) (x y : Option What) → (x ≡ Some w → IsWhat k bytes w) → (y ≡ Some w → IsWhat kind bytes w) → cond (eqb kind k) x y ≡ Some w → IsWhat kind bytes w
+pick : (kind k : ℕ) (bytes : List ℕ) (w : What) (x y : Option What)
+    → (x ≡ Some w → IsWhat k bytes w) → (y ≡ Some w → IsWhat kind bytes w)
+    → cond (eqb kind k) x y ≡ Some w → IsWhat kind bytes w
 pick kind k bytes w x y here there e = go (eqb kind k) refl e where
   go : (b : Bool) → eqb kind k ≡ b → cond b x y ≡ Some w → IsWhat kind bytes w
   go true t h = subst (λ (n : ℕ). IsWhat n bytes w) (sym (eqb-true _ _ t)) (here h)
   go false t h = there h
 
-pub what_takes : (kind : ℕ) (bytes : List ℕ) (w : What) → IsBytes bytes → length bytes ≤ 299992 → what_of kind bytes ≡ Some w → IsWhat kind bytes w
+pub what_takes : (kind : ℕ) (bytes : List ℕ) (w : What) → IsBytes bytes → length bytes ≤ 299992
+    → what_of kind bytes ≡ Some w → IsWhat kind bytes w
 unfolding what_of
 what_takes kind bytes w fits short e =
     pick kind 1 bytes w _ _ (prepare_takes bytes w fits)
@@ -59,17 +66,23 @@ what_takes kind bytes w fits short e =
 -- ---- the bytes behind a length
 
 goes_is : (way : Way) (from to : ℕ) → goes way from to ≡ true → Goes way from to
-goes_is Between from to e = let h = and_true (is_desk from) (is_desk to) e in (between_is 1 5 from h.0, between_is 1 5 to h.1)
-goes_is FromClient from to e = let h = and_true (eqb from 0) (is_desk to) e in (eqb-true _ _ h.0, between_is 1 5 to h.1)
-goes_is ToClient from to e = let h = and_true (is_desk from) (eqb to 0) e in (between_is 1 5 from h.0, eqb-true _ _ h.1)
+goes_is Between from to e = let h = and_true (is_desk from) (is_desk to) e in
+    (between_is 1 5 from h.0, between_is 1 5 to h.1)
+goes_is FromClient from to e = let h = and_true (eqb from 0) (is_desk to) e in
+    (eqb-true _ _ h.0, between_is 1 5 to h.1)
+goes_is ToClient from to e = let h = and_true (is_desk from) (eqb to 0) e in
+    (between_is 1 5 from h.0, eqb-true _ _ h.1)
 
 is_zero : (n : ℕ) → n ≡ 0 → eqb n 0 ≡ true
 is_zero n e = rw e refl
 
 goes_holds : (way : Way) (from to : ℕ) → Goes way from to → goes way from to ≡ true
-goes_holds Between from to h = both_true (is_desk from) (is_desk to) (between_holds 1 5 from h.0.0 h.0.1) (between_holds 1 5 to h.1.0 h.1.1)
-goes_holds FromClient from to h = both_true (eqb from 0) (is_desk to) (is_zero from h.0) (between_holds 1 5 to h.1.0 h.1.1)
-goes_holds ToClient from to h = both_true (is_desk from) (eqb to 0) (between_holds 1 5 from h.0.0 h.0.1) (is_zero to h.1)
+goes_holds Between from to h = both_true (is_desk from) (is_desk to)
+    (between_holds 1 5 from h.0.0 h.0.1) (between_holds 1 5 to h.1.0 h.1.1)
+goes_holds FromClient from to h = both_true (eqb from 0) (is_desk to) (is_zero from h.0)
+    (between_holds 1 5 to h.1.0 h.1.1)
+goes_holds ToClient from to h = both_true (is_desk from) (eqb to 0)
+    (between_holds 1 5 from h.0.0 h.0.1) (is_zero to h.1)
 
 kind_is : (w : What) → is_kind (kind_of w) ≡ true
 kind_is (Prepare b pos) = refl
@@ -91,11 +104,13 @@ kind_is (Refused refusal) = refl
 kind_is Fine = refl
 
 -- a test that refused nothing
-let_by : {A : Type 0} (b : Bool) (x : WireFault) (y : Result A WireFault) (z : A) → cond (not b) (Err x) y ≡ Ok z → (b ≡ true) × (y ≡ Ok z)
+let_by : {A : Type 0} (b : Bool) (x : WireFault) (y : Result A WireFault) (z : A)
+    → cond (not b) (Err x) y ≡ Ok z → (b ≡ true) × (y ≡ Ok z)
 let_by true x y z e = (refl, e)
 let_by false x y z e = absurd cc
 
-granted : {A : Type 0} (b : Bool) (x : WireFault) (y z : A) → cond b (Ok y) (Err x) ≡ Ok z → (b ≡ true) × (y ≡ z)
+granted : {A : Type 0} (b : Bool) (x : WireFault) (y z : A) → cond b (Ok y) (Err x) ≡ Ok z
+    → (b ≡ true) × (y ≡ z)
 granted true x y z e = (refl, cc)
 granted false x y z e = absurd cc
 
@@ -104,18 +119,22 @@ pub record IsInside (bytes : List ℕ) (f : Frame) : Type 0 where
   pub fits : IsFrame f
   pub spelled : bytes ≡ inside f
 
-from_takes : (hall from to kind : ℕ) (bytes : List ℕ) (o : Option What) (f : Frame) → hall < 2 ^ 32 → ((w : What) → o ≡ Some w → IsWhat kind bytes w) → frame_from hall from to o ≡ Ok f
+from_takes : (hall from to kind : ℕ) (bytes : List ℕ) (o : Option What) (f : Frame) → hall < 2 ^ 32
+    → ((w : What) → o ≡ Some w → IsWhat kind bytes w) → frame_from hall from to o ≡ Ok f
     → IsFrame f × (1 ∷ to_be_bytes w32 hall ++ from ∷ to ∷ kind ∷ bytes ≡ inside f)
 from_takes hall from to kind bytes None f small taken e = absurd cc
 from_takes hall from to kind bytes (Some w) f small taken e =
     let made : Frame = record { hall = hall; from = from; to = to; what = w } in
     let g = granted (goes (way_of w) from to) BadBody made f e in
     let t = taken w refl in
-    let spelled : 1 ∷ to_be_bytes w32 hall ++ from ∷ to ∷ kind ∷ bytes ≡ inside made = rw (← t.number, t.spelled) refl in
-    subst (λ (y : Frame). IsFrame y × (1 ∷ to_be_bytes w32 hall ++ from ∷ to ∷ kind ∷ bytes ≡ inside y)) g.1
+    let spelled : 1 ∷ to_be_bytes w32 hall ++ from ∷ to ∷ kind ∷ bytes ≡ inside made =
+    rw (← t.number, t.spelled) refl in
+    subst (λ (y : Frame). IsFrame y
+    × (1 ∷ to_be_bytes w32 hall ++ from ∷ to ∷ kind ∷ bytes ≡ inside y)) g.1
     (record { hall = small; goes = goes_is (way_of w) from to g.0; body = t.fits }, spelled)
 
-pub frame_takes : (bytes : List ℕ) (f : Frame) → IsBytes bytes → length bytes ≤ 300000 → frame_of bytes ≡ Ok f → IsInside bytes f
+pub frame_takes : (bytes : List ℕ) (f : Frame) → IsBytes bytes → length bytes ≤ 300000
+    → frame_of bytes ≡ Ok f → IsInside bytes f
 unfolding frame_of
 frame_takes [] f fits short e = absurd cc
 frame_takes (version ∷ []) f fits short e = absurd cc
@@ -127,22 +146,36 @@ frame_takes (version ∷ a ∷ b ∷ c ∷ d ∷ from ∷ []) f fits short e = a
 frame_takes (version ∷ a ∷ b ∷ c ∷ d ∷ from ∷ to ∷ []) f fits short e = absurd cc
 frame_takes (version ∷ a ∷ b ∷ c ∷ d ∷ from ∷ to ∷ kind ∷ bytes) f fits short e =
     let four : List ℕ = a ∷ b ∷ c ∷ d ∷ [] in
-    let four_fit : IsBytes four = IsBytes-take 4 (a ∷ b ∷ c ∷ d ∷ from ∷ to ∷ kind ∷ bytes) (λ i. fits (suc i)) in
+    let four_fit : IsBytes four = IsBytes-take 4 (a ∷ b ∷ c ∷ d ∷ from ∷ to ∷ kind ∷ bytes)
+    (λ i. fits (suc i)) in
     let rest_fit : IsBytes bytes = λ i. fits (suc (suc (suc (suc (suc (suc (suc (suc i)))))))) in
     let hall : ℕ = from_be_bytes w32 four in
-    let v = let_by (eqb version 1) BadVersion (cond (not (is_kind kind)) (Err BadKind) (frame_from hall from to (what_of kind bytes))) f e in
+    let v = let_by (eqb version 1) BadVersion
+    (cond (not (is_kind kind)) (Err BadKind) (frame_from hall from to (what_of kind bytes))) f
+    e in
     let k = let_by (is_kind kind) BadKind (frame_from hall from to (what_of kind bytes)) f v.1 in
     let same : to_be_bytes w32 hall ≡ four = wide32.back four refl four_fit in
-    let t = from_takes hall from to kind bytes (what_of kind bytes) f (wide32.below four four_fit) (λ w h. what_takes kind bytes w rest_fit (omega (arith, short)) h) k.1 in
-    let front : version ∷ four ++ from ∷ to ∷ kind ∷ bytes ≡ 1 ∷ to_be_bytes w32 hall ++ from ∷ to ∷ kind ∷ bytes =
-    ap (λ (n : ℕ). n ∷ (four ++ from ∷ to ∷ kind ∷ bytes)) (eqb-true _ _ v.0) ∙ ap (λ (h : List ℕ). 1 ∷ (h ++ from ∷ to ∷ kind ∷ bytes)) (sym same) in
+    let t = from_takes hall from to kind bytes (what_of kind bytes) f (wide32.below four four_fit)
+    (λ w h. what_takes kind bytes w rest_fit (omega (arith, short)) h) k.1 in
+    let front : version ∷ four ++ from ∷ to ∷ kind ∷ bytes ≡ 1 ∷ to_be_bytes w32
+    hall ++ from ∷ to ∷ kind ∷ bytes =
+    ap (λ (n : ℕ). n ∷ (four ++ from ∷ to ∷ kind ∷ bytes)) (eqb-true _ _ v.0)
+    ∙ ap (λ (h : List ℕ). 1 ∷ (h ++ from ∷ to ∷ kind ∷ bytes)) (sym same) in
     record { fits = t.0; spelled = front ∙ t.1 }
 
-framed : (a b c d : ℕ) (f : Frame) → from_be_bytes w32 (a ∷ b ∷ c ∷ d ∷ []) ≡ f.hall → IsFrame f → frame_of (1 ∷ a ∷ b ∷ c ∷ d ∷ f.from ∷ f.to ∷ kind_of f.what ∷ body f.what) ≡ Ok f
+framed : (a b c d : ℕ) (f : Frame) → from_be_bytes w32 (a ∷ b ∷ c ∷ d ∷ []) ≡ f.hall → IsFrame f
+    → frame_of (1 ∷ a ∷ b ∷ c ∷ d ∷ f.from ∷ f.to ∷ kind_of f.what ∷ body f.what) ≡ Ok f
 unfolding frame_of
-framed a b c d f hall fits = rw (kind_is f.what, what_again f.what fits.body, goes_holds (way_of f.what) f.from f.to fits.goes, hall) refl
+framed a b c d f hall fits = rw (
+  kind_is f.what,
+  what_again f.what fits.body,
+  goes_holds
+      (way_of f.what) f.from f.to fits.goes,
+  hall,
+) refl
 
-four_cells : (h : List ℕ) (f : Frame) → length h ≡ 4 → from_be_bytes w32 h ≡ f.hall → IsFrame f → frame_of (1 ∷ (h ++ f.from ∷ f.to ∷ kind_of f.what ∷ body f.what)) ≡ Ok f
+four_cells : (h : List ℕ) (f : Frame) → length h ≡ 4 → from_be_bytes w32 h ≡ f.hall → IsFrame f
+    → frame_of (1 ∷ (h ++ f.from ∷ f.to ∷ kind_of f.what ∷ body f.what)) ≡ Ok f
 four_cells [] f len hall fits = absurd (omega (arith, len))
 four_cells (a ∷ []) f len hall fits = absurd (omega (arith, len))
 four_cells (a ∷ b ∷ []) f len hall fits = absurd (omega (arith, len))

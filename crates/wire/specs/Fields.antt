@@ -1,8 +1,6 @@
 -- Reading fields one after the other: each gives a value and the bytes behind it, or nothing.
-use Rattle.std.specs.Prelude.{◌≡◌, ℕ, ◌==◌, List, [], ◌∷◌, length, take, drop, find, Option, Some, None, Result, Ok, Err, nat_lt, if◌then◌else◌}
+use Rattle.std.specs.Prelude.{ℕ, ◌==◌, List, [], ◌∷◌, length, take, drop, find, Option, Some, None, nat_lt, if◌then◌else◌}
 use Rattle.std.specs.Int.{Width, byte_len, from_be_bytes}
-use Rattle.wire.specs.declared.fault.WireFault.{WireFault}
-use Rattle.wire.specs.declared.fault.WireFault.TheVariants.{BadLength, BadVersion, BadKind, BadBody, NoMemory}
 
 -- a value and what stands behind it
 abbrev pub Read : Type 0 → Type 0
@@ -14,7 +12,9 @@ None >>= f = None
 (Some x) >>= f = f x
 
 unfoldable pub number_at : Width → List ℕ → Read ℕ
-number_at w bytes = if nat_lt (length bytes) (byte_len w) then None else Some (from_be_bytes w (take (byte_len w) bytes), drop (byte_len w) bytes)
+number_at w bytes =
+    if nat_lt (length bytes) (byte_len w) then None
+    else Some (from_be_bytes w (take (byte_len w) bytes), drop (byte_len w) bytes)
 
 unfoldable pub byte_at : List ℕ → Read ℕ
 byte_at [] = None
@@ -35,15 +35,3 @@ all_of read bytes = read bytes >>= λ x. if length x.1 == 0 then Some x.0 else N
 -- the member of a list that has a number
 abbrev pub numbered : {A : Type 0} → (A → ℕ) → List A → ℕ → Option A
 numbered number_of members n = find (λ member. number_of member == n) members
-
--- What a function returned, seen by view, is what reading gives; without a value it is a fault of the body, or want of memory.
-abbrev pub Lacks : {A : Type 0} → WireFault → Option A → Type 0
-Lacks BadLength read = ⊥
-Lacks BadVersion read = ⊥
-Lacks BadKind read = ⊥
-Lacks BadBody read = read ≡ None
-Lacks NoMemory read = Unit {0}
-
-abbrev pub GivesField : {X A : Type 0} → (X → A) → Result X WireFault → Option A → Type 0
-GivesField view (Ok x) read = read ≡ Some (view x)
-GivesField view (Err e) read = Lacks e read

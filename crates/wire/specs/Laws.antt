@@ -13,9 +13,11 @@ use Rattle.wire.specs.Stream.{front, Begins, Breaks}
 abbrev pub AreBytes : List ℕ → Type 0
 AreBytes bytes = (i : ℕ) → slice_index bytes i < 256
 
--- a frame stands at the front of bytes exactly where they begin with its spelling, and what stands behind it is the rest
+-- a frame stands at the front of bytes exactly where they begin with its spelling, and what stands
+-- behind it is the rest
 abbrev pub IsReadWhereSpelled : List ℕ → Frame → List ℕ → Type 0
-IsReadWhereSpelled bytes f rest = (front bytes ≡ Begins f rest) ↔ (IsFrame f × (bytes ≡ spelling f ++ rest))
+IsReadWhereSpelled bytes f rest =
+    (front bytes ≡ Begins f rest) ↔ (IsFrame f × (bytes ≡ spelling f ++ rest))
 
 -- where one frame's spelling begins another's, the frames are one, and nothing stands behind
 abbrev pub BeginsNoOther : Frame → Frame → List ℕ → Type 0
@@ -40,8 +42,11 @@ BeginsWithFrame bytes = (f : Frame) × (rest : List ℕ) × IsFrame f × (bytes 
 abbrev pub IsFirstFault : WireFault → List ℕ → Type 0
 IsFirstFault BadLength bytes = (4 ≤ length bytes) × ¬ IsLength (length_at bytes)
 IsFirstFault BadVersion bytes = IsWhole bytes × ¬ (slice_index bytes 4 ≡ 1)
-IsFirstFault BadKind bytes = IsWhole bytes × (slice_index bytes 4 ≡ 1) × (is_kind (slice_index bytes 11) ≡ false)
-IsFirstFault BadBody bytes = IsWhole bytes × (slice_index bytes 4 ≡ 1) × (is_kind (slice_index bytes 11) ≡ true) × ¬ BeginsWithFrame bytes
+IsFirstFault BadKind bytes =
+    IsWhole bytes × (slice_index bytes 4 ≡ 1) × (is_kind (slice_index bytes 11) ≡ false)
+IsFirstFault BadBody bytes =
+    IsWhole bytes × (slice_index bytes 4 ≡ 1)
+    × (is_kind (slice_index bytes 11) ≡ true) × ¬ BeginsWithFrame bytes
 IsFirstFault NoMemory bytes = ⊥
 
 -- a fault stands at the front of bytes exactly where it is the first

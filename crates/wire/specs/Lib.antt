@@ -5,3 +5,4 @@ pub mod Fields
 pub mod Reading
 pub mod Stream
 pub mod Laws
+pub mod model

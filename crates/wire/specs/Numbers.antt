@@ -1,14 +1,14 @@
 -- The numbers that kinds, answers and refusals have on the wire.
 use Rattle.std.specs.Prelude.{ℕ, List, [], ◌∷◌, map}
-use Rattle.commands.specs.declared.answer.Answer.{Answer}
-use Rattle.commands.specs.declared.answer.Answer.TheVariants.{Done, Refused}
-use Rattle.commands.specs.Codes.{every_code, code_number}
-use Rattle.wire.specs.declared.frame.Refusal.{Refusal}
-use Rattle.wire.specs.declared.frame.Refusal.TheVariants as refusal
-use Rattle.wire.specs.declared.frame.Style.{Style}
-use Rattle.wire.specs.declared.frame.Style.TheVariants.{Text, Table}
+use Rattle.texts.specs.declared.answer.Answer.{Answer}
+use Rattle.texts.specs.declared.answer.Answer.TheVariants.{Done, Refused}
+use Rattle.texts.specs.Codes.{every_code, code_number}
+use Rattle.wire.specs.declared.values.ClientRefusal.{ClientRefusal}
+use Rattle.wire.specs.declared.values.ClientRefusal.TheVariants as refusal
+use Rattle.wire.specs.declared.values.SheetStyle.{SheetStyle}
+use Rattle.wire.specs.declared.values.SheetStyle.TheVariants.{Text, Table}
 
-abbrev pub refusal_number : Refusal → ℕ
+abbrev pub refusal_number : ClientRefusal → ℕ
 refusal_number refusal.Busy = 1
 refusal_number refusal.LogFull = 2
 refusal_number refusal.BallotsSpent = 3
@@ -18,7 +18,7 @@ refusal_number refusal.NotThere = 6
 refusal_number refusal.NoSuchRound = 7
 refusal_number refusal.Foreign = 8
 
-abbrev pub style_number : Style → ℕ
+abbrev pub style_number : SheetStyle → ℕ
 style_number Text = 0
 style_number Table = 1
 
@@ -30,8 +30,10 @@ answer_number (Refused c) = code_number c
 abbrev pub answers : List Answer
 answers = Done ∷ map (λ c. Refused c) every_code
 
-abbrev pub refusals : List Refusal
-refusals = refusal.Busy ∷ refusal.LogFull ∷ refusal.BallotsSpent ∷ refusal.NoMemory ∷ refusal.Down ∷ refusal.NotThere ∷ refusal.NoSuchRound ∷ refusal.Foreign ∷ []
+abbrev pub refusals : List ClientRefusal
+refusals =
+    refusal.Busy ∷ refusal.LogFull ∷ refusal.BallotsSpent ∷ refusal.NoMemory ∷ refusal.Down ∷
+    refusal.NotThere ∷ refusal.NoSuchRound ∷ refusal.Foreign ∷ []
 
-abbrev pub styles : List Style
+abbrev pub styles : List SheetStyle
 styles = Text ∷ Table ∷ []

@@ -1,13 +1,14 @@
 -- What a frame may hold: the ranges of its fields.
-use Rattle.std.specs.Prelude.{◌≡◌, ℕ, ◌^◌, ◌≤◌, ◌<◌, length, Option, Some, None}
+use Rattle.std.specs.Prelude.{◌≡◌, ℕ, ◌^◌, ◌≤◌, ◌<◌, length, Option, Some, None, nat_le, if◌then◌else◌}
 use Rattle.acceptor.specs.declared.ballot.Ballot.{Ballot}
 use Rattle.acceptor.specs.declared.entry.Entry.{Entry}
 use Rattle.acceptor.specs.declared.message.Report.{Report}
 use Rattle.wire.specs.declared.frame.Frame.{Frame}
-use Rattle.wire.specs.declared.frame.Standing.{Standing}
-use Rattle.wire.specs.declared.frame.Standing.TheVariants.{Unknown, Pending, Done}
+use Rattle.wire.specs.declared.values.Standing.{Standing}
+use Rattle.wire.specs.declared.values.Standing.TheVariants.{Unknown, Pending, Done}
 use Rattle.wire.specs.declared.frame.What.{What}
 use Rattle.wire.specs.declared.frame.What.TheVariants.{Prepare, Promise, Accept, Accepted, Nack, Behind, Decided, Submit, Ask, Sheet, Tick, Stop, Taken, Told, SheetText, Refused, Fine}
+use Rattle.wire.specs.Spelling.{kind_of}
 
 -- a desk of a hall
 abbrev pub IsDesk : ℕ → Type 0
@@ -64,24 +65,14 @@ pub data Way : Type 0 where
   FromClient : Way
   ToClient : Way
 
+abbrev pub way_of_kind : ℕ → Way
+way_of_kind kind =
+    if nat_le kind 7 then Between
+    else if nat_le kind 20 then FromClient
+    else ToClient
+
 abbrev pub way_of : What → Way
-way_of (Prepare b pos) = Between
-way_of (Promise b pos vote) = Between
-way_of (Accept b pos e) = Between
-way_of (Accepted b pos) = Between
-way_of (Nack b pos promised) = Between
-way_of (Behind len) = Between
-way_of (Decided pos e) = Between
-way_of (Submit e) = FromClient
-way_of (Ask id) = FromClient
-way_of (Sheet event round position style) = FromClient
-way_of Tick = FromClient
-way_of Stop = FromClient
-way_of (Taken id) = ToClient
-way_of (Told id s) = ToClient
-way_of (SheetText bytes) = ToClient
-way_of (Refused refusal) = ToClient
-way_of Fine = ToClient
+way_of what = way_of_kind (kind_of what)
 
 abbrev pub Goes : Way → ℕ → ℕ → Type 0
 Goes Between from to = IsDesk from × IsDesk to

@@ -1,5 +1,5 @@
 -- The frame that bytes spell, field by field from the left.
-use Rattle.std.specs.Prelude.{◌≡◌, ℕ, zero, suc, Bool, ◌&&◌, List, [], ◌∷◌, length, take, drop, Option, Some, None, Result, Ok, Err, not, nat_le, ◌==◌, if◌then◌else◌}
+use Rattle.std.specs.Prelude.{ℕ, zero, suc, Bool, ◌&&◌, List, [], ◌∷◌, length, take, drop, Option, Some, None, Result, Ok, Err, not, nat_le, ◌==◌, if◌then◌else◌}
 use Rattle.std.specs.List.{list_any}
 use Rattle.std.specs.Int.{w16, w32, w64, from_be_bytes}
 use Rattle.acceptor.specs.declared.ballot.Ballot.{Ballot}
@@ -7,10 +7,10 @@ use Rattle.acceptor.specs.declared.entry.Entry.{Entry}
 use Rattle.acceptor.specs.declared.message.Report.{Report}
 use Rattle.formats.specs.Events.{events, event_number}
 use Rattle.wire.specs.declared.fault.WireFault.{WireFault}
-use Rattle.wire.specs.declared.fault.WireFault.TheVariants.{BadLength, BadVersion, BadKind, BadBody, NoMemory}
+use Rattle.wire.specs.declared.fault.WireFault.TheVariants.{BadVersion, BadKind, BadBody}
 use Rattle.wire.specs.declared.frame.Frame.{Frame}
-use Rattle.wire.specs.declared.frame.Standing.{Standing}
-use Rattle.wire.specs.declared.frame.Standing.TheVariants.{Unknown, Pending, Done}
+use Rattle.wire.specs.declared.values.Standing.{Standing}
+use Rattle.wire.specs.declared.values.Standing.TheVariants.{Unknown, Pending, Done}
 use Rattle.wire.specs.declared.frame.What.{What}
 use Rattle.wire.specs.declared.frame.What.TheVariants.{Prepare, Promise, Accept, Accepted, Nack, Behind, Decided, Submit, Ask, Sheet, Tick, Stop, Taken, Told, SheetText, Refused, Fine}
 use Rattle.wire.specs.Fields.{Read, ◌>>=◌, number_at, byte_at, two, all_of, numbered}
@@ -27,7 +27,9 @@ unfoldable pub ballot_at : List ℕ → Read Ballot
 ballot_at bytes = do
   round ← number_at w32 bytes
   desk ← byte_at round.1
-  if is_ballot round.0 desk.0 then Some (record { round = round.0; desk = desk.0 }, desk.1) else None
+  if is_ballot round.0 desk.0
+      then Some (record { round = round.0; desk = desk.0 }, desk.1)
+      else None
 
 -- a number of four bytes, at most this
 unfoldable pub limited_at : ℕ → List ℕ → Read ℕ
@@ -85,16 +87,22 @@ abbrev pub prepare_of : List ℕ → Option What
 prepare_of bytes = all_of (two ballot_at position_at) bytes >>= λ x. Some (Prepare x.0 x.1)
 
 abbrev pub promise_of : List ℕ → Option What
-promise_of bytes = all_of (two ballot_at (two position_at report_at)) bytes >>= λ x. Some (Promise x.0 x.1.0 x.1.1)
+promise_of bytes =
+    all_of (two ballot_at (two position_at report_at)) bytes
+    >>= λ x. Some (Promise x.0 x.1.0 x.1.1)
 
 abbrev pub accept_of : List ℕ → Option What
-accept_of bytes = all_of (two ballot_at (two position_at entry_at)) bytes >>= λ x. Some (Accept x.0 x.1.0 x.1.1)
+accept_of bytes =
+    all_of (two ballot_at (two position_at entry_at)) bytes
+    >>= λ x. Some (Accept x.0 x.1.0 x.1.1)
 
 abbrev pub accepted_of : List ℕ → Option What
 accepted_of bytes = all_of (two ballot_at position_at) bytes >>= λ x. Some (Accepted x.0 x.1)
 
 abbrev pub nack_of : List ℕ → Option What
-nack_of bytes = all_of (two ballot_at (two position_at ballot_at)) bytes >>= λ x. Some (Nack x.0 x.1.0 x.1.1)
+nack_of bytes =
+    all_of (two ballot_at (two position_at ballot_at)) bytes
+    >>= λ x. Some (Nack x.0 x.1.0 x.1.1)
 
 abbrev pub behind_of : List ℕ → Option What
 behind_of bytes = all_of (limited_at 65536) bytes >>= λ x. Some (Behind x)
@@ -109,7 +117,10 @@ abbrev pub ask_of : List ℕ → Option What
 ask_of bytes = all_of id_at bytes >>= λ x. Some (Ask x)
 
 abbrev pub sheet_of : List ℕ → Option What
-sheet_of bytes = all_of (two (member_at event_number events) (two byte_at (two (number_at w32) (member_at style_number styles)))) bytes
+sheet_of bytes =
+    all_of (two (member_at event_number events)
+    (two byte_at (two (number_at w32) (member_at style_number styles))))
+    bytes
     >>= λ x. Some (Sheet x.0 x.1.0 x.1.1.0 x.1.1.1)
 
 abbrev pub taken_of : List ℕ → Option What
@@ -165,7 +176,9 @@ goes ToClient from to = is_desk from && (to == 0)
 abbrev pub frame_from : ℕ → ℕ → ℕ → Option What → Result Frame WireFault
 frame_from hall from to None = Err BadBody
 frame_from hall from to (Some what) =
-    if goes (way_of what) from to then Ok (record { hall = hall; from = from; to = to; what = what }) else Err BadBody
+    if goes (way_of what) from to
+    then Ok (record { hall = hall; from = from; to = to; what = what })
+    else Err BadBody
 
 -- what stands behind a length: the frame, or the first fault
 unfoldable pub frame_of : List ℕ → Result Frame WireFault
@@ -174,12 +187,3 @@ frame_of (version ∷ a ∷ b ∷ c ∷ d ∷ from ∷ to ∷ kind ∷ bytes) =
     else if not (is_kind kind) then Err BadKind
     else frame_from (from_be_bytes w32 (a ∷ b ∷ c ∷ d ∷ [])) from to (what_of kind bytes)
 frame_of _ = Err BadBody
-
--- what a function returned is what reading gives, unless memory ran out
-abbrev pub GivesFrame : Result Frame WireFault → Result Frame WireFault → Type 0
-GivesFrame (Ok f) read = read ≡ Ok f
-GivesFrame (Err BadLength) read = ⊥
-GivesFrame (Err BadVersion) read = read ≡ Err BadVersion
-GivesFrame (Err BadKind) read = read ≡ Err BadKind
-GivesFrame (Err BadBody) read = read ≡ Err BadBody
-GivesFrame (Err NoMemory) read = Unit {0}

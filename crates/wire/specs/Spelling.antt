@@ -6,8 +6,8 @@ use Rattle.acceptor.specs.declared.entry.Entry.{Entry}
 use Rattle.acceptor.specs.declared.message.Report.{Report}
 use Rattle.formats.specs.Events.{event_number}
 use Rattle.wire.specs.declared.frame.Frame.{Frame}
-use Rattle.wire.specs.declared.frame.Standing.{Standing}
-use Rattle.wire.specs.declared.frame.Standing.TheVariants.{Unknown, Pending, Done}
+use Rattle.wire.specs.declared.values.Standing.{Standing}
+use Rattle.wire.specs.declared.values.Standing.TheVariants.{Unknown, Pending, Done}
 use Rattle.wire.specs.declared.frame.What.{What}
 use Rattle.wire.specs.declared.frame.What.TheVariants.{Prepare, Promise, Accept, Accepted, Nack, Behind, Decided, Submit, Ask, Sheet, Tick, Stop, Taken, Told, SheetText, Refused, Fine}
 use Rattle.wire.specs.Numbers.{answer_number, refusal_number, style_number}
@@ -62,7 +62,8 @@ body (Behind len) = to_be_bytes w32 len
 body (Decided pos e) = to_be_bytes w32 pos ++ entry_bytes e
 body (Submit e) = entry_bytes e
 body (Ask id) = to_be_bytes w64 id
-body (Sheet event round position style) = event_number event ∷ round ∷ to_be_bytes w32 position ++ style_number style ∷ []
+body (Sheet event round position style) =
+    event_number event ∷ round ∷ to_be_bytes w32 position ++ style_number style ∷ []
 body Tick = []
 body Stop = []
 body (Taken id) = to_be_bytes w64 id

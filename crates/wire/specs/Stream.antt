@@ -1,5 +1,6 @@
 -- What stands at the front of a stream, and what a reader of it keeps.
-use Rattle.std.specs.Prelude.{◌≡◌, ◌⊎◌, ◌≤◌, ℕ, List, [], ◌++◌, length, take, drop, Option, Some, None, Result, Ok, Err, not, nat_lt, if◌then◌else◌}
+use Rattle.std.specs.Prelude.{◌≡◌, ◌⊎◌, ◌≤◌, ℕ, List, [], ◌++◌, length, take, drop, Option, Some, None, IsSome, Result, Ok, Err, not, nat_lt, if◌then◌else◌}
+use Rattle.std.specs.Global.{Vec}
 use Rattle.std.specs.List.{flat_map, AllByRecursion}
 use Rattle.std.specs.Int.{w32, from_be_bytes}
 use Rattle.wire.specs.declared.fault.WireFault.{WireFault}
@@ -27,7 +28,9 @@ by_length n bytes =
     else by_frame (frame_of (take n bytes)) (drop n bytes)
 
 unfoldable pub front : List ℕ → Front
-front bytes = if nat_lt (length bytes) 4 then Waits else by_length (from_be_bytes w32 (take 4 bytes)) (drop 4 bytes)
+front bytes =
+    if nat_lt (length bytes) 4 then Waits
+    else by_length (from_be_bytes w32 (take 4 bytes)) (drop 4 bytes)
 
 -- what a reader keeps: the bytes that were not given yet, or the fault that it met
 pub record Reader : Type 0 where
@@ -51,7 +54,8 @@ IsBegun Waits = ⊥
 IsBegun (Begins f more) = Unit {0}
 IsBegun (Breaks e) = ⊥
 
--- the stream is these frames, and then bytes that begin with neither a whole frame nor a fault, which the reader holds, or a fault, which it keeps
+-- the stream is these frames, and then bytes that begin with neither a whole frame nor a fault,
+-- which the reader holds, or a fault, which it keeps
 pub record Feeds (stream : List ℕ) (frames : List Frame) (reader : Reader) : Type 0 where
   pub rest : List ℕ
   pub whole : stream ≡ flat_map spelling frames ++ rest
@@ -59,7 +63,9 @@ pub record Feeds (stream : List ℕ) (frames : List Frame) (reader : Reader) : T
   pub ends : IsBegun (front rest) → ⊥
   pub keeps : reader ≡ keeps (front rest) rest
 
--- why a call of a reader is refused, and what the reader is afterwards: the fault that is kept, or the one at the front; want of memory changes nothing
+-- why a call of a reader is refused, and what the reader is afterwards: the fault that is kept, or
+-- the one at the front; memory is wanted only where a whole frame is at the front, and its want
+-- changes nothing
 abbrev pub RefusesFault : WireFault → List ℕ → Reader → Reader → Type 0
 RefusesFault e piece old new = ((old.fault ≡ Some e) × (new ≡ old))
     ⊎ ((old.fault ≡ None) × (front (old.held ++ piece) ≡ Breaks e) × (new ≡ broken e))
@@ -69,7 +75,8 @@ Refuses BadLength piece old new = RefusesFault BadLength piece old new
 Refuses BadVersion piece old new = RefusesFault BadVersion piece old new
 Refuses BadKind piece old new = RefusesFault BadKind piece old new
 Refuses BadBody piece old new = RefusesFault BadBody piece old new
-Refuses NoMemory piece old new = (old.fault ≡ None) × (new ≡ old)
+Refuses NoMemory piece old new =
+    (old.fault ≡ None) × IsBegun (front (old.held ++ piece)) × (new ≡ old)
 
 -- at Ok the reader kept no fault, and a fault that it keeps now was not at the front
 pub record Fed (piece : List ℕ) (old new : Reader) (frames : List Frame) : Type 0 where
@@ -90,6 +97,13 @@ abbrev pub IsKept : Option WireFault → Type 0
 IsKept None = Unit {0}
 IsKept (Some e) = IsOfStream e
 
+-- the number of bytes that a reader holds: those of the unfinished frame, none beside a fault
+pub record IsHeld (reader : Reader) (held : ℕ) : Type 0 where
+  pub counted : held ≡ length reader.held
+  pub unfinished : front reader.held ≡ Waits
+  pub most : held ≤ 300003
+  pub broken : IsSome reader.fault → held ≡ 0
+
 -- what ends a stream: it waits for more, or this fault stands there
 abbrev pub Ends : Option WireFault → Front → Type 0
 Ends None at = at ≡ Waits
@@ -102,24 +116,12 @@ pub record Splits (stream : List ℕ) (frames : List Frame) (fault : Option Wire
   pub each : AllByRecursion IsFrame frames
   pub ends : Ends fault (front rest)
 
--- ---- for the steps of the code
+-- and the stream can be read in no other way
+abbrev pub SplitsOnlySo : List ℕ → List Frame → Option WireFault → Type 0
+SplitsOnlySo stream frames fault =
+    (others : List Frame) (other : Option WireFault) → Splits stream others other
+    → (frames ≡ others) × (fault ≡ other)
 
--- the frames at the front, with the number of their bytes
-pub record AreFirst (bytes : List ℕ) (frames : List Frame) (size : ℕ) : Type 0 where
-  pub within : size ≤ length bytes
-  pub whole : bytes ≡ flat_map spelling frames ++ drop size bytes
-  pub each : AllByRecursion IsFrame frames
-
-pub record IsTaken (bytes : List ℕ) (frames : List Frame) (size : ℕ) (fault : Option WireFault) : Type 0 where
-  pub first : AreFirst bytes frames size
-  pub ends : Ends fault (front (drop size bytes))
-
--- what a function found at the front, with the number of its bytes, is what stands there, unless memory ran out
-abbrev pub GivesFront : Result (Option (Frame × ℕ)) WireFault → List ℕ → Front → Type 0
-GivesFront (Ok None) bytes at = at ≡ Waits
-GivesFront (Ok (Some x)) bytes at = (at ≡ Begins x.0 (drop x.1 bytes)) × (4 ≤ x.1) × (x.1 ≤ length bytes)
-GivesFront (Err BadLength) bytes at = at ≡ Breaks BadLength
-GivesFront (Err BadVersion) bytes at = at ≡ Breaks BadVersion
-GivesFront (Err BadKind) bytes at = at ≡ Breaks BadKind
-GivesFront (Err BadBody) bytes at = at ≡ Breaks BadBody
-GivesFront (Err NoMemory) bytes at = Unit {0}
+-- the stream that comes in these pieces
+abbrev pub stream_of : List (Vec ℕ) → List ℕ
+stream_of pieces = flat_map (λ piece. piece.items) pieces

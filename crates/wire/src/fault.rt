@@ -14,7 +14,8 @@ pub enum WireFault {
     BadVersion,
     /// No kind has this number.
     BadKind,
-    /// A field is out of its range, the sender or receiver does not fit the kind, or there are too few or too many bytes.
+    /// A field is out of its range, the sender or receiver does not fit the kind, or there are too
+    /// few or too many bytes.
     BadBody,
     /// Memory was wanted and refused.
     NoMemory,

@@ -8,13 +8,16 @@ ghost use Rattle.wire.specs.Ranges.{IsFrame};
 
 /// A frame is read exactly where its spelling stands, and no frame's spelling begins another's.
 pub fn one_spelling_each()
-    ensures read_where_spelled { (bytes : List ℕ) (f : Frame) (rest : List ℕ) → AreBytes bytes → IsReadWhereSpelled bytes f rest }
-    ensures prefix_free { (f g : Frame) (more : List ℕ) → IsFrame f → IsFrame g → BeginsNoOther f g more }
+    ensures read_where_spelled { (bytes : List ℕ) (f : Frame) (rest : List ℕ) →
+        AreBytes bytes → IsReadWhereSpelled bytes f rest }
+    ensures prefix_free { (f g : Frame) (more : List ℕ) →
+        IsFrame f → IsFrame g → BeginsNoOther f g more }
 {}
 
-/// A stream breaks exactly where its first fault stands. BadLength: the first length is not 8 to 300,000, as soon as its four
-/// bytes are there. Otherwise, once the whole frame is there: BadVersion, where the version is not 1; BadKind, where it
-/// is, and no kind has the number; BadBody, where both are good, and no frame is spelled so.
+/// A stream breaks exactly where its first fault stands. BadLength: the first length is not 8 to
+/// 300,000, as soon as its four bytes are there. Otherwise, once the whole frame is there:
+/// BadVersion, where the version is not 1; BadKind, where it is, and no kind has the number;
+/// BadBody, where both are good, and no frame is spelled so.
 pub fn first_fault()
     ensures { (bytes : List ℕ) (e : WireFault) → AreBytes bytes → IsFaultWhereFirst bytes e }
 {}

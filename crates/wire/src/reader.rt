@@ -1,166 +1,15 @@
 //! Frames out of a stream that comes in pieces.
 
-ghost use Rattle.std.specs.Prelude.{◌≡◌, List, [], Option, IfOk, IfErr};
-ghost use Rattle.std.specs.List.{flat_map};
-ghost use Rattle.wire.specs.declared.fault.WireFault.{WireFault};
-ghost use Rattle.wire.specs.declared.frame.Frame.{Frame};
-ghost use Rattle.wire.specs.Stream.{front, GivesFront, IsTaken, IsKept, Fed, Refuses, Splits, holding};
+ghost use Rattle.std.specs.Prelude.{◌≡◌, ◌≤◌, ◌++◌, [], IfOk, IfErr, OnErr, vec_capacity};
+ghost use Rattle.wire.specs.Stream.{Waits, front, IsBegun, Feeds, IsKept, IsHeld, Fed, Refuses, Splits, SplitsOnlySo, stream_of, holding};
+ghost use Rattle.wire.specs.model.Steps.{ReadsOn, StandsInFront};
 
 use crate::NoMemory;
 use crate::fault::WireFault;
 use crate::frame::Frame;
-use crate::reading::frame_of;
+use crate::stream::{MOST_BYTES, finish, hold, take_frames};
 use std::alloc::Global;
 use std::marker::Model;
-
-/// The least and the most bytes behind a length.
-const LEAST: usize = 8;
-
-const MOST: usize = 300_000;
-
-/// The frame at the front of a stream with the number of its bytes. None: no whole frame is there, and no fault.
-#[tactic(auto, unfolding(crate::specs::Stream::front))]
-fn front(alloc: Global, bytes: &[u8]) -> Result<Option<(Frame, usize)>, WireFault>
-    ensures { GivesFront result bytes.now (front bytes.now) }
-{
-    let [a, b, c, d, behind @ ..] = bytes else {
-        return Ok(None);
-    };
-    let len = u32::from_be_bytes([*a, *b, *c, *d]) as usize;
-    if len < LEAST || MOST < len {
-        return Err(WireFault::BadLength);
-    }
-    if behind.len() < len {
-        return Ok(None);
-    }
-    let frame = frame_of(alloc, &behind[..len])?;
-    Ok(Some((frame, len + 4)))
-}
-
-/// The frames at the front of a stream, the number of their bytes, and the fault that stands behind them, if one does.
-#[derive(Drop)]
-struct Taken {
-    frames: Vec<Frame>,
-    size: usize,
-    fault: Option<WireFault>,
-}
-
-fn take_frames(alloc: Global, bytes: &[u8]) -> Result<Taken, NoMemory>
-    ensures { IfOk result (λ taken. IsTaken bytes.now taken.frames.items taken.size taken.fault) }
-{
-    let mut frames = Vec::new(alloc);
-    let mut size = 0;
-    loop {
-        match front(alloc, &bytes[size..]) {
-            Ok(Some((frame, more))) => {
-                frames.push(frame)?;
-                size += more;
-            }
-            Ok(None) => {
-                return Ok(Taken {
-                    frames,
-                    size,
-                    fault: None,
-                });
-            }
-            Err(WireFault::NoMemory) => return Err(NoMemory),
-            Err(fault) => {
-                return Ok(Taken {
-                    frames,
-                    size,
-                    fault: Some(fault),
-                });
-            }
-        }
-    }
-}
-
-/// Reads frames out of a stream that comes in pieces, however it was cut. It keeps all bytes that it was fed.
-///
-/// A contract sees the bytes that it holds, which are the beginning of a frame, or the fault that it keeps.
-#[derive(Drop)]
-pub struct FrameReader {
-    /// All bytes that were taken.
-    bytes: Vec<u8>,
-    /// How many of them are done with: given as frames, or dropped behind a fault.
-    given: usize,
-    fault: Option<WireFault>,
-}
-
-impl Model for FrameReader {
-    ghost use Rattle.std.specs.Prelude.{drop, length, ◌≤◌};
-    ghost use Rattle.wire.specs.Stream.{Reader, IsKept};
-
-    ghost Value = { Reader };
-
-    ghost view = { λ r. record { held = drop r.given r.bytes.items; fault = r.fault } };
-
-    ghost invariant = { λ r. (r.given ≤ length r.bytes.items) × IsKept r.fault };
-}
-
-impl FrameReader {
-    /// A reader at the beginning of a stream.
-    pub fn new(alloc: Global) -> Result<FrameReader, NoMemory>
-        ensures { IfOk result (λ reader. reader ≡ holding []) }
-    {
-        Ok(FrameReader {
-            bytes: Vec::new(alloc),
-            given: 0,
-            fault: None,
-        })
-    }
-
-    /// The fault that is kept: each further call of `feed` answers it.
-    fn fault(&self) -> Option<WireFault>
-        ensures fault { result ≡ self.now.fault }
-        ensures kept { IsKept result }
-    {
-        self.fault
-    }
-
-    /// Takes the next piece of the stream, and gives the frames that are whole now, in order.
-    ///
-    /// A fault ends the stream: `BadLength` as soon as the four bytes of a length are there, `BadVersion`, `BadKind` and
-    /// `BadBody` in this order once the whole frame is there. The frames in front of it are given first, and the next call
-    /// answers it, also a call with no bytes; with no frame in front it is answered at once. From then on each call answers
-    /// the same fault. After `NoMemory` the piece has not been taken, and may be fed again.
-    ///
-    /// Feeding n bytes, in whatever pieces, takes time linear in n and in the number of pieces: a frame is looked at once
-    /// its last byte is there, and the buffer doubles where it grows.
-    pub fn feed(&mut self, piece: &[u8]) -> Result<Vec<Frame>, WireFault>
-        ensures fed { IfOk result (λ frames. Fed piece.now self.old self.new frames.items) }
-        ensures refused { IfErr result (λ e. Refuses e piece.now self.old self.new) }
-    {
-        if let Some(fault) = self.fault {
-            return Err(fault);
-        }
-        let alloc = *self.bytes.allocator();
-        let before = self.bytes.len();
-        self.bytes.extend_from_slice(piece)?;
-        let taken = match take_frames(alloc, &self.bytes[self.given..]) {
-            Ok(taken) => taken,
-            Err(_) => {
-                self.bytes.truncate(before);
-                return Err(WireFault::NoMemory);
-            }
-        };
-        match taken.fault {
-            None => {
-                self.given += taken.size;
-                Ok(taken.frames)
-            }
-            Some(fault) => {
-                self.given = self.bytes.len();
-                self.fault = Some(fault);
-                if taken.frames.is_empty() {
-                    Err(fault)
-                } else {
-                    Ok(taken.frames)
-                }
-            }
-        }
-    }
-}
 
 /// What a stream holds.
 #[derive(Drop)]
@@ -171,13 +20,162 @@ pub struct Received {
     pub fault: Option<WireFault>,
 }
 
+/// Puts the frames of the bytes behind those that were taken before, and holds what is left of the
+/// bytes in place of what was held.
+fn read_on(held: &mut Vec<u8>, before: Vec<Frame>, bytes: &[u8]) -> Result<Received, NoMemory>
+    requires { 300004 ≤ vec_capacity held.old }
+    ensures read { IfOk result (λ r.
+        ReadsOn bytes.now before.items r.frames.items
+        (record { held = held.new.items; fault = r.fault })) }
+    ensures refused { OnErr result (IsBegun (front bytes.now) × (held.new.items ≡ held.old.items)) }
+    ensures room { vec_capacity held.old ≤ vec_capacity held.new }
+{
+    let taken = take_frames(*held.allocator(), before, bytes)?;
+    if taken.fault.is_none() {
+        hold(held, &bytes[taken.size..]);
+    } else {
+        held.clear();
+    }
+    Ok(Received {
+        frames: taken.frames,
+        fault: taken.fault,
+    })
+}
+
+/// The frames of the held bytes and the piece, and the fault behind them, if one stands there. What
+/// is left is held.
+fn read(held: &mut Vec<u8>, piece: &[u8]) -> Result<Received, NoMemory>
+    requires room { 300004 ≤ vec_capacity held.old }
+    requires waits { front held.old.items ≡ Waits }
+    ensures read { IfOk result (λ r.
+        Feeds (held.old.items ++ piece.now) r.frames.items
+        (record { held = held.new.items; fault = r.fault })) }
+    ensures begun { OnErr result (IsBegun (front (held.old.items ++ piece.now))) }
+    ensures kept { OnErr result (StandsInFront held.old.items held.new.items) }
+    ensures room { vec_capacity held.old ≤ vec_capacity held.new }
+{
+    let mut frames = Vec::new(*held.allocator());
+    if held.is_empty() {
+        return read_on(held, frames, piece);
+    }
+    match finish(held, piece) {
+        Ok(Some((frame, size))) => {
+            frames.push(frame)?;
+            read_on(held, frames, &piece[size..])
+        }
+        Ok(None) => Ok(Received {
+            frames,
+            fault: None,
+        }),
+        Err(WireFault::NoMemory) => Err(NoMemory),
+        Err(fault) => {
+            held.clear();
+            Ok(Received {
+                frames,
+                fault: Some(fault),
+            })
+        }
+    }
+}
+
+/// Reads frames out of a stream that comes in pieces, however it was cut. It holds the beginning of
+/// a frame whose end has not come yet, in room that it reserves once, and nothing else.
+///
+/// A contract sees the bytes that it holds and the fault that it keeps.
+#[derive(Drop)]
+pub struct FrameReader {
+    /// The unfinished frame.
+    bytes: Vec<u8>,
+    fault: Option<WireFault>,
+}
+
+impl Model for FrameReader {
+    ghost use Rattle.std.specs.Prelude.{◌≡◌, [], IsSome, vec_capacity, ◌≤◌};
+    ghost use Rattle.wire.specs.Stream.{Reader, IsKept, front, Waits};
+
+    ghost Value = { Reader };
+
+    ghost view = { λ r. record { held = r.bytes.items; fault = r.fault } };
+
+    ghost invariant = { λ r.
+        (300004 ≤ vec_capacity r.bytes) × (front r.bytes.items ≡ Waits)
+        × IsKept r.fault × (IsSome r.fault → r.bytes.items ≡ []) };
+}
+
+impl FrameReader {
+    /// A reader at the beginning of a stream. It reserves 300,004 bytes, the most of a frame, and
+    /// no more later on.
+    pub fn new(alloc: Global) -> Result<FrameReader, NoMemory>
+        ensures { IfOk result (λ reader. reader ≡ holding []) }
+    {
+        Ok(FrameReader {
+            bytes: Vec::with_capacity(alloc, MOST_BYTES)?,
+            fault: None,
+        })
+    }
+
+    /// How many bytes it holds: those of the unfinished frame so far, at most 300,003, and 0 where
+    /// a fault is kept or was answered.
+    pub fn held(&self) -> u32
+        ensures { IsHeld self.now result }
+    {
+        self.bytes.len() as u32
+    }
+
+    /// The fault that is kept, if there is one: each further call of `feed` answers it. Once it
+    /// stands here the frames in front of it were given.
+    pub fn fault(&self) -> Option<WireFault>
+        ensures fault { result ≡ self.now.fault }
+        ensures kept { IsKept result }
+    {
+        self.fault
+    }
+
+    /// Takes the next piece of the stream, and gives the frames that are whole now, in order.
+    ///
+    /// A fault ends the stream: `BadLength` as soon as the four bytes of a length are there,
+    /// `BadVersion`, `BadKind` and `BadBody` in this order once the whole frame is there. The
+    /// frames in front of it are given first, and the next call answers it, also a call with no
+    /// bytes; with no frame in front it is answered at once. From then on each call answers the
+    /// same fault.
+    ///
+    /// Memory is taken for the frames that are given and for nothing else: `NoMemory` comes only
+    /// where the piece makes a frame whole. Then the piece has not been taken, and may be fed
+    /// again.
+    ///
+    /// The time is linear in the bytes of the piece and of the frames that it makes whole. A byte
+    /// is moved once where it has to wait for a later piece, and no byte is moved again while it
+    /// waits.
+    pub fn feed(&mut self, piece: &[u8]) -> Result<Vec<Frame>, WireFault>
+        ensures fed { IfOk result (λ frames. Fed piece.now self.old self.new frames.items) }
+        ensures refused { IfErr result (λ e. Refuses e piece.now self.old self.new) }
+    {
+        if let Some(fault) = self.fault {
+            return Err(fault);
+        }
+        let before = self.bytes.len();
+        let Ok(received) = read(&mut self.bytes, piece) else {
+            self.bytes.truncate(before);
+            return Err(WireFault::NoMemory);
+        };
+        self.fault = received.fault;
+        if received.frames.is_empty() {
+            if let Some(fault) = received.fault {
+                return Err(fault);
+            }
+        }
+        Ok(received.frames)
+    }
+}
+
 /// The frames of a stream that comes in these pieces, and the fault that ends it, if one does.
 ///
-/// However the stream was cut, the answer is the same: the stream is these frames, and then the beginning of a frame, or the
-/// fault, and there is no other way to read it. NoMemory is the only error.
+/// However the stream was cut, the answer is the same: the stream is these frames, and then the
+/// beginning of a frame, or the fault, and there is no other way to read it. NoMemory is the only
+/// error.
 pub fn read_pieces(alloc: Global, pieces: &[Vec<u8>]) -> Result<Received, NoMemory>
-    ensures splits { IfOk result (λ received. Splits (flat_map (λ piece. piece.items) pieces.now) received.frames.items received.fault) }
-    ensures only { IfOk result (λ received. (others : List Frame) (fault : Option WireFault) → Splits (flat_map (λ piece. piece.items) pieces.now) others fault → (received.frames.items ≡ others) × (received.fault ≡ fault)) }
+    ensures splits { IfOk result (λ r. Splits (stream_of pieces.now) r.frames.items r.fault) }
+    ensures only { IfOk result (λ r. SplitsOnlySo (stream_of pieces.now) r.frames.items r.fault) }
 {
     let mut reader = FrameReader::new(alloc)?;
     let mut frames = Vec::new(alloc);

@@ -1,245 +1,23 @@
 //! One frame, from the bytes behind its length.
 
 ghost use Rattle.std.specs.Prelude.{◌≡◌, IfOk, IfErr};
-ghost use Rattle.std.specs.Int.{w16, w32, w64};
-ghost use Rattle.formats.specs.Events.{events, event_number};
-ghost use Rattle.wire.specs.Fields.{GivesField, number_at, byte_at, numbered, ended};
-ghost use Rattle.wire.specs.Numbers.{answers, answer_number, refusals, refusal_number, styles, style_number};
 ghost use Rattle.wire.specs.declared.fault.WireFault.TheVariants.{NoMemory};
 ghost use Rattle.wire.specs.declared.frame.What.TheVariants.{SheetText};
-ghost use Rattle.wire.specs.Reading.{ballot_at, limited_at, position_at, id_at, text_at, entry_at, report_at, member_at, standing_at, prepare_of, promise_of, accept_of, accepted_of, nack_of, behind_of, decided_of, submit_of, ask_of, sheet_of, taken_of, told_of, refused_of, empty_of, what_of, is_kind, is_desk, goes, frame_of, GivesFrame};
-ghost use Rattle.wire.specs.Ranges.{way_of};
+ghost use Rattle.wire.specs.Ranges.{way_of_kind};
+ghost use Rattle.wire.specs.Reading.{prepare_of, promise_of, accept_of, accepted_of, nack_of, behind_of, decided_of, submit_of, ask_of, sheet_of, taken_of, told_of, refused_of, empty_of, what_of, is_kind, is_desk, goes, frame_of};
+ghost use Rattle.wire.specs.model.Gives.{GivesBody, GivesFrame};
 
+use crate::bytes::Bytes;
 use crate::fault::WireFault;
-use crate::frame::{Bytes, Frame, Refusal, Standing, Style, What};
-use acceptor::ballot::Ballot;
-use acceptor::entry::{Entry, EntryFault};
-use acceptor::message::Report;
-use commands::{Answer, Code};
-use formats::Event;
+use crate::fields::{
+    ballot_of, byte_of, end, entry_of, event_of, id_of, limited_of, position_of, refusal_of,
+    report_of, standing_of, style_of, u32_of,
+};
+use crate::frame::{Frame, What};
 use std::alloc::Global;
 
-#[tactic(auto, unfolding(crate::specs::Fields::number_at))]
-fn u16_of(bytes: &[u8]) -> Result<(u16, &[u8]), WireFault>
-    ensures { GivesField (λ x. (x.0, x.1.now)) result (number_at w16 bytes.now) }
-{
-    if bytes.len() < 2 {
-        return Err(WireFault::BadBody);
-    }
-    let (front, rest) = bytes.split_at(2);
-    Ok((u16::from_be_bytes([front[0], front[1]]), rest))
-}
-
-#[tactic(auto, unfolding(crate::specs::Fields::number_at))]
-fn u32_of(bytes: &[u8]) -> Result<(u32, &[u8]), WireFault>
-    ensures { GivesField (λ x. (x.0, x.1.now)) result (number_at w32 bytes.now) }
-{
-    if bytes.len() < 4 {
-        return Err(WireFault::BadBody);
-    }
-    let (front, rest) = bytes.split_at(4);
-    let number = u32::from_be_bytes([front[0], front[1], front[2], front[3]]);
-    Ok((number, rest))
-}
-
-#[tactic(auto, unfolding(crate::specs::Fields::number_at))]
-fn u64_of(bytes: &[u8]) -> Result<(u64, &[u8]), WireFault>
-    ensures { GivesField (λ x. (x.0, x.1.now)) result (number_at w64 bytes.now) }
-{
-    if bytes.len() < 8 {
-        return Err(WireFault::BadBody);
-    }
-    let (front, rest) = bytes.split_at(8);
-    let number = u64::from_be_bytes([
-        front[0], front[1], front[2], front[3], front[4], front[5], front[6], front[7],
-    ]);
-    Ok((number, rest))
-}
-
-#[tactic(auto, unfolding(crate::specs::Fields::byte_at))]
-fn byte_of(bytes: &[u8]) -> Result<(u8, &[u8]), WireFault>
-    ensures { GivesField (λ x. (x.0, x.1.now)) result (byte_at bytes.now) }
-{
-    match bytes {
-        [] => Err(WireFault::BadBody),
-        [byte, rest @ ..] => Ok((*byte, rest)),
-    }
-}
-
-#[tactic(auto, unfolding(crate::specs::Reading::ballot_at))]
-fn ballot_of(bytes: &[u8]) -> Result<(Ballot, &[u8]), WireFault>
-    ensures { GivesField (λ x. (x.0, x.1.now)) result (ballot_at bytes.now) }
-{
-    let (round, rest) = u32_of(bytes)?;
-    let (desk, rest) = byte_of(rest)?;
-    if 1 <= round && 1 <= desk && desk <= 5 {
-        Ok((Ballot { round, desk }, rest))
-    } else {
-        Err(WireFault::BadBody)
-    }
-}
-
-/// A number of four bytes, at most `limit`.
-#[tactic(auto, unfolding(crate::specs::Reading::limited_at))]
-fn limited_of(limit: u32, bytes: &[u8]) -> Result<(u32, &[u8]), WireFault>
-    ensures { GivesField (λ x. (x.0, x.1.now)) result (limited_at limit bytes.now) }
-{
-    let (number, rest) = u32_of(bytes)?;
-    if number <= limit {
-        Ok((number, rest))
-    } else {
-        Err(WireFault::BadBody)
-    }
-}
-
-fn position_of(bytes: &[u8]) -> Result<(u32, &[u8]), WireFault>
-    ensures { GivesField (λ x. (x.0, x.1.now)) result (position_at bytes.now) }
-{
-    limited_of(65_535, bytes)
-}
-
-#[tactic(auto, unfolding(crate::specs::Reading::id_at))]
-fn id_of(bytes: &[u8]) -> Result<(u64, &[u8]), WireFault>
-    ensures { GivesField (λ x. (x.0, x.1.now)) result (id_at bytes.now) }
-{
-    let (id, rest) = u64_of(bytes)?;
-    if 1 <= id && id <= 9_223_372_036_854_775_807 {
-        Ok((id, rest))
-    } else {
-        Err(WireFault::BadBody)
-    }
-}
-
-/// Two bytes of length, at most 600, and that many bytes.
-#[tactic(auto, unfolding(crate::specs::Reading::text_at))]
-fn text_of(bytes: &[u8]) -> Result<(&[u8], &[u8]), WireFault>
-    ensures { GivesField (λ x. (x.0.now, x.1.now)) result (text_at bytes.now) }
-{
-    let (len, rest) = u16_of(bytes)?;
-    let len = usize::from(len);
-    if len <= 600 && len <= rest.len() {
-        Ok(rest.split_at(len))
-    } else {
-        Err(WireFault::BadBody)
-    }
-}
-
-#[tactic(auto, unfolding(crate::specs::Reading::entry_at))]
-fn entry_of(alloc: Global, bytes: &[u8]) -> Result<(Entry, &[u8]), WireFault>
-    ensures { GivesField (λ x. (x.0, x.1.now)) result (entry_at bytes.now) }
-{
-    let (id, rest) = id_of(bytes)?;
-    let (text, rest) = text_of(rest)?;
-    match Entry::new(alloc, id, text) {
-        Ok(entry) => Ok((entry, rest)),
-        Err(_) => Err(WireFault::NoMemory),
-    }
-}
-
-#[tactic(auto, unfolding(crate::specs::Reading::report_at))]
-fn report_of(alloc: Global, bytes: &[u8]) -> Result<(Option<Report>, &[u8]), WireFault>
-    ensures { GivesField (λ x. (x.0, x.1.now)) result (report_at bytes.now) }
-{
-    match bytes {
-        [0, rest @ ..] => Ok((None, rest)),
-        [1, rest @ ..] => {
-            let (ballot, rest) = ballot_of(rest)?;
-            let (entry, rest) = entry_of(alloc, rest)?;
-            Ok((Some(Report { ballot, entry }), rest))
-        }
-        _ => Err(WireFault::BadBody),
-    }
-}
-
-/// What a number stands for, if it stands for something.
-fn there<A: Copy>(member: Option<A>) -> Result<A, WireFault>
-    ensures { GivesField (λ x. x) result member }
-{
-    match member {
-        Some(member) => Ok(member),
-        None => Err(WireFault::BadBody),
-    }
-}
-
-#[tactic(auto, unfolding(crate::specs::Reading::member_at, formats::specs::Events::event_numbered))]
-fn event_of(bytes: &[u8]) -> Result<(Event, &[u8]), WireFault>
-    ensures { GivesField (λ x. (x.0, x.1.now)) result (member_at event_number events bytes.now) }
-{
-    let (number, rest) = byte_of(bytes)?;
-    let event = there(Event::from_number(number))?;
-    Ok((event, rest))
-}
-
-#[tactic(auto, unfolding(crate::specs::Reading::member_at))]
-fn style_of(bytes: &[u8]) -> Result<(Style, &[u8]), WireFault>
-    ensures { GivesField (λ x. (x.0, x.1.now)) result (member_at style_number styles bytes.now) }
-{
-    let (number, rest) = byte_of(bytes)?;
-    let style = there(Style::from_number(number))?;
-    Ok((style, rest))
-}
-
-#[tactic(auto, unfolding(crate::specs::Reading::member_at))]
-fn refusal_of(bytes: &[u8]) -> Result<(Refusal, &[u8]), WireFault>
-    ensures { GivesField (λ x. (x.0, x.1.now)) result (member_at refusal_number refusals bytes.now) }
-{
-    let (number, rest) = byte_of(bytes)?;
-    let refusal = there(Refusal::from_number(number))?;
-    Ok((refusal, rest))
-}
-
-/// Done is 0, and a refusal the number of its code.
-#[tactic(auto, unfolding(commands::specs::Codes::code_numbered), using(crate::proofs::Bodies::answer_numbered))]
-fn answer_numbered(number: u8) -> Option<Answer>
-    ensures { result ≡ numbered answer_number answers number }
-{
-    if number == 0 {
-        return Some(Answer::Done);
-    }
-    match Code::from_number(number) {
-        Some(code) => Some(Answer::Refused(code)),
-        None => None,
-    }
-}
-
-#[tactic(auto, unfolding(crate::specs::Reading::member_at))]
-fn answer_of(bytes: &[u8]) -> Result<(Answer, &[u8]), WireFault>
-    ensures { GivesField (λ x. (x.0, x.1.now)) result (member_at answer_number answers bytes.now) }
-{
-    let (number, rest) = byte_of(bytes)?;
-    let answer = there(answer_numbered(number))?;
-    Ok((answer, rest))
-}
-
-#[tactic(auto, unfolding(crate::specs::Reading::standing_at))]
-fn standing_of(bytes: &[u8]) -> Result<(Standing, &[u8]), WireFault>
-    ensures { GivesField (λ x. (x.0, x.1.now)) result (standing_at bytes.now) }
-{
-    match bytes {
-        [0, rest @ ..] => Ok((Standing::Unknown, rest)),
-        [1, rest @ ..] => Ok((Standing::Pending, rest)),
-        [2, rest @ ..] => {
-            let (pos, rest) = position_of(rest)?;
-            let (answer, rest) = answer_of(rest)?;
-            Ok((Standing::Done { pos, answer }, rest))
-        }
-        _ => Err(WireFault::BadBody),
-    }
-}
-
-/// Nothing is left.
-fn end(rest: &[u8]) -> Result<(), WireFault>
-    ensures { GivesField (λ x. x) result (ended rest.now) }
-{
-    if rest.is_empty() {
-        Ok(())
-    } else {
-        Err(WireFault::BadBody)
-    }
-}
-
 fn prepare_of(bytes: &[u8]) -> Result<What, WireFault>
-    ensures { GivesField (λ x. x) result (prepare_of bytes.now) }
+    ensures { GivesBody result (prepare_of bytes.now) }
 {
     let (ballot, rest) = ballot_of(bytes)?;
     let (pos, rest) = position_of(rest)?;
@@ -248,27 +26,32 @@ fn prepare_of(bytes: &[u8]) -> Result<What, WireFault>
 }
 
 fn promise_of(alloc: Global, bytes: &[u8]) -> Result<What, WireFault>
-    ensures { GivesField (λ x. x) result (promise_of bytes.now) }
+    ensures { GivesBody result (promise_of bytes.now) }
 {
     let (ballot, rest) = ballot_of(bytes)?;
     let (pos, rest) = position_of(rest)?;
-    let (vote, rest) = report_of(alloc, rest)?;
+    let (vote, rest) = report_of(rest)?;
     end(rest)?;
+    let vote = match vote {
+        None => None,
+        Some(part) => Some(part.to_report(alloc)?),
+    };
     Ok(What::Promise { ballot, pos, vote })
 }
 
 fn accept_of(alloc: Global, bytes: &[u8]) -> Result<What, WireFault>
-    ensures { GivesField (λ x. x) result (accept_of bytes.now) }
+    ensures { GivesBody result (accept_of bytes.now) }
 {
     let (ballot, rest) = ballot_of(bytes)?;
     let (pos, rest) = position_of(rest)?;
-    let (entry, rest) = entry_of(alloc, rest)?;
+    let (entry, rest) = entry_of(rest)?;
     end(rest)?;
+    let entry = entry.to_entry(alloc)?;
     Ok(What::Accept { ballot, pos, entry })
 }
 
 fn accepted_of(bytes: &[u8]) -> Result<What, WireFault>
-    ensures { GivesField (λ x. x) result (accepted_of bytes.now) }
+    ensures { GivesBody result (accepted_of bytes.now) }
 {
     let (ballot, rest) = ballot_of(bytes)?;
     let (pos, rest) = position_of(rest)?;
@@ -277,7 +60,7 @@ fn accepted_of(bytes: &[u8]) -> Result<What, WireFault>
 }
 
 fn nack_of(bytes: &[u8]) -> Result<What, WireFault>
-    ensures { GivesField (λ x. x) result (nack_of bytes.now) }
+    ensures { GivesBody result (nack_of bytes.now) }
 {
     let (ballot, rest) = ballot_of(bytes)?;
     let (pos, rest) = position_of(rest)?;
@@ -291,7 +74,7 @@ fn nack_of(bytes: &[u8]) -> Result<What, WireFault>
 }
 
 fn behind_of(bytes: &[u8]) -> Result<What, WireFault>
-    ensures { GivesField (λ x. x) result (behind_of bytes.now) }
+    ensures { GivesBody result (behind_of bytes.now) }
 {
     let (len, rest) = limited_of(65_536, bytes)?;
     end(rest)?;
@@ -299,24 +82,26 @@ fn behind_of(bytes: &[u8]) -> Result<What, WireFault>
 }
 
 fn decided_of(alloc: Global, bytes: &[u8]) -> Result<What, WireFault>
-    ensures { GivesField (λ x. x) result (decided_of bytes.now) }
+    ensures { GivesBody result (decided_of bytes.now) }
 {
     let (pos, rest) = position_of(bytes)?;
-    let (entry, rest) = entry_of(alloc, rest)?;
+    let (entry, rest) = entry_of(rest)?;
     end(rest)?;
+    let entry = entry.to_entry(alloc)?;
     Ok(What::Decided { pos, entry })
 }
 
 fn submit_of(alloc: Global, bytes: &[u8]) -> Result<What, WireFault>
-    ensures { GivesField (λ x. x) result (submit_of bytes.now) }
+    ensures { GivesBody result (submit_of bytes.now) }
 {
-    let (entry, rest) = entry_of(alloc, bytes)?;
+    let (entry, rest) = entry_of(bytes)?;
     end(rest)?;
+    let entry = entry.to_entry(alloc)?;
     Ok(What::Submit { entry })
 }
 
 fn ask_of(bytes: &[u8]) -> Result<What, WireFault>
-    ensures { GivesField (λ x. x) result (ask_of bytes.now) }
+    ensures { GivesBody result (ask_of bytes.now) }
 {
     let (id, rest) = id_of(bytes)?;
     end(rest)?;
@@ -324,7 +109,7 @@ fn ask_of(bytes: &[u8]) -> Result<What, WireFault>
 }
 
 fn sheet_of(bytes: &[u8]) -> Result<What, WireFault>
-    ensures { GivesField (λ x. x) result (sheet_of bytes.now) }
+    ensures { GivesBody result (sheet_of bytes.now) }
 {
     let (event, rest) = event_of(bytes)?;
     let (round, rest) = byte_of(rest)?;
@@ -340,7 +125,7 @@ fn sheet_of(bytes: &[u8]) -> Result<What, WireFault>
 }
 
 fn taken_of(bytes: &[u8]) -> Result<What, WireFault>
-    ensures { GivesField (λ x. x) result (taken_of bytes.now) }
+    ensures { GivesBody result (taken_of bytes.now) }
 {
     let (id, rest) = id_of(bytes)?;
     end(rest)?;
@@ -348,7 +133,7 @@ fn taken_of(bytes: &[u8]) -> Result<What, WireFault>
 }
 
 fn told_of(bytes: &[u8]) -> Result<What, WireFault>
-    ensures { GivesField (λ x. x) result (told_of bytes.now) }
+    ensures { GivesBody result (told_of bytes.now) }
 {
     let (id, rest) = id_of(bytes)?;
     let (standing, rest) = standing_of(rest)?;
@@ -357,7 +142,7 @@ fn told_of(bytes: &[u8]) -> Result<What, WireFault>
 }
 
 fn refused_of(bytes: &[u8]) -> Result<What, WireFault>
-    ensures { GivesField (λ x. x) result (refused_of bytes.now) }
+    ensures { GivesBody result (refused_of bytes.now) }
 {
     let (refusal, rest) = refusal_of(bytes)?;
     end(rest)?;
@@ -374,7 +159,7 @@ fn sheet_text_of(alloc: Global, bytes: &[u8]) -> Result<What, WireFault>
 
 /// A kind without fields.
 fn empty_of(what: What, bytes: &[u8]) -> Result<What, WireFault>
-    ensures { GivesField (λ x. x) result (empty_of what bytes.now) }
+    ensures { GivesBody result (empty_of what bytes.now) }
 {
     end(bytes)?;
     Ok(what)
@@ -383,7 +168,7 @@ fn empty_of(what: What, bytes: &[u8]) -> Result<What, WireFault>
 /// The fields of the kind with this number.
 #[tactic(auto, unfolding(crate::specs::Reading::what_of))]
 fn what_of(alloc: Global, kind: u8, bytes: &[u8]) -> Result<What, WireFault>
-    ensures { GivesField (λ x. x) result (what_of kind bytes.now) }
+    ensures { GivesBody result (what_of kind bytes.now) }
 {
     match kind {
         1 => prepare_of(bytes),
@@ -419,30 +204,23 @@ fn is_desk(number: u8) -> bool
     1 <= number && number <= 5
 }
 
-/// The sender and the receiver fit the kind.
-fn goes(what: &What, from: u8, to: u8) -> bool
-    ensures { result ≡ goes (way_of what.now) from to }
+/// The sender and the receiver fit the kind: 1 to 7 go from a desk to a desk, 16 to 20 from a
+/// client to a desk, 32 to 36 from a desk to a client.
+fn goes(kind: u8, from: u8, to: u8) -> bool
+    ensures { result ≡ goes (way_of_kind kind) from to }
 {
-    match what {
-        What::Prepare { .. }
-        | What::Promise { .. }
-        | What::Accept { .. }
-        | What::Accepted { .. }
-        | What::Nack { .. }
-        | What::Behind { .. }
-        | What::Decided { .. } => is_desk(from) && is_desk(to),
-        What::Submit { .. } | What::Ask { .. } | What::Sheet { .. } | What::Tick | What::Stop =>
-            from == 0 && is_desk(to),
-        What::Taken { .. }
-        | What::Told { .. }
-        | What::SheetText { .. }
-        | What::Refused { .. }
-        | What::Fine => is_desk(from) && to == 0,
+    if kind <= 7 {
+        is_desk(from) && is_desk(to)
+    } else if kind <= 20 {
+        from == 0 && is_desk(to)
+    } else {
+        is_desk(from) && to == 0
     }
 }
 
-/// The frame that the bytes behind a length spell, or the first fault: BadVersion, BadKind, BadBody.
-#[tactic(auto, unfolding(crate::specs::Reading::frame_of))]
+/// The frame that the bytes behind a length spell, or the first fault: BadVersion, BadKind,
+/// BadBody. Memory is taken only for a frame that is good.
+#[tactic(auto, unfolding(crate::specs::Reading::frame_of), using(crate::proofs::WhatKind::kind_is))]
 pub(crate) fn frame_of(alloc: Global, bytes: &[u8]) -> Result<Frame, WireFault>
     ensures { GivesFrame result (frame_of bytes.now) }
 {
@@ -455,11 +233,11 @@ pub(crate) fn frame_of(alloc: Global, bytes: &[u8]) -> Result<Frame, WireFault>
     if !is_kind(*kind) {
         return Err(WireFault::BadKind);
     }
-    let hall = u32::from_be_bytes([*a, *b, *c, *d]);
-    let what = what_of(alloc, *kind, fields)?;
-    if !goes(&what, *from, *to) {
+    if !goes(*kind, *from, *to) {
         return Err(WireFault::BadBody);
     }
+    let hall = u32::from_be_bytes([*a, *b, *c, *d]);
+    let what = what_of(alloc, *kind, fields)?;
     Ok(Frame {
         hall,
         from: *from,

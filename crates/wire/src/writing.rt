@@ -7,12 +7,13 @@ ghost use Rattle.wire.specs.Ranges.{IsFrame, IsBody};
 ghost use Rattle.wire.specs.Spelling.{ballot_bytes, text_bytes, entry_bytes, report_bytes, standing_bytes, kind_of, body, inside, spelling};
 
 use crate::NoMemory;
-use crate::frame::{Frame, Standing, What};
+use crate::frame::{Frame, What};
+use crate::values::Standing;
 use acceptor::ballot::Ballot;
 use acceptor::entry::Entry;
 use acceptor::message::Report;
-use commands::Answer;
 use std::alloc::Global;
+use texts::Answer;
 
 /// The one version of this wire.
 const VERSION: u8 = 1;
@@ -39,7 +40,8 @@ fn put_ballot(out: &mut Vec<u8>, ballot: Ballot) -> Result<(), NoMemory>
 
 /// A ballot and a position, with which five kinds begin.
 fn put_place(out: &mut Vec<u8>, ballot: Ballot, pos: u32) -> Result<(), NoMemory>
-    ensures { OnOk result (out.new.items ≡ out.old.items ++ (ballot_bytes ballot ++ to_be_bytes w32 pos)) }
+    ensures { OnOk result (out.new.items ≡
+        out.old.items ++ (ballot_bytes ballot ++ to_be_bytes w32 pos)) }
 {
     put_ballot(out, ballot)?;
     put_u32(out, pos)
@@ -165,9 +167,9 @@ fn put_inside(out: &mut Vec<u8>, frame: &Frame) -> Result<(), NoMemory>
     put_body(out, &frame.what)
 }
 
-/// The bytes of a frame whose fields are in their ranges: a length of four bytes, the version, the hall, the
-/// sender, the receiver, the kind and its fields. Numbers are unsigned, the highest byte first.
-/// NoMemory is the only error.
+/// The bytes of a frame whose fields are in their ranges: a length of four bytes, the version, the
+/// hall, the sender, the receiver, the kind and its fields. Numbers are unsigned, the highest byte
+/// first. NoMemory is the only error.
 #[tactic(auto, using(crate::proofs::Streams::inside_fits))]
 pub fn encode(alloc: Global, frame: &Frame) -> Result<Vec<u8>, NoMemory>
     requires { IsFrame frame.now }
