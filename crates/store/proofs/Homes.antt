@@ -1,9 +1,9 @@
 -- The two ways to say that a desk is one of a hall of 3 or 5, and its first state.
-use Rattle.std.proofs.Common.{◌≡◌, ◌⊎◌, inl, inr, true, ◌<◌, ◌^◌, [], arith}
+use Rattle.std.proofs.Common.{◌≡◌, ◌⊎◌, refl, inl, inr, true, ◌<◌, ◌^◌, [], arith}
 use Rattle.std.proofs.lemmas.Bool.Decides.{nat_tests}
 use Rattle.store.specs.declared.home.Home.{Home}
 use Rattle.acceptor.specs.Storing.{first_stored}
-use Rattle.store.specs.Ranges.{IsHome, is_housed, first_is_fit}
+use Rattle.store.specs.Ranges.{IsHome, is_housed}
 use Rattle.store.specs.Whole.{IsSound}
 
 pub to_home : (h : Home) → is_housed h ≡ true → IsHome h
@@ -21,11 +21,21 @@ from_home h i = elim i.desks [
 -- the first state of such a desk is in its ranges
 pub first_is_sound : (h : Home) → IsHome h → h.hall < 2 ^ 32 → IsSound h first_stored []
 first_is_sound h i hall =
-    let few : h.desks < 6 = elim i.desks [ inl three ↦ omega (arith, three) | inr five ↦ omega (arith, five) ] in
+    let few : h.desks < 6 =
+    elim i.desks [ inl three ↦ omega (arith, three) | inr five ↦ omega (arith, five) ] in
     let high = i.desk.1 in
     record {
       place = i;
-      row = record { hall = hall; desk = omega (arith, few, high); desks = omega (arith, few); round = omega arith; promised = omega arith; tried = omega arith; vote = tt };
-      stored = (first_is_fit h.desks).stored;
+      row =
+          record {
+            hall = hall;
+            desk = omega (arith, few, high);
+            desks = omega (arith, few);
+            round = omega arith;
+            promised = omega arith;
+            tried = omega arith;
+            vote = tt;
+          };
+      stored = (inl refl, tt);
       log = (tt, omega arith);
     }

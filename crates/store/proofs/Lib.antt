@@ -1,3 +1,4 @@
+pub mod SqlTexts
 pub mod Texts
 pub mod Updating
 pub mod Rewriting

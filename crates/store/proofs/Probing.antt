@@ -8,8 +8,11 @@ use Rattle.sqlite.specs.State.{State, IsUnchanged, Executes, CommitsBy, mode_of,
 use Rattle.sqlite.proofs.Callers.{IsPlain, command_of, runs_as}
 use Rattle.store.proofs.Texts.{empty_is, empty_plain}
 
-pub unchanged : (old new : State) (count : ℕ) → Executes [] [] old new (Ok count) → IsUnchanged old new
-unchanged old new count ran = (runs_as [] [] old new old.now.schema refl Nothing (empty_is old.now.schema) (empty_plain old.now.schema) count ran).0
+pub unchanged : (old new : State) (count : ℕ) → Executes [] [] old new (Ok count)
+    → IsUnchanged old new
+unchanged old new count ran =
+    (runs_as [] [] old new old.now.schema refl Nothing (empty_is old.now.schema)
+    (empty_plain old.now.schema) count ran).0
 
 pub never : (s : State) (db : Trees) → CommitsBy [] [] s db → ⊥
 unfolding CommitsBy
@@ -24,5 +27,10 @@ never s db h =
       ]
       | inr wrote ↦
           let full = timed [] h.0.formats h.1.now in
-          let done = subst₂ (λ k r. Does s.step_limit (mode_of s) full s.now (text_of [] h.0) r k (Ok (wrote.1, wrote.2))) named bare.0 wrote.3 in cc
+          let done =
+          subst₂
+          (λ k r.
+          Does s.step_limit (mode_of s) full s.now (text_of [] h.0) r k (Ok (wrote.1, wrote.2)))
+          named bare.0 wrote.3 in
+          cc
     ]

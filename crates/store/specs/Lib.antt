@@ -1,12 +1,9 @@
 pub mod Ranges
 pub mod Keeping
-pub mod Fitting
 pub mod Memory
 pub mod Opening
 pub mod Layout
-pub mod Texts
 pub mod Holding
 pub mod Kept
-pub mod Unique
+pub mod model
 pub mod Whole
-pub mod Refusing

@@ -1,11 +1,23 @@
--- What a refusal of `sqlite` to open a file means for a desk's store.
+-- What an opening gives, and what a refusal tells and leaves.
+use Rattle.std.specs.Prelude.{◌≡◌, ◌≢◌, ◌⊎◌, List, [], IsTrue}
+use Rattle.sqlite.specs.Tree.{Trees}
+use Rattle.sqlite.specs.State.{State}
 use Rattle.sqlite.specs.declared.error.Error.{Error}
 use Rattle.sqlite.specs.declared.error.Error.TheVariants.{SqliteFailure}
 use Rattle.sqlite.specs.declared.error.ErrorCode.TheVariants.{OutOfMemory, SystemIoFailure, DiskFull, CannotOpen, DatabaseBusy}
+use Rattle.acceptor.specs.declared.entry.Entry.{Entry}
+use Rattle.acceptor.specs.declared.stored.Stored.{Stored}
+use Rattle.acceptor.specs.Storing.{first_stored}
+use Rattle.store.specs.declared.home.Home.{Home}
 use Rattle.store.specs.declared.faults.OpenFault.{OpenFault}
-use Rattle.store.specs.declared.faults.OpenFault.TheVariants.{NoMemory, Device, Damaged}
+use Rattle.store.specs.declared.faults.OpenFault.TheVariants.{NoMemory, Device, Damaged, WrongDesk}
+use Rattle.store.specs.Layout.{no_schema}
+use Rattle.store.specs.Holding.{Holds}
+use Rattle.store.specs.Kept.{Keeps, HasDesk}
+use Rattle.store.specs.Whole.{IsSound}
 
--- memory and the device are told apart from a file that is damaged
+-- What a refusal of `sqlite` to open a file means for a desk's store: memory and the device are
+-- told apart from a file that is damaged.
 abbrev pub refusal_of : Error → OpenFault
 refusal_of (SqliteFailure OutOfMemory) = NoMemory
 refusal_of (SqliteFailure SystemIoFailure) = Device
@@ -13,3 +25,41 @@ refusal_of (SqliteFailure DiskFull) = Device
 refusal_of (SqliteFailure CannotOpen) = Device
 refusal_of (SqliteFailure DatabaseBusy) = Device
 refusal_of _ = Damaged
+
+-- What a keeper keeps that was opened for a desk over a connection.
+pub record Opens (home : Home) (old : State) (keeps : Stored → List Entry → Type 0) : Type 0 where
+  -- it is a state with all of it in its ranges
+  pub kept : (s : Stored) × (log : List Entry) × IsSound home s log × keeps s log
+  -- there was nothing at all, or a state of this desk
+  pub found : (old.now.schema ≡ no_schema)
+      ⊎ ((s : Stored) × (log : List Entry) × Keeps home s log old)
+  -- over nothing at all it is the first state
+  pub made : old.now.schema ≡ no_schema → keeps first_stored []
+  -- and over a state of this desk it is that one
+  pub same : (s : Stored) (log : List Entry) → Keeps home s log old → keeps s log
+
+-- What the two refusals that speak of the tables tell of the connection as it was.
+pub record Tells (home : Home) (old : State) (IsDamaged IsWrongDesk : Type 0) : Type 0 where
+  -- no desk's state was there with all of it in its ranges
+  pub damaged : IsDamaged → (away : Home) (s : Stored) (log : List Entry) → IsSound away s log
+      → ¬ Keeps away s log old
+  -- nor a whole row of another desk
+  pub own : IsDamaged → (away : Home) (s : Stored) → HasDesk away s old → away ≡ home
+  -- a whole row of another desk was there
+  pub wrong : IsWrongDesk → (away : Home) × (s : Stored) × HasDesk away s old × (away ≢ home)
+
+-- What an opening that was refused leaves.
+pub record Remains (home : Home) (old new : State) : Type 0 where
+  -- after a stop there is what was there or, where nothing was, both tables with the first row
+  pub crash : (db : Trees) → new.may_leave db
+      → old.may_leave db ⊎ ((old.now.schema ≡ no_schema) × Holds home db first_stored [])
+  -- a connection that is still open keeps what it kept
+  pub kept : IsTrue new.is_open → (away : Home) (s : Stored) (log : List Entry)
+      → Keeps away s log old → Keeps away s log new
+
+-- Why an opening was refused, and what it leaves.
+pub record Refuses (home : Home) (old new : State) (fault : OpenFault) : Type 0 where
+  pub tells : Tells home old (fault ≡ Damaged) (fault ≡ WrongDesk)
+  -- nothing at all is not damaged
+  pub fresh : fault ≡ Damaged → old.now.schema ≢ no_schema
+  pub remains : Remains home old new

@@ -1,12 +1,12 @@
--- Which desks there are, and which states a store may hold. What the types of the fields say already (rounds of 32 bits, an entry's id of 1 to
--- 2^63 - 1 and its text of at most 600 bytes) is not said again.
-use Rattle.std.proofs.Common.{ℕ, ◌≡◌, ◌⊎◌, inl, Bool, ◌&&◌, ◌||◌, ◌==◌, nat_le, ◌<◌, ◌≤◌, List, [], length, Option, Some, None, refl, arith}
+-- Which desks there are, and which states a store may hold. What the types of the fields say
+-- already (rounds of 32 bits, an entry's id of 1 to 2^63 - 1 and its text of at most 600 bytes) is
+-- not said again.
+use Rattle.std.proofs.Common.{ℕ, ◌≡◌, ◌⊎◌, Bool, ◌&&◌, ◌||◌, ◌==◌, nat_le, ◌<◌, ◌≤◌, List, length, Option, Some, None}
 use Rattle.acceptor.specs.declared.ballot.Ballot.{Ballot}
 use Rattle.acceptor.specs.declared.entry.Entry.{Entry}
 use Rattle.acceptor.specs.declared.stored.Vote.{Vote}
 use Rattle.acceptor.specs.declared.stored.Stored.{Stored}
 use Rattle.acceptor.specs.Ballots.{no_ballot}
-use Rattle.acceptor.specs.Storing.{first_stored}
 use Rattle.learner.specs.Order.{IsAtMost}
 use Rattle.learner.specs.Ranges.{IsReal}
 use Rattle.learner.specs.Steps.{IsDesk}
@@ -17,9 +17,13 @@ pub record IsHome (home : Home) : Type 0 where
   pub desks : (home.desks ≡ 3) ⊎ (home.desks ≡ 5)
   pub desk : IsDesk home.desks home.desk
 
+abbrev pub home_at : ℕ → ℕ → ℕ → Home
+home_at hall desk desks = record { hall = hall; desk = desk; desks = desks }
+
 -- the same as a test
 abbrev pub is_housed : Home → Bool
-is_housed home = (home.desks == 3 || home.desks == 5) && nat_le 1 home.desk && nat_le home.desk home.desks
+is_housed home =
+    (home.desks == 3 || home.desks == 5) && nat_le 1 home.desk && nat_le home.desk home.desks
 
 -- none, or at a position of a log, with a ballot of the hall that is at most the promised one
 abbrev pub VoteIsFit : ℕ → Ballot → Option Vote → Type 0
@@ -34,7 +38,3 @@ StoredIsFit n s = ((s.promised ≡ no_ballot) ⊎ IsReal n s.promised) × VoteIs
 pub record IsFit (n : ℕ) (s : Stored) (log : List Entry) : Type 0 where
   pub stored : StoredIsFit n s
   pub long : length log ≤ 65536
-
--- the state before the first event
-pub first_is_fit : (n : ℕ) → IsFit n first_stored []
-first_is_fit n = record { stored = (inl refl, tt); long = omega arith }

@@ -11,7 +11,9 @@ use Rattle.store.specs.Ranges.{IsHome, StoredIsFit}
 -- the position and the round are of 32 bits, the desk of 8, and the entry is one
 abbrev pub VoteIsWhole : Option Vote → Type 0
 VoteIsWhole None = Unit {0}
-VoteIsWhole (Some v) = (v.pos < 2 ^ 32) × (v.ballot.round < 2 ^ 32) × (v.ballot.desk < 256) × IsId v.entry.id × IsText v.entry.text
+VoteIsWhole (Some v) =
+    (v.pos < 2 ^ 32) × (v.ballot.round < 2 ^ 32) × (v.ballot.desk < 256) × IsId v.entry.id
+    × IsText v.entry.text
 
 -- the hall and the rounds are of 32 bits, and the desks of 8
 pub record IsWhole (home : Home) (s : Stored) : Type 0 where

@@ -1,3 +1,5 @@
+//! Equal copies of a vote, a state and a log.
+
 ghost use Rattle.std.specs.Prelude.{◌≡◌, ◌≤◌, IfOk, length};
 
 use crate::NoMemory;
@@ -46,7 +48,8 @@ pub fn copy_log(alloc: Global, log: &Log) -> Result<Log, NoMemory>
         let entry = entry.copy_in(alloc)?;
         match copy.reserve() {
             Ok(()) => copy.append(entry),
-            Err(_) => return Err(NoMemory),
+            // The copy is not full, since the log that is copied has more entries.
+            Err(ReserveFault::LogFull | ReserveFault::NoMemory) => return Err(NoMemory),
         }
     }
     Ok(copy)

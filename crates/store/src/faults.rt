@@ -1,4 +1,7 @@
-/// Why a store was not opened. The refusals stand in the order in which their causes are looked for.
+//! Why an opening, a load or a save is refused.
+
+/// Why a store was not opened. The refusals stand in the order in which their causes are looked
+/// for.
 #[derive(Clone, Copy, PartialEq, Eq, Debug)]
 pub enum OpenFault {
     /// The store belongs to another desk or hall, or to a hall of another number of desks.
@@ -14,7 +17,8 @@ pub enum OpenFault {
 /// Why a load was refused.
 #[derive(Clone, Copy, PartialEq, Eq, Debug)]
 pub enum LoadFault {
-    /// What the store holds is not a desk's state in its ranges, or the count of failures is at its end.
+    /// What the store holds is not a desk's state in its ranges, or the count of failures is at its
+    /// end.
     Damaged,
     /// The device refused.
     Device,
@@ -25,8 +29,8 @@ pub enum LoadFault {
 /// Why a save was refused.
 #[derive(Clone, Copy, PartialEq, Eq, Debug)]
 pub enum SaveFault {
-    /// The device refused. The store holds the state before the change or the one after it, and every
-    /// save from now on is Down until the store is opened again.
+    /// The device refused. The store holds the state before the change or the one after it, and
+    /// every save from now on is Down until the store is opened again.
     Device,
     /// Memory was refused, and the store is as it was.
     NoMemory,

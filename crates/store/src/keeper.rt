@@ -1,3 +1,5 @@
+//! What a desk needs of a store: the trait that everything above is written over.
+
 ghost use Rattle.std.specs.Prelude.{◌≡◌, ◌≢◌, ◌↔◌, ◌<◌, ℕ, Bool, List, Result, IsTrue, IfOk, OnOk, OnErr, false};
 ghost use Rattle.acceptor.specs.declared.entry.Entry.{Entry};
 ghost use Rattle.acceptor.specs.declared.stored.Stored.{Stored as State};
@@ -18,9 +20,9 @@ use std::alloc::Global;
 
 /// What keeps the state and the log of one desk, so that the desk finds them again.
 ///
-/// Whatever is said of the values that a store holds stands under `is_honest`, the premise on files: so
-/// far the store has given back what was written to it, and nobody else has written it. For a keeper in
-/// memory nothing is assumed.
+/// Whatever is said of the values that a store holds stands under `is_honest`, the premise on
+/// files: so far the store has given back what was written to it, and nobody else has written it.
+/// For a keeper in memory nothing is assumed.
 pub trait Keeper {
     /// So far the store has given back what was written to it, and nobody else has written it.
     ghost is_honest: { Self → Type 0 };
@@ -58,54 +60,85 @@ pub trait Keeper {
 
     /// Commits the change. The state after it has to be in its ranges.
     ///
-    /// Where the keeper is Down, or its failures are 2^64 - 1, the answer is Down. Else it is Ok, and the
-    /// store holds the new state alone; or NoMemory, and it holds the old one alone; or Device, and it
-    /// holds one of the two. Device counts a failure, and the keeper is Down from then on, until a load is Ok.
+    /// Where the keeper is Down, or its failures are 2^64 - 1, the answer is Down. Else it is Ok,
+    /// and the store holds the new state alone; or NoMemory, and it holds the old one alone; or
+    /// Device, and it holds one of the two. Device counts a failure, and the keeper is Down from
+    /// then on, until a load is Ok.
     fn save(&mut self, change: &Change) -> Result<(), SaveFault>
         ensures honest { is_honest self.new → is_honest self.old }
         ensures home { home_of self.new ≡ home_of self.old }
-        ensures leaves { is_honest self.new → (s : State) (log : List Entry) → keeps self.old s log → IsFitAfter (home_of self.old).desks s log change.now
-            → Leaves (keeps self.new) (may_hold self.new) (may_break self.new) s log change.now result }
+
+        // What the store holds.
+        ensures leaves { is_honest self.new → (s : State) (log : List Entry)
+            → keeps self.old s log → IsFitAfter (home_of self.old).desks s log change.now
+            → Leaves (keeps self.new) (may_hold self.new) (may_break self.new) s log
+            change.now result }
+
+        // When it is Down, and what counts.
         ensures down { (result ≡ Err SaveFault.Down) ↔ IsTrue (is_down self.old) }
         ensures last { failures_of self.old ≡ most_failures → result ≡ Err SaveFault.Down }
-        ensures counted { result ≡ Err SaveFault.Device → failures_of self.old < failures_of self.new }
-        ensures uncounted { result ≢ Err SaveFault.Device → failures_of self.new ≡ failures_of self.old }
+        ensures counted { result ≡ Err SaveFault.Device
+            → failures_of self.old < failures_of self.new }
+        ensures uncounted { result ≢ Err SaveFault.Device
+            → failures_of self.new ≡ failures_of self.old }
         ensures ended { result ≡ Err SaveFault.Device → IsTrue (is_down self.new) }
         ensures as_before { result ≢ Err SaveFault.Device → is_down self.new ≡ is_down self.old }
         ensures still { result ≡ Err SaveFault.Down → self.new ≡ self.old }
+
+        // What this kind of keeper adds.
         ensures more { save_gives self.old change.now result self.new };
 
     /// The state and the log that the store holds.
     ///
-    /// At Ok the keeper is not Down, and its store holds what was given alone. Damaged: what the store
-    /// holds is not a state in its ranges, or the failures are 2^64 - 1. Device: the device refused, a
-    /// failure is counted, and the keeper is Down. NoMemory leaves it as it was. A keeper that is Down stays so
-    /// until a load is Ok. Whatever the answer, an opening finds nothing that it could not find before.
+    /// At Ok the keeper is not Down, and its store holds what was given alone. Damaged: what the
+    /// store holds is not a state in its ranges, or the failures are 2^64 - 1. Device: the device
+    /// refused, a failure is counted, and the keeper is Down. NoMemory leaves it as it was. A
+    /// keeper that is Down stays so until a load is Ok. Whatever the answer, an opening finds
+    /// nothing that it could not find before.
     fn load(&mut self, alloc: Global) -> Result<(Stored, Log), LoadFault>
         ensures honest { is_honest self.new → is_honest self.old }
         ensures home { home_of self.new ≡ home_of self.old }
+
+        // At Ok.
         ensures up { OnOk result (is_down self.new ≡ false) }
         ensures in_range { IfOk result (λ r. IsFit (home_of self.old).desks r.0 r.1.entries) }
         ensures held { IfOk result (λ r. is_honest self.new → may_hold self.old r.0 r.1.entries) }
         ensures kept { IfOk result (λ r. is_honest self.new → keeps self.new r.0 r.1.entries) }
-        ensures same { IfOk result (λ r. is_honest self.new → (s : State) (log : List Entry) → keeps self.old s log → (r.0 ≡ s) × (r.1.entries ≡ log)) }
-        ensures memory { result ≡ Err LoadFault.NoMemory → is_honest self.new → (s : State) (log : List Entry) → keeps self.old s log → keeps self.new s log }
-        ensures no_other { is_honest self.new → (s : State) (log : List Entry) → may_hold self.new s log → may_hold self.old s log }
+        ensures same { IfOk result
+            (λ r. is_honest self.new → (s : State) (log : List Entry) → keeps self.old s log
+            → (r.0 ≡ s) × (r.1.entries ≡ log)) }
+
+        // What the store holds after a refusal, and may hold after any answer.
+        ensures memory { result ≡ Err LoadFault.NoMemory → is_honest self.new
+            → (s : State) (log : List Entry) → keeps self.old s log → keeps self.new s log }
+        ensures no_other { is_honest self.new → (s : State) (log : List Entry)
+            → may_hold self.new s log → may_hold self.old s log }
         ensures whole { is_honest self.new → may_break self.new → may_break self.old }
-        ensures damaged { result ≡ Err LoadFault.Damaged → failures_of self.old ≢ most_failures → is_honest self.new → (s : State) (log : List Entry) → IsSound (home_of self.old) s log → ¬ keeps self.old s log }
+
+        // When it is Damaged or Device, what counts, and when it is Down.
+        ensures damaged { result ≡ Err LoadFault.Damaged → failures_of self.old ≢ most_failures
+            → is_honest self.new → (s : State) (log : List Entry) → IsSound (home_of self.old) s log
+            → ¬ keeps self.old s log }
         ensures last { failures_of self.old ≡ most_failures → result ≡ Err LoadFault.Damaged }
-        ensures counted { result ≡ Err LoadFault.Device → failures_of self.old < failures_of self.new }
-        ensures uncounted { result ≢ Err LoadFault.Device → failures_of self.new ≡ failures_of self.old }
-        ensures down { result ≢ Err LoadFault.Device → IsTrue (is_down self.new) → IsTrue (is_down self.old) }
+        ensures counted { result ≡ Err LoadFault.Device
+            → failures_of self.old < failures_of self.new }
+        ensures uncounted { result ≢ Err LoadFault.Device
+            → failures_of self.new ≡ failures_of self.old }
+        ensures down { result ≢ Err LoadFault.Device → IsTrue (is_down self.new)
+            → IsTrue (is_down self.old) }
         ensures ended { result ≡ Err LoadFault.Device → IsTrue (is_down self.new) }
         ensures stays { OnErr result (IsTrue (is_down self.old) → IsTrue (is_down self.new)) }
+
+        // What this kind of keeper adds.
         ensures more { load_gives self.old result self.new };
 
     /// What a keeper keeps is what an opening finds.
-    ghost alone: { (k : Self) (s : State) (log : List Entry) → is_honest k → keeps k s log → HoldsOnly (may_hold k) (may_break k) s log };
+    ghost alone: { (k : Self) (s : State) (log : List Entry) → is_honest k → keeps k s log
+        → HoldsOnly (may_hold k) (may_break k) s log };
 
     /// What a keeper keeps is in its ranges.
-    ghost ranges: { (k : Self) (s : State) (log : List Entry) → keeps k s log → IsFit (home_of k).desks s log };
+    ghost ranges: { (k : Self) (s : State) (log : List Entry) → keeps k s log
+        → IsFit (home_of k).desks s log };
 
     /// A keeper that keeps a state is not Down.
     ghost works: { (k : Self) (s : State) (log : List Entry) → keeps k s log → is_down k ≡ false };

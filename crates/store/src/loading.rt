@@ -1,6 +1,7 @@
-ghost use Rattle.std.specs.Prelude.{◌≡◌, ◌≢◌, ℕ, List, [], ◌∷◌, map, false, IsPermutation, IsTrue, IfOk, IfSome, OnOk, None, length};
+//! What the two tables have: the row of the desk, and then the log.
+
+ghost use Rattle.std.specs.Prelude.{◌≡◌, ◌≢◌, List, [], ◌∷◌, map, IsPermutation, IfOk, IfSome, OnOk, None, length};
 ghost use Rattle.sqlite.specs.State.{HasCleanDisk, IsUnchanged};
-ghost use Rattle.sqlite.specs.Tree.{Trees};
 ghost use Rattle.sqlite.specs.Held.{state};
 ghost use Rattle.acceptor.specs.Entries.{EntryValue};
 ghost use Rattle.acceptor.specs.declared.stored.Stored.{Stored as State};
@@ -9,17 +10,17 @@ ghost use Rattle.store.specs.Ranges.{IsHome, IsFit, StoredIsFit};
 ghost use Rattle.store.specs.Whole.{IsWhole, LogIsWhole, IsSound};
 ghost use Rattle.store.specs.Layout.{IsOurs};
 ghost use Rattle.store.specs.Holding.{shown_desk, shown_entry, desk_values, log_values};
-ghost use Rattle.store.specs.Kept.{Keeps, HasDesk};
+ghost use Rattle.store.specs.Kept.{Keeps, HasDesk, Spares};
 
-use crate::decode::{desk_of, log_of};
 use crate::home::Home;
-use crate::layout::is_ours;
-use crate::ranges::{is_fit, is_home};
+use crate::ranges::is_fit;
 use crate::reading::{desk_rows, log_rows};
+use crate::row_values::{desk_of, log_of};
+use crate::schema::is_ours;
 use acceptor::stored::Stored;
 use learner::log::Log;
 use sqlite::{Alter, Connection, Error, ErrorCode, Row};
-use std::alloc::Global;
+use std::alloc::{AllocError, Global};
 
 /// Why a read was refused.
 #[derive(Clone, Copy, Debug, PartialEq, Eq)]
@@ -45,13 +46,20 @@ fn only_row(rows: &[Row]) -> Option<&Row>
 /// The one row of `desk`.
 fn read_desk<S: Alter>(conn: &mut Connection<S>, alloc: Global) -> Result<(Home, Stored), ReadFault>
     ensures clean { HasCleanDisk (state S.Store conn.new) → HasCleanDisk (state S.Store conn.old) }
-    ensures damaged { result ≡ Err ReadFault.Damaged → HasCleanDisk (state S.Store conn.new) → IsOurs (state S.Store conn.old).now.schema → (home : Place) (s : State) → IsWhole home s → map shown_desk ((state S.Store conn.old).now.trees 0) ≢ desk_values home s ∷ [] }
+    ensures damaged { result ≡ Err ReadFault.Damaged → HasCleanDisk (state S.Store conn.new)
+        → IsOurs (state S.Store conn.old).now.schema → (home : Place) (s : State) → IsWhole home s
+        → map shown_desk ((state S.Store conn.old).now.trees 0) ≢ desk_values home s ∷ [] }
     ensures own_desk { result ≢ Err ReadFault.WrongDesk }
-    ensures found { HasCleanDisk (state S.Store conn.new) → IsOurs (state S.Store conn.old).now.schema → IfOk result (λ r. map shown_desk ((state S.Store conn.old).now.trees 0) ≡ desk_values r.0 r.1 ∷ []) }
+    ensures found { HasCleanDisk (state S.Store conn.new)
+        → IsOurs (state S.Store conn.old).now.schema → IfOk result
+        (λ r. map shown_desk ((state S.Store conn.old).now.trees 0) ≡ desk_values r.0 r.1 ∷ []) }
     ensures whole { IfOk result (λ r. IsWhole r.0 r.1) }
-    ensures same { HasCleanDisk (state S.Store conn.new) → IsOurs (state S.Store conn.old).now.schema → OnOk result (IsUnchanged (state S.Store conn.old) (state S.Store conn.new)) }
-    ensures kept { HasCleanDisk (state S.Store conn.new) → IsTrue (state S.Store conn.new).is_open → (home : Place) (s : State) (log : List EntryValue) → Keeps home s log (state S.Store conn.old) → Keeps home s log (state S.Store conn.new) }
-    ensures crash { HasCleanDisk (state S.Store conn.new) → IsOurs (state S.Store conn.old).now.schema → (db : Trees) → (state S.Store conn.new).may_leave db → (state S.Store conn.old).may_leave db }
+    ensures same { HasCleanDisk (state S.Store conn.new)
+        → IsOurs (state S.Store conn.old).now.schema → OnOk result
+        (IsUnchanged (state S.Store conn.old) (state S.Store conn.new)) }
+    ensures spares { HasCleanDisk (state S.Store conn.new)
+        → IsOurs (state S.Store conn.old).now.schema → Spares
+        (state S.Store conn.old) (state S.Store conn.new) }
 {
     let rows = match desk_rows(conn) {
         Ok(rows) => rows,
@@ -61,7 +69,7 @@ fn read_desk<S: Alter>(conn: &mut Connection<S>, alloc: Global) -> Result<(Home,
         Some(row) => match desk_of(alloc, row) {
             Ok(Some(desk)) => Ok(desk),
             Ok(None) => Err(ReadFault::Damaged),
-            Err(_) => Err(NO_MEMORY),
+            Err(AllocError) => Err(NO_MEMORY),
         },
         None => Err(ReadFault::Damaged),
     }
@@ -70,13 +78,22 @@ fn read_desk<S: Alter>(conn: &mut Connection<S>, alloc: Global) -> Result<(Home,
 /// The rows of `entries`.
 fn read_log<S: Alter>(conn: &mut Connection<S>, alloc: Global) -> Result<Log, ReadFault>
     ensures clean { HasCleanDisk (state S.Store conn.new) → HasCleanDisk (state S.Store conn.old) }
-    ensures damaged { result ≡ Err ReadFault.Damaged → HasCleanDisk (state S.Store conn.new) → IsOurs (state S.Store conn.old).now.schema → (log : List EntryValue) → LogIsWhole log → ¬ IsPermutation (log_values 0 log) (map shown_entry ((state S.Store conn.old).now.trees 1)) }
+    ensures damaged { result ≡ Err ReadFault.Damaged → HasCleanDisk (state S.Store conn.new)
+        → IsOurs (state S.Store conn.old).now.schema → (log : List EntryValue) → LogIsWhole log
+        → ¬ IsPermutation (log_values 0 log)
+        (map shown_entry ((state S.Store conn.old).now.trees 1)) }
     ensures own_desk { result ≢ Err ReadFault.WrongDesk }
-    ensures found { HasCleanDisk (state S.Store conn.new) → IsOurs (state S.Store conn.old).now.schema → IfOk result (λ log. IsPermutation (log_values 0 log.entries) (map shown_entry ((state S.Store conn.old).now.trees 1))) }
+    ensures found { HasCleanDisk (state S.Store conn.new)
+        → IsOurs (state S.Store conn.old).now.schema → IfOk result
+        (λ log. IsPermutation (log_values 0 log.entries)
+        (map shown_entry ((state S.Store conn.old).now.trees 1))) }
     ensures whole { IfOk result (λ log. LogIsWhole log.entries) }
-    ensures same { HasCleanDisk (state S.Store conn.new) → IsOurs (state S.Store conn.old).now.schema → OnOk result (IsUnchanged (state S.Store conn.old) (state S.Store conn.new)) }
-    ensures kept { HasCleanDisk (state S.Store conn.new) → IsTrue (state S.Store conn.new).is_open → (home : Place) (s : State) (log : List EntryValue) → Keeps home s log (state S.Store conn.old) → Keeps home s log (state S.Store conn.new) }
-    ensures crash { HasCleanDisk (state S.Store conn.new) → IsOurs (state S.Store conn.old).now.schema → (db : Trees) → (state S.Store conn.new).may_leave db → (state S.Store conn.old).may_leave db }
+    ensures same { HasCleanDisk (state S.Store conn.new)
+        → IsOurs (state S.Store conn.old).now.schema → OnOk result
+        (IsUnchanged (state S.Store conn.old) (state S.Store conn.new)) }
+    ensures spares { HasCleanDisk (state S.Store conn.new)
+        → IsOurs (state S.Store conn.old).now.schema → Spares
+        (state S.Store conn.old) (state S.Store conn.new) }
 {
     let rows = match log_rows(conn) {
         Ok(rows) => rows,
@@ -85,26 +102,33 @@ fn read_log<S: Alter>(conn: &mut Connection<S>, alloc: Global) -> Result<Log, Re
     match log_of(alloc, rows.as_slice()) {
         Ok(Some(log)) => Ok(log),
         Ok(None) => Err(ReadFault::Damaged),
-        Err(_) => Err(NO_MEMORY),
+        Err(AllocError) => Err(NO_MEMORY),
     }
 }
 
-/// The state of the desk, where the tables are there and the row is whole, in its ranges, and of this desk.
+/// The state of the desk, where the tables are there and the row is whole, in its ranges, and of
+/// this desk.
 fn read_home<S: Alter>(
     conn: &mut Connection<S>,
     alloc: Global,
     home: Home,
 ) -> Result<Stored, ReadFault>
     ensures clean { HasCleanDisk (state S.Store conn.new) → HasCleanDisk (state S.Store conn.old) }
-    ensures found { HasCleanDisk (state S.Store conn.new) → IfOk result (λ s. HasDesk home s (state S.Store conn.old)) }
+    ensures found { HasCleanDisk (state S.Store conn.new)
+        → IfOk result (λ s. HasDesk home s (state S.Store conn.old)) }
     ensures in_range { IfOk result (λ s. StoredIsFit home.desks s) }
     ensures whole { IfOk result (λ s. IsWhole home s) }
     ensures place { IfOk result (λ _. IsHome home) }
-    ensures same { HasCleanDisk (state S.Store conn.new) → OnOk result (IsUnchanged (state S.Store conn.old) (state S.Store conn.new)) }
-    ensures kept { HasCleanDisk (state S.Store conn.new) → IsTrue (state S.Store conn.new).is_open → (away : Place) (s : State) (log : List EntryValue) → Keeps away s log (state S.Store conn.old) → Keeps away s log (state S.Store conn.new) }
-    ensures crash { HasCleanDisk (state S.Store conn.new) → (db : Trees) → (state S.Store conn.new).may_leave db → (state S.Store conn.old).may_leave db }
-    ensures damaged { result ≡ Err ReadFault.Damaged → HasCleanDisk (state S.Store conn.new) → (away : Place) (s : State) → IsWhole away s → ¬ HasDesk away s (state S.Store conn.old) }
-    ensures wrong { result ≡ Err ReadFault.WrongDesk → HasCleanDisk (state S.Store conn.new) → (away : Place) × (s : State) × HasDesk away s (state S.Store conn.old) × (away ≢ home) }
+    ensures same { HasCleanDisk (state S.Store conn.new)
+        → OnOk result
+        (IsUnchanged (state S.Store conn.old) (state S.Store conn.new)) }
+    ensures spares { HasCleanDisk (state S.Store conn.new)
+        → Spares
+        (state S.Store conn.old) (state S.Store conn.new) }
+    ensures damaged { result ≡ Err ReadFault.Damaged → HasCleanDisk (state S.Store conn.new)
+        → (away : Place) (s : State) → ¬ HasDesk away s (state S.Store conn.old) }
+    ensures wrong { result ≡ Err ReadFault.WrongDesk → HasCleanDisk (state S.Store conn.new)
+        → (away : Place) × (s : State) × HasDesk away s (state S.Store conn.old) × (away ≢ home) }
 {
     if !is_ours(conn.schema()) || !conn.is_autocommit() {
         return Err(ReadFault::Damaged);
@@ -113,7 +137,7 @@ fn read_home<S: Alter>(
         Ok(desk) => desk,
         Err(fault) => return Err(fault),
     };
-    if !is_home(found) || !is_fit(found.desks, &stored) {
+    if !found.is_valid() || !is_fit(found.desks, &stored) {
         return Err(ReadFault::Damaged);
     }
     if found != home {
@@ -129,15 +153,22 @@ pub fn read_all<S: Alter>(
     home: Home,
 ) -> Result<(Stored, Log), ReadFault>
     ensures clean { HasCleanDisk (state S.Store conn.new) → HasCleanDisk (state S.Store conn.old) }
-    ensures found { HasCleanDisk (state S.Store conn.new) → IfOk result (λ r. Keeps home r.0 r.1.entries (state S.Store conn.new)) }
-    ensures before { HasCleanDisk (state S.Store conn.new) → IfOk result (λ r. Keeps home r.0 r.1.entries (state S.Store conn.old)) }
+    ensures found { HasCleanDisk (state S.Store conn.new)
+        → IfOk result (λ r. Keeps home r.0 r.1.entries (state S.Store conn.new)) }
+    ensures before { HasCleanDisk (state S.Store conn.new)
+        → IfOk result (λ r. Keeps home r.0 r.1.entries (state S.Store conn.old)) }
     ensures in_range { IfOk result (λ r. IsFit home.desks r.0 r.1.entries) }
     ensures sound { IfOk result (λ r. IsSound home r.0 r.1.entries) }
-    ensures kept { HasCleanDisk (state S.Store conn.new) → IsTrue (state S.Store conn.new).is_open → (away : Place) (s : State) (log : List EntryValue) → Keeps away s log (state S.Store conn.old) → Keeps away s log (state S.Store conn.new) }
-    ensures crash { HasCleanDisk (state S.Store conn.new) → (db : Trees) → (state S.Store conn.new).may_leave db → (state S.Store conn.old).may_leave db }
-    ensures damaged { result ≡ Err ReadFault.Damaged → HasCleanDisk (state S.Store conn.new) → (away : Place) (s : State) (log : List EntryValue) → IsSound away s log → ¬ Keeps away s log (state S.Store conn.old) }
-    ensures own { result ≡ Err ReadFault.Damaged → HasCleanDisk (state S.Store conn.new) → (away : Place) (s : State) → IsWhole away s → HasDesk away s (state S.Store conn.old) → away ≡ home }
-    ensures wrong { result ≡ Err ReadFault.WrongDesk → HasCleanDisk (state S.Store conn.new) → (away : Place) × (s : State) × HasDesk away s (state S.Store conn.old) × (away ≢ home) }
+    ensures spares { HasCleanDisk (state S.Store conn.new)
+        → Spares
+        (state S.Store conn.old) (state S.Store conn.new) }
+    ensures damaged { result ≡ Err ReadFault.Damaged → HasCleanDisk (state S.Store conn.new)
+        → (away : Place) (s : State) (log : List EntryValue) → IsSound away s log
+        → ¬ Keeps away s log (state S.Store conn.old) }
+    ensures own { result ≡ Err ReadFault.Damaged → HasCleanDisk (state S.Store conn.new)
+        → (away : Place) (s : State) → HasDesk away s (state S.Store conn.old) → away ≡ home }
+    ensures wrong { result ≡ Err ReadFault.WrongDesk → HasCleanDisk (state S.Store conn.new)
+        → (away : Place) × (s : State) × HasDesk away s (state S.Store conn.old) × (away ≢ home) }
 {
     let stored = match read_home(conn, alloc, home) {
         Ok(stored) => stored,

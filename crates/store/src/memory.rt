@@ -1,3 +1,5 @@
+//! The keeper in memory, for tests, which fails where it was told to.
+
 ghost use Rattle.std.specs.Prelude.{◌≡◌, ◌≤◌, ◌||◌, ◌==◌, [], List, Option, Some, None, Bool, true, false, IfOk, OnOk, OnErr, IfSome};
 ghost use Rattle.std.proofs.Common.{sym, ◌∙◌};
 ghost use Rattle.acceptor.specs.Entries.{EntryValue};
@@ -13,7 +15,7 @@ use crate::home::Home;
 use crate::keeper::Keeper;
 use crate::ranges::is_fit;
 use acceptor::stored::{Change, Stored};
-use learner::log::Log;
+use learner::log::{Log, ReserveFault};
 use std::alloc::Global;
 use std::marker::Model;
 
@@ -36,13 +38,23 @@ impl Model for MemoryKeeper {
 
     ghost Value = { MemoryState };
 
-    ghost view = { λ k. record { home = k.home; stored = k.stored; log = k.log.entries; failing = k.failing; failures = k.failures; down = k.down } };
+    ghost view = { λ k.
+        record {
+          home = k.home;
+          stored = k.stored;
+          log = k.log.entries;
+          failing = k.failing;
+          failures = k.failures;
+          down = k.down;
+        } };
 
     ghost invariant = { λ k. IsHome k.home };
 }
 
 fn apply(alloc: Global, stored: &mut Stored, log: &mut Log, change: &Change) -> Result<(), NoMemory>
-    ensures ok { OnOk result ((stored.new ≡ stored_after stored.old (Some change.now)) × (log.new.entries ≡ log_after log.old.entries (Some change.now))) }
+    ensures ok { OnOk result
+        ((stored.new ≡ stored_after stored.old (Some change.now))
+        × (log.new.entries ≡ log_after log.old.entries (Some change.now))) }
     ensures err { OnErr result ((stored.new ≡ stored.old) × (log.new.entries ≡ log.old.entries)) }
 {
     match change {
@@ -57,7 +69,9 @@ fn apply(alloc: Global, stored: &mut Stored, log: &mut Log, change: &Change) -> 
             let entry = entry.copy_in(alloc)?;
             match log.reserve() {
                 Ok(()) => log.append(entry),
-                Err(_) => return Err(NoMemory),
+                // A full log has no room either: the state after the change would not be in its
+                // ranges.
+                Err(ReserveFault::LogFull | ReserveFault::NoMemory) => return Err(NoMemory),
             }
         }
     }
@@ -79,7 +93,8 @@ fn one_nearer(failing: Option<Failing>) -> Option<Failing>
 /// Whether this save fails, and then whether its change is kept.
 fn due(failing: Option<Failing>) -> Option<bool>
     ensures some { IfSome result (λ kept. failing ≡ Some (record { saves = 1; kept = kept })) }
-    ensures none { result ≡ None → (kept : Bool) → ¬ (failing ≡ Some (record { saves = 1; kept = kept })) }
+    ensures none { result ≡ None → (kept : Bool)
+        → ¬ (failing ≡ Some (record { saves = 1; kept = kept })) }
 {
     match failing {
         Some(failing) if failing.saves == 1 => Some(failing.kept),
@@ -91,7 +106,16 @@ impl MemoryKeeper {
     /// A keeper of the first state and the empty log, for this desk of a hall of 3 or 5 desks.
     pub fn new(alloc: Global, hall: u32, desk: u8, desks: u8) -> Result<MemoryKeeper, NoMemory>
         requires { IsHome (record { hall = hall; desk = desk; desks = desks }) }
-        ensures { IfOk result (λ k. k ≡ record { home = record { hall = hall; desk = desk; desks = desks }; stored = first_stored; log = []; failing = None; failures = 0; down = false }) }
+        ensures { IfOk result
+            (λ k. k
+            ≡ record {
+              home = record { hall = hall; desk = desk; desks = desks };
+              stored = first_stored;
+              log = [];
+              failing = None;
+              failures = 0;
+              down = false;
+            }) }
     {
         Ok(MemoryKeeper {
             alloc,
@@ -104,11 +128,12 @@ impl MemoryKeeper {
         })
     }
 
-    /// Replaces the state and the log by these, which are in their ranges. NoMemory leaves the keeper as
-    /// it was.
+    /// Replaces the state and the log by these, which are in their ranges. NoMemory leaves the
+    /// keeper as it was.
     pub fn with(&mut self, stored: &Stored, log: &Log) -> Result<(), NoMemory>
         requires { IsFit self.old.home.desks stored.now log.now.entries }
-        ensures ok { OnOk result (self.new ≡ record self.old { stored = stored.now; log = log.now.entries }) }
+        ensures ok { OnOk result
+            (self.new ≡ record self.old { stored = stored.now; log = log.now.entries }) }
         ensures err { OnErr result (self.new ≡ self.old) }
     {
         let stored = copy_stored(self.alloc, stored)?;
@@ -118,11 +143,12 @@ impl MemoryKeeper {
         Ok(())
     }
 
-    /// The `saves`-th save from now, not counting those that answer Down or NoMemory, answers Device, with
-    /// its change kept or not. It replaces what was told before.
+    /// The `saves`-th save from now, not counting those that answer Down or NoMemory, answers
+    /// Device, with its change kept or not. It replaces what was told before.
     pub fn fail_at(&mut self, saves: u64, kept: bool)
         requires { 1 ≤ saves }
-        ensures { self.new ≡ record self.old { failing = Some (record { saves = saves; kept = kept }) } }
+        ensures { self.new
+            ≡ record self.old { failing = Some (record { saves = saves; kept = kept }) } }
     {
         self.failing = Some(Failing { saves, kept });
     }
@@ -146,7 +172,8 @@ impl Keeper for MemoryKeeper {
 
     ghost may_break = { λ _. ⊥ };
 
-    ghost keeps = { λ k s log. (is_stopped k ≡ false) × IsFit k.home.desks s log × (s ≡ k.stored) × (log ≡ k.log) };
+    ghost keeps = { λ k s log. (is_stopped k ≡ false) × IsFit k.home.desks s log × (s ≡ k.stored)
+        × (log ≡ k.log) };
 
     ghost is_down = { is_stopped };
 
@@ -198,7 +225,12 @@ impl Keeper for MemoryKeeper {
         Ok((stored, log))
     }
 
-    ghost alone = { λ k s log honest kept. record { holds = (kept.2, kept.3); only = λ t more h. (h.0 ∙ sym kept.2, h.1 ∙ sym kept.3); whole = λ never. never } };
+    ghost alone = { λ k s log honest kept.
+        record {
+          holds = (kept.2, kept.3);
+          only = λ t more h. (h.0 ∙ sym kept.2, h.1 ∙ sym kept.3);
+          whole = λ never. never;
+        } };
 
     ghost ranges = { λ k s log kept. kept.1 };
 

@@ -1,4 +1,6 @@
-ghost use Rattle.std.specs.Prelude.{◌≡◌, ◌⊎◌, ◌≢◌, [], List, length, false, IsTrue, OnOk, IfOk};
+//! Opening a store: the tables are made where there is nothing at all, and then looked at.
+
+ghost use Rattle.std.specs.Prelude.{◌≡◌, ◌⊎◌, ◌≢◌, [], List, length, false, IfOk};
 ghost use Rattle.sqlite.specs.State.{HasCleanDisk};
 ghost use Rattle.sqlite.specs.Tree.{Trees};
 ghost use Rattle.sqlite.specs.Held.{state};
@@ -9,24 +11,23 @@ ghost use Rattle.store.specs.declared.home.Home.{Home as Place};
 ghost use Rattle.store.specs.Layout.{no_schema};
 ghost use Rattle.store.specs.Holding.{Holds};
 ghost use Rattle.store.specs.Ranges.{IsHome, IsFit};
-ghost use Rattle.store.specs.Kept.{Keeps, HasDesk};
-ghost use Rattle.store.specs.Whole.{IsSound, IsWhole};
-ghost use Rattle.store.specs.Opening.{refusal_of};
+ghost use Rattle.store.specs.Kept.{Keeps, HasDesk, Spares};
+ghost use Rattle.store.specs.Whole.{IsSound};
+ghost use Rattle.store.specs.Opening.{refusal_of, Remains};
 
 use crate::faults::OpenFault;
 use crate::home::Home;
-use crate::layout::is_bare_schema;
 use crate::loading::{ReadFault, read_all};
-use crate::probe::{is_harmless, run_nothing};
-use crate::statements::{number, small};
+use crate::schema::{is_bare_schema, make_tables};
+use crate::still_open::{is_harmless, run_nothing};
 use sqlite::{Alter, Connection, Error, ErrorCode};
 use std::alloc::Global;
 
 /// What a refusal of `sqlite` to open a file means for a desk's store.
 ///
-/// Want of memory is NoMemory. A device that fails or is full, a file that cannot be opened and one that
-/// somebody else has open are Device. Any other refusal says that the file is no database, or a damaged
-/// one.
+/// Want of memory is NoMemory. A device that fails or is full, a file that cannot be opened and one
+/// that somebody else has open are Device. Any other refusal says that the file is no database, or
+/// a damaged one.
 pub fn open_fault(error: Error) -> OpenFault
     ensures { result ≡ refusal_of error }
 {
@@ -42,35 +43,11 @@ pub fn open_fault(error: Error) -> OpenFault
     }
 }
 
-/// Makes both tables and the first row. A stop inside leaves both or none.
-fn make_tables<S: Alter>(conn: &mut Connection<S>, home: Home) -> Result<(), Error>
-    requires { conn.old.in_transaction ≡ false }
-    ensures clean { HasCleanDisk (state S.Store conn.new) → HasCleanDisk (state S.Store conn.old) }
-    ensures made { HasCleanDisk (state S.Store conn.new) → (state S.Store conn.old).now.schema ≡ no_schema → OnOk result (Keeps home first_stored [] (state S.Store conn.new)) }
-    ensures crash { HasCleanDisk (state S.Store conn.new) → (state S.Store conn.old).now.schema ≡ no_schema → (db : Trees) → (state S.Store conn.new).may_leave db → (state S.Store conn.old).may_leave db ⊎ Holds home db first_stored [] }
-{
-    let mut tx = conn.transaction();
-    tx.execute(
-        "CREATE TABLE desk (k INTEGER PRIMARY KEY, hall INTEGER NOT NULL, number INTEGER NOT NULL, desks INTEGER NOT NULL, promised_round INTEGER NOT NULL, promised_desk INTEGER NOT NULL, tried INTEGER NOT NULL, vote_pos INTEGER, vote_round INTEGER, vote_desk INTEGER, vote_id INTEGER, vote_body BLOB) STRICT",
-        &[],
-    )?;
-    tx.execute(
-        "CREATE TABLE entries (pos INTEGER PRIMARY KEY, id INTEGER NOT NULL, body BLOB NOT NULL) STRICT",
-        &[],
-    )?;
-    tx.execute(
-        "INSERT INTO desk (k, hall, number, desks, promised_round, promised_desk, tried) VALUES (1, ?1, ?2, ?3, 0, 0, 0)",
-        &[number(home.hall), small(home.desk), small(home.desks)],
-    )?;
-    tx.commit()
-}
-
 fn fault_of<S: Alter>(conn: &mut Connection<S>, error: Error) -> OpenFault
     ensures clean { HasCleanDisk (state S.Store conn.new) → HasCleanDisk (state S.Store conn.old) }
     ensures fault { (result ≡ OpenFault.NoMemory) ⊎ (result ≡ OpenFault.Device) }
-    ensures was_open { HasCleanDisk (state S.Store conn.new) → IsTrue (state S.Store conn.new).is_open → IsTrue (state S.Store conn.old).is_open }
-    ensures kept { HasCleanDisk (state S.Store conn.new) → IsTrue (state S.Store conn.new).is_open → (away : Place) (s : State) (log : List EntryValue) → Keeps away s log (state S.Store conn.old) → Keeps away s log (state S.Store conn.new) }
-    ensures crash { HasCleanDisk (state S.Store conn.new) → (db : Trees) → (state S.Store conn.new).may_leave db → (state S.Store conn.old).may_leave db }
+    ensures spares { HasCleanDisk (state S.Store conn.new)
+        → Spares (state S.Store conn.old) (state S.Store conn.new) }
 {
     if is_harmless(conn, error) {
         OpenFault::NoMemory
@@ -82,14 +59,25 @@ fn fault_of<S: Alter>(conn: &mut Connection<S>, error: Error) -> OpenFault
 /// What the two tables have, where they are there: the log's length.
 fn examine<S: Alter>(conn: &mut Connection<S>, alloc: Global, home: Home) -> Result<u32, OpenFault>
     ensures clean { HasCleanDisk (state S.Store conn.new) → HasCleanDisk (state S.Store conn.old) }
-    ensures found { HasCleanDisk (state S.Store conn.new) → IfOk result (λ len. (s : State) × (log : List EntryValue) × (len ≡ length log) × IsFit home.desks s log × IsSound home s log × Keeps home s log (state S.Store conn.new)) }
-    ensures before { HasCleanDisk (state S.Store conn.new) → IfOk result (λ _. (s : State) × (log : List EntryValue) × Keeps home s log (state S.Store conn.old)) }
-    ensures kept { HasCleanDisk (state S.Store conn.new) → IsTrue (state S.Store conn.new).is_open → (away : Place) (s : State) (log : List EntryValue) → Keeps away s log (state S.Store conn.old) → Keeps away s log (state S.Store conn.new) }
-    ensures crash { HasCleanDisk (state S.Store conn.new) → (db : Trees) → (state S.Store conn.new).may_leave db → (state S.Store conn.old).may_leave db }
-    ensures same { HasCleanDisk (state S.Store conn.new) → (s : State) (log : List EntryValue) → Keeps home s log (state S.Store conn.old) → IfOk result (λ len. (len ≡ length log) × IsFit home.desks s log × Keeps home s log (state S.Store conn.new)) }
-    ensures damaged { result ≡ Err OpenFault.Damaged → HasCleanDisk (state S.Store conn.new) → (away : Place) (s : State) (log : List EntryValue) → IsSound away s log → ¬ Keeps away s log (state S.Store conn.old) }
-    ensures own { result ≡ Err OpenFault.Damaged → HasCleanDisk (state S.Store conn.new) → (away : Place) (s : State) → IsWhole away s → HasDesk away s (state S.Store conn.old) → away ≡ home }
-    ensures wrong { result ≡ Err OpenFault.WrongDesk → HasCleanDisk (state S.Store conn.new) → (away : Place) × (s : State) × HasDesk away s (state S.Store conn.old) × (away ≢ home) }
+    ensures found { HasCleanDisk (state S.Store conn.new)
+        → IfOk result (λ len. (s : State) × (log : List EntryValue) × (len ≡ length log)
+        × IsFit home.desks s log × IsSound home s log × Keeps home s log (state S.Store conn.new)) }
+    ensures before { HasCleanDisk (state S.Store conn.new)
+        → IfOk result (λ _. (s : State) × (log : List EntryValue)
+        × Keeps home s log (state S.Store conn.old)) }
+    ensures same { HasCleanDisk (state S.Store conn.new) → (s : State) (log : List EntryValue)
+        → Keeps home s log (state S.Store conn.old) → IfOk result
+        (λ len. (len ≡ length log) × IsFit home.desks s log
+        × Keeps home s log (state S.Store conn.new)) }
+    ensures spares { HasCleanDisk (state S.Store conn.new)
+        → Spares (state S.Store conn.old) (state S.Store conn.new) }
+    ensures damaged { result ≡ Err OpenFault.Damaged → HasCleanDisk (state S.Store conn.new)
+        → (away : Place) (s : State) (log : List EntryValue) → IsSound away s log
+        → ¬ Keeps away s log (state S.Store conn.old) }
+    ensures own { result ≡ Err OpenFault.Damaged → HasCleanDisk (state S.Store conn.new)
+        → (away : Place) (s : State) → HasDesk away s (state S.Store conn.old) → away ≡ home }
+    ensures wrong { result ≡ Err OpenFault.WrongDesk → HasCleanDisk (state S.Store conn.new)
+        → (away : Place) × (s : State) × HasDesk away s (state S.Store conn.old) × (away ≢ home) }
 {
     match read_all(conn, alloc, home) {
         Ok((_, log)) => Ok(log.len()),
@@ -107,11 +95,22 @@ fn make_store<S: Alter>(
 ) -> Result<u32, OpenFault>
     requires { conn.old.in_transaction ≡ false }
     ensures clean { HasCleanDisk (state S.Store conn.new) → HasCleanDisk (state S.Store conn.old) }
-    ensures made { HasCleanDisk (state S.Store conn.new) → (state S.Store conn.old).now.schema ≡ no_schema → IfOk result (λ len. (len ≡ 0) × IsFit home.desks first_stored [] × Keeps home first_stored [] (state S.Store conn.new)) }
-    ensures found { HasCleanDisk (state S.Store conn.new) → IfOk result (λ len. (s : State) × (log : List EntryValue) × (len ≡ length log) × IsFit home.desks s log × IsSound home s log × Keeps home s log (state S.Store conn.new)) }
-    ensures fresh { result ≡ Err OpenFault.Damaged → HasCleanDisk (state S.Store conn.new) → IsHome home → (state S.Store conn.old).now.schema ≢ no_schema }
-    ensures ours { result ≡ Err OpenFault.WrongDesk → HasCleanDisk (state S.Store conn.new) → (state S.Store conn.old).now.schema ≢ no_schema }
-    ensures crash { HasCleanDisk (state S.Store conn.new) → (state S.Store conn.old).now.schema ≡ no_schema → (db : Trees) → (state S.Store conn.new).may_leave db → (state S.Store conn.old).may_leave db ⊎ Holds home db first_stored [] }
+    ensures made { HasCleanDisk (state S.Store conn.new)
+        → (state S.Store conn.old).now.schema ≡ no_schema → IfOk result
+        (λ len. (len ≡ 0) × IsFit home.desks first_stored []
+        × Keeps home first_stored [] (state S.Store conn.new)) }
+    ensures found { HasCleanDisk (state S.Store conn.new)
+        → IfOk result (λ len. (s : State) × (log : List EntryValue) × (len ≡ length log)
+        × IsFit home.desks s log × IsSound home s log × Keeps home s log (state S.Store conn.new)) }
+    ensures fresh { result ≡ Err OpenFault.Damaged → HasCleanDisk (state S.Store conn.new)
+        → IsHome home
+        → (state S.Store conn.old).now.schema ≢ no_schema }
+    ensures ours { result ≡ Err OpenFault.WrongDesk → HasCleanDisk (state S.Store conn.new)
+        → (state S.Store conn.old).now.schema ≢ no_schema }
+    ensures crash { HasCleanDisk (state S.Store conn.new)
+        → (state S.Store conn.old).now.schema ≡ no_schema
+        → (db : Trees) → (state S.Store conn.new).may_leave db
+        → (state S.Store conn.old).may_leave db ⊎ Holds home db first_stored [] }
 {
     match make_tables(conn, home) {
         Ok(()) => examine(conn, alloc, home),
@@ -120,22 +119,40 @@ fn make_store<S: Alter>(
 }
 
 /// Makes the tables where there is nothing at all, and gives the log's length.
-pub fn prepare<S: Alter>(
+pub(crate) fn prepare<S: Alter>(
     conn: &mut Connection<S>,
     alloc: Global,
     home: Home,
 ) -> Result<u32, OpenFault>
     ensures clean { HasCleanDisk (state S.Store conn.new) → HasCleanDisk (state S.Store conn.old) }
-    ensures found { HasCleanDisk (state S.Store conn.new) → IfOk result (λ len. (s : State) × (log : List EntryValue) × (len ≡ length log) × IsFit home.desks s log × IsSound home s log × Keeps home s log (state S.Store conn.new)) }
-    ensures before { HasCleanDisk (state S.Store conn.new) → IfOk result (λ _. ((state S.Store conn.old).now.schema ≡ no_schema) ⊎ ((s : State) × (log : List EntryValue) × Keeps home s log (state S.Store conn.old))) }
-    ensures made { HasCleanDisk (state S.Store conn.new) → (state S.Store conn.old).now.schema ≡ no_schema → (state S.Store conn.old).in_transaction ≡ false → IfOk result (λ len. (len ≡ 0) × IsFit home.desks first_stored [] × Keeps home first_stored [] (state S.Store conn.new)) }
-    ensures same { HasCleanDisk (state S.Store conn.new) → (s : State) (log : List EntryValue) → Keeps home s log (state S.Store conn.old) → IfOk result (λ len. (len ≡ length log) × IsFit home.desks s log × Keeps home s log (state S.Store conn.new)) }
-    ensures kept { HasCleanDisk (state S.Store conn.new) → IsTrue (state S.Store conn.new).is_open → (away : Place) (s : State) (log : List EntryValue) → Keeps away s log (state S.Store conn.old) → Keeps away s log (state S.Store conn.new) }
-    ensures damaged { result ≡ Err OpenFault.Damaged → HasCleanDisk (state S.Store conn.new) → (away : Place) (s : State) (log : List EntryValue) → IsSound away s log → ¬ Keeps away s log (state S.Store conn.old) }
-    ensures fresh { result ≡ Err OpenFault.Damaged → HasCleanDisk (state S.Store conn.new) → IsHome home → (state S.Store conn.old).in_transaction ≡ false → (state S.Store conn.old).now.schema ≢ no_schema }
-    ensures own { result ≡ Err OpenFault.Damaged → HasCleanDisk (state S.Store conn.new) → (away : Place) (s : State) → IsWhole away s → HasDesk away s (state S.Store conn.old) → away ≡ home }
-    ensures wrong { result ≡ Err OpenFault.WrongDesk → HasCleanDisk (state S.Store conn.new) → (away : Place) × (s : State) × HasDesk away s (state S.Store conn.old) × (away ≢ home) }
-    ensures crash { HasCleanDisk (state S.Store conn.new) → (db : Trees) → (state S.Store conn.new).may_leave db → (state S.Store conn.old).may_leave db ⊎ (((state S.Store conn.old).now.schema ≡ no_schema) × Holds home db first_stored []) }
+    ensures found { HasCleanDisk (state S.Store conn.new)
+        → IfOk result (λ len. (s : State) × (log : List EntryValue) × (len ≡ length log)
+        × IsFit home.desks s log × IsSound home s log × Keeps home s log (state S.Store conn.new)) }
+    ensures before { HasCleanDisk (state S.Store conn.new)
+        → IfOk result (λ _. ((state S.Store conn.old).now.schema ≡ no_schema)
+        ⊎ ((s : State) × (log : List EntryValue) × Keeps home s log (state S.Store conn.old))) }
+    ensures made { HasCleanDisk (state S.Store conn.new)
+        → (state S.Store conn.old).now.schema ≡ no_schema
+        → (state S.Store conn.old).in_transaction ≡ false → IfOk result
+        (λ len. (len ≡ 0) × IsFit home.desks first_stored []
+        × Keeps home first_stored [] (state S.Store conn.new)) }
+    ensures same { HasCleanDisk (state S.Store conn.new) → (s : State) (log : List EntryValue)
+        → Keeps home s log (state S.Store conn.old) → IfOk result
+        (λ len. (len ≡ length log) × IsFit home.desks s log
+        × Keeps home s log (state S.Store conn.new)) }
+    ensures damaged { result ≡ Err OpenFault.Damaged → HasCleanDisk (state S.Store conn.new)
+        → (away : Place) (s : State) (log : List EntryValue) → IsSound away s log
+        → ¬ Keeps away s log (state S.Store conn.old) }
+    ensures own { result ≡ Err OpenFault.Damaged → HasCleanDisk (state S.Store conn.new)
+        → (away : Place) (s : State) → HasDesk away s (state S.Store conn.old) → away ≡ home }
+    ensures wrong { result ≡ Err OpenFault.WrongDesk → HasCleanDisk (state S.Store conn.new)
+        → (away : Place) × (s : State) × HasDesk away s (state S.Store conn.old) × (away ≢ home) }
+    ensures fresh { result ≡ Err OpenFault.Damaged → HasCleanDisk (state S.Store conn.new)
+        → IsHome home
+        → (state S.Store conn.old).in_transaction ≡ false
+        → (state S.Store conn.old).now.schema ≢ no_schema }
+    ensures remains { HasCleanDisk (state S.Store conn.new)
+        → Remains home (state S.Store conn.old) (state S.Store conn.new) }
 {
     if let Err(error) = run_nothing(conn) {
         return Err(fault_of(conn, error));

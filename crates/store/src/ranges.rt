@@ -1,17 +1,11 @@
+//! Whether a state is in its ranges.
+
 ghost use Rattle.std.specs.Prelude.{◌↔◌, IsTrue};
-ghost use Rattle.store.specs.Ranges.{IsHome, StoredIsFit, VoteIsFit};
+ghost use Rattle.store.specs.Ranges.{StoredIsFit, VoteIsFit};
 ghost use Rattle.learner.specs.Ranges.{IsReal};
 
-use crate::home::Home;
 use acceptor::ballot::Ballot;
 use acceptor::stored::{Stored, Vote};
-
-/// Whether the hall has 3 or 5 desks, and this is one of them.
-pub fn is_home(home: Home) -> bool
-    ensures { IsTrue result ↔ IsHome home }
-{
-    (home.desks == 3 || home.desks == 5) && home.desk >= 1 && home.desk <= home.desks
-}
 
 fn is_real(desks: u8, ballot: Ballot) -> bool
     ensures { IsTrue result ↔ IsReal desks ballot }

@@ -1,26 +1,30 @@
-ghost use Rattle.std.specs.Prelude.{◌≡◌, ℕ, List, map, IsPermutation, IsSorted, IsTrue, IfOk, OnOk, OnErr};
+//! The two queries that read a store.
+
+ghost use Rattle.std.specs.Prelude.{map, IsPermutation, IsSorted, IfOk, OnOk};
 ghost use Rattle.sqlite.specs.State.{HasCleanDisk, IsUnchanged};
-ghost use Rattle.sqlite.specs.Tree.{Trees};
 ghost use Rattle.sqlite.specs.Held.{state};
-ghost use Rattle.acceptor.specs.Entries.{EntryValue};
-ghost use Rattle.acceptor.specs.declared.stored.Stored.{Stored};
-ghost use Rattle.store.specs.declared.home.Home.{Home};
 ghost use Rattle.store.specs.Layout.{IsOurs};
 ghost use Rattle.store.specs.Holding.{shown_desk, shown_entry, by_first};
-ghost use Rattle.store.specs.Kept.{Keeps};
+ghost use Rattle.store.specs.Kept.{Spares};
 
 use sqlite::{Alter, Connection, Error, Row};
 
 /// The rows of `desk`, in some order.
 pub fn desk_rows<S: Alter>(conn: &mut Connection<S>) -> Result<Vec<Row>, Error>
     ensures clean { HasCleanDisk (state S.Store conn.new) → HasCleanDisk (state S.Store conn.old) }
-    ensures rows { HasCleanDisk (state S.Store conn.new) → IsOurs (state S.Store conn.old).now.schema → IfOk result (λ rows. IsPermutation (map shown_desk ((state S.Store conn.old).now.trees 0)) rows.items) }
-    ensures same { HasCleanDisk (state S.Store conn.new) → IsOurs (state S.Store conn.old).now.schema → OnOk result (IsUnchanged (state S.Store conn.old) (state S.Store conn.new)) }
-    ensures err { HasCleanDisk (state S.Store conn.new) → OnErr result (IsTrue (state S.Store conn.new).is_open → (home : Home) (s : Stored) (log : List EntryValue) → Keeps home s log (state S.Store conn.old) → Keeps home s log (state S.Store conn.new)) }
-    ensures crash { HasCleanDisk (state S.Store conn.new) → IsOurs (state S.Store conn.old).now.schema → (db : Trees) → (state S.Store conn.new).may_leave db → (state S.Store conn.old).may_leave db }
+    ensures rows { HasCleanDisk (state S.Store conn.new)
+        → IsOurs (state S.Store conn.old).now.schema → IfOk result (λ rows.
+        IsPermutation (map shown_desk ((state S.Store conn.old).now.trees 0)) rows.items) }
+    ensures same { HasCleanDisk (state S.Store conn.new)
+        → IsOurs (state S.Store conn.old).now.schema → OnOk result
+        (IsUnchanged (state S.Store conn.old) (state S.Store conn.new)) }
+    ensures spares { HasCleanDisk (state S.Store conn.new)
+        → IsOurs (state S.Store conn.old).now.schema → Spares
+        (state S.Store conn.old) (state S.Store conn.new) }
 {
     conn.query_all(
-        "SELECT k, hall, number, desks, promised_round, promised_desk, tried, vote_pos, vote_round, vote_desk, vote_id, vote_body FROM desk",
+        "SELECT k, hall, number, desks, promised_round, promised_desk, tried, vote_pos, \
+         vote_round, vote_desk, vote_id, vote_body FROM desk",
         &[],
     )
 }
@@ -28,11 +32,18 @@ pub fn desk_rows<S: Alter>(conn: &mut Connection<S>) -> Result<Vec<Row>, Error>
 /// The rows of `entries`, in order of their positions.
 pub fn log_rows<S: Alter>(conn: &mut Connection<S>) -> Result<Vec<Row>, Error>
     ensures clean { HasCleanDisk (state S.Store conn.new) → HasCleanDisk (state S.Store conn.old) }
-    ensures rows { HasCleanDisk (state S.Store conn.new) → IsOurs (state S.Store conn.old).now.schema → IfOk result (λ rows. IsPermutation (map shown_entry ((state S.Store conn.old).now.trees 1)) rows.items) }
-    ensures sorted { HasCleanDisk (state S.Store conn.new) → IsOurs (state S.Store conn.old).now.schema → IfOk result (λ rows. IsSorted by_first rows.items) }
-    ensures same { HasCleanDisk (state S.Store conn.new) → IsOurs (state S.Store conn.old).now.schema → OnOk result (IsUnchanged (state S.Store conn.old) (state S.Store conn.new)) }
-    ensures err { HasCleanDisk (state S.Store conn.new) → OnErr result (IsTrue (state S.Store conn.new).is_open → (home : Home) (s : Stored) (log : List EntryValue) → Keeps home s log (state S.Store conn.old) → Keeps home s log (state S.Store conn.new)) }
-    ensures crash { HasCleanDisk (state S.Store conn.new) → IsOurs (state S.Store conn.old).now.schema → (db : Trees) → (state S.Store conn.new).may_leave db → (state S.Store conn.old).may_leave db }
+    ensures rows { HasCleanDisk (state S.Store conn.new)
+        → IsOurs (state S.Store conn.old).now.schema → IfOk result (λ rows.
+        IsPermutation (map shown_entry ((state S.Store conn.old).now.trees 1)) rows.items) }
+    ensures sorted { HasCleanDisk (state S.Store conn.new)
+        → IsOurs (state S.Store conn.old).now.schema → IfOk result
+        (λ rows. IsSorted by_first rows.items) }
+    ensures same { HasCleanDisk (state S.Store conn.new)
+        → IsOurs (state S.Store conn.old).now.schema → OnOk result
+        (IsUnchanged (state S.Store conn.old) (state S.Store conn.new)) }
+    ensures spares { HasCleanDisk (state S.Store conn.new)
+        → IsOurs (state S.Store conn.old).now.schema → Spares
+        (state S.Store conn.old) (state S.Store conn.new) }
 {
     conn.query_all("SELECT pos, id, body FROM entries ORDER BY pos", &[])
 }

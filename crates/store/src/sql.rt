@@ -1,3 +1,5 @@
+//! The keeper over two tables of a database.
+
 ghost use Rattle.std.specs.Prelude.{◌≡◌, ◌≢◌, ◌==◌, ◌||◌, ◌⊎◌, ◌^◌, ◌-◌, ◌<◌, ◌≤◌, false, true, [], ℕ, List, Some, Result, Err, IsTrue, IfOk, IfErr, OnOk, length};
 ghost use Rattle.sqlite.specs.State.{HasCleanDisk};
 ghost use Rattle.sqlite.specs.Tree.{Trees};
@@ -7,22 +9,22 @@ ghost use Rattle.acceptor.specs.Storing.{stored_after, log_after, first_stored};
 ghost use Rattle.acceptor.specs.declared.stored.Stored.{Stored as State};
 ghost use Rattle.store.specs.declared.home.Home.{Home as Place};
 ghost use Rattle.store.specs.declared.faults.LoadFault.{LoadFault as Unloaded};
-ghost use Rattle.store.specs.Ranges.{IsHome, IsFit, is_housed};
-ghost use Rattle.store.specs.Whole.{IsSound, IsWhole};
+ghost use Rattle.store.specs.Ranges.{IsHome, IsFit, is_housed, home_at};
+ghost use Rattle.store.specs.Whole.{IsSound};
 ghost use Rattle.store.specs.Layout.{no_schema};
 ghost use Rattle.store.specs.Holding.{Holds};
 ghost use Rattle.store.specs.Keeping.{most_failures, CountsOne};
-ghost use Rattle.store.specs.Unique.{alone};
-ghost use Rattle.store.specs.Kept.{Keeps, Saved, MayLeave, MayBreak, HasDesk};
-ghost use Rattle.store.specs.Refusing.{Refuses};
+ghost use Rattle.store.specs.model.Unique.{alone};
+ghost use Rattle.store.specs.Kept.{Keeps, Saved, MayLeave, MayBreak};
+ghost use Rattle.store.specs.Opening.{Opens, Refuses};
 
 use crate::faults::{LoadFault, OpenFault, SaveFault};
 use crate::home::Home;
 use crate::keeper::Keeper;
 use crate::loading::{ReadFault, read_all};
 use crate::opening::prepare;
-use crate::probe::is_harmless;
 use crate::statements::{append, promise, try_round, vote};
+use crate::still_open::is_harmless;
 use acceptor::stored::{Change, Stored};
 use learner::log::Log;
 use sqlite::{Alter, Connection, Error};
@@ -54,8 +56,11 @@ impl<S: Alter + Drop> Drop for SqlKeeper<S> {
 /// One statement, which makes the change.
 fn make<S: Alter>(conn: &mut Connection<S>, len: u32, change: &Change) -> Result<usize, Error>
     ensures clean { HasCleanDisk (state S.Store conn.new) → HasCleanDisk (state S.Store conn.old) }
-    ensures saves { HasCleanDisk (state S.Store conn.new) → (home : Place) (s : State) (log : List EntryValue) → Keeps home s log (state S.Store conn.old) → len ≡ length log
-        → Saved home s (stored_after s (Some change.now)) log (log_after log (Some change.now)) (state S.Store conn.new) result }
+    ensures saves { HasCleanDisk (state S.Store conn.new)
+        → (home : Place) (s : State) (log : List EntryValue)
+        → Keeps home s log (state S.Store conn.old) → len ≡ length log
+        → Saved home s (stored_after s (Some change.now)) log (log_after log (Some change.now))
+        (state S.Store conn.new) result }
 {
     match change {
         Change::Promised(ballot) => promise(conn, *ballot),
@@ -66,7 +71,9 @@ fn make<S: Alter>(conn: &mut Connection<S>, len: u32, change: &Change) -> Result
 }
 
 fn length_after(len: u32, change: &Change) -> u32
-    ensures { (log : List EntryValue) → len ≡ length log → length (log_after log (Some change.now)) ≤ 65536 → result ≡ length (log_after log (Some change.now)) }
+    ensures { (log : List EntryValue) → len ≡ length log
+        → length (log_after log (Some change.now)) ≤ 65536
+        → result ≡ length (log_after log (Some change.now)) }
 {
     match change {
         Change::Appended(_) => len.saturating_add(1),
@@ -84,7 +91,9 @@ impl<S: Alter> Keeper for SqlKeeper<S> {
 
     ghost may_break = { λ k. MayBreak (state S.Store k.conn) k.home };
 
-    ghost keeps = { λ k s log. ((k.down || (k.failures == most_failures)) ≡ false) × (k.len ≡ length log) × IsFit k.home.desks s log × Keeps k.home s log (state S.Store k.conn) };
+    ghost keeps = { λ k s log. ((k.down || (k.failures == most_failures)) ≡ false)
+        × (k.len ≡ length log) × IsFit k.home.desks s log
+        × Keeps k.home s log (state S.Store k.conn) };
 
     ghost is_down = { λ k. k.down || (k.failures == most_failures) };
 
@@ -93,13 +102,17 @@ impl<S: Alter> Keeper for SqlKeeper<S> {
     ghost home_of = { λ k. k.home };
 
     /// Device counts exactly one failure.
-    ghost save_gives = { λ k _ r after. r ≡ Err saving.Device → CountsOne k.failures after.failures };
+    ghost save_gives = { λ k _ r after. r ≡ Err saving.Device
+        → CountsOne k.failures after.failures };
 
-    /// Once it is down, a load counts a failure and is Device, as long as the count is not at its end.
-    /// Below that end it is Damaged only where the tables hold no state of this desk that is in its ranges.
-    /// Device counts exactly one failure.
-    ghost load_gives = { λ k r after. (IsTrue k.down → ((k.failures ≡ most_failures) ⊎ (r ≡ Err Device)))
-        × (r ≡ Err Damaged → k.failures ≢ most_failures → HasCleanDisk (state S.Store after.conn) → (s : State) (log : List EntryValue) → IsSound k.home s log → ¬ Keeps k.home s log (state S.Store k.conn))
+    /// Once it is down, a load counts a failure and is Device, as long as the count is not at its
+    /// end. Below that end it is Damaged only where the tables hold no state of this desk that is
+    /// in its ranges. Device counts exactly one failure.
+    ghost load_gives = { λ k r after.
+        (IsTrue k.down → ((k.failures ≡ most_failures) ⊎ (r ≡ Err Device)))
+        × (r ≡ Err Damaged → k.failures ≢ most_failures → HasCleanDisk (state S.Store after.conn)
+        → (s : State) (log : List EntryValue) → IsSound k.home s log
+        → ¬ Keeps k.home s log (state S.Store k.conn))
         × (r ≡ Err Device → CountsOne k.failures after.failures) };
 
     #[tactic(auto, using(crate::proofs::Homes::to_home))]
@@ -157,7 +170,9 @@ impl<S: Alter> Keeper for SqlKeeper<S> {
         }
     }
 
-    ghost alone = { λ k s log honest kept. alone (state (S.Store.own) k.conn) k.home s log ((S.Store).settled k.conn.store) ((S.Store).stays k.conn.store) kept.3 };
+    ghost alone = { λ k s log honest kept.
+        alone (state (S.Store.own) k.conn) k.home s log ((S.Store).settled k.conn.store)
+        ((S.Store).stays k.conn.store) kept.3 };
 
     ghost ranges = { λ k s log kept. kept.2 };
 
@@ -165,17 +180,19 @@ impl<S: Alter> Keeper for SqlKeeper<S> {
 }
 
 impl<S: Alter + Drop> SqlKeeper<S> {
-    /// Opens the store of this desk, of a hall of 3 or 5 desks, over a connection between transactions.
+    /// Opens the store of this desk, of a hall of 3 or 5 desks, over a connection between
+    /// transactions.
     ///
-    /// Where the database has nothing at all, both tables are made with the first row, in one transaction.
-    /// Damaged: one of the tables is missing or is not as it has to be, another table was made before
-    /// them, or the row is not whole and in its ranges. WrongDesk: the row is of another hall, desk or
-    /// number of desks. Damaged: the positions of the log are not 0 and on, or an entry is out of its
-    /// ranges. Device and NoMemory come where they happen. A refusal drops the connection.
+    /// Where the database has nothing at all, both tables are made with the first row, in one
+    /// transaction. Damaged: one of the tables is missing or is not as it has to be, another table
+    /// was made before them, or the row is not whole and in its ranges. WrongDesk: the row is of
+    /// another hall, desk or number of desks. Damaged: the positions of the log are not 0 and on,
+    /// or an entry is out of its ranges. Device and NoMemory come where they happen. A refusal
+    /// drops the connection.
     ///
-    /// So it is Ok only over nothing at all, where the first state is kept, and over a state of this desk
-    /// with all of it in its ranges, where that one is kept. After a refusal a stop leaves what was there
-    /// or, over nothing at all, both tables with the first row.
+    /// So it is Ok only over nothing at all, where the first state is kept, and over a state of
+    /// this desk with all of it in its ranges, where that one is kept. After a refusal a stop
+    /// leaves what was there or, over nothing at all, both tables with the first row.
     pub fn open(
         alloc: Global,
         conn: Connection<S>,
@@ -184,14 +201,16 @@ impl<S: Alter + Drop> SqlKeeper<S> {
         desks: u8,
     ) -> Result<SqlKeeper<S>, OpenFault>
         requires autocommit { conn.in_transaction ≡ false }
-        requires in_range { IsHome (record { hall = hall; desk = desk; desks = desks }) }
-        ensures home { IfOk result (λ k. ⟦<SqlKeeper<S> as Keeper>⟧.home_of k ≡ record { hall = hall; desk = desk; desks = desks }) }
+        requires in_range { IsHome (home_at hall desk desks) }
+        ensures home { IfOk result
+            (λ k. ⟦<SqlKeeper<S> as Keeper>⟧.home_of k ≡ home_at hall desk desks) }
         ensures failures { IfOk result (λ k. ⟦<SqlKeeper<S> as Keeper>⟧.failures_of k ≡ 0) }
-        ensures kept { IfOk result (λ k. ⟦<SqlKeeper<S> as Keeper>⟧.is_honest k → (s : State) × (log : List EntryValue) × IsSound (record { hall = hall; desk = desk; desks = desks }) s log × ⟦<SqlKeeper<S> as Keeper>⟧.keeps k s log) }
-        ensures found { IfOk result (λ k. ⟦<SqlKeeper<S> as Keeper>⟧.is_honest k → ((state S.Store conn).now.schema ≡ no_schema) ⊎ ((s : State) × (log : List EntryValue) × Keeps (record { hall = hall; desk = desk; desks = desks }) s log (state S.Store conn))) }
-        ensures made { (state S.Store conn).now.schema ≡ no_schema → IfOk result (λ k. ⟦<SqlKeeper<S> as Keeper>⟧.is_honest k → ⟦<SqlKeeper<S> as Keeper>⟧.keeps k first_stored []) }
-        ensures same { (s : State) (log : List EntryValue) → Keeps (record { hall = hall; desk = desk; desks = desks }) s log (state S.Store conn) → IfOk result (λ k. ⟦<SqlKeeper<S> as Keeper>⟧.is_honest k → ⟦<SqlKeeper<S> as Keeper>⟧.keeps k s log) }
-        ensures refused { IfErr result (λ fault. (dropped : _) × Refuses S.Store (record { hall = hall; desk = desk; desks = desks }) conn dropped fault) }
+        ensures opened { IfOk result (λ k. ⟦<SqlKeeper<S> as Keeper>⟧.is_honest k
+            → Opens (home_at hall desk desks) (state S.Store conn)
+            (⟦<SqlKeeper<S> as Keeper>⟧.keeps k)) }
+        ensures told { IfErr result (λ fault. (dropped : _) × (HasCleanDisk (state S.Store dropped)
+            → Refuses (home_at hall desk desks) (state S.Store conn) (state S.Store dropped)
+            fault)) }
     {
         match SqlKeeper::open_or_give_back(alloc, conn, hall, desk, desks) {
             Ok(keeper) => Ok(keeper),
@@ -199,7 +218,8 @@ impl<S: Alter + Drop> SqlKeeper<S> {
         }
     }
 
-    /// As `open`, but a refusal gives the connection back. Where that is still open, it keeps what it kept.
+    /// As `open`, but a refusal gives the connection back. Where that is still open, it keeps what
+    /// it kept.
     #[tactic(auto, using(crate::proofs::Homes::from_home))]
     pub fn open_or_give_back(
         alloc: Global,
@@ -209,19 +229,15 @@ impl<S: Alter + Drop> SqlKeeper<S> {
         desks: u8,
     ) -> Result<SqlKeeper<S>, (OpenFault, Connection<S>)>
         requires autocommit { conn.in_transaction ≡ false }
-        requires in_range { IsHome (record { hall = hall; desk = desk; desks = desks }) }
-        ensures home { IfOk result (λ k. ⟦<SqlKeeper<S> as Keeper>⟧.home_of k ≡ record { hall = hall; desk = desk; desks = desks }) }
+        requires in_range { IsHome (home_at hall desk desks) }
+        ensures home { IfOk result
+            (λ k. ⟦<SqlKeeper<S> as Keeper>⟧.home_of k ≡ home_at hall desk desks) }
         ensures failures { IfOk result (λ k. ⟦<SqlKeeper<S> as Keeper>⟧.failures_of k ≡ 0) }
-        ensures kept { IfOk result (λ k. ⟦<SqlKeeper<S> as Keeper>⟧.is_honest k → (s : State) × (log : List EntryValue) × IsSound (record { hall = hall; desk = desk; desks = desks }) s log × ⟦<SqlKeeper<S> as Keeper>⟧.keeps k s log) }
-        ensures found { IfOk result (λ k. ⟦<SqlKeeper<S> as Keeper>⟧.is_honest k → ((state S.Store conn).now.schema ≡ no_schema) ⊎ ((s : State) × (log : List EntryValue) × Keeps (record { hall = hall; desk = desk; desks = desks }) s log (state S.Store conn))) }
-        ensures made { (state S.Store conn).now.schema ≡ no_schema → IfOk result (λ k. ⟦<SqlKeeper<S> as Keeper>⟧.is_honest k → ⟦<SqlKeeper<S> as Keeper>⟧.keeps k first_stored []) }
-        ensures same { (s : State) (log : List EntryValue) → Keeps (record { hall = hall; desk = desk; desks = desks }) s log (state S.Store conn) → IfOk result (λ k. ⟦<SqlKeeper<S> as Keeper>⟧.is_honest k → ⟦<SqlKeeper<S> as Keeper>⟧.keeps k s log) }
-        ensures damaged { IfErr result (λ e. e.0 ≡ OpenFault.Damaged → HasCleanDisk (state S.Store e.1) → (away : Place) (s : State) (log : List EntryValue) → IsSound away s log → ¬ Keeps away s log (state S.Store conn)) }
-        ensures fresh { IfErr result (λ e. e.0 ≡ OpenFault.Damaged → HasCleanDisk (state S.Store e.1) → (state S.Store conn).now.schema ≢ no_schema) }
-        ensures own { IfErr result (λ e. e.0 ≡ OpenFault.Damaged → HasCleanDisk (state S.Store e.1) → (away : Place) (s : State) → IsWhole away s → HasDesk away s (state S.Store conn) → away ≡ record { hall = hall; desk = desk; desks = desks }) }
-        ensures wrong { IfErr result (λ e. e.0 ≡ OpenFault.WrongDesk → HasCleanDisk (state S.Store e.1) → (away : Place) × (s : State) × HasDesk away s (state S.Store conn) × (away ≢ record { hall = hall; desk = desk; desks = desks })) }
-        ensures crash { IfErr result (λ e. HasCleanDisk (state S.Store e.1) → (db : Trees) → (state S.Store e.1).may_leave db → (state S.Store conn).may_leave db ⊎ (((state S.Store conn).now.schema ≡ no_schema) × Holds (record { hall = hall; desk = desk; desks = desks }) db first_stored [])) }
-        ensures unchanged { IfErr result (λ e. HasCleanDisk (state S.Store e.1) → IsTrue (state S.Store e.1).is_open → (away : Place) (s : State) (log : List EntryValue) → Keeps away s log (state S.Store conn) → Keeps away s log (state S.Store e.1)) }
+        ensures opened { IfOk result (λ k. ⟦<SqlKeeper<S> as Keeper>⟧.is_honest k
+            → Opens (home_at hall desk desks) (state S.Store conn)
+            (⟦<SqlKeeper<S> as Keeper>⟧.keeps k)) }
+        ensures told { IfErr result (λ e. HasCleanDisk (state S.Store e.1)
+            → Refuses (home_at hall desk desks) (state S.Store conn) (state S.Store e.1) e.0) }
     {
         let home = Home { hall, desk, desks };
         match prepare(&mut conn, alloc, home) {
@@ -240,9 +256,14 @@ impl<S: Alter + Drop> SqlKeeper<S> {
 impl<S: Alter> SqlKeeper<S> {
     /// The connection, with what the keeper has kept.
     pub fn into_connection(self) -> Connection<S>
-        ensures kept { (s : State) (log : List EntryValue) → ⟦<SqlKeeper<S> as Keeper>⟧.keeps self s log → Keeps (⟦<SqlKeeper<S> as Keeper>⟧.home_of self) s log (state S.Store result) }
-        ensures left { (s : State) (log : List EntryValue) → MayLeave (state S.Store result) (⟦<SqlKeeper<S> as Keeper>⟧.home_of self) s log → ⟦<SqlKeeper<S> as Keeper>⟧.may_hold self s log }
-        ensures whole { MayBreak (state S.Store result) (⟦<SqlKeeper<S> as Keeper>⟧.home_of self) → ⟦<SqlKeeper<S> as Keeper>⟧.may_break self }
+        ensures kept { (s : State) (log : List EntryValue)
+            → ⟦<SqlKeeper<S> as Keeper>⟧.keeps self s log
+            → Keeps (⟦<SqlKeeper<S> as Keeper>⟧.home_of self) s log (state S.Store result) }
+        ensures left { (s : State) (log : List EntryValue)
+            → MayLeave (state S.Store result) (⟦<SqlKeeper<S> as Keeper>⟧.home_of self) s log
+            → ⟦<SqlKeeper<S> as Keeper>⟧.may_hold self s log }
+        ensures whole { MayBreak (state S.Store result) (⟦<SqlKeeper<S> as Keeper>⟧.home_of self)
+            → ⟦<SqlKeeper<S> as Keeper>⟧.may_break self }
     {
         let SqlKeeper {
             conn: connection,

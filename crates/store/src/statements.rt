@@ -1,3 +1,5 @@
+//! The four changes, each one statement of fixed text.
+
 ghost use Rattle.std.specs.Prelude.{◌≡◌, ◌<◌, ◌^◌, ◌++◌, ◌∷◌, [], ℕ, pos, List, length, Some};
 ghost use Rattle.sqlite.specs.State.{HasCleanDisk};
 ghost use Rattle.sqlite.specs.Held.{state};
@@ -36,7 +38,9 @@ fn long(n: u64) -> ValueRef<'static>
 /// The promised ballot.
 pub fn promise<S: Alter>(conn: &mut Connection<S>, ballot: Ballot) -> Result<usize, Error>
     ensures clean { HasCleanDisk (state S.Store conn.new) → HasCleanDisk (state S.Store conn.old) }
-    ensures saves { HasCleanDisk (state S.Store conn.new) → (home : Home) (s : Stored) (log : List EntryValue) → Keeps home s log (state S.Store conn.old)
+    ensures saves { HasCleanDisk (state S.Store conn.new)
+        → (home : Home) (s : Stored) (log : List EntryValue)
+        → Keeps home s log (state S.Store conn.old)
         → Saved home s (record s { promised = ballot }) log log (state S.Store conn.new) result }
 {
     conn.execute(
@@ -48,11 +52,15 @@ pub fn promise<S: Alter>(conn: &mut Connection<S>, ballot: Ballot) -> Result<usi
 /// The vote, and its ballot as the promised one.
 pub fn vote<S: Alter>(conn: &mut Connection<S>, vote: &Vote) -> Result<usize, Error>
     ensures clean { HasCleanDisk (state S.Store conn.new) → HasCleanDisk (state S.Store conn.old) }
-    ensures saves { HasCleanDisk (state S.Store conn.new) → (home : Home) (s : Stored) (log : List EntryValue) → Keeps home s log (state S.Store conn.old)
-        → Saved home s (record s { promised = vote.now.ballot; vote = Some vote.now }) log log (state S.Store conn.new) result }
+    ensures saves { HasCleanDisk (state S.Store conn.new)
+        → (home : Home) (s : Stored) (log : List EntryValue)
+        → Keeps home s log (state S.Store conn.old)
+        → Saved home s (record s { promised = vote.now.ballot; vote = Some vote.now }) log log
+        (state S.Store conn.new) result }
 {
     conn.execute(
-        "UPDATE desk SET promised_round = ?2, promised_desk = ?3, vote_pos = ?1, vote_round = ?2, vote_desk = ?3, vote_id = ?4, vote_body = ?5",
+        "UPDATE desk SET promised_round = ?2, promised_desk = ?3, vote_pos = ?1, vote_round = ?2, \
+         vote_desk = ?3, vote_id = ?4, vote_body = ?5",
         &[
             number(vote.pos),
             number(vote.ballot.round),
@@ -66,7 +74,9 @@ pub fn vote<S: Alter>(conn: &mut Connection<S>, vote: &Vote) -> Result<usize, Er
 /// The round that was tried.
 pub fn try_round<S: Alter>(conn: &mut Connection<S>, round: u32) -> Result<usize, Error>
     ensures clean { HasCleanDisk (state S.Store conn.new) → HasCleanDisk (state S.Store conn.old) }
-    ensures saves { HasCleanDisk (state S.Store conn.new) → (home : Home) (s : Stored) (log : List EntryValue) → Keeps home s log (state S.Store conn.old)
+    ensures saves { HasCleanDisk (state S.Store conn.new)
+        → (home : Home) (s : Stored) (log : List EntryValue)
+        → Keeps home s log (state S.Store conn.old)
         → Saved home s (record s { tried = round }) log log (state S.Store conn.new) result }
 {
     conn.execute("UPDATE desk SET tried = ?1", &[number(round)])
@@ -75,7 +85,9 @@ pub fn try_round<S: Alter>(conn: &mut Connection<S>, round: u32) -> Result<usize
 /// An entry at the end of the log.
 pub fn append<S: Alter>(conn: &mut Connection<S>, at: u32, entry: &Entry) -> Result<usize, Error>
     ensures clean { HasCleanDisk (state S.Store conn.new) → HasCleanDisk (state S.Store conn.old) }
-    ensures saves { HasCleanDisk (state S.Store conn.new) → (home : Home) (s : Stored) (log : List EntryValue) → Keeps home s log (state S.Store conn.old) → at ≡ length log
+    ensures saves { HasCleanDisk (state S.Store conn.new)
+        → (home : Home) (s : Stored) (log : List EntryValue)
+        → Keeps home s log (state S.Store conn.old) → at ≡ length log
         → Saved home s s log (log ++ entry.now ∷ []) (state S.Store conn.new) result }
 {
     conn.execute(

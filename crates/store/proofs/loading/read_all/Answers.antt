@@ -1,7 +1,16 @@
+use Rattle.std.proofs.Common.{sym, subst}
+use Rattle.sqlite.specs.Held.{state}
+use Rattle.sqlite.specs.Effect.{Database}
+use Rattle.store.specs.Layout.{IsOurs}
+use Rattle.store.proofs.Saving.{spares_on}
 use Rattle.store.proofs.loading.read_all.Goals as goal
 
-pub returns-in-Err-read_log-clause-kept : goal.returns-in-Err-read_log-clause-kept
-returns-in-Err-read_log-clause-kept g c clean live home s log k =
+pub returns-in-Err-read_log-clause-spares : goal.returns-in-Err-read_log-clause-spares
+returns-in-Err-read_log-clause-spares g c clean =
     let early = c.read_log.ensures.clean clean in
-    let same = c.in-Ok.ensures.same early in
-    c.in-Err-read_log.ensures.kept clean live home s log (c.in-Ok.ensures.kept early same.0.is_open home s log k)
+    let ours =
+    subst (λ (d : Database). IsOurs d.schema) (sym (c.in-Ok.ensures.same early).0.now_is)
+    (c.in-Ok.ensures.found early).ours in
+    spares_on (state g.S.Store c.args.conn.now) (state g.S.Store c.read_home.new.conn)
+    (state g.S.Store c.read_log.new.conn) (c.read_home.ensures.spares early)
+    (c.read_log.ensures.spares clean ours)

@@ -13,4 +13,5 @@ returns-in-Ok-clause-ours g c wrong clean bare =
 pub returns-in-Ok-clause-fresh : goal.returns-in-Ok-clause-fresh
 returns-in-Ok-clause-fresh g c damaged clean place bare =
     let kept = c.in-Ok.ensures.made (c.examine.ensures.clean clean) bare in
-    c.examine.ensures.damaged damaged clean c.args.home first_stored [] (first_is_sound c.args.home place (omega arith)) kept
+    c.examine.ensures.damaged damaged clean c.args.home first_stored []
+    (first_is_sound c.args.home place (omega arith)) kept

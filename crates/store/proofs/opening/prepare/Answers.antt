@@ -1,10 +1,22 @@
+use Rattle.std.proofs.Common.{inl}
+use Rattle.sqlite.specs.Held.{state}
+use Rattle.store.proofs.Saving.{spares_on}
 use Rattle.store.proofs.opening.prepare.Goals as goal
 
-pub returns-in-Err-clause-kept : goal.returns-in-Err-clause-kept
-returns-in-Err-clause-kept g c clean live away s log k =
-    c.fault_of.ensures.kept clean live away s log (c.in-Err.ensures.kept (c.fault_of.ensures.clean clean) (c.fault_of.ensures.was_open clean live) away s log k)
+pub returns-in-Err-clause-remains : goal.returns-in-Err-clause-remains
+returns-in-Err-clause-remains g c clean =
+    let all =
+    spares_on (state g.S.Store c.args.conn.now) (state g.S.Store c.run_nothing.new.conn)
+    (state g.S.Store c.fault_of.new.conn)
+    (c.run_nothing.ensures.spares (c.fault_of.ensures.clean clean))
+    (c.fault_of.ensures.spares clean) in
+    record { crash = λ db left. inl (all.crash db left); kept = all.kept }
 
-pub returns-clause-kept : goal.returns-clause-kept
-returns-clause-kept g c clean live away s log k =
-    let same = c.in_default.ensures.same (c.examine.ensures.clean clean) in
-    c.examine.ensures.kept clean live away s log (c.in_default.ensures.kept (c.examine.ensures.clean clean) same.0.is_open away s log k)
+pub returns-clause-remains : goal.returns-clause-remains
+returns-clause-remains g c clean =
+    let all =
+    spares_on (state g.S.Store c.args.conn.now) (state g.S.Store c.run_nothing.new.conn)
+    (state g.S.Store c.examine.new.conn)
+    (c.run_nothing.ensures.spares (c.examine.ensures.clean clean))
+    (c.examine.ensures.spares clean) in
+    record { crash = λ db left. inl (all.crash db left); kept = all.kept }

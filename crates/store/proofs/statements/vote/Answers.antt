@@ -4,5 +4,24 @@ use Rattle.store.proofs.statements.vote.Goals as goal
 
 pub returns-clause-saves : goal.returns-clause-saves
 returns-clause-saves g c clean home s log k =
-    vote_saves (state g.S.Store c.args.conn.now) (state g.S.Store c.execute.new.self) c.execute.result (g.met.S.Store.settled c.args.conn.now.store) clean home s log k c.args.vote.now
-    (rw (c.number.ensures, c.number-2.ensures, c.small.ensures, c.long.ensures, c.id.ensures.id, c.text.ensures.text) at (c.execute.ensures.runs clean)) (rw (c.number.ensures, c.number-2.ensures, c.small.ensures, c.long.ensures, c.id.ensures.id, c.text.ensures.text) at c.execute.ensures.survives)
+    vote_saves (state g.S.Store c.args.conn.now) (state g.S.Store c.execute.new.self)
+    c.execute.result (g.met.S.Store.settled c.args.conn.now.store) clean home s log k
+    c.args.vote.now
+    (rw (
+      c.number.ensures,
+      c.number-2.ensures,
+      c.small.ensures,
+      c.long.ensures,
+      c.id.ensures.id,
+      c.text.ensures.text,
+    ) at
+    (c.execute.ensures.runs clean))
+    (rw (
+      c.number.ensures,
+      c.number-2.ensures,
+      c.small.ensures,
+      c.long.ensures,
+      c.id.ensures.id,
+      c.text.ensures.text,
+    ) at
+    c.execute.ensures.survives)

@@ -1,11 +1,29 @@
 use Rattle.std.proofs.Common.{refl}
 use Rattle.store.proofs.sql.SqlKeeper.open_or_give_back.Goals as goal
 
-pub returns-in-Ok-clause-same : goal.returns-in-Ok-clause-same
-returns-in-Ok-clause-same g c s log k clean = let all = c.in-Ok.ensures.same clean s log k in (refl, all.0, all.1, all.2)
+pub returns-in-Ok-clause-opened : goal.returns-in-Ok-clause-opened
+returns-in-Ok-clause-opened g c clean = record {
+  kept =
+      let all = c.in-Ok.ensures.found clean in (all.0, all.1, all.4, (refl, all.2, all.3, all.5));
+  found = c.in-Ok.ensures.before clean;
+  made =
+      λ bare. let all = c.in-Ok.ensures.made clean bare c.requires.autocommit in
+      (refl, all.0, all.1, all.2);
+  same = λ s log k. let all = c.in-Ok.ensures.same clean s log k in (refl, all.0, all.1, all.2);
+}
 
-pub returns-in-Err-clause-damaged : goal.returns-in-Err-clause-damaged
-returns-in-Err-clause-damaged g c is clean away s log sound k = c.prepare.ensures.damaged (rw is at c.in-Err.is) clean away s log sound k
-
-pub returns-in-Err-clause-own : goal.returns-in-Err-clause-own
-returns-in-Err-clause-own g c is clean away s whole h = c.prepare.ensures.own (rw is at c.in-Err.is) clean away s whole h
+pub returns-in-Err-clause-told : goal.returns-in-Err-clause-told
+returns-in-Err-clause-told g c clean = record {
+  tells = record {
+    damaged =
+        λ is away s log sound k.
+        c.prepare.ensures.damaged (rw is at c.in-Err.is) clean away s log sound k;
+    own = λ is away s h. c.prepare.ensures.own (rw is at c.in-Err.is) clean away s h;
+    wrong = λ is. c.prepare.ensures.wrong (rw is at c.in-Err.is) clean;
+  };
+  fresh =
+      λ is.
+      c.prepare.ensures.fresh (rw is at c.in-Err.is) clean c.requires.in_range
+      c.requires.autocommit;
+  remains = c.prepare.ensures.remains clean;
+}

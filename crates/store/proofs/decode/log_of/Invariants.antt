@@ -1,7 +1,0 @@
-use Rattle.std.proofs.Common.{◌≡◌, map, take}
-use Rattle.store.specs.Holding.{log_values, entry_columns}
-use Rattle.store.specs.Whole.{LogIsWhole}
-use Rattle.store.proofs.decode.log_of.Given as goal
-
-abbrev pub invariant-loop-row : goal.invariant-loop-row
-invariant-loop-row l = (map entry_columns (take l.row-index l.rows) ≡ log_values 0 l.log.entries) × LogIsWhole l.log.entries
