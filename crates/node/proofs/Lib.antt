@@ -1,9 +1,5 @@
-pub mod Prefixes
 pub mod Taking
-pub mod Steps
 pub mod Loading
+pub mod Putting
 pub mod Stopping
-pub mod Agreeing
-pub mod Places
-pub mod Happening
 pub mod Calls

@@ -11,11 +11,12 @@ use Rattle.proposer.specs.declared.plan.Plan.{Plan}
 use Rattle.learner.specs.declared.event.Event.TheVariants.{Deliver}
 use Rattle.learner.specs.Desks.{Desk}
 use Rattle.learner.specs.Steps.{Done, done, idle, is_heeded, on_body, step}
-use Rattle.node.specs.declared.faults.NodeFault.{NodeFault}
-use Rattle.node.specs.declared.faults.NodeFault.TheVariants as fault
-use Rattle.node.specs.Faults.{refused_as, fault_of}
-use Rattle.node.specs.RunningDesks.{RunningDesk}
-use Rattle.node.specs.Nodes.{Takes, IsPlanned, HoldsBeforeOrAfter}
+use Rattle.world.specs.declared.faults.NodeFault.{NodeFault}
+use Rattle.world.specs.declared.faults.NodeFault.TheVariants as fault
+use Rattle.world.specs.Faults.{refused_as, fault_of}
+use Rattle.world.specs.model.RunningDesks.{RunningDesk}
+use Rattle.node.specs.Handles.{Takes, HoldsBeforeOrAfter}
+use Rattle.node.specs.model.Planning.{IsPlanned}
 
 same_refusal : (a b : Refusal) → refused_as a ≡ refused_as b → a ≡ b
 same_refusal Busy Busy e = refl
@@ -51,8 +52,11 @@ refused_of : (a b : Refusal) → Refused a ≡ Refused b → a ≡ b
 refused_of a b e = cc
 
 -- a step that is refused is refused for the same reason
-refused_same : (A : Type 0) (s : Result Done Refusal) (why : StepFault) (answer : Result (List Message) NodeFault) → answer ≡ Err (fault_of why)
-    → ((r : Refusal) → (refused_call A why ≡ refused_call A (Refused r)) ↔ (s ≡ Err r)) → (r : Refusal) → (answer ≡ Err (refused_as r)) ↔ (s ≡ Err r)
+refused_same : (A : Type 0) (s : Result Done Refusal) (why : StepFault)
+    (answer : Result (List Message) NodeFault)
+    → answer ≡ Err (fault_of why)
+    → ((r : Refusal) → (refused_call A why ≡ refused_call A (Refused r)) ↔ (s ≡ Err r))
+    → (r : Refusal) → (answer ≡ Err (refused_as r)) ↔ (s ≡ Err r)
 refused_same A s (Refused a) answer e h r =
     let there : answer ≡ Err (refused_as r) → s ≡ Err r =
     λ k.
@@ -69,18 +73,33 @@ refused_same A s NoMemory answer e h r =
     λ k.
     let bare : answered fault.NoMemory ≡ answered (refused_as r) = cc in
     absurd (memory_is_no_refusal r (err_of fault.NoMemory (refused_as r) bare)) in
-    let back : s ≡ Err r → answer ≡ Err (refused_as r) = λ k. let other : NoMemory ≡ Refused r = step_err_of A NoMemory (Refused r) ((h r).1 k) in absurd cc in
+    let back : s ≡ Err r
+    → answer ≡ Err (refused_as r) = λ k. let other : NoMemory ≡ Refused r =
+    step_err_of A NoMemory (Refused r) ((h r).1 k) in
+    absurd cc in
     (there, back)
 
 -- a refusal leaves the desk as it was
-pub takes_refused : (A : Type 0) (s : Result Done Refusal) (n d : ℕ) (x y : Desk) (why : StepFault) (answer : NodeFault) → y ≡ x → answer ≡ fault_of why
-    → ((r : Refusal) → (refused_call A why ≡ refused_call A (Refused r)) ↔ (s ≡ Err r)) → Takes s n d x y (Err answer)
+pub takes_refused : (A : Type 0) (s : Result Done Refusal) (n d : ℕ) (x y : Desk) (why : StepFault)
+    (answer : NodeFault)
+    → y ≡ x → answer ≡ fault_of why
+    → ((r : Refusal) → (refused_call A why ≡ refused_call A (Refused r)) ↔ (s ≡ Err r))
+    → Takes s n d x y (Err answer)
 takes_refused A s n d x y why answer same is h =
-    record { ok = tt; range = tt; refused = refused_same A s why (Err answer) (ap (λ (f : NodeFault). Err f) is) h; err = same }
+    record {
+      ok = tt;
+      range = tt;
+      refused = refused_same A s why (Err answer) (ap (λ (f : NodeFault). Err f) is) h;
+      err = same;
+    }
 
 -- what holds of the desk once room is made for its plan holds of the desk before
-pub takes_as : (a b : RunningDesk) (p : Result Plan StepFault) (s : Result Done Refusal) (y : Desk) (answer : Result (List Message) NodeFault) → b ≡ record a { room = b.room }
-    → IsPlanned a.desk p s → ((t : Result Done Refusal) → IsPlanned b.desk p t → Takes t b.desks b.number b.desk y answer) → Takes s a.desks a.number a.desk y answer
+pub takes_as : (a b : RunningDesk) (p : Result Plan StepFault) (s : Result Done Refusal) (y : Desk)
+    (answer : Result (List Message) NodeFault)
+    → b ≡ record a { room = b.room }
+    → IsPlanned a.desk p s
+    → ((t : Result Done Refusal) → IsPlanned b.desk p t → Takes t b.desks b.number b.desk y answer)
+    → Takes s a.desks a.number a.desk y answer
 takes_as a b p s y answer same planned h =
     let desk : b.desk ≡ a.desk = ap (λ (r : RunningDesk). r.desk) same in
     let desks : b.desks ≡ a.desks = ap (λ (r : RunningDesk). r.desks) same in
@@ -90,14 +109,21 @@ takes_as a b p s y answer same planned h =
     (subst (λ (x : Desk). Takes s b.desks b.number x y answer) desk
     (h s (subst (λ (x : Desk). IsPlanned x p s) (sym desk) planned))))
 
-pub left_as : (a b : RunningDesk) (p : Result Plan StepFault) (s : Result Done Refusal) (may_hold : Stored → List Entry → Type 0) (may_break : Type 0) → b ≡ record a { room = b.room }
-    → IsPlanned a.desk p s → ((t : Result Done Refusal) → IsPlanned b.desk p t → HoldsBeforeOrAfter may_hold may_break b.desk t) → HoldsBeforeOrAfter may_hold may_break a.desk s
+pub left_as : (a b : RunningDesk) (p : Result Plan StepFault) (s : Result Done Refusal)
+    (may_hold : Stored → List Entry → Type 0) (may_break : Type 0)
+    → b ≡ record a { room = b.room }
+    → IsPlanned a.desk p s
+    → ((t : Result Done Refusal) → IsPlanned b.desk p t
+    → HoldsBeforeOrAfter may_hold may_break b.desk t)
+    → HoldsBeforeOrAfter may_hold may_break a.desk s
 left_as a b p s may_hold may_break same planned h =
     let desk : b.desk ≡ a.desk = ap (λ (r : RunningDesk). r.desk) same in
-    subst (λ (x : Desk). HoldsBeforeOrAfter may_hold may_break x s) desk (h s (subst (λ (x : Desk). IsPlanned x p s) (sym desk) planned))
+    subst (λ (x : Desk). HoldsBeforeOrAfter may_hold may_break x s) desk
+    (h s (subst (λ (x : Desk). IsPlanned x p s) (sym desk) planned))
 
 -- a message is never refused
-pub message_is_taken : (n d : ℕ) (x : Desk) (m : Message) (why : Refusal) → step n d x (Deliver m) ≡ Err why → ⊥
+pub message_is_taken : (n d : ℕ) (x : Desk) (m : Message) (why : Refusal)
+    → step n d x (Deliver m) ≡ Err why → ⊥
 message_is_taken n d x m why = go (is_heeded n d m)
   where
     met : Bool → Result Done Refusal

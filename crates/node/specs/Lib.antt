@@ -1,8 +1,10 @@
-pub mod Faults
-pub mod Answers
-pub mod RunningDesks
+pub use Rattle.world.specs.Faults
+pub use Rattle.world.specs.Answers
+pub use Rattle.world.specs.Opening
+pub use Rattle.world.specs.WorldValues
+pub use Rattle.world.specs.Headline
 pub mod Nodes
+pub mod Handles
+pub mod Opens
 pub mod Stops
-pub mod Halls
-pub mod Histories
-pub mod Headline
+pub mod model

@@ -5,4 +5,6 @@ use Rattle.node.proofs.handling.carry_out.Goals as goal
 
 pub returns-in-Err-clause-takes : goal.returns-in-Err-clause-takes
 returns-in-Err-clause-takes g c s p =
-    let x = c.args.desk.now in takes_refused Plan s x.desks x.number x.desk x.desk c.in-Err.fault c.from.result refl c.from.ensures (rw c.in-Err.is at p.refused)
+    let x = c.args.desk.now in
+    takes_refused Plan s x.desks x.number x.desk x.desk c.in-Err.fault c.from.result refl
+    c.from.ensures (rw c.in-Err.is at p.refused)

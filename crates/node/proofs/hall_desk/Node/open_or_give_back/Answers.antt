@@ -1,4 +1,0 @@
-use Rattle.node.proofs.hall_desk.Node.open_or_give_back.Goals as goal
-
-pub returns-in-Ok-new-clause-stored : goal.returns-in-Ok-new-clause-stored
-returns-in-Ok-new-clause-stored g c honest = rw c.in-Ok-new.ensures (g.met.K.Keeper.alone _ _ _ honest (c.in-Ok.ensures.kept honest))

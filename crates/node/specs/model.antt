@@ -1,0 +1,2 @@
+-- A model of the code. No public contract cites it.
+pub mod Planning

@@ -1,0 +1,575 @@
+//! One desk over a store in memory, and halls of such desks.
+
+ghost use Rattle.std.specs.Prelude.{◌≤◌};
+
+use acceptor::ballot::Ballot;
+use acceptor::entry::Entry;
+use acceptor::message::{Body, Message, Report};
+use acceptor::stored::Stored;
+use commands::{Answer, Code, Meet};
+use learner::log::Log;
+use node::laws::{calls_are_happenings, headline, stops_make_a_run};
+use node::{Event, Node, NodeFault, SheetFault, Told};
+use sheets::Style;
+use std::alloc::Global;
+use std::process::Abort;
+use std::test::Fail;
+use store::keeper::Keeper;
+use store::memory::MemoryKeeper;
+
+const ANN: &[u8] = b"REG 1 Ann Li";
+
+const OPEN: &[u8] = b"OPEN 333 1 ao5 - 60000 final";
+
+/// What one entry, decided at desk 1 while desk 3 is not reached, has desks send: from, to and kind
+/// of each message.
+pub(crate) const CATCH_UP: &[u8] = b"11P12P13P11p21p11A12A13A11a21a12D13D21B31B32B13D31B";
+
+pub(crate) fn ann(alloc: Global) -> Result<Entry, Fail> {
+    Ok(Entry::new(alloc, 7, ANN)?)
+}
+
+fn ballot(round: u32, desk: u8) -> Ballot {
+    Ballot { round, desk }
+}
+
+fn message(from: u8, to: u8, body: Body) -> Message {
+    Message { from, to, body }
+}
+
+fn prepare(from: u8, to: u8, round: u32, pos: u32) -> Message {
+    let ballot = ballot(round, from);
+    message(from, to, Body::Prepare { ballot, pos })
+}
+
+fn promise(from: u8, to: u8, round: u32, vote: Option<Report>) -> Message {
+    let ballot = ballot(round, to);
+    let pos = 0;
+    message(from, to, Body::Promise { ballot, pos, vote })
+}
+
+fn accept_in(alloc: Global, round: u32, from: u8, to: u8) -> Result<Message, Fail> {
+    let ballot = ballot(round, from);
+    let entry = ann(alloc)?;
+    let pos = 0;
+    Ok(message(from, to, Body::Accept { ballot, pos, entry }))
+}
+
+fn accept(alloc: Global, from: u8, to: u8) -> Result<Message, Fail> {
+    accept_in(alloc, 1, from, to)
+}
+
+fn accepted_in(round: u32, from: u8, to: u8) -> Message {
+    let ballot = ballot(round, to);
+    message(from, to, Body::Accepted { ballot, pos: 0 })
+}
+
+fn accepted(from: u8, to: u8) -> Message {
+    accepted_in(1, from, to)
+}
+
+fn nack(from: u8, to: u8, ballot: Ballot, promised: Ballot) -> Message {
+    let pos = 0;
+    message(
+        from,
+        to,
+        Body::Nack {
+            ballot,
+            pos,
+            promised,
+        },
+    )
+}
+
+fn decided(alloc: Global, from: u8, to: u8) -> Result<Message, Fail> {
+    let entry = ann(alloc)?;
+    Ok(message(from, to, Body::Decided { pos: 0, entry }))
+}
+
+fn behind(from: u8, to: u8, len: u32) -> Message {
+    message(from, to, Body::Behind { len })
+}
+
+/// The node takes the event, and hands these out.
+pub(crate) fn says<K: Keeper + Drop>(
+    rt: &impl Abort,
+    node: &mut Node<K>,
+    event: Event,
+    wanted: &[Message],
+) -> Result<(), Fail> {
+    let messages = node.handle(event)?;
+    assert_eq!(rt; messages.as_slice(), wanted);
+    Ok(())
+}
+
+pub(crate) fn open<K: Keeper + Drop>(alloc: Global, keeper: K) -> Result<Node<K>, Fail> {
+    match Node::open(alloc, keeper) {
+        Ok(node) => Ok(node),
+        Err(_) => Err(Fail::from("opened")),
+    }
+}
+
+/// The desks of a hall, and all that they have handed out.
+#[derive(Drop)]
+pub(crate) struct Hall<K: Keeper> {
+    pub(crate) nodes: Vec<Node<K>>,
+    pub(crate) sent: Vec<Message>,
+}
+
+/// The node takes the event, and what it hands out is sent.
+pub(crate) fn hear<K: Keeper + Drop>(
+    node: &mut Node<K>,
+    event: Event,
+    sent: &mut Vec<Message>,
+) -> Result<(), Fail> {
+    let messages = node.handle(event)?;
+    for message in messages.into_vec() {
+        sent.push(message)?;
+    }
+    Ok(())
+}
+
+pub(crate) fn take<K: Keeper + Drop>(
+    hall: &mut Hall<K>,
+    desk: usize,
+    event: Event,
+) -> Result<(), Fail> {
+    let Some(node) = hall.nodes.get_mut(desk.wrapping_sub(1)) else {
+        return Err(Fail::from("no such desk"));
+    };
+    hear(node, event, &mut hall.sent)
+}
+
+/// A copy of the message of this number, counted from 1.
+pub(crate) fn nth(sent: &[Message], number: usize) -> Result<Message, Fail> {
+    let Some(sent) = sent.get(number.wrapping_sub(1)) else {
+        return Err(Fail::from("not sent"));
+    };
+    Ok(message(sent.from, sent.to, sent.body.copy()?))
+}
+
+/// Delivers the message of this number, counted from 1.
+pub(crate) fn deliver<K: Keeper + Drop>(hall: &mut Hall<K>, number: usize) -> Result<(), Fail> {
+    let message = nth(&hall.sent, number)?;
+    let desk = message.to as usize;
+    take(hall, desk, Event::Deliver(message))
+}
+
+fn letter(body: &Body) -> u8 {
+    match body {
+        Body::Prepare { .. } => b'P',
+        Body::Promise { .. } => b'p',
+        Body::Accept { .. } => b'A',
+        Body::Accepted { .. } => b'a',
+        Body::Nack { .. } => b'N',
+        Body::Behind { .. } => b'B',
+        Body::Decided { .. } => b'D',
+    }
+}
+
+/// From, to and kind of each message.
+pub(crate) fn spelled(alloc: Global, sent: &[Message]) -> Result<Vec<u8>, Fail> {
+    let mut text = Vec::new(alloc);
+    for message in sent {
+        text.push(message.from.wrapping_add(b'0'))?;
+        text.push(message.to.wrapping_add(b'0'))?;
+        text.push(letter(&message.body))?;
+    }
+    Ok(text)
+}
+
+/// A desk that has asked for votes by ballot (1, 1), and stops.
+fn ask(rt: &impl Abort, alloc: Global, keeper: &mut MemoryKeeper) -> Result<(), Fail> {
+    let mut node = open(alloc, keeper)?;
+    says(rt, &mut node, Event::Submit(ann(alloc)?), &[])?;
+    let first = [
+        prepare(1, 1, 1, 0),
+        prepare(1, 2, 1, 0),
+        prepare(1, 3, 1, 0),
+    ];
+    says(rt, &mut node, Event::Start, &first)?;
+    says(rt, &mut node, Event::Deliver(promise(1, 1, 1, None)), &[])?;
+    let wanted = [
+        accept(alloc, 1, 1)?,
+        accept(alloc, 1, 2)?,
+        accept(alloc, 1, 3)?,
+    ];
+    says(
+        rt,
+        &mut node,
+        Event::Deliver(promise(2, 1, 1, None)),
+        &wanted,
+    )
+}
+
+#[test]
+fn restarted_desk_takes_a_new_ballot(rt: HostRuntime) -> Result<(), Fail> {
+    let alloc = rt.alloc();
+    let mut keeper = MemoryKeeper::new(alloc, 7, 1, 3)?;
+    ask(&rt, alloc, &mut keeper)?;
+    let mut node = open(alloc, &mut keeper)?;
+    says(&rt, &mut node, Event::Deliver(accepted(2, 1)), &[])?;
+    says(
+        &rt,
+        &mut node,
+        Event::Tick,
+        &[behind(1, 2, 0), behind(1, 3, 0)],
+    )?;
+    let wanted = [
+        prepare(1, 1, 2, 0),
+        prepare(1, 2, 2, 0),
+        prepare(1, 3, 2, 0),
+    ];
+    says(&rt, &mut node, Event::Start, &wanted)
+}
+
+#[test]
+fn answers_by_its_log(rt: HostRuntime) -> Result<(), Fail> {
+    let alloc = rt.alloc();
+    let mut node = open(alloc, MemoryKeeper::new(alloc, 7, 1, 3)?)?;
+    says(
+        &rt,
+        &mut node,
+        Event::Deliver(accept(alloc, 1, 1)?),
+        &[accepted(1, 1)],
+    )?;
+    says(
+        &rt,
+        &mut node,
+        Event::Deliver(decided(alloc, 2, 1)?),
+        &[behind(1, 2, 1)],
+    )?;
+    let promised = Body::Promise {
+        ballot: ballot(2, 2),
+        pos: 1,
+        vote: None,
+    };
+    says(
+        &rt,
+        &mut node,
+        Event::Deliver(prepare(2, 1, 2, 1)),
+        &[message(1, 2, promised)],
+    )?;
+    for from in 1..4 {
+        says(
+            &rt,
+            &mut node,
+            Event::Deliver(prepare(from, 1, 3, 0)),
+            &[decided(alloc, 1, from)?],
+        )?;
+    }
+    says(
+        &rt,
+        &mut node,
+        Event::Deliver(prepare(3, 1, 3, 3)),
+        &[behind(1, 3, 1)],
+    )
+}
+
+#[test]
+fn counts_desks_and_not_messages(rt: HostRuntime) -> Result<(), Fail> {
+    let alloc = rt.alloc();
+    let mut node = open(alloc, MemoryKeeper::new(alloc, 7, 1, 5)?)?;
+    node.handle(Event::Submit(ann(alloc)?))?;
+    node.handle(Event::Start)?;
+    for from in [2, 2, 2, 3] {
+        says(
+            &rt,
+            &mut node,
+            Event::Deliver(promise(from, 1, 1, None)),
+            &[],
+        )?;
+    }
+    let mut wanted = Vec::new(alloc);
+    for to in 1..6 {
+        wanted.push(accept(alloc, 1, to)?)?;
+    }
+    says(
+        &rt,
+        &mut node,
+        Event::Deliver(promise(4, 1, 1, None)),
+        &wanted,
+    )
+}
+
+/// Desk 1 of 3 of a hall in memory, or another.
+fn memory_desk(alloc: Global, desk: u8) -> Result<Node<MemoryKeeper>, Fail>
+    requires { (1 ≤ desk) × (desk ≤ 5) }
+{
+    open(alloc, MemoryKeeper::new(alloc, 7, desk, 5)?)
+}
+
+/// The desk submits the text under id 9 and starts, and every message is delivered.
+fn decide(
+    alloc: Global,
+    hall: &mut Hall<MemoryKeeper>,
+    desk: usize,
+    text: &[u8],
+) -> Result<(), Fail> {
+    take(hall, desk, Event::Submit(Entry::new(alloc, 9, text)?))?;
+    let before = hall.sent.len();
+    take(hall, desk, Event::Start)?;
+    for number in before..before.saturating_add(100) {
+        if number < hall.sent.len() {
+            deliver(hall, number.wrapping_add(1))?;
+        }
+    }
+    Ok(())
+}
+
+/// What the commands of a log are answered, in order.
+fn answers(alloc: Global, log: &Log) -> Result<Vec<Answer>, Fail> {
+    let mut meet = Meet::new(alloc)?;
+    let mut answers = Vec::new(alloc);
+    for pos in 0..log.len() {
+        if let Some(entry) = log.entry(pos) {
+            answers.push(meet.apply(entry.id(), entry.text())?)?;
+        }
+    }
+    Ok(answers)
+}
+
+#[test]
+fn id_that_comes_again_is_a_repeat(rt: HostRuntime) -> Result<(), Fail> {
+    let alloc = rt.alloc();
+    let mut nodes = Vec::new(alloc);
+    for desk in 1..6 {
+        nodes.push(memory_desk(alloc, desk)?)?;
+    }
+    let sent = Vec::new(alloc);
+    let mut hall = Hall { nodes, sent };
+    decide(alloc, &mut hall, 1, OPEN)?;
+    decide(alloc, &mut hall, 2, ANN)?;
+    let done = Told::Done {
+        pos: 0,
+        answer: Answer::Done,
+    };
+    let first = b"333 round 1 ao5 open position 1\ncutoff - limit 60000 advance final\n";
+    let second = b"333 round 1 ao5 open position 2\ncutoff - limit 60000 advance final\n";
+    for node in &hall.nodes {
+        assert_eq!(rt;
+            answers(alloc, node.log())?.as_slice(),
+            [Answer::Done, Answer::Refused(Code::Repeat)].as_slice()
+        );
+        assert_eq!(rt; node.answer(9)?, done);
+        assert_eq!(rt; node.answer(10)?, Told::Unknown);
+        let event = formats::Event::Cube3;
+        assert_eq!(rt;
+            node.sheet_at(1, event, 1, Style::Text)?.as_slice(),
+            first.as_slice()
+        );
+        assert_eq!(rt;
+            node.sheet_at(2, event, 1, Style::Text)?.as_slice(),
+            second.as_slice()
+        );
+    }
+    Ok(())
+}
+
+/// What a desk answers to a Prepare by (2, 2), once it was opened again after a vote whose save
+/// failed.
+fn after_failure(rt: &impl Abort, alloc: Global, kept: bool) -> Result<Vec<Message>, Fail> {
+    let mut keeper = MemoryKeeper::new(alloc, 7, 1, 3)?;
+    keeper.fail_at(1, kept);
+    let mut node = open(alloc, &mut keeper)?;
+    let asked = node.handle(Event::Deliver(accept(alloc, 2, 1)?));
+    assert!(rt; matches!(asked, Err(NodeFault::Down)));
+    assert!(rt; node.is_down());
+    let again = node.handle(Event::Start);
+    assert!(rt; matches!(again, Err(NodeFault::Down)));
+    assert_eq!(rt; node.answer(7)?, Told::Unknown);
+    drop(node);
+    let mut node = open(alloc, &mut keeper)?;
+    Ok(node.handle(Event::Deliver(prepare(2, 1, 2, 0)))?.into_vec())
+}
+
+#[test]
+fn failed_save_leaves_the_state_before_or_after(rt: HostRuntime) -> Result<(), Fail> {
+    let alloc = rt.alloc();
+    assert_eq!(rt;
+        after_failure(&rt, alloc, false)?.as_slice(),
+        [promise(1, 2, 2, None)].as_slice()
+    );
+    let vote = Report {
+        ballot: ballot(1, 2),
+        entry: ann(alloc)?,
+    };
+    assert_eq!(rt;
+        after_failure(&rt, alloc, true)?.as_slice(),
+        [promise(1, 2, 2, Some(vote))].as_slice()
+    );
+    Ok(())
+}
+
+#[test]
+fn refuses_and_ignores(rt: HostRuntime) -> Result<(), Fail> {
+    let alloc = rt.alloc();
+    let mut keeper = MemoryKeeper::new(alloc, 7, 1, 3)?;
+    let stored = Stored {
+        promised: Ballot::none(),
+        vote: None,
+        tried: u32::MAX,
+    };
+    keeper.with(&stored, &Log::new(alloc)?)?;
+    let mut node = open(alloc, keeper)?;
+    assert_eq!(rt;
+        (node.home().hall, node.home().desk, node.home().desks),
+        (7, 1, 3)
+    );
+    assert!(rt; matches!(node.handle(Event::Start), Err(NodeFault::BallotsSpent)));
+    let unreal = Event::Deliver(prepare(1, 1, 0, 0));
+    says(&rt, &mut node, unreal, &[])?;
+    let entry = ann(alloc)?;
+    let past = message(2, 1, Body::Decided { pos: 65536, entry });
+    says(&rt, &mut node, Event::Deliver(past), &[])?;
+    for _ in 0..64 {
+        says(&rt, &mut node, Event::Submit(ann(alloc)?), &[])?;
+    }
+    let more = node.handle(Event::Submit(ann(alloc)?));
+    assert!(rt; matches!(more, Err(NodeFault::Busy)));
+    assert_eq!(rt; node.answer(7)?, Told::Pending);
+    assert_eq!(rt; (node.queued(), node.is_down()), (64, false));
+    let event = formats::Event::Cube3;
+    let sheet = node.sheet_at(1, event, 1, Style::Table);
+    assert!(rt; matches!(sheet, Err(SheetFault::NotThere)));
+    let sheet = node.sheet_at(0, event, 1, Style::Table);
+    assert!(rt; matches!(sheet, Err(SheetFault::NoSuchRound)));
+    Ok(())
+}
+
+/// Desk 1 of 3 of a hall in memory.
+fn first_of_three(alloc: Global) -> Result<Node<MemoryKeeper>, Fail> {
+    open(alloc, MemoryKeeper::new(alloc, 7, 1, 3)?)
+}
+
+/// What desk 1 of 3 asks all desks by its ballot of this round, at a position.
+pub(crate) fn asks_at(round: u32, pos: u32) -> [Message; 3] {
+    [
+        prepare(1, 1, round, pos),
+        prepare(1, 2, round, pos),
+        prepare(1, 3, round, pos),
+    ]
+}
+
+fn asks(round: u32) -> [Message; 3] {
+    asks_at(round, 0)
+}
+
+/// A Nack of the desk's ballot makes it idle. Its next ballot is above the one that the Nack shows.
+fn check_nack(rt: &impl Abort, node: &mut Node<MemoryKeeper>) -> Result<(), Fail> {
+    says(rt, node, Event::Start, &asks(1))?;
+    let shown = nack(2, 1, ballot(1, 1), ballot(4, 2));
+    says(rt, node, Event::Deliver(shown), &[])?;
+    says(rt, node, Event::Start, &asks(5))
+}
+
+#[test]
+fn desk_gives_its_ballot_up_at_a_nack(rt: HostRuntime) -> Result<(), Fail> {
+    check_nack(&rt, &mut first_of_three(rt.alloc())?)
+}
+
+/// An idle desk with an entry in the queue makes a ballot, and one that gathers promises a new one.
+fn check_ticks_before_promises(
+    rt: &impl Abort,
+    alloc: Global,
+    node: &mut Node<MemoryKeeper>,
+) -> Result<(), Fail> {
+    says(rt, node, Event::Submit(ann(alloc)?), &[])?;
+    says(rt, node, Event::Tick, &asks(1))?;
+    says(rt, node, Event::Tick, &asks(2))
+}
+
+/// Two of three desks promise by ballot (2, 1), and the desk asks for votes.
+fn check_promises(
+    rt: &impl Abort,
+    alloc: Global,
+    node: &mut Node<MemoryKeeper>,
+) -> Result<(), Fail> {
+    says(rt, node, Event::Deliver(promise(1, 1, 2, None)), &[])?;
+    let wanted = [
+        accept_in(alloc, 2, 1, 1)?,
+        accept_in(alloc, 2, 1, 2)?,
+        accept_in(alloc, 2, 1, 3)?,
+    ];
+    says(rt, node, Event::Deliver(promise(3, 1, 2, None)), &wanted)
+}
+
+/// A desk that proposes asks again each desk whose vote it has not heard.
+fn check_tick_after_a_vote(
+    rt: &impl Abort,
+    alloc: Global,
+    node: &mut Node<MemoryKeeper>,
+) -> Result<(), Fail> {
+    says(rt, node, Event::Deliver(accepted_in(2, 2, 1)), &[])?;
+    let wanted = [accept_in(alloc, 2, 1, 1)?, accept_in(alloc, 2, 1, 3)?];
+    says(rt, node, Event::Tick, &wanted)
+}
+
+#[test]
+fn tick_goes_by_the_role(rt: HostRuntime) -> Result<(), Fail> {
+    let alloc = rt.alloc();
+    let mut node = first_of_three(alloc)?;
+    check_ticks_before_promises(&rt, alloc, &mut node)?;
+    check_promises(&rt, alloc, &mut node)?;
+    check_tick_after_a_vote(&rt, alloc, &mut node)
+}
+
+/// A Prepare and an Accept of a ballot below the promised one are answered by a Nack that shows it.
+fn check_refusals(
+    rt: &impl Abort,
+    alloc: Global,
+    node: &mut Node<MemoryKeeper>,
+) -> Result<(), Fail> {
+    let wanted = [nack(1, 3, ballot(2, 3), ballot(3, 2))];
+    says(rt, node, Event::Deliver(prepare(3, 1, 2, 0)), &wanted)?;
+    says(
+        rt,
+        node,
+        Event::Deliver(accept_in(alloc, 2, 3, 1)?),
+        &wanted,
+    )
+}
+
+#[test]
+fn ballot_below_the_promised_one_is_refused(rt: HostRuntime) -> Result<(), Fail> {
+    let mut node = first_of_three(rt.alloc())?;
+    says(
+        &rt,
+        &mut node,
+        Event::Deliver(prepare(2, 1, 3, 0)),
+        &[promise(1, 2, 3, None)],
+    )?;
+    check_refusals(&rt, rt.alloc(), &mut node)
+}
+
+/// The log's first entry opens a round.
+fn open_round(alloc: Global, node: &mut Node<MemoryKeeper>) -> Result<(), Fail> {
+    let entry = Entry::new(alloc, 9, OPEN)?;
+    node.handle(Event::Deliver(message(2, 1, Body::Decided { pos: 0, entry })))?;
+    Ok(())
+}
+
+/// A round of averages of five that nobody has entered has the header alone.
+fn check_table(rt: &impl Abort, node: &Node<MemoryKeeper>) -> Result<(), Fail> {
+    let table = node.sheet_at(1, formats::Event::Cube3, 1, Style::Table)?;
+    let header = b"place,number,name,average,best,1,2,3,4,5,advances\n";
+    assert_eq!(rt; table.as_slice(), header.as_slice());
+    Ok(())
+}
+
+#[test]
+fn opened_round_has_a_table(rt: HostRuntime) -> Result<(), Fail> {
+    let mut node = first_of_three(rt.alloc())?;
+    open_round(rt.alloc(), &mut node)?;
+    check_table(&rt, &node)
+}
+
+/// Each law is the contract of a call that does nothing.
+#[test]
+fn laws_hold_of_a_keeper_in_memory(rt: HostRuntime) -> Result<(), Fail> {
+    headline();
+    stops_make_a_run();
+    calls_are_happenings::<MemoryKeeper>();
+    assert!(rt; !first_of_three(rt.alloc())?.is_down());
+    Ok(())
+}

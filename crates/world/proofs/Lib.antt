@@ -1,0 +1,5 @@
+pub mod Prefixes
+pub mod Steps
+pub mod Agreeing
+pub mod Places
+pub mod Happening

@@ -1,0 +1,57 @@
+//! What a desk answers where it does not do what it is asked for.
+
+use proposer::faults::{Refusal, StepFault};
+use std::alloc::AllocError;
+
+/// Why a desk does not take an event.
+#[derive(Clone, Copy, PartialEq, Eq, Debug)]
+pub enum NodeFault {
+    /// 64 entries wait in the queue.
+    Busy,
+    /// The log has 65,536 entries.
+    LogFull,
+    /// No round is left for another ballot: the greatest that the desk knows of is 2^32 - 1.
+    BallotsSpent,
+    /// Memory was refused.
+    NoMemory,
+    /// A save has failed, in this call or an earlier one.
+    Down,
+}
+
+impl From<StepFault> for NodeFault {
+    ghost use Rattle.std.specs.Prelude.{◌≡◌};
+    ghost use Rattle.world.specs.Faults.{fault_of};
+
+    ghost from_gives = { λ fault result. result ≡ fault_of fault };
+
+    fn from(fault: StepFault) -> NodeFault {
+        match fault {
+            StepFault::Refused(Refusal::Busy) => NodeFault::Busy,
+            StepFault::Refused(Refusal::LogFull) => NodeFault::LogFull,
+            StepFault::Refused(Refusal::BallotsSpent) => NodeFault::BallotsSpent,
+            StepFault::NoMemory => NodeFault::NoMemory,
+        }
+    }
+}
+
+/// Why there is no sheet.
+#[derive(Clone, Copy, PartialEq, Eq, Debug)]
+pub enum SheetFault {
+    /// The position is above the log's length.
+    NotThere,
+    /// No accepted command up to the position opened the round.
+    NoSuchRound,
+    /// Memory was refused.
+    NoMemory,
+}
+
+impl From<AllocError> for SheetFault {
+    ghost use Rattle.std.specs.Prelude.{◌≡◌};
+    ghost use Rattle.world.specs.declared.faults.SheetFault.TheVariants.{NoMemory};
+
+    ghost from_gives = { λ _ fault. fault ≡ NoMemory };
+
+    fn from(_: AllocError) -> SheetFault {
+        SheetFault::NoMemory
+    }
+}
