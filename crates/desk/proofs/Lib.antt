@@ -1,9 +1,2 @@
-pub mod Known
 pub mod Asked
-pub mod Pieces
-pub mod Whole
-pub mod Limits
-pub mod Plain
-pub mod Ends
 pub mod StatusLemmas
-pub mod LinesLemmas

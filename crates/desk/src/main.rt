@@ -1,16 +1,14 @@
 //! The results desk of a speedcubing competition.
 #![tactic(auto)]
 
-mod fault;
-mod replay;
-mod session;
+mod faults;
+mod replay_words;
 #[cfg(test)]
 mod tests;
 mod words;
-mod writing;
 
-use std::env;
 use std::process::ExitCode;
+use std::{env, io};
 use words::{run_given, tell_no_words};
 
 fn main(rt: HostRuntime) -> ExitCode {
@@ -18,8 +16,15 @@ fn main(rt: HostRuntime) -> ExitCode {
     let mut input = rt.stdin();
     let mut output = rt.stdout();
     let mut faults = rt.stderr();
-    let status = match env::args(&rt) {
-        Ok(words) => run_given(alloc, words, &mut input, &mut output, &mut faults),
+    let given = match env::args(&rt) {
+        Ok(words) => match words.collect::<Vec<String>>(alloc) {
+            Ok(words) => Ok(words),
+            Err(_) => Err(io::Error::from(io::ErrorKind::OutOfMemory)),
+        },
+        Err(error) => Err(error),
+    };
+    let status = match given {
+        Ok(words) => run_given(alloc, &words, &mut input, &mut output, &mut faults),
         Err(error) => tell_no_words(&error, &mut faults),
     };
     ExitCode::from(status)

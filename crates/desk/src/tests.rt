@@ -1,11 +1,11 @@
 //! The program on whole inputs. Expected texts are those of the project's own profile, not what the
 //! program printed.
 
-use crate::fault::RunFault;
-use crate::replay::replay;
-use crate::words::run_words;
+use crate::words::{run_given, run_words, tell_no_words};
 use commands::{Answer, Code, Meet};
 use formats::Event;
+use lines::RunFault;
+use replay::replay;
 use sheets::Style;
 use std::alloc::{AllocError, Global};
 use std::io;
@@ -75,7 +75,8 @@ cutoff - limit - advance final
   2         -       DNF       DNF         -         -    2 - Bo Ek
 ";
 
-/// Ten competitors, of whom eight are to advance: seven may, and two are tied for the seventh place.
+/// Ten competitors, of whom eight are to advance: seven may, and two are tied for the seventh
+/// place.
 const TWO_ROUNDS: &[u8] = b"REG 1 Ann
 REG 2 Bo
 REG 3 Cy
@@ -285,7 +286,11 @@ fn refuses_lines(rt: HostRuntime) {
         (b"ent 333 1", b"refused 1 Unread\n"),
         (
             b"ENT 333 1\nREG 1 A\nREG 2 A\nREG 1 B\nENT 333 1\n",
-            b"refused 1 UnknownCompetitor\nrefused 3 NameTaken\nrefused 4 Already\nrefused 5 RoundUnknown\n",
+            b"refused 1 UnknownCompetitor
+refused 3 NameTaken
+refused 4 Already
+refused 5 RoundUnknown
+",
         ),
         (
             b"OPEN 333 1 ao5 - - final\n",
@@ -336,8 +341,8 @@ fn reads_words(rt: HostRuntime) {
     }
 }
 
-/// Runs on lines of so many letters, and so many bytes in all: the fault line, and how many bytes are
-/// written.
+/// Runs on lines of so many letters, and so many bytes in all: the fault line, and how many bytes
+/// are written.
 fn run_letters(alloc: Global, in_line: usize, left: usize) -> Ran {
     let mut letters = Letters {
         in_line,
@@ -408,6 +413,100 @@ fn tells_of_a_reader_and_a_writer_that_fail(rt: HostRuntime) {
         assert_eq!(rt; result, Err(RunFault::Write));
         assert_eq!(rt; narrow.taken.len(), room);
         assert!(rt; TEXT.starts_with(narrow.taken.as_slice()));
+    }
+}
+
+#[test]
+fn takes_every_event_and_round(rt: HostRuntime) {
+    let events = [
+        "333", "222", "444", "555", "666", "777", "333bf", "333fm", "333oh", "clock", "minx",
+        "pyram", "skewb", "sq1", "444bf", "555bf",
+    ];
+    for (event, name) in Event::ALL.into_iter().zip(events) {
+        assert_eq!(rt; event.name(), name);
+        for round in ["1", "2", "3", "4"] {
+            let mut reader: &[u8] = b"";
+            let ran = run_on(rt.alloc(), &["desk", "replay", name, round], &mut reader);
+            assert_eq!(rt; ran.status, 3, "{name} {round}");
+            assert_eq!(rt; ran.faults.as_slice(), b"no such round\n".as_slice());
+        }
+    }
+}
+
+/// Runs the program on the words that it was given.
+fn run_texts(alloc: Global, words: &[&str], input: &[u8]) -> Result<Ran, AllocError> {
+    let mut texts = Vec::new(alloc);
+    for word in words {
+        texts.push(String::from_str(alloc, word)?)?;
+    }
+    let mut reader = input;
+    let mut written = Vec::new(alloc);
+    let mut faults = Vec::new(alloc);
+    let status = run_given(alloc, &texts, &mut reader, &mut written, &mut faults);
+    Ok(Ran {
+        status,
+        written,
+        faults,
+    })
+}
+
+#[test]
+fn runs_the_words_that_are_given(rt: HostRuntime) -> Result<(), AllocError> {
+    let text = run_texts(rt.alloc(), &["desk", "replay", "333", "1"], ROUND)?;
+    assert_eq!(rt; text.status, 0);
+    assert_eq!(rt; text.written.as_slice(), TEXT);
+    let table = run_texts(rt.alloc(), &["desk", "replay", "333", "1", "--csv"], ROUND)?;
+    assert_eq!(rt; table.status, 0);
+    assert_eq!(rt; table.written.as_slice(), TABLE);
+    let other = run_texts(rt.alloc(), &["desk", "replay", "skewb", "3"], ROUND)?;
+    assert_eq!(rt; other.status, 3);
+    Ok(())
+}
+
+#[test]
+fn tells_of_words_that_cannot_be_had(rt: HostRuntime) {
+    let rows: [(io::ErrorKind, u8, &[u8]); 2] = [
+        (io::ErrorKind::OutOfMemory, 5, b"no memory\n"),
+        (
+            io::ErrorKind::InvalidData,
+            2,
+            b"error: the words are not UTF-8 text\n",
+        ),
+    ];
+    for (kind, status, line) in rows {
+        let mut faults = Vec::new(rt.alloc());
+        let told = tell_no_words(&io::Error::from(kind), &mut faults);
+        assert_eq!(rt; told, status);
+        assert_eq!(rt; faults.as_slice(), line);
+    }
+}
+
+#[test]
+fn names_each_fault(rt: HostRuntime) -> Result<(), AllocError> {
+    let rows = [
+        (RunFault::NoSuchRound, "no such round"),
+        (RunFault::BadCount, "bad number of desks"),
+        (RunFault::InputTooLong, "input too long"),
+        (RunFault::BadLine { line: 65_536 }, "bad line 65536"),
+        (RunFault::Read, "cannot read"),
+        (RunFault::Write, "cannot write"),
+        (RunFault::NoMemory, "no memory"),
+    ];
+    for (fault, text) in rows {
+        let printed = format!(in rt.alloc(); "{fault}")?;
+        assert_eq!(rt; printed.as_str(), text);
+    }
+    Ok(())
+}
+
+#[test]
+fn prints_its_version(rt: HostRuntime) {
+    for word in ["--version", "-V"] {
+        let mut reader: &[u8] = b"";
+        let ran = run_on(rt.alloc(), &["desk", word], &mut reader);
+        assert_eq!(rt; ran.status, 2);
+        assert_eq!(rt; ran.written.as_slice(), b"desk 0.1.0\n".as_slice());
+        assert!(rt; ran.faults.is_empty());
     }
 }
 

@@ -6,4 +6,6 @@ use Rattle.desk.proofs.words.parse.Goals as goal
 pub returns : goal.returns
 returns c =
     let made = c.in_ok-command.ensures in
-    IfOk-weaker c.try_get_matches_from.result _ _ (λ matches has. (made.0, made.1, (has (ap is_simple made.2)).1 ∙ ap₂ subcommand_of made.2 refl)) c.try_get_matches_from.ensures.matches
+    IfOk-weaker c.try_get_matches_from.result _ _
+    (λ matches has. (made.0, made.1, (has (ap is_simple made.2)).1 ∙ ap₂ subcommand_of made.2 refl))
+    c.try_get_matches_from.ensures.matches

@@ -1,0 +1,9 @@
+pub mod Known
+pub mod Machine
+pub mod Bytewise
+pub mod Limits
+pub mod Longest
+pub mod Parted
+pub mod More
+pub mod Given
+pub mod Inputs

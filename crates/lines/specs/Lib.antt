@@ -1,0 +1,4 @@
+pub mod Bytes
+pub mod Lines
+pub mod Reading
+pub mod model

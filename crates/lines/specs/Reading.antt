@@ -1,0 +1,75 @@
+-- What a reader of lines has read of an input, and which lines it gave.
+use Rattle.std.specs.Prelude.{◌≡◌, ℕ, ◌+◌, Bool, true, false, nat_lt, ◌==◌, ◌&&◌, ◌||◌, List, [], ◌∷◌, ◌++◌, length, Option, Result, Ok, Err}
+use Rattle.std.specs.Io.KnownBytes.{Consumes, IsAtEnd}
+use Rattle.lines.specs.Lines.{whole_lines, rest_of, lines_of, is_within, part_within}
+use Rattle.lines.specs.declared.fault.RunFault.{RunFault}
+use Rattle.lines.specs.declared.fault.RunFault.TheVariants as fault
+
+-- how many lines and bytes were given, what was read behind them, and whether the input's end was
+-- met
+pub record Reading : Type 0 where
+  pub lines : ℕ
+  pub bytes : ℕ
+  pub held : List ℕ
+  pub over : Bool
+
+abbrev pub nothing_read : Reading
+nothing_read = record { lines = 0; bytes = 0; held = []; over = false }
+
+-- behind so many bytes and lines, and so many bytes of a line, one more byte is within the limits
+abbrev pub has_room : (bytes lines in_line : ℕ) → ℕ → Bool
+has_room bytes lines in_line byte =
+    nat_lt bytes 39387136 && nat_lt lines 65536 && (byte == 10 || nat_lt in_line 10000)
+
+-- the lines of these bytes were given: they are within the limits, and the last one is whole, or
+-- the input's end
+pub record HasGiven (p : Reading) (given : List ℕ) (start now : Option (List ℕ)) : Type 0 where
+  pub consumed : Consumes start now (given ++ p.held)
+  pub bytes : p.bytes ≡ length given
+  pub lines : p.lines ≡ length (lines_of given)
+  pub within : is_within given ≡ true
+  pub whole : p.over ≡ false → rest_of given ≡ []
+  pub ended : p.over ≡ true → (p.held ≡ []) × IsAtEnd now
+
+-- one more line was given
+pub record GivesLine (p : Reading) (line given : List ℕ) (start now : Option (List ℕ)) : Type 0
+  where
+    pub more : List ℕ
+    pub read : HasGiven p (given ++ more) start now
+    pub is : lines_of (given ++ more) ≡ lines_of given ++ line ∷ []
+
+-- no line is left
+pub record GivesNone (p : Reading) (given : List ℕ) (start now : Option (List ℕ)) : Type 0 where
+  pub read : HasGiven p given start now
+  pub over : p.over ≡ true
+
+-- one byte of the rest that was read is above the limits, whatever stands behind it, and no line in
+-- front of it is left
+pub record IsAbove (given rest : List ℕ) (start now : Option (List ℕ)) : Type 0 where
+  pub consumed : Consumes start now (given ++ rest)
+  pub above : (behind : List ℕ) → is_within ((given ++ rest) ++ behind) ≡ false
+  pub lines : (behind : List ℕ)
+      → whole_lines (part_within ((given ++ rest) ++ behind)) ≡ lines_of given
+
+-- a read failed within a line
+pub record IsBroken (given rest : List ℕ) (start now : Option (List ℕ)) : Type 0 where
+  pub consumed : Consumes start now (given ++ rest)
+  pub within : is_within (given ++ rest) ≡ true
+  pub lines : whole_lines (given ++ rest) ≡ lines_of given
+
+-- why no line was given
+abbrev pub GivesFault : RunFault → (given : List ℕ) (start now : Option (List ℕ)) → Type 0
+GivesFault fault.InputTooLong given start now = (rest : List ℕ) × IsAbove given rest start now
+GivesFault fault.Read given start now = (rest : List ℕ) × IsBroken given rest start now
+GivesFault fault.NoMemory given start now = (rest : List ℕ) × Consumes start now (given ++ rest)
+GivesFault fault.Write given start now = ⊥
+GivesFault fault.NoSuchRound given start now = ⊥
+GivesFault fault.BadCount given start now = ⊥
+GivesFault (fault.BadLine n) given start now = ⊥
+
+-- what a call gives, and how it leaves the reader
+abbrev pub Gives : Result Bool RunFault → Reading
+    → (line given : List ℕ) (start now : Option (List ℕ)) → Type 0
+Gives (Ok true) p line given start now = GivesLine p line given start now
+Gives (Ok false) p line given start now = GivesNone p given start now
+Gives (Err e) p line given start now = GivesFault e given start now

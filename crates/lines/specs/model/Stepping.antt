@@ -1,0 +1,34 @@
+-- How a reader of lines goes from byte to byte.
+use Rattle.std.specs.Prelude.{◌≡◌, ℕ, Bool, true, false, not, nat_lt, List, [], ◌∷◌, ◌++◌, length, Option}
+use Rattle.std.specs.Io.KnownBytes.{Consumes, IsAtEnd}
+use Rattle.lines.specs.Reading.{Reading}
+
+-- one of the bytes that were read was taken, or there was none
+pub record TakesHeld (old new : Reading) (byte : ℕ) : Type 0 where
+  pub bytes : old.held ≡ byte ∷ new.held
+  pub same : new ≡ record old { held = new.held }
+
+pub record TakesNone (old new : Reading) : Type 0 where
+  pub none : old.held ≡ []
+  pub same : new ≡ old
+
+-- a piece was read in place of what was held, or the end was met
+pub record Fills (old new : Reading) (some : Bool) (before now : Option (List ℕ)) : Type 0 where
+  pub consumed : Consumes before now new.held
+  pub same : new ≡ record old { held = new.held; over = not some }
+  pub is : some ≡ nat_lt 0 (length new.held)
+  pub end : some ≡ false → IsAtEnd now
+
+-- the next byte was taken out of what was read, or of a piece that was read now
+pub record TakesByte (old new : Reading) (byte : ℕ) (before now : Option (List ℕ)) : Type 0 where
+  pub piece : List ℕ
+  pub consumed : Consumes before now piece
+  pub bytes : old.held ++ piece ≡ byte ∷ new.held
+  pub same : new ≡ record old { held = new.held }
+
+-- no byte is left
+pub record MeetsEnd (old new : Reading) (before now : Option (List ℕ)) : Type 0 where
+  pub none : old.held ≡ []
+  pub consumed : Consumes before now []
+  pub end : IsAtEnd now
+  pub same : new ≡ record old { over = true }

@@ -1,0 +1,14 @@
+use Rattle.std.proofs.Common.{List, ℕ, ◌-◌}
+use Rattle.replay.proofs.Applied.{Applied}
+use Rattle.replay.proofs.apply_lines.Given as goal
+
+-- the lines that were given are applied
+abbrev pub invariant-loop-meet : goal.invariant-loop-meet
+invariant-loop-meet g l =
+    (given : List ℕ)
+    × Applied l.lines l.meet l.out.items given (g.R.Read.remaining l.initial.reader)
+    (g.R.Read.remaining l.reader) (g.W.Write.contents l.initial.writer)
+    (g.W.Write.contents l.writer)
+
+abbrev pub decreases-loop-meet : goal.decreases-loop-meet
+decreases-loop-meet g l = 65537 - l.lines.lines

@@ -1,0 +1,104 @@
+-- What a replay writes for its input, and how it ends.
+use Rattle.std.specs.Prelude.{◌≡◌, ℕ, true, false, if◌then◌else◌, List, [], ◌∷◌, ◌++◌, length, codes, decimal, is_some, unwrap_or, Option, None}
+use Rattle.std.specs.List.{enumerate_from}
+use Rattle.std.specs.Io.KnownBytes.{Appends, IsAtEnd}
+use Rattle.formats.specs.declared.events.Event.{Event}
+use Rattle.commands.specs.History.{History, nothing, history, after, answer_to}
+use Rattle.texts.specs.Codes.{code_name}
+use Rattle.texts.specs.declared.answer.Answer.{Answer}
+use Rattle.texts.specs.declared.answer.Answer.TheVariants.{Done, Refused}
+use Rattle.sheets.specs.declared.Style.{Style}
+use Rattle.sheets.specs.Sheet.{sheet}
+use Rattle.lines.specs.Lines.{whole_lines, lines_of, is_within, lines_read}
+use Rattle.lines.specs.Bytes.{HasLeft, AppendsPart}
+use Rattle.lines.specs.declared.fault.RunFault.{RunFault}
+use Rattle.lines.specs.declared.fault.RunFault.TheVariants as fault
+
+-- line n is the command text with the id n
+abbrev pub entries : List (List ℕ) → List (ℕ × List ℕ)
+entries lines = enumerate_from 1 lines
+
+-- what is written for line n
+abbrev pub refusal_text : ℕ → Answer → List ℕ
+refusal_text n Done = []
+refusal_text n (Refused code) =
+    codes "refused " ++ decimal n ++ codes " " ++ code_name code ++ codes "\n"
+
+-- what is written for entries behind a history
+abbrev pub refusals_after : History → List (ℕ × List ℕ) → List ℕ
+refusals_after h [] = []
+refusals_after h (e ∷ es) =
+    refusal_text e.0 (answer_to h e.0 e.1) ++ refusals_after (after h e.0 e.1) es
+
+-- a line for each refused command
+abbrev pub refusals : List (List ℕ) → List ℕ
+refusals lines = refusals_after nothing (entries lines)
+
+-- the sheet behind all lines
+abbrev pub sheet_after : Style → Event → ℕ → List (List ℕ) → Option (List ℕ)
+sheet_after style event round lines =
+    sheet style (history (entries lines)).accepted event round (length lines)
+
+-- the text for an input: the refused lines, and then the sheet if there is one;
+-- above the limits, the refused lines among the whole ones in front
+abbrev pub replay_text : Style → Event → ℕ → List ℕ → List ℕ
+replay_text style event round input =
+    refusals (lines_read input)
+    ++
+    (if is_within input then unwrap_or (sheet_after style event round (lines_of input)) [] else [])
+
+-- a run for the sheet of a round: its input, what its reader has left, and what its writer had and
+-- has
+pub record Run : Type 0 where
+  pub style : Style
+  pub event : Event
+  pub round : ℕ
+  pub input : List ℕ
+  pub left : Option (List ℕ)
+  pub old : Option (List ℕ)
+  pub new : Option (List ℕ)
+
+abbrev pub run_text : Run → List ℕ
+run_text r = replay_text r.style r.event r.round r.input
+
+abbrev pub run_sheet : Run → Option (List ℕ)
+run_sheet r = sheet_after r.style r.event r.round (lines_of r.input)
+
+-- all was read and is within the limits, the round is there, and its text is written
+pub record Replays (r : Run) : Type 0 where
+  pub end : IsAtEnd r.left
+  pub within : is_within r.input ≡ true
+  pub round_there : is_some (run_sheet r) ≡ true
+  pub written : Appends r.old r.new (run_text r)
+
+-- all was read and is within the limits, the round is not there, and the refused lines are written
+pub record LacksRound (r : Run) : Type 0 where
+  pub end : IsAtEnd r.left
+  pub within : is_within r.input ≡ true
+  pub no_round : run_sheet r ≡ None
+  pub written : Appends r.old r.new (run_text r)
+
+-- a byte is above the limits, and the refused lines among the whole ones in front of it are written
+pub record IsTooLong (r : Run) : Type 0 where
+  pub above : is_within r.input ≡ false
+  pub written : Appends r.old r.new (run_text r)
+
+-- a part of the input was read and is within the limits, the rest is left,
+-- and what the whole lines of that part gave is written
+pub record ReadsPart (r : Run) : Type 0 where
+  pub front : List ℕ
+  pub rest : List ℕ
+  pub parts : r.input ≡ front ++ rest
+  pub remains : HasLeft r.left rest
+  pub within : is_within front ≡ true
+  pub written : Appends r.old r.new (refusals (whole_lines front))
+
+-- how a replay ends that does not write the whole text with a sheet
+abbrev pub ReplayFails : RunFault → Run → Type 0
+ReplayFails fault.NoSuchRound r = LacksRound r
+ReplayFails fault.InputTooLong r = IsTooLong r
+ReplayFails fault.Read r = ReadsPart r
+ReplayFails fault.Write r = AppendsPart r.old r.new (run_text r)
+ReplayFails fault.NoMemory r = AppendsPart r.old r.new (run_text r)
+ReplayFails fault.BadCount r = ⊥
+ReplayFails (fault.BadLine n) r = ⊥

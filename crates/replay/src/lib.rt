@@ -1,0 +1,178 @@
+//! A replay: the commands of a competition from a reader, one a line, and the sheet of a round that
+//! they come to.
+#![tactic(auto)]
+
+ghost use Rattle.std.specs.Prelude.{◌≡◌, ◌++◌, List, ℕ, Some, IfOk, OnOk, IfErr};
+ghost use Rattle.commands.specs.History.{nothing, after, answer_to};
+ghost use Rattle.sheets.specs.Sheet.{sheet};
+ghost use Rattle.sheets.specs.Faults.{NoSheet};
+ghost use Rattle.lines.specs.Bytes.{HasLeft};
+ghost use Rattle.replay.specs.Replay.{refusal_text, Replays, ReplayFails};
+ghost use Rattle.replay.specs.model.Applying.{Applies, StopsAmong};
+
+use attempts::push_decimal;
+use commands::{Answer, Meet};
+use formats::Event;
+use lines::{LineReader, write_long, write_out, write_text};
+pub use lines::{RunFault, lines_are_parted};
+use sheets::{SheetFault, Style, table, text};
+use std::alloc::{AllocError, Global};
+use std::io::{Read, Write};
+
+/// Adds what is written for a line.
+fn push_refusal(out: &mut Vec<u8>, line: u32, answer: Answer) -> Result<(), AllocError>
+    ensures { OnOk result (out.new.items ≡ out.old.items ++ refusal_text line answer) }
+{
+    if let Answer::Refused(code) = answer {
+        out.extend_from_slice(b"refused ")?;
+        push_decimal(out, line)?;
+        out.extend_from_slice(b" ")?;
+        out.extend_from_slice(code.name().as_bytes())?;
+        out.extend_from_slice(b"\n")?;
+    }
+    Ok(())
+}
+
+/// Applies the command of a line, whose number is its id.
+fn apply_line(
+    meet: &mut Meet,
+    number: u32,
+    line: &[u8],
+    out: &mut Vec<u8>,
+) -> Result<(), AllocError>
+    ensures after { OnOk result (meet.new ≡ after meet.old number line.now) }
+    ensures said { OnOk result
+        (out.new.items ≡ out.old.items
+        ++ refusal_text number (answer_to meet.old number line.now)) }
+{
+    let answer = meet.apply(u64::from(number), line)?;
+    push_refusal(out, number, answer)
+}
+
+/// Applies the commands of all lines, and says how many there were.
+fn apply_lines<R: Read, W: Write>(
+    alloc: Global,
+    meet: &mut Meet,
+    reader: &mut R,
+    writer: &mut W,
+) -> Result<u32, RunFault>
+    requires { meet.old ≡ nothing }
+    ensures ok { IfOk result (λ count. (input : List ℕ) × HasLeft (R.remaining reader.old) input
+        × Applies meet.new count input (R.remaining reader.new)
+        (W.contents writer.old) (W.contents writer.new)) }
+    ensures err { IfErr result (λ e. (input : List ℕ) × HasLeft (R.remaining reader.old) input
+        × StopsAmong e input (R.remaining reader.new)
+        (W.contents writer.old) (W.contents writer.new)) }
+{
+    let mut lines = LineReader::new();
+    let mut line = Vec::new(alloc);
+    let mut out = Vec::new(alloc);
+    loop {
+        match lines.read_line(reader, &mut line) {
+            Ok(true) => {
+                let Ok(()) = apply_line(meet, lines.count(), &line, &mut out) else {
+                    return Err(RunFault::NoMemory);
+                };
+                let Ok(()) = write_long(writer, &mut out) else {
+                    return Err(RunFault::Write);
+                };
+            }
+            Ok(false) => break,
+            Err(fault) => {
+                let Ok(()) = write_out(writer, &mut out) else {
+                    return Err(RunFault::Write);
+                };
+                return Err(fault);
+            }
+        }
+    }
+    match write_out(writer, &mut out) {
+        Ok(()) => Ok(lines.count()),
+        Err(_) => Err(RunFault::Write),
+    }
+}
+
+/// The sheet behind so many lines.
+fn sheet_of(
+    alloc: Global,
+    meet: &Meet,
+    event: Event,
+    round: u8,
+    style: Style,
+    position: u32,
+) -> Result<Vec<u8>, SheetFault>
+    ensures sheet { IfOk result
+        (λ text. sheet style meet.now.accepted event round position ≡ Some text.items) }
+    ensures none { IfErr result
+        (λ e. NoSheet e (sheet style meet.now.accepted event round position)) }
+{
+    match style {
+        Style::Text => text(alloc, meet, event, round, position),
+        Style::Table => table(alloc, meet, event, round, position),
+    }
+}
+
+/// Reads commands, one a line, and writes a line for each that is refused, and then the sheet of a
+/// round.
+///
+/// Lines are parted by line feeds; a last line without one counts where it is not empty. Line `n`,
+/// counted from 1, is the command with the id `n`. A refused one is written as `refused`, `n` and
+/// the name of the refusal. The sheet stands behind all of them, and its position is the number of
+/// lines.
+///
+/// # Errors
+///
+/// - `NoSuchRound` where no accepted command opened the round: the refused lines are written.
+/// - `InputTooLong` where the input has more than 65,536 lines, more than 10,000 bytes in a line, or
+///   more than 39,387,136 bytes: what the whole lines in front of the first byte too many gave is
+///   written.
+/// - `Read` where a read fails, an interrupted one too: what the whole lines in front gave is
+///   written.
+/// - `Write` where a write fails, and `NoMemory` where memory runs out: a front part of the text for
+///   the whole input is written.
+pub fn replay<R: Read, W: Write>(
+    alloc: Global,
+    reader: &mut R,
+    writer: &mut W,
+    event: Event,
+    round: u8,
+    style: Style,
+) -> Result<(), RunFault>
+    ensures ok { OnOk result ((input : List ℕ) × HasLeft (R.remaining reader.old) input
+        × Replays (record {
+          style = style;
+          event = event;
+          round = round;
+          input = input;
+          left = R.remaining reader.new;
+          old = W.contents writer.old;
+          new = W.contents writer.new;
+        })) }
+    ensures err { IfErr result (λ e. (input : List ℕ) × HasLeft (R.remaining reader.old) input
+        × ReplayFails e (record {
+          style = style;
+          event = event;
+          round = round;
+          input = input;
+          left = R.remaining reader.new;
+          old = W.contents writer.old;
+          new = W.contents writer.new;
+        })) }
+{
+    let Ok(mut meet) = Meet::new(alloc) else {
+        return Err(RunFault::NoMemory);
+    };
+    let position = match apply_lines(alloc, &mut meet, reader, writer) {
+        Ok(position) => position,
+        Err(fault) => return Err(fault),
+    };
+    let sheet = match sheet_of(alloc, &meet, event, round, style, position) {
+        Ok(sheet) => sheet,
+        Err(SheetFault::NoSuchRound) => return Err(RunFault::NoSuchRound),
+        Err(SheetFault::NoMemory) => return Err(RunFault::NoMemory),
+    };
+    match write_text(writer, &sheet) {
+        Ok(()) => Ok(()),
+        Err(_) => Err(RunFault::Write),
+    }
+}
