@@ -1,0 +1,144 @@
+-- What the code did for a request is what the request asks.
+use Rattle.std.proofs.Common.{◌≡◌, refl, sym, ap, subst, ◌∙◌, ℕ, List, [], ◌∷◌, ◌++◌, Option, None, Some}
+use Rattle.std.proofs.lemmas.List.{append-nil}
+use Rattle.acceptor.specs.declared.message.Message.{Message}
+use Rattle.learner.specs.declared.event.Event.TheVariants.{Deliver, Tick}
+use Rattle.wire.specs.declared.frame.What.{What}
+use Rattle.wire.specs.declared.frame.What.TheVariants as what
+use Rattle.store.specs.declared.home.Home.{Home}
+use Rattle.serving.specs.Adding.{Push, Hands}
+use Rattle.serving.specs.Answering.{answer_of, answer_first, standing, told_what, printed}
+use Rattle.serving.specs.Connection.{Answers, AnswersSome, FailsToAnswer}
+use Rattle.serving.specs.Nodes.{Seen, Fate, reply}
+use Rattle.serving.specs.Reaching.{at, service, Reaches, DoesPart, DoesTake}
+use Rattle.serving.specs.Serving.{Act, Service, first_fate, take, begun, served, answer, pushes_of, seen_after}
+use Rattle.serving.specs.declared.calling.Answer.{Answer}
+use Rattle.serving.specs.declared.request.Request.{Request}
+use Rattle.serving.specs.declared.request.Request.TheVariants.{Heard, Ticked, Asked, Printed}
+use Rattle.formats.specs.declared.events.Event.{Event as EventOf}
+use Rattle.wire.specs.declared.values.SheetStyle.{SheetStyle as Style}
+use Rattle.serving.proofs.Handing.{Hands-nil}
+
+-- what reached its end from the beginning of a frame
+pub took : (home : Home) (f : Service → Service) (x y : Seen) (left : ℕ) (acts : List Act)
+    (past : List Fate)
+    → Reaches home f (at x [] 16) (λ s. s) (at y [] left) acts past
+    → f (begun x past) ≡ service (at y [] left) acts []
+took home f x y left acts past r = ap (λ z. f (begun x z)) (sym (append-nil past)) ∙ r.steps [] []
+
+pub took_calls : (home : Home) (f : Service → Service) (x y : Seen) (left : ℕ) (acts : List Act)
+    (past : List Fate)
+    → Reaches home f (at x [] 16) (λ s. s) (at y [] left) acts past
+    → y ≡ seen_after home x acts past
+took_calls home f x y left acts past r =
+    sym (r.calls [] []) ∙ ap (λ z. seen_after home x z (past ++ [])) (append-nil acts)
+    ∙ ap (λ z. seen_after home x acts z) (append-nil past)
+
+-- the calls and pushes of a request, and the node behind it; the answer is another matter
+pub answers_by : (home : Home) (r : Request) (x y : Seen) (left : ℕ) (acts : List Act)
+    (past : List Fate) (w : Option What) (a b : Option (List Push))
+    → (served home x past r ≡ service (at y [] left) acts []) → (y ≡ seen_after home x acts past)
+    → Hands a b (pushes_of home.hall acts)
+    → w ≡ answer home x past r
+    → Answers home x y past r w a b
+answers_by home r x y left acts past w a b all calls handed is = record {
+  answer_is = is;
+  pushed =
+      subst (λ z. Hands a b (pushes_of home.hall z)) (sym (ap (λ (z : Service). z.done) all))
+      handed;
+  node = sym (ap (λ (z : Service). z.seen) all);
+  calls = calls ∙ ap (λ z. seen_after home x z past) (sym (ap (λ (z : Service). z.done) all));
+}
+
+-- a message of a desk
+pub hears : (home : Home) (m : Message) (x y : Seen) (left : ℕ) (answer : Answer) (acts : List Act)
+    (past : List Fate) (a b : Option (List Push))
+    → DoesTake home left (Deliver m) answer x y acts past a b
+    → AnswersSome home x y (Heard m) None a b
+hears home m x y left answer acts past a b h = (
+  past,
+  answers_by home (Heard m) x y left acts past None a b
+      (took home (take home (Deliver m)) x y left acts past h.did.reaches)
+      (took_calls home (take home (Deliver m)) x y left acts past h.did.reaches) h.did.handed refl,
+)
+
+-- a Tick
+pub ticks : (home : Home) (x y : Seen) (left : ℕ) (answer : Answer) (acts : List Act)
+    (past : List Fate) (w : What) (a b : Option (List Push))
+    → DoesTake home left Tick answer x y acts past a b → w ≡ answer_first what.Fine answer y
+    → AnswersSome home x y Ticked (Some w) a b
+ticks home x y left answer acts past w a b h is =
+    let all = took home (take home Tick) x y left acts past h.did.reaches in (
+      past,
+      answers_by home Ticked x y left acts past (Some w) a b all
+          (took_calls home (take home Tick) x y left acts past h.did.reaches) h.did.handed
+          (ap (λ z. Some z) is
+          ∙ ap (λ z. Some (answer_first what.Fine z y)) h.answer_is
+          ∙ ap
+          (λ z.
+          Some (answer_first what.Fine (answer_of (reply home x Tick (first_fate z)).result) y))
+          (sym h.first)
+          ∙ ap
+          (λ (z : Service).
+          Some
+          (answer_first what.Fine (answer_of (reply home x Tick (first_fate past)).result) z.seen))
+          (sym all)),
+    )
+
+-- a front part of an event: what was done begins what would have been done, and the node is the one
+-- after it
+part_acts : (home : Home) (f : Service → Service) (x shown : Seen) (a b : Option (List Push))
+    (d : DoesPart home f (at x [] 16) shown a b)
+    → (more : List Act) × ((f (begun x d.1)).done ≡ d.0 ++ more)
+part_acts home f x shown a b d =
+    let more = d.4.adds (service d.3 d.0 []) in (
+      more.0,
+      ap (λ z. (f (begun x z)).done) (sym (append-nil d.1))
+          ∙ ap (λ (z : Service). z.done) (d.4.reaches.steps [] []) ∙ more.1,
+    )
+
+part_seen : (home : Home) (f : Service → Service) (x shown : Seen) (a b : Option (List Push))
+    (d : DoesPart home f (at x [] 16) shown a b)
+    → shown ≡ seen_after home x d.0 d.1
+part_seen home f x shown a b d =
+    sym d.4.last ∙ sym (d.4.reaches.calls [] [])
+    ∙ ap (λ z. seen_after home x z (d.1 ++ [])) (append-nil d.0)
+    ∙ ap (λ z. seen_after home x d.0 z) (append-nil d.1)
+
+-- memory was refused on the way of a request
+pub fails : (home : Home) (f : Service → Service) (r : Request) (x shown : Seen)
+    (a b : Option (List Push))
+    → ((fates : List Fate) → served home x fates r ≡ f (begun x fates))
+    → DoesPart home f (at x [] 16) shown a b → FailsToAnswer home x shown r a b
+fails home f r x shown a b is d =
+    let more = part_acts home f x shown a b d in (
+      d.1,
+      d.0,
+      more.0,
+      record {
+        parts = ap (λ (z : Service). z.done) (is d.1) ∙ more.1;
+        pushed = d.4.handed;
+        node = part_seen home f x shown a b d;
+      },
+    )
+
+-- what became of a command, and a sheet: the node is asked, and is as it was
+pub asks : (home : Home) (r : Request) (id : ℕ) (x : Seen) (w : What) (a : Option (List Push))
+    → r ≡ Asked id
+    → (fate : Fate) × (w ≡ told_what id fate (standing x id)) → AnswersSome home x x r (Some w) a a
+asks home r id x w a is h =
+    subst (λ z. AnswersSome home x x z (Some w) a a) (sym is) (
+      h.0 ∷ [],
+      record { answer_is = ap (λ z. Some z) h.1; pushed = Hands-nil a; node = refl; calls = refl },
+    )
+
+pub prints : (home : Home) (r : Request) (event : EventOf) (round position : ℕ) (style : Style)
+    (x : Seen) (w : What) (a : Option (List Push))
+    → r ≡ Printed event round position style
+    → (fate : Fate) × (w ≡ printed x fate event round position style)
+    → AnswersSome home x x r (Some w) a a
+prints home r event round position style x w a is h =
+    subst (λ z. AnswersSome home x x z (Some w) a a) (sym is) (
+      h.0 ∷ [],
+      record { answer_is = ap (λ z. Some z) h.1; pushed = Hands-nil a; node = refl; calls = refl },
+    )

@@ -1,0 +1,66 @@
+-- A message in its ranges is a frame in its ranges.
+use Rattle.std.proofs.Common.{◌≡◌, refl, nat_lt, true, false, Bool, ◌&&◌, ℕ, ◌≤◌, ◌<◌, ◌^◌, None, Some, arith}
+use Rattle.std.proofs.lemmas.Bool.{ltb-true, leb-true}
+use Rattle.acceptor.specs.declared.ballot.Ballot.{Ballot}
+use Rattle.acceptor.specs.declared.message.Body.{Body}
+use Rattle.acceptor.specs.declared.message.Body.TheVariants.{Prepare, Promise, Accept, Accepted, Nack, Behind, Decided}
+use Rattle.acceptor.specs.declared.message.Message.{Message}
+use Rattle.learner.specs.Ranges.{IsInRange}
+use Rattle.learner.specs.Steps.{is_real, is_in_range}
+use Rattle.wire.specs.Ranges.{IsFrame, IsBody, IsBallot, IsPosition, IsDesk, Goes, way_of}
+use Rattle.serving.specs.Framing.{IsTyped}
+use Rattle.serving.specs.Serving.{what_of, framed}
+
+both : (a b : Bool) → (a && b) ≡ true → (a ≡ true) × (b ≡ true)
+both true b h = (refl, h)
+both false b h = absurd cc
+
+is_ballot : (n : ℕ) (b : Ballot) → n ≤ 5 → is_real n b ≡ true → b.round < 2 ^ 32 → IsBallot b
+is_ballot n b few h small =
+    let parts = both _ _ h in
+    let desk = both _ _ parts.1 in
+    (leb-true _ _ parts.0, small, (leb-true _ _ desk.0, omega (arith, leb-true _ _ desk.1, few)))
+
+is_position : (pos : ℕ) → nat_lt pos 65536 ≡ true → IsPosition pos
+is_position pos h = omega (arith, ltb-true _ _ h)
+
+is_body : (n : ℕ) (b : Body) → n ≤ 5 → is_in_range n b ≡ true → IsTyped b → IsBody (what_of b)
+is_body n (Prepare b pos) few h t =
+    let p = both _ _ h in (is_ballot n b few p.0 t, is_position pos p.1)
+is_body n (Promise b pos None) few h t =
+    let p = both _ _ h in (is_ballot n b few p.0 t.0, is_position pos p.1, tt)
+is_body n (Promise b pos (Some r)) few h t =
+    let p = both _ _ h in
+    let q = both _ _ p.0 in
+    (is_ballot n b few q.0 t.0, is_position pos q.1, (is_ballot n r.ballot few p.1 t.1.0, t.1.1))
+is_body n (Accept b pos e) few h t =
+    let p = both _ _ h in (is_ballot n b few p.0 t.0, is_position pos p.1, t.1)
+is_body n (Accepted b pos) few h t =
+    let p = both _ _ h in (is_ballot n b few p.0 t, is_position pos p.1)
+is_body n (Nack b pos q) few h t =
+    let p = both _ _ h in
+    let r = both _ _ p.0 in
+    (is_ballot n b few r.0 t.0, is_position pos r.1, is_ballot n q few p.1 t.1)
+is_body n (Behind len) few h t = leb-true _ _ h
+is_body n (Decided pos e) few h t = (is_position pos h, t)
+
+goes : (n : ℕ) (b : Body) (from to : ℕ) → IsDesk from → IsDesk to
+    → Goes (way_of (what_of b)) from to
+goes n (Prepare b pos) from to x y = (x, y)
+goes n (Promise b pos v) from to x y = (x, y)
+goes n (Accept b pos e) from to x y = (x, y)
+goes n (Accepted b pos) from to x y = (x, y)
+goes n (Nack b pos q) from to x y = (x, y)
+goes n (Behind len) from to x y = (x, y)
+goes n (Decided pos e) from to x y = (x, y)
+
+pub is_frame : (hall n : ℕ) (m : Message) → hall < 2 ^ 32 → n ≤ 5 → IsInRange n m → IsTyped m.body
+    → IsFrame (framed hall m)
+is_frame hall n m small few h t =
+    record {
+      hall = small;
+      goes =
+          goes n m.body m.from m.to (h.from.0, omega (arith, h.from.1, few))
+          (h.to.0, omega (arith, h.to.1, few));
+      body = is_body n m.body few h.body t;
+    }

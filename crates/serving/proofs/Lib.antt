@@ -1,0 +1,15 @@
+pub mod Framed
+pub mod Handing
+pub mod Pushed
+pub mod Fates
+pub mod Reached
+pub mod Additions
+pub mod Connecting
+pub mod Pieces
+pub mod Parts
+pub mod Started
+pub mod Answered
+pub mod Known
+pub mod Entering
+pub mod Served
+pub mod Sheets

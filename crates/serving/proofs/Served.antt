@@ -1,0 +1,97 @@
+-- A frame: its request, the answer, and how it ends the connection.
+use Rattle.std.proofs.Common.{◌≡◌, refl, sym, ap, subst, ◌∙◌, ℕ, List, [], ◌∷◌, ◌++◌, Option, None, Some}
+use Rattle.std.proofs.lemmas.List.{append-nil}
+use Rattle.std.specs.Io.KnownBytes.{Appends}
+use Rattle.store.specs.declared.home.Home.{Home}
+use Rattle.wire.specs.Spelling.{spelling}
+use Rattle.wire.specs.declared.frame.Frame.{Frame}
+use Rattle.wire.specs.declared.frame.What.{What}
+use Rattle.serving.specs.Adding.{Push}
+use Rattle.serving.specs.Asking.{request, ending, close_by}
+use Rattle.serving.specs.Bytes.{AppendsPart, WriteEnds}
+use Rattle.serving.specs.Connection.{Answers, AnswersSome, AnswersPart, FailsToAnswer, ServesOne, FailsIn, serve_frame, close_of, answer_frame, framed_answer, answer_bytes, sides}
+use Rattle.serving.specs.Nodes.{Seen, Fate}
+use Rattle.serving.specs.Serving.{Act, served}
+use Rattle.serving.specs.declared.ends.Close.{Close}
+use Rattle.serving.specs.declared.ends.FrameFault.{FrameFault}
+use Rattle.serving.specs.declared.ends.FrameFault.TheVariants as fault
+use Rattle.serving.specs.declared.request.Request.{Request}
+
+-- the frame was served whole
+pub serves : (home : Home) (f : Frame) (r : Request) (x y : Seen) (w : Option What)
+    (close : Option Close) (o n : Option (List ℕ)) (a b : Option (List Push))
+    → r ≡ request home f → AnswersSome home x y r w a b
+    → Appends o n (answer_bytes (framed_answer home w)) → close ≡ close_by (ending r) y.is_down
+    → (fates : List Fate)
+    × ServesOne home (sides x o a) (sides y n b) (record { frame = f; fates = fates }) close
+unfolding serve_frame close_of
+serves home f r x y w close o n a b is h written c =
+    let g = subst (λ z. Answers home x y h.0 z w a b) is h.1 in (
+      h.0,
+      record {
+        close =
+            c ∙ ap (λ z. close_by (ending z) y.is_down) is
+            ∙ ap (λ (z : Seen). close_by (ending (request home f)) z.is_down) g.node;
+        answered =
+            subst (λ z. Appends o n (answer_bytes (framed_answer home z))) g.answer_is written;
+        pushed = g.pushed;
+        node = g.node;
+      },
+    )
+
+-- the answer's bytes are one frame
+pub one_frame : (home : Home) (w : What) (o n : Option (List ℕ))
+    → Appends o n (spelling (answer_frame home w))
+    → Appends o n (answer_bytes (framed_answer home (Some w)))
+one_frame home w o n h =
+    subst (λ z. Appends o n z) (sym (append-nil (spelling (answer_frame home w)))) h
+
+pub one_frame_fails : (home : Home) (w : What) (why : FrameFault) (o n : Option (List ℕ))
+    → WriteEnds why o n (spelling (answer_frame home w))
+    → WriteEnds why o n (answer_bytes (framed_answer home (Some w)))
+one_frame_fails home w why o n h =
+    subst (λ z. WriteEnds why o n z) (sym (append-nil (spelling (answer_frame home w)))) h
+
+-- the answer could not be written whole
+pub answer_fails : (home : Home) (f : Frame) (r : Request) (x y : Seen) (w : Option What)
+    (why : FrameFault) (o n : Option (List ℕ)) (a b : Option (List Push))
+    → r ≡ request home f → AnswersSome home x y r w a b
+    → WriteEnds why o n (answer_bytes (framed_answer home w))
+    → (fates : List Fate)
+    × FailsIn why home (sides x o a) (sides y n b) (record { frame = f; fates = fates })
+unfolding serve_frame
+answer_fails home f r x y w fault.Write o n a b is h part =
+    let g = subst (λ z. Answers home x y h.0 z w a b) is h.1 in (
+      h.0,
+      record {
+        answered =
+            subst (λ z. AppendsPart o n (answer_bytes (framed_answer home z))) g.answer_is part;
+        pushed = g.pushed;
+        node = g.node;
+      },
+    )
+answer_fails home f r x y w fault.NoMemory o n a b is h none =
+    let g = subst (λ z. Answers home x y h.0 z w a b) is h.1 in (
+      h.0,
+      (
+        (served home x h.0 (request home f)).done,
+        [],
+        record {
+          parts = sym (append-nil (served home x h.0 (request home f)).done);
+          silent = none;
+          pushed = g.pushed;
+          node = g.calls;
+        },
+      ),
+    )
+
+-- memory was refused in its calls and pushes
+pub request_fails : (home : Home) (f : Frame) (r : Request) (x y : Seen) (o n : Option (List ℕ))
+    (a b : Option (List Push))
+    → r ≡ request home f → FailsToAnswer home x y r a b → Appends o n []
+    → (fates : List Fate)
+    × FailsIn fault.NoMemory home (sides x o a) (sides y n b) (record { frame = f; fates = fates })
+unfolding serve_frame
+request_fails home f r x y o n a b is h none =
+    let g = subst (λ z. AnswersPart home x y h.0 z h.1 h.2 a b) is h.3 in
+    (h.0, (h.1, h.2, record { parts = g.parts; silent = none; pushed = g.pushed; node = g.node }))

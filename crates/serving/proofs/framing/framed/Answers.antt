@@ -1,0 +1,8 @@
+use Rattle.serving.proofs.Framed.{is_frame}
+use Rattle.serving.proofs.framing.framed.Goals as goal
+
+pub returns-clause-spelled : goal.returns-clause-spelled
+returns-clause-spelled c =
+    rw c.what_of.ensures.what
+    (is_frame c.args.hall c.args.desks c.args.message c.ranges.hall.fits c.requires.few
+    c.requires.in_range c.what_of.ensures.typed)

@@ -1,0 +1,17 @@
+use Rattle.std.proofs.Common.{List, length}
+use Rattle.acceptor.specs.declared.message.Message.{Message}
+use Rattle.learner.specs.Ranges.{AreInRange}
+use Rattle.serving.specs.Pushing.{PushesUntil}
+use Rattle.serving.proofs.pushing.push_front.Given as goal
+
+-- those that were taken are pushed
+abbrev pub invariant-loop-message : goal.invariant-loop-message
+invariant-loop-message g l = record {
+  range : AreInRange l.home.desks l.home.desk l.waiting.items;
+  so_far : (front : List Message)
+      × PushesUntil l.home.hall l.home.desk l.initial.waiting.items l.waiting.items front
+      (g.P.Peers.handed l.initial.peers) (g.P.Peers.handed l.peers);
+}
+
+abbrev pub decreases-loop-message : goal.decreases-loop-message
+decreases-loop-message g l = length l.waiting.items

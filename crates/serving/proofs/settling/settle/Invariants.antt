@@ -1,0 +1,23 @@
+use Rattle.std.proofs.Common.{List, ◌≡◌}
+use Rattle.learner.specs.Ranges.{AreInRange}
+use Rattle.serving.specs.Adding.{Hands}
+use Rattle.serving.specs.Nodes.{Fate}
+use Rattle.serving.specs.Reaching.{Reaches, at}
+use Rattle.serving.specs.Serving.{Act, settle_by, pushes_of}
+use Rattle.serving.proofs.settling.settle.Given as goal
+
+-- what is to be done comes to what is left of it
+abbrev pub invariant-loop-left : goal.invariant-loop-left
+invariant-loop-left g l = record {
+  range : AreInRange l.home.desks l.home.desk l.waiting.items;
+  home : g.D.Desk.home_of l.node ≡ l.home;
+  so_far : (acts : List Act) × (past : List Fate)
+      × Reaches l.home (settle_by l.home l.initial.left)
+      (at (g.D.Desk.seen l.initial.node) l.initial.waiting.items l.initial.left)
+      (settle_by l.home l.left) (at (g.D.Desk.seen l.node) l.waiting.items l.left) acts past
+      × Hands (g.P.Peers.handed l.initial.peers) (g.P.Peers.handed l.peers)
+      (pushes_of l.home.hall acts);
+}
+
+abbrev pub decreases-loop-left : goal.decreases-loop-left
+decreases-loop-left g l = l.left

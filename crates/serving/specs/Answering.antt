@@ -1,0 +1,78 @@
+-- What a client is answered.
+use Rattle.std.specs.Prelude.{◌≡◌, ℕ, nat_lt, if◌then◌else◌, List, length, Option, None, Some, Result, Ok, Err}
+use Rattle.acceptor.specs.declared.message.Message.{Message}
+use Rattle.formats.specs.declared.events.Event.{Event}
+use Rattle.world.specs.Answers.{told, sheet_at}
+use Rattle.world.specs.declared.answers.Told.{Told}
+use Rattle.world.specs.declared.answers.Told.TheVariants as tells
+use Rattle.world.specs.declared.faults.NodeFault.{NodeFault}
+use Rattle.world.specs.declared.faults.NodeFault.TheVariants as fault
+use Rattle.sheets.specs.declared.Style.{Style as SheetStyle}
+use Rattle.sheets.specs.declared.Style.TheVariants as layout
+use Rattle.wire.specs.Ranges.{IsBody, ToClient, way_of}
+use Rattle.wire.specs.declared.values.ClientRefusal.{ClientRefusal as Refusal}
+use Rattle.wire.specs.declared.values.ClientRefusal.TheVariants as refusal
+use Rattle.wire.specs.declared.values.Standing.{Standing}
+use Rattle.wire.specs.declared.values.Standing.TheVariants.{Unknown, Pending, Done}
+use Rattle.wire.specs.declared.values.SheetStyle.{SheetStyle as Style}
+use Rattle.wire.specs.declared.values.SheetStyle.TheVariants as asked
+use Rattle.wire.specs.declared.frame.What.{What}
+use Rattle.wire.specs.declared.frame.What.TheVariants as what
+use Rattle.serving.specs.Nodes.{Seen, Fate, Goes, Starves, Breaks}
+use Rattle.serving.specs.declared.calling.Answer.{Answer}
+use Rattle.serving.specs.declared.calling.Answer.TheVariants.{Taken, Refused}
+
+-- how the node answered
+abbrev pub answer_of : Result (List Message) NodeFault → Answer
+answer_of (Ok ms) = Taken
+answer_of (Err why) = Refused why
+
+abbrev pub refusal_of : NodeFault → Refusal
+refusal_of fault.Busy = refusal.Busy
+refusal_of fault.LogFull = refusal.LogFull
+refusal_of fault.BallotsSpent = refusal.BallotsSpent
+refusal_of fault.NoMemory = refusal.NoMemory
+refusal_of fault.Down = refusal.Down
+
+-- the answer to what the node said of the first call; at Down, in whichever call, it is Refused
+abbrev pub answer_first : What → Answer → Seen → What
+answer_first good Taken x = if x.is_down then what.Refused refusal.Down else good
+answer_first good (Refused why) x = what.Refused (refusal_of why)
+
+abbrev pub standing_of : Told → Standing
+standing_of (tells.Done pos answer) = Done pos answer
+standing_of tells.Pending = Pending
+standing_of tells.Unknown = Unknown
+
+-- what has become of an id at this desk
+abbrev pub standing : Seen → ℕ → Standing
+standing x id = standing_of (told x.desk.log x.desk.queue id)
+
+abbrev pub told_what : ℕ → Fate → Standing → What
+told_what id Goes s = what.Told id s
+told_what id Starves s = what.Refused refusal.NoMemory
+told_what id Breaks s = what.Refused refusal.NoMemory
+
+abbrev pub style_of : Style → SheetStyle
+style_of asked.Text = layout.Text
+style_of asked.Table = layout.Table
+
+-- the sheet of this desk's log at the position
+abbrev pub sheet : Seen → Event → ℕ → ℕ → Style → Option (List ℕ)
+sheet x event round position style = sheet_at (style_of style) x.desk.log position event round
+
+abbrev pub printed_as : Fate → Option (List ℕ) → What
+printed_as Goes None = what.Refused refusal.NoSuchRound
+printed_as Goes (Some text) = what.SheetText text
+printed_as Starves text = what.Refused refusal.NoMemory
+printed_as Breaks text = what.Refused refusal.NoMemory
+
+abbrev pub printed : Seen → Fate → Event → ℕ → ℕ → Style → What
+printed x fate event round position style =
+    if nat_lt (length x.desk.log) position then what.Refused refusal.NotThere
+    else printed_as fate (sheet x event round position style)
+
+-- a frame of this kind and with these fields is one for a client
+pub record IsAnswer (w : What) : Type 0 where
+  pub body : IsBody w
+  pub way : way_of w ≡ ToClient

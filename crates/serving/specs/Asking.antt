@@ -1,0 +1,116 @@
+-- What a frame asks of this desk.
+use Rattle.std.specs.Prelude.{ℕ, ◌^◌, ◌<◌, ◌==◌, ◌&&◌, if◌then◌else◌, Bool, Option, None, Some}
+use Rattle.acceptor.specs.declared.message.Body.{Body}
+use Rattle.acceptor.specs.declared.message.Body.TheVariants as body
+use Rattle.wire.specs.Ranges.{IsEntry, IsId}
+use Rattle.wire.specs.declared.frame.Frame.{Frame}
+use Rattle.wire.specs.declared.frame.What.{What}
+use Rattle.wire.specs.declared.frame.What.TheVariants as what
+use Rattle.serving.specs.declared.ends.Close.{Close}
+use Rattle.serving.specs.declared.ends.Close.TheVariants as close
+use Rattle.serving.specs.declared.request.Ending.{Ending}
+use Rattle.serving.specs.declared.request.Ending.TheVariants as ends
+use Rattle.serving.specs.declared.request.Request.{Request}
+use Rattle.serving.specs.declared.request.Request.TheVariants.{Heard, Entered, Asked, Printed, Ticked, Stopped, Strange, Ignored}
+use Rattle.serving.specs.Nodes.{Seen}
+use Rattle.store.specs.declared.home.Home.{Home}
+
+-- the frame as a message, where it is one from a desk to a desk
+abbrev pub body_of : What → Option Body
+body_of (what.Prepare b pos) = Some (body.Prepare b pos)
+body_of (what.Promise b pos vote) = Some (body.Promise b pos vote)
+body_of (what.Accept b pos e) = Some (body.Accept b pos e)
+body_of (what.Accepted b pos) = Some (body.Accepted b pos)
+body_of (what.Nack b pos promised) = Some (body.Nack b pos promised)
+body_of (what.Behind len) = Some (body.Behind len)
+body_of (what.Decided pos e) = Some (body.Decided pos e)
+body_of (what.Submit e) = None
+body_of (what.Ask id) = None
+body_of (what.Sheet event round position style) = None
+body_of what.Tick = None
+body_of what.Stop = None
+body_of (what.Taken id) = None
+body_of (what.Told id s) = None
+body_of (what.SheetText bytes) = None
+body_of (what.Refused refusal) = None
+body_of what.Fine = None
+
+abbrev pub heard : ℕ → ℕ → Option Body → Request
+heard from to None = Ignored
+heard from to (Some b) = Heard (record { from = from; to = to; body = b })
+
+-- a frame that is for this desk
+abbrev pub ours : ℕ → ℕ → What → Request
+ours from to (what.Submit e) = Entered e
+ours from to (what.Ask id) = Asked id
+ours from to (what.Sheet event round position style) = Printed event round position style
+ours from to what.Tick = Ticked
+ours from to what.Stop = Stopped
+ours from to (what.Prepare b pos) = heard from to (body_of (what.Prepare b pos))
+ours from to (what.Promise b pos vote) = heard from to (body_of (what.Promise b pos vote))
+ours from to (what.Accept b pos e) = heard from to (body_of (what.Accept b pos e))
+ours from to (what.Accepted b pos) = heard from to (body_of (what.Accepted b pos))
+ours from to (what.Nack b pos promised) = heard from to (body_of (what.Nack b pos promised))
+ours from to (what.Behind len) = heard from to (body_of (what.Behind len))
+ours from to (what.Decided pos e) = heard from to (body_of (what.Decided pos e))
+ours from to (what.Taken id) = Ignored
+ours from to (what.Told id s) = Ignored
+ours from to (what.SheetText bytes) = Ignored
+ours from to (what.Refused refusal) = Ignored
+ours from to what.Fine = Ignored
+
+-- a frame for another desk or another hall: a client is told so
+abbrev pub strange : What → Request
+strange (what.Submit e) = Strange
+strange (what.Ask id) = Strange
+strange (what.Sheet event round position style) = Strange
+strange what.Tick = Strange
+strange what.Stop = Strange
+strange (what.Prepare b pos) = Ignored
+strange (what.Promise b pos vote) = Ignored
+strange (what.Accept b pos e) = Ignored
+strange (what.Accepted b pos) = Ignored
+strange (what.Nack b pos promised) = Ignored
+strange (what.Behind len) = Ignored
+strange (what.Decided pos e) = Ignored
+strange (what.Taken id) = Ignored
+strange (what.Told id s) = Ignored
+strange (what.SheetText bytes) = Ignored
+strange (what.Refused refusal) = Ignored
+strange what.Fine = Ignored
+
+abbrev pub is_ours : Home → Frame → Bool
+is_ours home f = (f.hall == home.hall) && (f.to == home.desk)
+
+abbrev pub request : Home → Frame → Request
+request home f = if is_ours home f then ours f.from f.to f.what else strange f.what
+
+-- what is asked is in the ranges of a frame
+abbrev pub AsksInRange : Request → Type 0
+AsksInRange (Entered e) = IsEntry e
+AsksInRange (Asked id) = IsId id
+AsksInRange (Printed event round position style) = position < 2 ^ 32
+AsksInRange (Heard m) = Unit {0}
+AsksInRange Ticked = Unit {0}
+AsksInRange Stopped = Unit {0}
+AsksInRange Strange = Unit {0}
+AsksInRange Ignored = Unit {0}
+
+-- how a request ends the connection of itself: where the desk is down behind it, or at a Stop
+abbrev pub ending : Request → Ending
+ending (Heard m) = ends.IfDown
+ending (Entered e) = ends.IfDown
+ending Ticked = ends.IfDown
+ending Stopped = ends.AtStop
+ending (Asked id) = ends.Never
+ending (Printed event round position style) = ends.Never
+ending Strange = ends.Never
+ending Ignored = ends.Never
+
+abbrev pub close_by : Ending → Bool → Option Close
+close_by ends.Never is_down = None
+close_by ends.AtStop is_down = Some close.Stopped
+close_by ends.IfDown is_down = if is_down then Some close.Down else None
+
+abbrev pub closes : Seen → Request → Option Close
+closes x r = close_by (ending r) x.is_down

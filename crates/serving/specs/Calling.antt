@@ -1,0 +1,20 @@
+-- A call of the node, with the messages that wait.
+use Rattle.std.specs.Prelude.{◌≡◌, List}
+use Rattle.acceptor.specs.declared.message.Message.{Message}
+use Rattle.learner.specs.declared.event.Event.{Event}
+use Rattle.serving.specs.declared.calling.Answer.{Answer}
+use Rattle.store.specs.declared.home.Home.{Home}
+use Rattle.serving.specs.Nodes.{Seen, Fate, reply}
+use Rattle.serving.specs.Answering.{answer_of}
+use Rattle.serving.specs.Serving.{waiting_after}
+
+-- the call came to this fate
+pub record Calls (home : Home) (event : Event) (fate : Fate) (x y : Seen) (ms more : List Message)
+    (answer : Answer) : Type 0 where
+  pub answer_is : answer ≡ answer_of (reply home x event fate).result
+  pub seen : y ≡ (reply home x event fate).seen
+  pub waits : more ≡ waiting_after ms (reply home x event fate).result
+
+-- the call came to this fate, and its messages were lost
+pub record LosesMessages (home : Home) (event : Event) (fate : Fate) (x y : Seen) : Type 0 where
+  pub seen : y ≡ (reply home x event fate).seen

@@ -1,0 +1,44 @@
+-- What is seen of a desk while it serves, and what a call of it may come to.
+use Rattle.std.specs.Prelude.{Bool, true, if◌then◌else◌, List, Result, Ok, Err}
+use Rattle.acceptor.specs.declared.message.Message.{Message}
+use Rattle.proposer.specs.declared.faults.Refusal.{Refusal}
+use Rattle.learner.specs.declared.event.Event.{Event}
+use Rattle.learner.specs.Desks.{Desk}
+use Rattle.learner.specs.Steps.{Done, step}
+use Rattle.world.specs.Faults.{refused_as}
+use Rattle.world.specs.declared.faults.NodeFault.{NodeFault}
+use Rattle.world.specs.declared.faults.NodeFault.TheVariants.{NoMemory, Down}
+use Rattle.store.specs.declared.home.Home.{Home}
+
+-- all that the desk knows, and whether its store has failed
+pub record Seen : Type 0 where
+  pub desk : Desk
+  pub is_down : Bool
+
+-- what happens to a call: it is taken as the protocol has it, memory is refused, or the device
+-- fails
+pub data Fate : Type 0 where
+  Goes : Fate
+  Starves : Fate
+  Breaks : Fate
+
+-- what a call of the node answers, and what is seen of the node afterwards
+pub record Reply : Type 0 where
+  pub result : Result (List Message) NodeFault
+  pub seen : Seen
+
+abbrev pub by_step : Seen → Result Done Refusal → Reply
+by_step x (Ok r) =
+    record { result = Ok r.messages; seen = record { desk = r.desk; is_down = x.is_down } }
+by_step x (Err why) = record { result = Err (refused_as why); seen = x }
+
+abbrev pub by_fate : Home → Seen → Event → Fate → Reply
+by_fate home x event Goes = by_step x (step home.desks home.desk x.desk event)
+by_fate home x event Starves = record { result = Err NoMemory; seen = x }
+by_fate home x event Breaks =
+    record { result = Err Down; seen = record { desk = x.desk; is_down = true } }
+
+-- a node that is down answers Down
+abbrev pub reply : Home → Seen → Event → Fate → Reply
+reply home x event fate =
+    if x.is_down then record { result = Err Down; seen = x } else by_fate home x event fate

@@ -1,0 +1,211 @@
+-- Serving: what is done for a frame, and for one frame after the other.
+use Rattle.std.specs.Prelude.{ℕ, zero, suc, ◌==◌, ◌&&◌, not, nat_lt, Bool, if◌then◌else◌, List, [], ◌∷◌, ◌++◌, length, map, Option, None, Some, Result, Ok, Err}
+use Rattle.acceptor.specs.declared.message.Message.{Message}
+use Rattle.acceptor.specs.declared.message.Body.{Body}
+use Rattle.acceptor.specs.declared.message.Body.TheVariants as body
+use Rattle.learner.specs.declared.event.Event.{Event}
+use Rattle.learner.specs.declared.event.Event.TheVariants.{Submit, Start, Tick, Deliver}
+use Rattle.wire.specs.declared.frame.Frame.{Frame}
+use Rattle.wire.specs.declared.values.ClientRefusal.TheVariants as refusal
+use Rattle.acceptor.specs.declared.entry.Entry.{Entry}
+use Rattle.wire.specs.declared.frame.What.{What}
+use Rattle.wire.specs.declared.frame.What.TheVariants as what
+use Rattle.wire.specs.Spelling.{spelling}
+use Rattle.store.specs.declared.home.Home.{Home}
+use Rattle.world.specs.declared.faults.NodeFault.{NodeFault}
+use Rattle.world.specs.declared.faults.NodeFault.TheVariants as fault
+use Rattle.serving.specs.Adding.{Push}
+use Rattle.serving.specs.Nodes.{Seen, Fate, Goes, Reply, reply}
+use Rattle.serving.specs.Answering.{answer_of, answer_first, standing, told_what, printed}
+use Rattle.serving.specs.declared.request.Request.{Request}
+use Rattle.serving.specs.declared.request.Request.TheVariants.{Heard, Entered, Asked, Printed, Ticked, Stopped, Strange, Ignored}
+
+-- ---- messages as frames
+
+abbrev pub what_of : Body → What
+what_of (body.Prepare b pos) = what.Prepare b pos
+what_of (body.Promise b pos vote) = what.Promise b pos vote
+what_of (body.Accept b pos e) = what.Accept b pos e
+what_of (body.Accepted b pos) = what.Accepted b pos
+what_of (body.Nack b pos promised) = what.Nack b pos promised
+what_of (body.Behind len) = what.Behind len
+what_of (body.Decided pos e) = what.Decided pos e
+
+abbrev pub framed : ℕ → Message → Frame
+framed hall m = record { hall = hall; from = m.from; to = m.to; what = what_of m.body }
+
+abbrev pub pushed : ℕ → Message → Push
+pushed hall m = record { to = m.to; bytes = spelling (framed hall m) }
+
+-- ---- one frame
+
+-- what is done while a frame is served: the node takes an event, or a message is pushed to another
+-- desk
+pub data Act : Type 0 where
+  Called : Event → Act
+  Pushed : Message → Act
+
+-- where the service of a frame stands: the node, the messages that wait, how many more the desk may
+-- deliver to itself, what was done, and the fates of the calls to come
+pub record Service : Type 0 where
+  pub seen : Seen
+  pub waiting : List Message
+  pub left : ℕ
+  pub done : List Act
+  pub fates : List Fate
+
+-- where no fate is told, a call is taken
+abbrev pub first_fate : List Fate → Fate
+first_fate [] = Goes
+first_fate (f ∷ fs) = f
+
+abbrev pub later_fates : List Fate → List Fate
+later_fates [] = []
+later_fates (f ∷ fs) = fs
+
+-- an answer's messages go behind those that wait; a refusal other than Down adds none, and at Down
+-- those that wait are dropped
+abbrev pub waiting_after : List Message → Result (List Message) NodeFault → List Message
+waiting_after ms (Ok more) = ms ++ more
+waiting_after ms (Err fault.Down) = []
+waiting_after ms (Err fault.Busy) = ms
+waiting_after ms (Err fault.LogFull) = ms
+waiting_after ms (Err fault.BallotsSpent) = ms
+waiting_after ms (Err fault.NoMemory) = ms
+
+-- the node is called
+abbrev pub answered : Service → Event → Reply → Service
+answered s event r =
+    record {
+      seen = r.seen;
+      waiting = waiting_after s.waiting r.result;
+      left = s.left;
+      done = s.done ++ Called event ∷ [];
+      fates = later_fates s.fates;
+    }
+
+abbrev pub reply_to : Home → Event → Service → Reply
+reply_to home event s = reply home s.seen event (first_fate s.fates)
+
+unfoldable pub call : Home → Event → Service → Service
+call home event s = answered s event (reply_to home event s)
+
+-- the messages in front of the first one to desk d, and that one with those behind it
+abbrev pub in_front : ℕ → List Message → List Message
+in_front d [] = []
+in_front d (m ∷ ms) = if m.to == d then [] else m ∷ in_front d ms
+
+abbrev pub from_own : ℕ → List Message → List Message
+from_own d [] = []
+from_own d (m ∷ ms) = if m.to == d then m ∷ ms else from_own d ms
+
+-- the messages to other desks
+abbrev pub to_others : ℕ → List Message → List Message
+to_others d [] = []
+to_others d (m ∷ ms) = if m.to == d then to_others d ms else m ∷ to_others d ms
+
+-- these are pushed, and these wait behind them
+abbrev pub push_all : List Message → List Message → Service → Service
+push_all ms waiting s =
+    record {
+      seen = s.seen;
+      waiting = waiting;
+      left = s.left;
+      done = s.done ++ map (λ m. Pushed m) ms;
+      fates = s.fates;
+    }
+
+-- these wait, and so many more may be delivered
+abbrev pub waits : List Message → ℕ → Service → Service
+waits ms left s =
+    record { seen = s.seen; waiting = ms; left = left; done = s.done; fates = s.fates }
+
+-- the first message to the desk itself is delivered, if there is one, and then the others have
+-- their turn
+abbrev pub deliver : Home → (Service → Service) → ℕ → List Message → Service → Service
+deliver home next k [] s = s
+deliver home next k (m ∷ ms) s = next (call home (Deliver m) (waits ms k s))
+
+-- The messages that wait are taken in order: pushed, or delivered where they are to the desk
+-- itself; what comes of these goes behind the rest. Where no more may be delivered, those to the
+-- desk itself are dropped.
+unfoldable pub settle_by : Home → ℕ → Service → Service
+settle_by home zero s = push_all (to_others home.desk s.waiting) [] s
+settle_by home (suc k) s =
+    deliver home (λ t. settle_by home k t) k (from_own home.desk s.waiting)
+    (push_all (in_front home.desk s.waiting) [] s)
+
+abbrev pub settle : Home → Service → Service
+settle home s = settle_by home s.left s
+
+-- ---- what was done
+
+abbrev pub pushes_of : ℕ → List Act → List Push
+pushes_of hall [] = []
+pushes_of hall (Called e ∷ acts) = pushes_of hall acts
+pushes_of hall (Pushed m ∷ acts) = pushed hall m ∷ pushes_of hall acts
+
+-- the node after the calls among these acts, which come to these fates
+abbrev pub seen_after : Home → Seen → List Act → List Fate → Seen
+seen_after home x [] fates = x
+seen_after home x (Called e ∷ acts) fates =
+    seen_after home (reply home x e (first_fate fates)).seen acts (later_fates fates)
+seen_after home x (Pushed m ∷ acts) fates = seen_after home x acts fates
+
+-- ---- the node's part of a frame
+
+-- the log has more than so many entries, entries wait in the queue, and the node is not down
+abbrev pub grew : ℕ → Seen → Bool
+grew before x = not x.is_down && nat_lt before (length x.desk.log) && nat_lt 0 (length x.desk.queue)
+
+-- Where the log grew in this frame, and entries wait in the queue, Start is given, unless the node
+-- is down.
+abbrev pub wants_start : List Entry → Seen → Bool
+wants_start before x = grew (length before) x
+
+unfoldable pub start_if_grown : Home → List Entry → Service → Service
+start_if_grown home before s =
+    if wants_start before s.seen then settle home (call home Start s) else s
+
+-- an event, all that comes of it, and Start where the log grew
+unfoldable pub take : Home → Event → Service → Service
+take home event s = start_if_grown home s.seen.desk.log (settle home (call home event s))
+
+-- an entry that was taken is followed by Start
+abbrev pub entered_by : Home → Result (List Message) NodeFault → Service → Service
+entered_by home (Ok ms) s = settle home (call home Start s)
+entered_by home (Err why) s = s
+
+unfoldable pub enter : Home → Entry → Service → Service
+enter home e s = entered_by home (reply_to home (Submit e) s).result (call home (Submit e) s)
+
+-- before anything is done for a frame
+abbrev pub begun : Seen → List Fate → Service
+begun x fates = record { seen = x; waiting = []; left = 16; done = []; fates = fates }
+
+-- the calls and pushes of a request, with the fates of its calls
+abbrev pub served : Home → Seen → List Fate → Request → Service
+served home x fates (Heard m) = take home (Deliver m) (begun x fates)
+served home x fates (Entered e) = enter home e (begun x fates)
+served home x fates Ticked = take home Tick (begun x fates)
+served home x fates _ = begun x fates
+
+-- ---- answers
+
+-- the answer, where the frame has one: it is that of the first call; at Down, in whichever call, it
+-- is Refused
+abbrev pub answer : Home → Seen → List Fate → Request → Option What
+answer home x fates (Heard m) = None
+answer home x fates (Entered e) =
+    Some (answer_first (what.Taken e.id)
+    (answer_of (reply_to home (Submit e) (begun x fates)).result)
+    (served home x fates (Entered e)).seen)
+answer home x fates (Asked id) = Some (told_what id (first_fate fates) (standing x id))
+answer home x fates (Printed event round position style) =
+    Some (printed x (first_fate fates) event round position style)
+answer home x fates Ticked =
+    Some (answer_first what.Fine
+    (answer_of (reply_to home Tick (begun x fates)).result) (served home x fates Ticked).seen)
+answer home x fates Stopped = Some what.Fine
+answer home x fates Strange = Some (what.Refused refusal.Foreign)
+answer home x fates Ignored = None

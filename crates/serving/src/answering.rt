@@ -1,0 +1,103 @@
+//! Answers to clients.
+
+ghost use Rattle.std.specs.Prelude.{◌≡◌, ◌^◌, ◌<◌};
+ghost use Rattle.wire.specs.Ranges.{IsId};
+ghost use Rattle.serving.specs.Answering.{IsAnswer, answer_first, refusal_of, standing_of, standing, told_what, style_of, printed};
+ghost use Rattle.serving.specs.Nodes.{Fate};
+
+use crate::calling::Answer;
+use crate::desk::Desk;
+use formats::Event;
+use node::{NodeFault, SheetFault, Told};
+use sheets::fits_in_a_frame;
+use wire::{Bytes, ClientRefusal as Refusal, SheetStyle as Style, Standing, What};
+
+/// What a client is told of a desk's refusal.
+pub fn refusal_of(fault: NodeFault) -> Refusal
+    ensures { result ≡ refusal_of fault }
+{
+    match fault {
+        NodeFault::Busy => Refusal::Busy,
+        NodeFault::LogFull => Refusal::LogFull,
+        NodeFault::BallotsSpent => Refusal::BallotsSpent,
+        NodeFault::NoMemory => Refusal::NoMemory,
+        NodeFault::Down => Refusal::Down,
+    }
+}
+
+/// The answer to what the desk said of the first call.
+pub fn answer_first<D: Desk>(good: What, answer: Answer, node: &D) -> What
+    requires { IsAnswer good }
+    ensures what { result ≡ answer_first good answer (D.seen node.now) }
+    ensures in_range { IsAnswer result }
+{
+    let refusal = match answer {
+        Answer::Refused(fault) => refusal_of(fault),
+        Answer::Taken => {
+            if !node.is_down() {
+                return good;
+            }
+            Refusal::Down
+        }
+    };
+    What::Refused { refusal }
+}
+
+/// What became of a command, in a frame's words.
+fn standing_of(told: Told) -> Standing
+    ensures { result ≡ standing_of told }
+{
+    match told {
+        Told::Done { pos, answer } => Standing::Done { pos, answer },
+        Told::Pending => Standing::Pending,
+        Told::Unknown => Standing::Unknown,
+    }
+}
+
+/// What became of the command with this id.
+pub fn asked<D: Desk>(node: &D, id: u64) -> What
+    requires { IsId id }
+    ensures what { (fate : Fate) × (result ≡ told_what id fate (standing (D.seen node.now) id)) }
+    ensures in_range { IsAnswer result }
+{
+    let _log = node.log();
+    match node.answer(id) {
+        Ok(told) => What::Told {
+            id,
+            standing: standing_of(told),
+        },
+        Err(_) => What::Refused {
+            refusal: Refusal::NoMemory,
+        },
+    }
+}
+
+/// A sheet's style, in a sheet's words.
+fn style_of(style: Style) -> sheets::Style
+    ensures { result ≡ style_of style }
+{
+    match style {
+        Style::Text => sheets::Style::Text,
+        Style::Table => sheets::Style::Table,
+    }
+}
+
+/// The sheet of a round after the log's first entries.
+pub fn printed<D: Desk>(node: &D, event: Event, round: u8, position: u32, style: Style) -> What
+    ensures what { (fate : Fate)
+        × (result ≡ printed (D.seen node.now) fate event round position style) }
+    ensures in_range { IsAnswer result }
+{
+    fits_in_a_frame();
+    let refusal = match node.sheet_at(position, event, round, style_of(style)) {
+        Ok(text) => {
+            return What::SheetText {
+                text: Bytes::new(text),
+            };
+        }
+        Err(SheetFault::NotThere) => Refusal::NotThere,
+        Err(SheetFault::NoSuchRound) => Refusal::NoSuchRound,
+        Err(SheetFault::NoMemory) => Refusal::NoMemory,
+    };
+    What::Refused { refusal }
+}

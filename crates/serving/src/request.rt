@@ -1,0 +1,169 @@
+//! What a frame asks of a desk.
+
+ghost use Rattle.std.specs.Prelude.{◌≡◌};
+ghost use Rattle.wire.specs.Ranges.{IsFrame, IsBody};
+ghost use Rattle.serving.specs.Asking.{AsksInRange, ending, ours, request, strange};
+
+use acceptor::entry::Entry;
+use acceptor::message::{Body, Message};
+use formats::Event;
+use store::home::Home;
+use wire::{Frame, SheetStyle as Style, What};
+
+/// What a frame asks of this desk.
+#[derive(Debug, Drop)]
+pub enum Request {
+    /// A desk says something.
+    Heard {
+        message: Message,
+    },
+    /// A client enters a command.
+    Entered {
+        entry: Entry,
+    },
+    /// A client asks what became of a command.
+    Asked {
+        id: u64,
+    },
+    /// A client asks for a sheet.
+    Printed {
+        event: Event,
+        round: u8,
+        position: u32,
+        style: Style,
+    },
+    /// A client gives the desk a tick.
+    Ticked,
+    /// A client asks the desk to end.
+    Stopped,
+    /// A client's frame for another desk or another hall.
+    Strange,
+    /// Any other frame that is not for this desk, or a frame for a client.
+    Ignored,
+}
+
+/// How a frame ends the connection of itself.
+#[derive(Clone, Copy, PartialEq, Eq, Debug)]
+pub enum Ending {
+    /// It does not.
+    Never,
+    /// Where the desk is down behind it.
+    IfDown,
+    /// It is a Stop.
+    AtStop,
+}
+
+impl Request {
+    /// How the request ends the connection of itself.
+    pub fn ending(&self) -> Ending
+        ensures { result ≡ ending self.now }
+    {
+        match self {
+            Request::Heard { .. } | Request::Entered { .. } | Request::Ticked => Ending::IfDown,
+            Request::Stopped => Ending::AtStop,
+            Request::Asked { .. } | Request::Printed { .. } | Request::Strange | Request::Ignored =>
+                Ending::Never,
+        }
+    }
+}
+
+/// What a frame for another desk, or for another hall, asks.
+fn strange(what: What) -> Request
+    ensures strange { result ≡ strange what }
+    ensures in_range { AsksInRange result }
+{
+    match what {
+        What::Submit { .. } | What::Ask { .. } | What::Sheet { .. } | What::Tick | What::Stop => {
+            Request::Strange
+        }
+        What::Prepare { .. }
+        | What::Promise { .. }
+        | What::Accept { .. }
+        | What::Accepted { .. }
+        | What::Nack { .. }
+        | What::Behind { .. }
+        | What::Decided { .. }
+        | What::Taken { .. }
+        | What::Told { .. }
+        | What::SheetText { .. }
+        | What::Refused { .. }
+        | What::Fine => Request::Ignored,
+    }
+}
+
+/// A message from a desk to this one.
+fn heard(from: u8, to: u8, body: Body) -> Request
+    ensures { result ≡ Request.Heard (record { from = from; to = to; body = body }) }
+{
+    Request::Heard {
+        message: Message { from, to, body },
+    }
+}
+
+/// What a frame for this desk asks.
+fn ours(from: u8, to: u8, what: What) -> Request
+    requires { IsBody what }
+    ensures ours { result ≡ ours from to what }
+    ensures in_range { AsksInRange result }
+{
+    match what {
+        What::Submit { entry } => Request::Entered { entry },
+        What::Ask { id } => Request::Asked { id },
+        What::Sheet {
+            event,
+            round,
+            position,
+            style,
+        } => Request::Printed {
+            event,
+            round,
+            position,
+            style,
+        },
+        What::Tick => Request::Ticked,
+        What::Stop => Request::Stopped,
+        What::Prepare { ballot, pos } => heard(from, to, Body::Prepare { ballot, pos }),
+        What::Promise { ballot, pos, vote } => heard(from, to, Body::Promise { ballot, pos, vote }),
+        What::Accept { ballot, pos, entry } => heard(from, to, Body::Accept { ballot, pos, entry }),
+        What::Accepted { ballot, pos } => heard(from, to, Body::Accepted { ballot, pos }),
+        What::Nack {
+            ballot,
+            pos,
+            promised,
+        } => heard(
+            from,
+            to,
+            Body::Nack {
+                ballot,
+                pos,
+                promised,
+            },
+        ),
+        What::Behind { len } => heard(from, to, Body::Behind { len }),
+        What::Decided { pos, entry } => heard(from, to, Body::Decided { pos, entry }),
+        What::Taken { .. }
+        | What::Told { .. }
+        | What::SheetText { .. }
+        | What::Refused { .. }
+        | What::Fine => Request::Ignored,
+    }
+}
+
+/// What a frame asks of the desk at home here.
+pub fn request_of(home: Home, frame: Frame) -> Request
+    requires { IsFrame frame }
+    ensures request { result ≡ request home frame }
+    ensures in_range { AsksInRange result }
+{
+    let Frame {
+        hall,
+        from,
+        to,
+        what,
+    } = frame;
+    if hall == home.hall && to == home.desk {
+        ours(from, to, what)
+    } else {
+        strange(what)
+    }
+}

@@ -1,0 +1,171 @@
+//! A request: its calls, its pushes and its answer.
+
+ghost use Rattle.std.specs.Prelude.{◌≡◌, ◌≤◌, ℕ, [], None, Some, List, IfOk, OnOk, OnErr, IfSome};
+ghost use Rattle.learner.specs.Ranges.{AreInRange};
+ghost use Rattle.learner.specs.declared.event.Event.TheVariants.{Start};
+ghost use Rattle.serving.specs.Reaching.{Does, DoesPart, at};
+ghost use Rattle.serving.specs.Serving.{call, settle_by};
+ghost use Rattle.wire.specs.Ranges.{IsEntry};
+ghost use Rattle.serving.specs.Answering.{IsAnswer};
+ghost use Rattle.serving.specs.Asking.{AsksInRange};
+ghost use Rattle.serving.specs.Connection.{AnswersSome, FailsToAnswer};
+
+use crate::answering::{answer_first, asked, printed};
+use crate::calling::{Answer, call};
+use crate::desk::Desk;
+use crate::peers::Peers;
+use crate::request::Request;
+use crate::settling::settle;
+use crate::taking::{MOST_OWN, take};
+use acceptor::NoMemory;
+use acceptor::entry::Entry;
+use acceptor::message::Message;
+use learner::event::Event;
+use std::alloc::Global;
+use std::collections::VecDeque;
+use store::home::Home;
+use wire::{ClientRefusal as Refusal, What};
+
+/// A desk says something: it is delivered.
+fn hear<D: Desk, P: Peers>(
+    alloc: Global,
+    home: Home,
+    node: &mut D,
+    peers: &mut P,
+    message: Message,
+) -> Result<(), NoMemory>
+    requires few { home.desks ≤ 5 }
+    requires home { D.home_of node.old ≡ home }
+    ensures ok { IfOk result
+        (λ _.
+        AnswersSome home (D.seen node.old) (D.seen node.new) (Request.Heard message) None
+        (P.handed peers.old) (P.handed peers.new)) }
+    ensures err { OnErr result
+        (FailsToAnswer home (D.seen node.old) (D.seen node.new) (Request.Heard message)
+        (P.handed peers.old) (P.handed peers.new)) }
+    ensures home { D.home_of node.new ≡ D.home_of node.old }
+{
+    take(alloc, home, node, peers, Event::Deliver(message))?;
+    Ok(())
+}
+
+/// A client gives the desk a tick.
+fn tick<D: Desk, P: Peers>(
+    alloc: Global,
+    home: Home,
+    node: &mut D,
+    peers: &mut P,
+) -> Result<What, NoMemory>
+    requires few { home.desks ≤ 5 }
+    requires home { D.home_of node.old ≡ home }
+    ensures ok { IfOk result
+        (λ w.
+        AnswersSome home (D.seen node.old) (D.seen node.new) Request.Ticked (Some w)
+        (P.handed peers.old) (P.handed peers.new)) }
+    ensures err { OnErr result
+        (FailsToAnswer home (D.seen node.old) (D.seen node.new) Request.Ticked (P.handed peers.old)
+        (P.handed peers.new)) }
+    ensures in_range { IfOk result IsAnswer }
+    ensures home { D.home_of node.new ≡ D.home_of node.old }
+{
+    let answer = take(alloc, home, node, peers, Event::Tick)?;
+    Ok(answer_first(What::Fine, answer, node))
+}
+
+/// Start, and all that comes of it and of the messages that wait.
+fn start<D: Desk, P: Peers>(
+    alloc: Global,
+    home: Home,
+    node: &mut D,
+    waiting: &mut VecDeque<Message>,
+    peers: &mut P,
+) -> Result<(), NoMemory>
+    requires few { home.desks ≤ 5 }
+    requires home { D.home_of node.old ≡ home }
+    requires in_range { AreInRange home.desks home.desk waiting.old.items }
+    ensures ok { OnOk result ((last : ℕ) × Does home (λ s. settle_by home 16 (call home Start s)) (at (D.seen node.old) waiting.old.items 16)
+        (at (D.seen node.new) waiting.new.items last) (P.handed peers.old) (P.handed peers.new)) }
+    ensures err { OnErr result (DoesPart home (λ s. settle_by home 16 (call home Start s)) (at (D.seen node.old) waiting.old.items 16)
+        (D.seen node.new) (P.handed peers.old) (P.handed peers.new)) }
+    ensures empty { OnOk result (waiting.new.items ≡ []) }
+    ensures home { D.home_of node.new ≡ D.home_of node.old }
+{
+    let mut left = MOST_OWN;
+    call(node, waiting, Event::Start)?;
+    settle(alloc, home, node, waiting, &mut left, peers)?;
+    Ok(())
+}
+
+/// A client enters a command: where the desk takes it, Start follows.
+fn enter<D: Desk, P: Peers>(
+    alloc: Global,
+    home: Home,
+    node: &mut D,
+    peers: &mut P,
+    entry: Entry,
+) -> Result<What, NoMemory>
+    requires few { home.desks ≤ 5 }
+    requires home { D.home_of node.old ≡ home }
+    requires in_range { IsEntry entry }
+    ensures ok { IfOk result
+        (λ w.
+        AnswersSome home (D.seen node.old) (D.seen node.new) (Request.Entered entry) (Some w)
+        (P.handed peers.old) (P.handed peers.new)) }
+    ensures err { OnErr result
+        (FailsToAnswer home (D.seen node.old) (D.seen node.new) (Request.Entered entry)
+        (P.handed peers.old) (P.handed peers.new)) }
+    ensures in_range { IfOk result IsAnswer }
+    ensures home { D.home_of node.new ≡ D.home_of node.old }
+{
+    let id = entry.id();
+    let mut waiting = VecDeque::new(alloc);
+    let answer = call(node, &mut waiting, Event::Submit(entry))?;
+    if answer != Answer::Taken {
+        return Ok(answer_first(What::Taken { id }, answer, node));
+    }
+    start(alloc, home, node, &mut waiting, peers)?;
+    Ok(answer_first(What::Taken { id }, answer, node))
+}
+
+/// Makes the calls and pushes of a request, and gives its answer, where it has one.
+pub fn serve_request<D: Desk, P: Peers>(
+    alloc: Global,
+    home: Home,
+    node: &mut D,
+    peers: &mut P,
+    request: Request,
+) -> Result<Option<What>, NoMemory>
+    requires few { home.desks ≤ 5 }
+    requires home { D.home_of node.old ≡ home }
+    requires in_range { AsksInRange request }
+    ensures ok { IfOk result
+        (λ w.
+        AnswersSome home (D.seen node.old) (D.seen node.new) request w (P.handed peers.old)
+        (P.handed peers.new)) }
+    ensures err { OnErr result
+        (FailsToAnswer home (D.seen node.old) (D.seen node.new) request (P.handed peers.old)
+        (P.handed peers.new)) }
+    ensures in_range { IfOk result (λ w. IfSome w IsAnswer) }
+    ensures home { D.home_of node.new ≡ D.home_of node.old }
+{
+    match request {
+        Request::Heard { message } => {
+            hear(alloc, home, node, peers, message)?;
+            Ok(None)
+        }
+        Request::Entered { entry } => Ok(Some(enter(alloc, home, node, peers, entry)?)),
+        Request::Ticked => Ok(Some(tick(alloc, home, node, peers)?)),
+        Request::Asked { id } => Ok(Some(asked(node, id))),
+        Request::Printed {
+            event,
+            round,
+            position,
+            style,
+        } => Ok(Some(printed(node, event, round, position, style))),
+        Request::Stopped => Ok(Some(What::Fine)),
+        Request::Strange => Ok(Some(What::Refused {
+            refusal: Refusal::Foreign,
+        })),
+        Request::Ignored => Ok(None),
+    }
+}

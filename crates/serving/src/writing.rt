@@ -1,0 +1,124 @@
+//! Writing answers.
+
+ghost use Rattle.std.specs.Option.{ForSome};
+ghost use Rattle.std.specs.Prelude.{◌≤◌, OnOk, OnErr, IfErr};
+ghost use Rattle.learner.specs.Steps.{IsDesk};
+ghost use Rattle.serving.specs.Answering.{IsAnswer};
+ghost use Rattle.serving.specs.Connection.{answer_frame, answer_bytes, framed_answer};
+ghost use Rattle.std.specs.Io.KnownBytes.{Appends};
+ghost use Rattle.serving.specs.Bytes.{AppendsPart};
+ghost use Rattle.wire.specs.Ranges.{IsFrame};
+ghost use Rattle.wire.specs.Spelling.{spelling};
+ghost use Rattle.serving.specs.Bytes.{WriteEnds};
+
+use crate::ends::FrameFault;
+use std::alloc::Global;
+use std::io::Write;
+use store::home::Home;
+use wire::{Frame, What, encode};
+
+/// A write failed.
+#[derive(Clone, Copy, Debug)]
+pub struct WriteFailed;
+
+/// Writes all bytes of a text. Where a write fails, a front part of the text is written.
+fn write_bytes<W: Write>(writer: &mut W, text: &[u8]) -> Result<(), WriteFailed>
+    ensures ok { OnOk result (Appends (W.contents writer.old) (W.contents writer.new) text.now) }
+    ensures err { OnErr result
+        (AppendsPart (W.contents writer.old) (W.contents writer.new) text.now) }
+{
+    let mut rest = text;
+    while !rest.is_empty() {
+        match writer.write(rest) {
+            Ok(0) => return Err(WriteFailed),
+            Ok(count) => {
+                let (_, after) = rest.split_at(count);
+                rest = after;
+            }
+            Err(_) => return Err(WriteFailed),
+        }
+    }
+    Ok(())
+}
+
+/// Writes a text and flushes the writer. Where that fails, a front part of the text is written.
+pub fn write_text<W: Write>(writer: &mut W, text: &[u8]) -> Result<(), WriteFailed>
+    ensures ok { OnOk result (Appends (W.contents writer.old) (W.contents writer.new) text.now) }
+    ensures err { OnErr result
+        (AppendsPart (W.contents writer.old) (W.contents writer.new) text.now) }
+{
+    write_bytes(writer, text)?;
+    match writer.flush() {
+        Ok(()) => Ok(()),
+        Err(_) => Err(WriteFailed),
+    }
+}
+
+/// Writes a frame. Where memory is refused nothing is written.
+pub fn write_frame<W: Write>(alloc: Global, frame: &Frame, writer: &mut W) -> Result<(), FrameFault>
+    requires spelled { IsFrame frame.now }
+    ensures ok { OnOk result
+        (Appends (W.contents writer.old) (W.contents writer.new) (spelling frame.now)) }
+    ensures err { IfErr result
+        (λ e. WriteEnds e (W.contents writer.old) (W.contents writer.new) (spelling frame.now)) }
+{
+    let Ok(bytes) = encode(alloc, frame) else {
+        return Err(FrameFault::NoMemory);
+    };
+    match write_text(writer, &bytes) {
+        Ok(()) => Ok(()),
+        Err(_) => Err(FrameFault::Write),
+    }
+}
+
+/// Writes an answer of the desk at home here to its client.
+fn write_what<W: Write>(
+    alloc: Global,
+    home: Home,
+    what: What,
+    writer: &mut W,
+) -> Result<(), FrameFault>
+    requires ours { IsDesk home.desks home.desk }
+    requires few { home.desks ≤ 5 }
+    requires in_range { IsAnswer what }
+    ensures ok { OnOk result
+        (Appends (W.contents writer.old) (W.contents writer.new)
+        (spelling (answer_frame home what))) }
+    ensures err { IfErr result
+        (λ e.
+        WriteEnds e (W.contents writer.old) (W.contents writer.new)
+        (spelling (answer_frame home what))) }
+{
+    let answer = Frame {
+        hall: home.hall,
+        from: home.desk,
+        to: 0,
+        what,
+    };
+    write_frame(alloc, &answer, writer)
+}
+
+/// Writes the answer, where there is one. Where a write fails, a front part of it is written, and
+/// where memory is refused nothing is.
+pub fn write_answer<W: Write>(
+    alloc: Global,
+    home: Home,
+    answer: Option<What>,
+    writer: &mut W,
+) -> Result<(), FrameFault>
+    requires ours { IsDesk home.desks home.desk }
+    requires few { home.desks ≤ 5 }
+    requires in_range { ForSome answer IsAnswer }
+    ensures ok { OnOk result
+        (Appends (W.contents writer.old) (W.contents writer.new)
+        (answer_bytes (framed_answer home answer))) }
+    ensures err { IfErr result
+        (λ e.
+        WriteEnds e (W.contents writer.old) (W.contents writer.new)
+        (answer_bytes (framed_answer home answer))) }
+{
+    match answer {
+        Some(what) => write_what(alloc, home, what, writer),
+        None => Ok(()),
+    }
+}

@@ -1,0 +1,200 @@
+//! Connections of desk 1 of 3 in hall 7: what is read, written and pushed, byte for byte.
+
+ghost use Rattle.std.specs.Prelude.{None};
+
+use node::{Node, Told};
+use serving::connection::serve_connection;
+use serving::ends::{End, Served};
+use serving::peers::Peers;
+use std::alloc::Global;
+use std::io;
+use std::io::Write;
+use std::process::Abort;
+use std::test::Fail;
+use store::memory::MemoryKeeper;
+use wire::WireFault;
+
+/// Submit of the text `CLOSE 333 1` under the id 5.
+const SUBMIT: &[u8] = b"\0\0\0\x1d\x01\0\0\0\x07\0\x01\x10\0\0\0\0\0\0\0\x05\0\x0bCLOSE 333 1";
+
+/// The same to hall 8.
+const FOREIGN: &[u8] = b"\0\0\0\x1d\x01\0\0\0\x08\0\x01\x10\0\0\0\0\0\0\0\x05\0\x0bCLOSE 333 1";
+
+/// Submit, and Ask for the id 5.
+const SUBMIT_ASK: &[u8] =
+    b"\0\0\0\x1d\x01\0\0\0\x07\0\x01\x10\0\0\0\0\0\0\0\x05\0\x0bCLOSE 333 1\0\0\0\x10\x01\0\0\0\x07\0\x01\x11\0\0\0\0\0\0\0\x05";
+
+/// Taken 5, and Told that 5 is pending.
+const TAKEN_PENDING: &[u8] =
+    b"\0\0\0\x10\x01\0\0\0\x07\x01\0\x20\0\0\0\0\0\0\0\x05\0\0\0\x11\x01\0\0\0\x07\x01\0\x21\0\0\0\0\0\0\0\x05\x01";
+
+/// Prepare of ballot (1, 1) at position 0, to desks 2 and 3, each behind its receiver's number.
+const PREPARES: &[u8] =
+    b"\x02\0\0\0\x11\x01\0\0\0\x07\x01\x02\x01\0\0\0\x01\x01\0\0\0\0\x03\0\0\0\x11\x01\0\0\0\x07\x01\x03\x01\0\0\0\x01\x01\0\0\0\0";
+
+/// Tick from a client.
+const TICK: &[u8] = b"\0\0\0\x08\x01\0\0\0\x07\0\x01\x13";
+
+const FINE: &[u8] = b"\0\0\0\x08\x01\0\0\0\x07\x01\0\x24";
+
+/// Keeps what is pushed: each frame behind its receiver's number.
+#[derive(Drop)]
+struct Kept {
+    bytes: Vec<u8>,
+}
+
+impl Peers for Kept {
+    ghost use Rattle.std.specs.Prelude.{None};
+
+    ghost handed = { λ _. None };
+
+    fn push(&mut self, to: u8, frame: &[u8]) {
+        let _ = self.bytes.push(to);
+        let _ = self.bytes.extend_from_slice(frame);
+    }
+}
+
+/// Takes so many bytes, and then fails.
+#[derive(Drop)]
+struct Narrow {
+    room: usize,
+    bytes: Vec<u8>,
+}
+
+impl Write for Narrow {
+    ghost use Rattle.std.specs.Prelude.{None};
+
+    ghost contents = { λ _. None };
+
+    fn write(&mut self, text: &[u8]) -> io::Result<usize> {
+        if self.room == 0 {
+            return Err(io::Error::from(io::ErrorKind::BrokenPipe));
+        }
+        let count = if text.len() < self.room {
+            text.len()
+        } else {
+            self.room
+        };
+        if self.bytes.extend_from_slice(&text[..count]).is_err() {
+            return Err(io::Error::from(io::ErrorKind::OutOfMemory));
+        }
+        self.room -= count;
+        Ok(count)
+    }
+
+    fn flush(&mut self) -> io::Result<()> {
+        Ok(())
+    }
+}
+
+fn desk(alloc: Global) -> Result<Node<MemoryKeeper>, Fail> {
+    Ok(Node::open(alloc, MemoryKeeper::new(alloc, 7, 1, 3)?)?)
+}
+
+/// A fresh desk serves this input: it writes and pushes these bytes, and ends so.
+fn check_served(
+    rt: &impl Abort,
+    alloc: Global,
+    input: &[u8],
+    written: &[u8],
+    pushed: &[u8],
+    served: Served,
+) -> Result<(), Fail> {
+    let mut node = desk(alloc)?;
+    let mut peers = Kept {
+        bytes: Vec::new(alloc),
+    };
+    let mut output = Vec::new(alloc);
+    let came = serve_connection(alloc, input, &mut output, &mut node, &mut peers);
+    assert!(rt; came == served);
+    assert!(rt; output.as_slice() == written);
+    assert!(rt; peers.bytes.as_slice() == pushed);
+    Ok(())
+}
+
+#[test]
+fn submits_and_asks(rt: HostRuntime) -> Result<(), Fail> {
+    let served = Served {
+        frames: 2,
+        end: End::End,
+    };
+    check_served(&rt, rt.alloc(), SUBMIT_ASK, TAKEN_PENDING, PREPARES, served)
+}
+
+#[test]
+fn refuses_another_hall(rt: HostRuntime) -> Result<(), Fail> {
+    let refused = b"\0\0\0\x09\x01\0\0\0\x07\x01\0\x23\x08";
+    let served = Served {
+        frames: 1,
+        end: End::End,
+    };
+    check_served(&rt, rt.alloc(), FOREIGN, refused, b"", served)
+}
+
+#[test]
+fn waits_for_a_whole_frame(rt: HostRuntime) -> Result<(), Fail> {
+    let served = Served {
+        frames: 0,
+        end: End::End,
+    };
+    check_served(&rt, rt.alloc(), &SUBMIT_ASK[..10], b"", b"", served)
+}
+
+#[test]
+fn ends_at_a_bad_length(rt: HostRuntime) -> Result<(), Fail> {
+    let served = Served {
+        frames: 0,
+        end: End::Fault(WireFault::BadLength),
+    };
+    check_served(&rt, rt.alloc(), b"\0\0\0\0", b"", b"", served)
+}
+
+#[test]
+fn ends_after_64_frames(rt: HostRuntime) -> Result<(), Fail> {
+    let alloc = rt.alloc();
+    let mut input = Vec::new(alloc);
+    for _ in 0..65 {
+        input.extend_from_slice(TICK)?;
+    }
+    let mut node = desk(alloc)?;
+    let mut peers = Kept {
+        bytes: Vec::new(alloc),
+    };
+    let mut output = Vec::new(alloc);
+    let served = serve_connection(alloc, input.as_slice(), &mut output, &mut node, &mut peers);
+    assert!(rt;
+        served
+            == Served {
+                frames: 64,
+                end: End::Frames
+            }
+    );
+    assert!(rt; output.len() == 64 * FINE.len());
+    assert!(rt; output.starts_with(FINE));
+    Ok(())
+}
+
+#[test]
+fn breaks_off_at_a_failed_write(rt: HostRuntime) -> Result<(), Fail> {
+    let alloc = rt.alloc();
+    let mut node = desk(alloc)?;
+    let mut peers = Kept {
+        bytes: Vec::new(alloc),
+    };
+    let mut output = Narrow {
+        room: 10,
+        bytes: Vec::new(alloc),
+    };
+    let served = serve_connection(alloc, SUBMIT_ASK, &mut output, &mut node, &mut peers);
+    assert!(rt;
+        served
+            == Served {
+                frames: 1,
+                end: End::Write
+            }
+    );
+    assert!(rt; output.bytes.as_slice() == &TAKEN_PENDING[..10]);
+    assert!(rt; peers.bytes.as_slice() == PREPARES);
+    assert!(rt; node.answer(5)? == Told::Pending);
+    Ok(())
+}
