@@ -19,10 +19,6 @@ fn b(alloc: Global) -> Result<Entry, EntryFault> {
     Entry::new(alloc, 8, b"B")
 }
 
-fn c(alloc: Global) -> Result<Entry, EntryFault> {
-    Entry::new(alloc, 9, b"C")
-}
-
 /// These messages are delivered, one after the other.
 fn push(events: &mut Vec<WorldEvent>, numbers: &[u64]) -> Result<(), Fail> {
     for number in numbers {
@@ -82,56 +78,6 @@ fn second_entry_needs_no_second_prepare(rt: HostRuntime) -> Result<(), Fail> {
     );
     let second = world.log(2);
     assert_eq!(rt; (second.len(), second.entry(0)), (1, Some(&a(alloc)?)));
-    Ok(())
-}
-
-/// Each message that was sent since is delivered once, in order, and each that this brings.
-fn settle(world: &mut World, since: usize) -> Result<(), Fail> {
-    for place in since..since.saturating_add(100) {
-        if place < world.sent().len() {
-            world.run(&[WorldEvent::Deliver((place as u64).wrapping_add(1))])?;
-        }
-    }
-    Ok(())
-}
-
-/// A desk is handed an entry, starts, and all messages are delivered.
-fn decide(world: &mut World, desk: u8, entry: Entry) -> Result<(), Fail> {
-    let since = world.sent().len();
-    world.run(&[WorldEvent::Submit(desk, entry), WorldEvent::Start(desk)])?;
-    settle(world, since)
-}
-
-/// Desk 1 leads and has an entry in its queue when desk 2 takes the lead. It then takes it back.
-fn two_leaders(alloc: Global, world: &mut World) -> Result<usize, Fail> {
-    decide(world, 1, a(alloc)?)?;
-    world.run(&[WorldEvent::Submit(1, b(alloc)?)])?;
-    decide(world, 2, c(alloc)?)?;
-    let since = world.sent().len();
-    world.run(&[WorldEvent::Start(1)])?;
-    settle(world, since)?;
-    Ok(since)
-}
-
-#[test]
-fn two_desks_lead_in_turn(rt: HostRuntime) -> Result<(), Fail> {
-    let alloc = rt.alloc();
-    let mut world = World::new(alloc, 3)?;
-    let since = two_leaders(alloc, &mut world)?;
-    let ballot = Ballot { round: 3, desk: 1 };
-    let asked = Message {
-        from: 1,
-        to: 1,
-        body: Body::Prepare { ballot, pos: 2 },
-    };
-    assert_eq!(rt; world.sent().get(since), Some(&asked));
-    for desk in 1..4 {
-        let log = world.log(desk);
-        assert_eq!(rt;
-            (log.len(), log.entry(0), log.entry(1), log.entry(2)),
-            (3, Some(&a(alloc)?), Some(&c(alloc)?), Some(&b(alloc)?))
-        );
-    }
     Ok(())
 }
 

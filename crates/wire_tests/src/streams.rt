@@ -4,7 +4,7 @@ use crate::given::{PREPARE, SUBMIT, frame};
 use std::alloc::Global;
 use std::process::Abort;
 use std::test::Fail;
-use wire::{Bytes, Frame, FrameReader, Received, What, WireFault, encode, read_pieces};
+use wire::{Frame, FrameReader, Received, What, WireFault, read_pieces};
 
 #[test]
 fn what_is_held(rt: HostRuntime) -> Result<(), Fail> {
@@ -128,48 +128,6 @@ fn hundreds_of_frames(rt: HostRuntime) -> Result<(), Fail> {
         );
         assert_eq!(rt; reader.held(), 0);
     }
-    Ok(())
-}
-
-/// The frame is one from desk 1 of hall 7 to a client, with this text.
-fn is_sheet(frame: &Frame, text: &[u8]) -> bool {
-    match &frame.what {
-        What::SheetText { text: read } => {
-            frame.hall == 7 && frame.from == 1 && frame.to == 0 && read.as_slice() == text
-        }
-        _ => false,
-    }
-}
-
-/// The longest frame: 300,000 bytes behind its length, 299,992 of them a sheet's. In two pieces,
-/// too.
-#[test]
-fn a_frame_of_300000_bytes(rt: HostRuntime) -> Result<(), Fail> {
-    let alloc = rt.alloc();
-    let wanted = vec![in alloc; 0xa5_u8; 299_992]?;
-    let text = vec![in alloc; 0xa5_u8; 299_992]?;
-    assert!(rt; text.len() == 299_992);
-    let sheet = What::SheetText {
-        text: Bytes::new(text),
-    };
-    let bytes = encode(alloc, &frame(1, 0, sheet))?;
-    assert_eq!(rt; bytes.len(), 300_004);
-    for cut in [0_usize, 1, 4, 12, 4_096, 150_000, 300_003] {
-        let (front, rest) = bytes.split_at(cut.min(bytes.len()));
-        let mut reader = FrameReader::new(alloc)?;
-        assert_eq!(rt; reader.feed(front)?.len(), 0, "cut at {cut}");
-        assert_eq!(rt; reader.held() as usize, cut);
-        let frames = reader.feed(rest)?;
-        assert_eq!(rt; frames.len(), 1, "cut at {cut}");
-        assert!(rt;
-            frames.iter().all(|frame| is_sheet(frame, &wanted)),
-            "cut at {cut}"
-        );
-        assert_eq!(rt; reader.held(), 0);
-    }
-    let (length, rest) = bytes.split_at(4.min(bytes.len()));
-    assert_eq!(rt; length, b"\x00\x04\x93\xe0".as_slice());
-    assert!(rt; rest.starts_with(b"\x01\x00\x00\x00\x07\x01\x00\x22\xa5"));
     Ok(())
 }
 
