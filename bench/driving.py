@@ -1,8 +1,9 @@
-"""What the benchmarks of a desk's store share: drivers that are built, and SQLite to set beside them.
+"""What the benchmarks of a desk's store share: drivers that are built, and SQLite to set beside
+them.
 
-A driver is a small program over the repository's crates. Its text is bench/drivers/NAME.rt.txt, which
-is no source of the repository: it is proved and built in a temporary copy of the crates below it, and
-the program stays in bench/out.
+A driver is a small program over the repository's crates. Its text is bench/drivers/NAME.rt.txt,
+which is no source of the repository: it is proved and built in a temporary copy of the crates below
+it, and the program stays in bench/out.
 """
 
 import os
@@ -90,7 +91,8 @@ def build(program, on):
 
 
 def driver(name, on):
-    """The program of this driver, which stands on these crates: proved and built first, where need be."""
+    """The program of this driver, which stands on these crates: proved and built first, where need
+    be."""
     program = OUT / name
     if not is_newer(program, crates_below(on)):
         print(f"proving and building {name} first, once: seconds where the crates below it are built, else many "
@@ -185,7 +187,8 @@ def seconds_by_module(path, statements):
 
 
 def sqlite_seconds(path, setup, statements):
-    """The time of these statements, each a transaction of its own, without that of a run of the setup alone."""
+    """The time of these statements, each a transaction of its own, without that of a run of the
+    setup alone."""
     seconds = seconds_by_program if program_of_sqlite() else seconds_by_module
     start = seconds(path, setup)
     return max(seconds(path, setup + statements) - start, 1e-9)

@@ -4,8 +4,8 @@
     bench/rules.py EVENT ROUND [--csv] < COMMANDS
 
 A second program, written from docs/FORMATS.md and the WCA Regulations and sharing nothing with the
-crates: slow, plain, with whole lists in place of tables; bench/stickers.py has the cube. `bench/compare`
-and `bench/replay` compare the two byte for byte. Standard library only.
+crates: slow, plain, with whole lists in place of tables; bench/stickers.py has the cube.
+`bench/compare` and `bench/replay` compare the two byte for byte. Standard library only.
 """
 
 import re

@@ -1,7 +1,7 @@
 """A cube of 54 stickers in space, for bench/rules.py: what a fewest-moves solution comes to.
 
-A sticker is a place and the direction in which it faces, with coordinates -1, 0 and 1; x points to R,
-y to U, z to F. Nothing here is shared with the crates. Standard library only.
+A sticker is a place and the direction in which it faces, with coordinates -1, 0 and 1; x points to
+R, y to U, z to F. Nothing here is shared with the crates. Standard library only.
 """
 
 import functools

@@ -155,7 +155,8 @@ impl LineReader {
     ///
     /// # Errors
     ///
-    /// - `InputTooLong` at the first byte that is above a limit: all lines in front of it were given.
+    /// - `InputTooLong` at the first byte that is above a limit: all lines in front of it were
+    ///   given.
     /// - `Read` where a read fails, an interrupted one too: all whole lines in front were given.
     /// - `NoMemory` where memory runs out.
     ///

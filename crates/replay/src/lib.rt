@@ -123,13 +123,13 @@ fn sheet_of(
 /// # Errors
 ///
 /// - `NoSuchRound` where no accepted command opened the round: the refused lines are written.
-/// - `InputTooLong` where the input has more than 65,536 lines, more than 10,000 bytes in a line, or
-///   more than 39,387,136 bytes: what the whole lines in front of the first byte too many gave is
-///   written.
+/// - `InputTooLong` where the input has more than 65,536 lines, more than 10,000 bytes in a line,
+///   or more than 39,387,136 bytes: what the whole lines in front of the first byte too many gave
+///   is written.
 /// - `Read` where a read fails, an interrupted one too: what the whole lines in front gave is
 ///   written.
-/// - `Write` where a write fails, and `NoMemory` where memory runs out: a front part of the text for
-///   the whole input is written.
+/// - `Write` where a write fails, and `NoMemory` where memory runs out: a front part of the text
+///   for the whole input is written.
 pub fn replay<R: Read, W: Write>(
     alloc: Global,
     reader: &mut R,

@@ -1,5 +1,5 @@
 -- What a keeper's store holds, and what a save leaves there.
-use Rattle.std.specs.Prelude.{◌≡◌, ◌⊎◌, ◌^◌, ◌-◌, ◌+◌, ◌<◌, ℕ, List, Some, Result, Ok, Err}
+use Rattle.std.specs.Prelude.{◌≡◌, ◌⊎◌, ◌^◌, ◌-◌, ◌+◌, ◌<◌, ◌≢◌, ℕ, Bool, List, Some, Result, Ok, Err, IsTrue}
 use Rattle.acceptor.specs.declared.entry.Entry.{Entry}
 use Rattle.acceptor.specs.declared.stored.Stored.{Stored}
 use Rattle.acceptor.specs.declared.stored.Change.{Change}
@@ -15,6 +15,34 @@ most_failures = 2 ^ 64 - 1
 -- one more failure is counted, below that end
 abbrev pub CountsOne : ℕ → ℕ → Type 0
 CountsOne before after = (before < most_failures) × (after ≡ before + 1)
+
+-- What counts as a failure: a refusal by the device, which leaves the keeper Down, and nothing
+-- else.
+abbrev pub Counts : Type 0 → ℕ → ℕ → Bool → Type 0
+Counts is_refused before after is_down =
+    (is_refused → (before < after) × IsTrue is_down) × (¬ is_refused → after ≡ before)
+
+-- A load that answers Damaged has a reason: the count is at its end, where every load is Damaged,
+-- or the keeper kept no state that is sound.
+abbrev pub IsDamaged : Type 0 → ℕ → Type 0 → (Stored → List Entry → Type 0)
+    → (Stored → List Entry → Type 0) → Type 0
+IsDamaged is_damaged failures is_honest is_sound keeps =
+    (failures ≡ most_failures → is_damaged)
+    × (is_damaged → failures ≢ most_failures → is_honest → (s : Stored) (log : List Entry)
+    → is_sound s log → ¬ keeps s log)
+
+-- What a load gives was held by the store, and is what the keeper kept.
+abbrev pub IsLoaded : (Stored → List Entry → Type 0) → (Stored → List Entry → Type 0) → Stored
+    → List Entry → Type 0
+IsLoaded may_hold keeps s log =
+    may_hold s log
+    × ((t : Stored) (more : List Entry) → keeps t more → (s ≡ t) × (log ≡ more))
+
+-- An opening finds nothing afterwards that it could not find before.
+abbrev pub FindsNoMore : (Stored → List Entry → Type 0) → Type 0
+    → (Stored → List Entry → Type 0) → Type 0 → Type 0
+FindsNoMore held broke holds breaks =
+    ((s : Stored) (log : List Entry) → holds s log → held s log) × (breaks → broke)
 
 -- the state after the change is in its ranges
 abbrev pub IsFitAfter : ℕ → Stored → List Entry → Change → Type 0

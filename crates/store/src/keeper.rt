@@ -1,6 +1,6 @@
 //! What a desk needs of a store: the trait that everything above is written over.
 
-ghost use Rattle.std.specs.Prelude.{◌≡◌, ◌≢◌, ◌↔◌, ◌<◌, ℕ, Bool, List, Result, IsTrue, IfOk, OnOk, OnErr, false};
+ghost use Rattle.std.specs.Prelude.{◌≡◌, ◌≢◌, ◌↔◌, ℕ, Bool, List, Result, IsTrue, IfOk, OnErr, false};
 ghost use Rattle.acceptor.specs.declared.entry.Entry.{Entry};
 ghost use Rattle.acceptor.specs.declared.stored.Stored.{Stored as State};
 ghost use Rattle.acceptor.specs.declared.stored.Change.{Change as Step};
@@ -10,7 +10,7 @@ ghost use Rattle.store.specs.declared.faults.SaveFault.{SaveFault as Refusal};
 ghost use Rattle.store.specs.declared.faults.LoadFault.{LoadFault as Unloaded};
 ghost use Rattle.store.specs.Ranges.{IsHome, IsFit};
 ghost use Rattle.store.specs.Whole.{IsSound};
-ghost use Rattle.store.specs.Keeping.{most_failures, HoldsOnly, Leaves, IsFitAfter};
+ghost use Rattle.store.specs.Keeping.{most_failures, HoldsOnly, Leaves, IsFitAfter, Counts, IsLoaded, FindsNoMore, IsDamaged};
 
 use crate::faults::{LoadFault, SaveFault};
 use crate::home::Home;
@@ -65,8 +65,8 @@ pub trait Keeper {
     /// Device, and it holds one of the two. Device counts a failure, and the keeper is Down from
     /// then on, until a load is Ok.
     fn save(&mut self, change: &Change) -> Result<(), SaveFault>
-        ensures honest { is_honest self.new → is_honest self.old }
-        ensures home { home_of self.new ≡ home_of self.old }
+        ensures store { (is_honest self.new → is_honest self.old)
+            × (home_of self.new ≡ home_of self.old) }
 
         // What the store holds.
         ensures leaves { is_honest self.new → (s : State) (log : List Entry)
@@ -77,11 +77,8 @@ pub trait Keeper {
         // When it is Down, and what counts.
         ensures down { (result ≡ Err SaveFault.Down) ↔ IsTrue (is_down self.old) }
         ensures last { failures_of self.old ≡ most_failures → result ≡ Err SaveFault.Down }
-        ensures counted { result ≡ Err SaveFault.Device
-            → failures_of self.old < failures_of self.new }
-        ensures uncounted { result ≢ Err SaveFault.Device
-            → failures_of self.new ≡ failures_of self.old }
-        ensures ended { result ≡ Err SaveFault.Device → IsTrue (is_down self.new) }
+        ensures counted { Counts (result ≡ Err SaveFault.Device) (failures_of self.old)
+            (failures_of self.new) (is_down self.new) }
         ensures as_before { result ≢ Err SaveFault.Device → is_down self.new ≡ is_down self.old }
         ensures still { result ≡ Err SaveFault.Down → self.new ≡ self.old }
 
@@ -96,38 +93,30 @@ pub trait Keeper {
     /// keeper that is Down stays so until a load is Ok. Whatever the answer, an opening finds
     /// nothing that it could not find before.
     fn load(&mut self, alloc: Global) -> Result<(Stored, Log), LoadFault>
-        ensures honest { is_honest self.new → is_honest self.old }
-        ensures home { home_of self.new ≡ home_of self.old }
+        ensures store { (is_honest self.new → is_honest self.old)
+            × (home_of self.new ≡ home_of self.old) }
 
         // At Ok.
-        ensures up { OnOk result (is_down self.new ≡ false) }
-        ensures in_range { IfOk result (λ r. IsFit (home_of self.old).desks r.0 r.1.entries) }
-        ensures held { IfOk result (λ r. is_honest self.new → may_hold self.old r.0 r.1.entries) }
+        ensures up { IfOk result (λ r. (is_down self.new ≡ false)
+            × IsFit (home_of self.old).desks r.0 r.1.entries) }
+        ensures loaded { IfOk result (λ r. is_honest self.new
+            → IsLoaded (may_hold self.old) (keeps self.old) r.0 r.1.entries) }
         ensures kept { IfOk result (λ r. is_honest self.new → keeps self.new r.0 r.1.entries) }
-        ensures same { IfOk result
-            (λ r. is_honest self.new → (s : State) (log : List Entry) → keeps self.old s log
-            → (r.0 ≡ s) × (r.1.entries ≡ log)) }
 
         // What the store holds after a refusal, and may hold after any answer.
         ensures memory { result ≡ Err LoadFault.NoMemory → is_honest self.new
             → (s : State) (log : List Entry) → keeps self.old s log → keeps self.new s log }
-        ensures no_other { is_honest self.new → (s : State) (log : List Entry)
-            → may_hold self.new s log → may_hold self.old s log }
-        ensures whole { is_honest self.new → may_break self.new → may_break self.old }
+        ensures finds { is_honest self.new → FindsNoMore (may_hold self.old) (may_break self.old)
+            (may_hold self.new) (may_break self.new) }
 
-        // When it is Damaged or Device, what counts, and when it is Down.
-        ensures damaged { result ≡ Err LoadFault.Damaged → failures_of self.old ≢ most_failures
-            → is_honest self.new → (s : State) (log : List Entry) → IsSound (home_of self.old) s log
-            → ¬ keeps self.old s log }
-        ensures last { failures_of self.old ≡ most_failures → result ≡ Err LoadFault.Damaged }
-        ensures counted { result ≡ Err LoadFault.Device
-            → failures_of self.old < failures_of self.new }
-        ensures uncounted { result ≢ Err LoadFault.Device
-            → failures_of self.new ≡ failures_of self.old }
-        ensures down { result ≢ Err LoadFault.Device → IsTrue (is_down self.new)
-            → IsTrue (is_down self.old) }
-        ensures ended { result ≡ Err LoadFault.Device → IsTrue (is_down self.new) }
-        ensures stays { OnErr result (IsTrue (is_down self.old) → IsTrue (is_down self.new)) }
+        // When it is Damaged, what counts, and when it is Down.
+        ensures damaged { IsDamaged (result ≡ Err LoadFault.Damaged) (failures_of self.old)
+            (is_honest self.new) (IsSound (home_of self.old)) (keeps self.old) }
+        ensures counted { Counts (result ≡ Err LoadFault.Device) (failures_of self.old)
+            (failures_of self.new) (is_down self.new) }
+        ensures down { (result ≢ Err LoadFault.Device → IsTrue (is_down self.new)
+            → IsTrue (is_down self.old))
+            × OnErr result (IsTrue (is_down self.old) → IsTrue (is_down self.new)) }
 
         // What this kind of keeper adds.
         ensures more { load_gives self.old result self.new };

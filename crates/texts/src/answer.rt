@@ -1,3 +1,5 @@
+//! What a command is answered: done, or one of the 22 codes.
+
 ghost use Rattle.std.specs.Prelude.{◌≡◌};
 ghost use Rattle.texts.specs.Codes.{code_name, code_number, code_numbered};
 

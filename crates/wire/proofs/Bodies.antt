@@ -1,4 +1,5 @@
--- The fields of each kind: what is read is spelled so and in its ranges, and what is spelled so is read.
+-- The fields of each kind: what is read is spelled so and in its ranges, and what is spelled so is
+-- read.
 use Rattle.std.proofs.Common.{◌≡◌, ℕ, zero, suc, ◌^◌, ◌<◌, ◌≤◌, Bool, true, false, cond, eqb, List, [], ◌∷◌, ◌++◌, Some, refl, ap, subst, arith}
 use Rattle.std.specs.Prelude.{find, map}
 use Rattle.std.specs.Option.{option_map}

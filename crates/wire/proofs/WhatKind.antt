@@ -80,7 +80,8 @@ let_in hall from to kind w number fits =
     subst (λ (k : ℕ). goes (way_of_kind k) from to ≡ true) (sym number) fits in
     rw same refl
 
--- ---- eight bytes at least, whose version and kind are good, and whose sender and receiver fit the kind
+-- ---- eight bytes at least, whose version and kind are good, and whose sender and receiver fit the
+-- kind
 
 -- the hall of a frame
 abbrev pub hall_at : List ℕ → ℕ

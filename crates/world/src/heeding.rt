@@ -1,3 +1,5 @@
+//! Which messages a desk takes at all: those of a desk of its hall, in their ranges.
+
 ghost use Rattle.std.specs.Prelude.{◌≡◌};
 ghost use Rattle.learner.specs.Steps.{is_desk, is_real, is_in_range, is_heeded};
 

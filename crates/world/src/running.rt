@@ -1,3 +1,5 @@
+//! One desk as it runs: its number, its stored state, its log and its proposer, and its steps.
+
 ghost use Rattle.std.specs.Prelude.{◌≡◌, IfOk};
 ghost use Rattle.acceptor.specs.Storing.{stored_after, log_after};
 ghost use Rattle.world.specs.model.RunningDesks.{HasRoom};

@@ -1,3 +1,5 @@
+//! A hall of desks run by a list of events: what was sent, what each desk holds, what was refused.
+
 ghost use Rattle.std.specs.Prelude.{◌≡◌, IfOk};
 
 use crate::faults::NodeFault;

@@ -16,20 +16,17 @@ returns-then-is_harmless-clause-memory g c is clean s log k =
           ((c.read_all.ensures.spares early).kept same.0.was_open home s log k.3) same,
     )
 
-pub returns-in-Ok-clause-same : goal.returns-in-Ok-clause-same
-returns-in-Ok-clause-same g c clean s log k =
-    let home = c.args.self.now.home in
-    let found = c.in-Ok.ensures.found clean in
-    let later = (c.read_all.ensures.spares clean).kept found.is_open home s log k.3 in
-    one_state home home (state g.S.Store c.read_all.new.conn).now.trees c.in-Ok.stored s
-    c.in-Ok.log.entries log found.holds later.holds
-
-pub returns-in-Ok-clause-held : goal.returns-in-Ok-clause-held
-returns-in-Ok-clause-held g c clean =
+pub returns-in-Ok-clause-loaded : goal.returns-in-Ok-clause-loaded
+returns-in-Ok-clause-loaded g c clean =
     let home = c.args.self.now.home in
     let end = c.read_all.new.conn in
     let found = c.in-Ok.ensures.found clean in
     let here =
     (alone (state g.S.Store end) home c.in-Ok.stored c.in-Ok.log.entries
-    (g.met.S.Store.settled end.store) (g.met.S.Store.stays end.store) found).holds in
-    (here.0, (c.read_all.ensures.spares clean).crash here.0 here.1, here.2)
+    (g.met.S.Store.settled end.store) (g.met.S.Store.stays end.store) found).holds in (
+      (here.0, (c.read_all.ensures.spares clean).crash here.0 here.1, here.2),
+      λ s log k.
+          let later = (c.read_all.ensures.spares clean).kept found.is_open home s log k.3 in
+          one_state home home (state g.S.Store end).now.trees c.in-Ok.stored s c.in-Ok.log.entries
+          log found.holds later.holds,
+    )
