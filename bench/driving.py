@@ -26,8 +26,10 @@ PARTS = ("src", "specs", "proofs")
 
 def listed():
     """What each crate of the repository stands on, by crates.txt."""
-    lines = [line.partition("#")[0].partition(":") for line in (TOP / "crates.txt").read_text().splitlines()]
-    return {name.split()[0]: (f"{name}:{below}", below.split()) for name, _, below in lines if name.strip()}
+    lines = [line.partition("#")[0].partition(":")
+             for line in (TOP / "crates.txt").read_text().splitlines()]
+    return {name.split()[0]: (f"{name}:{below}", below.split()) for name, _,
+            below in lines if name.strip()}
 
 
 def crates_below(names):
@@ -50,13 +52,15 @@ def is_newer(program, names):
     if not os.access(program, os.X_OK):
         return False
     sources = [BENCH / "drivers" / f"{program.name}.rt.txt"]
-    sources += [file for name in names for part in PARTS for file in (TOP / "crates" / name / part).rglob("*")]
+    sources += [file for name in names for part in PARTS
+                for file in (TOP / "crates" / name / part).rglob("*")]
     return all(file.stat().st_mtime <= program.stat().st_mtime for file in sources)
 
 
 def run_rt(words, folder, log):
     with open(log, "ab") as to:
-        return subprocess.run(["rt", *words], cwd=folder, stdin=subprocess.DEVNULL, stdout=to, stderr=to).returncode
+        return subprocess.run(["rt", *words], cwd=folder, stdin=subprocess.DEVNULL, stdout=to,
+                              stderr=to).returncode
 
 
 def build(program, on):
@@ -95,8 +99,8 @@ def driver(name, on):
     be."""
     program = OUT / name
     if not is_newer(program, crates_below(on)):
-        print(f"proving and building {name} first, once: seconds where the crates below it are built, else many "
-              "minutes", file=sys.stderr, flush=True)
+        print(f"proving and building {name} first, once: seconds where the crates below it are "
+              "built, else many minutes", file=sys.stderr, flush=True)
         build(program, on)
     return program
 
@@ -105,7 +109,8 @@ def numbers(program, *words):
     """The numbers that a run of the program prints."""
     done = subprocess.run([program, *map(str, words)], capture_output=True, text=True)
     if done.returncode:
-        sys.exit(f"{program.name} {' '.join(map(str, words))}: status {done.returncode}: {done.stderr.strip()}")
+        sys.exit(f"{program.name} {' '.join(map(str, words))}: status {done.returncode}: "
+                 f"{done.stderr.strip()}")
     return [int(word) for word in done.stdout.split()]
 
 
@@ -116,9 +121,11 @@ MODE = "PRAGMA journal_mode=WAL"
 SYNC = "PRAGMA synchronous=FULL"
 SETTINGS = "journal_mode WAL, synchronous FULL"
 DESK = """CREATE TABLE desk (k INTEGER PRIMARY KEY, hall INTEGER NOT NULL, number INTEGER NOT NULL,
- desks INTEGER NOT NULL, promised_round INTEGER NOT NULL, promised_desk INTEGER NOT NULL, tried INTEGER NOT NULL,
+ desks INTEGER NOT NULL, promised_round INTEGER NOT NULL, promised_desk INTEGER NOT NULL,
+ tried INTEGER NOT NULL,
  vote_pos INTEGER, vote_round INTEGER, vote_desk INTEGER, vote_id INTEGER, vote_body BLOB) STRICT"""
-ENTRIES = "CREATE TABLE entries (pos INTEGER PRIMARY KEY, id INTEGER NOT NULL, body BLOB NOT NULL) STRICT"
+ENTRIES = ("CREATE TABLE entries (pos INTEGER PRIMARY KEY, id INTEGER NOT NULL, "
+           "body BLOB NOT NULL) STRICT")
 
 
 def text_of(number):
@@ -136,8 +143,9 @@ def append(number, schema="main"):
 
 
 def vote(pos, round, number, schema="main"):
-    return (f"UPDATE {schema}.desk SET promised_round = {round}, promised_desk = 1, vote_pos = {pos}, "
-            f"vote_round = {round}, vote_desk = 1, vote_id = {number + 1}, vote_body = x'{text_of(number).hex()}'")
+    return (f"UPDATE {schema}.desk SET promised_round = {round}, promised_desk = 1, "
+            f"vote_pos = {pos}, vote_round = {round}, vote_desk = 1, vote_id = {number + 1}, "
+            f"vote_body = x'{text_of(number).hex()}'")
 
 
 def promise(round, schema="main"):
@@ -163,9 +171,11 @@ def program_of_sqlite():
 def name_of_sqlite():
     """What the figures are set beside."""
     if program_of_sqlite():
-        version = subprocess.run(["sqlite3", "-version"], capture_output=True, text=True, check=True).stdout.split()[0]
+        version = subprocess.run(["sqlite3", "-version"], capture_output=True, text=True,
+                                 check=True).stdout.split()[0]
         return f"the program sqlite3 {version}"
-    return f"Python's module sqlite3, SQLite {sqlite3.sqlite_version}, since the program sqlite3 is not installed"
+    return (f"Python's module sqlite3, SQLite {sqlite3.sqlite_version}, "
+            "since the program sqlite3 is not installed")
 
 
 def seconds_by_program(path, statements):
@@ -205,4 +215,5 @@ def scratch(folder=OUT):
 
 def in_memory():
     """A folder in memory, where the system has one."""
-    return next((folder for folder in ("/dev/shm",) if os.path.isdir(folder) and os.access(folder, os.W_OK)), None)
+    return next((folder for folder in ("/dev/shm",) if os.path.isdir(folder)
+                 and os.access(folder, os.W_OK)), None)

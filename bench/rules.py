@@ -68,7 +68,8 @@ def in_range(low, high):
 
 
 def one_of(spellings):
-    return lambda text: text.decode() if text in [spelling.encode() for spelling in spellings] else None
+    known = [spelling.encode() for spelling in spellings]
+    return lambda text: text.decode() if text in known else None
 
 
 def name(text):
@@ -209,13 +210,15 @@ class Round:
     """The settings of a round, its scrambles, and the values of each entrant in order of entry."""
 
     def __init__(self, what, form, cut, time_limit, wish, entrants):
-        self.what, self.form, self.cutoff, self.limit, self.advance = what, form, cut, time_limit, wish
+        self.what, self.form, self.cutoff = what, form, cut
+        self.limit, self.advance = time_limit, wish
         self.scrambles = {}
         self.entrants = {who: [] for who in entrants}
         self.closed = False
 
     def meets(self, values):
-        return self.cutoff == "-" or any(value < self.cutoff[1] for value in numbers(values[:self.cutoff[0]]))
+        return self.cutoff == "-" or any(value < self.cutoff[1]
+                                         for value in numbers(values[:self.cutoff[0]]))
 
     def allotted(self, values):
         return ATTEMPTS[self.form] if self.meets(values) else self.cutoff[0]
@@ -230,7 +233,8 @@ class Round:
     def places(self):
         """The place of each entrant: 1 plus the number of those who are better."""
         ranks = {who: self.rank(values) for who, values in self.entrants.items()}
-        return {who: 1 + sum(other < rank for other in ranks.values()) for who, rank in ranks.items()}
+        return {who: 1 + sum(other < rank for other in ranks.values())
+                for who, rank in ranks.items()}
 
     def standings(self):
         places = self.places()
@@ -238,7 +242,8 @@ class Round:
 
     def started(self):
         """The competitors of the round: entrants with an attempt that is not DNS."""
-        return [who for who, values in self.entrants.items() if any(value != "DNS" for value in values)]
+        return [who for who, values in self.entrants.items()
+                if any(value != "DNS" for value in values)]
 
     def advancing(self):
         """Those who go on, in order of standings: a tied group over the border stays out whole."""
@@ -400,7 +405,8 @@ class Meet:
             return "Closed"
         if any(len(values) < table.allotted(values) for values in table.entrants.values()):
             return "Unfinished"
-        behind = [which + 1 - j > later_rounds(len(self.rounds[what, j].started())) for j in range(1, which + 1)]
+        behind = [which + 1 - j > later_rounds(len(self.rounds[what, j].started()))
+                  for j in range(1, which + 1)]
         if table.advance != ("final",) and any(behind):
             return "RoundsRule"
         table.closed = True
@@ -438,7 +444,8 @@ def rows(table):
         values = table.entrants[who]
         shown = [printed_average(average(table.form, table.what, values), table.what),
                  printed(best(values), table.what) if values else "-"]
-        shown += [printed(value, table.what) for value in values] + ["-"] * (ATTEMPTS[table.form] - len(values))
+        shown += [printed(value, table.what) for value in values]
+        shown += ["-"] * (ATTEMPTS[table.form] - len(values))
         yield places[who], who, shown, who in going
 
 
@@ -450,7 +457,8 @@ def text_sheet(meet, what, which, position):
            f"advance {spelled(table.advance)}\n".encode()]
     for place, who, shown, advances in rows(table):
         columns = "".join(f" {text:>9}" for text in shown)
-        out.append(f"{place:>3}{columns} {who:>4} {'Q' if advances else '-'} ".encode() + meet.names[who] + b"\n")
+        out.append(f"{place:>3}{columns} {who:>4} {'Q' if advances else '-'} ".encode()
+                   + meet.names[who] + b"\n")
     return b"".join(out)
 
 
@@ -463,7 +471,8 @@ def quoted(text):
 def table_sheet(meet, what, which):
     table = meet.rounds[what, which]
     columns = [str(count) for count in range(1, ATTEMPTS[table.form] + 1)]
-    out = [",".join(["place", "number", "name", "average", "best"] + columns + ["advances"]).encode()]
+    out = [",".join(["place", "number", "name", "average", "best"] + columns
+                    + ["advances"]).encode()]
     for place, who, shown, advances in rows(table):
         cells = ",".join(shown + ["yes" if advances else "no"])
         out.append(f"{place},{who},".encode() + quoted(meet.names[who]) + f",{cells}".encode())
@@ -493,7 +502,8 @@ def main():
     words = [word for word in sys.argv[1:] if word != "--csv"]
     if len(words) != 2 or words[0] not in EVENTS or words[1] not in ("1", "2", "3", "4"):
         sys.exit(__doc__)
-    said, fault, status = replay(sys.stdin.buffer.read(), words[0], int(words[1]), "--csv" in sys.argv)
+    said, fault, status = replay(sys.stdin.buffer.read(), words[0], int(words[1]),
+                                 "--csv" in sys.argv)
     sys.stdout.buffer.write(said)
     sys.stderr.buffer.write(fault)
     return status
