@@ -1,18 +1,17 @@
 -- One entrant has other values: what is kept stays true.
-use Rattle.std.proofs.Common.{◌≡◌, ℕ, ◌+◌, ◌<◌, ◌≤◌, Bool, true, false, cond, List, [], ◌∷◌, ◌++◌, map, length, All, count_by, nat_lt, slice_get, Option, Some, zero, suc, refl, sym, ap, ◌∙◌, arith, subst}
+use Rattle.std.proofs.Common.{◌≡◌, ℕ, ◌+◌, ◌≤◌, Bool, false, cond, List, [], ◌∷◌, map, length, All, count_by, slice_get, Some, zero, suc, refl, sym, ap, ◌∙◌, arith, subst}
 use Rattle.std.specs.List.{list_any, AllByRecursion}
 use Rattle.std.specs.Map.{values_of}
 use Rattle.std.proofs.lemmas.List.{length-map}
 use Rattle.std.proofs.lemmas.List.Elements.{All-from_recursion, recursion_from_All}
 use Rattle.std.proofs.lemmas.List.Sums.{sum_by-cons}
-use Rattle.attempts.specs.declared.Value.{Value}
 use Rattle.formats.specs.declared.results.RankKey.{RankKey}
 use Rattle.formats.specs.Results.{is_better}
 use Rattle.indexmap.specs.IndexMap.{set_value_at}
 use Rattle.rounds.specs.declared.rules.Rules.{Rules}
 use Rattle.rounds.specs.declared.kept.Kept.{Kept}
 use Rattle.rounds.specs.declared.standing.Standing.{Standing}
-use Rattle.rounds.specs.Tables.{Entrant, allotted, is_started_attempt}
+use Rattle.rounds.specs.Tables.{allotted, is_started_attempt}
 use Rattle.rounds.specs.model.Field.{set_values_at}
 use Rattle.rounds.specs.model.Standings.{kept_of, one_if, recounted, passed_by, is_unfinished, place_among}
 use Rattle.rounds.specs.model.Running.{entrant_of, entrants_of, no_result, IsMade, IsPlaced, IsAllotted, Runs}

@@ -1,5 +1,5 @@
 -- One entrant more: what is kept stays true.
-use Rattle.std.proofs.Common.{◌≡◌, ℕ, ◌+◌, ◌<◌, ◌≤◌, Bool, true, false, cond, ◌&&◌, List, [], ◌∷◌, ◌++◌, map, length, take, All, count_by, nat_lt, Option, None, Some, zero, suc, refl, sym, ap, ◌∙◌, arith, subst, length-append, add-zero}
+use Rattle.std.proofs.Common.{◌≡◌, ℕ, ◌+◌, ◌<◌, ◌≤◌, Bool, true, false, cond, ◌&&◌, List, [], ◌∷◌, ◌++◌, length, All, count_by, nat_lt, Option, None, Some, refl, sym, ap, ◌∙◌, arith, subst, length-append}
 use Rattle.std.specs.List.{list_any, AllByRecursion}
 use Rattle.std.specs.Map.{values_of}
 use Rattle.std.proofs.lemmas.Bool.Decides.{nat_tests}
@@ -10,7 +10,7 @@ use Rattle.formats.specs.declared.events.Format.{Format}
 use Rattle.formats.specs.declared.events.Format.TheVariants.{Ao5, Mo3, Bo1, Bo2, Bo3}
 use Rattle.formats.specs.declared.results.RankKey.{RankKey}
 use Rattle.formats.specs.Events.{attempts_of}
-use Rattle.formats.specs.Results.{key_of, is_better, is_same, is_less}
+use Rattle.formats.specs.Results.{is_better, is_same}
 use Rattle.rounds.specs.declared.rules.Rules.{Rules}
 use Rattle.rounds.specs.declared.kept.Kept.{Kept}
 use Rattle.attempts.specs.declared.Value.TheVariants.{Dns}

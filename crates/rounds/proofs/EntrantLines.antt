@@ -1,5 +1,5 @@
 -- The lines of a table as its entrants.
-use Rattle.std.proofs.Common.{◌≡◌, ℕ, ◌+◌, ◌<◌, ◌≤◌, nat_eq, Bool, true, false, cond, ◌||◌, List, [], ◌∷◌, ◌++◌, map, length, find, Option, None, Some, slice_get, is_some, count_by, All, MatchOption, position, zero, suc, refl, sym, ap, ◌∙◌, arith, eqb-true, eq-eqb, subst}
+use Rattle.std.proofs.Common.{◌≡◌, ℕ, ◌+◌, ◌<◌, nat_eq, Bool, true, false, cond, ◌||◌, List, [], ◌∷◌, map, length, find, Option, None, Some, slice_get, is_some, count_by, All, MatchOption, position, zero, suc, refl, sym, ap, ◌∙◌, arith, eqb-true, eq-eqb, subst}
 use Rattle.std.specs.List.{list_any, AllByRecursion, IsDistinct}
 use Rattle.std.specs.Map.{keys_of, values_of, lookup}
 use Rattle.std.specs.Option.{option_map, option_copied}
@@ -14,14 +14,13 @@ use Rattle.std.proofs.lemmas.Bool.Decides.{nat_tests}
 use Rattle.attempts.specs.declared.Value.{Value}
 use Rattle.formats.specs.declared.results.RankKey.{RankKey}
 use Rattle.formats.specs.Results.{key_of, is_better}
-use Rattle.indexmap.specs.IndexMap.{set_value_at}
 use Rattle.indexmap.proofs.MapLemmas.{Found-position, Missing-position}
 use Rattle.rounds.specs.declared.rules.Rules.{Rules}
 use Rattle.rounds.specs.declared.standing.Standing.{Standing}
 use Rattle.rounds.specs.Tables.{Entrant, IsCutoff, has_number, place}
 use Rattle.rounds.specs.model.Field.{Field, as_table, set_values_at, with_change, IsEntrantAt, IsStandingOf}
 use Rattle.rounds.specs.model.Standings.{kept_of, place_among}
-use Rattle.rounds.specs.model.Running.{entrant_of, entrants_of, IsMade, IsPlaced, IsAllotted, Runs}
+use Rattle.rounds.specs.model.Running.{entrant_of, entrants_of, IsMade, IsPlaced, IsAllotted}
 use Rattle.rounds.proofs.Passing.{at_index}
 
 -- the entrant of a number, with a standing

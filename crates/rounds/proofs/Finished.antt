@@ -6,10 +6,10 @@ use Rattle.std.proofs.lemmas.Bool.Decides.{nat_tests}
 use Rattle.std.proofs.lemmas.List.Sums.{sum_by-cons}
 use Rattle.rounds.specs.declared.rules.Rules.{Rules}
 use Rattle.rounds.specs.declared.standing.Standing.{Standing}
-use Rattle.rounds.specs.Tables.{Entrant, Table, allotted, has_finished, is_finished}
+use Rattle.rounds.specs.Tables.{Entrant, allotted, is_finished}
 use Rattle.rounds.specs.model.Field.{as_table}
 use Rattle.rounds.specs.model.Standings.{one_if, is_unfinished}
-use Rattle.rounds.specs.model.Running.{entrant_of, entrants_of}
+use Rattle.rounds.specs.model.Running.{entrants_of}
 use Rattle.rounds.proofs.EntrantLines.{field_with}
 
 one_or_more : (done may rest : ℕ) (all : Bool) → nat_eq rest 0 ≡ all

@@ -9,6 +9,7 @@ pub mod KeyOrder
 pub mod NotWorse
 pub mod Passing
 pub mod Refusals
+pub mod SlotLines
 pub mod StandingOrder
 pub mod TableCalls
 pub mod Within

@@ -3,6 +3,7 @@ pub mod Field
 pub mod KeptRows
 pub mod Order
 pub mod Running
+pub mod Slots
 pub mod Standings
 pub mod TableKept
 pub mod ValueRows

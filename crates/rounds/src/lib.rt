@@ -9,6 +9,7 @@ mod laws;
 mod ranking;
 mod rules;
 mod running;
+mod slots;
 mod standing;
 mod table;
 mod value_row;

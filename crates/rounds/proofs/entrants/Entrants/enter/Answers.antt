@@ -1,4 +1,4 @@
-use Rattle.std.proofs.Common.{◌≡◌, ◌+◌, ◌<◌, ℕ, List, [], ◌∷◌, ◌++◌, false, length, None, nat_eq, ap, sym, refl, subst, ◌∙◌, arith}
+use Rattle.std.proofs.Common.{◌≡◌, ◌+◌, ℕ, List, [], ◌∷◌, ◌++◌, false, length, nat_eq, ap, sym, refl, subst, ◌∙◌, arith}
 use Rattle.std.specs.List.{list_any}
 use Rattle.std.proofs.lemmas.List.{map-append, length-map}
 use Rattle.indexmap.proofs.CallerLemmas.{insert_entry-new}
@@ -8,7 +8,6 @@ use Rattle.formats.specs.declared.results.Averaged.TheVariants.{Missing}
 use Rattle.rounds.specs.declared.standing.Standing.{Standing}
 use Rattle.rounds.specs.Tables.{Entrant, has_number}
 use Rattle.rounds.specs.model.Field.{Field}
-use Rattle.rounds.specs.model.Standings.{kept_of}
 use Rattle.rounds.specs.model.Running.{field_of, entrant_of, entrants_of, no_result, Runs}
 use Rattle.rounds.proofs.EntrantLines.{is_some_lookup, none_from}
 use Rattle.rounds.proofs.Entering.{runs_entered, own_of_none}

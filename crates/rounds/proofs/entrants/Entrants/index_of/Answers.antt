@@ -1,6 +1,3 @@
-use Rattle.std.proofs.Common.{None, MatchOption, find}
-use Rattle.rounds.specs.Tables.{has_number}
-use Rattle.rounds.specs.model.Field.{IsEntrantAt}
 use Rattle.rounds.proofs.EntrantLines.{index_says}
 use Rattle.rounds.proofs.entrants.Entrants.index_of.Goals as goal
 

@@ -1,6 +1,5 @@
-use Rattle.std.proofs.Common.{◌≡◌, ◌≤◌, ◌+◌, ℕ, Bool, false, List, length, map, count_by, slice_get, Some, ap, sym, ◌∙◌}
+use Rattle.std.proofs.Common.{◌+◌, false, List, map, ap, sym, ◌∙◌}
 use Rattle.std.specs.List.{list_any}
-use Rattle.std.specs.Map.{values_of}
 use Rattle.indexmap.specs.IndexMap.{set_value_at}
 use Rattle.formats.specs.Results.{is_better}
 use Rattle.rounds.specs.declared.kept.Kept.{Kept}
