@@ -33,17 +33,23 @@ line_of_row unit cs settings t n e row shown count marked name is in_unit of_for
     (option_map (entrant_line unit settings t n (name_text cs n)) o) []) is.entrant)
 
 pub record_of_row : (unit : Measure) (cs : List Command) (settings : Settings) (t : Table) (n : ℕ)
-    (e : Entrant) (row : Row) → IsRow t n e row
+    (e : Entrant) (row : Row) (marked : Bool) → IsRow t n e row → marked ≡ is_marked settings t n
     → row_text default_writer (entrant_fields unit (attempts_of settings.format) row.place n
-    (name_text cs n) row.average row.values.now (is_marked settings t n))
+    (name_text cs n) row.average row.values.now marked)
     ≡ record_of unit cs settings t n
 unfolding entrant_record
-record_of_row unit cs settings t n e row is =
+record_of_row unit cs settings t n e row marked is as_marked =
     let text : ℕ → Averaged → List Value → List ℕ =
     λ place average vs. row_text default_writer
     (entrant_fields unit (attempts_of settings.format) place n (name_text cs n) average vs
     (is_marked settings t n)) in
-    ap (λ p. text p row.average row.values.now) is.place
+    ap
+    (λ m.
+    row_text default_writer
+    (entrant_fields unit (attempts_of settings.format) row.place n (name_text cs n) row.average
+    row.values.now m))
+    as_marked
+    ∙ ap (λ p. text p row.average row.values.now) is.place
     ∙ ap (λ a. text (place t e) a row.values.now) is.average
     ∙ ap (λ vs. text (place t e) (average_of t.format t.unit e.values) vs) is.values
     ∙ sym (ap

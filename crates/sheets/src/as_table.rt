@@ -1,13 +1,14 @@
 //! The sheet as a table of comma-separated values.
 
 ghost use Rattle.std.specs.Prelude.{◌≡◌, ◌++◌, ◌∷◌, [], IfOk, OnOk, IfErr, Some, map, decimal, flat_map};
+ghost use Rattle.advancement.specs.Advancing.{IsBorder};
 ghost use Rattle.formats.specs.Results.{average_text};
 ghost use Rattle.std.specs.List.{range_with_len};
 ghost use Rattle.csv.specs.Writing.{row_text, default_writer};
 ghost use Rattle.csv.specs.Records.{fields_of, partial_of};
 ghost use Rattle.formats.specs.Results.{best_of};
 ghost use Rattle.formats.specs.Events.{attempts_of, unit_of};
-ghost use Rattle.sheets.specs.Sheet.{name_text, is_marked, attempt_text, best_text, yes_or_no, header, entrant_fields, record_of, table_of_round, table_sheet};
+ghost use Rattle.sheets.specs.Sheet.{name_text, attempt_text, best_text, yes_or_no, header, entrant_fields, record_of, table_of_round, table_sheet};
 ghost use Rattle.sheets.specs.Faults.{NoSheet};
 ghost use Rattle.sheets.specs.model.Output.{HasFields, IsReady, Adds, held};
 
@@ -132,13 +133,13 @@ fn entrant_fields(
     shown: Shown<'_>,
     row: Row<'_>,
     number: u16,
+    marked: bool,
 ) -> Result<ByteRecord, NoMemory>
     requires { row.best ≡ best_of row.values.now }
     ensures { IfOk result (λ fields. fields_of fields
         ≡ entrant_fields (unit_of shown.entry.event) (attempts_of shown.entry.settings.format)
         row.entry.place number (name_text shown.entry.meet.now.accepted number)
-        row.entry.average row.entry.values.now
-        (is_marked shown.entry.settings shown.entry.table.now number)) }
+        row.entry.average row.entry.values.now marked) }
 {
     let unit = unit_of(shown.event);
     let count = attempts_of(shown.settings.format);
@@ -152,7 +153,7 @@ fn entrant_fields(
     )?;
     push_results(&mut fields, alloc, row, unit)?;
     push_attempts(&mut fields, alloc, row.values, count, unit)?;
-    push_advances(&mut fields, is_marked(shown, number))?;
+    push_advances(&mut fields, marked)?;
     Ok(fields)
 }
 
@@ -188,14 +189,16 @@ fn write_entrant(
     shown: Shown<'_>,
     number: u16,
 ) -> Result<(), NoMemory>
-    requires { IsReady writer.old }
+    requires ready { IsReady writer.old }
+    requires border { IsBorder shown.table.now shown.settings.advance shown.border }
     ensures { OnOk result (Adds writer.old writer.new (record_of (unit_of shown.entry.event)
         shown.entry.meet.now.accepted shown.entry.settings shown.entry.table.now number)) }
 {
     let Some(row) = shown.table.row(number) else {
         return Ok(());
     };
-    let fields = entrant_fields(alloc, shown, row, number)?;
+    let marked = is_marked(shown, row);
+    let fields = entrant_fields(alloc, shown, row, number, marked)?;
     write_record(writer, &fields)
 }
 
@@ -206,7 +209,8 @@ fn write_entrants(
     shown: Shown<'_>,
     numbers: &[u16],
 ) -> Result<(), NoMemory>
-    requires { IsReady writer.old }
+    requires ready { IsReady writer.old }
+    requires border { IsBorder shown.table.now shown.settings.advance shown.border }
     ensures { OnOk result (Adds writer.old writer.new
         (flat_map (record_of (unit_of shown.entry.event) shown.entry.meet.now.accepted
         shown.entry.settings shown.entry.table.now) numbers.now)) }
@@ -229,6 +233,7 @@ fn text_held(writer: Writer<Vec<u8>>) -> Result<Vec<u8>, NoMemory>
 
 /// The table of a round.
 fn table_of(alloc: Global, shown: Shown<'_>) -> Result<Vec<u8>, NoMemory>
+    requires { IsBorder shown.table.now shown.settings.advance shown.border }
     ensures { IfOk result (λ text. text.items ≡ table_of_round shown.entry.meet.now.accepted
         shown.entry.event (shown.entry.settings, shown.entry.table.now)) }
 {

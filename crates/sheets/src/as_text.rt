@@ -1,6 +1,7 @@
 //! The sheet as text.
 
 ghost use Rattle.std.specs.Prelude.{◌≡◌, ◌++◌, IfOk, OnOk, IfErr, flat_map, codes, Some};
+ghost use Rattle.advancement.specs.Advancing.{IsBorder};
 ghost use Rattle.formats.specs.Results.{best_of};
 ghost use Rattle.formats.specs.Events.{attempts_of, unit_of};
 ghost use Rattle.sheets.specs.Sheet.{right, mark, state_text, title, standing, first_line, second_line, results, attempts, person, line_of, text_of_round, text_sheet};
@@ -166,6 +167,7 @@ fn push_line(
     shown: Shown<'_>,
     number: u16,
 ) -> Result<(), NoMemory>
+    requires { IsBorder shown.table.now shown.settings.advance shown.border }
     ensures { OnOk result (out.new.items ≡ out.old.items
         ++ line_of (unit_of shown.entry.event) shown.entry.meet.now.accepted
         shown.entry.settings shown.entry.table.now number) }
@@ -182,7 +184,7 @@ fn push_line(
         attempts_of(shown.settings.format),
         unit,
     )?;
-    let marked = is_marked(shown, number);
+    let marked = is_marked(shown, row);
     push_person(out, alloc, number, marked, name_text(shown.meet, number))?;
     Ok(())
 }
@@ -194,6 +196,7 @@ fn push_lines(
     shown: Shown<'_>,
     numbers: &[u16],
 ) -> Result<(), NoMemory>
+    requires { IsBorder shown.table.now shown.settings.advance shown.border }
     ensures { OnOk result (out.new.items ≡ out.old.items
         ++ flat_map (line_of (unit_of shown.entry.event) shown.entry.meet.now.accepted
         shown.entry.settings shown.entry.table.now) numbers.now) }
@@ -206,6 +209,7 @@ fn push_lines(
 
 /// The sheet of a round.
 fn text_of(alloc: Global, shown: Shown<'_>, round: u8, position: u32) -> Result<Vec<u8>, NoMemory>
+    requires { IsBorder shown.table.now shown.settings.advance shown.border }
     ensures { IfOk result (λ text. text.items
         ≡ text_of_round shown.entry.meet.now.accepted shown.entry.event round position
         (shown.entry.settings, shown.entry.table.now)) }

@@ -1,15 +1,18 @@
 //! What both forms of a sheet say of an entrant, as texts.
 
-ghost use Rattle.std.specs.Prelude.{◌≡◌, IfOk, IfSome, decimal, option_map};
+ghost use Rattle.std.specs.Prelude.{◌≡◌, ℕ, IfOk, IfSome, decimal, option_map};
 ghost use Rattle.formats.specs.Results.{best_of};
+ghost use Rattle.advancement.specs.Advancing.{IsBorder};
 ghost use Rattle.commands.specs.Accepted.{round_of};
+ghost use Rattle.rounds.specs.Rows.{IsRow};
+ghost use Rattle.rounds.specs.Tables.{Entrant};
 ghost use Rattle.sheets.specs.Sheet.{best_text, attempt_text, name_text, is_marked};
 
-use advancement::advances;
+use advancement::{border, is_through};
 use attempts::{NoMemory, Unit, Value, print_value, push_decimal};
 use commands::{Meet, Settings};
 use formats::Event;
-use rounds::RoundTable;
+use rounds::{RoundTable, Row};
 use std::alloc::Global;
 
 /// A round that was opened, and the meet that it belongs to.
@@ -19,6 +22,8 @@ pub struct Shown<'a> {
     pub event: Event,
     pub settings: Settings,
     pub table: &'a RoundTable,
+    /// The place at which nobody advances any more: it is found once for all entrants.
+    pub border: u16,
 }
 
 /// The round to show, if it was opened.
@@ -27,6 +32,8 @@ pub fn shown_round(meet: &Meet, event: Event, round: u8) -> Option<Shown<'_>>
     ensures event { IfSome result (λ shown. shown.event ≡ event) }
     ensures round { option_map (λ shown. (shown.settings, shown.table.now)) result
         ≡ round_of meet.now.accepted event round }
+    ensures border { IfSome result (λ shown.
+        IsBorder shown.table.now shown.settings.advance shown.border) }
 {
     let (Some(table), Some(settings)) = (meet.round(event, round), meet.settings(event, round))
     else {
@@ -37,6 +44,7 @@ pub fn shown_round(meet: &Meet, event: Event, round: u8) -> Option<Shown<'_>>
         event,
         settings,
         table,
+        border: border(table, settings.advance),
     })
 }
 
@@ -91,9 +99,14 @@ pub fn name_text(meet: &Meet, number: u16) -> &[u8]
     }
 }
 
-/// Whether the sheet marks a competitor as one who advances.
-pub fn is_marked(shown: Shown<'_>, number: u16) -> bool
-    ensures { result ≡ is_marked shown.entry.settings shown.entry.table.now number }
+/// Whether the sheet marks the entrant of a row as one who advances.
+pub fn is_marked(shown: Shown<'_>, row: Row<'_>) -> bool
+    requires { IsBorder shown.table.now shown.settings.advance shown.border }
+    ensures { (number : ℕ) (e : Entrant) → IsRow shown.entry.table.now number e row.entry
+        → result ≡ is_marked shown.entry.settings shown.entry.table.now number }
 {
-    shown.table.is_closed() && advances(shown.table, shown.settings.advance, number)
+    if !shown.table.is_closed() {
+        return false;
+    }
+    is_through(row.best, row.place, shown.border)
 }

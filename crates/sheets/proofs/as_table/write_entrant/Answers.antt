@@ -13,5 +13,6 @@ returns c =
     (ap (row_text default_writer) c.in_ok-fields.ensures
     ∙ record_of_row
     (unit_of c.args.shown.event) c.args.shown.meet.now.accepted c.args.shown.settings
-    c.args.shown.table.now c.args.number is.0 c.in-Some.row is.1)
+    c.args.shown.table.now c.args.number is.0 c.in-Some.row c.is_marked-marked.result is.1
+    (c.is_marked-marked.ensures c.args.number is.0 is.1))
     c.write_record.ensures
