@@ -1,4 +1,5 @@
 pub mod Prefixes
+pub mod SheetsOf
 pub mod Steps
 pub mod Agreeing
 pub mod Places

@@ -51,3 +51,9 @@ abbrev pub NoSheetAt : SheetFault → List Entry → ℕ → Option (List ℕ) �
 NoSheetAt NotThere log position sheet = length log < position
 NoSheetAt NoSuchRound log position sheet = (position ≤ length log) × (sheet ≡ None)
 NoSheetAt NoMemory log position sheet = position ≤ length log
+
+-- why there is no sheet of a meet
+abbrev pub NoSheetIn : SheetFault → Option (List ℕ) → Type 0
+NoSheetIn NotThere sheet = ⊥
+NoSheetIn NoSuchRound sheet = sheet ≡ None
+NoSheetIn NoMemory sheet = Unit {0}

@@ -2,7 +2,8 @@
 
 ghost use Rattle.std.specs.Prelude.{◌≡◌, ◌≤◌, IfOk, OnOk, IfErr, Some, length, take};
 ghost use Rattle.commands.specs.History.{StandsFor, history};
-ghost use Rattle.world.specs.Answers.{texts, is_queued, told_by_queue, told, sheet_at, NoSheetAt};
+ghost use Rattle.sheets.specs.Sheet.{sheet};
+ghost use Rattle.world.specs.Answers.{texts, is_queued, told_by_queue, told, sheet_at, NoSheetAt, NoSheetIn};
 
 use crate::faults::SheetFault;
 use acceptor::NoMemory;
@@ -71,6 +72,31 @@ pub fn answer_of(alloc: Global, log: &Log, queue: &[Entry], id: u64) -> Result<T
     Ok(Told::Done { pos, answer })
 }
 
+/// The sheet of a round of a meet, at a position.
+pub fn sheet_in(
+    alloc: Global,
+    meet: &Meet,
+    position: u32,
+    event: Event,
+    round: u8,
+    style: Style,
+) -> Result<Vec<u8>, SheetFault>
+    ensures sheet { IfOk result
+        (λ text. sheet style meet.now.accepted event round position ≡ Some text.items) }
+    ensures none { IfErr result
+        (λ fault. NoSheetIn fault (sheet style meet.now.accepted event round position)) }
+{
+    let printed = match style {
+        Style::Text => text(alloc, meet, event, round, position),
+        Style::Table => table(alloc, meet, event, round, position),
+    };
+    match printed {
+        Ok(text) => Ok(text),
+        Err(sheets::SheetFault::NoSuchRound) => Err(SheetFault::NoSuchRound),
+        Err(sheets::SheetFault::NoMemory) => Err(SheetFault::NoMemory),
+    }
+}
+
 /// The sheet of a round after the log's first `position` entries.
 pub fn sheet_of(
     alloc: Global,
@@ -94,13 +120,5 @@ pub fn sheet_of(
     let Ok(meet) = meet_of(alloc, log, position) else {
         return Err(SheetFault::NoMemory);
     };
-    let printed = match style {
-        Style::Text => text(alloc, &meet, event, round, position),
-        Style::Table => table(alloc, &meet, event, round, position),
-    };
-    match printed {
-        Ok(text) => Ok(text),
-        Err(sheets::SheetFault::NoSuchRound) => Err(SheetFault::NoSuchRound),
-        Err(sheets::SheetFault::NoMemory) => Err(SheetFault::NoMemory),
-    }
+    sheet_in(alloc, &meet, position, event, round, style)
 }
