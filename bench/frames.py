@@ -1,0 +1,227 @@
+#!/usr/bin/env python3
+"""What `wire_runs` has to print, worked out by the rules of frames alone.
+
+    bench/frames.py < crates/wire_runs/stdin          prints what crates/wire_runs/stdout has to be
+
+A second program, written from docs/FORMATS.md and sharing nothing with the crates: it looks at a whole
+stream at once where it can. crates/wire_runs/src/main.rt says what the lines ask for; a frame is
+printed as Rust's `Debug` does. Standard library only.
+"""
+
+import sys
+
+MOST = 300_000
+EVENTS = ("Cube3", "Cube2", "Cube4", "Cube5", "Cube6", "Cube7", "Blind3", "FewestMoves", "OneHanded", "Clock",
+          "Megaminx", "Pyraminx", "Skewb", "Square1", "Blind4", "Blind5")
+CODES = ("Unread", "Repeat", "UnknownCompetitor", "NameTaken", "RoundUnknown", "RoundOpen", "RoundsRule",
+         "FormatNotAllowed", "CutoffNotAllowed", "LimitNotAllowed", "NoScramble", "ScrambleThere", "WrongOutcome",
+         "Closed", "Already", "Full", "NotEntered", "OutOfOrder", "NoMoreAttempts", "NoSuchAttempt", "CutoffLost",
+         "Unfinished")
+REFUSALS = ("Busy", "LogFull", "BallotsSpent", "NoMemory", "Down", "NotThere", "NoSuchRound", "Foreign")
+STYLES = ("Text", "Table")
+
+
+class Bad(Exception):
+    """A field that is out of its range, or that is not all there."""
+
+
+class Fields:
+    """The bytes behind a kind, taken from the left."""
+
+    def __init__(self, data):
+        self.data, self.at = data, 0
+
+    def number(self, size, low=0, high=None):
+        part = self.data[self.at:self.at + size]
+        value = int.from_bytes(part, "big")
+        if len(part) < size or value < low or (high is not None and value > high):
+            raise Bad
+        self.at += size
+        return value
+
+    def one_of(self, names, first):
+        return names[self.number(1, first, first + len(names) - 1) - first]
+
+    def ballot(self):
+        round_number = self.number(4, 1)
+        return f"Ballot {{ round: {round_number}, desk: {self.number(1, 1, 5)} }}"
+
+    def position(self):
+        return self.number(4, 0, 65_535)
+
+    def id(self):
+        return self.number(8, 1, 2 ** 63 - 1)
+
+    def bytes(self, size):
+        part = self.data[self.at:self.at + size]
+        if len(part) < size:
+            raise Bad
+        self.at += size
+        return list(part)
+
+    def entry(self):
+        which = self.id()
+        return f"Entry {{ id: {which}, text: {self.bytes(self.number(2, 0, 600))} }}"
+
+    def vote(self):
+        if self.number(1, 0, 1) == 0:
+            return "None"
+        ballot = self.ballot()
+        return f"Some(Report {{ ballot: {ballot}, entry: {self.entry()} }})"
+
+    def standing(self):
+        case = self.number(1, 0, 2)
+        if case < 2:
+            return ("Unknown", "Pending")[case]
+        position = self.position()
+        answer = self.one_of(("Done",) + CODES, 0)
+        return f"Done {{ pos: {position}, answer: {answer if answer == 'Done' else f'Refused({answer})'} }}"
+
+    def rest(self):
+        return f"Bytes {{ items: {self.bytes(len(self.data) - self.at)} }}"
+
+
+def event(fields):
+    return fields.one_of(EVENTS, 1)
+
+
+def style(fields):
+    return fields.one_of(STYLES, 0)
+
+
+def refusal(fields):
+    return fields.one_of(REFUSALS, 1)
+
+
+def byte(fields):
+    return fields.number(1)
+
+
+def any_position(fields):
+    return fields.number(4)
+
+
+def length_of_log(fields):
+    return fields.number(4, 0, 65_536)
+
+
+BALLOT, POSITION, ENTRY, ID = ("ballot", Fields.ballot), ("pos", Fields.position), ("entry", Fields.entry), ("id", Fields.id)
+KINDS = {
+    1: ("Prepare", [BALLOT, POSITION]),
+    2: ("Promise", [BALLOT, POSITION, ("vote", Fields.vote)]),
+    3: ("Accept", [BALLOT, POSITION, ENTRY]),
+    4: ("Accepted", [BALLOT, POSITION]),
+    5: ("Nack", [BALLOT, POSITION, ("promised", Fields.ballot)]),
+    6: ("Behind", [("len", length_of_log)]),
+    7: ("Decided", [POSITION, ENTRY]),
+    16: ("Submit", [ENTRY]),
+    17: ("Ask", [ID]),
+    18: ("Sheet", [("event", event), ("round", byte), ("position", any_position), ("style", style)]),
+    19: ("Tick", []),
+    20: ("Stop", []),
+    32: ("Taken", [ID]),
+    33: ("Told", [ID, ("standing", Fields.standing)]),
+    34: ("SheetText", [("text", Fields.rest)]),
+    35: ("Refused", [("refusal", refusal)]),
+    36: ("Fine", []),
+}
+
+
+def goes(kind, sender, receiver):
+    desk, client = range(1, 6), (0,)
+    from_, to = (desk, desk) if kind <= 7 else (client, desk) if kind <= 20 else (desk, client)
+    return sender in from_ and receiver in to
+
+
+def frame(data):
+    """The kind and the text of the frame behind a length, or the name of its fault."""
+    if data[0] != 1:
+        return "BadVersion"
+    if data[7] not in KINDS:
+        return "BadKind"
+    name, wanted = KINDS[data[7]]
+    fields = Fields(data[8:])
+    try:
+        values = [f"{field}: {taken(fields)}" for field, taken in wanted]
+    except Bad:
+        return "BadBody"
+    if fields.at < len(fields.data) or not goes(data[7], data[5], data[6]):
+        return "BadBody"
+    what = f"{name} {{ {', '.join(values)} }}" if values else name
+    hall = int.from_bytes(data[1:5], "big")
+    return data[7], f"Frame {{ hall: {hall}, from: {data[5]}, to: {data[6]}, what: {what} }}"
+
+
+def stream(data):
+    """The frames, each with the place behind its last byte, what is left behind them, and the fault."""
+    frames, at = [], 0
+    while True:
+        rest = data[at:]
+        if len(rest) < 4:
+            return frames, len(rest), None
+        size = int.from_bytes(rest[:4], "big")
+        if not 8 <= size <= MOST:
+            return frames, 0, "BadLength"
+        if len(rest) < 4 + size:
+            return frames, len(rest), None
+        found = frame(rest[4:4 + size])
+        if isinstance(found, str):
+            return frames, 0, found
+        at += 4 + size
+        frames.append(found)
+
+
+def bytes_of(text):
+    data = b""
+    for token in text.split():
+        digits, _, times = token.partition("*")
+        data += bytes.fromhex(digits) * int(times or "1")
+    return data
+
+
+def frames_lines(text):
+    data = bytes_of(text)
+    frames, _, _ = stream(data)
+    held = [stream(data[:cut])[1] for cut in range(len(data))]
+    return [text for _, text in frames] + [f"spelled in {len(data)} bytes", f"held {held}"]
+
+
+def answers(pieces):
+    """What each piece gives: the number of frames, what is held, and the fault; None for the number at a fault."""
+    rest, broken = b"", None
+    for piece in pieces:
+        if broken is not None:
+            yield None, 0, broken
+            continue
+        rest += piece
+        frames, held, broken = stream(rest)
+        rest = rest[len(rest) - held:]
+        yield (None if broken and not frames else len(frames)), held, broken
+
+
+def feed_lines(text):
+    for given, held, fault in answers([bytes_of(piece) for piece in text.split("/")]):
+        if given is None:
+            yield f"{fault}, {held} held"
+        else:
+            yield f"{given} given, {held} held" + (f", then {fault}" if fault else "")
+
+
+def stream_lines(text):
+    size, _, text = text.partition(" ")
+    data, size = bytes_of(text), int(size)
+    frames, held, fault = stream(data)
+    most = max((held for _, held, _ in answers([data[at:at + size] for at in range(0, len(data), size)])), default=0)
+    kept = f"Some({fault})" if fault else "None"
+    return [f"kinds {[kind for kind, _ in frames]}, spelled, {most} held at most, {held} at the end, {kept}"]
+
+
+def main():
+    words = {"frames": frames_lines, "feed": feed_lines, "stream": stream_lines}
+    for line in sys.stdin.read().splitlines():
+        word, _, rest = line.partition(" ")
+        print(*(words[word](rest) if word in words else [line]), sep="\n")
+
+
+if __name__ == "__main__":
+    main()
