@@ -5,12 +5,12 @@ use Rattle.acceptor.specs.declared.message.Message.{Message}
 use Rattle.learner.specs.declared.event.Event.{Event}
 use Rattle.learner.specs.declared.event.Event.TheVariants.{Deliver}
 use Rattle.store.specs.declared.home.Home.{Home}
-use Rattle.serving.specs.Reaching.{OnlyAdds}
-use Rattle.serving.specs.Serving.{Called, Pushed, Service, call, settle_by, deliver, waits, push_all, in_front, from_own, to_others}
+use Rattle.serving.specs.model.Reaching.{OnlyAdds}
+use Rattle.serving.specs.Serving.{Called, Pushed, Service, reply_to, call, settle_by, deliver, waits, push_all, in_front, from_own, to_others}
 
 pub adds_call : (home : Home) (event : Event) → OnlyAdds (call home event)
 unfolding call
-adds_call home event s = (Called event ∷ [], refl)
+adds_call home event s = (Called event (reply_to home event s).result ∷ [], refl)
 
 pub adds_both : (f g : Service → Service) → OnlyAdds f → OnlyAdds g → OnlyAdds (λ s. g (f s))
 adds_both f g a b s =

@@ -6,18 +6,18 @@ use Rattle.learner.specs.declared.event.Event.TheVariants.{Deliver, Tick}
 use Rattle.wire.specs.declared.frame.What.{What}
 use Rattle.wire.specs.declared.frame.What.TheVariants as what
 use Rattle.store.specs.declared.home.Home.{Home}
-use Rattle.serving.specs.Adding.{Push, Hands}
+use Rattle.serving.specs.Making.{Way, Outside, outside_of, Makes}
 use Rattle.serving.specs.Answering.{answer_of, answer_first, standing, told_what, printed}
-use Rattle.serving.specs.Connection.{Answers, AnswersSome, FailsToAnswer}
+use Rattle.serving.specs.model.Requests.{Answers, AnswersSome, FailsToAnswer}
 use Rattle.serving.specs.Nodes.{Seen, Fate, reply}
-use Rattle.serving.specs.Reaching.{at, service, Reaches, DoesPart, DoesTake}
+use Rattle.serving.specs.model.Reaching.{at, service, Reaches, DoesPart, DoesTake}
 use Rattle.serving.specs.Serving.{Act, Service, first_fate, take, begun, served, answer, pushes_of, seen_after}
 use Rattle.serving.specs.declared.calling.Answer.{Answer}
 use Rattle.serving.specs.declared.request.Request.{Request}
 use Rattle.serving.specs.declared.request.Request.TheVariants.{Heard, Ticked, Asked, Printed}
 use Rattle.formats.specs.declared.events.Event.{Event as EventOf}
 use Rattle.wire.specs.declared.values.SheetStyle.{SheetStyle as Style}
-use Rattle.serving.proofs.Handing.{Hands-nil}
+use Rattle.serving.proofs.Makings.{Makes-nil}
 
 -- what reached its end from the beginning of a frame
 pub took : (home : Home) (f : Service → Service) (x y : Seen) (left : ℕ) (acts : List Act)
@@ -35,43 +35,42 @@ took_calls home f x y left acts past r =
     ∙ ap (λ z. seen_after home x acts z) (append-nil past)
 
 -- the calls and pushes of a request, and the node behind it; the answer is another matter
-pub answers_by : (home : Home) (r : Request) (x y : Seen) (left : ℕ) (acts : List Act)
-    (past : List Fate) (w : Option What) (a b : Option (List Push))
+pub answers_by : {V : Type 0} {way : Way V} (home : Home) (r : Request) (x y : Seen) (left : ℕ) (acts : List Act)
+    (past : List Fate) (w : Option What) (a b : Outside way)
     → (served home x past r ≡ service (at y [] left) acts []) → (y ≡ seen_after home x acts past)
-    → Hands a b (pushes_of home.hall acts)
+    → Makes home.hall a b acts
     → w ≡ answer home x past r
     → Answers home x y past r w a b
-answers_by home r x y left acts past w a b all calls handed is = record {
+answers_by home r x y left acts past w a b all calls made is = record {
   answer_is = is;
-  pushed =
-      subst (λ z. Hands a b (pushes_of home.hall z)) (sym (ap (λ (z : Service). z.done) all))
-      handed;
+  made =
+      subst (λ z. Makes home.hall a b z) (sym (ap (λ (z : Service). z.done) all)) made;
   node = sym (ap (λ (z : Service). z.seen) all);
   calls = calls ∙ ap (λ z. seen_after home x z past) (sym (ap (λ (z : Service). z.done) all));
 }
 
 -- a message of a desk
-pub hears : (home : Home) (m : Message) (x y : Seen) (left : ℕ) (answer : Answer) (acts : List Act)
-    (past : List Fate) (a b : Option (List Push))
+pub hears : {V : Type 0} {way : Way V} (home : Home) (m : Message) (x y : Seen) (left : ℕ) (answer : Answer) (acts : List Act)
+    (past : List Fate) (a b : Outside way)
     → DoesTake home left (Deliver m) answer x y acts past a b
     → AnswersSome home x y (Heard m) None a b
 hears home m x y left answer acts past a b h = (
   past,
   answers_by home (Heard m) x y left acts past None a b
       (took home (take home (Deliver m)) x y left acts past h.did.reaches)
-      (took_calls home (take home (Deliver m)) x y left acts past h.did.reaches) h.did.handed refl,
+      (took_calls home (take home (Deliver m)) x y left acts past h.did.reaches) h.did.made refl,
 )
 
 -- a Tick
-pub ticks : (home : Home) (x y : Seen) (left : ℕ) (answer : Answer) (acts : List Act)
-    (past : List Fate) (w : What) (a b : Option (List Push))
+pub ticks : {V : Type 0} {way : Way V} (home : Home) (x y : Seen) (left : ℕ) (answer : Answer) (acts : List Act)
+    (past : List Fate) (w : What) (a b : Outside way)
     → DoesTake home left Tick answer x y acts past a b → w ≡ answer_first what.Fine answer y
     → AnswersSome home x y Ticked (Some w) a b
 ticks home x y left answer acts past w a b h is =
     let all = took home (take home Tick) x y left acts past h.did.reaches in (
       past,
       answers_by home Ticked x y left acts past (Some w) a b all
-          (took_calls home (take home Tick) x y left acts past h.did.reaches) h.did.handed
+          (took_calls home (take home Tick) x y left acts past h.did.reaches) h.did.made
           (ap (λ z. Some z) is
           ∙ ap (λ z. Some (answer_first what.Fine z y)) h.answer_is
           ∙ ap
@@ -87,7 +86,7 @@ ticks home x y left answer acts past w a b h is =
 
 -- a front part of an event: what was done begins what would have been done, and the node is the one
 -- after it
-part_acts : (home : Home) (f : Service → Service) (x shown : Seen) (a b : Option (List Push))
+part_acts : {V : Type 0} {way : Way V} (home : Home) (f : Service → Service) (x shown : Seen) (a b : Outside way)
     (d : DoesPart home f (at x [] 16) shown a b)
     → (more : List Act) × ((f (begun x d.1)).done ≡ d.0 ++ more)
 part_acts home f x shown a b d =
@@ -97,7 +96,7 @@ part_acts home f x shown a b d =
           ∙ ap (λ (z : Service). z.done) (d.4.reaches.steps [] []) ∙ more.1,
     )
 
-part_seen : (home : Home) (f : Service → Service) (x shown : Seen) (a b : Option (List Push))
+part_seen : {V : Type 0} {way : Way V} (home : Home) (f : Service → Service) (x shown : Seen) (a b : Outside way)
     (d : DoesPart home f (at x [] 16) shown a b)
     → shown ≡ seen_after home x d.0 d.1
 part_seen home f x shown a b d =
@@ -106,8 +105,8 @@ part_seen home f x shown a b d =
     ∙ ap (λ z. seen_after home x d.0 z) (append-nil d.1)
 
 -- memory was refused on the way of a request
-pub fails : (home : Home) (f : Service → Service) (r : Request) (x shown : Seen)
-    (a b : Option (List Push))
+pub fails : {V : Type 0} {way : Way V} (home : Home) (f : Service → Service) (r : Request) (x shown : Seen)
+    (a b : Outside way)
     → ((fates : List Fate) → served home x fates r ≡ f (begun x fates))
     → DoesPart home f (at x [] 16) shown a b → FailsToAnswer home x shown r a b
 fails home f r x shown a b is d =
@@ -117,28 +116,28 @@ fails home f r x shown a b is d =
       more.0,
       record {
         parts = ap (λ (z : Service). z.done) (is d.1) ∙ more.1;
-        pushed = d.4.handed;
+        made = d.4.made;
         node = part_seen home f x shown a b d;
       },
     )
 
 -- what became of a command, and a sheet: the node is asked, and is as it was
-pub asks : (home : Home) (r : Request) (id : ℕ) (x : Seen) (w : What) (a : Option (List Push))
+pub asks : {V : Type 0} {way : Way V} (home : Home) (r : Request) (id : ℕ) (x : Seen) (w : What) (a : Outside way)
     → r ≡ Asked id
     → (fate : Fate) × (w ≡ told_what id fate (standing x id)) → AnswersSome home x x r (Some w) a a
 asks home r id x w a is h =
     subst (λ z. AnswersSome home x x z (Some w) a a) (sym is) (
       h.0 ∷ [],
-      record { answer_is = ap (λ z. Some z) h.1; pushed = Hands-nil a; node = refl; calls = refl },
+      record { answer_is = ap (λ z. Some z) h.1; made = Makes-nil home.hall a; node = refl; calls = refl },
     )
 
-pub prints : (home : Home) (r : Request) (event : EventOf) (round position : ℕ) (style : Style)
-    (x : Seen) (w : What) (a : Option (List Push))
+pub prints : {V : Type 0} {way : Way V} (home : Home) (r : Request) (event : EventOf) (round position : ℕ) (style : Style)
+    (x : Seen) (w : What) (a : Outside way)
     → r ≡ Printed event round position style
     → (fate : Fate) × (w ≡ printed x fate event round position style)
     → AnswersSome home x x r (Some w) a a
 prints home r event round position style x w a is h =
     subst (λ z. AnswersSome home x x z (Some w) a a) (sym is) (
       h.0 ∷ [],
-      record { answer_is = ap (λ z. Some z) h.1; pushed = Hands-nil a; node = refl; calls = refl },
+      record { answer_is = ap (λ z. Some z) h.1; made = Makes-nil home.hall a; node = refl; calls = refl },
     )

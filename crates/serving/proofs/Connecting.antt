@@ -5,7 +5,7 @@ use Rattle.std.proofs.KnownBytes.{Appends-nil, Appends-trans}
 use Rattle.std.specs.Io.KnownBytes.{Appends}
 use Rattle.wire.specs.declared.frame.Frame.{Frame}
 use Rattle.wire.specs.Spelling.{spelling}
-use Rattle.serving.specs.Adding.{Hands}
+use Rattle.serving.specs.Making.{Way, Outside, outside_of, Makes}
 use Rattle.store.specs.declared.home.Home.{Home}
 use Rattle.serving.specs.declared.ends.Close.{Close}
 use Rattle.serving.specs.declared.ends.Close.TheVariants as close
@@ -14,10 +14,11 @@ use Rattle.serving.specs.declared.ends.End.TheVariants as end
 use Rattle.serving.specs.declared.ends.FrameFault.{FrameFault}
 use Rattle.serving.specs.declared.ends.FrameFault.TheVariants as fault
 use Rattle.serving.specs.Nodes.{Seen, Fate}
-use Rattle.serving.specs.Serving.{Act, pushes_of}
-use Rattle.serving.specs.Connection.{Begun, frames_of, Outcome, serve_frame, serve_frames, close_of, then_others, StaysOpen, answer_bytes, Sides, ServesOne, FailsIn, IsServed, Serves, Closes, Fails, EndsInFrames, EndsBatch, IsBatch}
-use Rattle.serving.proofs.Handing.{Hands-nil, Hands-trans}
-use Rattle.serving.proofs.Reached.{pushes_of_both}
+use Rattle.serving.specs.Serving.{Act}
+use Rattle.serving.specs.Connection.{Begun, frames_of, Outcome, serve_frame, serve_frames, close_of, then_others, StaysOpen, answer_bytes, Sides, FailsIn, IsServed, Serves, Closes, Fails}
+use Rattle.serving.specs.model.Requests.{ServesOne}
+use Rattle.serving.specs.model.Pieces.{EndsInFrames, EndsBatch, IsBatch}
+use Rattle.serving.proofs.Makings.{Makes-nil, Makes-trans}
 
 then_assoc : (a b c : Outcome) → then_others a (then_others b c) ≡ then_others (then_others a b) c
 then_assoc a b c = assoc_of a.acts b.acts c.acts a.answers b.answers c.answers c.seen
@@ -58,15 +59,15 @@ frames_of_both [] cs = refl
 frames_of_both (b ∷ bs) cs = ap (λ z. b.frame ∷ z) (frames_of_both bs cs)
 
 -- nothing was begun yet
-pub serves_none : (home : Home) (a : Sides) → Serves home a a []
+pub serves_none : {V : Type 0} {way : Way V} (home : Home) (a : Sides way) → Serves home a a []
 serves_none home a =
     record {
       stays = tt;
-      served = record { answered = Appends-nil a.written; pushed = Hands-nil a.handed; node = refl };
+      served = record { answered = Appends-nil a.written; made = Makes-nil home.hall a.outside; node = refl };
     }
 
 -- one frame after those served so far
-pub serves_one : (home : Home) (a m b : Sides) (bs : List Begun) (one : Begun) (ends : Option Close)
+pub serves_one : {V : Type 0} {way : Way V} (home : Home) (a m b : Sides way) (bs : List Begun) (one : Begun) (ends : Option Close)
     → Serves home a m bs → ServesOne home m b one ends → IsServed home a b (bs ++ one ∷ [])
 serves_one home a m b bs one ends h k =
     let x = (serve_frames home a.seen bs).seen in
@@ -87,19 +88,15 @@ serves_one home a m b bs one ends h k =
           ∙ ap (λ z. answer_bytes (serve_frames home a.seen bs).answers ++ answer_bytes z)
           (append-nil mid.answers)))
           (Appends-trans a.written m.written b.written _ _ h.served.answered k.answered));
-      pushed =
-          subst (λ (z : Outcome). Hands a.handed b.handed (pushes_of home.hall z.acts)) (sym is)
-          (subst (λ z. Hands a.handed b.handed z)
-          (sym
-          (pushes_of_both home.hall (serve_frames home a.seen bs).acts (mid.acts ++ [])
-          ∙ ap
-          (λ z. pushes_of home.hall (serve_frames home a.seen bs).acts ++ pushes_of home.hall z)
-          (append-nil mid.acts)))
-          (Hands-trans a.handed m.handed b.handed _ _ h.served.pushed k.pushed));
+      made =
+          subst (λ (z : Outcome). Makes home.hall a.outside b.outside z.acts) (sym is)
+          (Makes-trans home.hall a.outside m.outside b.outside (serve_frames home a.seen bs).acts
+          (mid.acts ++ []) h.served.made
+          (subst (λ z. Makes home.hall m.outside b.outside z) (sym (append-nil mid.acts)) k.made));
       node = k.node ∙ ap (λ (z : Outcome). z.seen) (sym is);
     }
 
-pub serves_more : (home : Home) (a m b : Sides) (bs : List Begun) (one : Begun)
+pub serves_more : {V : Type 0} {way : Way V} (home : Home) (a m b : Sides way) (bs : List Begun) (one : Begun)
     (ends : Option Close)
     → Serves home a m bs → ServesOne home m b one ends → ends ≡ None
     → Serves home a b (bs ++ one ∷ [])
@@ -110,7 +107,7 @@ serves_more home a m b bs one ends h k none = record {
   served = serves_one home a m b bs one ends h k;
 }
 
-pub serves_last : (home : Home) (a m b : Sides) (bs : List Begun) (one : Begun)
+pub serves_last : {V : Type 0} {way : Way V} (home : Home) (a m b : Sides way) (bs : List Begun) (one : Begun)
     (ends : Option Close) (last : Close)
     → Serves home a m bs → ServesOne home m b one ends → ends ≡ Some last
     → Closes last home a b (bs ++ one ∷ [])
@@ -125,7 +122,7 @@ serves_last home a m b bs one ends last h k some = (
   },
 )
 
-pub fails_last : (why e : FrameFault) (home : Home) (a m b : Sides) (bs : List Begun) (one : Begun)
+pub fails_last : {V : Type 0} {way : Way V} (why e : FrameFault) (home : Home) (a m b : Sides way) (bs : List Begun) (one : Begun)
     → e ≡ why → Serves home a m bs → FailsIn e home m b one → Fails why home a b (bs ++ one ∷ [])
 fails_last why e home a m b bs one is h k = (
   bs,
@@ -135,7 +132,7 @@ fails_last why e home a m b bs one is h k = (
 )
 
 -- frames and then more of them
-pub served_then : (home : Home) (a m b : Sides) (bs cs : List Begun) → IsServed home a m bs
+pub served_then : {V : Type 0} {way : Way V} (home : Home) (a m b : Sides way) (bs cs : List Begun) → IsServed home a m bs
     → IsServed home m b cs → IsServed home a b (bs ++ cs)
 served_then home a m b bs cs h k =
     let first = serve_frames home a.seen bs in
@@ -149,15 +146,13 @@ served_then home a m b bs cs h k =
           (subst (λ z. Appends a.written b.written z)
           (sym (bytes_then first.answers second.answers))
           (Appends-trans a.written m.written b.written _ _ h.answered k.answered));
-      pushed =
-          subst (λ (z : Outcome). Hands a.handed b.handed (pushes_of home.hall z.acts)) (sym is)
-          (subst (λ z. Hands a.handed b.handed z)
-          (sym (pushes_of_both home.hall first.acts second.acts))
-          (Hands-trans a.handed m.handed b.handed _ _ h.pushed k.pushed));
+      made =
+          subst (λ (z : Outcome). Makes home.hall a.outside b.outside z.acts) (sym is)
+          (Makes-trans home.hall a.outside m.outside b.outside first.acts second.acts h.made k.made);
       node = k.node ∙ ap (λ (z : Outcome). z.seen) (sym is);
     }
 
-pub serves_then : (home : Home) (a m b : Sides) (bs cs : List Begun) → Serves home a m bs
+pub serves_then : {V : Type 0} {way : Way V} (home : Home) (a m b : Sides way) (bs cs : List Begun) → Serves home a m bs
     → Serves home m b cs → Serves home a b (bs ++ cs)
 serves_then home a m b bs cs h k = record {
   stays =
@@ -169,7 +164,7 @@ last_of : (bs cs front : List Begun) (last : Begun) → cs ≡ front ++ last ∷
     → bs ++ cs ≡ (bs ++ front) ++ last ∷ []
 last_of bs cs front last e = ap (λ z. bs ++ z) e ∙ sym (append_assoc bs front (last ∷ []))
 
-closes_then : (ends : Close) (home : Home) (a m b : Sides) (bs cs : List Begun) → Serves home a m bs
+closes_then : {V : Type 0} {way : Way V} (ends : Close) (home : Home) (a m b : Sides way) (bs cs : List Begun) → Serves home a m bs
     → Closes ends home m b cs → Closes ends home a b (bs ++ cs)
 closes_then ends home a m b bs cs h k =
     let s = k.2 in
@@ -189,7 +184,7 @@ closes_then ends home a m b bs cs h k =
       },
     )
 
-fails_then : (why : FrameFault) (home : Home) (a m b : Sides) (bs cs : List Begun)
+fails_then : {V : Type 0} {way : Way V} (why : FrameFault) (home : Home) (a m b : Sides way) (bs cs : List Begun)
     → Serves home a m bs → Fails why home m b cs → Fails why home a b (bs ++ cs)
 fails_then why home a m b bs cs h k = (
   bs ++ k.0,
@@ -203,7 +198,7 @@ fails_then why home a m b bs cs h k = (
 )
 
 -- frames, and then others, of which one ends the connection
-pub ends_then : (e : End) (home : Home) (a m b : Sides) (bs cs : List Begun) (count : ℕ)
+pub ends_then : {V : Type 0} {way : Way V} (e : End) (home : Home) (a m b : Sides way) (bs cs : List Begun) (count : ℕ)
     → Serves home a m bs → EndsInFrames e home m b cs count
     → EndsInFrames e home a b (bs ++ cs) count
 ends_then end.Stopped home a m b bs cs count h k = closes_then close.Stopped home a m b bs cs h k
@@ -230,7 +225,7 @@ pub counts_more : (before count : ℕ) (begun : List Begun) (one : Begun)
     → count ≡ before + length begun → count + 1 ≡ before + length (begun ++ one ∷ [])
 counts_more before count begun one h = omega (arith, h, length-append begun (one ∷ []))
 
-pub batch_of : (how : Option End) (home : Home) (a b : Sides) (given all rest after : List Frame)
+pub batch_of : {V : Type 0} {way : Way V} (how : Option End) (home : Home) (a b : Sides way) (given all rest after : List Frame)
     (f : Frame) (fates : List Fate) (begun : List Begun) (before count : ℕ)
     → all ≡ given → all ≡ frames_of begun ++ rest → rest ≡ f ∷ after → count ≡ before + length begun
     → count < 64

@@ -10,20 +10,21 @@ use Rattle.world.specs.declared.faults.NodeFault.TheVariants as fault
 use Rattle.store.specs.declared.home.Home.{Home}
 use Rattle.wire.specs.declared.frame.What.{What}
 use Rattle.wire.specs.declared.frame.What.TheVariants as what
-use Rattle.serving.specs.Adding.{Push, Hands}
+use Rattle.serving.specs.Adding.{Push}
+use Rattle.serving.specs.Making.{Way, Outside, outside_of, Makes}
 use Rattle.serving.specs.Answering.{answer_of, answer_first}
-use Rattle.serving.specs.Calling.{Calls, LosesMessages}
-use Rattle.serving.specs.Connection.{AnswersSome}
+use Rattle.serving.specs.model.Calling.{Calls, IsCall, LosesMessages}
+use Rattle.serving.specs.model.Requests.{AnswersSome}
 use Rattle.serving.specs.Nodes.{Seen, Fate, reply}
-use Rattle.serving.specs.Reaching.{Place, at, service, Reaches, OnlyAdds, Did, Does, DoesPart}
+use Rattle.serving.specs.model.Reaching.{Place, at, service, Reaches, did_call, OnlyAdds, Did, Does, DoesPart}
 use Rattle.serving.specs.Serving.{Act, Called, Service, first_fate, call, settle_by, settle, entered_by, enter, begun, pushes_of, waiting_after}
 use Rattle.serving.specs.declared.calling.Answer.{Answer}
 use Rattle.serving.specs.declared.calling.Answer.TheVariants.{Taken, Refused}
 use Rattle.serving.specs.declared.request.Request.TheVariants.{Entered}
 use Rattle.serving.proofs.Additions.{adds_both, adds_call, adds_settle}
-use Rattle.serving.proofs.Handing.{Hands-nil}
+use Rattle.serving.proofs.Makings.{Makes-nil, Makes-trans, Makes-call}
 use Rattle.serving.proofs.Parts.{part_of, part_call}
-use Rattle.serving.proofs.Reached.{stays, goes_on, calls_once, hands_call}
+use Rattle.serving.proofs.Reached.{stays, goes_on, calls_once}
 use Rattle.serving.proofs.Answered.{took, took_calls, answers_by}
 
 -- Start and all that comes of it
@@ -31,47 +32,61 @@ abbrev pub starts : Home → Service → Service
 starts home s = settle_by home 16 (call home Start s)
 
 -- a call behind messages that wait, and then all that comes of them
-pub does_behind : (home h : Home) (x y z : Seen) (event : Event) (ms more rest : List Message)
-    (left last : ℕ) (answer : Answer) (a b : Option (List Push))
-    → h ≡ home → (fate : Fate) → Calls h event fate x y ms more answer
-    → Does home (settle_by home left) (at y more left) (at z rest last) a b
-    → Does home (λ s. settle_by home left (call home event s)) (at x ms left) (at z rest last) a b
-does_behind home h x y z event ms more rest left last answer a b same fate c d =
+pub does_behind : {V : Type 0} (way : Way V) (home h : Home) (x y z : Seen) (event : Event)
+    (ms more rest : List Message) (left last : ℕ) (answer : Answer) (u v : V)
+    (p : Option (List Push)) (b : Outside way)
+    → h ≡ home
+    → (fate : Fate) → Calls h event fate x y ms more answer → IsCall way h event fate x u v
+    → Does home (settle_by home left) (at y more left) (at z rest last) (outside_of way v p) b
+    → Does home (λ s. settle_by home left (call home event s)) (at x ms left) (at z rest last)
+    (outside_of way u p) b
+does_behind way home h x y z event ms more rest left last answer u v p b same fate c made d =
     let e = subst (λ u. Calls u event fate x y ms more answer) same c in (
-      Called event ∷ d.0,
+      did_call home event fate x ∷ d.0,
       fate ∷ d.1,
       record {
         reaches =
-            goes_on home _ _ _ _ _ _ (Called event ∷ []) d.0 (fate ∷ []) d.1
+            goes_on home _ _ _ _ _ _ (did_call home event fate x ∷ []) d.0 (fate ∷ []) d.1
             (calls_once home (settle_by home left) event fate x y ms more left answer e)
             d.2.reaches;
-        handed = d.2.handed;
+        made =
+            Makes-trans home.hall (outside_of way u p) (outside_of way v p) b
+            (did_call home event fate x ∷ []) d.0
+            (Makes-call way home h event fate x u v p same made) d.2.made;
       },
     )
 
 -- memory was refused in the call, or in what comes of it
-pub part_at_behind : (home h : Home) (x y : Seen) (event : Event) (ms : List Message) (left : ℕ)
-    (a : Option (List Push))
+pub part_at_behind : {V : Type 0} (way : Way V) (home h : Home) (x y : Seen) (event : Event)
+    (ms : List Message) (left : ℕ) (u v : V) (p : Option (List Push))
     → h ≡ home
-    → (fate : Fate) × LosesMessages h event fate x y
-    → DoesPart home (λ s. settle_by home left (call home event s)) (at x ms left) y a a
-part_at_behind home h x y event ms left a same l =
-    part_call home h (λ s. settle_by home left (call home event s)) (at x ms left) left left event x
-    y ms [] [] a a same
-    (stays home (λ s. settle_by home left (call home event s)) (at x ms left)) (Hands-nil a) l
+    → (fate : Fate) × LosesMessages h event fate x y × IsCall way h event fate x u v
+    → DoesPart home (λ s. settle_by home left (call home event s)) (at x ms left) y
+    (outside_of way u p) (outside_of way v p)
+part_at_behind way home h x y event ms left u v p same l =
+    part_call way home h (λ s. settle_by home left (call home event s)) (at x ms left) left left
+    event x y ms [] [] (outside_of way u p) u v p same
+    (stays home (λ s. settle_by home left (call home event s)) (at x ms left))
+    (Makes-nil home.hall (outside_of way u p)) l
 
-pub part_after_behind : (home h : Home) (x y shown : Seen) (event : Event) (ms more : List Message)
-    (left : ℕ) (answer : Answer) (a b : Option (List Push))
+pub part_after_behind : {V : Type 0} (way : Way V) (home h : Home) (x y shown : Seen)
+    (event : Event) (ms more : List Message) (left : ℕ) (answer : Answer) (u v : V)
+    (p : Option (List Push)) (b : Outside way)
     → h ≡ home
-    → (fate : Fate) → Calls h event fate x y ms more answer
-    → DoesPart home (settle_by home left) (at y more left) shown a b
-    → DoesPart home (λ s. settle_by home left (call home event s)) (at x ms left) shown a b
-part_after_behind home h x y shown event ms more left answer a b same fate c d =
+    → (fate : Fate) → Calls h event fate x y ms more answer → IsCall way h event fate x u v
+    → DoesPart home (settle_by home left) (at y more left) shown (outside_of way v p) b
+    → DoesPart home (λ s. settle_by home left (call home event s)) (at x ms left) shown
+    (outside_of way u p) b
+part_after_behind way home h x y shown event ms more left answer u v p b same fate c made d =
     let e = subst (λ u. Calls u event fate x y ms more answer) same c in
     part_of home (λ s. settle_by home left (call home event s)) (settle_by home left) d.2
-    (at x ms left) (at y more left) d.3 (Called event ∷ []) d.0 (fate ∷ []) d.1 shown a b
+    (at x ms left) (at y more left) d.3 (did_call home event fate x ∷ []) d.0 (fate ∷ []) d.1 shown
+    (outside_of way u p) b
     (calls_once home (settle_by home left) event fate x y ms more left answer e) d.4.reaches
-    d.4.adds d.4.last d.4.handed
+    d.4.adds d.4.last
+    (Makes-trans home.hall (outside_of way u p) (outside_of way v p) b
+    (did_call home event fate x ∷ []) d.0 (Makes-call way home h event fate x u v p same made)
+    d.4.made)
 
 -- what the node answered, from what is seen of it
 taken_of : (r : Result (List Message) NodeFault) → answer_of r ≡ Taken
@@ -88,7 +103,7 @@ refused_of (Err why) e = (why, refl)
 enters : (home : Home) (e : Entry) (fate : Fate) (x y : Seen) (more ms : List Message)
     (answer : Answer)
     → Calls home (Submit e) fate x y [] more answer → (reply home x (Submit e) fate).result ≡ Ok ms
-    → Reaches home (enter home e) (at x [] 16) (starts home) (at y more 16) (Called (Submit e) ∷ [])
+    → Reaches home (enter home e) (at x [] 16) (starts home) (at y more 16) (did_call home (Submit e) fate x ∷ [])
     (fate ∷ [])
 unfolding enter call
 enters home e fate x y more ms answer c is =
@@ -109,7 +124,7 @@ stays_out : (home : Home) (e : Entry) (fate : Fate) (x y : Seen) (more : List Me
     (why : NodeFault) (answer : Answer)
     → Calls home (Submit e) fate x y [] more answer
     → (reply home x (Submit e) fate).result ≡ Err why
-    → Reaches home (enter home e) (at x [] 16) (λ s. s) (at y more 16) (Called (Submit e) ∷ [])
+    → Reaches home (enter home e) (at x [] 16) (λ s. s) (at y more 16) (did_call home (Submit e) fate x ∷ [])
     (fate ∷ [])
 unfolding enter call
 stays_out home e fate x y more why answer c is =
@@ -134,17 +149,18 @@ adds_entered home (Ok ms) s =
 adds_entered home (Err why) s = ([], sym (append-nil s.done))
 
 -- memory was refused in the call that hands the entry in
-enters_part : (home : Home) (e : Entry) (fate : Fate) (x y : Seen) (a : Option (List Push))
-    → LosesMessages home (Submit e) fate x y
-    → DoesPart home (enter home e) (at x [] 16) y a a
+enters_part : {V : Type 0} (way : Way V) (home h : Home) (e : Entry) (fate : Fate) (x y : Seen)
+    (u v : V) (p : Option (List Push))
+    → h ≡ home → LosesMessages home (Submit e) fate x y → IsCall way h (Submit e) fate x u v
+    → DoesPart home (enter home e) (at x [] 16) y (outside_of way u p) (outside_of way v p)
 unfolding enter
-enters_part home e fate x y a l =
+enters_part way home h e fate x y u v p same l made =
     let r = reply home x (Submit e) fate in
     let once =
     calls_once home (entered_by home r.result) (Submit e) fate x y [] (waiting_after [] r.result) 16
     (answer_of r.result)
     (record { answer_is = refl; seen = l.seen; waits = refl }) in (
-      Called (Submit e) ∷ [],
+      did_call home (Submit e) fate x ∷ [],
       fate ∷ [],
       entered_by home r.result,
       at y (waiting_after [] r.result) 16,
@@ -152,60 +168,74 @@ enters_part home e fate x y a l =
         reaches = record { steps = once.steps; calls = once.calls };
         adds = adds_entered home r.result;
         last = refl;
-        handed = Hands-nil a;
+        made = Makes-call way home h (Submit e) fate x u v p same made;
       },
     )
 
-pub entered_lost : (home h : Home) (e : Entry) (x y : Seen) (a : Option (List Push)) → h ≡ home
-    → (fate : Fate) × LosesMessages h (Submit e) fate x y
-    → DoesPart home (enter home e) (at x [] 16) y a a
-entered_lost home h e x y a same l =
-    enters_part home e l.0 x y a (subst (λ u. LosesMessages u (Submit e) l.0 x y) same l.1)
+pub entered_lost : {V : Type 0} (way : Way V) (home h : Home) (e : Entry) (x y : Seen) (u v : V)
+    (p : Option (List Push))
+    → h ≡ home
+    → (fate : Fate) × LosesMessages h (Submit e) fate x y × IsCall way h (Submit e) fate x u v
+    → DoesPart home (enter home e) (at x [] 16) y (outside_of way u p) (outside_of way v p)
+entered_lost way home h e x y u v p same l =
+    enters_part way home h e l.0 x y u v p same
+    (subst (λ z. LosesMessages z (Submit e) l.0 x y) same l.1) l.2
 
 -- memory was refused behind it
-pub entered_part : (home h : Home) (e : Entry) (x y shown : Seen) (ms more : List Message)
-    (answer : Answer) (a b : Option (List Push))
+pub entered_part : {V : Type 0} (way : Way V) (home h : Home) (e : Entry) (x y shown : Seen)
+    (ms more : List Message) (answer : Answer) (u v : V) (p : Option (List Push)) (b : Outside way)
     → h ≡ home → ms ≡ [] → answer ≡ Taken
     → (fate : Fate) × Calls h (Submit e) fate x y ms more answer
-    → DoesPart home (starts home) (at y more 16) shown a b
-    → DoesPart home (enter home e) (at x [] 16) shown a b
-entered_part home h e x y shown ms more answer a b same none taken called d =
+    × IsCall way h (Submit e) fate x u v
+    → DoesPart home (starts home) (at y more 16) shown (outside_of way v p) b
+    → DoesPart home (enter home e) (at x [] 16) shown (outside_of way u p) b
+entered_part way home h e x y shown ms more answer u v p b same none taken called d =
     let c =
     subst (λ u. Calls home (Submit e) called.0 x y u more answer) none
     (subst (λ u. Calls u (Submit e) called.0 x y ms more answer) same called.1) in
     let ok = taken_of (reply home x (Submit e) called.0).result (sym c.answer_is ∙ taken) in
-    part_of home (enter home e) (starts home) d.2 (at x [] 16) (at y more 16) d.3
-    (Called (Submit e) ∷ []) d.0 (called.0 ∷ []) d.1 shown a b
-    (enters home e called.0 x y more ok.0 answer c ok.1) d.4.reaches d.4.adds d.4.last d.4.handed
+    let first = did_call home (Submit e) called.0 x ∷ [] in
+    part_of home (enter home e) (starts home) d.2 (at x [] 16) (at y more 16) d.3 first d.0
+    (called.0 ∷ []) d.1 shown (outside_of way u p) b
+    (enters home e called.0 x y more ok.0 answer c ok.1) d.4.reaches d.4.adds d.4.last
+    (Makes-trans home.hall (outside_of way u p) (outside_of way v p) b first d.0
+    (Makes-call way home h (Submit e) called.0 x u v p same called.2) d.4.made)
 
 -- the entry was taken, and all that comes of it done
-pub entered_all : (home h : Home) (e : Entry) (x y z : Seen) (ms more rest : List Message)
-    (last : ℕ) (answer : Answer) (w : What) (a b : Option (List Push))
+pub entered_all : {V : Type 0} (way : Way V) (home h : Home) (e : Entry) (x y z : Seen)
+    (ms more rest : List Message) (last : ℕ) (answer : Answer) (w : What) (u v : V)
+    (p : Option (List Push)) (b : Outside way)
     → h ≡ home → ms ≡ [] → rest ≡ [] → answer ≡ Taken
     → (fate : Fate) × Calls h (Submit e) fate x y ms more answer
-    → Does home (starts home) (at y more 16) (at z rest last) a b
+    × IsCall way h (Submit e) fate x u v
+    → Does home (starts home) (at y more 16) (at z rest last) (outside_of way v p) b
     → w ≡ answer_first (what.Taken e.id) answer z
-    → AnswersSome home x z (Entered e) (Some w) a b
-entered_all home h e x y z ms more rest last answer w a b same none empty taken called does is =
+    → AnswersSome home x z (Entered e) (Some w) (outside_of way u p) b
+entered_all way home h e x y z ms more rest last answer w u v p b same none empty taken called does
+    is =
     let c =
     subst (λ u. Calls home (Submit e) called.0 x y u more answer) none
     (subst (λ u. Calls u (Submit e) called.0 x y ms more answer) same called.1) in
     let ok = taken_of (reply home x (Submit e) called.0).result (sym c.answer_is ∙ taken) in
+    let a = outside_of way u p in
+    let m = outside_of way v p in
+    let first = did_call home (Submit e) called.0 x in
     let d =
-    subst (λ u. Did home (starts home) (at y more 16) (at z u last) does.0 does.1 a b) empty
+    subst (λ u. Did home (starts home) (at y more 16) (at z u last) does.0 does.1 m b) empty
     does.2 in
     let reaches =
     goes_on home (enter home e) (starts home) (λ s. s) (at x [] 16) (at y more 16) (at z [] last)
-    (Called (Submit e) ∷ []) does.0 (called.0 ∷ []) does.1
+    (first ∷ []) does.0 (called.0 ∷ []) does.1
     (enters home e called.0 x y more ok.0 answer c ok.1) d.reaches in
     let all =
-    took home (enter home e) x z last (Called (Submit e) ∷ does.0) (called.0 ∷ does.1) reaches in (
+    took home (enter home e) x z last (first ∷ does.0) (called.0 ∷ does.1) reaches in (
       called.0 ∷ does.1,
-      answers_by home (Entered e) x z last (Called (Submit e) ∷ does.0) (called.0 ∷ does.1) (Some w)
+      answers_by home (Entered e) x z last (first ∷ does.0) (called.0 ∷ does.1) (Some w)
           a b all
-          (took_calls home (enter home e) x z last (Called (Submit e) ∷ does.0) (called.0 ∷ does.1)
+          (took_calls home (enter home e) x z last (first ∷ does.0) (called.0 ∷ does.1)
           reaches)
-          d.handed
+          (Makes-trans home.hall a m b (first ∷ []) does.0
+          (Makes-call way home h (Submit e) called.0 x u v p same called.2) d.made)
           (ap (λ v. Some v) is
           ∙ ap (λ v. Some (answer_first (what.Taken e.id) v z)) c.answer_is
           ∙ ap
@@ -224,30 +254,33 @@ none_wait fault.NoMemory = refl
 none_wait fault.Down = refl
 
 -- the entry was refused
-pub entered_not : (home h : Home) (e : Entry) (x y : Seen) (ms more : List Message)
-    (answer : Answer) (w : What) (a : Option (List Push))
+pub entered_not : {V : Type 0} (way : Way V) (home h : Home) (e : Entry) (x y : Seen)
+    (ms more : List Message) (answer : Answer) (w : What) (u v : V) (p : Option (List Push))
     → h ≡ home → ms ≡ [] → (answer ≡ Taken → ⊥)
     → (fate : Fate) × Calls h (Submit e) fate x y ms more answer
+    × IsCall way h (Submit e) fate x u v
     → w ≡ answer_first (what.Taken e.id) answer y
-    → AnswersSome home x y (Entered e) (Some w) a a
-entered_not home h e x y ms more answer w a same none other called is =
+    → AnswersSome home x y (Entered e) (Some w) (outside_of way u p) (outside_of way v p)
+entered_not way home h e x y ms more answer w u v p same none other called is =
     let c =
     subst (λ u. Calls home (Submit e) called.0 x y u more answer) none
     (subst (λ u. Calls u (Submit e) called.0 x y ms more answer) same called.1) in
     let err = refused_of (reply home x (Submit e) called.0).result (λ k. other (c.answer_is ∙ k)) in
     let empty = c.waits ∙ ap (waiting_after []) err.1 ∙ none_wait err.0 in
+    let first = did_call home (Submit e) called.0 x ∷ [] in
     let reaches =
     subst
     (λ u.
-    Reaches home (enter home e) (at x [] 16) (λ s. s) (at y u 16) (Called (Submit e) ∷ [])
+    Reaches home (enter home e) (at x [] 16) (λ s. s) (at y u 16) first
     (called.0 ∷ []))
     empty
     (stays_out home e called.0 x y more err.0 answer c err.1) in
-    let all = took home (enter home e) x y 16 (Called (Submit e) ∷ []) (called.0 ∷ []) reaches in (
+    let all = took home (enter home e) x y 16 first (called.0 ∷ []) reaches in (
       called.0 ∷ [],
-      answers_by home (Entered e) x y 16 (Called (Submit e) ∷ []) (called.0 ∷ []) (Some w) a a all
-          (took_calls home (enter home e) x y 16 (Called (Submit e) ∷ []) (called.0 ∷ []) reaches)
-          (Hands-nil a)
+      answers_by home (Entered e) x y 16 first (called.0 ∷ []) (Some w) (outside_of way u p)
+          (outside_of way v p) all
+          (took_calls home (enter home e) x y 16 first (called.0 ∷ []) reaches)
+          (Makes-call way home h (Submit e) called.0 x u v p same called.2)
           (ap (λ v. Some v) is
           ∙ ap (λ v. Some (answer_first (what.Taken e.id) v y)) c.answer_is
           ∙ ap

@@ -8,7 +8,7 @@ use Rattle.acceptor.specs.declared.message.Message.{Message}
 use Rattle.learner.specs.Ranges.{IsInRange}
 use Rattle.learner.specs.Steps.{is_real, is_in_range}
 use Rattle.wire.specs.Ranges.{IsFrame, IsBody, IsBallot, IsPosition, IsDesk, Goes, way_of}
-use Rattle.serving.specs.Framing.{IsTyped}
+use Rattle.serving.specs.model.Framing.{IsTyped}
 use Rattle.serving.specs.Serving.{what_of, framed}
 
 both : (a b : Bool) → (a && b) ≡ true → (a ≡ true) × (b ≡ true)

@@ -1,5 +1,6 @@
 pub mod Framed
 pub mod Handing
+pub mod Makings
 pub mod Pushed
 pub mod Fates
 pub mod Reached
@@ -9,7 +10,7 @@ pub mod Pieces
 pub mod Parts
 pub mod Started
 pub mod Answered
-pub mod Known
 pub mod Entering
-pub mod Served
+pub mod OneFrame
 pub mod Sheets
+pub mod Running

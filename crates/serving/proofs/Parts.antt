@@ -3,18 +3,19 @@ use Rattle.std.proofs.Common.{◌≡◌, refl, sym, ap, subst, ◌∙◌, ℕ, z
 use Rattle.std.proofs.lemmas.List.{append_assoc, map-append}
 use Rattle.acceptor.specs.declared.message.Message.{Message}
 use Rattle.learner.specs.declared.event.Event.{Event}
-use Rattle.serving.specs.Adding.{Push, Hands}
-use Rattle.serving.specs.Calling.{Calls, LosesMessages}
+use Rattle.serving.specs.Adding.{Push}
+use Rattle.serving.specs.Making.{Way, Outside, outside_of, Makes}
+use Rattle.serving.specs.model.Calling.{Calls, IsCall, LosesMessages}
 use Rattle.serving.specs.Answering.{answer_of}
 use Rattle.serving.specs.declared.calling.Answer.{Answer}
 use Rattle.store.specs.declared.home.Home.{Home}
 use Rattle.serving.specs.Nodes.{Seen, Fate, reply}
-use Rattle.serving.specs.Pushing.{PushesPart}
-use Rattle.serving.specs.Reaching.{Place, at, service, Reaches, OnlyAdds, DoesPart}
+use Rattle.serving.specs.model.Pushing.{PushesPart}
+use Rattle.serving.specs.model.Reaching.{Place, at, service, Reaches, did_call, OnlyAdds, DoesPart}
 use Rattle.serving.specs.Serving.{Act, Called, Pushed, Service, pushes_of, call, settle_by, deliver, push_all, in_front, from_own, to_others, waiting_after}
 use Rattle.serving.proofs.Additions.{adds_both, adds_deliver, adds_settle}
-use Rattle.serving.proofs.Handing.{Hands-nil}
-use Rattle.serving.proofs.Reached.{stays, goes_on, calls_once, pushes_see, hands_pushes, hands_call}
+use Rattle.serving.proofs.Makings.{Makes-nil, Makes-trans, Makes-pushes, Makes-call}
+use Rattle.serving.proofs.Reached.{stays, goes_on, calls_once, pushes_see}
 
 -- pushing all is pushing a front part and then the rest
 push_two : (p : Place) (done : List Act) (fates : List Fate) (all front more : List Message)
@@ -65,12 +66,12 @@ some_last home x ms front more left e = record {
 }
 
 -- so far all was done, and then a front part of what was left
-pub part_of : (home : Home) (all g rest : Service → Service) (first mid second : Place)
-    (xs ys : List Act) (past more : List Fate) (shown : Seen) (a c : Option (List Push))
+pub part_of : {V : Type 0} {way : Way V} (home : Home) (all g rest : Service → Service) (first mid second : Place)
+    (xs ys : List Act) (past more : List Fate) (shown : Seen) (a c : Outside way)
     → Reaches home all first g mid xs past → Reaches home g mid rest second ys more → OnlyAdds rest
-    → second.seen ≡ shown → Hands a c (pushes_of home.hall (xs ++ ys))
+    → second.seen ≡ shown → Makes home.hall a c (xs ++ ys)
     → DoesPart home all first shown a c
-part_of home all g rest first mid second xs ys past more shown a c h k adds is handed = (
+part_of home all g rest first mid second xs ys past more shown a c h k adds is made = (
   xs ++ ys,
   past ++ more,
   rest,
@@ -79,16 +80,18 @@ part_of home all g rest first mid second xs ys past more shown a c h k adds is h
     reaches = goes_on home all g rest first mid second xs ys past more h k;
     adds = adds;
     last = is;
-    handed = handed;
+    made = made;
   },
 )
 
-pub part_front : (home : Home) (all : Service → Service) (first : Place) (left k : ℕ) (x : Seen)
-    (ms : List Message) (xs : List Act) (past : List Fate) (a b c : Option (List Push))
+pub part_front : {V : Type 0} {way : Way V} (home : Home) (all : Service → Service) (first : Place) (left k : ℕ) (x : Seen)
+    (ms : List Message) (xs : List Act) (past : List Fate) (a : Outside way) (u : V)
+    (b c : Option (List Push))
     → left ≡ suc k → Reaches home all first (settle_by home left) (at x ms left) xs past
-    → Hands a b (pushes_of home.hall xs) → PushesPart home.hall (in_front home.desk ms) b c
-    → DoesPart home all first x a c
-part_front home all first left k x ms xs past a b c is h handed part =
+    → Makes home.hall a (outside_of way u b) xs
+    → PushesPart home.hall (in_front home.desk ms) b c
+    → DoesPart home all first x a (outside_of way u c)
+part_front {V} {way} home all first left k x ms xs past a u b c is h made part =
     let reach =
     subst
     (λ z.
@@ -98,16 +101,18 @@ part_front home all first left k x ms xs past a b c is h handed part =
     (sym is)
     (some_front home k x ms part.0 part.1 left part.2.parts) in
     part_of home all (settle_by home left) (rest_in_front home k (from_own home.desk ms) part.1)
-    first (at x ms left) (at x ms left) xs (map (λ m. Pushed m) part.0) past [] x a c h reach
+    first (at x ms left) (at x ms left) xs (map (λ m. Pushed m) part.0) past [] x a (outside_of way u c) h reach
     (adds_front home k (from_own home.desk ms) part.1) refl
-    (hands_pushes home.hall a b c xs part.0 handed part.2.handed)
+    (Makes-pushes home.hall a u b c xs part.0 made part.2.handed)
 
-pub part_last : (home : Home) (all : Service → Service) (first : Place) (left : ℕ) (x : Seen)
-    (ms : List Message) (xs : List Act) (past : List Fate) (a b c : Option (List Push))
+pub part_last : {V : Type 0} {way : Way V} (home : Home) (all : Service → Service) (first : Place) (left : ℕ) (x : Seen)
+    (ms : List Message) (xs : List Act) (past : List Fate) (a : Outside way) (u : V)
+    (b c : Option (List Push))
     → left ≡ 0 → Reaches home all first (settle_by home left) (at x ms left) xs past
-    → Hands a b (pushes_of home.hall xs) → PushesPart home.hall (to_others home.desk ms) b c
-    → DoesPart home all first x a c
-part_last home all first left x ms xs past a b c is h handed part =
+    → Makes home.hall a (outside_of way u b) xs
+    → PushesPart home.hall (to_others home.desk ms) b c
+    → DoesPart home all first x a (outside_of way u c)
+part_last {V} {way} home all first left x ms xs past a u b c is h made part =
     let reach =
     subst
     (λ z.
@@ -116,15 +121,15 @@ part_last home all first left x ms xs past a b c is h handed part =
     (sym is)
     (some_last home x ms part.0 part.1 left part.2.parts) in
     part_of home all (settle_by home left) (push_all part.1 []) first (at x ms left) (at x ms left)
-    xs (map (λ m. Pushed m) part.0) past [] x a c h reach
-    (adds_push part.1 []) refl (hands_pushes home.hall a b c xs part.0 handed part.2.handed)
+    xs (map (λ m. Pushed m) part.0) past [] x a (outside_of way u c) h reach
+    (adds_push part.1 []) refl (Makes-pushes home.hall a u b c xs part.0 made part.2.handed)
 
 -- the node took the event, and its messages were lost
 lost : (home : Home) (g : Service → Service) (event : Event) (fate : Fate) (x y : Seen)
     (ms : List Message) (left : ℕ)
     → LosesMessages home event fate x y
     → Reaches home (λ s. g (call home event s)) (at x ms left) g
-    (at y (waiting_after ms (reply home x event fate).result) left) (Called event ∷ []) (fate ∷ [])
+    (at y (waiting_after ms (reply home x event fate).result) left) (did_call home event fate x ∷ []) (fate ∷ [])
 lost home g event fate x y ms left h =
     calls_once home g event fate x y ms (waiting_after ms (reply home x event fate).result) left
     (answer_of (reply home x event fate).result) (record {
@@ -134,45 +139,57 @@ lost home g event fate x y ms left h =
       waits = refl;
     })
 
-pub part_call : (home h : Home) (all : Service → Service) (first : Place) (k left : ℕ)
-    (event : Event) (x y : Seen) (ms : List Message) (xs : List Act) (past : List Fate)
-    (a b : Option (List Push))
+pub part_call : {V : Type 0} (way : Way V) (home h : Home) (all : Service → Service) (first : Place)
+    (k left : ℕ) (event : Event) (x y : Seen) (ms : List Message) (xs : List Act)
+    (past : List Fate) (a : Outside way) (u v : V) (p : Option (List Push))
     → h ≡ home
     → Reaches home all first (λ s. settle_by home k (call home event s)) (at x ms left) xs past
-    → Hands a b (pushes_of home.hall xs)
-    → (fate : Fate) × LosesMessages h event fate x y → DoesPart home all first y a b
-part_call home h all first k left event x y ms xs past a b same r handed l =
+    → Makes home.hall a (outside_of way u p) xs
+    → (fate : Fate) × LosesMessages h event fate x y × IsCall way h event fate x u v
+    → DoesPart home all first y a (outside_of way v p)
+part_call way home h all first k left event x y ms xs past a u v p same r made l =
     part_of home all (λ s. settle_by home k (call home event s)) (settle_by home k) first
     (at x ms left) (at y (waiting_after ms (reply home x event l.0).result) left) xs
-    (Called event ∷ []) past (l.0 ∷ []) y a b r
+    (did_call home event l.0 x ∷ []) past (l.0 ∷ []) y a (outside_of way v p) r
     (lost home (settle_by home k) event l.0 x y ms left
     (subst (λ z. LosesMessages z event l.0 x y) same l.1))
-    (adds_settle home k) refl (hands_call home.hall a b xs event handed)
+    (adds_settle home k) refl
+    (Makes-trans home.hall a (outside_of way u p) (outside_of way v p) xs
+    (did_call home event l.0 x ∷ []) made (Makes-call way home h event l.0 x u v p same l.2))
 
 -- a call, and then a front part of what comes of it
-pub part_after_call : (home h : Home) (x y shown : Seen) (event : Event) (ms more : List Message)
-    (left : ℕ) (answer : Answer) (a b : Option (List Push))
+pub part_after_call : {V : Type 0} (way : Way V) (home h : Home) (x y shown : Seen) (event : Event)
+    (ms more : List Message) (left : ℕ) (answer : Answer) (u v : V) (p : Option (List Push))
+    (b : Outside way)
     → h ≡ home → ms ≡ []
-    → (fate : Fate) → Calls h event fate x y ms more answer
-    → DoesPart home (settle_by home left) (at y more left) shown a b
-    → DoesPart home (λ s. settle_by home left (call home event s)) (at x [] left) shown a b
-part_after_call home h x y shown event ms more left answer a b same none fate c d =
+    → (fate : Fate) → Calls h event fate x y ms more answer → IsCall way h event fate x u v
+    → DoesPart home (settle_by home left) (at y more left) shown (outside_of way v p) b
+    → DoesPart home (λ s. settle_by home left (call home event s)) (at x [] left) shown
+    (outside_of way u p) b
+part_after_call way home h x y shown event ms more left answer u v p b same none fate c made d =
     let e =
     subst (λ u. Calls home event fate x y u more answer) none
     (subst (λ u. Calls u event fate x y ms more answer) same c) in
+    let a = outside_of way u p in
+    let m = outside_of way v p in
     part_of home (λ s. settle_by home left (call home event s)) (settle_by home left) d.2
-    (at x [] left) (at y more left) d.3 (Called event ∷ []) d.0 (fate ∷ []) d.1 shown a b
-    (calls_once home (settle_by home left) event fate x y [] more left answer e) d.4.reaches
-    d.4.adds d.4.last d.4.handed
+    (at x [] left) (at y more left) d.3 (did_call home event fate x ∷ []) d.0 (fate ∷ []) d.1 shown
+    a b (calls_once home (settle_by home left) event fate x y [] more left answer e) d.4.reaches
+    d.4.adds d.4.last
+    (Makes-trans home.hall a m b (did_call home event fate x ∷ []) d.0
+    (Makes-call way home h event fate x u v p same made) d.4.made)
 
-pub part_at_call : (home h : Home) (x y : Seen) (event : Event) (ms : List Message) (left : ℕ)
-    (a : Option (List Push))
-    → h ≡ home → ms ≡ [] → (fate : Fate) × LosesMessages h event fate x y
-    → DoesPart home (λ s. settle_by home left (call home event s)) (at x [] left) y a a
-part_at_call home h x y event ms left a same none l =
-    part_call home h (λ s. settle_by home left (call home event s)) (at x [] left) left left event x
-    y [] [] [] a a same (stays home (λ s. settle_by home left (call home event s)) (at x [] left))
-    (Hands-nil a) l
+pub part_at_call : {V : Type 0} (way : Way V) (home h : Home) (x y : Seen) (event : Event)
+    (ms : List Message) (left : ℕ) (u v : V) (p : Option (List Push))
+    → h ≡ home → ms ≡ []
+    → (fate : Fate) × LosesMessages h event fate x y × IsCall way h event fate x u v
+    → DoesPart home (λ s. settle_by home left (call home event s)) (at x [] left) y
+    (outside_of way u p) (outside_of way v p)
+part_at_call way home h x y event ms left u v p same none l =
+    part_call way home h (λ s. settle_by home left (call home event s)) (at x [] left) left left
+    event x y [] [] [] (outside_of way u p) u v p same
+    (stays home (λ s. settle_by home left (call home event s)) (at x [] left))
+    (Makes-nil home.hall (outside_of way u p)) l
 
 pub on_err : {T E : Type 0} {A B : Type 0} (r : Result T E) → (A → B) → OnErr r A → OnErr r B
 on_err (Ok x) f a = tt

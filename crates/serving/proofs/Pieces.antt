@@ -11,9 +11,11 @@ use Rattle.wire.specs.Ranges.{IsFrame}
 use Rattle.wire.specs.Spelling.{spelling}
 use Rattle.wire.specs.Stream.{Front, Waits, Begins, Breaks, front, keeps, IsBegun, Reader, holding, Feeds, RefusesFault, Refuses, IsOfStream, IsKept}
 use Rattle.store.specs.declared.home.Home.{Home}
+use Rattle.serving.specs.Making.{Way}
 use Rattle.serving.specs.declared.ends.End.{End}
 use Rattle.serving.specs.declared.ends.End.TheVariants as end
-use Rattle.serving.specs.Connection.{Begun, frames_of, AreBegun, Sides, Serves, IsOpen, EndsInFrames, EndsBatch, IsBatch, EndsPiece, IsPiece, EndsAt, IsConnection}
+use Rattle.serving.specs.Connection.{Begun, frames_of, AreBegun, Sides, Serves, IsOpen, EndsAt, IsConnection}
+use Rattle.serving.specs.model.Pieces.{EndsInFrames, EndsBatch, IsBatch, EndsPiece, IsPiece}
 use Rattle.serving.proofs.Connecting.{bytes_then, serves_none, serves_then, ends_then, frames_of_both}
 
 -- what a reader that gave frames keeps
@@ -52,7 +54,7 @@ begins_batch stream given left begun reader r parts = record {
   each = all_front (frames_of begun) left (subst (λ z. AllByRecursion IsFrame z) parts r.each);
 }
 
-ends_piece : (e : End) (home : Home) (a b : Sides) (begun : List Begun) (rest : List ℕ) (count : ℕ)
+ends_piece : {V : Type 0} {way : Way V} (e : End) (home : Home) (a b : Sides way) (begun : List Begun) (rest : List ℕ) (count : ℕ)
     (new : Reader)
     → EndsInFrames e home a b begun count → EndsPiece (Some e) home a b begun rest count new
 ends_piece end.Stopped home a b begun rest count new h = h
@@ -66,7 +68,7 @@ ends_piece (end.Fault e) home a b begun rest count new h = absurd h
 ends_piece end.Read home a b begun rest count new h = absurd h
 
 -- a frame of the piece ended the connection
-pub piece_ends : (how : Option End) (e : End) (home : Home) (a b : Sides) (stream : List ℕ)
+pub piece_ends : {V : Type 0} {way : Way V} (how : Option End) (e : End) (home : Home) (a b : Sides way) (stream : List ℕ)
     (given left : List Frame) (begun : List Begun) (before count : ℕ) (reader : Reader)
     → how ≡ Some e → Feeds stream given reader → IsBatch how home a b given begun left before count
     → (begun : List Begun) × (rest : List ℕ)
@@ -85,8 +87,8 @@ piece_ends how e home a b stream given left begun before count reader is r h = (
 )
 
 -- all frames of the piece were served, and a fault stands behind them
-pub piece_breaks : (how : Option End) (e : WireFault) (fault : Option WireFault) (home : Home)
-    (a b : Sides) (stream : List ℕ) (given left : List Frame) (begun : List Begun)
+pub piece_breaks : {V : Type 0} {way : Way V} (how : Option End) (e : WireFault) (fault : Option WireFault) (home : Home)
+    (a b : Sides way) (stream : List ℕ) (given left : List Frame) (begun : List Begun)
     (before count : ℕ) (reader : Reader)
     → how ≡ None → fault ≡ Some e → fault ≡ reader.fault → IsKept fault → Feeds stream given reader
     → IsBatch how home a b given begun left before count
@@ -114,7 +116,7 @@ piece_breaks how e fault home a b stream given left begun before count reader is
     )
 
 -- all frames of the piece were served, and what is left waits for more
-pub piece_waits : (how : Option End) (fault : Option WireFault) (home : Home) (a b : Sides)
+pub piece_waits : {V : Type 0} {way : Way V} (how : Option End) (fault : Option WireFault) (home : Home) (a b : Sides way)
     (stream : List ℕ) (given left : List Frame) (begun : List Begun) (before count : ℕ)
     (reader : Reader)
     → how ≡ None → fault ≡ None → fault ≡ reader.fault → Feeds stream given reader
@@ -141,7 +143,7 @@ nothing_begun : (stream : List ℕ) → AreBegun stream [] stream
 nothing_begun stream = record { whole = refl; each = tt }
 
 -- memory was refused before a frame was begun
-pub piece_starves : (home : Home) (a : Sides) (stream : List ℕ) (count : ℕ) (reader : Reader)
+pub piece_starves : {V : Type 0} {way : Way V} (home : Home) (a : Sides way) (stream : List ℕ) (count : ℕ) (reader : Reader)
     → count < 64
     → (begun : List Begun) × (rest : List ℕ)
     × IsPiece (Some end.NoMemory) home a a stream begun rest count count reader
@@ -175,7 +177,7 @@ refused_front wire.BadBody piece old new other none h =
 refused_front wire.NoMemory piece old new other none h = absurd (other refl)
 
 -- a fault stands at the front
-pub piece_refused : (e : WireFault) (home : Home) (a : Sides) (piece : List ℕ) (old new : Reader)
+pub piece_refused : {V : Type 0} {way : Way V} (e : WireFault) (home : Home) (a : Sides way) (piece : List ℕ) (old new : Reader)
     (count : ℕ)
     → count < 64 → (e ≡ wire.NoMemory → ⊥) → old.fault ≡ None → Refuses e piece old new
     → (begun : List Begun) × (rest : List ℕ)
@@ -195,7 +197,7 @@ piece_refused e home a piece old new count few other none h =
 -- ---- the connection
 
 -- all frames of the bytes read so far are served, and the reader holds the rest
-pub record SoFar (home : Home) (a b : Sides) (bytes : List ℕ) (begun : List Begun) (rest : List ℕ)
+pub record SoFar {V : Type 0} {way : Way V} (home : Home) (a b : Sides way) (bytes : List ℕ) (begun : List Begun) (rest : List ℕ)
     (read left : Option (List ℕ)) (count : ℕ) (reader : Reader) : Type 0 where
   pub consumed : Consumes read left bytes
   pub begins : AreBegun bytes begun rest
@@ -209,7 +211,7 @@ front_none : front [] ≡ Waits
 unfolding front
 front_none = refl
 
-pub nothing_yet : (home : Home) (a : Sides) (read : Option (List ℕ)) (reader : Reader)
+pub nothing_yet : {V : Type 0} {way : Way V} (home : Home) (a : Sides way) (read : Option (List ℕ)) (reader : Reader)
     → reader ≡ holding [] → SoFar home a a [] [] [] read read 0 reader
 nothing_yet home a read reader h = record {
   consumed = Consumes-nil read;
@@ -253,7 +255,7 @@ fed_rest : (reader : Reader) (rest piece stream : List ℕ) → reader ≡ holdi
 fed_rest reader rest piece stream h is = is ∙ ap (λ (z : Reader). z.held ++ piece) h
 
 -- a piece more is served
-pub so_far_more : (home : Home) (a m b : Sides) (bytes piece rest last : List ℕ)
+pub so_far_more : {V : Type 0} {way : Way V} (home : Home) (a m b : Sides way) (bytes piece rest last : List ℕ)
     (bs cs : List Begun) (read left later : Option (List ℕ)) (before count : ℕ) (old new : Reader)
     → SoFar home a m bytes bs rest read left before old → Consumes left later piece
     → IsPiece None home m b (old.held ++ piece) cs last before count new
@@ -272,7 +274,7 @@ so_far_more home a m b bytes piece rest last bs cs read left later before count 
     }
 
 -- a read that failed changes nothing
-pub so_far_kept : (home : Home) (a b : Sides) (bytes rest : List ℕ) (bs : List Begun)
+pub so_far_kept : {V : Type 0} {way : Way V} (home : Home) (a b : Sides way) (bytes rest : List ℕ) (bs : List Begun)
     (read left later : Option (List ℕ)) (count : ℕ) (reader : Reader)
     → SoFar home a b bytes bs rest read left count reader → Keeps left later
     → SoFar home a b bytes bs rest read later count reader
@@ -287,7 +289,7 @@ so_far_kept home a b bytes rest bs read left later count reader h k = record {
 }
 
 -- so does one of no bytes
-pub so_far_still : (home : Home) (a b : Sides) (bytes rest none : List ℕ) (bs : List Begun)
+pub so_far_still : {V : Type 0} {way : Way V} (home : Home) (a b : Sides way) (bytes rest none : List ℕ) (bs : List Begun)
     (read left later : Option (List ℕ)) (count : ℕ) (reader : Reader)
     → none ≡ []
     → SoFar home a b bytes bs rest read left count reader → Consumes left later none
@@ -308,14 +310,14 @@ few_of : (begun : List Begun) (count : ℕ) → count ≡ length begun → count
 few_of begun count h few = omega (arith, h, few)
 
 -- with all frames served the connection is open
-pub is_open : (home : Home) (a b : Sides) (bytes rest : List ℕ) (bs : List Begun)
+pub is_open : {V : Type 0} {way : Way V} (home : Home) (a b : Sides way) (bytes rest : List ℕ) (bs : List Begun)
     (read left : Option (List ℕ)) (count : ℕ) (reader : Reader)
     → SoFar home a b bytes bs rest read left count reader → IsOpen home a b bs
 is_open home a b bytes rest bs read left count reader h =
     record { serves = h.serves; few = few_of bs count h.counted h.few }
 
 -- a connection that ends where all frames read are served
-pub stops_so_far : (e : End) (home : Home) (a b : Sides) (bytes rest : List ℕ) (bs : List Begun)
+pub stops_so_far : {V : Type 0} {way : Way V} (e : End) (home : Home) (a b : Sides way) (bytes rest : List ℕ) (bs : List Begun)
     (read left : Option (List ℕ)) (count reads : ℕ) (reader : Reader)
     → SoFar home a b bytes bs rest read left count reader → reads ≤ 19200256
     → EndsAt e home a b bs rest left reads
@@ -336,7 +338,7 @@ stops_so_far e home a b bytes rest bs read left count reads reader h bounded end
 )
 
 -- the end of a piece is one of the connection
-ends_at : (e : End) (home : Home) (a m b : Sides) (bs cs : List Begun) (rest : List ℕ)
+ends_at : {V : Type 0} {way : Way V} (e : End) (home : Home) (a m b : Sides way) (bs cs : List Begun) (rest : List ℕ)
     (left : Option (List ℕ)) (count reads : ℕ) (new : Reader)
     → Serves home a m bs → count ≡ length (bs ++ cs) → EndsPiece (Some e) home m b cs rest count new
     → EndsAt e home a b (bs ++ cs) rest left reads
@@ -373,7 +375,7 @@ few_then : (bs cs : List Begun) (before count : ℕ) → before ≡ length bs �
 few_then bs cs before count h k few = omega (arith, h, k, few, length-append bs cs)
 
 -- a connection that a piece ends
-pub stops_at_piece : (e : End) (how : Option End) (home : Home) (a m b : Sides)
+pub stops_at_piece : {V : Type 0} {way : Way V} (e : End) (how : Option End) (home : Home) (a m b : Sides way)
     (bytes piece rest last : List ℕ) (bs cs : List Begun) (read left later : Option (List ℕ))
     (before count reads : ℕ) (old new : Reader)
     → how ≡ Some e → SoFar home a m bytes bs rest read left before old → Consumes left later piece

@@ -3,7 +3,7 @@ use Rattle.std.proofs.Common.{◌≡◌, refl, sym, ap, subst, ◌∙◌, ℕ, �
 use Rattle.std.proofs.lemmas.List.{append_assoc}
 use Rattle.acceptor.specs.declared.message.Message.{Message}
 use Rattle.serving.specs.Adding.{Push, Hands}
-use Rattle.serving.specs.Pushing.{PushesUntil, PushesOthers}
+use Rattle.serving.specs.model.Pushing.{PushesUntil, PushesOthers}
 use Rattle.serving.specs.Serving.{pushed, in_front, from_own, to_others}
 use Rattle.serving.proofs.Handing.{Hands-map}
 

@@ -4,15 +4,16 @@ use Rattle.std.proofs.lemmas.List.{append-nil, append_assoc}
 use Rattle.acceptor.specs.declared.message.Message.{Message}
 use Rattle.learner.specs.declared.event.Event.{Event}
 use Rattle.learner.specs.declared.event.Event.TheVariants.{Deliver}
-use Rattle.serving.specs.Adding.{Push, Hands}
-use Rattle.serving.specs.Calling.{Calls}
+use Rattle.serving.specs.Adding.{Push}
+use Rattle.serving.specs.Making.{Way, Outside, outside_of, Makes}
+use Rattle.serving.specs.model.Calling.{Calls, IsCall}
 use Rattle.serving.specs.declared.calling.Answer.{Answer}
 use Rattle.store.specs.declared.home.Home.{Home}
 use Rattle.serving.specs.Nodes.{Seen, Fate}
-use Rattle.serving.specs.Pushing.{Leads}
-use Rattle.serving.specs.Reaching.{Place, at, service, Reaches, Did, Does, DoesCall}
+use Rattle.serving.specs.model.Pushing.{Leads}
+use Rattle.serving.specs.model.Reaching.{Place, at, service, Reaches, did_call, Did, Does, DoesCall}
 use Rattle.serving.specs.Serving.{Act, Called, Pushed, Service, pushed, pushes_of, seen_after, call, settle_by, deliver, push_all, in_front, from_own, to_others}
-use Rattle.serving.proofs.Handing.{Hands-trans}
+use Rattle.serving.proofs.Makings.{Makes-trans, Makes-call}
 
 pub stays : (home : Home) (f : Service → Service) (p : Place) → Reaches home f p f p [] []
 stays home f p = record {
@@ -40,7 +41,7 @@ pub calls_once : (home : Home) (g : Service → Service) (event : Event) (fate :
     (ms more : List Message) (left : ℕ) (answer : Answer)
     → Calls home event fate x y ms more answer
     → Reaches home (λ s. g (call home event s)) (at x ms left) g (at y more left)
-    (Called event ∷ []) (fate ∷ [])
+    (did_call home event fate x ∷ []) (fate ∷ [])
 unfolding call
 calls_once home g event fate x y ms more left answer h = record {
   steps = λ done later. rw h.seen rw h.waits refl;
@@ -52,17 +53,6 @@ pub pushes_see : (home : Home) (x : Seen) (ms : List Message) (acts : List Act) 
     → seen_after home x (map (λ m. Pushed m) ms ++ acts) fates ≡ seen_after home x acts fates
 pushes_see home x [] acts fates = refl
 pushes_see home x (m ∷ ms) acts fates = pushes_see home x ms acts fates
-
-pub pushes_of_map : (hall : ℕ) (ms : List Message)
-    → pushes_of hall (map (λ m. Pushed m) ms) ≡ map (pushed hall) ms
-pushes_of_map hall [] = refl
-pushes_of_map hall (m ∷ ms) = ap (λ z. pushed hall m ∷ z) (pushes_of_map hall ms)
-
-pub pushes_of_both : (hall : ℕ) (xs ys : List Act)
-    → pushes_of hall (xs ++ ys) ≡ pushes_of hall xs ++ pushes_of hall ys
-pushes_of_both hall [] ys = refl
-pushes_of_both hall (Called e ∷ xs) ys = pushes_of_both hall xs ys
-pushes_of_both hall (Pushed m ∷ xs) ys = ap (λ z. pushed hall m ∷ z) (pushes_of_both hall xs ys)
 
 -- messages to others are pushed, then one to the desk itself is delivered
 pub settles_one : (home : Home) (k : ℕ) (x : Seen) (ms rest : List Message) (m : Message) (left : ℕ)
@@ -106,19 +96,6 @@ settles_last home x ms left = record {
   steps = λ done later. refl;
   calls = λ acts later. pushes_see home x (to_others home.desk ms) acts later;
 }
-
--- what is handed over for acts, and then for pushes
-pub hands_pushes : (hall : ℕ) (a b c : Option (List Push)) (acts : List Act) (ms : List Message)
-    → Hands a b (pushes_of hall acts) → Hands b c (map (pushed hall) ms)
-    → Hands a c (pushes_of hall (acts ++ map (λ m. Pushed m) ms))
-hands_pushes hall a b c acts ms h k =
-    rw (pushes_of_both hall acts (map (λ m. Pushed m) ms)) rw (pushes_of_map hall ms)
-    (Hands-trans a b c _ _ h k)
-
-pub hands_call : (hall : ℕ) (a b : Option (List Push)) (acts : List Act) (event : Event)
-    → Hands a b (pushes_of hall acts) → Hands a b (pushes_of hall (acts ++ Called event ∷ []))
-hands_call hall a b acts event h =
-    rw (pushes_of_both hall acts (Called event ∷ [])) rw (append-nil (pushes_of hall acts)) h
 
 -- what push_front found
 pub leads_none : (o : Option Message) (ms rest : List Message) → ((m : Message) → o ≡ Some m → ⊥)
@@ -182,38 +159,45 @@ pub on_ok : {T E : Type 0} {A B C : Type 0} (r : Result T E) → (A → B → C)
 on_ok (Ok x) f a b = f a b
 on_ok (Err e) f a b = tt
 
-does_call_at : (home : Home) (x y z : Seen) (event : Event) (more : List Message) (left last : ℕ)
-    (answer : Answer) (a b : Option (List Push)) (fate : Fate) (acts : List Act) (past : List Fate)
+does_call_at : {V : Type 0} {way : Way V} (home : Home) (x y z : Seen) (event : Event)
+    (more : List Message) (left last : ℕ) (answer : Answer) (a m b : Outside way) (fate : Fate)
+    (acts : List Act) (past : List Fate)
     → Calls home event fate x y [] more answer
-    → Did home (settle_by home left) (at y more left) (at z [] last) acts past a b
+    → Makes home.hall a m (did_call home event fate x ∷ [])
+    → Did home (settle_by home left) (at y more left) (at z [] last) acts past m b
     → Did home (λ s. settle_by home left (call home event s)) (at x [] left) (at z [] last)
-    (Called event ∷ acts) (fate ∷ past) a b
-does_call_at home x y z event more left last answer a b fate acts past c d = record {
+    (did_call home event fate x ∷ acts) (fate ∷ past) a b
+does_call_at home x y z event more left last answer a m b fate acts past c made d = record {
   reaches =
-      goes_on home _ _ _ _ _ _ (Called event ∷ []) acts (fate ∷ []) past
+      goes_on home _ _ _ _ _ _ (did_call home event fate x ∷ []) acts (fate ∷ []) past
       (calls_once home (settle_by home left) event fate x y [] more left answer c) d.reaches;
-  handed = d.handed;
+  made = Makes-trans home.hall a m b (did_call home event fate x ∷ []) acts made d.made;
 }
 
 -- a call, and then all that comes of it
-pub does_call : (home h : Home) (x y z : Seen) (event : Event) (ms more rest : List Message)
-    (left last : ℕ) (answer : Answer) (a b : Option (List Push))
+pub does_call : {V : Type 0} (way : Way V) (home h : Home) (x y z : Seen) (event : Event)
+    (ms more rest : List Message) (left last : ℕ) (answer : Answer) (u v : V)
+    (p : Option (List Push)) (b : Outside way)
     → h ≡ home → ms ≡ [] → rest ≡ []
-    → (fate : Fate) → Calls h event fate x y ms more answer
-    → Does home (settle_by home left) (at y more left) (at z rest last) a b
+    → (fate : Fate) → Calls h event fate x y ms more answer → IsCall way h event fate x u v
+    → Does home (settle_by home left) (at y more left) (at z rest last) (outside_of way v p) b
     → (acts : List Act) × (past : List Fate)
-    × DoesCall home left last event answer x z acts past a b
-does_call home h x y z event ms more rest left last answer a b same none empty fate c d =
+    × DoesCall home left last event answer x z acts past (outside_of way u p) b
+does_call way home h x y z event ms more rest left last answer u v p b same none empty fate c made
+    d =
     let e =
     subst (λ u. Calls home event fate x y u more answer) none
     (subst (λ u. Calls u event fate x y ms more answer) same c) in
+    let m = outside_of way v p in
     let f =
-    subst (λ u. Did home (settle_by home left) (at y more left) (at z u last) d.0 d.1 a b) empty
+    subst (λ u. Did home (settle_by home left) (at y more left) (at z u last) d.0 d.1 m b) empty
     d.2 in (
-      Called event ∷ d.0,
+      did_call home event fate x ∷ d.0,
       fate ∷ d.1,
       record {
-        did = does_call_at home x y z event more left last answer a b fate d.0 d.1 e f;
+        did =
+            does_call_at home x y z event more left last answer (outside_of way u p) m b fate d.0
+            d.1 e (Makes-call way home h event fate x u v p same made) f;
         fate = fate;
         others = d.1;
         first = refl;

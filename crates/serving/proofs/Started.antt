@@ -4,15 +4,15 @@ use Rattle.std.proofs.lemmas.List.{append-nil}
 use Rattle.acceptor.specs.declared.entry.Entry.{Entry}
 use Rattle.learner.specs.declared.event.Event.{Event}
 use Rattle.learner.specs.declared.event.Event.TheVariants.{Start}
-use Rattle.serving.specs.Adding.{Push, Hands}
+use Rattle.serving.specs.Making.{Way, Outside, outside_of, Makes}
 use Rattle.serving.specs.declared.calling.Answer.{Answer}
 use Rattle.store.specs.declared.home.Home.{Home}
 use Rattle.serving.specs.Nodes.{Seen, Fate}
-use Rattle.serving.specs.Reaching.{Place, at, service, Reaches, OnlyAdds, DoesPart, DoesCall, DoesTake}
+use Rattle.serving.specs.model.Reaching.{Place, at, service, Reaches, OnlyAdds, DoesPart, DoesCall, DoesTake}
 use Rattle.serving.specs.Serving.{Act, Service, pushes_of, call, settle_by, settle, wants_start, start_if_grown, take}
 use Rattle.serving.proofs.Additions.{adds_both, adds_call, adds_settle}
-use Rattle.serving.proofs.Handing.{Hands-trans}
-use Rattle.serving.proofs.Reached.{goes_on, pushes_of_both}
+use Rattle.serving.proofs.Makings.{Makes-trans}
+use Rattle.serving.proofs.Reached.{goes_on}
 use Rattle.serving.proofs.Parts.{part_of}
 
 adds_if : (home : Home) (b : Bool) (s : Service)
@@ -74,7 +74,7 @@ start_not_due home before y left h = record {
 }
 
 -- memory was refused in the event
-pub take_part : (home : Home) (event : Event) (x shown : Seen) (a b : Option (List Push))
+pub take_part : {V : Type 0} {way : Way V} (home : Home) (event : Event) (x shown : Seen) (a b : Outside way)
     → DoesPart home (λ s. settle_by home 16 (call home event s)) (at x [] 16) shown a b
     → DoesPart home (take home event) (at x [] 16) shown a b
 take_part home event x shown a b d = (
@@ -86,7 +86,7 @@ take_part home event x shown a b d = (
     reaches = take_first home event x d.2 d.3 d.0 d.1 d.4.reaches;
     adds = adds_both d.2 (start_if_grown home x.desk.log) d.4.adds (adds_start home x.desk.log);
     last = d.4.last;
-    handed = d.4.handed;
+    made = d.4.made;
   },
 )
 
@@ -102,17 +102,14 @@ take_then home event x y left xs past h r =
     past []
     (take_first home event x (λ s. s) (at y [] left) xs past r) (start_due home x.desk.log y left h)
 
-hands_then : (hall : ℕ) (xs ys : List Act) (a b c : Option (List Push))
-    → Hands a b (pushes_of hall xs) → Hands b c (pushes_of hall ys)
-    → Hands a c (pushes_of hall ((xs ++ []) ++ ys))
-hands_then hall xs ys a b c h k =
-    subst (λ z. Hands a c (pushes_of hall (z ++ ys))) (sym (append-nil xs))
-    (subst (λ z. Hands a c z) (sym (pushes_of_both hall xs ys))
-    (Hands-trans a b c (pushes_of hall xs) (pushes_of hall ys) h k))
+makes_then : {V : Type 0} {way : Way V} (hall : ℕ) (xs ys : List Act) (a b c : Outside way)
+    → Makes hall a b xs → Makes hall b c ys → Makes hall a c ((xs ++ []) ++ ys)
+makes_then hall xs ys a b c h k =
+    subst (λ z. Makes hall a c (z ++ ys)) (sym (append-nil xs)) (Makes-trans hall a b c xs ys h k)
 
 -- memory was refused in Start
-pub take_later_part : (home : Home) (event : Event) (answer : Answer) (x y shown : Seen) (left : ℕ)
-    (xs : List Act) (past : List Fate) (a b c : Option (List Push))
+pub take_later_part : {V : Type 0} {way : Way V} (home : Home) (event : Event) (answer : Answer) (x y shown : Seen) (left : ℕ)
+    (xs : List Act) (past : List Fate) (a b c : Outside way)
     → DoesCall home 16 left event answer x y xs past a b → wants_start x.desk.log y ≡ true
     → DoesPart home (λ s. settle_by home left (call home Start s)) (at y [] left) shown b c
     → DoesPart home (take home event) (at x [] 16) shown a c
@@ -120,11 +117,11 @@ take_later_part home event answer x y shown left xs past a b c h due d =
     part_of home (take home event) (λ s. settle_by home left (call home Start s)) d.2 (at x [] 16)
     (at y [] left) d.3 (xs ++ []) d.0 (past ++ []) d.1 shown a c
     (take_then home event x y left xs past due h.did.reaches) d.4.reaches d.4.adds d.4.last
-    (hands_then home.hall xs d.0 a b c h.did.handed d.4.handed)
+    (makes_then home.hall xs d.0 a b c h.did.made d.4.made)
 
 -- the event, and then Start
-pub takes_started : (home : Home) (event : Event) (answer second : Answer) (x y z : Seen)
-    (left last : ℕ) (xs ys : List Act) (past more : List Fate) (a b c : Option (List Push))
+pub takes_started : {V : Type 0} {way : Way V} (home : Home) (event : Event) (answer second : Answer) (x y z : Seen)
+    (left last : ℕ) (xs ys : List Act) (past more : List Fate) (a b c : Outside way)
     → DoesCall home 16 left event answer x y xs past a b → wants_start x.desk.log y ≡ true
     → DoesCall home left last Start second y z ys more b c
     → DoesTake home last event answer x z ((xs ++ []) ++ ys) ((past ++ []) ++ more) a c
@@ -134,7 +131,7 @@ takes_started home event answer second x y z left last xs ys past more a b c h d
         goes_on home (take home event) (λ s. settle_by home left (call home Start s)) (λ s. s)
         (at x [] 16) (at y [] left) (at z [] last) (xs ++ []) ys (past ++ []) more
         (take_then home event x y left xs past due h.did.reaches) k.did.reaches;
-    handed = hands_then home.hall xs ys a b c h.did.handed k.did.handed;
+    made = makes_then home.hall xs ys a b c h.did.made k.did.made;
   };
   fate = h.fate;
   others = (h.others ++ []) ++ more;
@@ -143,8 +140,8 @@ takes_started home event answer second x y z left last xs ys past more a b c h d
 }
 
 -- the event alone
-pub takes_alone : (home : Home) (event : Event) (answer : Answer) (x y : Seen) (left : ℕ)
-    (xs : List Act) (past : List Fate) (a b : Option (List Push))
+pub takes_alone : {V : Type 0} {way : Way V} (home : Home) (event : Event) (answer : Answer) (x y : Seen) (left : ℕ)
+    (xs : List Act) (past : List Fate) (a b : Outside way)
     → DoesCall home 16 left event answer x y xs past a b → wants_start x.desk.log y ≡ false
     → DoesTake home left event answer x y (xs ++ []) (past ++ []) a b
 takes_alone home event answer x y left xs past a b h due = record {
@@ -154,7 +151,7 @@ takes_alone home event answer x y left xs past a b h due = record {
         (at y [] left) (at y [] left) xs [] past []
         (take_first home event x (λ s. s) (at y [] left) xs past h.did.reaches)
         (start_not_due home x.desk.log y left due);
-    handed = subst (λ z. Hands a b (pushes_of home.hall z)) (sym (append-nil xs)) h.did.handed;
+    made = subst (λ z. Makes home.hall a b z) (sym (append-nil xs)) h.did.made;
   };
   fate = h.fate;
   others = h.others ++ [];

@@ -1,12 +1,12 @@
 -- One frame after the other, and how a connection ends.
-use Rattle.std.specs.Prelude.{◌≡◌, ◌⊎◌, ◌≤◌, ◌<◌, ℕ, ◌+◌, List, [], ◌∷◌, ◌++◌, length, Option, None, Some}
+use Rattle.std.specs.Prelude.{◌≡◌, ◌⊎◌, ◌≤◌, ◌<◌, ℕ, List, [], ◌∷◌, ◌++◌, length, Option, None, Some}
 use Rattle.std.specs.List.{flat_map, AllByRecursion}
 use Rattle.std.specs.Io.KnownBytes.{Appends, Consumes, IsAtEnd}
 use Rattle.wire.specs.declared.frame.Frame.{Frame}
 use Rattle.wire.specs.declared.frame.What.{What}
 use Rattle.wire.specs.Ranges.{IsFrame}
 use Rattle.wire.specs.Spelling.{spelling}
-use Rattle.wire.specs.Stream.{Waits, Breaks, front, IsOfStream, Reader, holding}
+use Rattle.wire.specs.Stream.{Waits, Breaks, front, IsOfStream}
 use Rattle.store.specs.declared.home.Home.{Home}
 use Rattle.serving.specs.declared.ends.Close.{Close}
 use Rattle.serving.specs.declared.ends.Close.TheVariants as close
@@ -15,12 +15,12 @@ use Rattle.serving.specs.declared.ends.End.TheVariants as end
 use Rattle.serving.specs.declared.ends.FrameFault.{FrameFault}
 use Rattle.serving.specs.declared.ends.Served.{Served}
 use Rattle.serving.specs.declared.ends.FrameFault.TheVariants as fault
-use Rattle.serving.specs.Adding.{Push, Hands}
-use Rattle.serving.specs.Bytes.{AppendsPart}
+use Rattle.lines.specs.Bytes.{AppendsPart}
+use Rattle.serving.specs.Making.{Way, Outside, Makes}
 use Rattle.serving.specs.Nodes.{Seen, Fate}
 use Rattle.serving.specs.Asking.{request, closes}
 use Rattle.serving.specs.declared.request.Request.{Request}
-use Rattle.serving.specs.Serving.{Act, served, answer, pushes_of, seen_after}
+use Rattle.serving.specs.Serving.{Act, served, answer, seen_after}
 
 -- a frame that was begun, with the fates of its calls
 pub record Begun : Type 0 where
@@ -89,172 +89,86 @@ pub record AreBegun (bytes : List ℕ) (begun : List Begun) (rest : List ℕ) : 
   pub whole : bytes ≡ flat_map spelling (frames_of begun) ++ rest
   pub each : AllByRecursion IsFrame (frames_of begun)
 
--- what serving changes: what is seen of the node, what the writer was given, and what the other
--- desks were handed
-pub record Sides : Type 0 where
+-- what serving changes: what is seen of the node, what the writer was given, and, beside what is
+-- seen, the node itself and what the other desks were handed
+pub record Sides {V : Type 0} (way : Way V) : Type 0 where
   pub seen : Seen
   pub written : Option (List ℕ)
-  pub handed : Option (List Push)
+  pub outside : Outside way
 
-abbrev pub sides : Seen → Option (List ℕ) → Option (List Push) → Sides
-sides x written handed = record { seen = x; written = written; handed = handed }
-
--- ---- one request
-
--- all calls and pushes of the request were made, and this is its answer
-pub record Answers (home : Home) (x y : Seen) (fates : List Fate) (r : Request) (w : Option What)
-    (old new : Option (List Push)) : Type 0 where
-  pub answer_is : w ≡ answer home x fates r
-  pub pushed : Hands old new (pushes_of home.hall (served home x fates r).done)
-  pub node : y ≡ (served home x fates r).seen
-  pub calls : y ≡ seen_after home x (served home x fates r).done fates
-
--- a front part of the request's calls and pushes was made
-pub record AnswersPart (home : Home) (x y : Seen) (fates : List Fate) (r : Request)
-    (acts rest : List Act)
-    (old new : Option (List Push)) : Type 0 where
-  pub parts : (served home x fates r).done ≡ acts ++ rest
-  pub pushed : Hands old new (pushes_of home.hall acts)
-  pub node : y ≡ seen_after home x acts fates
-
-abbrev pub AnswersSome : Home → Seen → Seen → Request → Option What → Option (List Push)
-    → Option (List Push) → Type 0
-AnswersSome home x y r w old new = (fates : List Fate) × Answers home x y fates r w old new
-
-abbrev pub FailsToAnswer : Home → Seen → Seen → Request → Option (List Push) → Option (List Push)
-    → Type 0
-FailsToAnswer home x y r old new =
-    (fates : List Fate) × (acts : List Act) × (rest : List Act)
-    × AnswersPart home x y fates r acts rest old new
+abbrev pub sides : {V : Type 0} → {way : Way V} → Seen → Option (List ℕ) → Outside way → Sides way
+sides x written outside = record { seen = x; written = written; outside = outside }
 
 -- ---- one frame
 
--- the frame was served whole
-pub record ServesOne (home : Home) (a b : Sides) (one : Begun) (ends : Option Close) : Type 0 where
-  pub close : ends ≡ close_of home a.seen one
-  pub answered : Appends a.written b.written (answer_bytes (serve_frame home a.seen one).answers)
-  pub pushed : Hands a.handed b.handed (pushes_of home.hall (serve_frame home a.seen one).acts)
-  pub node : b.seen ≡ (serve_frame home a.seen one).seen
-
 -- all was done for it but that its answer was not written whole
-pub record BreaksOff (home : Home) (a b : Sides) (one : Begun) : Type 0 where
+pub record BreaksOff {V : Type 0} {way : Way V} (home : Home) (a b : Sides way) (one : Begun) : Type 0 where
   pub answered : AppendsPart a.written b.written
       (answer_bytes (serve_frame home a.seen one).answers)
-  pub pushed : Hands a.handed b.handed (pushes_of home.hall (serve_frame home a.seen one).acts)
+  pub made : Makes home.hall a.outside b.outside (serve_frame home a.seen one).acts
   pub node : b.seen ≡ (serve_frame home a.seen one).seen
 
 -- a front part of its calls and pushes was done, and nothing was answered
-pub record DoesFront (home : Home) (a b : Sides) (one : Begun) (acts rest : List Act) : Type 0 where
+pub record DoesFront {V : Type 0} {way : Way V} (home : Home) (a b : Sides way) (one : Begun) (acts rest : List Act) : Type 0 where
   pub parts : (serve_frame home a.seen one).acts ≡ acts ++ rest
   pub silent : Appends a.written b.written []
-  pub pushed : Hands a.handed b.handed (pushes_of home.hall acts)
+  pub made : Makes home.hall a.outside b.outside acts
   pub node : b.seen ≡ seen_after home a.seen acts one.fates
 
-abbrev pub FailsIn : FrameFault → Home → Sides → Sides → Begun → Type 0
+abbrev pub FailsIn : {V : Type 0} → {way : Way V} → FrameFault → Home → Sides way → Sides way → Begun → Type 0
 FailsIn fault.Write home a b one = BreaksOff home a b one
 FailsIn fault.NoMemory home a b one =
     (acts : List Act) × (rest : List Act) × DoesFront home a b one acts rest
 
 -- ---- frames
 
--- what was written and pushed, and the node afterwards, are what the frames come to
-pub record IsServed (home : Home) (a b : Sides) (begun : List Begun) : Type 0 where
+-- what was written, the calls made, what was pushed, and the node afterwards, are what the frames
+-- come to
+pub record IsServed {V : Type 0} {way : Way V} (home : Home) (a b : Sides way) (begun : List Begun) : Type 0 where
   pub answered : Appends a.written b.written (answer_bytes (serve_frames home a.seen begun).answers)
-  pub pushed : Hands a.handed b.handed (pushes_of home.hall (serve_frames home a.seen begun).acts)
+  pub made : Makes home.hall a.outside b.outside (serve_frames home a.seen begun).acts
   pub node : b.seen ≡ (serve_frames home a.seen begun).seen
 
 -- the frames were served, and the connection stayed open
-pub record Serves (home : Home) (a b : Sides) (begun : List Begun) : Type 0 where
+pub record Serves {V : Type 0} {way : Way V} (home : Home) (a b : Sides way) (begun : List Begun) : Type 0 where
   pub stays : StaysOpen home a.seen begun
   pub served : IsServed home a b begun
 
 -- the frames were served, and the last one ended the connection
-pub record ServesUntil (ends : Close) (home : Home) (a b : Sides) (begun front : List Begun)
+pub record ServesUntil {V : Type 0} {way : Way V} (ends : Close) (home : Home) (a b : Sides way) (begun front : List Begun)
     (last : Begun) : Type 0 where
   pub parts : begun ≡ front ++ last ∷ []
   pub stays : StaysOpen home a.seen front
   pub close : close_of home (serve_frames home a.seen front).seen last ≡ Some ends
   pub served : IsServed home a b begun
 
-abbrev pub Closes : Close → Home → Sides → Sides → List Begun → Type 0
+abbrev pub Closes : {V : Type 0} → {way : Way V} → Close → Home → Sides way → Sides way → List Begun → Type 0
 Closes ends home a b begun =
     (front : List Begun) × (last : Begun) × ServesUntil ends home a b begun front last
 
 -- the frames but the last were served, and the last one failed
-pub record FailsLast (why : FrameFault) (home : Home) (a m b : Sides) (begun front : List Begun)
+pub record FailsLast {V : Type 0} {way : Way V} (why : FrameFault) (home : Home) (a m b : Sides way) (begun front : List Begun)
     (last : Begun) : Type 0 where
   pub parts : begun ≡ front ++ last ∷ []
   pub before : Serves home a m front
   pub fails : FailsIn why home m b last
 
-abbrev pub Fails : FrameFault → Home → Sides → Sides → List Begun → Type 0
-Fails why home a b begun =
-    (front : List Begun) × (last : Begun) × (m : Sides) × FailsLast why home a m b begun front last
+abbrev pub Fails : {V : Type 0} → {way : Way V} → FrameFault → Home → Sides way → Sides way → List Begun → Type 0
+Fails {V} {way} why home a b begun =
+    (front : List Begun) × (last : Begun) × (m : Sides way) × FailsLast why home a m b begun front last
 
 -- ---- ends
 
 -- fewer than 64 frames were begun, all were served, and the connection is open
-pub record IsOpen (home : Home) (a b : Sides) (begun : List Begun) : Type 0 where
+pub record IsOpen {V : Type 0} {way : Way V} (home : Home) (a b : Sides way) (begun : List Begun) : Type 0 where
   pub serves : Serves home a b begun
   pub few : length begun < 64
-
--- how frames end the connection of themselves, and how many were begun by then
-abbrev pub EndsInFrames : End → Home → Sides → Sides → List Begun → ℕ → Type 0
-EndsInFrames end.Stopped home a b begun count = Closes close.Stopped home a b begun
-EndsInFrames end.Down home a b begun count = Closes close.Down home a b begun
-EndsInFrames end.Frames home a b begun count = Serves home a b begun × (count ≡ 64)
-EndsInFrames end.Write home a b begun count = Fails fault.Write home a b begun
-EndsInFrames end.NoMemory home a b begun count = Fails fault.NoMemory home a b begun
-EndsInFrames end.End home a b begun count = ⊥
-EndsInFrames end.Reads home a b begun count = ⊥
-EndsInFrames (end.Fault e) home a b begun count = ⊥
-EndsInFrames end.Read home a b begun count = ⊥
-
--- how the frames at hand were served: all of them, fewer than 64 with those before, or some of them
-abbrev pub EndsBatch : Option End → Home → Sides → Sides → List Begun → List Frame → ℕ → Type 0
-EndsBatch None home a b begun left count = Serves home a b begun × (left ≡ []) × (count < 64)
-EndsBatch (Some e) home a b begun left count = EndsInFrames e home a b begun count
-
-pub record IsBatch (how : Option End) (home : Home) (a b : Sides) (given : List Frame)
-    (begun : List Begun) (left : List Frame) (before count : ℕ) : Type 0 where
-  pub parts : given ≡ frames_of begun ++ left
-  pub counted : count ≡ before + length begun
-  pub few : count ≤ 64
-  pub ends : EndsBatch how home a b begun left count
-
--- ---- pieces of the stream
-
--- how a piece of the stream was served, with what is left of it
-abbrev pub EndsPiece : Option End → Home → Sides → Sides → List Begun → List ℕ → ℕ → Reader → Type 0
-EndsPiece None home a b begun rest count new =
-    Serves home a b begun × (count < 64) × (new ≡ holding rest) × (front rest ≡ Waits)
-EndsPiece (Some (end.Fault e)) home a b begun rest count new =
-    Serves home a b begun × (count < 64) × (front rest ≡ Breaks e) × IsOfStream e
-EndsPiece (Some end.NoMemory) home a b begun rest count new =
-    (Serves home a b begun × (count < 64)) ⊎ Fails fault.NoMemory home a b begun
-EndsPiece (Some end.Stopped) home a b begun rest count new =
-    EndsInFrames end.Stopped home a b begun count
-EndsPiece (Some end.Down) home a b begun rest count new = EndsInFrames end.Down home a b begun count
-EndsPiece (Some end.Frames) home a b begun rest count new =
-    EndsInFrames end.Frames home a b begun count
-EndsPiece (Some end.Write) home a b begun rest count new =
-    EndsInFrames end.Write home a b begun count
-EndsPiece (Some end.End) home a b begun rest count new = ⊥
-EndsPiece (Some end.Reads) home a b begun rest count new = ⊥
-EndsPiece (Some end.Read) home a b begun rest count new = ⊥
-
-pub record IsPiece (how : Option End) (home : Home) (a b : Sides) (stream : List ℕ)
-    (begun : List Begun) (rest : List ℕ) (before count : ℕ) (new : Reader) : Type 0 where
-  pub begins : AreBegun stream begun rest
-  pub counted : count ≡ before + length begun
-  pub few : count ≤ 64
-  pub ends : EndsPiece how home a b begun rest count new
 
 -- ---- the connection
 
 -- The cause of each end. `rest` is what was read behind the frames begun, `left` is what the reader
 -- has left, and `reads` is how often it was read from.
-abbrev pub EndsAt : End → Home → Sides → Sides → List Begun → List ℕ → Option (List ℕ) → ℕ → Type 0
+abbrev pub EndsAt : {V : Type 0} → {way : Way V} → End → Home → Sides way → Sides way → List Begun → List ℕ → Option (List ℕ) → ℕ → Type 0
 EndsAt end.End home a b begun rest left reads =
     IsOpen home a b begun × (front rest ≡ Waits) × IsAtEnd left
 EndsAt end.Stopped home a b begun rest left reads = Closes close.Stopped home a b begun
@@ -270,7 +184,7 @@ EndsAt end.NoMemory home a b begun rest left reads =
     IsOpen home a b begun ⊎ Fails fault.NoMemory home a b begun
 
 -- a connection: the bytes read are the frames begun and a rest, and the end came by its cause
-pub record IsConnection (result : Served) (home : Home) (a b : Sides) (bytes : List ℕ)
+pub record IsConnection {V : Type 0} {way : Way V} (result : Served) (home : Home) (a b : Sides way) (bytes : List ℕ)
     (begun : List Begun) (rest : List ℕ) (read left : Option (List ℕ)) (reads : ℕ) : Type 0 where
   pub consumed : Consumes read left bytes
   pub begins : AreBegun bytes begun rest

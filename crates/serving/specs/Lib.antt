@@ -1,11 +1,9 @@
 pub mod Adding
-pub mod Bytes
-pub mod Framing
 pub mod Nodes
 pub mod Answering
 pub mod Asking
 pub mod Serving
-pub mod Pushing
-pub mod Calling
-pub mod Reaching
+pub mod Making
 pub mod Connection
+pub mod Running
+pub mod model

@@ -39,10 +39,10 @@ pushed hall m = record { to = m.to; bytes = spelling (framed hall m) }
 
 -- ---- one frame
 
--- what is done while a frame is served: the node takes an event, or a message is pushed to another
--- desk
+-- what is done while a frame is served: the node is called, with an event and its answer to it, or a
+-- message is pushed to another desk
 pub data Act : Type 0 where
-  Called : Event → Act
+  Called : Event → Result (List Message) NodeFault → Act
   Pushed : Message → Act
 
 -- where the service of a frame stands: the node, the messages that wait, how many more the desk may
@@ -80,7 +80,7 @@ answered s event r =
       seen = r.seen;
       waiting = waiting_after s.waiting r.result;
       left = s.left;
-      done = s.done ++ Called event ∷ [];
+      done = s.done ++ Called event r.result ∷ [];
       fates = later_fates s.fates;
     }
 
@@ -142,13 +142,13 @@ settle home s = settle_by home s.left s
 
 abbrev pub pushes_of : ℕ → List Act → List Push
 pushes_of hall [] = []
-pushes_of hall (Called e ∷ acts) = pushes_of hall acts
+pushes_of hall (Called e r ∷ acts) = pushes_of hall acts
 pushes_of hall (Pushed m ∷ acts) = pushed hall m ∷ pushes_of hall acts
 
 -- the node after the calls among these acts, which come to these fates
 abbrev pub seen_after : Home → Seen → List Act → List Fate → Seen
 seen_after home x [] fates = x
-seen_after home x (Called e ∷ acts) fates =
+seen_after home x (Called e r ∷ acts) fates =
     seen_after home (reply home x e (first_fate fates)).seen acts (later_fates fates)
 seen_after home x (Pushed m ∷ acts) fates = seen_after home x acts fates
 

@@ -1,11 +1,13 @@
 //! The frames that a piece of the stream gave.
 
 ghost use Rattle.std.specs.Prelude.{◌≡◌, ◌≤◌, ◌<◌, List};
+ghost use Rattle.serving.specs.Making.{outside_of};
 ghost use Rattle.std.specs.List.{AllByRecursion};
 ghost use Rattle.wire.specs.declared.frame.Frame.{Frame as FrameValue};
 ghost use Rattle.wire.specs.Ranges.{IsFrame};
 ghost use Rattle.learner.specs.Steps.{IsDesk};
-ghost use Rattle.serving.specs.Connection.{Begun, IsBatch, sides};
+ghost use Rattle.serving.specs.Connection.{Begun, sides};
+ghost use Rattle.serving.specs.model.Pieces.{IsBatch};
 
 use crate::desk::Desk;
 use crate::ends::{Close, End, FrameFault};
@@ -36,7 +38,9 @@ pub fn serve_batch<D: Desk, W: Write, P: Peers>(
     requires spelled { AllByRecursion IsFrame frames.items }
     requires open { count.old < 64 }
     ensures batch { (begun : List Begun) × (left : List FrameValue) × IsBatch result home
-        (sides (D.seen node.old) (W.contents writer.old) (P.handed peers.old)) (sides (D.seen node.new) (W.contents writer.new) (P.handed peers.new))
+        (sides (D.seen node.old) (W.contents writer.old)
+        (outside_of D.handles node.old (P.handed peers.old))) (sides (D.seen node.new)
+        (W.contents writer.new) (outside_of D.handles node.new (P.handed peers.new)))
         frames.items begun left count.old count.new }
     ensures home { D.home_of node.new ≡ D.home_of node.old }
 {

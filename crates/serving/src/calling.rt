@@ -3,7 +3,7 @@
 ghost use Rattle.std.specs.Prelude.{◌≡◌, List, Result, Err, IfOk, OnErr};
 ghost use Rattle.learner.specs.Ranges.{AreInRange};
 ghost use Rattle.serving.specs.Nodes.{Fate};
-ghost use Rattle.serving.specs.Calling.{Calls, LosesMessages};
+ghost use Rattle.serving.specs.model.Calling.{Calls, IsCall, LosesMessages};
 
 use crate::desk::Desk;
 use acceptor::NoMemory;
@@ -30,10 +30,12 @@ pub fn call<D: Desk>(
     ensures ok { IfOk result
         (λ answer. (fate : Fate)
         × Calls (D.home_of node.old) event fate (D.seen node.old) (D.seen node.new)
-        waiting.old.items waiting.new.items answer) }
+        waiting.old.items waiting.new.items answer
+        × IsCall D.handles (D.home_of node.old) event fate (D.seen node.old) node.old node.new) }
     ensures err { OnErr result
         ((fate : Fate)
-        × LosesMessages (D.home_of node.old) event fate (D.seen node.old) (D.seen node.new)) }
+        × LosesMessages (D.home_of node.old) event fate (D.seen node.old) (D.seen node.new)
+        × IsCall D.handles (D.home_of node.old) event fate (D.seen node.old) node.old node.new) }
     ensures in_range { let home = D.home_of node.old in
         AreInRange home.desks home.desk waiting.new.items }
     ensures home { D.home_of node.new ≡ D.home_of node.old }

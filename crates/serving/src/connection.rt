@@ -1,6 +1,9 @@
 //! A connection.
 
 ghost use Rattle.std.specs.Prelude.{◌≡◌, ℕ, List, Option};
+ghost use Rattle.node.specs.Handles.{Handles};
+ghost use Rattle.node.specs.Nodes.{words};
+ghost use Rattle.serving.specs.Making.{outside_of};
 ghost use Rattle.serving.specs.Connection.{Begun, IsConnection, sides};
 
 use crate::desk::Desk;
@@ -23,8 +26,11 @@ pub fn serve_source<D: Desk, S: Source, W: Write, P: Peers>(
     peers: &mut P,
 ) -> Served
     requires fresh { S.reads source.old ≡ 0 }
-    ensures served { (bytes : List ℕ) × (begun : List Begun) × (rest : List ℕ) × IsConnection result (D.home_of node.old)
-        (sides (D.seen node.old) (W.contents writer.old) (P.handed peers.old)) (sides (D.seen node.new) (W.contents writer.new) (P.handed peers.new))
+    ensures served { (bytes : List ℕ) × (begun : List Begun) × (rest : List ℕ) × IsConnection result
+        (D.home_of node.old)
+        (sides (D.seen node.old) (W.contents writer.old)
+        (outside_of D.handles node.old (P.handed peers.old))) (sides (D.seen node.new)
+        (W.contents writer.new) (outside_of D.handles node.new (P.handed peers.new)))
         bytes begun rest (S.remaining source.old) (S.remaining source.new) (S.reads source.new) }
     ensures home { D.home_of node.new ≡ D.home_of node.old }
 {
@@ -88,10 +94,19 @@ pub fn serve_connection<K: Keeper + Drop, R: Read + Drop, W: Write, P: Peers>(
     node: &mut Node<K>,
     peers: &mut P,
 ) -> Served
-    ensures served { (left : Option (List ℕ)) × (reads : ℕ) × (bytes : List ℕ) × (begun : List Begun) × (rest : List ℕ)
+    ensures served { (left : Option (List ℕ)) × (reads : ℕ) × (bytes : List ℕ) ×
+        (begun : List Begun) × (rest : List ℕ)
         × IsConnection result (K.home_of node.old.keeper)
-        (sides (record { desk = node.old.desk; is_down = node.old.is_down }) (W.contents writer.old) (P.handed peers.old))
-        (sides (record { desk = node.new.desk; is_down = node.new.is_down }) (W.contents writer.new) (P.handed peers.new))
+        (sides (record { desk = node.old.desk; is_down = node.old.is_down }) (W.contents writer.old)
+        (outside_of
+        (Handles
+        (words K.home_of K.failures_of K.is_down K.is_honest K.keeps K.may_hold K.may_break))
+        node.old (P.handed peers.old)))
+        (sides (record { desk = node.new.desk; is_down = node.new.is_down }) (W.contents writer.new)
+        (outside_of
+        (Handles
+        (words K.home_of K.failures_of K.is_down K.is_honest K.keeps K.may_hold K.may_break))
+        node.new (P.handed peers.new)))
         bytes begun rest (R.remaining reader) left reads }
     ensures home { K.home_of node.new.keeper ≡ K.home_of node.old.keeper }
 {

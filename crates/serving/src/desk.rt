@@ -1,8 +1,11 @@
 //! What serving needs of a desk.
 
-ghost use Rattle.std.specs.Prelude.{◌≡◌, ◌↔◌, ◌≤◌, ℕ, Err, Some, IfOk, OnOk, IfErr, true, false, length};
+ghost use Rattle.std.specs.Prelude.{◌≡◌, ◌↔◌, ◌≤◌, ℕ, List, Result, Err, Some, IfOk, OnOk, IfErr, true, false, length};
+ghost use Rattle.acceptor.specs.declared.message.Message.{Message as MessageValue};
+ghost use Rattle.learner.specs.declared.event.Event.{Event as EventValue};
 ghost use Rattle.learner.specs.Steps.{step, IsDesk};
 ghost use Rattle.world.specs.Answers.{told, sheet_at, NoSheetAt};
+ghost use Rattle.world.specs.declared.faults.NodeFault.{NodeFault as Refusal};
 ghost use Rattle.node.specs.Handles.{Takes};
 ghost use Rattle.serving.specs.Nodes.{Seen};
 ghost use Rattle.store.specs.declared.home.Home.{Home as Place};
@@ -24,6 +27,9 @@ pub trait Desk {
     /// The hall, its number, and the number of desks.
     ghost home_of: { Self → Place };
 
+    /// All that is said of a call: the desk before it, the event, the answer, the desk behind it.
+    ghost handles: { Self → EventValue → Result (List MessageValue) Refusal → Self → Type 0 };
+
     fn home(&self) -> Home
         ensures home { result ≡ home_of self.now }
         ensures ours { IsDesk result.desks result.desk }
@@ -31,8 +37,11 @@ pub trait Desk {
 
     /// Takes an event, and gives the messages that come of it.
     fn handle(&mut self, event: Event) -> Result<Messages, NodeFault>
-        ensures takes { let home = home_of self.old in let x = (seen self.old).desk in (seen self.old).is_down ≡ false
-            → Takes (step home.desks home.desk x event) home.desks home.desk x (seen self.new).desk result }
+        ensures handles { handles self.old event result self.new }
+        ensures takes { let home = home_of self.old in let x = (seen self.old).desk in
+            (seen self.old).is_down ≡ false
+            → Takes (step home.desks home.desk x event) home.desks home.desk x (seen self.new).desk
+            result }
         ensures ended { (seen self.old).is_down ≡ true
             → (result ≡ Err NodeFault.Down) × (seen self.new ≡ seen self.old) }
         ensures down { (result ≡ Err NodeFault.Down) ↔ ((seen self.new).is_down ≡ true) }
@@ -68,5 +77,6 @@ pub trait Desk {
         ensures sheet { let log = (seen self.now).desk.log in
             IfOk result (λ text. sheet_at style log position event round ≡ Some text.items) }
         ensures none { let log = (seen self.now).desk.log in
-            IfErr result (λ fault. NoSheetAt fault log position (sheet_at style log position event round)) };
+            IfErr result
+            (λ fault. NoSheetAt fault log position (sheet_at style log position event round)) };
 }

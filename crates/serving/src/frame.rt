@@ -1,9 +1,11 @@
 //! One frame.
 
 ghost use Rattle.std.specs.Prelude.{◌≡◌, ◌≤◌, List, IfOk, IfErr};
+ghost use Rattle.serving.specs.Making.{outside_of};
 ghost use Rattle.wire.specs.Ranges.{IsFrame};
 ghost use Rattle.learner.specs.Steps.{IsDesk};
-ghost use Rattle.serving.specs.Connection.{Begun, ServesOne, FailsIn, sides};
+ghost use Rattle.serving.specs.Connection.{Begun, FailsIn, sides};
+ghost use Rattle.serving.specs.model.Requests.{ServesOne};
 ghost use Rattle.serving.specs.Asking.{close_by};
 ghost use Rattle.serving.specs.Nodes.{Fate};
 
@@ -49,10 +51,14 @@ pub fn serve_frame<D: Desk, W: Write, P: Peers>(
     requires home { D.home_of node.old ≡ home }
     requires spelled { IsFrame frame }
     ensures ok { IfOk result (λ close. (fates : List Fate) × ServesOne home
-        (sides (D.seen node.old) (W.contents writer.old) (P.handed peers.old)) (sides (D.seen node.new) (W.contents writer.new) (P.handed peers.new))
+        (sides (D.seen node.old) (W.contents writer.old)
+        (outside_of D.handles node.old (P.handed peers.old))) (sides (D.seen node.new)
+        (W.contents writer.new) (outside_of D.handles node.new (P.handed peers.new)))
         (record { frame = frame; fates = fates }) close) }
     ensures err { IfErr result (λ e. (fates : List Fate) × FailsIn e home
-        (sides (D.seen node.old) (W.contents writer.old) (P.handed peers.old)) (sides (D.seen node.new) (W.contents writer.new) (P.handed peers.new))
+        (sides (D.seen node.old) (W.contents writer.old)
+        (outside_of D.handles node.old (P.handed peers.old))) (sides (D.seen node.new)
+        (W.contents writer.new) (outside_of D.handles node.new (P.handed peers.new)))
         (record { frame = frame; fates = fates })) }
     ensures home { D.home_of node.new ≡ D.home_of node.old }
 {

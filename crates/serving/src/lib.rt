@@ -1,21 +1,29 @@
-//! Serving a connection.
+//! Serving a desk: what is done for each frame that a connection brings, and how a connection ends.
+//!
+//! A frame of another desk is delivered, and a client's is answered. What a desk says to others is
+//! pushed to them as frames, and what it says to itself it hears at once.
 #![tactic(auto)]
 
 mod answering;
-pub mod batch;
-pub mod calling;
-pub mod connection;
-pub mod desk;
-pub mod ends;
-pub mod frame;
-pub mod framing;
+mod batch;
+mod calling;
+mod connection;
+mod desk;
+mod ends;
+mod frame;
+mod framing;
+pub mod laws;
 mod node_desk;
-pub mod peers;
-pub mod piece;
-pub mod pushing;
-pub mod request;
-pub mod requests;
-pub mod settling;
-pub mod source;
-pub mod taking;
-pub mod writing;
+mod peers;
+mod piece;
+mod pushing;
+mod request;
+mod requests;
+mod settling;
+mod source;
+mod taking;
+mod writing;
+
+pub use connection::serve_connection;
+pub use ends::{End, Served};
+pub use peers::Peers;

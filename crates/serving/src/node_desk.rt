@@ -1,5 +1,8 @@
 //! A node is a desk that serves.
 
+ghost use Rattle.node.specs.Handles.{Handles};
+ghost use Rattle.node.specs.Nodes.{words};
+
 use crate::desk::Desk;
 use acceptor::NoMemory;
 use acceptor::message::Messages;
@@ -15,6 +18,9 @@ impl<K: Keeper + Drop> Desk for Node<K> {
     ghost seen = { λ n. record { desk = n.desk; is_down = n.is_down } };
 
     ghost home_of = { λ n. K.home_of n.keeper };
+
+    ghost handles = { Handles
+        (words K.home_of K.failures_of K.is_down K.is_honest K.keeps K.may_hold K.may_break) };
 
     fn home(&self) -> Home {
         Node::home(self)

@@ -1,9 +1,11 @@
 //! A piece of the stream.
 
 ghost use Rattle.std.specs.Prelude.{◌≡◌, ◌≤◌, ◌<◌, ◌++◌, List, ℕ, None};
+ghost use Rattle.serving.specs.Making.{outside_of};
 ghost use Rattle.wire.specs.Stream.{Waits, front};
 ghost use Rattle.learner.specs.Steps.{IsDesk};
-ghost use Rattle.serving.specs.Connection.{Begun, IsPiece, sides};
+ghost use Rattle.serving.specs.Connection.{Begun, sides};
+ghost use Rattle.serving.specs.model.Pieces.{IsPiece};
 
 use crate::batch::serve_batch;
 use crate::desk::Desk;
@@ -32,7 +34,9 @@ pub fn serve_piece<D: Desk, W: Write, P: Peers>(
     requires open { count.old < 64 }
     requires unbroken { stream.old.fault ≡ None }
     ensures piece { (begun : List Begun) × (rest : List ℕ) × IsPiece result home
-        (sides (D.seen node.old) (W.contents writer.old) (P.handed peers.old)) (sides (D.seen node.new) (W.contents writer.new) (P.handed peers.new))
+        (sides (D.seen node.old) (W.contents writer.old)
+        (outside_of D.handles node.old (P.handed peers.old))) (sides (D.seen node.new)
+        (W.contents writer.new) (outside_of D.handles node.new (P.handed peers.new)))
         (stream.old.held ++ piece.now) begun rest count.old count.new stream.new }
     ensures home { D.home_of node.new ≡ D.home_of node.old }
 {

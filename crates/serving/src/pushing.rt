@@ -4,7 +4,7 @@ ghost use Rattle.std.specs.Prelude.{◌≡◌, ◌≤◌, [], ◌∷◌, map, Li
 ghost use Rattle.acceptor.specs.declared.message.Message.{Message as MessageValue};
 ghost use Rattle.learner.specs.Ranges.{IsInRange, AreInRange};
 ghost use Rattle.serving.specs.Adding.{Hands};
-ghost use Rattle.serving.specs.Pushing.{Leads, PushesPart};
+ghost use Rattle.serving.specs.model.Pushing.{Leads, PushesPart};
 ghost use Rattle.serving.specs.Serving.{pushed, in_front, from_own, to_others};
 
 use crate::framing::framed;

@@ -1,14 +1,15 @@
 //! A request: its calls, its pushes and its answer.
 
 ghost use Rattle.std.specs.Prelude.{◌≡◌, ◌≤◌, ℕ, [], None, Some, List, IfOk, OnOk, OnErr, IfSome};
+ghost use Rattle.serving.specs.Making.{outside_of};
 ghost use Rattle.learner.specs.Ranges.{AreInRange};
 ghost use Rattle.learner.specs.declared.event.Event.TheVariants.{Start};
-ghost use Rattle.serving.specs.Reaching.{Does, DoesPart, at};
+ghost use Rattle.serving.specs.model.Reaching.{Does, DoesPart, at};
 ghost use Rattle.serving.specs.Serving.{call, settle_by};
 ghost use Rattle.wire.specs.Ranges.{IsEntry};
 ghost use Rattle.serving.specs.Answering.{IsAnswer};
 ghost use Rattle.serving.specs.Asking.{AsksInRange};
-ghost use Rattle.serving.specs.Connection.{AnswersSome, FailsToAnswer};
+ghost use Rattle.serving.specs.model.Requests.{AnswersSome, FailsToAnswer};
 
 use crate::answering::{answer_first, asked, printed};
 use crate::calling::{Answer, call};
@@ -39,10 +40,12 @@ fn hear<D: Desk, P: Peers>(
     ensures ok { IfOk result
         (λ _.
         AnswersSome home (D.seen node.old) (D.seen node.new) (Request.Heard message) None
-        (P.handed peers.old) (P.handed peers.new)) }
+        (outside_of D.handles node.old (P.handed peers.old))
+        (outside_of D.handles node.new (P.handed peers.new))) }
     ensures err { OnErr result
         (FailsToAnswer home (D.seen node.old) (D.seen node.new) (Request.Heard message)
-        (P.handed peers.old) (P.handed peers.new)) }
+        (outside_of D.handles node.old (P.handed peers.old))
+        (outside_of D.handles node.new (P.handed peers.new))) }
     ensures home { D.home_of node.new ≡ D.home_of node.old }
 {
     take(alloc, home, node, peers, Event::Deliver(message))?;
@@ -61,10 +64,12 @@ fn tick<D: Desk, P: Peers>(
     ensures ok { IfOk result
         (λ w.
         AnswersSome home (D.seen node.old) (D.seen node.new) Request.Ticked (Some w)
-        (P.handed peers.old) (P.handed peers.new)) }
+        (outside_of D.handles node.old (P.handed peers.old))
+        (outside_of D.handles node.new (P.handed peers.new))) }
     ensures err { OnErr result
-        (FailsToAnswer home (D.seen node.old) (D.seen node.new) Request.Ticked (P.handed peers.old)
-        (P.handed peers.new)) }
+        (FailsToAnswer home (D.seen node.old) (D.seen node.new) Request.Ticked
+        (outside_of D.handles node.old (P.handed peers.old))
+        (outside_of D.handles node.new (P.handed peers.new))) }
     ensures in_range { IfOk result IsAnswer }
     ensures home { D.home_of node.new ≡ D.home_of node.old }
 {
@@ -83,10 +88,15 @@ fn start<D: Desk, P: Peers>(
     requires few { home.desks ≤ 5 }
     requires home { D.home_of node.old ≡ home }
     requires in_range { AreInRange home.desks home.desk waiting.old.items }
-    ensures ok { OnOk result ((last : ℕ) × Does home (λ s. settle_by home 16 (call home Start s)) (at (D.seen node.old) waiting.old.items 16)
-        (at (D.seen node.new) waiting.new.items last) (P.handed peers.old) (P.handed peers.new)) }
-    ensures err { OnErr result (DoesPart home (λ s. settle_by home 16 (call home Start s)) (at (D.seen node.old) waiting.old.items 16)
-        (D.seen node.new) (P.handed peers.old) (P.handed peers.new)) }
+    ensures ok { OnOk result ((last : ℕ) × Does home (λ s. settle_by home 16 (call home Start s))
+        (at (D.seen node.old) waiting.old.items 16)
+        (at (D.seen node.new) waiting.new.items last)
+        (outside_of D.handles node.old (P.handed peers.old))
+        (outside_of D.handles node.new (P.handed peers.new))) }
+    ensures err { OnErr result (DoesPart home (λ s. settle_by home 16 (call home Start s))
+        (at (D.seen node.old) waiting.old.items 16)
+        (D.seen node.new) (outside_of D.handles node.old (P.handed peers.old))
+        (outside_of D.handles node.new (P.handed peers.new))) }
     ensures empty { OnOk result (waiting.new.items ≡ []) }
     ensures home { D.home_of node.new ≡ D.home_of node.old }
 {
@@ -110,10 +120,12 @@ fn enter<D: Desk, P: Peers>(
     ensures ok { IfOk result
         (λ w.
         AnswersSome home (D.seen node.old) (D.seen node.new) (Request.Entered entry) (Some w)
-        (P.handed peers.old) (P.handed peers.new)) }
+        (outside_of D.handles node.old (P.handed peers.old))
+        (outside_of D.handles node.new (P.handed peers.new))) }
     ensures err { OnErr result
         (FailsToAnswer home (D.seen node.old) (D.seen node.new) (Request.Entered entry)
-        (P.handed peers.old) (P.handed peers.new)) }
+        (outside_of D.handles node.old (P.handed peers.old))
+        (outside_of D.handles node.new (P.handed peers.new))) }
     ensures in_range { IfOk result IsAnswer }
     ensures home { D.home_of node.new ≡ D.home_of node.old }
 {
@@ -140,11 +152,13 @@ pub fn serve_request<D: Desk, P: Peers>(
     requires in_range { AsksInRange request }
     ensures ok { IfOk result
         (λ w.
-        AnswersSome home (D.seen node.old) (D.seen node.new) request w (P.handed peers.old)
-        (P.handed peers.new)) }
+        AnswersSome home (D.seen node.old) (D.seen node.new) request w
+        (outside_of D.handles node.old (P.handed peers.old))
+        (outside_of D.handles node.new (P.handed peers.new))) }
     ensures err { OnErr result
-        (FailsToAnswer home (D.seen node.old) (D.seen node.new) request (P.handed peers.old)
-        (P.handed peers.new)) }
+        (FailsToAnswer home (D.seen node.old) (D.seen node.new) request
+        (outside_of D.handles node.old (P.handed peers.old))
+        (outside_of D.handles node.new (P.handed peers.new))) }
     ensures in_range { IfOk result (λ w. IfSome w IsAnswer) }
     ensures home { D.home_of node.new ≡ D.home_of node.old }
 {

@@ -1,10 +1,11 @@
 //! The messages of a frame, one after the other.
 
 ghost use Rattle.std.specs.Prelude.{◌≡◌, ◌≤◌, [], map, List, OnOk, OnErr};
+ghost use Rattle.serving.specs.Making.{outside_of};
 ghost use Rattle.learner.specs.Ranges.{AreInRange};
 ghost use Rattle.serving.specs.Adding.{Hands};
-ghost use Rattle.serving.specs.Pushing.{PushesPart};
-ghost use Rattle.serving.specs.Reaching.{Does, DoesPart, at};
+ghost use Rattle.serving.specs.model.Pushing.{PushesPart};
+ghost use Rattle.serving.specs.model.Reaching.{Does, DoesPart, at};
 ghost use Rattle.serving.specs.Serving.{pushed, to_others, settle_by};
 
 use crate::calling::call;
@@ -31,10 +32,15 @@ pub fn settle<D: Desk, P: Peers>(
     requires few { home.desks ≤ 5 }
     requires home { D.home_of node.old ≡ home }
     requires in_range { AreInRange home.desks home.desk waiting.old.items }
-    ensures ok { OnOk result (Does home (settle_by home left.old) (at (D.seen node.old) waiting.old.items left.old)
-        (at (D.seen node.new) waiting.new.items left.new) (P.handed peers.old) (P.handed peers.new)) }
-    ensures err { OnErr result (DoesPart home (settle_by home left.old) (at (D.seen node.old) waiting.old.items left.old)
-        (D.seen node.new) (P.handed peers.old) (P.handed peers.new)) }
+    ensures ok { OnOk result
+        (Does home (settle_by home left.old) (at (D.seen node.old) waiting.old.items left.old)
+        (at (D.seen node.new) waiting.new.items left.new)
+        (outside_of D.handles node.old (P.handed peers.old))
+        (outside_of D.handles node.new (P.handed peers.new))) }
+    ensures err { OnErr result (DoesPart home (settle_by home left.old)
+        (at (D.seen node.old) waiting.old.items left.old)
+        (D.seen node.new) (outside_of D.handles node.old (P.handed peers.old))
+        (outside_of D.handles node.new (P.handed peers.new))) }
     ensures empty { OnOk result (waiting.new.items ≡ []) }
     ensures home { D.home_of node.new ≡ D.home_of node.old }
 {

@@ -1,8 +1,9 @@
 //! An event, all that comes of it, and Start where the log grew.
 
 ghost use Rattle.std.specs.Prelude.{◌≡◌, ◌≤◌, ℕ, [], List, IfOk, OnErr};
+ghost use Rattle.serving.specs.Making.{outside_of};
 ghost use Rattle.serving.specs.Nodes.{Fate};
-ghost use Rattle.serving.specs.Reaching.{DoesCall, DoesTake, DoesPart, at};
+ghost use Rattle.serving.specs.model.Reaching.{DoesCall, DoesTake, DoesPart, at};
 ghost use Rattle.serving.specs.Serving.{Act, call, settle_by, take, grew};
 
 use crate::calling::{Answer, call};
@@ -30,10 +31,15 @@ pub fn call_and_settle<D: Desk, P: Peers>(
 ) -> Result<Answer, NoMemory>
     requires few { home.desks ≤ 5 }
     requires home { D.home_of node.old ≡ home }
-    ensures ok { IfOk result (λ answer. (acts : List Act) × (past : List Fate) × DoesCall home left.old left.new event answer
-        (D.seen node.old) (D.seen node.new) acts past (P.handed peers.old) (P.handed peers.new)) }
-    ensures err { OnErr result (DoesPart home (λ s. settle_by home left.old (call home event s)) (at (D.seen node.old) [] left.old)
-        (D.seen node.new) (P.handed peers.old) (P.handed peers.new)) }
+    ensures ok { IfOk result (λ answer. (acts : List Act) × (past : List Fate) × DoesCall home
+        left.old left.new event answer
+        (D.seen node.old) (D.seen node.new) acts past
+        (outside_of D.handles node.old (P.handed peers.old))
+        (outside_of D.handles node.new (P.handed peers.new))) }
+    ensures err { OnErr result (DoesPart home (λ s. settle_by home left.old (call home event s))
+        (at (D.seen node.old) [] left.old)
+        (D.seen node.new) (outside_of D.handles node.old (P.handed peers.old))
+        (outside_of D.handles node.new (P.handed peers.new))) }
     ensures home { D.home_of node.new ≡ D.home_of node.old }
 {
     let mut waiting = VecDeque::new(alloc);
@@ -60,11 +66,15 @@ pub fn take<D: Desk, P: Peers>(
 ) -> Result<Answer, NoMemory>
     requires few { home.desks ≤ 5 }
     requires home { D.home_of node.old ≡ home }
-    ensures ok { IfOk result (λ answer. (left : ℕ) × (acts : List Act) × (past : List Fate) × DoesTake home left event answer
-        (D.seen node.old) (D.seen node.new) acts past (P.handed peers.old) (P.handed peers.new)) }
+    ensures ok { IfOk result (λ answer. (left : ℕ) × (acts : List Act) × (past : List Fate) ×
+        DoesTake home left event answer
+        (D.seen node.old) (D.seen node.new) acts past
+        (outside_of D.handles node.old (P.handed peers.old))
+        (outside_of D.handles node.new (P.handed peers.new))) }
     ensures err { OnErr result
         (DoesPart home (take home event) (at (D.seen node.old) [] 16) (D.seen node.new)
-        (P.handed peers.old) (P.handed peers.new)) }
+        (outside_of D.handles node.old (P.handed peers.old))
+        (outside_of D.handles node.new (P.handed peers.new))) }
     ensures home { D.home_of node.new ≡ D.home_of node.old }
 {
     let before = node.log().len();

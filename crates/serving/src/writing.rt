@@ -6,53 +6,17 @@ ghost use Rattle.learner.specs.Steps.{IsDesk};
 ghost use Rattle.serving.specs.Answering.{IsAnswer};
 ghost use Rattle.serving.specs.Connection.{answer_frame, answer_bytes, framed_answer};
 ghost use Rattle.std.specs.Io.KnownBytes.{Appends};
-ghost use Rattle.serving.specs.Bytes.{AppendsPart};
+ghost use Rattle.lines.specs.Bytes.{AppendsPart};
 ghost use Rattle.wire.specs.Ranges.{IsFrame};
 ghost use Rattle.wire.specs.Spelling.{spelling};
-ghost use Rattle.serving.specs.Bytes.{WriteEnds};
+ghost use Rattle.serving.specs.model.Writing.{WriteEnds};
 
 use crate::ends::FrameFault;
+use lines::write_text;
 use std::alloc::Global;
 use std::io::Write;
 use store::home::Home;
 use wire::{Frame, What, encode};
-
-/// A write failed.
-#[derive(Clone, Copy, Debug)]
-pub struct WriteFailed;
-
-/// Writes all bytes of a text. Where a write fails, a front part of the text is written.
-fn write_bytes<W: Write>(writer: &mut W, text: &[u8]) -> Result<(), WriteFailed>
-    ensures ok { OnOk result (Appends (W.contents writer.old) (W.contents writer.new) text.now) }
-    ensures err { OnErr result
-        (AppendsPart (W.contents writer.old) (W.contents writer.new) text.now) }
-{
-    let mut rest = text;
-    while !rest.is_empty() {
-        match writer.write(rest) {
-            Ok(0) => return Err(WriteFailed),
-            Ok(count) => {
-                let (_, after) = rest.split_at(count);
-                rest = after;
-            }
-            Err(_) => return Err(WriteFailed),
-        }
-    }
-    Ok(())
-}
-
-/// Writes a text and flushes the writer. Where that fails, a front part of the text is written.
-pub fn write_text<W: Write>(writer: &mut W, text: &[u8]) -> Result<(), WriteFailed>
-    ensures ok { OnOk result (Appends (W.contents writer.old) (W.contents writer.new) text.now) }
-    ensures err { OnErr result
-        (AppendsPart (W.contents writer.old) (W.contents writer.new) text.now) }
-{
-    write_bytes(writer, text)?;
-    match writer.flush() {
-        Ok(()) => Ok(()),
-        Err(_) => Err(WriteFailed),
-    }
-}
 
 /// Writes a frame. Where memory is refused nothing is written.
 pub fn write_frame<W: Write>(alloc: Global, frame: &Frame, writer: &mut W) -> Result<(), FrameFault>

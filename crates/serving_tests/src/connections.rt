@@ -3,9 +3,7 @@
 ghost use Rattle.std.specs.Prelude.{None};
 
 use node::{Node, Told};
-use serving::connection::serve_connection;
-use serving::ends::{End, Served};
-use serving::peers::Peers;
+use serving::{End, Peers, Served, serve_connection};
 use std::alloc::Global;
 use std::io;
 use std::io::Write;
@@ -21,11 +19,11 @@ const SUBMIT: &[u8] = b"\0\0\0\x1d\x01\0\0\0\x07\0\x01\x10\0\0\0\0\0\0\0\x05\0\x
 const FOREIGN: &[u8] = b"\0\0\0\x1d\x01\0\0\0\x08\0\x01\x10\0\0\0\0\0\0\0\x05\0\x0bCLOSE 333 1";
 
 /// Submit, and Ask for the id 5.
-const SUBMIT_ASK: &[u8] =
+pub(crate) const SUBMIT_ASK: &[u8] =
     b"\0\0\0\x1d\x01\0\0\0\x07\0\x01\x10\0\0\0\0\0\0\0\x05\0\x0bCLOSE 333 1\0\0\0\x10\x01\0\0\0\x07\0\x01\x11\0\0\0\0\0\0\0\x05";
 
 /// Taken 5, and Told that 5 is pending.
-const TAKEN_PENDING: &[u8] =
+pub(crate) const TAKEN_PENDING: &[u8] =
     b"\0\0\0\x10\x01\0\0\0\x07\x01\0\x20\0\0\0\0\0\0\0\x05\0\0\0\x11\x01\0\0\0\x07\x01\0\x21\0\0\0\0\0\0\0\x05\x01";
 
 /// Prepare of ballot (1, 1) at position 0, to desks 2 and 3, each behind its receiver's number.
@@ -33,14 +31,14 @@ const PREPARES: &[u8] =
     b"\x02\0\0\0\x11\x01\0\0\0\x07\x01\x02\x01\0\0\0\x01\x01\0\0\0\0\x03\0\0\0\x11\x01\0\0\0\x07\x01\x03\x01\0\0\0\x01\x01\0\0\0\0";
 
 /// Tick from a client.
-const TICK: &[u8] = b"\0\0\0\x08\x01\0\0\0\x07\0\x01\x13";
+pub(crate) const TICK: &[u8] = b"\0\0\0\x08\x01\0\0\0\x07\0\x01\x13";
 
-const FINE: &[u8] = b"\0\0\0\x08\x01\0\0\0\x07\x01\0\x24";
+pub(crate) const FINE: &[u8] = b"\0\0\0\x08\x01\0\0\0\x07\x01\0\x24";
 
 /// Keeps what is pushed: each frame behind its receiver's number.
 #[derive(Drop)]
-struct Kept {
-    bytes: Vec<u8>,
+pub(crate) struct Kept {
+    pub(crate) bytes: Vec<u8>,
 }
 
 impl Peers for Kept {
@@ -87,7 +85,7 @@ impl Write for Narrow {
     }
 }
 
-fn desk(alloc: Global) -> Result<Node<MemoryKeeper>, Fail> {
+pub(crate) fn desk(alloc: Global) -> Result<Node<MemoryKeeper>, Fail> {
     Ok(Node::open(alloc, MemoryKeeper::new(alloc, 7, 1, 3)?)?)
 }
 

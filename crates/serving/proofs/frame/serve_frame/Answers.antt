@@ -1,7 +1,7 @@
 use Rattle.std.proofs.Common.{rules, sym, ap, ◌∙◌}
 use Rattle.std.proofs.KnownBytes.{Appends-nil}
 use Rattle.serving.specs.Asking.{close_by}
-use Rattle.serving.proofs.Served.{serves, answer_fails, request_fails}
+use Rattle.serving.proofs.OneFrame.{serves, answer_fails, request_fails}
 use Rattle.serving.proofs.Parts.{given_err}
 use Rattle.serving.proofs.frame.serve_frame.Goals as goal
 

@@ -1,7 +1,7 @@
 use Rattle.std.proofs.Common.{List, length}
 use Rattle.acceptor.specs.declared.message.Message.{Message}
 use Rattle.learner.specs.Ranges.{AreInRange}
-use Rattle.serving.specs.Pushing.{PushesUntil}
+use Rattle.serving.specs.model.Pushing.{PushesUntil}
 use Rattle.serving.proofs.pushing.push_front.Given as goal
 
 -- those that were taken are pushed

@@ -1,7 +1,7 @@
 use Rattle.std.proofs.Common.{List, length}
 use Rattle.acceptor.specs.declared.message.Message.{Message}
 use Rattle.learner.specs.Ranges.{AreInRange}
-use Rattle.serving.specs.Pushing.{PushesOthers}
+use Rattle.serving.specs.model.Pushing.{PushesOthers}
 use Rattle.serving.proofs.pushing.push_others.Given as goal
 
 abbrev pub invariant-loop-message : goal.invariant-loop-message

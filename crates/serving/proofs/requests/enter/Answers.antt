@@ -15,16 +15,17 @@ returns-in_err-answer-clause-err g c =
     given_err c.from_residual.result
     (fails c.args.home (enter c.args.home c.args.entry) (Entered c.args.entry) _ _ _ _
     (λ fates. refl)
-    (entered_lost c.args.home (g.D.Desk.home_of c.args.node.now) c.args.entry _ _ _ c.requires.home
+    (entered_lost g.D.Desk.handles c.args.home (g.D.Desk.home_of c.args.node.now) c.args.entry _ _
+    c.args.node.now c.call.new.node (g.P.Peers.handed c.args.peers.now) c.requires.home
     c.in_err-answer.ensures.err))
 
 pub returns-then-ne-clause-ok : goal.returns-then-ne-clause-ok
 returns-then-ne-clause-ok g c =
     let other : (c.in_ok-answer.answer ≡ Taken) → ⊥ = search rules in
-    entered_not c.args.home (g.D.Desk.home_of c.args.node.now) c.args.entry
+    entered_not g.D.Desk.handles c.args.home (g.D.Desk.home_of c.args.node.now) c.args.entry
     (g.D.Desk.seen c.args.node.now) (g.D.Desk.seen c.call.new.node)
     c.new-waiting.result.items c.call.new.waiting.items c.in_ok-answer.answer c.answer_first.result
-    (g.P.Peers.handed c.args.peers.now)
+    c.args.node.now c.call.new.node (g.P.Peers.handed c.args.peers.now)
     c.requires.home c.new-waiting.ensures.items other c.in_ok-answer.ensures.ok
     (c.answer_first.ensures.what
     ∙ ap (λ z. answer_first (what.Taken z) c.in_ok-answer.answer (g.D.Desk.seen c.call.new.node))
@@ -36,19 +37,21 @@ returns-in_err-start-clause-err g c =
     given_err c.from_residual-in_err-start.result
     (fails c.args.home (enter c.args.home c.args.entry) (Entered c.args.entry) _ _ _ _
     (λ fates. refl)
-    (entered_part c.args.home (g.D.Desk.home_of c.args.node.now) c.args.entry
+    (entered_part g.D.Desk.handles c.args.home (g.D.Desk.home_of c.args.node.now) c.args.entry
     (g.D.Desk.seen c.args.node.now) (g.D.Desk.seen c.call.new.node) (g.D.Desk.seen c.start.new.node)
-    c.new-waiting.result.items c.call.new.waiting.items c.in_ok-answer.answer _ _
+    c.new-waiting.result.items c.call.new.waiting.items c.in_ok-answer.answer
+    c.args.node.now c.call.new.node (g.P.Peers.handed c.args.peers.now) _
     c.requires.home c.new-waiting.ensures.items taken c.in_ok-answer.ensures.ok
     c.in_err-start.ensures.err))
 
 pub returns-clause-ok : goal.returns-clause-ok
 returns-clause-ok g c =
     let taken : c.in_ok-answer.answer ≡ Taken = search rules in
-    entered_all c.args.home (g.D.Desk.home_of c.args.node.now) c.args.entry
+    entered_all g.D.Desk.handles c.args.home (g.D.Desk.home_of c.args.node.now) c.args.entry
     (g.D.Desk.seen c.args.node.now) (g.D.Desk.seen c.call.new.node) (g.D.Desk.seen c.start.new.node)
     c.new-waiting.result.items c.call.new.waiting.items c.start.new.waiting.items
-    c.in_ok-start.ensures.ok.0 c.in_ok-answer.answer c.answer_first-2.result _ _
+    c.in_ok-start.ensures.ok.0 c.in_ok-answer.answer c.answer_first-2.result
+    c.args.node.now c.call.new.node (g.P.Peers.handed c.args.peers.now) _
     c.requires.home c.new-waiting.ensures.items c.in_ok-start.ensures.empty taken
     c.in_ok-answer.ensures.ok c.in_ok-start.ensures.ok.1
     (c.answer_first-2.ensures.what

@@ -1,9 +1,11 @@
 use Rattle.std.proofs.Common.{◌≡◌, sym, ◌∙◌, suc, [], ◌∷◌, ◌++◌, ◌-◌, map, subst, arith}
 use Rattle.learner.specs.declared.event.Event.TheVariants.{Deliver}
-use Rattle.serving.specs.Calling.{Calls}
-use Rattle.serving.specs.Serving.{Called, Pushed, settle_by, in_front, to_others}
-use Rattle.serving.proofs.Handing.{Hands-nil}
-use Rattle.serving.proofs.Reached.{stays, goes_on, calls_once, settles_one_at, settles_none_at, settles_last_at, hands_pushes, hands_call, leads_none, leads_some, on_ok}
+use Rattle.serving.specs.model.Calling.{Calls}
+use Rattle.serving.specs.Making.{outside_of}
+use Rattle.serving.specs.model.Reaching.{did_call}
+use Rattle.serving.specs.Serving.{Pushed, settle_by, in_front, to_others}
+use Rattle.serving.proofs.Makings.{Makes-nil, Makes-trans, Makes-pushes, Makes-call}
+use Rattle.serving.proofs.Reached.{stays, goes_on, calls_once, settles_one_at, settles_none_at, settles_last_at, leads_none, leads_some, on_ok}
 use Rattle.serving.proofs.Parts.{part_front, part_last, part_call, on_err, given_err}
 use Rattle.serving.proofs.settling.settle.Goals as goal
 
@@ -11,7 +13,7 @@ pub loop-left-init : goal.loop-left-init
 loop-left-init g c = record {
   range = c.requires.in_range;
   home = c.requires.home;
-  so_far = ([], [], stays c.args.home _ _, Hands-nil _);
+  so_far = ([], [], stays c.args.home _ _, Makes-nil c.args.home.hall _);
 }
 
 pub returns-in_default-clause-ok : goal.returns-in_default-clause-ok
@@ -27,8 +29,8 @@ returns-in_default-clause-ok g c =
       kept.so_far.1 ++ [],
       record {
         reaches = goes_on home _ _ _ _ _ _ kept.so_far.0 _ kept.so_far.1 [] kept.so_far.2 last;
-        handed =
-            hands_pushes home.hall _ _ _ kept.so_far.0 _ kept.so_far.3
+        made =
+            Makes-pushes home.hall _ c.loop-left.node _ _ kept.so_far.0 _ kept.so_far.3
             c.in_ok-message.ensures.pushed;
       },
     )
@@ -55,18 +57,24 @@ loop-left-preserved g c =
     kept.home called.1 in
     let then =
     calls_once home (settle_by home k) (Deliver c.in-Some.message) called.0 x y _ _ k _ h in
+    let delivered = did_call home (Deliver c.in-Some.message) called.0 x in
+    let between = g.P.Peers.handed c.push_front.new.peers in
     record {
       range = rw (sym kept.home) c.call.ensures.in_range;
       home = c.call.ensures.home ∙ kept.home;
       so_far = (
-        (kept.so_far.0 ++ map (λ m. Pushed m) front) ++ Called (Deliver c.in-Some.message) ∷ [],
+        (kept.so_far.0 ++ map (λ m. Pushed m) front) ++ delivered ∷ [],
         (kept.so_far.1 ++ []) ++ called.0 ∷ [],
         goes_on home _ _ _ _ _ _ _ _ _ _
             (goes_on home _ _ _ _ _ _ kept.so_far.0 _ kept.so_far.1 [] kept.so_far.2 one) then,
-        hands_call home.hall (g.P.Peers.handed c.args.peers.now)
-            (g.P.Peers.handed c.push_front.new.peers) (kept.so_far.0 ++ map (λ m. Pushed m) front)
-            (Deliver c.in-Some.message)
-            (hands_pushes home.hall _ _ _ kept.so_far.0 _ kept.so_far.3 c.in_ok-message.ensures.pushed),
+        Makes-trans home.hall _ (outside_of g.D.Desk.handles c.loop-left.node between)
+            (outside_of g.D.Desk.handles c.call.new.node between)
+            (kept.so_far.0 ++ map (λ m. Pushed m) front) (delivered ∷ [])
+            (Makes-pushes home.hall _ c.loop-left.node _ _ kept.so_far.0 _ kept.so_far.3
+            c.in_ok-message.ensures.pushed)
+            (Makes-call g.D.Desk.handles home (g.D.Desk.home_of c.loop-left.node)
+            (Deliver c.in-Some.message) called.0 x c.loop-left.node c.call.new.node between
+            kept.home called.2),
       );
     }
 
@@ -82,7 +90,8 @@ returns-clause-ok g c =
         reaches = goes_on home _ _ _ _ _ _ kept.so_far.0 _ kept.so_far.1 [] kept.so_far.2
             (settles_last_at home c.loop-left.left (g.D.Desk.seen c.loop-left.node) _ _
             (omega (arith, c.loop-left-test.false)) empty);
-        handed = hands_pushes home.hall _ _ _ kept.so_far.0 _ kept.so_far.3 pushed;
+        made =
+            Makes-pushes home.hall _ c.loop-left.node _ _ kept.so_far.0 _ kept.so_far.3 pushed;
       },
     ))
     c.push_others.ensures.pushed c.push_others.ensures.empty
@@ -95,7 +104,8 @@ returns-in_err-message-clause-err g c =
     given_err c.from_residual.result
     (part_front home (settle_by home c.args.left.now) _ c.loop-left.left (c.loop-left.left - 1)
     (g.D.Desk.seen c.loop-left.node) c.loop-left.waiting.items
-    kept.so_far.0 kept.so_far.1 _ _ _ is kept.so_far.2 kept.so_far.3 c.in_err-message.ensures.err)
+    kept.so_far.0 kept.so_far.1 _ c.loop-left.node _ _ is kept.so_far.2 kept.so_far.3
+    c.in_err-message.ensures.err)
 
 pub returns-in_err-call-clause-err : goal.returns-in_err-call-clause-err
 returns-in_err-call-clause-err g c =
@@ -110,11 +120,14 @@ returns-in_err-call-clause-err g c =
     c.push_front.new.waiting.items c.in-Some.message is
     (leads_some _ _ _ _ c.in-Some.is c.in_ok-message.ensures.own) in
     given_err c.from_residual-in_err-call.result
-    (part_call home (g.D.Desk.home_of c.loop-left.node) (settle_by home c.args.left.now) _ k k
-    (Deliver c.in-Some.message) x (g.D.Desk.seen c.call.new.node) c.push_front.new.waiting.items
-    (kept.so_far.0 ++ map (λ m. Pushed m) front) (kept.so_far.1 ++ []) _ _ kept.home
+    (part_call g.D.Desk.handles home (g.D.Desk.home_of c.loop-left.node)
+    (settle_by home c.args.left.now) _ k k (Deliver c.in-Some.message) x
+    (g.D.Desk.seen c.call.new.node) c.push_front.new.waiting.items
+    (kept.so_far.0 ++ map (λ m. Pushed m) front) (kept.so_far.1 ++ []) _ c.loop-left.node
+    c.call.new.node (g.P.Peers.handed c.push_front.new.peers) kept.home
     (goes_on home _ _ _ _ _ _ kept.so_far.0 _ kept.so_far.1 [] kept.so_far.2 one)
-    (hands_pushes home.hall _ _ _ kept.so_far.0 _ kept.so_far.3 c.in_ok-message.ensures.pushed)
+    (Makes-pushes home.hall _ c.loop-left.node _ _ kept.so_far.0 _ kept.so_far.3
+    c.in_ok-message.ensures.pushed)
     c.in_err-call.ensures.err)
 
 pub returns-clause-err : goal.returns-clause-err
@@ -125,6 +138,7 @@ returns-clause-err g c =
     (λ part.
     part_last home (settle_by home c.args.left.now) _ c.loop-left.left
     (g.D.Desk.seen c.loop-left.node) c.loop-left.waiting.items
-    kept.so_far.0 kept.so_far.1 _ _ _ (omega (arith, c.loop-left-test.false)) kept.so_far.2
+    kept.so_far.0 kept.so_far.1 _ c.loop-left.node _ _ (omega (arith, c.loop-left-test.false))
+    kept.so_far.2
     kept.so_far.3 part)
     c.push_others.ensures.err

@@ -1,9 +1,9 @@
 use Rattle.std.proofs.Common.{List, ◌≡◌}
 use Rattle.learner.specs.Ranges.{AreInRange}
-use Rattle.serving.specs.Adding.{Hands}
+use Rattle.serving.specs.Making.{outside_of, Makes}
 use Rattle.serving.specs.Nodes.{Fate}
-use Rattle.serving.specs.Reaching.{Reaches, at}
-use Rattle.serving.specs.Serving.{Act, settle_by, pushes_of}
+use Rattle.serving.specs.model.Reaching.{Reaches, at}
+use Rattle.serving.specs.Serving.{Act, settle_by}
 use Rattle.serving.proofs.settling.settle.Given as goal
 
 -- what is to be done comes to what is left of it
@@ -15,8 +15,9 @@ invariant-loop-left g l = record {
       × Reaches l.home (settle_by l.home l.initial.left)
       (at (g.D.Desk.seen l.initial.node) l.initial.waiting.items l.initial.left)
       (settle_by l.home l.left) (at (g.D.Desk.seen l.node) l.waiting.items l.left) acts past
-      × Hands (g.P.Peers.handed l.initial.peers) (g.P.Peers.handed l.peers)
-      (pushes_of l.home.hall acts);
+      × Makes l.home.hall
+      (outside_of g.D.Desk.handles l.initial.node (g.P.Peers.handed l.initial.peers))
+      (outside_of g.D.Desk.handles l.node (g.P.Peers.handed l.peers)) acts;
 }
 
 abbrev pub decreases-loop-left : goal.decreases-loop-left

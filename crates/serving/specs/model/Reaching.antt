@@ -3,11 +3,11 @@ use Rattle.std.specs.Prelude.{◌≡◌, ℕ, List, [], ◌∷◌, ◌++◌, Opt
 use Rattle.acceptor.specs.declared.message.Message.{Message}
 use Rattle.learner.specs.declared.event.Event.{Event}
 use Rattle.store.specs.declared.home.Home.{Home}
-use Rattle.serving.specs.Adding.{Push, Hands}
 use Rattle.serving.specs.Nodes.{Seen, Fate, reply}
 use Rattle.serving.specs.declared.calling.Answer.{Answer}
 use Rattle.serving.specs.Answering.{answer_of}
-use Rattle.serving.specs.Serving.{Act, Service, pushes_of, seen_after, call, settle_by, take}
+use Rattle.serving.specs.Making.{Way, Outside, Makes}
+use Rattle.serving.specs.Serving.{Act, Called, Service, seen_after, call, settle_by, take}
 
 -- the node, the messages that wait, and how many more the desk may deliver to itself
 pub record Place : Type 0 where
@@ -32,39 +32,43 @@ pub record Reaches (home : Home) (all : Service → Service) (first : Place)
       → seen_after home first.seen (acts ++ more) (past ++ later)
       ≡ seen_after home second.seen more later
 
+-- the call that comes to this fate
+abbrev pub did_call : Home → Event → Fate → Seen → Act
+did_call home event fate x = Called event (reply home x event fate).result
+
 -- acts are only added
 abbrev pub OnlyAdds : (Service → Service) → Type 0
 OnlyAdds f = (s : Service) → (more : List Act) × ((f s).done ≡ s.done ++ more)
 
--- all of it was done, and what it pushes was pushed
-pub record Did (home : Home) (all : Service → Service) (first second : Place) (acts : List Act)
-    (past : List Fate) (old new : Option (List Push)) : Type 0 where
+-- all of it was done: its calls were made and its messages pushed
+pub record Did {V : Type 0} {way : Way V} (home : Home) (all : Service → Service) (first second : Place) (acts : List Act)
+    (past : List Fate) (old new : Outside way) : Type 0 where
   pub reaches : Reaches home all first (λ s. s) second acts past
-  pub handed : Hands old new (pushes_of home.hall acts)
+  pub made : Makes home.hall old new acts
 
-abbrev pub Does : Home → (Service → Service) → Place → Place → Option (List Push)
-    → Option (List Push) → Type 0
+abbrev pub Does : {V : Type 0} → {way : Way V} → Home → (Service → Service) → Place → Place → Outside way
+    → Outside way → Type 0
 Does home all first second old new =
     (acts : List Act) × (past : List Fate) × Did home all first second acts past old new
 
 -- a front part of it was done, of which this is what was seen of the node last
-pub record DidPart (home : Home) (all : Service → Service) (first : Place) (shown : Seen)
+pub record DidPart {V : Type 0} {way : Way V} (home : Home) (all : Service → Service) (first : Place) (shown : Seen)
     (acts : List Act) (past : List Fate) (rest : Service → Service) (second : Place)
-    (old new : Option (List Push)) : Type 0 where
+    (old new : Outside way) : Type 0 where
   pub reaches : Reaches home all first rest second acts past
   pub adds : OnlyAdds rest
   pub last : second.seen ≡ shown
-  pub handed : Hands old new (pushes_of home.hall acts)
+  pub made : Makes home.hall old new acts
 
-abbrev pub DoesPart : Home → (Service → Service) → Place → Seen → Option (List Push)
-    → Option (List Push) → Type 0
+abbrev pub DoesPart : {V : Type 0} → {way : Way V} → Home → (Service → Service) → Place → Seen → Outside way
+    → Outside way → Type 0
 DoesPart home all first last old new =
     (acts : List Act) × (past : List Fate) × (rest : Service → Service) × (second : Place)
     × DidPart home all first last acts past rest second old new
 
 -- an event was taken with all that comes of it, and the node's answer is that of the first fate
-pub record DoesCall (home : Home) (left last : ℕ) (event : Event) (answer : Answer) (x y : Seen)
-    (acts : List Act) (past : List Fate) (old new : Option (List Push)) : Type 0 where
+pub record DoesCall {V : Type 0} {way : Way V} (home : Home) (left last : ℕ) (event : Event) (answer : Answer) (x y : Seen)
+    (acts : List Act) (past : List Fate) (old new : Outside way) : Type 0 where
   pub did : Did home (λ s. settle_by home left (call home event s)) (at x [] left) (at y [] last)
       acts past old new
   pub fate : Fate
@@ -73,8 +77,8 @@ pub record DoesCall (home : Home) (left last : ℕ) (event : Event) (answer : An
   pub answer_is : answer ≡ answer_of (reply home x event fate).result
 
 -- the same, with Start where the log grew
-pub record DoesTake (home : Home) (last : ℕ) (event : Event) (answer : Answer) (x y : Seen)
-    (acts : List Act) (past : List Fate) (old new : Option (List Push)) : Type 0 where
+pub record DoesTake {V : Type 0} {way : Way V} (home : Home) (last : ℕ) (event : Event) (answer : Answer) (x y : Seen)
+    (acts : List Act) (past : List Fate) (old new : Outside way) : Type 0 where
   pub did : Did home (take home event) (at x [] 16) (at y [] last) acts past old new
   pub fate : Fate
   pub others : List Fate

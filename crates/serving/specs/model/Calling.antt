@@ -6,6 +6,7 @@ use Rattle.serving.specs.declared.calling.Answer.{Answer}
 use Rattle.store.specs.declared.home.Home.{Home}
 use Rattle.serving.specs.Nodes.{Seen, Fate, reply}
 use Rattle.serving.specs.Answering.{answer_of}
+use Rattle.serving.specs.Making.{Way}
 use Rattle.serving.specs.Serving.{waiting_after}
 
 -- the call came to this fate
@@ -14,6 +15,10 @@ pub record Calls (home : Home) (event : Event) (fate : Fate) (x y : Seen) (ms mo
   pub answer_is : answer ≡ answer_of (reply home x event fate).result
   pub seen : y ≡ (reply home x event fate).seen
   pub waits : more ≡ waiting_after ms (reply home x event fate).result
+
+-- it is a call of the node's, with the answer of this fate
+abbrev pub IsCall : {V : Type 0} → Way V → Home → Event → Fate → Seen → V → V → Type 0
+IsCall way home event fate x u v = way u event (reply home x event fate).result v
 
 -- the call came to this fate, and its messages were lost
 pub record LosesMessages (home : Home) (event : Event) (fate : Fate) (x y : Seen) : Type 0 where

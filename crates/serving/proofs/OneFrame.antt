@@ -6,10 +6,12 @@ use Rattle.store.specs.declared.home.Home.{Home}
 use Rattle.wire.specs.Spelling.{spelling}
 use Rattle.wire.specs.declared.frame.Frame.{Frame}
 use Rattle.wire.specs.declared.frame.What.{What}
-use Rattle.serving.specs.Adding.{Push}
+use Rattle.serving.specs.Making.{Way, Outside, outside_of}
 use Rattle.serving.specs.Asking.{request, ending, close_by}
-use Rattle.serving.specs.Bytes.{AppendsPart, WriteEnds}
-use Rattle.serving.specs.Connection.{Answers, AnswersSome, AnswersPart, FailsToAnswer, ServesOne, FailsIn, serve_frame, close_of, answer_frame, framed_answer, answer_bytes, sides}
+use Rattle.lines.specs.Bytes.{AppendsPart}
+use Rattle.serving.specs.model.Writing.{WriteEnds}
+use Rattle.serving.specs.Connection.{FailsIn, serve_frame, close_of, answer_frame, framed_answer, answer_bytes, sides}
+use Rattle.serving.specs.model.Requests.{Answers, AnswersSome, AnswersPart, FailsToAnswer, ServesOne}
 use Rattle.serving.specs.Nodes.{Seen, Fate}
 use Rattle.serving.specs.Serving.{Act, served}
 use Rattle.serving.specs.declared.ends.Close.{Close}
@@ -18,8 +20,8 @@ use Rattle.serving.specs.declared.ends.FrameFault.TheVariants as fault
 use Rattle.serving.specs.declared.request.Request.{Request}
 
 -- the frame was served whole
-pub serves : (home : Home) (f : Frame) (r : Request) (x y : Seen) (w : Option What)
-    (close : Option Close) (o n : Option (List ℕ)) (a b : Option (List Push))
+pub serves : {V : Type 0} {way : Way V} (home : Home) (f : Frame) (r : Request) (x y : Seen) (w : Option What)
+    (close : Option Close) (o n : Option (List ℕ)) (a b : Outside way)
     → r ≡ request home f → AnswersSome home x y r w a b
     → Appends o n (answer_bytes (framed_answer home w)) → close ≡ close_by (ending r) y.is_down
     → (fates : List Fate)
@@ -34,7 +36,7 @@ serves home f r x y w close o n a b is h written c =
             ∙ ap (λ (z : Seen). close_by (ending (request home f)) z.is_down) g.node;
         answered =
             subst (λ z. Appends o n (answer_bytes (framed_answer home z))) g.answer_is written;
-        pushed = g.pushed;
+        made = g.made;
         node = g.node;
       },
     )
@@ -53,8 +55,8 @@ one_frame_fails home w why o n h =
     subst (λ z. WriteEnds why o n z) (sym (append-nil (spelling (answer_frame home w)))) h
 
 -- the answer could not be written whole
-pub answer_fails : (home : Home) (f : Frame) (r : Request) (x y : Seen) (w : Option What)
-    (why : FrameFault) (o n : Option (List ℕ)) (a b : Option (List Push))
+pub answer_fails : {V : Type 0} {way : Way V} (home : Home) (f : Frame) (r : Request) (x y : Seen) (w : Option What)
+    (why : FrameFault) (o n : Option (List ℕ)) (a b : Outside way)
     → r ≡ request home f → AnswersSome home x y r w a b
     → WriteEnds why o n (answer_bytes (framed_answer home w))
     → (fates : List Fate)
@@ -66,7 +68,7 @@ answer_fails home f r x y w fault.Write o n a b is h part =
       record {
         answered =
             subst (λ z. AppendsPart o n (answer_bytes (framed_answer home z))) g.answer_is part;
-        pushed = g.pushed;
+        made = g.made;
         node = g.node;
       },
     )
@@ -79,19 +81,19 @@ answer_fails home f r x y w fault.NoMemory o n a b is h none =
         record {
           parts = sym (append-nil (served home x h.0 (request home f)).done);
           silent = none;
-          pushed = g.pushed;
+          made = g.made;
           node = g.calls;
         },
       ),
     )
 
 -- memory was refused in its calls and pushes
-pub request_fails : (home : Home) (f : Frame) (r : Request) (x y : Seen) (o n : Option (List ℕ))
-    (a b : Option (List Push))
+pub request_fails : {V : Type 0} {way : Way V} (home : Home) (f : Frame) (r : Request) (x y : Seen) (o n : Option (List ℕ))
+    (a b : Outside way)
     → r ≡ request home f → FailsToAnswer home x y r a b → Appends o n []
     → (fates : List Fate)
     × FailsIn fault.NoMemory home (sides x o a) (sides y n b) (record { frame = f; fates = fates })
 unfolding serve_frame
 request_fails home f r x y o n a b is h none =
     let g = subst (λ z. AnswersPart home x y h.0 z h.1 h.2 a b) is h.3 in
-    (h.0, (h.1, h.2, record { parts = g.parts; silent = none; pushed = g.pushed; node = g.node }))
+    (h.0, (h.1, h.2, record { parts = g.parts; silent = none; made = g.made; node = g.node }))

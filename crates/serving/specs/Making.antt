@@ -1,0 +1,43 @@
+-- Calls of a node and pushes to other desks as they are made.
+use Rattle.std.specs.Prelude.{◌≡◌, ℕ, List, [], ◌∷◌, Option, Result}
+use Rattle.acceptor.specs.declared.message.Message.{Message}
+use Rattle.learner.specs.declared.event.Event.{Event}
+use Rattle.world.specs.declared.faults.NodeFault.{NodeFault}
+use Rattle.serving.specs.Adding.{Push, Hands}
+use Rattle.serving.specs.Serving.{Act, Called, Pushed, pushes_of}
+
+-- what is said of a call of a node of a kind: the node before it, the event, the answer, and the
+-- node behind it
+abbrev pub Way : Type 0 → Type 1
+Way V = V → Event → Result (List Message) NodeFault → V → Type 0
+
+-- a call of a node
+pub record Call : Type 0 where
+  pub event : Event
+  pub answer : Result (List Message) NodeFault
+
+-- the calls among what was done, in order
+abbrev pub calls_of : List Act → List Call
+calls_of [] = []
+calls_of (Called e r ∷ acts) = record { event = e; answer = r } ∷ calls_of acts
+calls_of (Pushed m ∷ acts) = calls_of acts
+
+-- these calls, one after the other, lead from the first node to the last
+abbrev pub Lead : {V : Type 0} → Way V → V → List Call → V → Type 0
+Lead {V} way x [] y = x ≡ y
+Lead {V} way x (c ∷ cs) y = (z : V) × way x c.event c.answer z × Lead way z cs y
+
+-- what is there beside what is seen: the node itself, and what the other desks were handed
+pub record Outside {V : Type 0} (way : Way V) : Type 0 where
+  pub node : V
+  pub handed : Option (List Push)
+
+abbrev pub outside_of : {V : Type 0} → (way : Way V) → V → Option (List Push) → Outside way
+outside_of way node handed = record { node = node; handed = handed }
+
+-- these calls were made and these messages pushed, in order: each call is one of the node's, and
+-- they lead from the one node to the other
+pub record Makes {V : Type 0} {way : Way V} (hall : ℕ) (old new : Outside way)
+    (acts : List Act) : Type 0 where
+  pub calls : Lead way old.node (calls_of acts) new.node
+  pub pushes : Hands old.handed new.handed (pushes_of hall acts)
