@@ -1,0 +1,48 @@
+-- Which frame answers a client's, and what the client makes of a frame.
+use Rattle.std.specs.Prelude.{ℕ, Bool, false, true, ◌==◌, ◌&&◌, if◌then◌else◌, Result, Ok, Err}
+use Rattle.wire.specs.declared.frame.Frame.{Frame}
+use Rattle.wire.specs.declared.frame.What.{What}
+use Rattle.wire.specs.declared.frame.What.TheVariants as what
+use Rattle.client.specs.declared.fault.ClientFault.{ClientFault}
+use Rattle.client.specs.declared.fault.ClientFault.TheVariants as fault
+
+abbrev pub is_taken : ℕ → What → Bool
+is_taken id (what.Taken other) = other == id
+is_taken id _ = false
+
+abbrev pub is_told : ℕ → What → Bool
+is_told id (what.Told other standing) = other == id
+is_told id _ = false
+
+abbrev pub is_sheet_text : What → Bool
+is_sheet_text (what.SheetText text) = true
+is_sheet_text _ = false
+
+abbrev pub is_fine : What → Bool
+is_fine what.Fine = true
+is_fine _ = false
+
+-- a Submit is answered by Taken of its id, an Ask by Told of its id, a Sheet by the text of a sheet,
+-- a Tick and a Stop by Fine; no other kind has an answer
+abbrev pub fits : What → What → Bool
+fits (what.Submit entry) given = is_taken entry.id given
+fits (what.Ask id) given = is_told id given
+fits (what.Sheet event round position style) given = is_sheet_text given
+fits what.Tick given = is_fine given
+fits what.Stop given = is_fine given
+fits _ given = false
+
+-- the answer comes from the desk that was asked, of the hall that was meant, and its kind and id
+-- fit what was asked
+abbrev pub answers : Frame → Frame → Bool
+answers asked given =
+    given.hall == asked.hall && given.from == asked.to && fits asked.what given.what
+
+abbrev pub judged_what : What → Bool → Result What ClientFault
+judged_what (what.Refused refusal) own = Err (fault.Refused refusal)
+judged_what given own = if own then Ok given else Err fault.NoAnswer
+
+-- A refusal counts whatever hall and desk it comes from, since a desk that was not meant names
+-- itself; another frame counts where it is the answer.
+abbrev pub judged : Frame → Frame → Result What ClientFault
+judged asked given = judged_what given.what (answers asked given)

@@ -1,0 +1,68 @@
+-- What a client writes and reads, and how it comes to its answer.
+use Rattle.std.specs.Prelude.{◌≡◌, ◌⊎◌, ℕ, List, [], ◌++◌, Option, Result, Ok, Err}
+use Rattle.std.specs.Io.KnownBytes.{Appends, Consumes, Keeps}
+use Rattle.lines.specs.Bytes.{AppendsPart}
+use Rattle.wire.specs.declared.fault.WireFault.{WireFault}
+use Rattle.wire.specs.declared.frame.Frame.{Frame}
+use Rattle.wire.specs.declared.frame.What.{What}
+use Rattle.wire.specs.Ranges.{IsFrame}
+use Rattle.wire.specs.Spelling.{spelling}
+use Rattle.wire.specs.Stream.{Waits, Breaks, front, IsBegun, IsOfStream}
+use Rattle.client.specs.declared.fault.ClientFault.{ClientFault}
+use Rattle.client.specs.declared.fault.ClientFault.TheVariants as fault
+use Rattle.client.specs.Answers.{judged}
+
+-- this frame stands first in the bytes
+pub record StandsFirst (f : Frame) (bytes : List ℕ) : Type 0 where
+  pub rest : List ℕ
+  pub spelled : IsFrame f
+  pub first : bytes ≡ spelling f ++ rest
+
+-- no frame stands first in the bytes: they are fewer than a frame's, or break its format
+abbrev pub LacksFrame : List ℕ → Type 0
+LacksFrame bytes =
+    (front bytes ≡ Waits) ⊎ ((e : WireFault) × (front bytes ≡ Breaks e) × IsOfStream e)
+
+-- what a client's reader had and has left, and what its writer had and has
+pub record Sides : Type 0 where
+  pub had : Option (List ℕ)
+  pub left : Option (List ℕ)
+  pub old : Option (List ℕ)
+  pub new : Option (List ℕ)
+
+-- the request was written whole, and then these bytes were read
+pub record Hears (asked : Frame) (s : Sides) (bytes : List ℕ) : Type 0 where
+  pub written : Appends s.old s.new (spelling asked)
+  pub heard : Consumes s.had s.left bytes
+
+-- the first frame that came is judged so
+abbrev pub IsJudged : Result What ClientFault → Frame → List ℕ → Type 0
+IsJudged result asked bytes =
+    (given : Frame) × StandsFirst given bytes × (judged asked given ≡ result)
+
+-- nothing was written and nothing was read
+abbrev pub IsSilent : Sides → Type 0
+IsSilent s = Appends s.old s.new [] × Keeps s.had s.left
+
+-- Where the answer or a refusal is given, the first frame that came was judged so. There is no
+-- answer where that frame is none, or no frame came. A write failed where a front part of the
+-- request was written and nothing was read. Memory was refused before anything was written, or
+-- where a frame had come whole.
+abbrev pub Exchanges : Result What ClientFault → Frame → Sides → Type 0
+Exchanges (Ok answer) asked s =
+    (bytes : List ℕ) × Hears asked s bytes × IsJudged (Ok answer) asked bytes
+Exchanges (Err (fault.Refused refusal)) asked s =
+    (bytes : List ℕ) × Hears asked s bytes × IsJudged (Err (fault.Refused refusal)) asked bytes
+Exchanges (Err fault.NoAnswer) asked s =
+    (bytes : List ℕ) × Hears asked s bytes
+    × (IsJudged (Err fault.NoAnswer) asked bytes ⊎ LacksFrame bytes)
+Exchanges (Err fault.Write) asked s = AppendsPart s.old s.new (spelling asked) × Keeps s.had s.left
+Exchanges (Err fault.NoMemory) asked s =
+    IsSilent s ⊎ ((bytes : List ℕ) × Hears asked s bytes × IsBegun (front bytes))
+
+-- why no frame was read
+abbrev pub LacksFor : ClientFault → List ℕ → Type 0
+LacksFor fault.NoAnswer bytes = LacksFrame bytes
+LacksFor fault.NoMemory bytes = IsBegun (front bytes)
+LacksFor (fault.Refused refusal) bytes = ⊥
+LacksFor fault.Write bytes = ⊥

@@ -1,0 +1,53 @@
+//! One request and its answer.
+
+ghost use Rattle.std.specs.Prelude.{◌≡◌};
+ghost use Rattle.wire.specs.Ranges.{IsFrame};
+ghost use Rattle.client.specs.Exchange.{Exchanges};
+
+use crate::fault::ClientFault;
+use crate::hearing::hear;
+use crate::judging::judged;
+use lines::write_text;
+use std::alloc::Global;
+use std::io::{Read, Write};
+use wire::{Frame, FrameReader, What, encode};
+
+/// Writes a request whole, and reads until one frame is there, in pieces of at most 4,096 bytes. It
+/// gives the answer: [`answers`](crate::answers) says which frame is one.
+///
+/// # Errors
+///
+/// - `Refused` where the first frame that comes is a refusal.
+/// - `NoAnswer` where the stream ends, a read fails (an interrupted one too), what comes is no
+///   frame, or the first frame is neither the answer nor a refusal.
+/// - `Write` where a write fails or takes no byte: a front part of the request is written, and
+///   nothing is read.
+/// - `NoMemory` where memory runs out, before anything is written or where a frame has come whole.
+pub fn exchange<R: Read, W: Write>(
+    alloc: Global,
+    asked: &Frame,
+    reader: &mut R,
+    writer: &mut W,
+) -> Result<What, ClientFault>
+    requires spelled { IsFrame asked.now }
+    ensures exchanges { Exchanges result asked.now (record {
+      had = R.remaining reader.old;
+      left = R.remaining reader.new;
+      old = W.contents writer.old;
+      new = W.contents writer.new;
+    }) }
+{
+    let Ok(mut stream) = FrameReader::new(alloc) else {
+        return Err(ClientFault::NoMemory);
+    };
+    let Ok(request) = encode(alloc, asked) else {
+        return Err(ClientFault::NoMemory);
+    };
+    let Ok(()) = write_text(writer, &request) else {
+        return Err(ClientFault::Write);
+    };
+    match hear(reader, &mut stream) {
+        Ok(given) => judged(asked, given),
+        Err(fault) => Err(fault),
+    }
+}

@@ -1,0 +1,89 @@
+//! Which frame answers a client's.
+
+ghost use Rattle.std.specs.Prelude.{◌≡◌};
+ghost use Rattle.client.specs.Answers.{answers, fits, is_fine, is_sheet_text, is_taken, is_told, judged};
+
+use crate::fault::ClientFault;
+use wire::{Frame, What};
+
+fn is_taken(wanted: u64, given: &What) -> bool
+    ensures { result ≡ is_taken wanted given.now }
+{
+    match given {
+        What::Taken { id } => *id == wanted,
+        _ => false,
+    }
+}
+
+fn is_told(wanted: u64, given: &What) -> bool
+    ensures { result ≡ is_told wanted given.now }
+{
+    match given {
+        What::Told { id, .. } => *id == wanted,
+        _ => false,
+    }
+}
+
+fn is_sheet_text(given: &What) -> bool
+    ensures { result ≡ is_sheet_text given.now }
+{
+    match given {
+        What::SheetText { .. } => true,
+        _ => false,
+    }
+}
+
+fn is_fine(given: &What) -> bool
+    ensures { result ≡ is_fine given.now }
+{
+    match given {
+        What::Fine => true,
+        _ => false,
+    }
+}
+
+/// Whether a kind with its fields answers another.
+fn fits(asked: &What, given: &What) -> bool
+    ensures { result ≡ fits asked.now given.now }
+{
+    match asked {
+        What::Submit { entry } => is_taken(entry.id(), given),
+        What::Ask { id } => is_told(*id, given),
+        What::Sheet { .. } => is_sheet_text(given),
+        What::Tick | What::Stop => is_fine(given),
+        _ => false,
+    }
+}
+
+/// Whether a frame is the answer to what was asked: it is of the hall that was meant, from the desk
+/// that was asked, and Taken of the id of a Submit, Told of the id of an Ask, the text of a sheet
+/// to a Sheet, or Fine to a Tick or a Stop.
+pub fn answers(asked: &Frame, given: &Frame) -> bool
+    ensures { result ≡ answers asked.now given.now }
+{
+    given.hall == asked.hall && given.from == asked.to && fits(&asked.what, &given.what)
+}
+
+/// What a client makes of a frame: its answer, or why it is none.
+///
+/// # Errors
+///
+/// - `Refused` where the frame is a refusal, from whichever hall and desk: a desk that was not meant
+///   refuses under its own hall and number.
+/// - `NoAnswer` where it is neither that nor the answer.
+pub fn judged(asked: &Frame, given: Frame) -> Result<What, ClientFault>
+    ensures { result ≡ judged asked.now given }
+{
+    let own = answers(asked, &given);
+    let Frame { what, .. } = given;
+    match what {
+        What::Refused { refusal } => Err(ClientFault::Refused { refusal }),
+        other => {
+            if own {
+                Ok(other)
+            } else {
+                Err(ClientFault::NoAnswer)
+            }
+        }
+    }
+}

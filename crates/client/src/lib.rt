@@ -1,0 +1,16 @@
+//! A client of a desk: one request over a connection, and the desk's answer.
+//!
+//! [`exchange`] writes the frame of a request and reads the frame that answers it; [`reply_text`]
+//! is the answer as the program prints it.
+#![tactic(auto)]
+
+mod exchanging;
+mod fault;
+mod hearing;
+mod judging;
+mod printing;
+
+pub use exchanging::exchange;
+pub use fault::{ClientFault, refusal_name};
+pub use judging::{answers, judged};
+pub use printing::reply_text;

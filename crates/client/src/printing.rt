@@ -1,0 +1,76 @@
+//! Answers as the program prints them.
+
+ghost use Rattle.std.specs.Prelude.{◌≡◌, ◌++◌, IfOk, OnOk, decimal};
+ghost use Rattle.client.specs.Printing.{answer_name, reply_text, standing_text};
+
+use itoa::Buffer;
+use std::alloc::{AllocError, Global};
+use texts::Answer;
+use wire::{Standing, What};
+
+/// Adds a number in decimal.
+fn push_number(out: &mut Vec<u8>, number: u64) -> Result<(), AllocError>
+    ensures { OnOk result (out.new.items ≡ out.old.items ++ decimal number) }
+{
+    let mut buffer = Buffer::new();
+    out.extend_from_slice(buffer.format(number).as_bytes())
+}
+
+/// The name of what a command was answered: `Done`, or that of the refusal's code.
+fn answer_name(answer: Answer) -> &'static str
+    ensures { result.now ≡ answer_name answer }
+{
+    match answer {
+        Answer::Done => "Done",
+        Answer::Refused(code) => code.name(),
+    }
+}
+
+/// Adds what became of the command with an id, and a line feed.
+fn push_standing(out: &mut Vec<u8>, id: u64, standing: Standing) -> Result<(), AllocError>
+    ensures { OnOk result (out.new.items ≡ out.old.items ++ standing_text id standing) }
+{
+    match standing {
+        Standing::Unknown => {
+            out.extend_from_slice(b"unknown ")?;
+            push_number(out, id)?;
+        }
+        Standing::Pending => {
+            out.extend_from_slice(b"pending ")?;
+            push_number(out, id)?;
+        }
+        Standing::Done { pos, answer } => {
+            out.extend_from_slice(b"done ")?;
+            push_number(out, id)?;
+            out.extend_from_slice(b" ")?;
+            push_number(out, u64::from(pos))?;
+            out.extend_from_slice(b" ")?;
+            out.extend_from_slice(answer_name(answer).as_bytes())?;
+        }
+    }
+    out.extend_from_slice(b"\n")
+}
+
+/// What is printed of an answer: a line for Taken, Told and Fine, and for the text of a sheet the
+/// text itself. Nothing for a kind that is no answer.
+pub fn reply_text(alloc: Global, answer: What) -> Result<Vec<u8>, AllocError>
+    ensures { IfOk result (λ text. text.items ≡ reply_text answer) }
+{
+    match answer {
+        What::SheetText { text } => Ok(text.into_vec()),
+        What::Taken { id } => {
+            let mut out = Vec::new(alloc);
+            out.extend_from_slice(b"taken ")?;
+            push_number(&mut out, id)?;
+            out.extend_from_slice(b"\n")?;
+            Ok(out)
+        }
+        What::Told { id, standing } => {
+            let mut out = Vec::new(alloc);
+            push_standing(&mut out, id, standing)?;
+            Ok(out)
+        }
+        What::Fine => Vec::from_slice(alloc, b"ok\n"),
+        _ => Ok(Vec::new(alloc)),
+    }
+}
