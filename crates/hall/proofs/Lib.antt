@@ -1,0 +1,5 @@
+pub mod Numerals
+pub mod Printed
+pub mod Scripted
+pub mod Ran
+pub mod Logged

@@ -1,0 +1,320 @@
+-- A hall from line to line, and how it ends, in words on the whole input.
+use Rattle.std.proofs.Common.{◌≡◌, ℕ, ◌+◌, Bool, true, false, List, [], ◌∷◌, ◌++◌, length, Option, None, inl, inr, refl, sym, ap, ◌∙◌, append_assoc, length-append, subst}
+use Rattle.std.specs.Prelude.{Ok}
+use Rattle.std.proofs.KnownBytes.{Appends-trans, Appends-nil}
+use Rattle.std.specs.Io.KnownBytes.{Appends}
+use Rattle.world.specs.WorldValues.{WorldValue, extended}
+use Rattle.lines.specs.Bytes.{Writes, AppendsPart, HasLeft}
+use Rattle.lines.specs.Lines.{lines_of, lines_read}
+use Rattle.lines.specs.Reading.{Reading, nothing_read, HasGiven, GivesLine, GivesFault, Gives}
+use Rattle.lines.specs.declared.fault.RunFault.{RunFault}
+use Rattle.lines.specs.declared.fault.RunFault.TheVariants as fault
+use Rattle.lines.proofs.Inputs.{given_of, left_of, left_is, has_read, has_all, part_front, part_after, nothing_written, whole_written, waits_more, all_out, part_out, still_waits, lines_above}
+use Rattle.hall.specs.Scripts.{event_of}
+use Rattle.hall.specs.Halls.{events_of, are_events, event_text, events_text, script_text, logs_text, hall_text, Run, Runs, RunFails}
+use Rattle.hall.specs.model.Running.{DoesLine, LeavesLine, HandlesLine, DoesAll, StopsAmong, EndsBy, IsStopped}
+use Rattle.hall.proofs.Scripted.{AreGood, good_is, events_more, good_more, events_bad, is_bad, script_more, script_begins, text_above, text_bad, text_whole, reads_all}
+
+-- ---- one line after the other
+
+-- the events of the lines that were given were done, and a part of what is printed for them waits
+pub record Ran (n : ℕ) (p : Reading) (world : WorldValue) (out given : List ℕ)
+    (start now old new : Option (List ℕ)) : Type 0 where
+  pub read : HasGiven p given start now
+  pub good : AreGood n (lines_of given)
+  pub world_is : world ≡ record { desks = n; events = events_of n (lines_of given) }
+  pub front : List ℕ
+  pub written : Writes old new (script_text n (lines_of given)) front out
+
+pub begins : (n : ℕ) (world : WorldValue) (out : List ℕ) (start old : Option (List ℕ))
+    → world ≡ record { desks = n; events = [] } → out ≡ [] → HasGiven nothing_read [] start start
+    → Ran n nothing_read world out [] start start old old
+begins n world out start old is none read = record {
+  read = read;
+  good = refl;
+  world_is = is;
+  front = [];
+  written = record { parts = sym none; written = Appends-nil old };
+}
+
+-- a line was given and its event was done
+pub one_more : (n : ℕ) (p q : Reading) (world world' : WorldValue)
+    (line given out out' out'' : List ℕ) (start before now old new new' : Option (List ℕ))
+    → Ran n p world out given start before old new → (g : GivesLine q line given start now)
+    → DoesLine n line world world' out out'
+    → (front : List ℕ) × Writes new new' out' front out''
+    → Ran n q world' out'' (given ++ g.more) start now old new'
+one_more n p q world world' line given out out' out'' start before now old new new' a g d w =
+    let lines : List (List ℕ) = lines_of given in
+    let events : events_of n (lines_of (given ++ g.more)) ≡ events_of n lines ++ d.event ∷ [] =
+    ap (events_of n) g.is ∙ events_more n lines line d.event a.good d.spelled in
+    let text : script_text n (lines_of (given ++ g.more)) ≡ a.front ++ out' =
+    ap (script_text n) g.is
+    ∙ script_more n lines line d.event a.good d.spelled
+    ∙ ap (λ x. x ++ event_text n (events_of n lines) d.event) a.written.parts
+    ∙ append_assoc a.front out (event_text n (events_of n lines) d.event)
+    ∙ ap (λ (v : WorldValue). a.front ++ (out ++ event_text n v.events d.event)) (sym a.world_is)
+    ∙ ap (λ x. a.front ++ x) (sym d.said) in
+    record {
+      read = g.read;
+      good = subst (AreGood n) (sym g.is) (good_more n lines line d.event a.good d.spelled);
+      world_is = d.world
+          ∙ ap (λ v. extended v (d.event ∷ [])) a.world_is
+          ∙ ap (λ es. let v : WorldValue = record { desks = n; events = es } in v) (sym events);
+      front = a.front ++ w.0;
+      written =
+          waits_more old new new' (script_text n (lines_of (given ++ g.more))) a.front out' w.0
+          out'' text a.written.written w.1;
+    }
+
+pub gives_true : (t : Bool) (p : Reading) (line given : List ℕ) (start now : Option (List ℕ))
+    → t ≡ true → Gives (Ok t) p line given start now → GivesLine p line given start now
+gives_true true p line given start now is h = h
+gives_true false p line given start now is h = cc
+
+pub does_it : (t : Bool) (n : ℕ) (line : List ℕ) (old new : WorldValue) (before after : List ℕ)
+    → t ≡ true → HandlesLine t n line old new before after
+    → DoesLine n line old new before after
+does_it true n line old new before after is h = h
+does_it false n line old new before after is h = cc
+
+pub leaves_it : (t : Bool) (n : ℕ) (line : List ℕ) (old new : WorldValue) (before after : List ℕ)
+    → t ≡ false → HandlesLine t n line old new before after
+    → LeavesLine n line old new before after
+leaves_it false n line old new before after is h = h
+leaves_it true n line old new before after is h = cc
+
+-- ---- the end
+
+abbrev pub run_of : ℕ → List ℕ → (left old new : Option (List ℕ)) → Run
+run_of n input left old new =
+    record { desks = n; input = input; left = left; old = old; new = new }
+
+-- a run stopped so
+abbrev pub Stops : ℕ → RunFault → (start now old new : Option (List ℕ)) → Type 0
+Stops n e start now old new =
+    (input : List ℕ) × HasLeft start input × StopsAmong e (run_of n input now old new)
+
+-- a part of what is printed for the lines that were given is a part of the whole
+pub part_of_whole : (n : ℕ) (p : Reading) (given : List ℕ) (start now old new : Option (List ℕ))
+    → HasGiven p given start now → AreGood n (lines_of given)
+    → AppendsPart old new (script_text n (lines_of given))
+    → (input : List ℕ) × HasLeft start input × AppendsPart old new (hall_text n input)
+part_of_whole n p given start now old new h good part =
+    let input = given_of p given start now h in
+    let more = script_begins n (lines_of given) input.2.0 good in
+    let all : AppendsPart old new (script_text n (lines_read input.0)) =
+    subst (AppendsPart old new) (sym more.1 ∙ ap (script_text n) (sym input.2.1))
+    (part_front old new (script_text n (lines_of given)) more.0 part) in
+    (input.0, input.1, part_front old new (script_text n (lines_read input.0)) _ all)
+
+-- all events were done
+pub does_all : (n : ℕ) (p : Reading) (world : WorldValue) (out given : List ℕ)
+    (start now old before new : Option (List ℕ))
+    → Ran n p world out given start now old before → p.over ≡ true → Appends before new out
+    → (input : List ℕ) × HasLeft start input × DoesAll n world input now old new
+does_all n p world out given start now old before new a over last =
+    let all = has_all p given start now a.read over in
+    let lines = sym (reads_all given a.read.within) in (
+      given,
+      all.0,
+      record {
+        end = all.1;
+        within = a.read.within;
+        good =
+            subst (λ ls. are_events n ls ≡ true) lines (good_is n (lines_of given) a.good);
+        world_is =
+            a.world_is
+            ∙ ap (λ ls. let v : WorldValue = record { desks = n; events = events_of n ls } in v) lines;
+        written =
+            subst (λ ls. Appends old new (script_text n ls)) lines
+            (all_out old before new (script_text n (lines_of given)) a.front out a.written last);
+      },
+    )
+
+-- the rest of what waits was not written whole
+pub unwritten : (n : ℕ) (p : Reading) (world : WorldValue) (out given : List ℕ)
+    (start now old before new : Option (List ℕ))
+    → Ran n p world out given start now old before → AppendsPart before new out
+    → (input : List ℕ) × HasLeft start input × AppendsPart old new (hall_text n input)
+unwritten n p world out given start now old before new a part =
+    part_of_whole n p given start now old new a.read a.good
+    (part_out old before new (script_text n (lines_of given)) a.front out a.written part)
+
+-- memory ran out, and what waits was not written
+pub forgotten : (n : ℕ) (p : Reading) (world : WorldValue) (out given : List ℕ)
+    (start now old new : Option (List ℕ))
+    → Ran n p world out given start now old new
+    → (input : List ℕ) × HasLeft start input × AppendsPart old new (hall_text n input)
+forgotten n p world out given start now old new a =
+    part_of_whole n p given start now old new a.read a.good
+    (still_waits old new (script_text n (lines_of given)) a.front out a.written)
+
+-- the last line that was given spells no event
+pub meets_bad : (n : ℕ) (p q : Reading) (world : WorldValue) (line given out : List ℕ)
+    (start before now old between new : Option (List ℕ))
+    → Ran n p world out given start before old between → (g : GivesLine q line given start now)
+    → event_of n line ≡ None → Appends between new out
+    → Stops n (fault.BadLine q.lines) start now old new
+meets_bad n p q world line given out start before now old between new a g bad_line last =
+    let lines : List (List ℕ) = lines_of given in
+    let input = given_of q (given ++ g.more) start now g.read in
+    let read : lines_read input.0 ≡ (lines ++ line ∷ []) ++ input.2.0 =
+    input.2.1 ∙ ap (λ ls. ls ++ input.2.0) g.is in
+    let bad : are_events n (lines_read input.0) ≡ false =
+    ap (are_events n) read ∙ is_bad n lines input.2.0 line a.good bad_line in
+    let events : events_of n (lines_read input.0) ≡ events_of n lines =
+    ap (events_of n) read ∙ events_bad n lines input.2.0 line a.good bad_line in (
+      input.0,
+      input.1,
+      record {
+        bad = bad;
+        is = g.read.lines
+            ∙ ap length g.is
+            ∙ length-append lines (line ∷ [])
+            ∙ ap (λ k. k + 1) (sym a.good)
+            ∙ ap (λ es. length es + 1) (sym events);
+        written =
+            subst (Appends old new)
+            (sym
+            (text_bad n input.0 bad
+            ∙ ap (λ es. events_text n [] es) events))
+            (all_out old between new (script_text n lines) a.front out a.written last);
+      },
+    )
+
+-- reading ended early, behind lines whose text is written
+pub stops : (n : ℕ) (e : RunFault) (p : Reading) (world : WorldValue) (out given : List ℕ)
+    (start before now old between new : Option (List ℕ))
+    → Ran n p world out given start before old between → GivesFault e given start now
+    → Appends between new out → Stops n e start now old new
+stops n fault.InputTooLong p world out given start before now old between new a f last =
+    let above = lines_above given f.0 start now f.1 in (
+      above.0,
+      above.1,
+      record {
+        above = above.2;
+        good =
+            subst (λ ls. are_events n ls ≡ true) (sym above.3)
+            (good_is n (lines_of given) a.good);
+        written =
+            subst (Appends old new)
+            (sym (text_above n above.0 above.2 ∙ ap (script_text n) above.3))
+            (all_out old between new (script_text n (lines_of given)) a.front out a.written last);
+      },
+    )
+stops n fault.Read p world out given start before now old between new a f last = (
+  (given ++ f.0) ++ left_of now,
+  has_read start now (given ++ f.0) f.1.consumed,
+  record {
+    front = given ++ f.0;
+    rest = left_of now;
+    parts = refl;
+    remains = left_is now;
+    within = f.1.within;
+    good =
+        subst (λ ls. are_events n ls ≡ true) (sym f.1.lines) (good_is n (lines_of given) a.good);
+    written =
+        subst (λ ls. Appends old new (script_text n ls)) (sym f.1.lines)
+        (all_out old between new (script_text n (lines_of given)) a.front out a.written last);
+  },
+)
+stops n fault.NoMemory p world out given start before now old between new a f last =
+    part_of_whole n p given start before old new a.read a.good
+    (whole_written old new (script_text n (lines_of given))
+    (all_out old between new (script_text n (lines_of given)) a.front out a.written last))
+stops n fault.Write p world out given start before now old between new a f last = absurd f
+stops n fault.NoSuchRound p world out given start before now old between new a f last = absurd f
+stops n fault.BadCount p world out given start before now old between new a f last = absurd f
+stops n (fault.BadLine k) p world out given start before now old between new a f last = absurd f
+
+-- what waited was written behind a fault, or a write failed
+pub ended : (n : ℕ) (result e : RunFault) (p : Reading) (world : WorldValue)
+    (out given : List ℕ) (start before now old between new : Option (List ℕ))
+    → Ran n p world out given start before old between → GivesFault e given start now
+    → EndsBy result e between new out → Stops n result start now old new
+ended n result e p world out given start before now old between new a f (inl h) =
+    subst (λ x. Stops n x start now old new) (sym h.0)
+    (stops n e p world out given start before now old between new a f h.1)
+ended n result e p world out given start before now old between new a f (inr h) =
+    subst (λ x. Stops n x start now old new) (sym h.0)
+    (unwritten n p world out given start before old between new a h.1)
+
+-- the same behind a line that spells no event
+pub ended_bad : (n : ℕ) (result : RunFault) (p q : Reading) (k : ℕ) (world world' : WorldValue)
+    (line given out out' : List ℕ) (start before now old between new : Option (List ℕ))
+    → Ran n p world out given start before old between → GivesLine q line given start now
+    → LeavesLine n line world world' out out' → k ≡ q.lines
+    → EndsBy result (fault.BadLine k) between new out' → Stops n result start now old new
+ended_bad n result p q k world world' line given out out' start before now old between new a g l
+    count (inl h) =
+    subst (λ x. Stops n x start now old new)
+    (ap fault.BadLine (sym count) ∙ sym h.0)
+    (meets_bad n p q world line given out start before now old between new a g l.bad
+    (subst (Appends between new) l.said h.1))
+ended_bad n result p q k world world' line given out out' start before now old between new a g l
+    count (inr h) =
+    subst (λ x. Stops n x start now old new) (sym h.0)
+    (unwritten n p world out given start before old between new a
+    (subst (AppendsPart between new) l.said h.1))
+
+-- ---- the run
+
+-- lines were not all done
+pub fails_among : (e : RunFault) (r : Run) → StopsAmong e r → RunFails e r
+fails_among fault.InputTooLong r s = s
+fails_among (fault.BadLine line) r s = s
+fails_among fault.Read r s = s
+fails_among fault.Write r s = s
+fails_among fault.NoMemory r s = s
+fails_among fault.NoSuchRound r s = absurd s
+fails_among fault.BadCount r s = absurd s
+
+-- the logs were written behind the rest
+pub runs : (n : ℕ) (world : WorldValue) (input : List ℕ) (left old mid new : Option (List ℕ))
+    → DoesAll n world input left old mid → Appends mid new (logs_text n world.events)
+    → Runs (run_of n input left old new)
+runs n world input left old mid new d last = record {
+  end = d.end;
+  within = d.within;
+  good = d.good;
+  written =
+      subst (Appends old new)
+      (ap (λ (v : WorldValue). script_text n (lines_read input) ++ logs_text n v.events) d.world_is
+      ∙ sym (text_whole n input d.within d.good))
+      (Appends-trans old mid new _ _ d.written last);
+}
+
+-- the logs were not written whole
+pub cut_off : (n : ℕ) (world : WorldValue) (input : List ℕ) (left old mid new : Option (List ℕ))
+    → DoesAll n world input left old mid → AppendsPart mid new (logs_text n world.events)
+    → AppendsPart old new (hall_text n input)
+cut_off n world input left old mid new d part =
+    subst (AppendsPart old new)
+    (ap (λ (v : WorldValue). script_text n (lines_read input) ++ logs_text n v.events) d.world_is
+    ∙ sym (text_whole n input d.within d.good))
+    (part_after old mid new (script_text n (lines_read input)) (logs_text n world.events) d.written
+    part)
+
+pub fails_behind : (e : RunFault) (n : ℕ) (world : WorldValue) (input : List ℕ)
+    (left old mid new : Option (List ℕ))
+    → IsStopped e → DoesAll n world input left old mid
+    → AppendsPart mid new (logs_text n world.events) → RunFails e (run_of n input left old new)
+fails_behind e n world input left old mid new (inl is) d part =
+    subst (λ x. RunFails x (run_of n input left old new)) (sym is)
+    (cut_off n world input left old mid new d part)
+fails_behind e n world input left old mid new (inr is) d part =
+    subst (λ x. RunFails x (run_of n input left old new)) (sym is)
+    (cut_off n world input left old mid new d part)
+
+-- nothing was done
+pub fails_at_once : (start old : Option (List ℕ)) (text : List ℕ → List ℕ)
+    → (input : List ℕ) × HasLeft start input × AppendsPart old old (text input)
+fails_at_once start old text =
+    (left_of start, left_is start, nothing_written old (text (left_of start)))
+
+pub is_untouched : (n : ℕ) (start old : Option (List ℕ))
+    → (input : List ℕ) × HasLeft start input
+    × RunFails fault.BadCount (run_of n input start old old)
+is_untouched n start old =
+    (left_of start, left_is start, record { left = left_is start; same = refl })

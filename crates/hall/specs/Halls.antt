@@ -1,0 +1,117 @@
+-- What a hall of desks writes for its script, and how it ends.
+use Rattle.std.specs.Prelude.{◌≡◌, ℕ, ◌+◌, Bool, true, false, ◌==◌, ◌&&◌, if◌then◌else◌, List, [], ◌∷◌, ◌++◌, length, flat_map, Option, None, Some}
+use Rattle.std.specs.List.{range_with_len}
+use Rattle.std.specs.Io.KnownBytes.{Appends, IsAtEnd}
+use Rattle.learner.specs.declared.event.WorldEvent.{WorldEvent}
+use Rattle.learner.specs.Worlds.{after, log_of}
+use Rattle.world.specs.WorldValues.{last_fault}
+use Rattle.lines.specs.Lines.{whole_lines, is_within, lines_read}
+use Rattle.lines.specs.Bytes.{HasLeft, AppendsPart}
+use Rattle.lines.specs.declared.fault.RunFault.{RunFault}
+use Rattle.lines.specs.declared.fault.RunFault.TheVariants as fault
+use Rattle.hall.specs.Scripts.{event_of}
+use Rattle.hall.specs.Texts.{messages_text, refusal_text, log_text}
+
+-- the events of the lines in front of the first that spells none
+abbrev pub before : Option WorldEvent → List WorldEvent → List WorldEvent
+before None events = []
+before (Some e) events = e ∷ events
+
+abbrev pub events_of : ℕ → List (List ℕ) → List WorldEvent
+events_of n [] = []
+events_of n (line ∷ lines) = before (event_of n line) (events_of n lines)
+
+-- each line spells an event
+abbrev pub are_events : ℕ → List (List ℕ) → Bool
+are_events n lines = length (events_of n lines) == length lines
+
+-- what is printed for an event behind others, at n desks: the messages that it makes the desks
+-- send, or its refusal; line i has the i-th event
+abbrev pub event_text : ℕ → List WorldEvent → WorldEvent → List ℕ
+event_text n events e =
+    messages_text (length (after n events).sent) (after n (events ++ e ∷ [])).sent
+    ++ refusal_text (length events + 1) (last_fault n (events ++ e ∷ []))
+
+-- what is printed for events behind others
+abbrev pub events_text : ℕ → List WorldEvent → List WorldEvent → List ℕ
+events_text n events [] = []
+events_text n events (e ∷ es) = event_text n events e ++ events_text n (events ++ e ∷ []) es
+
+-- what is printed for lines, up to the first that spells no event
+abbrev pub script_text : ℕ → List (List ℕ) → List ℕ
+script_text n lines = events_text n [] (events_of n lines)
+
+-- the log of each desk, in the order of their numbers
+abbrev pub logs_text : ℕ → List WorldEvent → List ℕ
+logs_text n events = flat_map (λ d. log_text d (log_of n events d)) (range_with_len 1 n)
+
+-- the text for an input: what is printed for its lines, and then the logs where all of it was read
+-- and run; above the limits, what is printed for the whole lines in front
+abbrev pub hall_text : ℕ → List ℕ → List ℕ
+hall_text n input =
+    script_text n (lines_read input)
+    ++
+    (if is_within input && are_events n (lines_read input)
+    then logs_text n (events_of n (lines_read input)) else [])
+
+-- a run of n desks: the input, what the reader has left, and what the writer had and has
+pub record Run : Type 0 where
+  pub desks : ℕ
+  pub input : List ℕ
+  pub left : Option (List ℕ)
+  pub old : Option (List ℕ)
+  pub new : Option (List ℕ)
+
+abbrev pub run_text : Run → List ℕ
+run_text r = hall_text r.desks r.input
+
+abbrev pub has_events : Run → Bool
+has_events r = are_events r.desks (lines_read r.input)
+
+-- all was read and is within the limits, each line spells an event, and the text with the logs is
+-- written
+pub record Runs (r : Run) : Type 0 where
+  pub end : IsAtEnd r.left
+  pub within : is_within r.input ≡ true
+  pub good : has_events r ≡ true
+  pub written : Appends r.old r.new (run_text r)
+
+-- this line spells no event, each one in front of it does, and what is printed for those is
+-- written
+pub record MeetsBadLine (line : ℕ) (r : Run) : Type 0 where
+  pub bad : has_events r ≡ false
+  pub is : line ≡ length (events_of r.desks (lines_read r.input)) + 1
+  pub written : Appends r.old r.new (run_text r)
+
+-- a byte is above the limits, each whole line in front of it spells an event, and what is printed
+-- for those is written
+pub record IsTooLong (r : Run) : Type 0 where
+  pub above : is_within r.input ≡ false
+  pub good : has_events r ≡ true
+  pub written : Appends r.old r.new (run_text r)
+
+-- a part of the input was read and is within the limits, the rest is left, each whole line of the
+-- part spells an event, and what is printed for those is written
+pub record ReadsPart (r : Run) : Type 0 where
+  pub front : List ℕ
+  pub rest : List ℕ
+  pub parts : r.input ≡ front ++ rest
+  pub remains : HasLeft r.left rest
+  pub within : is_within front ≡ true
+  pub good : are_events r.desks (whole_lines front) ≡ true
+  pub written : Appends r.old r.new (script_text r.desks (whole_lines front))
+
+-- nothing was read or written
+pub record IsUntouched (r : Run) : Type 0 where
+  pub left : HasLeft r.left r.input
+  pub same : r.new ≡ r.old
+
+-- how a run ends that does not write the whole text with the logs
+abbrev pub RunFails : RunFault → Run → Type 0
+RunFails fault.BadCount r = IsUntouched r
+RunFails fault.InputTooLong r = IsTooLong r
+RunFails (fault.BadLine line) r = MeetsBadLine line r
+RunFails fault.Read r = ReadsPart r
+RunFails fault.Write r = AppendsPart r.old r.new (run_text r)
+RunFails fault.NoMemory r = AppendsPart r.old r.new (run_text r)
+RunFails fault.NoSuchRound r = ⊥

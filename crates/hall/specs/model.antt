@@ -1,0 +1,3 @@
+-- Models of the code: steps that proofs go through. No public contract cites them.
+pub mod Numerals
+pub mod Running

@@ -1,0 +1,60 @@
+-- A model of the code: what one line comes to, and all lines, before there are logs.
+use Rattle.std.specs.Prelude.{◌≡◌, ◌⊎◌, ℕ, Bool, true, false, List, ◌∷◌, [], ◌++◌, Option, None, Some}
+use Rattle.std.specs.Io.KnownBytes.{Appends, IsAtEnd}
+use Rattle.learner.specs.declared.event.WorldEvent.{WorldEvent}
+use Rattle.world.specs.WorldValues.{WorldValue, extended}
+use Rattle.lines.specs.Lines.{is_within, lines_read}
+use Rattle.lines.specs.Bytes.{AppendsPart}
+use Rattle.lines.specs.declared.fault.RunFault.{RunFault}
+use Rattle.lines.specs.declared.fault.RunFault.TheVariants as fault
+use Rattle.hall.specs.Scripts.{event_of}
+use Rattle.hall.specs.Halls.{Run, RunFails, are_events, events_of, event_text, script_text}
+
+-- the line spells this event, which was done, and what is printed for it stands behind the rest
+pub record DoesLine (n : ℕ) (line : List ℕ) (old new : WorldValue) (before after : List ℕ) : Type 0
+  where
+    pub event : WorldEvent
+    pub spelled : event_of n line ≡ Some event
+    pub world : new ≡ extended old (event ∷ [])
+    pub said : after ≡ before ++ event_text n old.events event
+
+-- the line spells no event, and nothing was done
+pub record LeavesLine (n : ℕ) (line : List ℕ) (old new : WorldValue) (before after : List ℕ)
+    : Type 0 where
+  pub bad : event_of n line ≡ None
+  pub world : new ≡ old
+  pub said : after ≡ before
+
+abbrev pub HandlesLine : Bool → (n : ℕ) (line : List ℕ) (old new : WorldValue)
+    → (before after : List ℕ) → Type 0
+HandlesLine true n line old new before after = DoesLine n line old new before after
+HandlesLine false n line old new before after = LeavesLine n line old new before after
+
+-- all lines were read and their events were done, and what is printed for them is written
+pub record DoesAll (n : ℕ) (world : WorldValue) (input : List ℕ) (left old new : Option (List ℕ))
+    : Type 0 where
+  pub end : IsAtEnd left
+  pub within : is_within input ≡ true
+  pub good : are_events n (lines_read input) ≡ true
+  pub world_is : world ≡ record { desks = n; events = events_of n (lines_read input) }
+  pub written : Appends old new (script_text n (lines_read input))
+
+-- why not all lines were done
+abbrev pub StopsAmong : RunFault → Run → Type 0
+StopsAmong fault.InputTooLong r = RunFails fault.InputTooLong r
+StopsAmong (fault.BadLine line) r = RunFails (fault.BadLine line) r
+StopsAmong fault.Read r = RunFails fault.Read r
+StopsAmong fault.Write r = RunFails fault.Write r
+StopsAmong fault.NoMemory r = RunFails fault.NoMemory r
+StopsAmong fault.NoSuchRound r = ⊥
+StopsAmong fault.BadCount r = ⊥
+
+-- what waited was written and this is the fault, or a write failed
+abbrev pub EndsBy : RunFault → RunFault → (old new : Option (List ℕ)) → List ℕ → Type 0
+EndsBy result why old new text =
+    ((result ≡ why) × Appends old new text)
+    ⊎ ((result ≡ fault.Write) × AppendsPart old new text)
+
+-- a write failed, or memory ran out
+abbrev pub IsStopped : RunFault → Type 0
+IsStopped why = (why ≡ fault.Write) ⊎ (why ≡ fault.NoMemory)

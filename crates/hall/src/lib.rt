@@ -1,0 +1,11 @@
+//! A hall of desks: a script of events from a reader, one a line, and what the desks say to one
+//! another, refuse, and come to decide.
+#![tactic(auto)]
+
+mod numbers;
+mod printing;
+mod running;
+mod scripts;
+
+pub use lines::{RunFault, lines_are_parted};
+pub use running::hall;
