@@ -1,9 +1,10 @@
 //! `rounds`: running places compared with counting.
 
 use crate::plain_table::PlainTable;
+use advancement::{Advance, advancing};
 use attempts::{Unit, Value, in_range};
 use formats::Format;
-use rounds::RoundTable;
+use rounds::{CorrectFault, PutFault, RoundTable};
 use std::alloc::Global;
 use std::process::Abort;
 use std::test::Fail;
@@ -136,5 +137,20 @@ fn changes_at_random_in_a_full_round(rt: HostRuntime) -> Result<(), Fail> {
         }
         assert!(rt; plain.agrees(alloc, &running)?);
     }
+    Ok(())
+}
+
+/// What no command reaches: a sixth attempt, one before the first, and who goes on from a round of
+/// nobody.
+#[test]
+fn what_no_command_reaches(rt: HostRuntime) -> Result<(), Fail> {
+    let (mut running, mut plain) = tables(rt.alloc(), Format::Ao5, 1)?;
+    for _ in 0..5 {
+        put(&mut running, &mut plain, 1, Value::Dnf)?;
+    }
+    assert!(rt; running.put(1, 6, Value::Dns).err() == Some(PutFault::NoMoreAttempts));
+    assert!(rt; running.correct(1, 0, Value::Dns).err() == Some(CorrectFault::NoSuchAttempt));
+    let nobody = RoundTable::new(rt.alloc(), Format::Bo1, Unit::Time, None)?;
+    assert!(rt; advancing(rt.alloc(), &nobody, Advance::Top(999))?.is_empty());
     Ok(())
 }

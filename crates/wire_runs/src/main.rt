@@ -6,10 +6,11 @@
 //! - `frames BYTES`: the frames of a stream that is made of whole frames, each as a value, what is
 //!   spelled by them, and what is held at each cut of the stream into two pieces.
 //! - `feed BYTES / BYTES ..`: what the reader answers to each piece.
-//! - `stream N BYTES`: the kinds of the frames, fed in pieces of N bytes, and the most that is held.
+//! - `stream N BYTES`: the kinds of the frames, fed in pieces of N bytes, and the most that is
+//!   held.
 //!
-//! Any other line is printed as it is. The output that is wanted stands in `stdout`: it was written
-//! from the rules of frames, never from what this program prints.
+//! Any other line is printed as it is. The output that is wanted stands in `stdout`:
+//! `bench/frames.py` works it out by the rules of frames alone.
 #![tactic(auto)]
 
 mod feeding;

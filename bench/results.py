@@ -1,0 +1,284 @@
+#!/usr/bin/env python3
+"""What `results_runs` has to print, worked out by the rules alone.
+
+    bench/results.py < crates/results_runs/stdin      prints what crates/results_runs/stdout has to be
+
+A second program over bench/rules.py and bench/stickers.py, which share nothing with the crates.
+crates/results_runs/src/main.rt says what its lines ask for; values are printed as Rust's `Debug` does.
+Standard library only.
+"""
+
+import sys
+
+sys.dont_write_bytecode = True
+import rules
+import stickers
+
+EVENTS = ("Cube3", "Cube2", "Cube4", "Cube5", "Cube6", "Cube7", "Blind3", "FewestMoves", "OneHanded", "Clock",
+          "Megaminx", "Pyraminx", "Skewb", "Square1", "Blind4", "Blind5")
+CODES = ("Unread", "Repeat", "UnknownCompetitor", "NameTaken", "RoundUnknown", "RoundOpen", "RoundsRule",
+         "FormatNotAllowed", "CutoffNotAllowed", "LimitNotAllowed", "NoScramble", "ScrambleThere", "WrongOutcome",
+         "Closed", "Already", "Full", "NotEntered", "OutOfOrder", "NoMoreAttempts", "NoSuchAttempt", "CutoffLost",
+         "Unfinished")
+# the order in which an event's formats are listed
+FORMATS = ("ao5", "mo3", "bo1", "bo2", "bo3")
+MOST_MOVES = 400
+
+
+# --- moves ---------------------------------------------------------------------------------------
+
+
+def moves_of(text):
+    """The tokens of a text, or why it is not read: one or more spaces stand between two tokens."""
+    if not text:
+        return "Empty"
+    tokens, at = [], 0
+    while True:
+        if len(tokens) == MOST_MOVES and at < len(text):
+            return "TooMany"
+        end = text.find(b" ", at)
+        token = text[at:] if end < 0 else text[at:end]
+        if not stickers.TOKEN.fullmatch(token.decode("latin-1")):
+            return f"BadToken {{ at: {at} }}"
+        tokens.append(token.decode())
+        if end < 0:
+            return tokens
+        at = end
+        while at < len(text) and text[at:at + 1] == b" ":
+            at += 1
+
+
+def move_text(token):
+    kind, amount = stickers.TOKEN.fullmatch(token).groups()
+    turned = {"": "Clockwise", "'": "Anticlockwise", "2": "Half"}[amount]
+    shown = f"Turn({kind.upper()})" if kind in "xyz" else f"{'Block' if kind[1:] else 'Face'}({kind[0]})"
+    return f"Move {{ kind: {shown}, quarter: {turned} }}"
+
+
+def moves_lines(text):
+    tokens = moves_of(text)
+    if isinstance(tokens, str):
+        return [tokens]
+    count = sum(token[0] not in "xyz" for token in tokens)
+    return [f"{count} count: [{', '.join(move_text(token) for token in tokens)}]", " ".join(tokens)]
+
+
+def made(colours, tokens):
+    for token in tokens:
+        moved = stickers.turn(token)
+        colours = {moved[sticker]: colour for sticker, colour in colours.items()}
+    return colours
+
+
+def is_solved(colours):
+    return all(len({colours[sticker] for sticker in stickers.STICKERS if sticker[1] == normal}) == 1
+               for normal in stickers.DIRECTIONS)
+
+
+def cube_lines(text):
+    tokens = moves_of(text)
+    if isinstance(tokens, str):
+        return [tokens]
+    names = {normal: name for name, normal in stickers.OUTWARD.items()}
+    colours = made({sticker: names[sticker[1]] for sticker in stickers.STICKERS}, tokens)
+    # side after side, in the order of x, y and z on each
+    shown = "".join(colours[sticker] for side in "URFDLB" for sticker in sorted(stickers.STICKERS)
+                    if sticker[1] == stickers.OUTWARD[side])
+    repeats, again = 1, colours
+    while not is_solved(again) and repeats < 1000:
+        repeats, again = repeats + 1, made(again, tokens)
+    return [f"{shown} order {repeats if repeats < 1000 else 0} back true"]
+
+
+def opposites_lines(_):
+    pairs = dict(zip("UDLRFB", "DURLBF"))
+    return [f"{side} {opposite}" for side, opposite in pairs.items()]
+
+
+def solve_lines(text):
+    scramble, solution = (moves_of(part) for part in text.split(b"/"))
+    if isinstance(scramble, str) or isinstance(solution, str):
+        return ["no moves"]
+    result = stickers.fewest_moves(scramble, solution)
+    return ["Dnf" if result == "DNF" else f"Moves({result})"]
+
+
+# --- values --------------------------------------------------------------------------------------
+
+
+def value_text(value):
+    return f"Number({value})" if isinstance(value, int) else value.capitalize()
+
+
+def time_lines(text):
+    hundredths, penalties, limit = (int(field) for field in text.split())
+    return [value_text(rules.timed(hundredths, penalties, limit or "-"))]
+
+
+def solved_lines(text):
+    moves = int(text.split()[0])
+    return [value_text(moves if moves <= 80 else "DNF")]
+
+
+def values_of(text):
+    return [field if field in ("DNF", "DNS") else int(field) for field in text.decode().split()]
+
+
+def value_lines(text):
+    value = values_of(text)[0]
+    if isinstance(value, int) and value > 2_000_000:
+        return ["out of range"]
+    return [rules.printed(value, "333"), str(value)]
+
+
+def digits_lines(text):
+    whole, last = text.split()
+    return [whole + last[-2:]]
+
+
+def ranks(what, form, values):
+    """What ranks: a number, or none, which is worse than any number; two of them where there is an average."""
+    least = rules.best(values)
+    average = rules.average(form, what, values)
+    both = (least, None) if form.startswith("bo") else (average, least)
+    return [number if isinstance(number, int) else None for number in both]
+
+
+def results_lines(text):
+    what, form, *rest = text.split(b" ", 2)
+    what, form, values = what.decode(), form.decode(), values_of(rest[0] if rest else b"")
+    average = rules.average(form, what, values)
+    averaged = "Missing" if average == "-" else value_text(average)
+    main, tie = (f"Some({number})" if number is not None else "None" for number in ranks(what, form, values))
+    return [f"{value_text(rules.best(values))}, {averaged}, RankKey {{ main: {main}, tie: {tie} }}",
+            rules.printed_average(average, what)]
+
+
+def better_lines(text):
+    what, form, rest = text.split(b" ", 2)
+    keys = [[float("inf") if number is None else number
+             for number in ranks(what.decode(), form.decode(), values_of(part))] for part in rest.split(b"/")]
+    return ["true" if keys[0] < keys[1] else "false"]
+
+
+# --- tables --------------------------------------------------------------------------------------
+
+
+def event_lines(text):
+    number = int(text)
+    if not 1 <= number <= 16:
+        return ["no event"]
+    name = rules.EVENTS[number - 1]
+    unit = "Moves" if name == "333fm" else "Time"
+    formats = " ".join(form.capitalize() for form in FORMATS if form in rules.FORMATS[name])
+    return [f"{number} {EVENTS[number - 1]} {name} {unit} {formats}"]
+
+
+def named_lines(text):
+    name = text.decode("latin-1")
+    return [f"Some({EVENTS[rules.EVENTS.index(name)]})" if name in rules.EVENTS else "None"]
+
+
+def format_lines(text):
+    name = text.decode("latin-1")
+    return [f"{name.capitalize()} {name} {rules.ATTEMPTS[name]}" if name in rules.ATTEMPTS else "no format"]
+
+
+def code_lines(text):
+    number = int(text)
+    return [f"{number} {CODES[number - 1]} {CODES[number - 1]}" if 1 <= number <= 22 else "no code"]
+
+
+def later_lines(text):
+    return [str(rules.later_rounds(int(text)))]
+
+
+def top_lines(text):
+    top, of = (int(field) for field in text.split())
+    return [str(rules.quota(("top", top), of))]
+
+
+def percent_lines(text):
+    percent, of = (int(field) for field in text.split())
+    return [str(rules.quota(("pct", percent), of))]
+
+
+# --- commands ------------------------------------------------------------------------------------
+
+
+def read_lines(text):
+    """The text again, or its first fault from the left."""
+    if len(text) > rules.MOST_IN_COMMAND:
+        return ["TooLong"]
+    word, space, rest = text.partition(b" ")
+    if word not in rules.WORDS:
+        return ["NotACommand"]
+    readers, last_is_rest = rules.WORDS[word]
+    fields = (rest.split(b" ", len(readers) - 1) if last_is_rest else rest.split(b" ")) if space else []
+    for index, reader in enumerate(readers, 1):
+        if index > len(fields) or reader(fields[index - 1]) is None:
+            return [f"BadField {{ index: {index} }}"]
+    if len(fields) > len(readers):
+        return [f"BadField {{ index: {len(readers) + 1} }}"]
+    return [text]
+
+
+class Competition:
+    def __init__(self):
+        self.meet, self.seen = rules.Meet(), set()
+
+    def give(self, text):
+        number, _, command = text.partition(b" ")
+        if number in self.seen:
+            return ["Repeat"]
+        self.seen.add(number)
+        return [self.meet.apply(command) or "Done"]
+
+    def name(self, text):
+        return [self.meet.names.get(int(text), b"nobody")]
+
+    def round(self, text):
+        what, which = text.split(b" ")[:2]
+        return what.decode(), int(which)
+
+    def who(self, text):
+        table = self.meet.rounds.get(self.round(text))
+        return ["no round"] if table is None else [f"{len(table.started())} started: {table.standings()}"]
+
+    def sheet(self, text):
+        what, which = self.round(text)
+        if (what, which) not in self.meet.rounds:
+            return ["NoSuchRound"]
+        return [rules.text_sheet(self.meet, what, which, int(text.split(b" ")[2]))[:-1]]
+
+    def table(self, text):
+        what, which = self.round(text)
+        if (what, which) not in self.meet.rounds:
+            return ["NoSuchRound"]
+        return [rules.table_sheet(self.meet, what, which)[:-1]]
+
+
+PLAIN = {"moves": moves_lines, "cube": cube_lines, "opposites": opposites_lines, "solve": solve_lines,
+         "time": time_lines, "solved": solved_lines, "value": value_lines, "digits": digits_lines, "results": results_lines,
+         "better": better_lines, "event": event_lines, "named": named_lines, "format": format_lines,
+         "code": code_lines, "later": later_lines, "top": top_lines, "percent": percent_lines, "read": read_lines}
+
+
+def main():
+    competition = Competition()
+    for line in sys.stdin.buffer.read().split(b"\n")[:-1]:
+        word, _, rest = line.partition(b" ")
+        word = word.decode("latin-1")
+        if word == "meet":
+            competition = Competition()
+            continue
+        if word in ("give", "name", "who", "sheet", "table"):
+            lines = getattr(competition, word)(rest)
+        else:
+            lines = PLAIN[word](rest) if word in PLAIN else [line]
+        for said in lines:
+            sys.stdout.buffer.write((said if isinstance(said, bytes) else said.encode()) + b"\n")
+
+
+if __name__ == "__main__":
+    main()
