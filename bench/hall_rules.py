@@ -254,8 +254,8 @@ def run(count, lines, write):
         for message in messages:
             sent.append(message)
             sender, to, kind, *fields = message
-            text = "m%d %d %d %s %s\n" % (len(sent), sender, to, kind, fields_text(kind, tuple(fields)))
-            write(text.encode())
+            text = fields_text(kind, tuple(fields))
+            write(("m%d %d %d %s %s\n" % (len(sent), sender, to, kind, text)).encode())
     for desk in desks:
         for pos, (entry_id, text) in enumerate(desk.log):
             write(b"desk %d %d %d %s\n" % (desk.number, pos, entry_id, text))
