@@ -1,0 +1,90 @@
+-- Connections that are served one after the other.
+use Rattle.std.specs.Prelude.{◌≡◌, ◌≤◌, ◌<◌, ℕ, List, [], ◌∷◌, ◌++◌, length, Option, None, Some}
+use Rattle.serving.specs.Adding.{Push}
+use Rattle.serving.specs.Connection.{Begun, IsConnection, sides}
+use Rattle.serving.specs.Making.{Way, Outside, outside_of}
+use Rattle.serving.specs.Nodes.{Seen}
+use Rattle.serving.specs.declared.ends.End.{End}
+use Rattle.serving.specs.declared.ends.End.TheVariants as end
+use Rattle.serving.specs.declared.ends.Served.{Served}
+use Rattle.store.specs.declared.home.Home.{Home}
+use Rattle.node.specs.Nodes.{NodeValue}
+use Rattle.sockets.specs.declared.serving_all.AllEnd.{AllEnd}
+use Rattle.sockets.specs.declared.serving_all.AllEnd.TheVariants as all
+use Rattle.sockets.specs.declared.serving_all.ServedAll.{ServedAll}
+
+-- a desk between two connections: what is seen of it, the node itself, and what the other desks
+-- were handed
+pub record Standing {V : Type 0} (way : Way V) : Type 0 where
+  pub seen : Seen
+  pub outside : Outside way
+
+abbrev pub standing_of : {K : Type 0} → (way : Way (NodeValue K)) → NodeValue K
+    → Option (List Push) → Standing way
+standing_of way node handed =
+    record {
+      seen = record { desk = node.desk; is_down = node.is_down };
+      outside = outside_of way node handed;
+    }
+
+-- a connection that was served so, from the one to the other
+pub record IsVisit {V : Type 0} {way : Way V} (home : Home) (served : Served)
+    (a b : Standing way) : Type 0 where
+  pub written : Option (List ℕ)
+  pub wrote : Option (List ℕ)
+  pub read : Option (List ℕ)
+  pub left : Option (List ℕ)
+  pub reads : ℕ
+  pub bytes : List ℕ
+  pub begun : List Begun
+  pub rest : List ℕ
+  pub is : IsConnection served home (sides a.seen written a.outside) (sides b.seen wrote b.outside)
+      bytes begun rest read left reads
+
+-- these connections, one after the other
+abbrev pub AreVisits : {V : Type 0} → {way : Way V} → Home → Standing way → List Served
+    → Standing way → Type 0
+AreVisits {V} {way} home a [] b = a ≡ b
+AreVisits {V} {way} home a (s ∷ ss) b =
+    (m : Standing way) × IsVisit home s a m × AreVisits home m ss b
+
+-- why no client is served behind a connection that ended so, if none is
+abbrev pub end_behind : End → Option AllEnd
+end_behind end.Stopped = Some all.Stopped
+end_behind end.Down = Some all.Down
+end_behind end.End = None
+end_behind end.Frames = None
+end_behind end.Reads = None
+end_behind (end.Fault e) = None
+end_behind end.Read = None
+end_behind end.Write = None
+end_behind end.NoMemory = None
+
+-- behind each of these the next client has its turn
+abbrev pub GoOn : List Served → Type 0
+GoOn [] = Unit {0}
+GoOn (s ∷ ss) = (end_behind s.end ≡ None) × GoOn ss
+
+-- the last of these connections is why no further one is served, and those before it are not
+pub record EndsBehind (why : AllEnd) (each front : List Served) (last : Served) : Type 0 where
+  pub parts : each ≡ front ++ last ∷ []
+  pub before : GoOn front
+  pub behind : end_behind last.end ≡ Some why
+
+abbrev pub EndsBehindLast : AllEnd → List Served → Type 0
+EndsBehindLast why each = (front : List Served) × (last : Served) × EndsBehind why each front last
+
+-- the cause of each end, where so many were asked for
+abbrev pub EndsAll : AllEnd → ℕ → List Served → Type 0
+EndsAll all.All most each = GoOn each × (length each ≡ most)
+EndsAll all.CannotListen most each = GoOn each × (length each < most)
+EndsAll all.Stopped most each = EndsBehindLast all.Stopped each
+EndsAll all.Down most each = EndsBehindLast all.Down each
+
+-- these connections were served, one after the other, and the end came by its cause
+pub record IsServedAll {V : Type 0} {way : Way V} (result : ServedAll) (home : Home) (most : ℕ)
+    (a b : Standing way) (each : List Served) : Type 0 where
+  pub visits : AreVisits home a each b
+  pub counted : result.connections ≡ length each
+  pub few : length each ≤ most
+  pub ends : EndsAll result.end most each

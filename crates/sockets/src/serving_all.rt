@@ -1,0 +1,116 @@
+//! Clients that are served one after the other.
+
+ghost use Rattle.std.specs.Prelude.{◌≡◌, List};
+ghost use Rattle.node.specs.Handles.{Handles};
+ghost use Rattle.node.specs.Nodes.{words};
+ghost use Rattle.serving.specs.Making.{outside_of};
+ghost use Rattle.serving.specs.declared.ends.Served.{Served as ServedValue};
+ghost use Rattle.sockets.specs.Visits.{IsVisit, IsServedAll, end_behind, standing_of};
+
+use crate::accepting::Accept;
+use node::Node;
+use serving::{End, Peers, Served, serve_connection};
+use std::alloc::Global;
+use store::keeper::Keeper;
+
+/// Why no further client is served.
+#[derive(Clone, Copy, PartialEq, Eq, Debug)]
+pub enum AllEnd {
+    /// As many as were asked for were served.
+    All,
+    /// A client's Stop was answered.
+    Stopped,
+    /// The desk is down.
+    Down,
+    /// The next client could not be accepted.
+    CannotListen,
+}
+
+/// What became of the clients.
+#[derive(Clone, Copy, PartialEq, Eq, Debug)]
+pub struct ServedAll {
+    /// How many connections were served.
+    pub connections: u32,
+    pub end: AllEnd,
+}
+
+/// Serves one client.
+fn serve_client<K: Keeper + Drop, A: Accept, P: Peers>(
+    alloc: Global,
+    listener: &mut A,
+    reader: A::Reader,
+    writer: A::Writer,
+    node: &mut Node<K>,
+    peers: &mut P,
+) -> Served
+    ensures visit { IsVisit (K.home_of node.old.keeper) result
+        (standing_of (Handles
+        (words K.home_of K.failures_of K.is_down K.is_honest K.keeps K.may_hold K.may_break))
+        node.old (P.handed peers.old))
+        (standing_of (Handles
+        (words K.home_of K.failures_of K.is_down K.is_honest K.keeps K.may_hold K.may_break))
+        node.new (P.handed peers.new)) }
+    ensures home { K.home_of node.new.keeper ≡ K.home_of node.old.keeper }
+{
+    let mut writer = writer;
+    let served = serve_connection(alloc, reader, &mut writer, node, peers);
+    listener.close(writer);
+    served
+}
+
+/// Serves `most` clients, one after the other, each as `serve_connection` does. A Stop, a desk that
+/// is down, or a client that can't be accepted ends it earlier; any other end of a connection is
+/// followed by the next client.
+pub fn serve_all<K: Keeper + Drop, A: Accept, P: Peers>(
+    alloc: Global,
+    listener: &mut A,
+    most: u32,
+    node: &mut Node<K>,
+    peers: &mut P,
+) -> ServedAll
+    ensures served { (each : List ServedValue) × IsServedAll result (K.home_of node.old.keeper) most
+        (standing_of (Handles
+        (words K.home_of K.failures_of K.is_down K.is_honest K.keeps K.may_hold K.may_break))
+        node.old (P.handed peers.old))
+        (standing_of (Handles
+        (words K.home_of K.failures_of K.is_down K.is_honest K.keeps K.may_hold K.may_break))
+        node.new (P.handed peers.new))
+        each }
+    ensures home { K.home_of node.new.keeper ≡ K.home_of node.old.keeper }
+{
+    let mut connections = 0;
+    while connections < most {
+        let Ok((reader, writer)) = listener.accept() else {
+            return ServedAll {
+                connections,
+                end: AllEnd::CannotListen,
+            };
+        };
+        connections += 1;
+        let served = serve_client(alloc, listener, reader, writer, node, peers);
+        if let Some(end) = end_behind(served.end) {
+            return ServedAll { connections, end };
+        }
+    }
+    ServedAll {
+        connections,
+        end: AllEnd::All,
+    }
+}
+
+/// Why no client is served behind a connection that ended so, if none is.
+fn end_behind(end: End) -> Option<AllEnd>
+    ensures { result ≡ end_behind end }
+{
+    match end {
+        End::Stopped => Some(AllEnd::Stopped),
+        End::Down => Some(AllEnd::Down),
+        End::End
+        | End::Frames
+        | End::Reads
+        | End::Fault(_)
+        | End::Read
+        | End::Write
+        | End::NoMemory => None,
+    }
+}
