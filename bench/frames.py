@@ -3,21 +3,26 @@
 
     bench/frames.py < crates/wire_runs/stdin          prints what crates/wire_runs/stdout has to be
 
-A second program, written from docs/FORMATS.md and sharing nothing with the crates: it looks at a whole
-stream at once where it can. crates/wire_runs/src/main.rt says what the lines ask for; a frame is
-printed as Rust's `Debug` does. Standard library only.
+A second program, written from docs/FORMATS.md and sharing nothing with the crates: it looks at a
+whole stream at once where it can. crates/wire_runs/src/main.rt says what the lines ask for; a frame
+is printed as Rust's `Debug` does. Standard library only.
 """
 
 import sys
 
 MOST = 300_000
-EVENTS = ("Cube3", "Cube2", "Cube4", "Cube5", "Cube6", "Cube7", "Blind3", "FewestMoves", "OneHanded", "Clock",
+EVENTS = ("Cube3", "Cube2", "Cube4", "Cube5", "Cube6", "Cube7", "Blind3", "FewestMoves",
+          "OneHanded", "Clock",
           "Megaminx", "Pyraminx", "Skewb", "Square1", "Blind4", "Blind5")
-CODES = ("Unread", "Repeat", "UnknownCompetitor", "NameTaken", "RoundUnknown", "RoundOpen", "RoundsRule",
-         "FormatNotAllowed", "CutoffNotAllowed", "LimitNotAllowed", "NoScramble", "ScrambleThere", "WrongOutcome",
-         "Closed", "Already", "Full", "NotEntered", "OutOfOrder", "NoMoreAttempts", "NoSuchAttempt", "CutoffLost",
+CODES = ("Unread", "Repeat", "UnknownCompetitor", "NameTaken", "RoundUnknown", "RoundOpen",
+         "RoundsRule",
+         "FormatNotAllowed", "CutoffNotAllowed", "LimitNotAllowed", "NoScramble", "ScrambleThere",
+         "WrongOutcome",
+         "Closed", "Already", "Full", "NotEntered", "OutOfOrder", "NoMoreAttempts", "NoSuchAttempt",
+         "CutoffLost",
          "Unfinished")
-REFUSALS = ("Busy", "LogFull", "BallotsSpent", "NoMemory", "Down", "NotThere", "NoSuchRound", "Foreign")
+REFUSALS = ("Busy", "LogFull", "BallotsSpent", "NoMemory", "Down", "NotThere", "NoSuchRound",
+            "Foreign")
 STYLES = ("Text", "Table")
 
 
@@ -105,7 +110,8 @@ def length_of_log(fields):
     return fields.number(4, 0, 65_536)
 
 
-BALLOT, POSITION, ENTRY, ID = ("ballot", Fields.ballot), ("pos", Fields.position), ("entry", Fields.entry), ("id", Fields.id)
+BALLOT, POSITION = ("ballot", Fields.ballot), ("pos", Fields.position)
+ENTRY, ID = ("entry", Fields.entry), ("id", Fields.id)
 KINDS = {
     1: ("Prepare", [BALLOT, POSITION]),
     2: ("Promise", [BALLOT, POSITION, ("vote", Fields.vote)]),
@@ -116,7 +122,8 @@ KINDS = {
     7: ("Decided", [POSITION, ENTRY]),
     16: ("Submit", [ENTRY]),
     17: ("Ask", [ID]),
-    18: ("Sheet", [("event", event), ("round", byte), ("position", any_position), ("style", style)]),
+    18: ("Sheet", [("event", event), ("round", byte), ("position", any_position),
+                   ("style", style)]),
     19: ("Tick", []),
     20: ("Stop", []),
     32: ("Taken", [ID]),
@@ -153,7 +160,8 @@ def frame(data):
 
 
 def stream(data):
-    """The frames, each with the place behind its last byte, what is left behind them, and the fault."""
+    """The frames, each with the place behind its last byte, what is left behind them, and the
+    fault."""
     frames, at = [], 0
     while True:
         rest = data[at:]
@@ -187,7 +195,8 @@ def frames_lines(text):
 
 
 def answers(pieces):
-    """What each piece gives: the number of frames, what is held, and the fault; None for the number at a fault."""
+    """What each piece gives: the number of frames, what is held, and the fault; None for the number
+    at a fault."""
     rest, broken = b"", None
     for piece in pieces:
         if broken is not None:
@@ -211,7 +220,8 @@ def stream_lines(text):
     size, _, text = text.partition(" ")
     data, size = bytes_of(text), int(size)
     frames, held, fault = stream(data)
-    most = max((held for _, held, _ in answers([data[at:at + size] for at in range(0, len(data), size)])), default=0)
+    most = max((held for _, held, _ in answers([data[at:at + size]
+                                                for at in range(0, len(data), size)])), default=0)
     kept = f"Some({fault})" if fault else "None"
     return [f"kinds {[kind for kind, _ in frames]}, spelled, {most} held at most, {held} at the end, {kept}"]
 

@@ -1,11 +1,13 @@
 #!/usr/bin/env python3
 """What `results_runs` has to print, worked out by the rules alone.
 
-    bench/results.py < crates/results_runs/stdin      prints what crates/results_runs/stdout has to be
+    bench/results.py < crates/results_runs/stdin
+
+It prints what crates/results_runs/stdout has to be.
 
 A second program over bench/rules.py and bench/stickers.py, which share nothing with the crates.
-crates/results_runs/src/main.rt says what its lines ask for; values are printed as Rust's `Debug` does.
-Standard library only.
+crates/results_runs/src/main.rt says what its lines ask for; values are printed as Rust's `Debug`
+does. Standard library only.
 """
 
 import sys
@@ -14,11 +16,15 @@ sys.dont_write_bytecode = True
 import rules
 import stickers
 
-EVENTS = ("Cube3", "Cube2", "Cube4", "Cube5", "Cube6", "Cube7", "Blind3", "FewestMoves", "OneHanded", "Clock",
+EVENTS = ("Cube3", "Cube2", "Cube4", "Cube5", "Cube6", "Cube7", "Blind3", "FewestMoves",
+          "OneHanded", "Clock",
           "Megaminx", "Pyraminx", "Skewb", "Square1", "Blind4", "Blind5")
-CODES = ("Unread", "Repeat", "UnknownCompetitor", "NameTaken", "RoundUnknown", "RoundOpen", "RoundsRule",
-         "FormatNotAllowed", "CutoffNotAllowed", "LimitNotAllowed", "NoScramble", "ScrambleThere", "WrongOutcome",
-         "Closed", "Already", "Full", "NotEntered", "OutOfOrder", "NoMoreAttempts", "NoSuchAttempt", "CutoffLost",
+CODES = ("Unread", "Repeat", "UnknownCompetitor", "NameTaken", "RoundUnknown", "RoundOpen",
+         "RoundsRule",
+         "FormatNotAllowed", "CutoffNotAllowed", "LimitNotAllowed", "NoScramble", "ScrambleThere",
+         "WrongOutcome",
+         "Closed", "Already", "Full", "NotEntered", "OutOfOrder", "NoMoreAttempts", "NoSuchAttempt",
+         "CutoffLost",
          "Unfinished")
 # the order in which an event's formats are listed
 FORMATS = ("ao5", "mo3", "bo1", "bo2", "bo3")
@@ -137,7 +143,8 @@ def digits_lines(text):
 
 
 def ranks(what, form, values):
-    """What ranks: a number, or none, which is worse than any number; two of them where there is an average."""
+    """What ranks: a number, or none, which is worse than any number; two of them where there is an
+    average."""
     least = rules.best(values)
     average = rules.average(form, what, values)
     both = (least, None) if form.startswith("bo") else (average, least)
@@ -149,7 +156,8 @@ def results_lines(text):
     what, form, values = what.decode(), form.decode(), values_of(rest[0] if rest else b"")
     average = rules.average(form, what, values)
     averaged = "Missing" if average == "-" else value_text(average)
-    main, tie = (f"Some({number})" if number is not None else "None" for number in ranks(what, form, values))
+    main, tie = (f"Some({number})" if number is not None else "None"
+                 for number in ranks(what, form, values))
     return [f"{value_text(rules.best(values))}, {averaged}, RankKey {{ main: {main}, tie: {tie} }}",
             rules.printed_average(average, what)]
 
@@ -157,7 +165,8 @@ def results_lines(text):
 def better_lines(text):
     what, form, rest = text.split(b" ", 2)
     keys = [[float("inf") if number is None else number
-             for number in ranks(what.decode(), form.decode(), values_of(part))] for part in rest.split(b"/")]
+             for number in ranks(what.decode(), form.decode(), values_of(part))]
+            for part in rest.split(b"/")]
     return ["true" if keys[0] < keys[1] else "false"]
 
 
@@ -181,7 +190,8 @@ def named_lines(text):
 
 def format_lines(text):
     name = text.decode("latin-1")
-    return [f"{name.capitalize()} {name} {rules.ATTEMPTS[name]}" if name in rules.ATTEMPTS else "no format"]
+    return [f"{name.capitalize()} {name} {rules.ATTEMPTS[name]}" if name in rules.ATTEMPTS
+            else "no format"]
 
 
 def code_lines(text):
@@ -214,7 +224,8 @@ def read_lines(text):
     if word not in rules.WORDS:
         return ["NotACommand"]
     readers, last_is_rest = rules.WORDS[word]
-    fields = (rest.split(b" ", len(readers) - 1) if last_is_rest else rest.split(b" ")) if space else []
+    fields = (rest.split(b" ", len(readers) - 1) if last_is_rest
+              else rest.split(b" ")) if space else []
     for index, reader in enumerate(readers, 1):
         if index > len(fields) or reader(fields[index - 1]) is None:
             return [f"BadField {{ index: {index} }}"]
@@ -258,10 +269,13 @@ class Competition:
         return [rules.table_sheet(self.meet, what, which)[:-1]]
 
 
-PLAIN = {"moves": moves_lines, "cube": cube_lines, "opposites": opposites_lines, "solve": solve_lines,
-         "time": time_lines, "solved": solved_lines, "value": value_lines, "digits": digits_lines, "results": results_lines,
+PLAIN = {"moves": moves_lines, "cube": cube_lines, "opposites": opposites_lines,
+         "solve": solve_lines,
+         "time": time_lines, "solved": solved_lines, "value": value_lines, "digits": digits_lines,
+         "results": results_lines,
          "better": better_lines, "event": event_lines, "named": named_lines, "format": format_lines,
-         "code": code_lines, "later": later_lines, "top": top_lines, "percent": percent_lines, "read": read_lines}
+         "code": code_lines, "later": later_lines, "top": top_lines, "percent": percent_lines,
+         "read": read_lines}
 
 
 def main():

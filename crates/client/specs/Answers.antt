@@ -22,8 +22,8 @@ abbrev pub is_fine : What → Bool
 is_fine what.Fine = true
 is_fine _ = false
 
--- a Submit is answered by Taken of its id, an Ask by Told of its id, a Sheet by the text of a sheet,
--- a Tick and a Stop by Fine; no other kind has an answer
+-- a Submit is answered by Taken of its id, an Ask by Told of its id, a Sheet by the text of a
+-- sheet, a Tick and a Stop by Fine; no other kind has an answer
 abbrev pub fits : What → What → Bool
 fits (what.Submit entry) given = is_taken entry.id given
 fits (what.Ask id) given = is_told id given

@@ -68,8 +68,8 @@ pub fn answers(asked: &Frame, given: &Frame) -> bool
 ///
 /// # Errors
 ///
-/// - `Refused` where the frame is a refusal, from whichever hall and desk: a desk that was not meant
-///   refuses under its own hall and number.
+/// - `Refused` where the frame is a refusal, from whichever hall and desk: a desk that was not
+///   meant refuses under its own hall and number.
 /// - `NoAnswer` where it is neither that nor the answer.
 pub fn judged(asked: &Frame, given: Frame) -> Result<What, ClientFault>
     ensures { result ≡ judged asked.now given }

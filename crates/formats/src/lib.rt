@@ -1,5 +1,5 @@
-//! Events and formats: what a competitor's attempts make together, the order of competitors, and how
-//! many may advance.
+//! Events and formats: what a competitor's attempts make together, the order of competitors, and
+//! how many may advance.
 #![tactic(auto)]
 
 mod advance;

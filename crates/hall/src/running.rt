@@ -171,8 +171,8 @@ fn write_logs<W: Write>(
 /// Lines are parted by line feeds; a last line without one counts where it is not empty. A line is
 /// `submit D ID TEXT`, `start D`, `tick D`, `deliver K` or `restart D`: D is the number of a desk,
 /// ID is 1 to 2^63 - 1, TEXT has at most 600 bytes and may be empty, and K, 1 to 999,999,999, names
-/// the K-th message ever sent; where there is none, nothing happens. Fields are parted by one space,
-/// and numbers are decimal without leading zeros.
+/// the K-th message ever sent; where there is none, nothing happens. Fields are parted by one
+/// space, and numbers are decimal without leading zeros.
 ///
 /// The k-th message that is sent is written as `m<k> <from> <to>`, its kind and its fields, and a
 /// refused event as `refused <line> <fault>`. At the end stands a line for each entry of each
@@ -181,15 +181,15 @@ fn write_logs<W: Write>(
 /// # Errors
 ///
 /// - `BadCount` where `desks` is neither 3 nor 5: nothing is read or written.
-/// - `InputTooLong` where the input has more than 65,536 lines, more than 10,000 bytes in a line, or
-///   more than 39,387,136 bytes: what the whole lines in front of the first byte too many gave is
-///   written, without logs.
+/// - `InputTooLong` where the input has more than 65,536 lines, more than 10,000 bytes in a line,
+///   or more than 39,387,136 bytes: what the whole lines in front of the first byte too many gave
+///   is written, without logs.
 /// - `BadLine` at the first line that spells no event: what the lines in front gave is written,
 ///   without logs, and nothing more is read.
 /// - `Read` where a read fails, an interrupted one too: what the whole lines in front gave is
 ///   written, without logs.
-/// - `Write` where a write fails, and `NoMemory` where memory runs out: a front part of the text for
-///   the whole input is written.
+/// - `Write` where a write fails, and `NoMemory` where memory runs out: a front part of the text
+///   for the whole input is written.
 pub fn hall<R: Read, W: Write>(
     alloc: Global,
     reader: &mut R,

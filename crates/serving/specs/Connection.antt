@@ -102,20 +102,23 @@ sides x written outside = record { seen = x; written = written; outside = outsid
 -- ---- one frame
 
 -- all was done for it but that its answer was not written whole
-pub record BreaksOff {V : Type 0} {way : Way V} (home : Home) (a b : Sides way) (one : Begun) : Type 0 where
+pub record BreaksOff {V : Type 0} {way : Way V} (home : Home) (a b : Sides way)
+    (one : Begun) : Type 0 where
   pub answered : AppendsPart a.written b.written
       (answer_bytes (serve_frame home a.seen one).answers)
   pub made : Makes home.hall a.outside b.outside (serve_frame home a.seen one).acts
   pub node : b.seen ≡ (serve_frame home a.seen one).seen
 
 -- a front part of its calls and pushes was done, and nothing was answered
-pub record DoesFront {V : Type 0} {way : Way V} (home : Home) (a b : Sides way) (one : Begun) (acts rest : List Act) : Type 0 where
+pub record DoesFront {V : Type 0} {way : Way V} (home : Home) (a b : Sides way) (one : Begun)
+    (acts rest : List Act) : Type 0 where
   pub parts : (serve_frame home a.seen one).acts ≡ acts ++ rest
   pub silent : Appends a.written b.written []
   pub made : Makes home.hall a.outside b.outside acts
   pub node : b.seen ≡ seen_after home a.seen acts one.fates
 
-abbrev pub FailsIn : {V : Type 0} → {way : Way V} → FrameFault → Home → Sides way → Sides way → Begun → Type 0
+abbrev pub FailsIn : {V : Type 0} → {way : Way V} → FrameFault → Home → Sides way → Sides way
+    → Begun → Type 0
 FailsIn fault.Write home a b one = BreaksOff home a b one
 FailsIn fault.NoMemory home a b one =
     (acts : List Act) × (rest : List Act) × DoesFront home a b one acts rest
@@ -124,43 +127,51 @@ FailsIn fault.NoMemory home a b one =
 
 -- what was written, the calls made, what was pushed, and the node afterwards, are what the frames
 -- come to
-pub record IsServed {V : Type 0} {way : Way V} (home : Home) (a b : Sides way) (begun : List Begun) : Type 0 where
+pub record IsServed {V : Type 0} {way : Way V} (home : Home) (a b : Sides way)
+    (begun : List Begun) : Type 0 where
   pub answered : Appends a.written b.written (answer_bytes (serve_frames home a.seen begun).answers)
   pub made : Makes home.hall a.outside b.outside (serve_frames home a.seen begun).acts
   pub node : b.seen ≡ (serve_frames home a.seen begun).seen
 
 -- the frames were served, and the connection stayed open
-pub record Serves {V : Type 0} {way : Way V} (home : Home) (a b : Sides way) (begun : List Begun) : Type 0 where
+pub record Serves {V : Type 0} {way : Way V} (home : Home) (a b : Sides way)
+    (begun : List Begun) : Type 0 where
   pub stays : StaysOpen home a.seen begun
   pub served : IsServed home a b begun
 
 -- the frames were served, and the last one ended the connection
-pub record ServesUntil {V : Type 0} {way : Way V} (ends : Close) (home : Home) (a b : Sides way) (begun front : List Begun)
+pub record ServesUntil {V : Type 0} {way : Way V} (ends : Close) (home : Home) (a b : Sides way)
+    (begun front : List Begun)
     (last : Begun) : Type 0 where
   pub parts : begun ≡ front ++ last ∷ []
   pub stays : StaysOpen home a.seen front
   pub close : close_of home (serve_frames home a.seen front).seen last ≡ Some ends
   pub served : IsServed home a b begun
 
-abbrev pub Closes : {V : Type 0} → {way : Way V} → Close → Home → Sides way → Sides way → List Begun → Type 0
+abbrev pub Closes : {V : Type 0} → {way : Way V} → Close → Home → Sides way → Sides way → List Begun
+    → Type 0
 Closes ends home a b begun =
     (front : List Begun) × (last : Begun) × ServesUntil ends home a b begun front last
 
 -- the frames but the last were served, and the last one failed
-pub record FailsLast {V : Type 0} {way : Way V} (why : FrameFault) (home : Home) (a m b : Sides way) (begun front : List Begun)
+pub record FailsLast {V : Type 0} {way : Way V} (why : FrameFault) (home : Home) (a m b : Sides way)
+    (begun front : List Begun)
     (last : Begun) : Type 0 where
   pub parts : begun ≡ front ++ last ∷ []
   pub before : Serves home a m front
   pub fails : FailsIn why home m b last
 
-abbrev pub Fails : {V : Type 0} → {way : Way V} → FrameFault → Home → Sides way → Sides way → List Begun → Type 0
+abbrev pub Fails : {V : Type 0} → {way : Way V} → FrameFault → Home → Sides way → Sides way
+    → List Begun → Type 0
 Fails {V} {way} why home a b begun =
-    (front : List Begun) × (last : Begun) × (m : Sides way) × FailsLast why home a m b begun front last
+    (front : List Begun) × (last : Begun) × (m : Sides way)
+    × FailsLast why home a m b begun front last
 
 -- ---- ends
 
 -- fewer than 64 frames were begun, all were served, and the connection is open
-pub record IsOpen {V : Type 0} {way : Way V} (home : Home) (a b : Sides way) (begun : List Begun) : Type 0 where
+pub record IsOpen {V : Type 0} {way : Way V} (home : Home) (a b : Sides way)
+    (begun : List Begun) : Type 0 where
   pub serves : Serves home a b begun
   pub few : length begun < 64
 
@@ -168,7 +179,8 @@ pub record IsOpen {V : Type 0} {way : Way V} (home : Home) (a b : Sides way) (be
 
 -- The cause of each end. `rest` is what was read behind the frames begun, `left` is what the reader
 -- has left, and `reads` is how often it was read from.
-abbrev pub EndsAt : {V : Type 0} → {way : Way V} → End → Home → Sides way → Sides way → List Begun → List ℕ → Option (List ℕ) → ℕ → Type 0
+abbrev pub EndsAt : {V : Type 0} → {way : Way V} → End → Home → Sides way → Sides way → List Begun
+    → List ℕ → Option (List ℕ) → ℕ → Type 0
 EndsAt end.End home a b begun rest left reads =
     IsOpen home a b begun × (front rest ≡ Waits) × IsAtEnd left
 EndsAt end.Stopped home a b begun rest left reads = Closes close.Stopped home a b begun
@@ -184,7 +196,8 @@ EndsAt end.NoMemory home a b begun rest left reads =
     IsOpen home a b begun ⊎ Fails fault.NoMemory home a b begun
 
 -- a connection: the bytes read are the frames begun and a rest, and the end came by its cause
-pub record IsConnection {V : Type 0} {way : Way V} (result : Served) (home : Home) (a b : Sides way) (bytes : List ℕ)
+pub record IsConnection {V : Type 0} {way : Way V} (result : Served) (home : Home) (a b : Sides way)
+    (bytes : List ℕ)
     (begun : List Begun) (rest : List ℕ) (read left : Option (List ℕ)) (reads : ℕ) : Type 0 where
   pub consumed : Consumes read left bytes
   pub begins : AreBegun bytes begun rest

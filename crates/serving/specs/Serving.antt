@@ -39,8 +39,8 @@ pushed hall m = record { to = m.to; bytes = spelling (framed hall m) }
 
 -- ---- one frame
 
--- what is done while a frame is served: the node is called, with an event and its answer to it, or a
--- message is pushed to another desk
+-- what is done while a frame is served: the node is called, with an event and its answer to it, or
+-- a message is pushed to another desk
 pub data Act : Type 0 where
   Called : Event → Result (List Message) NodeFault → Act
   Pushed : Message → Act

@@ -1,4 +1,5 @@
--- Models of the code: how its steps come to what the definitions say. No public contract cites them.
+-- Models of the code: how its steps come to what the definitions say. No public contract cites
+-- them.
 pub mod Writing
 pub mod Framing
 pub mod Pushing

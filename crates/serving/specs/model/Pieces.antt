@@ -11,7 +11,8 @@ use Rattle.serving.specs.Connection.{Begun, frames_of, AreBegun, Sides, Serves, 
 use Rattle.serving.specs.Making.{Way}
 
 -- how frames end the connection of themselves, and how many were begun by then
-abbrev pub EndsInFrames : {V : Type 0} → {way : Way V} → End → Home → Sides way → Sides way → List Begun → ℕ → Type 0
+abbrev pub EndsInFrames : {V : Type 0} → {way : Way V} → End → Home → Sides way → Sides way
+    → List Begun → ℕ → Type 0
 EndsInFrames end.Stopped home a b begun count = Closes close.Stopped home a b begun
 EndsInFrames end.Down home a b begun count = Closes close.Down home a b begun
 EndsInFrames end.Frames home a b begun count = Serves home a b begun × (count ≡ 64)
@@ -23,11 +24,13 @@ EndsInFrames (end.Fault e) home a b begun count = ⊥
 EndsInFrames end.Read home a b begun count = ⊥
 
 -- how the frames at hand were served: all of them, fewer than 64 with those before, or some of them
-abbrev pub EndsBatch : {V : Type 0} → {way : Way V} → Option End → Home → Sides way → Sides way → List Begun → List Frame → ℕ → Type 0
+abbrev pub EndsBatch : {V : Type 0} → {way : Way V} → Option End → Home → Sides way → Sides way
+    → List Begun → List Frame → ℕ → Type 0
 EndsBatch None home a b begun left count = Serves home a b begun × (left ≡ []) × (count < 64)
 EndsBatch (Some e) home a b begun left count = EndsInFrames e home a b begun count
 
-pub record IsBatch {V : Type 0} {way : Way V} (how : Option End) (home : Home) (a b : Sides way) (given : List Frame)
+pub record IsBatch {V : Type 0} {way : Way V} (how : Option End) (home : Home) (a b : Sides way)
+    (given : List Frame)
     (begun : List Begun) (left : List Frame) (before count : ℕ) : Type 0 where
   pub parts : given ≡ frames_of begun ++ left
   pub counted : count ≡ before + length begun
@@ -37,7 +40,8 @@ pub record IsBatch {V : Type 0} {way : Way V} (how : Option End) (home : Home) (
 -- ---- pieces of the stream
 
 -- how a piece of the stream was served, with what is left of it
-abbrev pub EndsPiece : {V : Type 0} → {way : Way V} → Option End → Home → Sides way → Sides way → List Begun → List ℕ → ℕ → Reader → Type 0
+abbrev pub EndsPiece : {V : Type 0} → {way : Way V} → Option End → Home → Sides way → Sides way
+    → List Begun → List ℕ → ℕ → Reader → Type 0
 EndsPiece None home a b begun rest count new =
     Serves home a b begun × (count < 64) × (new ≡ holding rest) × (front rest ≡ Waits)
 EndsPiece (Some (end.Fault e)) home a b begun rest count new =
@@ -55,7 +59,8 @@ EndsPiece (Some end.End) home a b begun rest count new = ⊥
 EndsPiece (Some end.Reads) home a b begun rest count new = ⊥
 EndsPiece (Some end.Read) home a b begun rest count new = ⊥
 
-pub record IsPiece {V : Type 0} {way : Way V} (how : Option End) (home : Home) (a b : Sides way) (stream : List ℕ)
+pub record IsPiece {V : Type 0} {way : Way V} (how : Option End) (home : Home) (a b : Sides way)
+    (stream : List ℕ)
     (begun : List Begun) (rest : List ℕ) (before count : ℕ) (new : Reader) : Type 0 where
   pub begins : AreBegun stream begun rest
   pub counted : count ≡ before + length begun

@@ -41,18 +41,21 @@ abbrev pub OnlyAdds : (Service → Service) → Type 0
 OnlyAdds f = (s : Service) → (more : List Act) × ((f s).done ≡ s.done ++ more)
 
 -- all of it was done: its calls were made and its messages pushed
-pub record Did {V : Type 0} {way : Way V} (home : Home) (all : Service → Service) (first second : Place) (acts : List Act)
+pub record Did {V : Type 0} {way : Way V} (home : Home) (all : Service → Service)
+    (first second : Place) (acts : List Act)
     (past : List Fate) (old new : Outside way) : Type 0 where
   pub reaches : Reaches home all first (λ s. s) second acts past
   pub made : Makes home.hall old new acts
 
-abbrev pub Does : {V : Type 0} → {way : Way V} → Home → (Service → Service) → Place → Place → Outside way
+abbrev pub Does : {V : Type 0} → {way : Way V} → Home → (Service → Service) → Place → Place
+    → Outside way
     → Outside way → Type 0
 Does home all first second old new =
     (acts : List Act) × (past : List Fate) × Did home all first second acts past old new
 
 -- a front part of it was done, of which this is what was seen of the node last
-pub record DidPart {V : Type 0} {way : Way V} (home : Home) (all : Service → Service) (first : Place) (shown : Seen)
+pub record DidPart {V : Type 0} {way : Way V} (home : Home) (all : Service → Service)
+    (first : Place) (shown : Seen)
     (acts : List Act) (past : List Fate) (rest : Service → Service) (second : Place)
     (old new : Outside way) : Type 0 where
   pub reaches : Reaches home all first rest second acts past
@@ -60,14 +63,16 @@ pub record DidPart {V : Type 0} {way : Way V} (home : Home) (all : Service → S
   pub last : second.seen ≡ shown
   pub made : Makes home.hall old new acts
 
-abbrev pub DoesPart : {V : Type 0} → {way : Way V} → Home → (Service → Service) → Place → Seen → Outside way
+abbrev pub DoesPart : {V : Type 0} → {way : Way V} → Home → (Service → Service) → Place → Seen
+    → Outside way
     → Outside way → Type 0
 DoesPart home all first last old new =
     (acts : List Act) × (past : List Fate) × (rest : Service → Service) × (second : Place)
     × DidPart home all first last acts past rest second old new
 
 -- an event was taken with all that comes of it, and the node's answer is that of the first fate
-pub record DoesCall {V : Type 0} {way : Way V} (home : Home) (left last : ℕ) (event : Event) (answer : Answer) (x y : Seen)
+pub record DoesCall {V : Type 0} {way : Way V} (home : Home) (left last : ℕ) (event : Event)
+    (answer : Answer) (x y : Seen)
     (acts : List Act) (past : List Fate) (old new : Outside way) : Type 0 where
   pub did : Did home (λ s. settle_by home left (call home event s)) (at x [] left) (at y [] last)
       acts past old new
@@ -77,7 +82,8 @@ pub record DoesCall {V : Type 0} {way : Way V} (home : Home) (left last : ℕ) (
   pub answer_is : answer ≡ answer_of (reply home x event fate).result
 
 -- the same, with Start where the log grew
-pub record DoesTake {V : Type 0} {way : Way V} (home : Home) (last : ℕ) (event : Event) (answer : Answer) (x y : Seen)
+pub record DoesTake {V : Type 0} {way : Way V} (home : Home) (last : ℕ) (event : Event)
+    (answer : Answer) (x y : Seen)
     (acts : List Act) (past : List Fate) (old new : Outside way) : Type 0 where
   pub did : Did home (take home event) (at x [] 16) (at y [] last) acts past old new
   pub fate : Fate

@@ -11,7 +11,8 @@ use Rattle.serving.specs.Nodes.{Seen, Fate}
 use Rattle.serving.specs.Serving.{Act, served, answer, seen_after}
 
 -- all calls and pushes of the request were made, and this is its answer
-pub record Answers {V : Type 0} {way : Way V} (home : Home) (x y : Seen) (fates : List Fate) (r : Request) (w : Option What)
+pub record Answers {V : Type 0} {way : Way V} (home : Home) (x y : Seen) (fates : List Fate)
+    (r : Request) (w : Option What)
     (old new : Outside way) : Type 0 where
   pub answer_is : w ≡ answer home x fates r
   pub made : Makes home.hall old new (served home x fates r).done
@@ -19,25 +20,29 @@ pub record Answers {V : Type 0} {way : Way V} (home : Home) (x y : Seen) (fates 
   pub calls : y ≡ seen_after home x (served home x fates r).done fates
 
 -- a front part of the request's calls and pushes was made
-pub record AnswersPart {V : Type 0} {way : Way V} (home : Home) (x y : Seen) (fates : List Fate) (r : Request)
+pub record AnswersPart {V : Type 0} {way : Way V} (home : Home) (x y : Seen) (fates : List Fate)
+    (r : Request)
     (acts rest : List Act)
     (old new : Outside way) : Type 0 where
   pub parts : (served home x fates r).done ≡ acts ++ rest
   pub made : Makes home.hall old new acts
   pub node : y ≡ seen_after home x acts fates
 
-abbrev pub AnswersSome : {V : Type 0} → {way : Way V} → Home → Seen → Seen → Request → Option What → Outside way
+abbrev pub AnswersSome : {V : Type 0} → {way : Way V} → Home → Seen → Seen → Request → Option What
+    → Outside way
     → Outside way → Type 0
 AnswersSome home x y r w old new = (fates : List Fate) × Answers home x y fates r w old new
 
-abbrev pub FailsToAnswer : {V : Type 0} → {way : Way V} → Home → Seen → Seen → Request → Outside way → Outside way
+abbrev pub FailsToAnswer : {V : Type 0} → {way : Way V} → Home → Seen → Seen → Request → Outside way
+    → Outside way
     → Type 0
 FailsToAnswer home x y r old new =
     (fates : List Fate) × (acts : List Act) × (rest : List Act)
     × AnswersPart home x y fates r acts rest old new
 
 -- the frame was served whole
-pub record ServesOne {V : Type 0} {way : Way V} (home : Home) (a b : Sides way) (one : Begun) (ends : Option Close) : Type 0 where
+pub record ServesOne {V : Type 0} {way : Way V} (home : Home) (a b : Sides way) (one : Begun)
+    (ends : Option Close) : Type 0 where
   pub close : ends ≡ close_of home a.seen one
   pub answered : Appends a.written b.written (answer_bytes (serve_frame home a.seen one).answers)
   pub made : Makes home.hall a.outside b.outside (serve_frame home a.seen one).acts
