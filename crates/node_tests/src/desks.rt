@@ -48,50 +48,15 @@ fn promise(from: u8, to: u8, round: u32, vote: Option<Report>) -> Message {
     message(from, to, Body::Promise { ballot, pos, vote })
 }
 
-fn accept_in(alloc: Global, round: u32, from: u8, to: u8) -> Result<Message, Fail> {
-    let ballot = ballot(round, from);
+fn accept(alloc: Global, from: u8, to: u8) -> Result<Message, Fail> {
+    let ballot = ballot(1, from);
     let entry = ann(alloc)?;
     let pos = 0;
     Ok(message(from, to, Body::Accept { ballot, pos, entry }))
 }
 
-fn accept(alloc: Global, from: u8, to: u8) -> Result<Message, Fail> {
-    accept_in(alloc, 1, from, to)
-}
-
-fn accepted_in(round: u32, from: u8, to: u8) -> Message {
-    let ballot = ballot(round, to);
-    message(from, to, Body::Accepted { ballot, pos: 0 })
-}
-
-fn accepted(from: u8, to: u8) -> Message {
-    accepted_in(1, from, to)
-}
-
-fn nack(from: u8, to: u8, ballot: Ballot, promised: Ballot) -> Message {
-    let pos = 0;
-    message(
-        from,
-        to,
-        Body::Nack {
-            ballot,
-            pos,
-            promised,
-        },
-    )
-}
-
-fn decided(alloc: Global, from: u8, to: u8) -> Result<Message, Fail> {
-    let entry = ann(alloc)?;
-    Ok(message(from, to, Body::Decided { pos: 0, entry }))
-}
-
-fn behind(from: u8, to: u8, len: u32) -> Message {
-    message(from, to, Body::Behind { len })
-}
-
 /// The node takes the event, and hands these out.
-pub(crate) fn says<K: Keeper + Drop>(
+fn says<K: Keeper + Drop>(
     rt: &impl Abort,
     node: &mut Node<K>,
     event: Event,
@@ -176,120 +141,6 @@ pub(crate) fn spelled(alloc: Global, sent: &[Message]) -> Result<Vec<u8>, Fail> 
         text.push(letter(&message.body))?;
     }
     Ok(text)
-}
-
-/// A desk that has asked for votes by ballot (1, 1), and stops.
-fn ask(rt: &impl Abort, alloc: Global, keeper: &mut MemoryKeeper) -> Result<(), Fail> {
-    let mut node = open(alloc, keeper)?;
-    says(rt, &mut node, Event::Submit(ann(alloc)?), &[])?;
-    let first = [
-        prepare(1, 1, 1, 0),
-        prepare(1, 2, 1, 0),
-        prepare(1, 3, 1, 0),
-    ];
-    says(rt, &mut node, Event::Start, &first)?;
-    says(rt, &mut node, Event::Deliver(promise(1, 1, 1, None)), &[])?;
-    let wanted = [
-        accept(alloc, 1, 1)?,
-        accept(alloc, 1, 2)?,
-        accept(alloc, 1, 3)?,
-    ];
-    says(
-        rt,
-        &mut node,
-        Event::Deliver(promise(2, 1, 1, None)),
-        &wanted,
-    )
-}
-
-#[test]
-fn restarted_desk_takes_a_new_ballot(rt: HostRuntime) -> Result<(), Fail> {
-    let alloc = rt.alloc();
-    let mut keeper = MemoryKeeper::new(alloc, 7, 1, 3)?;
-    ask(&rt, alloc, &mut keeper)?;
-    let mut node = open(alloc, &mut keeper)?;
-    says(&rt, &mut node, Event::Deliver(accepted(2, 1)), &[])?;
-    says(
-        &rt,
-        &mut node,
-        Event::Tick,
-        &[behind(1, 2, 0), behind(1, 3, 0)],
-    )?;
-    let wanted = [
-        prepare(1, 1, 2, 0),
-        prepare(1, 2, 2, 0),
-        prepare(1, 3, 2, 0),
-    ];
-    says(&rt, &mut node, Event::Start, &wanted)
-}
-
-#[test]
-fn answers_by_its_log(rt: HostRuntime) -> Result<(), Fail> {
-    let alloc = rt.alloc();
-    let mut node = open(alloc, MemoryKeeper::new(alloc, 7, 1, 3)?)?;
-    says(
-        &rt,
-        &mut node,
-        Event::Deliver(accept(alloc, 1, 1)?),
-        &[accepted(1, 1)],
-    )?;
-    says(
-        &rt,
-        &mut node,
-        Event::Deliver(decided(alloc, 2, 1)?),
-        &[behind(1, 2, 1)],
-    )?;
-    let promised = Body::Promise {
-        ballot: ballot(2, 2),
-        pos: 1,
-        vote: None,
-    };
-    says(
-        &rt,
-        &mut node,
-        Event::Deliver(prepare(2, 1, 2, 1)),
-        &[message(1, 2, promised)],
-    )?;
-    for from in 1..4 {
-        says(
-            &rt,
-            &mut node,
-            Event::Deliver(prepare(from, 1, 3, 0)),
-            &[decided(alloc, 1, from)?],
-        )?;
-    }
-    says(
-        &rt,
-        &mut node,
-        Event::Deliver(prepare(3, 1, 3, 3)),
-        &[behind(1, 3, 1)],
-    )
-}
-
-#[test]
-fn counts_desks_and_not_messages(rt: HostRuntime) -> Result<(), Fail> {
-    let alloc = rt.alloc();
-    let mut node = open(alloc, MemoryKeeper::new(alloc, 7, 1, 5)?)?;
-    node.handle(Event::Submit(ann(alloc)?))?;
-    node.handle(Event::Start)?;
-    for from in [2, 2, 2, 3] {
-        says(
-            &rt,
-            &mut node,
-            Event::Deliver(promise(from, 1, 1, None)),
-            &[],
-        )?;
-    }
-    let mut wanted = Vec::new(alloc);
-    for to in 1..6 {
-        wanted.push(accept(alloc, 1, to)?)?;
-    }
-    says(
-        &rt,
-        &mut node,
-        Event::Deliver(promise(4, 1, 1, None)),
-        &wanted,
-    )
 }
 
 /// Desk 1 of 3 of a hall in memory, or another.
@@ -440,106 +291,6 @@ fn refuses_and_ignores(rt: HostRuntime) -> Result<(), Fail> {
 /// Desk 1 of 3 of a hall in memory.
 fn first_of_three(alloc: Global) -> Result<Node<MemoryKeeper>, Fail> {
     open(alloc, MemoryKeeper::new(alloc, 7, 1, 3)?)
-}
-
-/// What desk 1 of 3 asks all desks by its ballot of this round, at a position.
-pub(crate) fn asks_at(round: u32, pos: u32) -> [Message; 3] {
-    [
-        prepare(1, 1, round, pos),
-        prepare(1, 2, round, pos),
-        prepare(1, 3, round, pos),
-    ]
-}
-
-fn asks(round: u32) -> [Message; 3] {
-    asks_at(round, 0)
-}
-
-/// A Nack of the desk's ballot makes it idle. Its next ballot is above the one that the Nack shows.
-fn check_nack(rt: &impl Abort, node: &mut Node<MemoryKeeper>) -> Result<(), Fail> {
-    says(rt, node, Event::Start, &asks(1))?;
-    let shown = nack(2, 1, ballot(1, 1), ballot(4, 2));
-    says(rt, node, Event::Deliver(shown), &[])?;
-    says(rt, node, Event::Start, &asks(5))
-}
-
-#[test]
-fn desk_gives_its_ballot_up_at_a_nack(rt: HostRuntime) -> Result<(), Fail> {
-    check_nack(&rt, &mut first_of_three(rt.alloc())?)
-}
-
-/// An idle desk with an entry in the queue makes a ballot, and one that gathers promises a new one.
-fn check_ticks_before_promises(
-    rt: &impl Abort,
-    alloc: Global,
-    node: &mut Node<MemoryKeeper>,
-) -> Result<(), Fail> {
-    says(rt, node, Event::Submit(ann(alloc)?), &[])?;
-    says(rt, node, Event::Tick, &asks(1))?;
-    says(rt, node, Event::Tick, &asks(2))
-}
-
-/// Two of three desks promise by ballot (2, 1), and the desk asks for votes.
-fn check_promises(
-    rt: &impl Abort,
-    alloc: Global,
-    node: &mut Node<MemoryKeeper>,
-) -> Result<(), Fail> {
-    says(rt, node, Event::Deliver(promise(1, 1, 2, None)), &[])?;
-    let wanted = [
-        accept_in(alloc, 2, 1, 1)?,
-        accept_in(alloc, 2, 1, 2)?,
-        accept_in(alloc, 2, 1, 3)?,
-    ];
-    says(rt, node, Event::Deliver(promise(3, 1, 2, None)), &wanted)
-}
-
-/// A desk that proposes asks again each desk whose vote it has not heard.
-fn check_tick_after_a_vote(
-    rt: &impl Abort,
-    alloc: Global,
-    node: &mut Node<MemoryKeeper>,
-) -> Result<(), Fail> {
-    says(rt, node, Event::Deliver(accepted_in(2, 2, 1)), &[])?;
-    let wanted = [accept_in(alloc, 2, 1, 1)?, accept_in(alloc, 2, 1, 3)?];
-    says(rt, node, Event::Tick, &wanted)
-}
-
-#[test]
-fn tick_goes_by_the_role(rt: HostRuntime) -> Result<(), Fail> {
-    let alloc = rt.alloc();
-    let mut node = first_of_three(alloc)?;
-    check_ticks_before_promises(&rt, alloc, &mut node)?;
-    check_promises(&rt, alloc, &mut node)?;
-    check_tick_after_a_vote(&rt, alloc, &mut node)
-}
-
-/// A Prepare and an Accept of a ballot below the promised one are answered by a Nack that shows it.
-fn check_refusals(
-    rt: &impl Abort,
-    alloc: Global,
-    node: &mut Node<MemoryKeeper>,
-) -> Result<(), Fail> {
-    let wanted = [nack(1, 3, ballot(2, 3), ballot(3, 2))];
-    says(rt, node, Event::Deliver(prepare(3, 1, 2, 0)), &wanted)?;
-    says(
-        rt,
-        node,
-        Event::Deliver(accept_in(alloc, 2, 3, 1)?),
-        &wanted,
-    )
-}
-
-#[test]
-fn ballot_below_the_promised_one_is_refused(rt: HostRuntime) -> Result<(), Fail> {
-    let mut node = first_of_three(rt.alloc())?;
-    says(
-        &rt,
-        &mut node,
-        Event::Deliver(prepare(2, 1, 3, 0)),
-        &[promise(1, 2, 3, None)],
-    )?;
-    check_refusals(&rt, rt.alloc(), &mut node)
 }
 
 /// The log's first entry opens a round.
