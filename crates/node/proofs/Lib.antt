@@ -1,5 +1,6 @@
-pub mod Taking
+pub mod Calls
+pub mod KeptLogs
 pub mod Loading
 pub mod Putting
 pub mod Stopping
-pub mod Calls
+pub mod Taking

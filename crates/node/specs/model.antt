@@ -1,2 +1,3 @@
--- A model of the code. No public contract cites it.
+-- Models of the code. No public contract cites them.
+pub mod KeptMeets
 pub mod Planning

@@ -7,6 +7,7 @@
 
 mod entries;
 mod handling;
+mod kept_meet;
 pub mod laws;
 mod node;
 

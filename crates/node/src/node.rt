@@ -13,6 +13,7 @@ ghost use Rattle.node.specs.Opens.{Opens, GivesBack};
 
 use crate::entries::look_at_all;
 use crate::handling::take_event;
+use crate::kept_meet::KeptMeet;
 use acceptor::NoMemory;
 use acceptor::message::Messages;
 use learner::event::Event;
@@ -23,7 +24,7 @@ use std::marker::Model;
 use store::faults::LoadFault;
 use store::home::Home;
 use store::keeper::Keeper;
-use world::answers::{Told, answer_of, sheet_of};
+use world::answers::Told;
 use world::faults::{NodeFault, SheetFault};
 use world::running::Running;
 
@@ -36,6 +37,7 @@ pub struct Node<K: Keeper> {
     alloc: Global,
     keeper: K,
     desk: Running,
+    kept: KeptMeet,
     is_down: bool,
 }
 
@@ -46,6 +48,7 @@ impl<K: Keeper + Drop> Drop for Node<K> {
             alloc: _,
             keeper: _,
             desk: _,
+            kept: _,
             is_down: _,
         } = self;
     }
@@ -59,11 +62,14 @@ impl<K: Keeper> Model for Node<K> {
 
     ghost view = { λ n. record { keeper = n.keeper; desk = n.desk.desk; is_down = n.is_down } };
 
+    ghost use Rattle.node.specs.model.KeptMeets.{IsKeptOf};
+
     ghost invariant = { λ n. ((K.home_of n.keeper).desk ≡ n.desk.number)
         × ((K.home_of n.keeper).desks ≡ n.desk.desks)
         × (n.is_down ≡ false → K.is_down n.keeper ≡ false)
         × (n.is_down ≡ false → K.is_honest n.keeper
-        → K.keeps n.keeper n.desk.desk.stored n.desk.desk.log) };
+        → K.keeps n.keeper n.desk.desk.stored n.desk.desk.log)
+        × IsKeptOf n.kept n.desk.desk.log };
 }
 
 impl<K: Keeper + Drop> Node<K> {
@@ -143,12 +149,18 @@ impl<K: Keeper + Drop> Node<K> {
         let home = keeper.home();
         match keeper.load(alloc) {
             Ok((stored, log)) => match Running::new(alloc, home.desk, home.desks, stored, log) {
-                Ok(desk) => Ok(Node {
-                    alloc,
-                    keeper,
-                    desk,
-                    is_down: false,
-                }),
+                Ok(desk) => {
+                    let Ok(kept) = KeptMeet::of(alloc, desk.log()) else {
+                        return Err((LoadFault::NoMemory, keeper));
+                    };
+                    Ok(Node {
+                        alloc,
+                        keeper,
+                        desk,
+                        kept,
+                        is_down: false,
+                    })
+                }
                 Err(_) => Err((LoadFault::NoMemory, keeper)),
             },
             Err(fault) => Err((fault, keeper)),
@@ -234,6 +246,7 @@ impl<K: Keeper + Drop> Node<K> {
         match take_event(self.alloc, &mut self.keeper, &mut self.desk, event) {
             Ok(messages) => {
                 look_at_all(messages.as_slice());
+                self.kept.catch_up(self.desk.log());
                 Ok(messages)
             }
             Err(NodeFault::Down) => {
@@ -258,7 +271,8 @@ impl<K: Keeper + Drop> Node<K> {
     pub fn answer(&self, id: u64) -> Result<Told, NoMemory>
         ensures { IfOk result (λ answer. answer ≡ told self.now.desk.log self.now.desk.queue id) }
     {
-        answer_of(self.alloc, self.desk.log(), self.desk.queue(), id)
+        self.kept
+            .told(self.alloc, self.desk.log(), self.desk.queue(), id)
     }
 
     /// The result sheet of a round, after the log's first `position` entries, also where the desk
@@ -281,6 +295,7 @@ impl<K: Keeper + Drop> Node<K> {
             (λ fault. NoSheetAt fault self.now.desk.log position
             (sheet_at style self.now.desk.log position event round)) }
     {
-        sheet_of(self.alloc, self.desk.log(), position, event, round, style)
+        self.kept
+            .sheet(self.alloc, self.desk.log(), position, event, round, style)
     }
 }

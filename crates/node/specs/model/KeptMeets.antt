@@ -1,0 +1,16 @@
+-- A model of the code: what is kept of the first entries of a log.
+use Rattle.std.specs.Prelude.{ℕ, ◌≡◌, ◌<◌, ◌≤◌, List, length, take, slice_get, Some}
+use Rattle.acceptor.specs.declared.entry.Entry.{Entry}
+use Rattle.commands.specs.History.{StandsFor, history, answer_to}
+use Rattle.world.specs.Answers.{texts}
+use Rattle.node.specs.declared.kept_meet.KeptMeet.{KeptMeet}
+
+-- the meet is what the log's first entries come to, as many as there are answers, and each of these
+-- was answered so
+pub record IsKeptOf (kept : KeptMeet) (log : List Entry) : Type 0 where
+  pub few : length kept.answers.items ≤ length log
+  pub meet : StandsFor kept.meet (texts (take (length kept.answers.items) log))
+  pub answers : (pos : ℕ) (e : Entry) → pos < length kept.answers.items
+      → slice_get log pos ≡ Some e
+      → slice_get kept.answers.items pos
+      ≡ Some (answer_to (history (texts (take pos log))) e.id e.text)

@@ -1,0 +1,135 @@
+//! What the first entries of a log have come to, kept beside it.
+
+ghost use Rattle.std.specs.Prelude.{◌≡◌, ◌≤◌, ◌+◌, IfOk, IfErr, OnOk, OnErr, List, Some, length, slice_get};
+ghost use Rattle.acceptor.specs.declared.entry.Entry.{Entry as EntryValue};
+ghost use Rattle.world.specs.Answers.{told, sheet_at, NoSheetAt};
+ghost use Rattle.node.specs.model.KeptMeets.{IsKeptOf};
+
+use acceptor::NoMemory;
+use acceptor::entry::Entry;
+use commands::{Answer, Meet};
+use learner::log::Log;
+use sheets::Style;
+use std::alloc::Global;
+use world::answers::{Told, answer_of, sheet_in, sheet_of};
+use world::faults::SheetFault;
+
+/// The meet that the first entries of a log come to, and what each of them was answered.
+///
+/// They are all entries of the log, but where memory was refused: then the next call that finds
+/// memory takes those that lack.
+pub(crate) struct KeptMeet {
+    meet: Meet,
+    answers: Vec<Answer>,
+}
+
+// It is written out, so that a caller does not prove again how each part is dropped.
+impl Drop for KeptMeet {
+    fn drop(self) {
+        let KeptMeet {
+            meet: _,
+            answers: _,
+        } = self;
+    }
+}
+
+impl KeptMeet {
+    /// No entry is taken yet.
+    fn new(alloc: Global) -> Result<Self, NoMemory>
+        ensures { IfOk result (λ kept. (log : List EntryValue) → IsKeptOf kept log) }
+    {
+        let meet = Meet::new(alloc)?;
+        let answers = Vec::new(alloc);
+        Ok(KeptMeet { meet, answers })
+    }
+
+    /// What the entries of a log have come to, up to the first for which memory is refused.
+    pub(crate) fn of(alloc: Global, log: &Log) -> Result<Self, NoMemory>
+        ensures { IfOk result (λ kept. IsKeptOf kept log.now.entries) }
+    {
+        let mut kept = KeptMeet::new(alloc)?;
+        kept.catch_up(log);
+        Ok(kept)
+    }
+
+    /// Takes the entries of the log that lack, up to the first for which memory is refused.
+    pub(crate) fn catch_up(&mut self, log: &Log)
+        requires { IsKeptOf self.old log.now.entries }
+        ensures { IsKeptOf self.new log.now.entries }
+    {
+        let end = log.len();
+        let taken = self.answers.len() as u32;
+        for pos in taken..end {
+            let Some(entry) = log.entry(pos) else {
+                return;
+            };
+            if self.take_next(entry).is_err() {
+                return;
+            }
+        }
+    }
+
+    /// Takes the next entry. Every growth is made first: where memory is refused, nothing changes.
+    fn take_next(&mut self, entry: &Entry) -> Result<(), NoMemory>
+        ensures taken { OnOk result ((log : List EntryValue) → IsKeptOf self.old log
+            → slice_get log (length self.old.answers.items) ≡ Some entry.now
+            → IsKeptOf self.new log) }
+        ensures more { OnOk result
+            (length self.new.answers.items ≡ length self.old.answers.items + 1) }
+        ensures err { OnErr result ((log : List EntryValue) → IsKeptOf self.old log
+            → IsKeptOf self.new log) }
+    {
+        self.answers.reserve(1)?;
+        let answer = self.meet.apply(entry.id(), entry.text())?;
+        self.answers.push(answer).unwrap();
+        Ok(())
+    }
+
+    /// What has become of this id, where the log and the queue are these. Where its entry was taken
+    /// the answer is looked up.
+    pub(crate) fn told(
+        &self,
+        alloc: Global,
+        log: &Log,
+        queue: &[Entry],
+        id: u64,
+    ) -> Result<Told, NoMemory>
+        requires { IsKeptOf self.now log.now.entries }
+        ensures { IfOk result (λ answer. answer ≡ told log.now.entries queue.now id) }
+    {
+        if let Some(pos) = log.position_of(id) {
+            if let Some(answer) = self.answers.get(pos as usize) {
+                return Ok(Told::Done {
+                    pos,
+                    answer: *answer,
+                });
+            }
+        }
+        answer_of(alloc, log, queue, id)
+    }
+
+    /// The sheet of a round after the log's first `position` entries. Where these are the entries
+    /// that were taken, the log is not read.
+    pub(crate) fn sheet(
+        &self,
+        alloc: Global,
+        log: &Log,
+        position: u32,
+        event: formats::Event,
+        round: u8,
+        style: Style,
+    ) -> Result<Vec<u8>, SheetFault>
+        requires { IsKeptOf self.now log.now.entries }
+        ensures there { OnOk result (position ≤ length log.now.entries) }
+        ensures sheet { IfOk result
+            (λ text. sheet_at style log.now.entries position event round ≡ Some text.items) }
+        ensures none { IfErr result
+            (λ fault. NoSheetAt fault log.now.entries position
+            (sheet_at style log.now.entries position event round)) }
+    {
+        if position as usize == self.answers.len() {
+            return sheet_in(alloc, &self.meet, position, event, round, style);
+        }
+        sheet_of(alloc, log, position, event, round, style)
+    }
+}
