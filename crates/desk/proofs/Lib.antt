@@ -1,2 +1,4 @@
-pub mod Asked
-pub mod StatusLemmas
+pub mod Building
+pub mod Carrying
+pub mod Endings
+pub mod Found

@@ -1,22 +1,25 @@
 -- What the words of the program ask for, as its parser reads words: `clap` says which word is whose
 -- value.
-use Rattle.std.specs.Prelude.{◌≡◌, true, ℕ, List, codes, decimal, Option, Some, option_and_then}
-use Rattle.clap.specs.Words.{App, Row, Rule, Text, first_of, new_app, new_rule, one_of, subcommand_of, with_rule, with_subcommand}
-use Rattle.clap.specs.declared.builder.ArgAction.TheVariants.{Set, SetTrue}
+use Rattle.std.specs.Prelude.{◌≡◌, true, false, ℕ, List, codes, decimal, Option, Some, option_and_then}
+use Rattle.clap.specs.Words.{App, Row, Text, first_of, new_app, one_of, subcommand_of, with_rule, with_subcommand}
 use Rattle.clap.specs.declared.builder.value_parser.ValueParser.{ValueParser}
 use Rattle.formats.specs.declared.events.Event.{Event}
 use Rattle.formats.specs.Events.{event_named}
 use Rattle.sheets.specs.declared.Style.{Style}
 use Rattle.sheets.specs.declared.Style.TheVariants as printed
+use Rattle.wire.specs.declared.values.SheetStyle.{SheetStyle}
+use Rattle.wire.specs.declared.values.SheetStyle.TheVariants as asked
+use Rattle.wire.specs.Ranges.{IsId}
+use Rattle.desk.specs.Arguments.{IsNumberAt, any_text, csv_rule, errand_words, numbers, value_rule}
+use Rattle.desk.specs.Errands.{HasId}
+use Rattle.desk.specs.declared.task.Errand.{Errand}
+use Rattle.desk.specs.declared.task.Request.{Request}
+use Rattle.desk.specs.declared.task.Request.TheVariants as request
+use Rattle.desk.specs.declared.task.Task.{Task}
+use Rattle.desk.specs.declared.task.Task.TheVariants as task
 
--- the words that `replay` takes: two values, in this order, and a flag; which texts pass as values
--- changes nothing here
-abbrev pub value_rule : Text → Option ValueParser → Rule
-value_rule id parser =
-    record (new_rule id) { value_names = 1; required = true; action = Some Set; parser = parser }
-
-abbrev pub csv_rule : Rule
-csv_rule = record (new_rule (codes "csv")) { long = Some (codes "csv"); action = Some SetTrue }
+-- ---- the words that subcommands take; which texts pass as an event and a round changes nothing
+-- here
 
 abbrev pub replay_words : Option ValueParser → Option ValueParser → App
 replay_words events rounds =
@@ -25,7 +28,27 @@ replay_words events rounds =
     (value_rule (codes "round") rounds))
     csv_rule
 
--- the words of the program: `replay`, which has to be there, and its own, of which it has a version
+abbrev pub enter_words : App
+enter_words =
+    with_rule (with_rule (errand_words (codes "enter"))
+    (value_rule (codes "id") (numbers 1 9223372036854775807)))
+    (value_rule (codes "text") any_text)
+
+abbrev pub ask_words : App
+ask_words =
+    with_rule (errand_words (codes "ask"))
+    (value_rule (codes "id") (numbers 1 9223372036854775807))
+
+abbrev pub sheet_words : Option ValueParser → Option ValueParser → App
+sheet_words events rounds =
+    with_rule (with_rule (with_rule (with_rule (errand_words (codes "sheet"))
+    (value_rule (codes "event") events))
+    (value_rule (codes "round") rounds))
+    (value_rule (codes "position") (numbers 0 4294967295)))
+    csv_rule
+
+-- the words of the program: a subcommand, which has to be there, and its own, of which it has a
+-- version
 abbrev pub named_app : App
 named_app =
     record (new_app (codes "desk")) {
@@ -33,24 +56,73 @@ named_app =
           record (new_app (codes "desk")).top { has_version = true; subcommand_required = true };
     }
 
-abbrev pub desk_words : Option ValueParser → Option ValueParser → App
-desk_words events rounds = with_subcommand named_app (replay_words events rounds).top
+-- what passes as an event and as a round at `replay` and at `sheet`
+pub record Parsers : Type 0 where
+  pub events : Option ValueParser
+  pub rounds : Option ValueParser
+  pub sheet_events : Option ValueParser
+  pub sheet_rounds : Option ValueParser
 
--- the values of `replay` are a name of the event, the number of the round as it prints in decimal,
--- and whether `--csv` is there
-pub record IsReplay (rows : List Row) (style : Style) (event : Event) (round : ℕ) : Type 0 where
+abbrev pub desk_words : Parsers → App
+desk_words p =
+    with_subcommand (with_subcommand (with_subcommand (with_subcommand (with_subcommand
+    (with_subcommand named_app
+    (replay_words p.events p.rounds).top)
+    enter_words.top)
+    ask_words.top)
+    (sheet_words p.sheet_events p.sheet_rounds).top)
+    (errand_words (codes "tick")).top)
+    (errand_words (codes "stop")).top
+
+-- ---- what their values say
+
+-- an event by its name, and a round as it prints in decimal
+pub record IsRound (rows : List Row) (event : Event) (round : ℕ) : Type 0 where
   pub named : option_and_then event_named (first_of (codes "event") rows) ≡ Some event
   pub numbered : first_of (codes "round") rows ≡ Some (decimal round)
+
+-- whether `--csv` is there
+pub record IsPrinted (rows : List Row) (style : Style) : Type 0 where
   pub table : one_of (codes "csv") rows ≡ Some (codes "true") → style ≡ printed.Table
   pub text : one_of (codes "csv") rows ≡ Some (codes "false") → style ≡ printed.Text
 
-abbrev pub Finds : Option (Text × List Row) → Style → Event → ℕ → Type 0
-Finds found style event round =
-    (rows : List Row) × (found ≡ Some (codes "replay", rows)) × IsReplay rows style event round
+pub record IsAsked (rows : List Row) (style : SheetStyle) : Type 0 where
+  pub table : one_of (codes "csv") rows ≡ Some (codes "true") → style ≡ asked.Table
+  pub text : one_of (codes "csv") rows ≡ Some (codes "false") → style ≡ asked.Text
 
--- the words, of which the first is the program's own name, ask for the sheet of this round in this
--- style
-abbrev pub Asks : List Text → Style → Event → ℕ → Type 0
-Asks words style event round =
-    (events : Option ValueParser) × (rounds : Option ValueParser)
-    × Finds (subcommand_of (desk_words events rounds) words) style event round
+-- the subcommand of this name with these values makes the request
+abbrev pub IsRequest : Request → Text → List Row → Type 0
+IsRequest (request.Enter id text) name rows =
+    (name ≡ codes "enter") × IsId id × IsNumberAt (codes "id") rows id
+    × (first_of (codes "text") rows ≡ Some text.now)
+IsRequest (request.Ask id) name rows =
+    (name ≡ codes "ask") × IsId id × IsNumberAt (codes "id") rows id
+IsRequest (request.Sheet event round position style) name rows =
+    (name ≡ codes "sheet") × IsRound rows event round
+    × IsNumberAt (codes "position") rows position × IsAsked rows style
+IsRequest request.Tick name rows = name ≡ codes "tick"
+IsRequest request.Stop name rows = name ≡ codes "stop"
+
+-- and is for this desk of this hall at this address
+pub record IsErrand (e : Errand) (name : Text) (rows : List Row) : Type 0 where
+  pub hall : IsNumberAt (codes "hall") rows e.hall
+  pub desk : IsNumberAt (codes "desk") rows e.desk
+  pub address : first_of (codes "to") rows ≡ Some e.to.now
+  pub request : IsRequest e.request name rows
+
+abbrev pub IsTask : Task → Text → List Row → Type 0
+IsTask (task.Replay event round style) name rows =
+    (name ≡ codes "replay") × IsRound rows event round × IsPrinted rows style
+IsTask (task.Carry errand) name rows = IsErrand errand name rows
+
+-- the ids of a task are in their range
+abbrev pub HasIds : Task → Type 0
+HasIds (task.Replay event round style) = Unit {0}
+HasIds (task.Carry errand) = HasId errand.request
+
+abbrev pub Finds : Option (Text × List Row) → Task → Type 0
+Finds found t = (name : Text) × (rows : List Row) × (found ≡ Some (name, rows)) × IsTask t name rows
+
+-- the words, of which the first is the program's own name, ask for this
+abbrev pub Asks : List Text → Task → Type 0
+Asks words t = (p : Parsers) × Finds (subcommand_of (desk_words p) words) t

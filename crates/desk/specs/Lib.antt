@@ -1,2 +1,4 @@
+pub mod Arguments
 pub mod Asking
+pub mod Errands
 pub mod Statuses

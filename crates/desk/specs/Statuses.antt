@@ -1,27 +1,62 @@
 -- What an exit status says of the run.
 use Rattle.std.specs.Prelude.{◌≡◌, ◌⊎◌, ℕ, List, Option}
 use Rattle.std.specs.Io.KnownBytes.{Keeps, Appends}
-use Rattle.formats.specs.declared.events.Event.{Event}
-use Rattle.sheets.specs.declared.Style.{Style}
+use Rattle.client.specs.declared.fault.ClientFault.{ClientFault}
+use Rattle.client.specs.declared.fault.ClientFault.TheVariants as client
 use Rattle.lines.specs.Bytes.{HasLeft, AppendsPart}
+use Rattle.lines.specs.declared.fault.RunFault.{RunFault}
+use Rattle.lines.specs.declared.fault.RunFault.TheVariants as run
 use Rattle.replay.specs.Replay.{Run, Replays, ReplayFails}
 use Rattle.desk.specs.Asking.{Asks}
-use Rattle.lines.specs.declared.fault.RunFault.{RunFault}
-use Rattle.lines.specs.declared.fault.RunFault.TheVariants as fault
+use Rattle.desk.specs.Errands.{DoesErrand, FailsErrand}
+use Rattle.desk.specs.declared.faults.DeskFault.{DeskFault}
+use Rattle.desk.specs.declared.faults.DeskFault.TheVariants as fault
+use Rattle.desk.specs.declared.task.Errand.{Errand}
+use Rattle.desk.specs.declared.task.Task.{Task}
+use Rattle.desk.specs.declared.task.Task.TheVariants as task
 
-abbrev pub status_of : RunFault → ℕ
+abbrev pub status_of : DeskFault → ℕ
 status_of fault.NoSuchRound = 3
-status_of fault.BadCount = 3
 status_of fault.InputTooLong = 3
 status_of (fault.BadLine line) = 3
+status_of fault.BadCount = 3
+status_of fault.BadDesk = 3
+status_of fault.TextTooLong = 3
+status_of (fault.Refused refusal) = 3
 status_of fault.Read = 4
 status_of fault.Write = 4
+status_of fault.CannotConnect = 4
+status_of fault.NoAnswer = 4
 status_of fault.NoMemory = 5
+
+-- the fault of a run over lines, as the program names it
+abbrev pub fault_of_run : RunFault → DeskFault
+fault_of_run run.NoSuchRound = fault.NoSuchRound
+fault_of_run run.BadCount = fault.BadCount
+fault_of_run run.InputTooLong = fault.InputTooLong
+fault_of_run (run.BadLine line) = fault.BadLine line
+fault_of_run run.Read = fault.Read
+fault_of_run run.Write = fault.Write
+fault_of_run run.NoMemory = fault.NoMemory
+
+-- the fault of a request to a desk
+abbrev pub fault_of_client : ClientFault → DeskFault
+fault_of_client (client.Refused refusal) = fault.Refused refusal
+fault_of_client client.NoAnswer = fault.NoAnswer
+fault_of_client client.Write = fault.Write
+fault_of_client client.NoMemory = fault.NoMemory
 
 -- a round was replayed to its end, or to a fault
 abbrev pub EndsReplay : ℕ → Run → Type 0
-EndsReplay status run =
-    ((status ≡ 0) × Replays run) ⊎ ((e : RunFault) × (status ≡ status_of e) × ReplayFails e run)
+EndsReplay status r =
+    ((status ≡ 0) × Replays r)
+    ⊎ ((e : RunFault) × (status ≡ status_of (fault_of_run e)) × ReplayFails e r)
+
+-- a desk was asked and its answer printed, or that failed
+abbrev pub EndsErrand : ℕ → Errand → Option (List ℕ) → Option (List ℕ) → Type 0
+EndsErrand status e old new =
+    ((status ≡ 0) × DoesErrand e old new)
+    ⊎ ((f : DeskFault) × (status ≡ status_of f) × FailsErrand f e old new)
 
 -- nothing was run: the words were refused or asked for help, whose text was written; or writing it
 -- failed, or memory ran out
@@ -31,12 +66,10 @@ RunsNothing status old new =
     ⊎ ((status ≡ 4) × (text : List ℕ) × AppendsPart old new text)
     ⊎ ((status ≡ 5) × Keeps old new)
 
--- what a status says: of the words, of the bytes that the reader had and has left, and of those
--- that were written
-abbrev pub Ran : List (List ℕ) → ℕ → (had left old new : Option (List ℕ)) → Type 0
-Ran words status had left old new =
-    ((style : Style) × (event : Event) × (round : ℕ) × Asks words style event round
-    × ((input : List ℕ) × HasLeft had input
+-- how a task ended: of the bytes that the reader had and has left, and of those that were written
+abbrev pub Ends : Task → ℕ → (had left old new : Option (List ℕ)) → Type 0
+Ends (task.Replay event round style) status had left old new =
+    (input : List ℕ) × HasLeft had input
     × EndsReplay status (record {
       style =
           style;
@@ -46,5 +79,12 @@ Ran words status had left old new =
       left = left;
       old = old;
       new = new;
-    })))
+    })
+Ends (task.Carry errand) status had left old new = Keeps had left × EndsErrand status errand old new
+
+-- what a status says: of the words, of the bytes that the reader had and has left, and of those
+-- that were written
+abbrev pub Ran : List (List ℕ) → ℕ → (had left old new : Option (List ℕ)) → Type 0
+Ran words status had left old new =
+    ((t : Task) × Asks words t × Ends t status had left old new)
     ⊎ (Keeps had left × RunsNothing status old new)

@@ -5,27 +5,116 @@ ghost use Rattle.desk.specs.Statuses.{status_of, RunsNothing};
 
 use clap::Error;
 use clap::error::ErrorKind as ParseErrorKind;
+use client::{ClientFault, refusal_name};
 use lines::{RunFault, write_text};
 use std::alloc::Global;
+use std::fmt;
 use std::io::Write;
+use wire::ClientRefusal;
 
-/// The status of a fault.
-fn status_of(fault: RunFault) -> u8
+/// Why the program did not do what the words ask for. Its text is one line for people.
+#[derive(Clone, Copy, Debug, PartialEq, Eq)]
+pub enum DeskFault {
+    /// No accepted command opened the round.
+    NoSuchRound,
+    /// The input is above a limit.
+    InputTooLong,
+    /// A line of a script is none of those that are run.
+    BadLine { line: u32 },
+    /// A hall has three desks or five.
+    BadCount,
+    /// A desk's number is 1 to the number of desks, at most 5.
+    BadDesk,
+    /// A command's text has more than 600 bytes.
+    TextTooLong,
+    /// The desk refused.
+    Refused { refusal: ClientRefusal },
+    /// A read failed.
+    Read,
+    /// A write failed.
+    Write,
+    /// Nobody answers at the address.
+    CannotConnect,
+    /// The connection ended, a read failed, or what came is not the answer.
+    NoAnswer,
+    /// Memory ran out.
+    NoMemory,
+}
+
+impl From<RunFault> for DeskFault {
+    ghost use Rattle.std.specs.Prelude.{◌≡◌};
+    ghost use Rattle.desk.specs.Statuses.{fault_of_run};
+
+    ghost from_gives = { λ run fault. fault ≡ fault_of_run run };
+
+    fn from(fault: RunFault) -> DeskFault {
+        match fault {
+            RunFault::NoSuchRound => DeskFault::NoSuchRound,
+            RunFault::BadCount => DeskFault::BadCount,
+            RunFault::InputTooLong => DeskFault::InputTooLong,
+            RunFault::BadLine { line } => DeskFault::BadLine { line },
+            RunFault::Read => DeskFault::Read,
+            RunFault::Write => DeskFault::Write,
+            RunFault::NoMemory => DeskFault::NoMemory,
+        }
+    }
+}
+
+impl From<ClientFault> for DeskFault {
+    ghost use Rattle.std.specs.Prelude.{◌≡◌};
+    ghost use Rattle.desk.specs.Statuses.{fault_of_client};
+
+    ghost from_gives = { λ client fault. fault ≡ fault_of_client client };
+
+    fn from(fault: ClientFault) -> DeskFault {
+        match fault {
+            ClientFault::Refused { refusal } => DeskFault::Refused { refusal },
+            ClientFault::NoAnswer => DeskFault::NoAnswer,
+            ClientFault::Write => DeskFault::Write,
+            ClientFault::NoMemory => DeskFault::NoMemory,
+        }
+    }
+}
+
+impl fmt::Display for DeskFault {
+    fn fmt<W: fmt::Write>(&self, f: &mut fmt::Formatter<W>) -> fmt::Result {
+        match self {
+            DeskFault::NoSuchRound => f.write_str("no such round"),
+            DeskFault::InputTooLong => f.write_str("input too long"),
+            DeskFault::BadLine { line } => write!(f, "bad line {line}"),
+            DeskFault::BadCount => f.write_str("bad number of desks"),
+            DeskFault::BadDesk => f.write_str("bad desk number"),
+            DeskFault::TextTooLong => f.write_str("text too long"),
+            DeskFault::Refused { refusal } => write!(f, "refused {}", refusal_name(*refusal)),
+            DeskFault::Read => f.write_str("cannot read"),
+            DeskFault::Write => f.write_str("cannot write"),
+            DeskFault::CannotConnect => f.write_str("cannot connect"),
+            DeskFault::NoAnswer => f.write_str("no answer"),
+            DeskFault::NoMemory => f.write_str("no memory"),
+        }
+    }
+}
+
+/// The status of a fault: 3 for a named refusal, 4 for a device, 5 for memory.
+fn status_of(fault: DeskFault) -> u8
     ensures { result ≡ status_of fault }
 {
     match fault {
-        RunFault::NoSuchRound
-        | RunFault::BadCount
-        | RunFault::InputTooLong
-        | RunFault::BadLine { line: _ } => 3,
-        RunFault::Read | RunFault::Write => 4,
-        RunFault::NoMemory => 5,
+        DeskFault::NoSuchRound
+        | DeskFault::InputTooLong
+        | DeskFault::BadLine { line: _ }
+        | DeskFault::BadCount
+        | DeskFault::BadDesk
+        | DeskFault::TextTooLong
+        | DeskFault::Refused { refusal: _ } => 3,
+        DeskFault::Read | DeskFault::Write | DeskFault::CannotConnect | DeskFault::NoAnswer => 4,
+        DeskFault::NoMemory => 5,
     }
 }
 
 /// Writes the line of a fault, which takes no memory, and gives its status. Where the line cannot
 /// be written the status says it alone.
-pub fn tell<F: Write>(faults: &mut F, fault: RunFault) -> u8
+pub fn tell<F: Write>(faults: &mut F, fault: DeskFault) -> u8
     ensures { result ≡ status_of fault }
 {
     let _ = writeln!(faults, "{fault}");
@@ -42,10 +131,10 @@ pub fn tell_words<W: Write, F: Write>(
     ensures { RunsNothing result (W.contents writer.old) (W.contents writer.new) }
 {
     if error.kind() == ParseErrorKind::OutOfMemory {
-        return tell(faults, RunFault::NoMemory);
+        return tell(faults, DeskFault::NoMemory);
     }
     let Ok(text) = format!(in alloc; "{error}") else {
-        return tell(faults, RunFault::NoMemory);
+        return tell(faults, DeskFault::NoMemory);
     };
     if error.use_stderr() {
         let _ = write_text(faults, text.as_bytes());
@@ -53,6 +142,6 @@ pub fn tell_words<W: Write, F: Write>(
     }
     match write_text(writer, text.as_bytes()) {
         Ok(()) => 2,
-        Err(_) => tell(faults, RunFault::Write),
+        Err(_) => tell(faults, DeskFault::Write),
     }
 }

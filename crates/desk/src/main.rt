@@ -1,10 +1,18 @@
 //! The results desk of a speedcubing competition.
 #![tactic(auto)]
 
+mod arguments;
+mod ask_words;
+mod enter_words;
+mod errands;
 mod faults;
 mod replay_words;
+mod sheet_words;
+mod stop_words;
+mod task;
 #[cfg(test)]
 mod tests;
+mod tick_words;
 mod words;
 
 use std::process::ExitCode;
@@ -24,7 +32,7 @@ fn main(rt: HostRuntime) -> ExitCode {
         Err(error) => Err(error),
     };
     let status = match given {
-        Ok(words) => run_given(alloc, &words, &mut input, &mut output, &mut faults),
+        Ok(words) => run_given(&rt, &words, &mut input, &mut output, &mut faults),
         Err(error) => tell_no_words(&error, &mut faults),
     };
     ExitCode::from(status)

@@ -1,12 +1,16 @@
-//! The subcommand `replay`: its words, its help, and its run.
+//! The subcommand `replay`: its words and its help.
 
-ghost use Rattle.std.specs.Prelude.{◌≡◌, false, decimal, IfOk, IfSome, Option};
-ghost use Rattle.clap.specs.Words.{app_of, subcommand_rows_of};
-ghost use Rattle.clap.specs.declared.builder.command.Command.TheViews.{out-Command as fields_of};
+ghost use Rattle.std.specs.Prelude.{◌≡◌, true, false, codes, decimal, option_and_then, IfOk, IfSome, Option, Some};
+ghost use Rattle.clap.specs.Words.{first_of, found_of, rows_of, rule_of};
 ghost use Rattle.clap.specs.declared.builder.value_parser.ValueParser.{ValueParser};
-ghost use Rattle.desk.specs.Asking.{replay_words, Finds};
+ghost use Rattle.formats.specs.Events.{event_named};
+ghost use Rattle.desk.specs.Arguments.{IsCommand, value_rule};
+ghost use Rattle.desk.specs.Asking.{replay_words, IsTask};
 
-use clap::{Arg, ArgAction, ArgMatches, Command};
+use crate::arguments::{csv_flag, plain_command, text_at, value, with_argument};
+use crate::task::Task;
+use clap::builder::ValueParser;
+use clap::{Arg, ArgMatches, Command};
 use formats::Event;
 use sheets::Style;
 use std::alloc::{AllocError, Global};
@@ -46,42 +50,45 @@ docs/FORMATS.md explains each CODE, the fields of the commands and the columns o
 Exit status: 0 the sheet was printed; 2 the words are not understood, or ask for help;
 3 no such round, or input too long; 4 cannot read, or cannot write; 5 no memory.";
 
-/// What the words ask for.
-#[derive(Clone, Copy)]
-pub struct Task {
-    pub event: Event,
-    pub round: u8,
-    pub style: Style,
+/// The value EVENT.
+pub fn event_value<'a>(alloc: Global) -> Arg<'a>
+    ensures rule { (parser : Option ValueParser)
+        × (rule_of result ≡ value_rule (codes "event") parser) }
+    ensures local { result.global ≡ false }
+{
+    value(
+        alloc,
+        "event",
+        "EVENT",
+        "The event",
+        ValueParser::from(NAMES.as_slice()),
+    )
+}
+
+/// The value ROUND.
+pub fn round_value<'a>(alloc: Global) -> Arg<'a>
+    ensures rule { (parser : Option ValueParser)
+        × (rule_of result ≡ value_rule (codes "round") parser) }
+    ensures local { result.global ≡ false }
+{
+    value(
+        alloc,
+        "round",
+        "ROUND",
+        "The round",
+        ValueParser::from(ROUNDS.as_slice()),
+    )
 }
 
 /// The words of `replay`.
 pub fn replay_command<'a>(alloc: Global) -> Result<Command<'a>, AllocError>
-    ensures { IfOk result (λ command. (fields_of command).has_globals ≡ false
-        × ((events : Option ValueParser) × (rounds : Option ValueParser)
-        × (app_of command ≡ replay_words events rounds))) }
+    ensures { IfOk result (λ command. (events : Option ValueParser) × (rounds : Option ValueParser)
+        × IsCommand command (replay_words events rounds)) }
 {
-    let event = Arg::new(alloc, "event")
-        .value_name("EVENT")
-        .help("The event")
-        .required(true)
-        .action(ArgAction::Set)
-        .value_parser(NAMES.as_slice());
-    let round = Arg::new(alloc, "round")
-        .value_name("ROUND")
-        .help("The round")
-        .required(true)
-        .action(ArgAction::Set)
-        .value_parser(ROUNDS.as_slice());
-    let table = Arg::new(alloc, "csv")
-        .long("csv")
-        .help("Print the sheet as comma-separated values")
-        .action(ArgAction::SetTrue);
-    Command::new(alloc, "replay")
-        .about(ABOUT)
-        .after_help(INPUT)
-        .arg(event)?
-        .arg(round)?
-        .arg(table)
+    let command = plain_command(alloc, "replay", ABOUT, INPUT);
+    let command = with_argument(command, event_value(alloc))?;
+    let command = with_argument(command, round_value(alloc))?;
+    with_argument(command, csv_flag(alloc))
 }
 
 /// The round of a number as it is typed: those of [`ROUNDS`].
@@ -97,23 +104,39 @@ fn round_of(number: &str) -> Option<u8>
     }
 }
 
-/// What parsed words ask for. The parser gives every value, so there always is a task.
-pub fn task_of(matches: &ArgMatches<'_>) -> Option<Task>
-    ensures { IfSome result
-        (λ task. Finds (subcommand_rows_of matches.now) task.style task.event task.round) }
+/// The value of EVENT.
+pub fn event_at(found: &ArgMatches<'_>) -> Option<Event>
+    ensures { IfSome result (λ event. option_and_then event_named
+        (first_of (codes "event") (rows_of (found_of found.now))) ≡ Some event) }
 {
-    let (name, replayed) = matches.subcommand()?;
-    if name != "replay" {
-        return None;
-    }
-    let event = Event::from_name(replayed.get_str("event")?.as_bytes())?;
-    let round = round_of(replayed.get_str("round")?)?;
-    let style = if replayed.get_flag("csv") {
-        Style::Table
-    } else {
-        Style::Text
-    };
-    Some(Task {
+    Event::from_name(text_at(found, "event")?.as_bytes())
+}
+
+/// The value of ROUND.
+pub fn round_at(found: &ArgMatches<'_>) -> Option<u8>
+    ensures { IfSome result (λ round.
+        first_of (codes "round") (rows_of (found_of found.now)) ≡ Some (decimal round)) }
+{
+    round_of(text_at(found, "round")?)
+}
+
+/// How the sheet is printed.
+fn style_of(table: bool) -> Style
+    ensures table { table ≡ true → result ≡ Style.Table }
+    ensures text { table ≡ false → result ≡ Style.Text }
+{
+    if table { Style::Table } else { Style::Text }
+}
+
+/// What the words of `replay` ask for.
+pub fn replay_of<'a>(found: &ArgMatches<'a>) -> Option<Task<'a>>
+    ensures { IfSome result
+        (λ task. IsTask task (codes "replay") (rows_of (found_of found.now))) }
+{
+    let event = event_at(found)?;
+    let round = round_at(found)?;
+    let style = style_of(found.get_flag("csv"));
+    Some(Task::Replay {
         event,
         round,
         style,

@@ -1,25 +1,34 @@
-use Rattle.std.proofs.Common.{◌≡◌, ◌∙◌, ap, ap₂, true}
 use Rattle.std.proofs.lemmas.Result.{IfOk-weaker}
-use Rattle.clap.specs.Words.{App, app_of, with_subcommand}
-use Rattle.clap.specs.Simple.{app_of_fields}
-use Rattle.desk.specs.Asking.{named_app}
+use Rattle.desk.proofs.Building.{subbed}
 use Rattle.desk.proofs.words.command.Goals as goal
+
+pub with-requires : goal.with-requires
+with-requires c = c.in_ok-replay_command.ensures.2.1
+
+pub with-requires-4 : goal.with-requires-4
+with-requires-4 c = c.in_ok-sheet_command.ensures.2.1
 
 pub returns : goal.returns
 returns c =
-    let made = c.in_ok-replay_command.ensures in
-    let named : app_of c.subcommand_required.result ≡ named_app =
-    ap app_of_fields c.subcommand_required.ensures
-    ∙ ap (λ (a : App). record a { top = record a.top { subcommand_required = true } })
-    (ap app_of_fields c.after_help.ensures
-    ∙ ap app_of_fields c.version.ensures
-    ∙ ap (λ (a : App). record a { top = record a.top { has_version = true } })
-    (ap app_of_fields c.about.ensures ∙ c.new.ensures.app)) in
-    IfOk-weaker c.subcommand.result _ _
-    (λ command added. (
-      made.1.0,
-      made.1.1,
-      added.shape made.0
-          ∙ ap₂ with_subcommand named (ap (λ (a : App). a.top) made.1.2),
+    let replay = c.in_ok-replay_command.ensures in
+    let sheet = c.in_ok-sheet_command.ensures in
+    let one =
+    subbed _ _ _ _ _ c.own_command-command.ensures replay.2.0 c.in_ok-command.ensures in
+    let two =
+    subbed _ _ _ _ _ one c.in_ok-enter_command.ensures.0 c.in_ok-command-2.ensures in
+    let three =
+    subbed _ _ _ _ _ two c.in_ok-ask_command.ensures.0 c.in_ok-command-3.ensures in
+    let four = subbed _ _ _ _ _ three sheet.2.0 c.in_ok-command-4.ensures in
+    let five =
+    subbed _ _ _ _ _ four c.in_ok-tick_command.ensures.0 c.in_ok-command-5.ensures in
+    IfOk-weaker c.with-6.result _ _
+    (λ command made. (
+      record {
+        events = replay.0;
+        rounds = replay.1;
+        sheet_events = sheet.0;
+        sheet_rounds = sheet.1;
+      },
+      subbed _ _ _ _ _ five c.in_ok-stop_command.ensures.0 made,
     ))
-    c.subcommand.ensures
+    c.with-6.ensures

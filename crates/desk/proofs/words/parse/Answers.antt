@@ -7,5 +7,5 @@ pub returns : goal.returns
 returns c =
     let made = c.in_ok-command.ensures in
     IfOk-weaker c.try_get_matches_from.result _ _
-    (λ matches has. (made.0, made.1, (has (ap is_simple made.2)).1 ∙ ap₂ subcommand_of made.2 refl))
+    (λ matches has. (made.0, (has (ap is_simple made.1)).1 ∙ ap₂ subcommand_of made.1 refl))
     c.try_get_matches_from.ensures.matches

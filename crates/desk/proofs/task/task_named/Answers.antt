@@ -1,0 +1,9 @@
+use Rattle.std.proofs.Common.{codes}
+use Rattle.clap.specs.Words.{found_of, rows_of}
+use Rattle.desk.proofs.Found.{task_renamed}
+use Rattle.desk.proofs.task.task_named.Goals as goal
+
+pub returns-in-replay : goal.returns-in-replay
+returns-in-replay c =
+    task_renamed c.args.name.now (codes "replay") (rows_of (found_of c.args.found.now))
+    c.replay_of.result c.in-replay.is c.replay_of.ensures
