@@ -65,4 +65,5 @@ request_ids request.Stop name rows h = tt
 -- what was found has its ids in their range
 pub found_ids : (found : Option (Text × List Row)) (t : Task) → Finds found t → HasIds t
 found_ids found (task.Replay event round style) h = tt
+found_ids found (task.Hall desks) h = tt
 found_ids found (task.Carry errand) h = request_ids errand.request h.0 h.1 h.3.request

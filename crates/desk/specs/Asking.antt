@@ -28,6 +28,9 @@ replay_words events rounds =
     (value_rule (codes "round") rounds))
     csv_rule
 
+abbrev pub hall_words : App
+hall_words = with_rule (new_app (codes "hall")) (value_rule (codes "desks") (numbers 0 255))
+
 abbrev pub enter_words : App
 enter_words =
     with_rule (with_rule (errand_words (codes "enter"))
@@ -66,8 +69,9 @@ pub record Parsers : Type 0 where
 abbrev pub desk_words : Parsers → App
 desk_words p =
     with_subcommand (with_subcommand (with_subcommand (with_subcommand (with_subcommand
-    (with_subcommand named_app
+    (with_subcommand (with_subcommand named_app
     (replay_words p.events p.rounds).top)
+    hall_words.top)
     enter_words.top)
     ask_words.top)
     (sheet_words p.sheet_events p.sheet_rounds).top)
@@ -113,11 +117,14 @@ pub record IsErrand (e : Errand) (name : Text) (rows : List Row) : Type 0 where
 abbrev pub IsTask : Task → Text → List Row → Type 0
 IsTask (task.Replay event round style) name rows =
     (name ≡ codes "replay") × IsRound rows event round × IsPrinted rows style
+IsTask (task.Hall desks) name rows =
+    (name ≡ codes "hall") × IsNumberAt (codes "desks") rows desks
 IsTask (task.Carry errand) name rows = IsErrand errand name rows
 
 -- the ids of a task are in their range
 abbrev pub HasIds : Task → Type 0
 HasIds (task.Replay event round style) = Unit {0}
+HasIds (task.Hall desks) = Unit {0}
 HasIds (task.Carry errand) = HasId errand.request
 
 abbrev pub Finds : Option (Text × List Row) → Task → Type 0

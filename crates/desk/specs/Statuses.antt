@@ -7,6 +7,7 @@ use Rattle.lines.specs.Bytes.{HasLeft, AppendsPart}
 use Rattle.lines.specs.declared.fault.RunFault.{RunFault}
 use Rattle.lines.specs.declared.fault.RunFault.TheVariants as run
 use Rattle.replay.specs.Replay.{Run, Replays, ReplayFails}
+use Rattle.hall.specs.Halls.{Run as HallRun, Runs, RunFails}
 use Rattle.desk.specs.Asking.{Asks}
 use Rattle.desk.specs.Errands.{DoesErrand, FailsErrand}
 use Rattle.desk.specs.declared.faults.DeskFault.{DeskFault}
@@ -52,6 +53,12 @@ EndsReplay status r =
     ((status ≡ 0) × Replays r)
     ⊎ ((e : RunFault) × (status ≡ status_of (fault_of_run e)) × ReplayFails e r)
 
+-- a script was run to its end, or to a fault
+abbrev pub EndsHall : ℕ → HallRun → Type 0
+EndsHall status r =
+    ((status ≡ 0) × Runs r)
+    ⊎ ((e : RunFault) × (status ≡ status_of (fault_of_run e)) × RunFails e r)
+
 -- a desk was asked and its answer printed, or that failed
 abbrev pub EndsErrand : ℕ → Errand → Option (List ℕ) → Option (List ℕ) → Type 0
 EndsErrand status e old new =
@@ -80,6 +87,10 @@ Ends (task.Replay event round style) status had left old new =
       old = old;
       new = new;
     })
+Ends (task.Hall desks) status had left old new =
+    (input : List ℕ) × HasLeft had input
+    × EndsHall status
+    (record { desks = desks; input = input; left = left; old = old; new = new })
 Ends (task.Carry errand) status had left old new = Keeps had left × EndsErrand status errand old new
 
 -- what a status says: of the words, of the bytes that the reader had and has left, and of those

@@ -6,6 +6,7 @@ mod ask_words;
 mod enter_words;
 mod errands;
 mod faults;
+mod hall_words;
 mod replay_words;
 mod sheet_words;
 mod stop_words;

@@ -7,6 +7,7 @@ ghost use Rattle.desk.specs.Asking.{Finds, IsErrand, IsRequest, IsTask};
 use crate::arguments::{number_at, text_at};
 use crate::ask_words::asked_id;
 use crate::enter_words::entered;
+use crate::hall_words::hall_of;
 use crate::replay_words::replay_of;
 use crate::sheet_words::sheet_of;
 use clap::ArgMatches;
@@ -56,6 +57,10 @@ pub enum Task<'a> {
         event: Event,
         round: u8,
         style: Style,
+    },
+    /// A hall of so many desks, run from a script.
+    Hall {
+        desks: u8,
     },
     /// To ask a desk.
     Carry {
@@ -121,6 +126,7 @@ fn task_named<'a>(name: &str, found: &ArgMatches<'a>) -> Option<Task<'a>>
 {
     match name {
         "replay" => replay_of(found),
+        "hall" => hall_of(found),
         _ => match errand_of(name, found) {
             Some(errand) => Some(Task::Carry { errand }),
             None => None,

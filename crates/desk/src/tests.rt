@@ -7,8 +7,8 @@ mod inputs;
 use crate::words::{run_given, run_words, tell_no_words};
 use formats::Event;
 use inputs::{
-    FIRST_TEXT, LONG_ROUND, LONG_TEXT, MOVES_ROUND, MOVES_TEXT, ROUND, SECOND_TABLE, TABLE, TEXT,
-    TWO_ROUNDS,
+    FIRST_TEXT, LONG_ROUND, LONG_TEXT, MOVES_ROUND, MOVES_TEXT, ROUND, SCRIPT, SCRIPT_TEXT,
+    SECOND_TABLE, TABLE, TEXT, TWO_ROUNDS,
 };
 use lines::RunFault;
 use replay::replay;
@@ -193,6 +193,29 @@ fn replays(rt: HostRuntime) -> Result<(), AllocError> {
             Some(in_quotes),
             Some(b""),
         ),
+    ];
+    run_rows(&rt, &rt, &rows)
+}
+
+#[test]
+fn runs_halls(rt: HostRuntime) -> Result<(), AllocError> {
+    let rows: [Row<'_>; 4] = [
+        (&["hall", "3"], SCRIPT, 0, Some(SCRIPT_TEXT), Some(b"")),
+        (
+            &["hall", "4"],
+            SCRIPT,
+            3,
+            Some(b""),
+            Some(b"bad number of desks\n"),
+        ),
+        (
+            &["hall", "5"],
+            b"tick 1\nstart 6\n",
+            3,
+            Some(b"m1 1 2 Behind 0\nm2 1 3 Behind 0\nm3 1 4 Behind 0\nm4 1 5 Behind 0\n"),
+            Some(b"bad line 2\n"),
+        ),
+        (&["hall", "256"], b"", 2, Some(b""), None),
     ];
     run_rows(&rt, &rt, &rows)
 }

@@ -13,12 +13,14 @@ use crate::ask_words::ask_command;
 use crate::enter_words::enter_command;
 use crate::errands::carry;
 use crate::faults::{DeskFault, tell, tell_words};
+use crate::hall_words::hall_command;
 use crate::replay_words::replay_command;
 use crate::sheet_words::sheet_command;
 use crate::stop_words::stop_command;
 use crate::task::{Task, task_of};
 use crate::tick_words::tick_command;
 use clap::{ArgMatches, Command, Error};
+use hall::hall;
 use lines::{RunFault, write_text};
 use replay::replay;
 use std::alloc::{AllocError, Global};
@@ -62,6 +64,7 @@ fn command<'a>(alloc: Global) -> Result<Command<'a>, AllocError>
 {
     let command = own_command(alloc);
     let command = with(command, replay_command(alloc)?)?;
+    let command = with(command, hall_command(alloc)?)?;
     let command = with(command, enter_command(alloc)?)?;
     let command = with(command, ask_command(alloc)?)?;
     let command = with(command, sheet_command(alloc)?)?;
@@ -113,6 +116,10 @@ fn run_task<R: Read, W: Write, F: Write>(
             let ran = replay(rt.alloc(), reader, writer, event, round, style);
             tell_run(faults, ran)
         }
+        Task::Hall { desks } => {
+            let ran = hall(rt.alloc(), reader, writer, desks);
+            tell_run(faults, ran)
+        }
         Task::Carry { errand } => match carry(rt, errand, writer) {
             Ok(()) => 0,
             Err(fault) => tell(faults, fault),
@@ -127,7 +134,7 @@ fn run_task<R: Read, W: Write, F: Write>(
 /// `faults`, or where they ask for help or the version, with its text on `writer`; 3 for a named
 /// refusal, 4 for a device that failed, 5 for `no memory`. The texts of these three are one line on
 /// `faults`: [`DeskFault`] has them. What each subcommand reads, writes and refuses is said at
-/// [`replay`](replay::replay) and [`carry`].
+/// [`replay`](replay::replay), [`hall`](hall::hall) and [`carry`].
 pub fn run_words<'a, R: Read, W: Write, F: Write>(
     rt: &HostRuntime,
     words: &'a [&'a str],

@@ -79,8 +79,9 @@ fn refuses_words(rt: HostRuntime) -> Result<(), AllocError> {
         let row: Row<'_> = (words, b"", 2, Some(b""), None);
         run_rows(&rt, &rt, &[row])?;
     }
-    let asking: [&[&str]; 8] = [
+    let asking: [&[&str]; 9] = [
         &["--help"],
+        &["hall", "--help"],
         &["help", "replay"],
         &["replay", "--help"],
         &["enter", "--help"],

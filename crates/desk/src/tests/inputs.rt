@@ -127,3 +127,42 @@ place,number,name,average,best,1,advances
 2,5,Eve,-,-,-,no
 2,6,Fay,-,-,-,no
 ";
+
+/// One command that three desks agree on; the third catches up.
+pub const SCRIPT: &[u8] = b"submit 1 7 REG 1 Ann Li
+start 1
+deliver 1
+deliver 2
+deliver 4
+deliver 5
+deliver 6
+deliver 7
+deliver 9
+deliver 10
+deliver 11
+tick 3
+deliver 14
+deliver 16
+";
+
+pub const SCRIPT_TEXT: &[u8] = b"m1 1 1 Prepare 1.1 0
+m2 1 2 Prepare 1.1 0
+m3 1 3 Prepare 1.1 0
+m4 1 1 Promise 1.1 0 -
+m5 2 1 Promise 1.1 0 -
+m6 1 1 Accept 1.1 0 7
+m7 1 2 Accept 1.1 0 7
+m8 1 3 Accept 1.1 0 7
+m9 1 1 Accepted 1.1 0
+m10 2 1 Accepted 1.1 0
+m11 1 2 Decided 0 7
+m12 1 3 Decided 0 7
+m13 2 1 Behind 1
+m14 3 1 Behind 0
+m15 3 2 Behind 0
+m16 1 3 Decided 0 7
+m17 3 1 Behind 1
+desk 1 0 7 REG 1 Ann Li
+desk 2 0 7 REG 1 Ann Li
+desk 3 0 7 REG 1 Ann Li
+";

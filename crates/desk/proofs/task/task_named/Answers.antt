@@ -3,6 +3,11 @@ use Rattle.clap.specs.Words.{found_of, rows_of}
 use Rattle.desk.proofs.Found.{task_renamed}
 use Rattle.desk.proofs.task.task_named.Goals as goal
 
+pub returns-in-hall : goal.returns-in-hall
+returns-in-hall c =
+    task_renamed c.args.name.now (codes "hall") (rows_of (found_of c.args.found.now))
+    c.hall_of.result c.in-hall.is c.hall_of.ensures
+
 pub returns-in-replay : goal.returns-in-replay
 returns-in-replay c =
     task_renamed c.args.name.now (codes "replay") (rows_of (found_of c.args.found.now))
