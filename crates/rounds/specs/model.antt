@@ -2,6 +2,7 @@
 pub mod Field
 pub mod KeptRows
 pub mod Order
+pub mod Ranks
 pub mod Running
 pub mod Slots
 pub mod Standings

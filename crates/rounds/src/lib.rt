@@ -6,6 +6,7 @@ mod entrants;
 mod faults;
 mod kept;
 mod laws;
+mod rank;
 mod ranking;
 mod rules;
 mod running;
