@@ -13,6 +13,7 @@ use Rattle.rounds.specs.declared.kept.Kept.{Kept}
 use Rattle.rounds.specs.declared.standing.Standing.{Standing}
 use Rattle.rounds.specs.Tables.{allotted, is_started_attempt}
 use Rattle.rounds.specs.model.Field.{set_values_at}
+use Rattle.rounds.specs.model.Ranks.{HasRank}
 use Rattle.rounds.specs.model.Standings.{kept_of, one_if, recounted, passed_by, is_unfinished, place_among}
 use Rattle.rounds.specs.model.Running.{entrant_of, entrants_of, no_result, IsMade, IsPlaced, IsAllotted, Runs}
 use Rattle.rounds.proofs.CutoffOrder.{not_better}
@@ -169,11 +170,12 @@ module _ (rules : Rules) (es : List (ℕ × Standing)) (i : ℕ) (e : ℕ × Sta
       → s.kept ≡ kept_of rules s.row s.kept.place
       → ahead ≡ count_by (λ x. is_better x.kept.key new_key) (values_of es)
       → s.kept.place ≡ 1 + recounted ahead (is_better old_key new_key) false
+      → ((n : ℕ) → HasRank (n, s))
       → Runs rules changed_lines
       (recounted started (list_any is_started_attempt e.1.row) (list_any is_started_attempt s.row))
       (recounted unfinished (is_unfinished rules e.1.row) (is_unfinished rules s.row))
       (recounted ranked (is_better old_key no_result) (is_better new_key no_result))
-  runs_after started unfinished ranked ahead runs few own is_ahead is_place =
+  runs_after started unfinished ranked ahead runs few own is_ahead is_place has_rank =
       record {
         few =
             omega (
@@ -197,6 +199,11 @@ module _ (rules : Rules) (es : List (ℕ × Standing)) (i : ℕ) (e : ℕ × Sta
             (counts_after (λ x. is_better x.kept.key new_key) old_key new_key (λ x. refl) es i e s
             at)));
         within = within_after runs.within few;
+        ordered =
+            set_all HasRank (map (passed_by old_key new_key) es) i s
+            (pass_each HasRank HasRank old_key new_key
+            (λ x h. record { rank = h.rank; room = h.room }) es runs.ordered)
+            has_rank;
         starts =
             ap
             (λ m.

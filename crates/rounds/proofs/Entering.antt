@@ -17,6 +17,7 @@ use Rattle.attempts.specs.declared.Value.TheVariants.{Dns}
 use Rattle.formats.specs.declared.results.Averaged.TheVariants.{Missing}
 use Rattle.rounds.specs.declared.standing.Standing.{Standing}
 use Rattle.rounds.specs.Tables.{IsCutoff, allotted, meets, is_started_attempt}
+use Rattle.rounds.specs.model.Ranks.{HasRank}
 use Rattle.rounds.specs.model.Standings.{kept_of, one_if, is_unfinished, place_among}
 use Rattle.rounds.specs.model.Running.{no_result, IsMade, IsPlaced, IsAllotted, Runs}
 
@@ -90,9 +91,9 @@ module _ (rules : Rules) (es : List (ℕ × Standing)) (n : ℕ) (s : Standing)
 
   pub runs_entered : (started unfinished ranked : ℕ) → Runs rules es started unfinished ranked
       → length es < 999 → s.row ≡ [] → s.kept ≡ kept_of rules s.row s.kept.place
-      → s.kept.place ≡ ranked + 1
+      → s.kept.place ≡ ranked + 1 → HasRank (n, s)
       → Runs rules (es ++ (n, s) ∷ []) started (unfinished + 1) ranked
-  runs_entered started unfinished ranked runs room none own is_place =
+  runs_entered started unfinished ranked runs room none own is_place has_rank =
       record {
         few = omega (arith, room, length-append es ((n, s) ∷ []));
         cutoff = runs.cutoff;
@@ -108,6 +109,7 @@ module _ (rules : Rules) (es : List (ℕ × Standing)) (n : ℕ) (s : Standing)
             All-push (IsAllotted rules) es (n, s) runs.within
             (subst (λ vs. length vs ≤ allotted rules.format rules.cutoff vs) (sym none)
             (omega arith));
+        ordered = All-push HasRank es (n, s) runs.ordered has_rank;
         starts =
             runs.starts
             ∙ sym

@@ -8,6 +8,7 @@ pub mod InOrder
 pub mod KeyOrder
 pub mod NotWorse
 pub mod Passing
+pub mod Ranked
 pub mod Refusals
 pub mod SlotLines
 pub mod StandingOrder

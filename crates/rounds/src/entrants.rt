@@ -12,6 +12,7 @@ ghost use Rattle.rounds.specs.model.Standings.{is_unfinished};
 use crate::cutoff::{allotted, has_started};
 use crate::kept::Kept;
 use crate::ranking::{not_worse_among, order_of, place_at};
+use crate::rank::rank_of;
 use crate::rules::Rules;
 use crate::running::{pass_all, recounted};
 use crate::standing::Standing;
@@ -117,6 +118,7 @@ impl Entrants {
                 key: NO_RESULT,
                 place: self.ranked + 1,
             },
+            rank: rank_of(NO_RESULT),
         };
         self.standings.insert(number, newcomer)?;
         self.unfinished += 1;
@@ -133,6 +135,7 @@ impl Entrants {
         let before = &self.standings[index];
         let mut kept = Kept::of(self.rules, row.values(), 0);
         let (old, new) = (before.kept.key, kept.key);
+        let rank = rank_of(new);
         self.started = recounted(
             self.started,
             has_started(before.row.values()),
@@ -146,7 +149,7 @@ impl Entrants {
         self.ranked = recounted(self.ranked, better(old, NO_RESULT), better(new, NO_RESULT));
         let ahead = pass_all(&mut self.standings, old, new);
         kept.place = 1 + recounted(ahead, better(old, new), false);
-        self.standings[index] = Standing { row, kept };
+        self.standings[index] = Standing { row, kept, rank };
     }
 
     /// What is kept of an entrant.

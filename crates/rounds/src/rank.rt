@@ -1,33 +1,35 @@
 //! Keys as numbers, which are compared without a branch.
 
 ghost use Rattle.std.specs.Prelude.{◌≡◌, ◌≤◌};
+ghost use Rattle.formats.specs.declared.results.RankKey.{RankKey as Key};
 ghost use Rattle.formats.specs.Results.{is_better};
-ghost use Rattle.rounds.specs.model.Ranks.{number_or_last, rank_of};
+ghost use Rattle.rounds.specs.model.Ranks.{number_or, rank_of, IsBelow, HasRoom};
 
 use formats::RankKey;
 
-/// A number, or one above all where it is missing.
-fn number_or_last(number: Option<u32>) -> u64
-    ensures value { result ≡ number_or_last number }
-    ensures small { result ≤ 4294967296 }
+/// A number, or the last one where it is missing.
+fn number_or(number: Option<u32>, last: u64) -> u64
+    ensures { result ≡ number_or last number }
 {
     match number {
         Some(number) => u64::from(number),
-        None => 1 << 32,
+        None => last,
     }
 }
 
-/// A key as one number: the less it is, the better is the key.
-fn rank_of(key: RankKey) -> u128
-    ensures { result ≡ rank_of key }
+/// A key as one number: the better key has the lesser one. The tie, which is a best, is small.
+pub(crate) fn rank_of(key: RankKey) -> u64
+    requires { IsBelow 2147483647 key.tie }
+    ensures value { result ≡ rank_of key }
+    ensures room { HasRoom key }
 {
-    (u128::from(number_or_last(key.main)) << 64) + u128::from(number_or_last(key.tie))
+    number_or(key.main, 1 << 32) * (1 << 31) + number_or(key.tie, (1 << 31) - 1)
 }
 
-/// Whether a key is better than another one. The many comparisons of one change come out either
-/// way, so that a branch for each would cost more than the numbers do.
-pub(crate) fn leads(a: RankKey, b: RankKey) -> bool
-    ensures { result ≡ is_better a b }
+/// Whether the key of a rank is better than that of another one.
+pub(crate) fn leads(one: u64, other: u64) -> bool
+    ensures { (x y : Key) → HasRoom x → HasRoom y → one ≡ rank_of x → other ≡ rank_of y
+        → result ≡ is_better x y }
 {
-    rank_of(a) < rank_of(b)
+    one < other
 }

@@ -3,9 +3,11 @@
 use crate::kept::Kept;
 use crate::value_row::ValueRow;
 
-/// An entrant's values, with what they make and the place.
+/// An entrant's values, with what they make and the place. The rank is the key as one number, so
+/// that many of them are soon compared.
 #[derive(Drop)]
 pub(crate) struct Standing {
     pub row: ValueRow,
     pub kept: Kept,
+    pub rank: u64,
 }

@@ -9,6 +9,7 @@ use Rattle.rounds.specs.declared.rules.Rules.{Rules}
 use Rattle.rounds.specs.declared.standing.Standing.{Standing}
 use Rattle.rounds.specs.Tables.{Entrant, IsCutoff, allotted, is_started_attempt}
 use Rattle.rounds.specs.model.Field.{Field}
+use Rattle.rounds.specs.model.Ranks.{HasRank}
 use Rattle.rounds.specs.model.Standings.{kept_of, is_unfinished, place_among}
 
 abbrev pub entrant_of : ℕ × Standing → Entrant
@@ -44,6 +45,7 @@ pub record Runs (rules : Rules) (lines : List (ℕ × Standing)) (started unfini
   pub made : All (IsMade rules) lines
   pub placed : All (IsPlaced (values_of lines)) lines
   pub within : All (IsAllotted rules) lines
+  pub ordered : All HasRank lines
   pub starts : started ≡ count_by (λ s. list_any is_started_attempt s.row) (values_of lines)
   pub unfinishes : unfinished ≡ count_by (λ s. is_unfinished rules s.row) (values_of lines)
   pub ranks : ranked ≡ count_by (λ s. is_better s.kept.key no_result) (values_of lines)

@@ -14,16 +14,17 @@ use Rattle.rounds.proofs.Entering.{runs_entered, own_of_none}
 use Rattle.rounds.proofs.entrants.Entrants.enter.Goals as goal
 use Rattle.rounds.proofs.entrants.Entrants.enter.Goals.{In_ok-insert}
 
-abbrev newcomer : List Value → ℕ → Standing
-newcomer row ranked =
+abbrev newcomer : List Value → ℕ → ℕ → Standing
+newcomer row ranked rank =
     record {
       row = row;
       kept = record { best = Dns; average = Missing; key = no_result; place = ranked + 1 };
+      rank = rank;
     }
 
 pushed : (c : In_ok-insert)
     → c.insert.new.self.entries
-    ≡ c.self.inside.standings.entries ++ (c.args.number, newcomer c.new.result c.self.inside.ranked)
+    ≡ c.self.inside.standings.entries ++ (c.args.number, newcomer c.new.result c.self.inside.ranked c.rank_of.result)
     ∷ []
 pushed c =
     let absent : list_any (has_number c.args.number) (entrants_of c.self.inside.standings.entries)
@@ -50,10 +51,11 @@ invariant_of-self-2 c =
     Runs c.self.inside.rules xs c.self.inside.started (c.self.inside.unfinished + 1)
     c.self.inside.ranked)
     (sym (pushed (goal.at.invariant_of-self-2 c).In_ok-insert))
-    (runs_entered c.self.inside.rules es c.args.number (newcomer c.new.result c.self.inside.ranked)
+    (runs_entered c.self.inside.rules es c.args.number (newcomer c.new.result c.self.inside.ranked c.rank_of.result)
     refl c.self.inside.started c.self.inside.unfinished c.self.inside.ranked c.self.invariant
     (omega (arith, same, c.requires.room, length-map es entrant_of)) c.new.ensures
-    (own_of_none c.self.inside.rules c.new.result (c.self.inside.ranked + 1) c.new.ensures) refl)
+    (own_of_none c.self.inside.rules c.new.result (c.self.inside.ranked + 1) c.new.ensures) refl
+    (record { rank = c.rank_of.ensures.value; room = c.rank_of.ensures.room }))
 
 pub returns-clause-entered : goal.returns-clause-entered
 returns-clause-entered c =

@@ -1,4 +1,4 @@
-use Rattle.std.proofs.Common.{◌+◌, false, List, map, ap, sym, ◌∙◌}
+use Rattle.std.proofs.Common.{◌+◌, false, List, map, ap, subst, sym, ◌∙◌}
 use Rattle.std.specs.List.{list_any}
 use Rattle.indexmap.specs.IndexMap.{set_value_at}
 use Rattle.formats.specs.Results.{is_better}
@@ -9,6 +9,8 @@ use Rattle.rounds.specs.model.Field.{Field}
 use Rattle.rounds.specs.model.Standings.{kept_of, recounted, passed_by, is_unfinished}
 use Rattle.rounds.specs.model.Running.{field_of, entrants_of, no_result}
 use Rattle.rounds.proofs.Changing.{line_read, is_in_count, recounted_same, runs_same, runs_after, rows_changed}
+use Rattle.rounds.specs.model.Ranks.{IsBelow}
+use Rattle.rounds.proofs.Ranked.{rank_at, small_tie}
 use Rattle.rounds.proofs.entrants.Entrants.replace.Goals as goal
 
 pub
@@ -42,6 +44,22 @@ recounted-requires-clause-counted c =
     c.args.index c.index-before.result.now c.index-before.ensures
     c.better-3.result c.pass_all-ahead.result c.better-3.ensures c.pass_all-ahead.ensures.ahead
 
+pub rank_of-rank-requires : goal.rank_of-rank-requires
+rank_of-rank-requires c =
+    subst (λ (k : Kept). IsBelow 2147483647 k.key.tie) (sym c.of-kept.ensures)
+    (small_tie c.self.inside.rules.format c.self.inside.rules.unit c.values.result.now
+    c.values.ensures.in_range)
+
+pub pass_all-ahead-requires-clause-ranked : goal.pass_all-ahead-requires-clause-ranked
+pass_all-ahead-requires-clause-ranked c = c.self.invariant.ordered
+
+pub pass_all-ahead-requires-clause-room : goal.pass_all-ahead-requires-clause-room
+pass_all-ahead-requires-clause-room c =
+    let own =
+    rank_at c.self.inside.standings.entries c.args.index c.index-before.result.now
+    c.self.invariant.ordered c.index-before.ensures in
+    (own.room, c.rank_of-rank.ensures.room)
+
 pub invariant_of-self : goal.invariant_of-self
 invariant_of-self c =
     let rules = c.self.inside.rules in
@@ -53,6 +71,7 @@ invariant_of-self c =
     record {
       row = c.args.row;
       kept = record c.of-kept.result { place = 1 + c.recounted.result };
+      rank = c.rank_of-rank.result;
     } in
     runs_same rules (set_value_at (map (passed_by before.kept.key c.of-kept.result.key) es) i after)
     (set_value_at c.pass_all-ahead.new.entrants.entries i after)
@@ -83,7 +102,8 @@ invariant_of-self c =
     (c.of-kept.ensures ∙ ap (λ vs. kept_of rules vs 0) c.values.ensures.values))
     c.pass_all-ahead.ensures.ahead
     (ap (λ m. 1 + m)
-    (c.recounted.ensures ∙ ap (λ b. recounted c.pass_all-ahead.result b false) c.better-3.ensures)))
+    (c.recounted.ensures ∙ ap (λ b. recounted c.pass_all-ahead.result b false) c.better-3.ensures))
+    (λ n. record { rank = c.rank_of-rank.ensures.value; room = c.rank_of-rank.ensures.room }))
 
 pub returns : goal.returns
 returns c =
@@ -92,6 +112,7 @@ returns c =
     record {
       row = c.args.row;
       kept = record c.of-kept.result { place = 1 + c.recounted.result };
+      rank = c.rank_of-rank.result;
     } in
     rw (← c.self.view_is)
     (ap
