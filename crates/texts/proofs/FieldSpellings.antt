@@ -1,5 +1,5 @@
 -- A field is read from its one spelling.
-use Rattle.std.proofs.Common.{◌≡◌, ℕ, ◌+◌, ◌<◌, ◌≤◌, Bool, true, false, ◌&&◌, ◌==◌, not, cond, nat_le, IsTrue, List, [], ◌∷◌, ◌++◌, length, take, drop, codes, decimal, bytes_eq, Option, Some, None, refl, sym, ap, ◌∙◌, subst, arith, append_assoc, eqb-true, take-append-drop, length-append}
+use Rattle.std.proofs.Common.{◌≡◌, ◌↔◌, ℕ, ◌+◌, ◌<◌, ◌≤◌, Bool, true, false, ◌&&◌, ◌==◌, not, cond, nat_le, IsTrue, List, [], ◌∷◌, ◌++◌, length, take, drop, codes, decimal, bytes_eq, Option, Some, None, refl, sym, ap, ◌∙◌, subst, arith, append_assoc, eqb-true, take-append-drop, length-append}
 use Rattle.std.specs.Char.{is_ascii_digit}
 use Rattle.std.specs.List.{list_all}
 use Rattle.std.specs.Option.{option_map, option_and_then}
@@ -27,7 +27,7 @@ use Rattle.texts.proofs.MoveSpellings.{moves_spelled}
 
 -- Numbers.
 
-pub number_spelled : (low high : ℕ) → high < 10000000
+pub number_spelled : (low high : ℕ) → high < 10000000000000000000
     → IsSpelled (number_between low high) decimal (IsWithin low high)
 unfolding number_between
 number_spelled low high small = record {
@@ -45,9 +45,18 @@ number_spelled low high small = record {
   found = λ n fits. number_between-decimal low high n fits.0 fits.1 small;
 }
 
-pub number_short : (n : ℕ) → n < 10000000 → length (decimal n) ≤ 80
+-- a number that was read, or that was not
+pub number_spelled_alone : (low high : ℕ) (bytes : List ℕ) (read : Option ℕ)
+    → high < 10000000000000000000 → read ≡ number_between low high bytes → (n : ℕ)
+    → (read ≡ Some n) ↔ ((low ≤ n) × (n ≤ high) × (bytes ≡ decimal n))
+number_spelled_alone low high bytes read small is n = (
+  λ h. let s = (number_spelled low high small).only bytes n (sym is ∙ h) in (s.0.0, s.0.1, s.1),
+  λ h. is ∙ ap (number_between low high) h.2 ∙ (number_spelled low high small).found n (h.0, h.1),
+)
+
+pub number_short : (n : ℕ) → n < 10000000000000000000 → length (decimal n) ≤ 80
 number_short n small =
-    let few = length-decimal-le 7 n (omega arith) (omega arith) (omega arith) in omega arith
+    let few = length-decimal-le 19 n (omega arith) (omega arith) (omega arith) in omega arith
 
 digits_lack : (by : ℕ) → is_ascii_digit by ≡ false → (bytes : List ℕ)
     → list_all is_ascii_digit bytes ≡ true → lacks by bytes ≡ true
@@ -62,16 +71,16 @@ digits_lack by other (b ∷ bytes) h =
     step true is digit =
         absurd (false≢true (sym other ∙ ap is_ascii_digit (sym (eqb-true b by is)) ∙ digit))
 
-pub decimal_digits : (n : ℕ) → n < 10000000 → list_all is_ascii_digit (decimal n) ≡ true
+pub decimal_digits : (n : ℕ) → n < 10000000000000000000 → list_all is_ascii_digit (decimal n) ≡ true
 decimal_digits n small = digits_decimal own n (omega arith)
 
-pub decimal_no_space : (n : ℕ) → n < 10000000 → lacks 32 (decimal n) ≡ true
+pub decimal_no_space : (n : ℕ) → n < 10000000000000000000 → lacks 32 (decimal n) ≡ true
 decimal_no_space n small = digits_lack 32 refl (decimal n) (decimal_digits n small)
 
-pub decimal_no_colon : (n : ℕ) → n < 10000000 → lacks 58 (decimal n) ≡ true
+pub decimal_no_colon : (n : ℕ) → n < 10000000000000000000 → lacks 58 (decimal n) ≡ true
 decimal_no_colon n small = digits_lack 58 refl (decimal n) (decimal_digits n small)
 
-decimal_no_dash : (n : ℕ) → n < 10000000 → bytes_eq (decimal n) (codes "-") ≡ false
+decimal_no_dash : (n : ℕ) → n < 10000000000000000000 → bytes_eq (decimal n) (codes "-") ≡ false
 decimal_no_dash n small = step (bytes_eq (decimal n) (codes "-")) refl
   where
     step : (b : Bool) → bytes_eq (decimal n) (codes "-") ≡ b → b ≡ false
@@ -224,7 +233,8 @@ pair-only first second First Second one two parts p h = start (first parts.0) re
     start (Some a) front e = after a front parts.1 refl e
 
 pair-found : (first second : List ℕ → Option ℕ) (First Second : ℕ → Type 0)
-    → IsSpelled first decimal First → IsSpelled second decimal Second → (a b : ℕ) → a < 10000000
+    → IsSpelled first decimal First → IsSpelled second decimal Second → (a b : ℕ)
+    → a < 10000000000000000000
     → First a → Second b
     → two_numbers first second (cut 58 (decimal a ++ codes ":" ++ decimal b)) ≡ Some (pair_with a b)
 pair-found first second First Second one two a b small x y =
@@ -239,7 +249,7 @@ lacks-append by (x ∷ xs) ys front back =
     let both = and-true (not (x == by)) (lacks by xs) front in
     rw (both.0, lacks-append by xs ys both.1 back) refl
 
-pair_no_space : (a b : ℕ) → a < 10000000 → b < 10000000
+pair_no_space : (a b : ℕ) → a < 10000000000000000000 → b < 10000000000000000000
     → lacks 32 (pair_text (pair_with a b)) ≡ true
 pair_no_space a b small small' =
     lacks-append 32 (decimal a ++ codes ":") (decimal b)
@@ -252,13 +262,14 @@ pair_length a b =
     length-append (decimal a ++ codes ":") (decimal b)
     ∙ ap (λ n. n + length (decimal b)) (length-append (decimal a) (codes ":"))
 
-pair_short : (a b : ℕ) → a < 10000000 → b < 10000000 → length (pair_text (pair_with a b)) ≤ 80
+pair_short : (a b : ℕ) → a < 10000000000000000000 → b < 10000000000000000000
+    → length (pair_text (pair_with a b)) ≤ 80
 pair_short a b small small' =
-    let first = length-decimal-le 7 a (omega arith) (omega arith) (omega arith) in
-    let last = length-decimal-le 7 b (omega arith) (omega arith) (omega arith) in
+    let first = length-decimal-le 19 a (omega arith) (omega arith) (omega arith) in
+    let last = length-decimal-le 19 b (omega arith) (omega arith) (omega arith) in
     omega (arith, pair_length a b)
 
-pair_no_dash : (a b : ℕ) → 1 ≤ a → 1 ≤ b → a < 10000000 → b < 10000000
+pair_no_dash : (a b : ℕ) → 1 ≤ a → 1 ≤ b → a < 10000000000000000000 → b < 10000000000000000000
     → bytes_eq (pair_text (pair_with a b)) (codes "-") ≡ false
 pair_no_dash a b some some' small small' =
     step (bytes_eq (pair_text (pair_with a b)) (codes "-")) refl
@@ -422,9 +433,9 @@ advance_spelled = record {
 pub advance_short : (x : Advance) → IsFitAdvance x → length (advance_text x) ≤ 80
 advance_short Final fits = omega arith
 advance_short (Top n) fits =
-    let few = length-decimal-le 7 n (omega arith) (omega arith) (omega arith) in omega arith
+    let few = length-decimal-le 19 n (omega arith) (omega arith) (omega arith) in omega arith
 advance_short (Percent n) fits =
-    let few = length-decimal-le 7 n (omega arith) (omega arith) (omega arith) in omega arith
+    let few = length-decimal-le 19 n (omega arith) (omega arith) (omega arith) in omega arith
 
 pub advance_no_space : (x : Advance) → IsFitAdvance x → lacks 32 (advance_text x) ≡ true
 advance_no_space Final fits = refl

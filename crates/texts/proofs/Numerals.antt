@@ -22,26 +22,26 @@ decimal-numeral bytes h =
     let some : 0 < length bytes = grind (arith, nat_tests) in
     let digits : list_all is_ascii_digit bytes ≡ true = grind (arith, nat_tests) in
     let zeros : get_or bytes 0 0 ≡ 48 → length bytes ≡ 1 = λ z. grind (arith, nat_tests) in
-    let few : length bytes ≤ 7 = grind (arith, nat_tests) in
+    let few : length bytes ≤ 19 = grind (arith, nat_tests) in
     sym
     (decimal-digits_value own bytes digits some zeros
-    (omega (arith, digits_value_short own bytes 7 digits few)))
+    (omega (arith, digits_value_short own bytes 19 digits few)))
 
 numeral-zero : is_numeral (decimal 0) ≡ true
 unfolding digits
 numeral-zero = refl
 
-numeral-first : (bytes : List ℕ) → 0 < length bytes → length bytes ≤ 7
+numeral-first : (bytes : List ℕ) → 0 < length bytes → length bytes ≤ 19
     → list_all is_ascii_digit bytes ≡ true → 48 < get_or bytes 0 0 → is_numeral bytes ≡ true
 numeral-first bytes some few digits first =
     let zero_test : (get_or bytes 0 0 == 48) ≡ false = grind (arith, nat_tests) in
     grind (arith, nat_tests)
 
-pub is_numeral-decimal : (n : ℕ) → n < 10000000 → is_numeral (decimal n) ≡ true
+pub is_numeral-decimal : (n : ℕ) → n < 10000000000000000000 → is_numeral (decimal n) ≡ true
 is_numeral-decimal zero small = numeral-zero
 is_numeral-decimal (suc n) small =
     numeral-first (decimal (suc n)) (decimal_nonempty (suc n) (omega arith))
-    (length-decimal-le 7 (suc n) (omega arith) (omega arith) (omega arith))
+    (length-decimal-le 19 (suc n) (omega arith) (omega arith) (omega arith))
     (digits_decimal own (suc n) (omega arith)) (first_decimal (suc n) (omega arith) (omega arith))
 
 pub bytes_eq-same : (bytes : List ℕ) → bytes_eq bytes bytes ≡ true
@@ -50,7 +50,7 @@ bytes_eq-same bytes = (bytes_eq-Decides bytes bytes).1 refl
 pub within-Some : (low high n : ℕ) → low ≤ n → n ≤ high → within low high n ≡ Some n
 within-Some low high n above below = grind (arith, nat_tests)
 
-pub number_between-decimal : (low high n : ℕ) → low ≤ n → n ≤ high → high < 10000000
+pub number_between-decimal : (low high n : ℕ) → low ≤ n → n ≤ high → high < 10000000000000000000
     → number_between low high (decimal n) ≡ Some n
 unfolding number_between
 number_between-decimal low high n above below small =
@@ -59,7 +59,8 @@ number_between-decimal low high n above below small =
 
 -- what is no numeral is no number that is printed in so few digits
 other : (b : Bool) (low high : ℕ) (bytes : List ℕ)
-    → bytes_eq bytes (decimal (digits_value bytes)) ≡ b → high < 10000000 → is_numeral bytes ≡ false
+    → bytes_eq bytes (decimal (digits_value bytes)) ≡ b → high < 10000000000000000000
+    → is_numeral bytes ≡ false
     → cond b (within low high (digits_value bytes)) None ≡ None
 other false low high bytes is small h = refl
 other true low high bytes is small h =
@@ -76,7 +77,7 @@ other true low high bytes is small h =
         (is_numeral-decimal (digits_value bytes) (omega arith)) in
         absurd (false≢true (sym h ∙ numeral))
 
-pub number_between-other : (low high : ℕ) (bytes : List ℕ) → high < 10000000
+pub number_between-other : (low high : ℕ) (bytes : List ℕ) → high < 10000000000000000000
     → is_numeral bytes ≡ false → number_between low high bytes ≡ None
 unfolding number_between
 number_between-other low high bytes small h = other _ low high bytes refl small h

@@ -1,26 +1,14 @@
 -- A field that was read of what is left, or spelled in front of it.
-use Rattle.std.proofs.Common.{◌≡◌, ℕ, ◌+◌, ◌*◌, ◌≤◌, Bool, true, false, cond, nat_lt, List, [], ◌∷◌, ◌++◌, length, codes, decimal, bytes_eq, Option, Some, None, Result, Ok, Err, refl, sym, ap, ◌∙◌, subst, arith, length-append}
-use Rattle.std.specs.List.{join_with_byte}
+use Rattle.std.proofs.Common.{◌≡◌, ℕ, true, List, [], ◌∷◌, ◌++◌, Option, Some, None, Result, Ok, Err, refl, ap, ◌∙◌}
 use Rattle.std.specs.Option.{ok_or}
-use Rattle.std.specs.Result.{IfOk}
-use Rattle.std.proofs.lemmas.Bool.Decides.{nat_tests}
 use Rattle.std.proofs.lemmas.List.{append-nil}
-use Rattle.formats.specs.declared.events.Event.{Event}
-use Rattle.formats.specs.Events.{event_name, event_named, format_name}
-use Rattle.formats.specs.declared.advance.Advance.{Advance}
-use Rattle.cube.specs.declared.moves.Move.{Move}
-use Rattle.notation.specs.Notation.{spelling as moves_text}
 use Rattle.texts.specs.declared.command.Command.{Command}
-use Rattle.texts.specs.declared.command.Command.TheVariants.{Register, Open, Enter, Scramble, Attempt, Correct, Strike, SetAdvance, Close}
-use Rattle.texts.specs.declared.command.Entered.{Entered}
-use Rattle.texts.specs.declared.command.Settings.{Settings}
 use Rattle.texts.specs.declared.reading.CommandFault.{CommandFault}
 use Rattle.texts.specs.declared.reading.CommandFault.TheVariants as fault
-use Rattle.texts.specs.Spelling.{spelling, IsFit, IsWithin, last_round, cutoff_text, limit_text, advance_text, entered_text}
-use Rattle.texts.specs.Fields.{cut, number_between}
-use Rattle.texts.specs.Reading.{◌>>=◌, field, last_field, no_field, register_of, open_of, enter_of, scramble_of, attempt_of, correct_of, strike_of, set_advance_of, close_of, moves_field, by_word, command_of, Gives, ReadsAs}
+use Rattle.texts.specs.Fields.{cut}
+use Rattle.texts.specs.Reading.{◌>>=◌, field, last_field, no_field}
 use Rattle.texts.proofs.Cuts.{behind, cut_spelled, cut-behind, lacks}
-use Rattle.texts.proofs.Spelled.{IsSpelled, bytes_eq-equal}
+use Rattle.texts.proofs.Spelled.{IsSpelled}
 
 -- One field, the first of what is left.
 

@@ -7,10 +7,10 @@ use Rattle.std.specs.List.{list_all}
 abbrev pub digits_value : List ℕ → ℕ
 digits_value bytes = fold (λ v b. 10 * v + (b - 48)) 0 bytes
 
--- one to seven digits, and no zero in front of another
+-- one to nineteen digits, and no zero in front of another
 abbrev pub is_numeral : List ℕ → Bool
 is_numeral bytes =
-    nat_lt 0 (length bytes) && nat_le (length bytes) 7 && list_all is_ascii_digit bytes &&
+    nat_lt 0 (length bytes) && nat_le (length bytes) 19 && list_all is_ascii_digit bytes &&
     (length bytes == 1 || not (slice_index bytes 0 == 48))
 
 abbrev pub within : ℕ → ℕ → ℕ → Option ℕ

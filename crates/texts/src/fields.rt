@@ -4,17 +4,16 @@ ghost use Rattle.std.specs.Prelude.{◌≡◌, ◌≤◌, ◌==◌, ◌<◌, len
 ghost use Rattle.std.specs.List.{list_all};
 ghost use Rattle.std.specs.Str.{is_utf8};
 ghost use Rattle.texts.specs.Spelling.{is_name, is_name_byte, has_single_spaces};
-ghost use Rattle.std.specs.Char.{is_ascii_digit};
-ghost use Rattle.texts.specs.Numerals.{is_numeral, digits_value};
 ghost use Rattle.texts.specs.Fields.{cut, number_between, cutoff_of, two_numbers, limit_of, percent_of, advance_of, moves_of, time_of, entered_of, MayBeSolution};
 
 use crate::command::Entered;
+use crate::numbers::number_between;
 use formats::Advance;
 use notation::{Moves, NoMemory, ReadFault, printed_is_spelled};
 use std::alloc::Global;
 
 /// The last round that commands name.
-pub const LAST_ROUND: u32 = 4;
+pub const LAST_ROUND: u64 = 4;
 
 fn place_of(bytes: &[u8], by: u8) -> Option<usize>
     ensures value { result ≡ position (λ b. b == by) bytes.now }
@@ -31,53 +30,6 @@ pub fn cut(bytes: &[u8], by: u8) -> (&[u8], Option<&[u8]>)
     match place_of(bytes, by) {
         Some(place) => (&bytes[..place], Some(&bytes[place + 1..])),
         None => (bytes, None),
-    }
-}
-
-fn is_digits(bytes: &[u8]) -> bool
-    ensures { result ≡ list_all is_ascii_digit bytes.now }
-{
-    bytes.iter().all(|byte| byte.is_ascii_digit())
-}
-
-/// One to seven decimal digits, with no zero in front of another.
-fn is_numeral(bytes: &[u8]) -> bool
-    ensures { result ≡ is_numeral bytes.now }
-{
-    !bytes.is_empty()
-        && bytes.len() <= 7
-        && is_digits(bytes)
-        && (bytes.len() == 1 || bytes[0] != b'0')
-}
-
-/// The number that digits stand for.
-fn digits_value(bytes: &[u8]) -> u32
-    requires few { length bytes.now ≤ 7 }
-    requires digits { list_all is_ascii_digit bytes.now ≡ true }
-    ensures { result ≡ digits_value bytes.now }
-{
-    let mut value: u32 = 0;
-    for byte in bytes {
-        value = 10 * value + u32::from(*byte - 48);
-    }
-    value
-}
-
-/// A number in a range, which ends below 10,000,000.
-#[tactic(auto, using(crate::proofs::Numerals::readings))]
-pub fn number_between(low: u32, high: u32, bytes: &[u8]) -> Option<u32>
-    requires { high < 10000000 }
-    ensures value { result ≡ number_between low high bytes.now }
-    ensures within { IfSome result (λ n. (low ≤ n) × (n ≤ high)) }
-{
-    if !is_numeral(bytes) {
-        return None;
-    }
-    let value = digits_value(bytes);
-    if low <= value && value <= high {
-        Some(value)
-    } else {
-        None
     }
 }
 
@@ -125,7 +77,7 @@ fn below_of(bytes: &[u8]) -> Option<(u8, u32)>
     let (attempts, left) = cut(bytes, b':');
     let attempts = number_between(1, 4, attempts)?;
     let below = number_between(1, 360_000, left?)?;
-    Some((attempts as u8, below))
+    Some((attempts as u8, below as u32))
 }
 
 /// A cutoff, or none.
@@ -150,7 +102,7 @@ pub fn limit_of(bytes: &[u8]) -> Option<Option<u32>>
         Some(None)
     } else {
         match number_between(1, 360_000, bytes) {
-            Some(limit) => Some(Some(limit)),
+            Some(limit) => Some(Some(limit as u32)),
             None => None,
         }
     }
@@ -209,7 +161,7 @@ fn time_of(bytes: &[u8]) -> Option<Entered>
     let hundredths = number_between(1, 999_999, time)?;
     let penalties = number_between(0, 9, left?)?;
     Some(Entered::Time {
-        hundredths,
+        hundredths: hundredths as u32,
         penalties: penalties as u8,
     })
 }

@@ -4,11 +4,14 @@
 mod answer;
 mod command;
 mod fields;
+mod numbers;
 mod printing;
 mod reading;
 
 pub use answer::{Answer, Code};
 pub use command::{Command, Entered, Name, Settings};
+pub use fields::cut;
 pub use formats::Advance;
+pub use numbers::number_between;
 pub use printing::{print, print_advance, print_cutoff, print_limit};
 pub use reading::{CommandFault, one_spelling, read};

@@ -8,8 +8,9 @@ ghost use Rattle.texts.specs.declared.reading.CommandFault.TheVariants.{NoMemory
 
 use crate::command::{Command, Name, Settings};
 use crate::fields::{
-    LAST_ROUND, advance_of, cut, cutoff_of, entered_of, is_name, limit_of, moves_of, number_between,
+    LAST_ROUND, advance_of, cut, cutoff_of, entered_of, is_name, limit_of, moves_of,
 };
+use crate::numbers::number_between;
 use formats::{Event, Format};
 use std::alloc::{AllocError, Global};
 

@@ -1,6 +1,6 @@
 use Rattle.std.proofs.Common.{◌≡◌, ◌<◌, ◌^◌, take}
 use Rattle.texts.specs.Numerals.{digits_value}
-use Rattle.texts.proofs.fields.digits_value.Given as goal
+use Rattle.texts.proofs.numbers.digits_value.Given as goal
 
 abbrev pub invariant-loop-byte : goal.invariant-loop-byte
 invariant-loop-byte l =
