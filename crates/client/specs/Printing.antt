@@ -1,8 +1,12 @@
--- What a client prints of an answer.
+-- What a client prints of an answer, and of a fault.
 use Rattle.std.specs.Prelude.{ℕ, List, [], ◌++◌, codes, decimal}
 use Rattle.texts.specs.Codes.{code_name}
 use Rattle.texts.specs.declared.answer.Answer.{Answer}
 use Rattle.texts.specs.declared.answer.Answer.TheVariants as answer
+use Rattle.client.specs.declared.fault.ClientFault.{ClientFault}
+use Rattle.client.specs.declared.fault.ClientFault.TheVariants as fault
+use Rattle.wire.specs.declared.values.ClientRefusal.{ClientRefusal}
+use Rattle.wire.specs.declared.values.ClientRefusal.TheVariants as refusal
 use Rattle.wire.specs.declared.frame.What.{What}
 use Rattle.wire.specs.declared.frame.What.TheVariants as what
 use Rattle.wire.specs.declared.values.Standing.{Standing}
@@ -27,3 +31,20 @@ reply_text (what.Told id standing) = standing_text id standing
 reply_text (what.SheetText text) = text
 reply_text what.Fine = codes "ok\n"
 reply_text _ = []
+
+abbrev pub refusal_name : ClientRefusal → List ℕ
+refusal_name refusal.Busy = codes "Busy"
+refusal_name refusal.LogFull = codes "LogFull"
+refusal_name refusal.BallotsSpent = codes "BallotsSpent"
+refusal_name refusal.NoMemory = codes "NoMemory"
+refusal_name refusal.Down = codes "Down"
+refusal_name refusal.NotThere = codes "NotThere"
+refusal_name refusal.NoSuchRound = codes "NoSuchRound"
+refusal_name refusal.Foreign = codes "Foreign"
+
+-- the line of a fault, without its line feed
+abbrev pub fault_text : ClientFault → List ℕ
+fault_text (fault.Refused refusal) = codes "refused " ++ refusal_name refusal
+fault_text fault.NoAnswer = codes "no answer"
+fault_text fault.Write = codes "cannot write"
+fault_text fault.NoMemory = codes "no memory"

@@ -1,5 +1,8 @@
 //! Why a client has no answer to what it asked.
 
+ghost use Rattle.std.specs.Prelude.{◌≡◌};
+ghost use Rattle.client.specs.Printing.{refusal_name};
+
 use std::fmt;
 use wire::ClientRefusal;
 
@@ -17,7 +20,9 @@ pub enum ClientFault {
 }
 
 /// The name of a refusal.
-pub fn refusal_name(refusal: ClientRefusal) -> &'static str {
+pub fn refusal_name(refusal: ClientRefusal) -> &'static str
+    ensures { result.now ≡ refusal_name refusal }
+{
     match refusal {
         ClientRefusal::Busy => "Busy",
         ClientRefusal::LogFull => "LogFull",
@@ -31,6 +36,11 @@ pub fn refusal_name(refusal: ClientRefusal) -> &'static str {
 }
 
 impl fmt::Display for ClientFault {
+    ghost use Rattle.std.specs.Prelude.{Some};
+    ghost use Rattle.client.specs.Printing.{fault_text};
+
+    ghost output = { λ fault. Some (fault_text fault) };
+
     fn fmt<W: fmt::Write>(&self, f: &mut fmt::Formatter<W>) -> fmt::Result {
         match self {
             ClientFault::Refused { refusal } => {
