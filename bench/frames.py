@@ -80,7 +80,8 @@ class Fields:
             return ("Unknown", "Pending")[case]
         position = self.position()
         answer = self.one_of(("Done",) + CODES, 0)
-        return f"Done {{ pos: {position}, answer: {answer if answer == 'Done' else f'Refused({answer})'} }}"
+        said = answer if answer == "Done" else f"Refused({answer})"
+        return f"Done {{ pos: {position}, answer: {said} }}"
 
     def rest(self):
         return f"Bytes {{ items: {self.bytes(len(self.data) - self.at)} }}"
@@ -223,7 +224,8 @@ def stream_lines(text):
     most = max((held for _, held, _ in answers([data[at:at + size]
                                                 for at in range(0, len(data), size)])), default=0)
     kept = f"Some({fault})" if fault else "None"
-    return [f"kinds {[kind for kind, _ in frames]}, spelled, {most} held at most, {held} at the end, {kept}"]
+    kinds = [kind for kind, _ in frames]
+    return [f"kinds {kinds}, spelled, {most} held at most, {held} at the end, {kept}"]
 
 
 def main():

@@ -57,7 +57,8 @@ def moves_of(text):
 def move_text(token):
     kind, amount = stickers.TOKEN.fullmatch(token).groups()
     turned = {"": "Clockwise", "'": "Anticlockwise", "2": "Half"}[amount]
-    shown = f"Turn({kind.upper()})" if kind in "xyz" else f"{'Block' if kind[1:] else 'Face'}({kind[0]})"
+    layer = "Block" if kind[1:] else "Face"
+    shown = f"Turn({kind.upper()})" if kind in "xyz" else f"{layer}({kind[0]})"
     return f"Move {{ kind: {shown}, quarter: {turned} }}"
 
 
@@ -254,7 +255,9 @@ class Competition:
 
     def who(self, text):
         table = self.meet.rounds.get(self.round(text))
-        return ["no round"] if table is None else [f"{len(table.started())} started: {table.standings()}"]
+        if table is None:
+            return ["no round"]
+        return [f"{len(table.started())} started: {table.standings()}"]
 
     def sheet(self, text):
         what, which = self.round(text)
