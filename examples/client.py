@@ -1,0 +1,149 @@
+#!/usr/bin/env python3
+"""A client of a desk, written from docs/FORMATS.md ('Frames on the wire') with Python's standard
+library alone. Its words, output, fault lines and statuses are those of `desk`:
+
+    examples/client.py enter --hall 7 --desk 1 --to 127.0.0.1:7001 5 'ENT 333 1'
+    examples/client.py ask   --hall 7 --desk 1 --to 127.0.0.1:7001 5
+    examples/client.py sheet --hall 7 --desk 1 --to 127.0.0.1:7001 333 1 5 --csv
+"""
+
+import argparse
+import socket
+import struct
+import sys
+
+EVENTS = """333 222 444 555 666 777 333bf 333fm 333oh clock minx pyram skewb sq1 444bf
+555bf""".split()
+CODES = """Done Unread Repeat UnknownCompetitor NameTaken RoundUnknown RoundOpen RoundsRule
+FormatNotAllowed CutoffNotAllowed LimitNotAllowed NoScramble ScrambleThere WrongOutcome Closed
+Already Full NotEntered OutOfOrder NoMoreAttempts NoSuchAttempt CutoffLost Unfinished""".split()
+REFUSALS = "Busy LogFull BallotsSpent NoMemory Down NotThere NoSuchRound Foreign".split()
+SUBMIT, ASK, SHEET, TICK, STOP = 16, 17, 18, 19, 20
+TAKEN, TOLD, SHEET_TEXT, REFUSED, FINE = 32, 33, 34, 35, 36
+VERSION, CLIENT = 1, 0
+LEAST, MOST = 8, 300_000  # the values of a frame's length
+NO_ANSWER = "no answer", 4
+
+
+class Fault(Exception):
+    """A fault line, and the status to end with."""
+
+
+def read_exactly(stream, count):
+    """The next bytes of a connection, that many."""
+    bytes_read = b""
+    while len(bytes_read) < count:
+        try:
+            piece = stream.recv(count - len(bytes_read))
+        except OSError:
+            piece = b""
+        if not piece:
+            raise Fault(*NO_ANSWER)
+        bytes_read += piece
+    return bytes_read
+
+
+def exchange(address, hall, desk, kind, body, wanted):
+    """Sends one frame to the desk of the hall, and returns the fields of the wanted answer."""
+    host, _, port = address.rpartition(":")
+    try:
+        stream = socket.create_connection((host.strip("[]"), int(port)))
+    except (OSError, ValueError, OverflowError):
+        raise Fault("cannot connect", 4) from None
+    with stream:
+        inside = struct.pack(">BIBBB", VERSION, hall, CLIENT, desk, kind) + body
+        try:
+            stream.sendall(struct.pack(">I", len(inside)) + inside)
+        except OSError:
+            raise Fault("cannot write", 4) from None
+        (length,) = struct.unpack(">I", read_exactly(stream, 4))
+        if not LEAST <= length <= MOST:
+            raise Fault(*NO_ANSWER)
+        inside = read_exactly(stream, length)
+    version, of_hall, sender, to, got = struct.unpack(">BIBBB", inside[:8])
+    fields = inside[8:]
+    if (version, to, got, len(fields)) == (VERSION, CLIENT, REFUSED, 1) and 1 <= fields[0] <= 8:
+        raise Fault("refused " + REFUSALS[fields[0] - 1], 3)
+    if (version, of_hall, sender, to, got) != (VERSION, hall, desk, CLIENT, wanted):
+        raise Fault(*NO_ANSWER)
+    return fields
+
+
+def enter(given):
+    text = given.text.encode("utf-8", "surrogateescape")
+    if len(text) > 600:
+        raise Fault("text too long", 3)
+    entry = struct.pack(">QH", given.id, len(text)) + text
+    taken = exchange(given.to, given.hall, given.desk, SUBMIT, entry, TAKEN)
+    if taken != entry[:8]:
+        raise Fault(*NO_ANSWER)
+    return b"taken %d\n" % given.id
+
+
+def ask(given):
+    identity = struct.pack(">Q", given.id)
+    told = exchange(given.to, given.hall, given.desk, ASK, identity, TOLD)
+    if told in (identity + b"\0", identity + b"\1"):
+        return b"%s %d\n" % ((b"unknown", b"pending")[told[8]], given.id)
+    if told[:9] != identity + b"\2" or len(told) != 14 or told[13] >= len(CODES):
+        raise Fault(*NO_ANSWER)
+    (position,) = struct.unpack(">I", told[9:13])
+    return b"done %d %d %s\n" % (given.id, position, CODES[told[13]].encode())
+
+
+def sheet(given):
+    event = EVENTS.index(given.event) + 1
+    body = struct.pack(">BBIB", event, given.round, given.position, given.csv)
+    return exchange(given.to, given.hall, given.desk, SHEET, body, SHEET_TEXT)
+
+
+def bare(kind, given):
+    if exchange(given.to, given.hall, given.desk, kind, b"", FINE):
+        raise Fault(*NO_ANSWER)
+    return b"ok\n"
+
+
+def tick(given):
+    return bare(TICK, given)
+
+
+def stop(given):
+    return bare(STOP, given)
+
+
+def words():
+    parser = argparse.ArgumentParser(description="Asks a desk.")
+    does = parser.add_subparsers(required=True)
+    for run in (enter, ask, sheet, tick, stop):
+        word = does.add_parser(run.__name__)
+        word.set_defaults(run=run)
+        word.add_argument("--hall", type=int, required=True)
+        word.add_argument("--desk", type=int, required=True)
+        word.add_argument("--to", required=True, metavar="ADDR")
+        if run in (enter, ask):
+            word.add_argument("id", type=int)
+        if run is enter:
+            word.add_argument("text")
+        if run is sheet:
+            word.add_argument("event", choices=EVENTS)
+            word.add_argument("round", type=int, choices=range(1, 5))
+            word.add_argument("position", type=int)
+            word.add_argument("--csv", action="store_true")
+    return parser.parse_args()
+
+
+def main():
+    given = words()
+    try:
+        if not 1 <= given.desk <= 5:
+            raise Fault("bad desk number", 3)
+        sys.stdout.buffer.write(given.run(given))
+    except Fault as fault:
+        text, status = fault.args
+        print(text, file=sys.stderr)
+        return status
+    return 0
+
+
+if __name__ == "__main__":
+    sys.exit(main())
