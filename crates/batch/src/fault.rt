@@ -1,0 +1,37 @@
+//! Why not all lines were entered.
+
+use client::ClientFault;
+use lines::RunFault;
+use thiserror::Error;
+
+/// Why not all lines were entered. Its text is one line for people.
+#[derive(Clone, Copy, Debug, PartialEq, Eq, Error)]
+pub enum BatchFault {
+    /// The input is above a limit, or a read of it failed.
+    #[error("{0}")]
+    Lines(RunFault),
+    /// A line has more than 600 bytes.
+    #[error("text too long")]
+    TextTooLong,
+    /// The next id would be above 2^63 - 1.
+    #[error("no more ids")]
+    NoMoreIds,
+    /// Nobody answers at the desk's address.
+    #[error("cannot connect")]
+    CannotConnect,
+    /// The desk has no answer, or refuses.
+    #[error("{0}")]
+    Asking(ClientFault),
+    /// The desk took the command and did not decide it.
+    #[error("still pending")]
+    StillPending,
+    /// The desk took the command and has lost it: it was started again in between.
+    #[error("lost")]
+    Lost,
+    /// What was answered can't be printed.
+    #[error("cannot write")]
+    Write,
+    /// Memory ran out.
+    #[error("no memory")]
+    NoMemory,
+}

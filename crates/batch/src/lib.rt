@@ -1,0 +1,13 @@
+//! Many commands entered at a desk, one a line, each over a connection of its own.
+#![tactic(auto)]
+
+mod asking;
+mod dialing;
+mod entering;
+mod fault;
+mod lines_entered;
+
+pub use asking::Receiver;
+pub use dialing::Dial;
+pub use fault::BatchFault;
+pub use lines_entered::{Batch, enter_lines};

@@ -1,0 +1,120 @@
+//! The lines of an input as commands, each entered with an id of its own.
+
+ghost use Rattle.std.specs.Prelude.{◌+◌, List, ℕ, OnOk, OnErr};
+ghost use Rattle.wire.specs.Ranges.{IsDesk};
+ghost use Rattle.std.specs.Io.KnownBytes.{Appends};
+ghost use Rattle.lines.specs.Bytes.{AppendsPart};
+ghost use Rattle.client.specs.Printing.{reply_text};
+ghost use Rattle.batch.specs.Entering.{EntersAll, EntersSome, IsSaid};
+
+use crate::asking::Receiver;
+use crate::dialing::Dial;
+use crate::entering::entered;
+use crate::fault::BatchFault;
+use client::reply_text;
+use lines::{LineReader, RunFault, write_text};
+use std::alloc::Global;
+use std::io::{Read, Write};
+use wire::What;
+
+/// How lines are entered.
+#[derive(Clone, Copy, Debug)]
+pub struct Batch {
+    /// The desk that they are entered at.
+    pub receiver: Receiver,
+    /// The id of the first line, at least 1. Each further line has the next one.
+    pub first_id: u64,
+    /// Whether each line is waited for until it is decided.
+    pub waits: bool,
+}
+
+/// Prints an answer.
+fn print_answer<W: Write>(alloc: Global, writer: &mut W, answer: What) -> Result<(), BatchFault>
+    ensures ok { OnOk result
+        (Appends (W.contents writer.old) (W.contents writer.new) (reply_text answer)) }
+    ensures err { OnErr result
+        (AppendsPart (W.contents writer.old) (W.contents writer.new) (reply_text answer)) }
+{
+    let Ok(text) = reply_text(alloc, answer) else {
+        return Err(BatchFault::NoMemory);
+    };
+    match write_text(writer, &text) {
+        Ok(()) => Ok(()),
+        Err(_) => Err(BatchFault::Write),
+    }
+}
+
+/// Enters line `number`, counted from 0, and prints the answer.
+fn enter_line<D: Dial, W: Write>(
+    alloc: Global,
+    dial: &mut D,
+    batch: Batch,
+    number: u32,
+    line: &[u8],
+    writer: &mut W,
+) -> Result<(), BatchFault>
+    requires { IsDesk batch.receiver.desk }
+    ensures ok { OnOk result ((said : List ℕ) × IsSaid batch (batch.first_id + number) line.now said
+        × Appends (W.contents writer.old) (W.contents writer.new) said) }
+    ensures err { OnErr result ((said : List ℕ)
+        × AppendsPart (W.contents writer.old) (W.contents writer.new) said) }
+{
+    let Some(id) = batch.first_id.checked_add(u64::from(number)) else {
+        return Err(BatchFault::NoMoreIds);
+    };
+    match entered(alloc, dial, batch.receiver, batch.waits, id, line) {
+        Ok(answer) => print_answer(alloc, writer, answer),
+        Err(fault) => Err(fault),
+    }
+}
+
+/// Reads commands, one a line, enters each at a desk, and writes what the desk answers.
+///
+/// Lines are parted by line feeds; a last line without one counts where it is not empty. Line `n`,
+/// counted from 1, has the id `first_id + n - 1`. Each line is entered as soon as it was read, over
+/// a connection of its own, and again where the desk's queue is full. For each line one line is
+/// written: `taken <id>`, or, where it is waited for, `done <id> <pos> <Done or Code>`. A desk that
+/// doesn't decide is ticked now and then.
+///
+/// # Errors
+///
+/// At a fault the lines in front of it were entered and their answers written, and no line behind
+/// it was sent. The line itself may have been taken: enter it again with its id, the one behind the
+/// last that was written, and nothing is entered twice.
+pub fn enter_lines<D: Dial, R: Read, W: Write>(
+    alloc: Global,
+    dial: &mut D,
+    batch: Batch,
+    reader: &mut R,
+    writer: &mut W,
+) -> Result<(), BatchFault>
+    requires { IsDesk batch.receiver.desk }
+    ensures ok { OnOk result (EntersAll batch (record {
+      had = R.remaining reader.old;
+      left = R.remaining reader.new;
+      old = W.contents writer.old;
+      new = W.contents writer.new;
+    })) }
+    ensures err { OnErr result (EntersSome batch (record {
+      had = R.remaining reader.old;
+      left = R.remaining reader.new;
+      old = W.contents writer.old;
+      new = W.contents writer.new;
+    })) }
+{
+    let mut lines = LineReader::new();
+    let mut line = Vec::new(alloc);
+    loop {
+        let number = lines.count();
+        match lines.read_line(reader, &mut line) {
+            Ok(true) => {
+                if let Err(fault) = enter_line(alloc, dial, batch, number, &line, writer) {
+                    return Err(fault);
+                }
+            }
+            Ok(false) => return Ok(()),
+            Err(RunFault::NoMemory) => return Err(BatchFault::NoMemory),
+            Err(fault) => return Err(BatchFault::Lines(fault)),
+        }
+    }
+}
