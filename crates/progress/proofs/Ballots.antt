@@ -1,0 +1,595 @@
+-- A desk that neither proposes nor leads on makes ballots, until its first entry is decided.
+use Rattle.std.proofs.Common.{◌≡◌, ℕ, zero, suc, ◌≤◌, ◌<◌, ◌+◌, ◌-◌, ◌*◌, max, not, Bool, true, false, if◌then◌else◌, ◌==◌, nat_lt, List, [], ◌∷◌, ◌++◌, ◌⊎◌, inl, inr, Option, Some, None, Result, Ok, Err, length, refl, sym, ap, ◌∙◌, subst, arith}
+use Rattle.std.proofs.lemmas.Bool.Decides.{nat_tests}
+use Rattle.acceptor.specs.declared.ballot.Ballot.{Ballot}
+use Rattle.acceptor.specs.declared.entry.Entry.{Entry}
+use Rattle.acceptor.specs.Entries.{is_same_entry}
+use Rattle.acceptor.specs.declared.message.Body.TheVariants.{Prepare, Accept, Nack, Behind, Decided}
+use Rattle.acceptor.specs.declared.message.Message.{Message}
+use Rattle.acceptor.specs.declared.stored.Change.TheVariants.{Tried}
+use Rattle.acceptor.specs.declared.stored.Stored.{Stored}
+use Rattle.acceptor.specs.Messages.{message, to_all, to_others}
+use Rattle.proposer.specs.declared.faults.Refusal.{Refusal}
+use Rattle.proposer.specs.declared.faults.Refusal.TheVariants.{BallotsSpent}
+use Rattle.proposer.specs.declared.role.Role.{Role}
+use Rattle.proposer.specs.declared.role.Role.TheVariants.{Idle, Gathering, Proposing, Leading}
+use Rattle.proposer.specs.declared.plan.Plan.{Plan}
+use Rattle.proposer.specs.Plans.{only_say}
+use Rattle.proposer.specs.Proposing.{is_full, is_majority, last_round, gather, new_ballot, ask, ask_next, wants_ballot, tell_length, tick_idle, tick, tick_by_role}
+use Rattle.learner.specs.Chosen.{Has, IsMajority}
+use Rattle.learner.specs.Desks.{Desk, adopt, passing}
+use Rattle.learner.specs.Order.{IsAtMost, IsBelow}
+use Rattle.learner.specs.Steps.{on_body}
+use Rattle.learner.specs.Worlds.{World}
+use Rattle.learner.proofs.Order.{below_from_less, at_most_from_below}
+use Rattle.progress.proofs.Aims.{Aim, lack, IsReached, Decides, decides_more, carried, put_same, put_self, IsPending, pending_new, comes, ticks}
+use Rattle.progress.proofs.Fits.{Fit, fit_more, makes, seen_at, fit_plain, fit_tried}
+use Rattle.progress.proofs.Answers.{refuses, tells, gives_up, prepare_ahead, prepare_past, refused_at, nack_heard, is_own_gathering}
+use Rattle.progress.proofs.Levels.{desks_same, Level, levels, Taken, pull}
+use Rattle.progress.proofs.Votes.{IsClear, Asks, Yields, Leads, self_same, hear_all}
+use Rattle.progress.proofs.Promises.{all_pending, Gathers, Proposes, gather_all}
+
+-- the desk's Tick makes a ballot, once there is an entry in its queue
+abbrev pub IsFreeIn : Ballot → Role → Type 0
+IsFreeIn promised Idle = Unit {0}
+IsFreeIn promised (Gathering b pos heard) = Unit {0}
+IsFreeIn promised (Proposing b pos e heard) = ⊥
+IsFreeIn promised (Leading own) = IsBelow own promised
+
+abbrev pub IsFree : Desk → Type 0
+IsFree x = IsFreeIn x.stored.promised x.role
+
+pub free_idle : (x : Desk) → x.role ≡ Idle → IsFree x
+free_idle x h = subst (λ (r : Role). IsFreeIn x.stored.promised r) (sym h) tt
+
+-- the Tick of a free desk that has an entry, room and a round left
+tick_makes : (n d : ℕ) (x : Desk) (e : Entry) (rest : List Entry) → IsFree x → x.queue ≡ e ∷ rest
+    → length x.log < 65536 → last_round x.stored (passing x) < 4294967295
+    → tick n d x.stored (length x.log) (passing x)
+    ≡ Ok (gather n d x.stored (length x.log) (passing x) (last_round x.stored (passing x) + 1))
+tick_makes n d x e rest free queue room round = go x.role free
+  where
+    made : Result Plan Refusal
+    made = Ok (gather n d x.stored (length x.log) (passing x) (last_round x.stored (passing x) + 1))
+
+    tells_length : Result Plan Refusal
+    tells_length = Ok (tell_length n d (length x.log) (passing x))
+
+    spent : (last_round x.stored (passing x) == 4294967295) ≡ false
+    spent = grind (arith, nat_tests)
+
+    fresh : new_ballot n d x.stored (length x.log) (passing x) ≡ made
+    fresh = ap (λ t. if t then Err BallotsSpent else made) spent
+
+    full : is_full (length x.log) ≡ false
+    full = grind (arith, nat_tests)
+
+    idle : tick_idle n d x.stored (length x.log) (passing x) ≡ made
+    idle =
+        ap (λ q. if wants_ballot q (length x.log) then new_ballot n d x.stored (length x.log)
+        (passing x) else tells_length) queue
+        ∙ ap (λ t. if not t then new_ballot n d x.stored (length x.log) (passing x)
+        else tells_length) full
+        ∙ fresh
+
+    go : (role : Role) → IsFreeIn x.stored.promised role
+        → tick_by_role n d x.stored (length x.log) (passing x) role ≡ made
+    go Idle h = idle
+    go (Gathering b pos heard) h = fresh
+    go (Proposing b pos f heard) h = absurd h
+    go (Leading own) h =
+        ap (λ t. if t then tick_idle n d x.stored (length x.log) (passing x)
+        else (if wants_ballot x.queue (length x.log) then Ok
+        (ask_next n d (length x.log) (passing x) own x.queue) else tells_length)) h
+        ∙ idle
+
+-- the Tick of one that leads, and is not outbid
+tick_leads : (n d : ℕ) (x : Desk) (b : Ballot) (e : Entry) (rest : List Entry) → x.role ≡ Leading b
+    → IsAtMost x.stored.promised b → x.queue ≡ e ∷ rest → length x.log < 65536
+    → tick n d x.stored (length x.log) (passing x) ≡ Ok (ask n d (passing x) b (length x.log) e)
+tick_leads n d x b e rest role low queue room =
+    ap (λ r. tick_by_role n d x.stored (length x.log) (passing x) r) role
+    ∙ ap (λ t. if t then tick_idle n d x.stored (length x.log) (passing x) else next x.queue) low
+    ∙ ap (λ q. next q) queue
+    ∙ ap (λ t. if not t then Ok (ask n d (passing x) b (length x.log) e) else tells_length) full
+  where
+    tells_length : Result Plan Refusal
+    tells_length = Ok (tell_length n d (length x.log) (passing x))
+
+    next : List Entry → Result Plan Refusal
+    next q = if wants_ballot q (length x.log) then Ok (ask_next n d (length x.log) (passing x) b q)
+        else tells_length
+
+    full : is_full (length x.log) ≡ false
+    full = grind (arith, nat_tests)
+
+-- the greatest round that desk d knows of
+abbrev pub known : Aim → World → ℕ
+known a w = last_round (w.desks a.d).stored (passing (w.desks a.d))
+
+known_under : (a : Aim) (r : ℕ) (w : World) → Fit a r w → known a w ≤ r
+known_under a r w h =
+    let t = h.tried in let p = h.promised a.d a.mine in let s = h.seen in omega (arith, t, p, s)
+
+-- going from w to v, desk d has made this ballot
+record Made (a : Aim) (r : ℕ) (b : Ballot) (w v : World) : Type 0 where
+  pub fit : Fit a r v
+  pub role : (v.desks a.d).role ≡ Gathering b (length (w.desks a.d).log) []
+  pub tried : b.round ≤ r
+  pub logs : (j : ℕ) → (v.desks j).log ≡ (w.desks j).log
+  pub promised : (j : ℕ) → (v.desks j).stored.promised ≡ (w.desks j).stored.promised
+  pub known : b.round ≤ known a v
+  pub asked : (k : ℕ) → Has a.desks k
+      → IsPending a v (message a.d k (Prepare b (length (w.desks a.d).log)))
+
+makes_ballot : (a : Aim) (c r s : ℕ) (w : World) → Fit a r w → IsFree (w.desks a.d) → r ≤ s
+    → s ≤ a.round + 2 → known a w < s
+    → ((v : World) → Made a s (record { round = known a w + 1; desk = a.d }) w v
+    → Decides a (lack a v + c) v)
+    → Decides a (lack a w + suc c) w
+makes_ballot a c r s w h free less under room next =
+    ticks a c w made h.reached
+    (tick_makes a.n a.d x a.first a.rest free h.queue
+    (let l = h.lens a.d a.mine in let o = a.room in omega (arith, l, o))
+    (let o = a.rounds in omega (arith, o, under, room)))
+    (λ reached1. next v
+    (record {
+      fit = fit_tried a s w (known a w + 1) (Some (Gathering b (length x.log) []))
+          (to_all a.n a.d (Prepare b (length x.log)))
+          (fit_more a r s w less under h) reached1 (omega (arith, room));
+      role = ap (λ y. y.role) self;
+      tried = omega (arith, room);
+      logs = λ j. put_same (λ y. y.log) w.desks a.d (adopt x made) refl j;
+      promised = λ j. put_same (λ y. y.stored.promised) w.desks a.d (adopt x made) refl j;
+      known = subst (λ (y : Desk). known a w + 1 ≤ last_round y.stored (passing y)) (sym self)
+          (omega arith);
+      asked = λ k i. all_pending a w made (Prepare b (length x.log)) k refl h.late i;
+    }))
+  where
+    x : Desk
+    x = w.desks a.d
+
+    b : Ballot
+    b = record { round = known a w + 1; desk = a.d }
+
+    made : Plan
+    made = gather a.n a.d x.stored (length x.log) (passing x) (known a w + 1)
+
+    v : World
+    v = carried w a.d made
+
+    self : v.desks a.d ≡ adopt x made
+    self = put_self w.desks a.d (adopt x made)
+
+-- a desk that leads, and is not outbid, asks for votes for its first entry
+pub lead_asks : (a : Aim) (c r m : ℕ) (C : Type 0) (b : Ballot) (w : World) → Fit a r w
+    → (w.desks a.d).role ≡ Leading b → IsAtMost (w.desks a.d).stored.promised b
+    → length (w.desks a.d).log ≡ m → b.round ≤ r → (C → IsClear a b m w)
+    → ((v : World) → Asks a r C b m a.first a.desks [] v → Decides a (lack a v + c) v)
+    → Decides a (lack a w + suc c) w
+lead_asks a c r m C b w h role low own round clear next =
+    ticks a c w plan h.reached
+    (tick_leads a.n a.d x b a.first a.rest role low h.queue
+    (let l = h.lens a.d a.mine in let o = a.room in omega (arith, l, o))
+    ∙ ap (λ l. Ok (ask a.n a.d (passing x) b l a.first)) own)
+    (λ reached1. next v
+    (record {
+      fit = fit_plain a r w a.d x.seen (Some (Proposing b m a.first []))
+          (to_all a.n a.d (Accept b m a.first)) h a.mine reached1 (λ s. h.seen);
+      role = ap (λ y. y.role) (put_self w.desks a.d (adopt x plan));
+      own = ap (λ y. length y.log) (put_self w.desks a.d (adopt x plan)) ∙ own;
+      asked = λ k i. all_pending a w plan (Accept b m a.first) k refl h.late i;
+      new = λ k i. refl;
+      within = λ k i. i;
+      distinct = most.distinct;
+      few = grind (arith, nat_tests);
+      enough = let many : a.n < 2 * length a.desks = most.many in omega (arith, many);
+      old = inr refl;
+      low = round;
+      clear = λ t j i. let q = clear t j i in (
+        subst (λ (s : Stored). IsAtMost s.promised b)
+            (sym (put_same (λ y. y.stored) w.desks a.d (adopt x plan) refl j)) q.0,
+        subst (λ (l : List Entry). length l ≤ m)
+            (sym (put_same (λ y. y.log) w.desks a.d (adopt x plan) refl j)) q.1,
+      );
+    }))
+  where
+    most : IsMajority a.n a.desks
+    most = a.majority
+
+    x : Desk
+    x = w.desks a.d
+
+    plan : Plan
+    plan = ask a.n a.d (passing x) b m a.first
+
+    v : World
+    v = carried w a.d plan
+
+-- its own entry is not another
+pub not_other : (e : Entry) → is_same_entry e e ≡ false → ⊥
+not_other e h = let s = self_same e in grind (arith, h, s)
+
+-- with the longest log, and no round promised above those that it knows of, the next ballot decides
+last_ballot : (a : Aim) (r : ℕ) (w : World) → Fit a r w → r + 1 ≤ a.round + 2
+    → IsFree (w.desks a.d)
+    → ((j : ℕ) → Has a.desks j → length (w.desks j).log ≤ length (w.desks a.d).log)
+    → ((j : ℕ) → Has a.desks j → (w.desks j).stored.promised.round ≤ known a w)
+    → Decides a (lack a w + (9 * length a.desks + 2)) w
+last_ballot a r w h room free lens rounds =
+    decides_more a (lack a w + suc (3 * length
+    a.desks + (3 * length a.desks + suc (3 * length a.desks + 0))))
+    (lack a w + (9 * length a.desks + 2)) w (omega arith)
+    (makes_ballot a (3 * length a.desks + (3 * length a.desks + suc (3 * length a.desks + 0))) r s w
+    h free (let u = h.under in u) (omega arith)
+    (let k = known_under a r w h in omega (arith, k, room))
+    (λ v made. gather_all a (3 * length a.desks + suc (3 * length a.desks + 0)) s b m asks a.desks
+    [] v (gathers v made)))
+  where
+    most : IsMajority a.n a.desks
+    most = a.majority
+
+    m : ℕ
+    m = length (w.desks a.d).log
+
+    b : Ballot
+    b = record { round = known a w + 1; desk = a.d }
+
+    s : ℕ
+    s = a.round + 2
+
+    last : (v : World) → Asks a s (Unit {0}) b (suc m) a.first a.desks [] v
+        → Decides a (lack a v + (3 * length a.desks + 0)) v
+    last v g =
+        hear_all a 0 s (Unit {0}) b (suc m) a.first (λ u y. absurd (y.against tt))
+        (λ u l t. absurd (not_other a.first t)) a.desks [] v g
+
+    leads : (f : Entry) (v : World) → Leads a s (Unit {0}) b m v → b.round ≤ s
+        → Decides a (lack a v + suc (3 * length a.desks + 0)) v
+    leads f v l tried =
+        lead_asks a (3 * length a.desks + 0) s (suc m) (Unit {0}) b v l.fit l.role
+        (l.clear tt a.d a.mine).0 l.own tried l.clear last
+
+    asks : (f : Entry) (v : World) → Proposes a s b m f v
+        → Decides a (lack a v + (3 * length a.desks + suc (3 * length a.desks + 0))) v
+    asks f v p =
+        hear_all a (suc (3 * length a.desks + 0)) s (Unit {0}) b m f (λ u y. absurd (y.against tt))
+        (λ u l t. leads f u l p.tried) a.desks [] v
+        (record {
+          fit = p.fit;
+          role = p.role;
+          own = p.own;
+          asked = p.asked;
+          new = λ k i. refl;
+          within = λ k i. i;
+          distinct = most.distinct;
+          few = grind (arith, nat_tests);
+          enough = let many : a.n < 2 * length a.desks = most.many in omega (arith, many);
+          old = p.old;
+          low = p.tried;
+          clear = λ t. p.clear;
+        })
+
+    gathers : (v : World) → Made a s b w v → Gathers a s b m a.desks [] v
+    gathers v g =
+        record {
+          fit = g.fit;
+          role = g.role;
+          own = ap (λ l. length l) (g.logs a.d);
+          asked = g.asked;
+          new = λ k i. refl;
+          within = λ k i. i;
+          distinct = most.distinct;
+          few = grind (arith, nat_tests);
+          enough = let many : a.n < 2 * length a.desks = most.many in omega (arith, many);
+          fair = tt;
+          low = low;
+          clear = λ k i. (
+            at_most_from_below (v.desks k).stored.promised b (low k i),
+            subst (λ (l : List Entry). length l ≤ m) (sym (g.logs k)) (lens k i),
+          );
+          tried = g.tried;
+        }
+      where
+        low : (k : ℕ) → Has a.desks k → IsBelow (v.desks k).stored.promised b
+        low k i =
+            subst (λ (p : Ballot). IsBelow p b) (sym (g.promised k))
+            (below_from_less (w.desks k).stored.promised b
+            (inl (let l = rounds k i in omega (arith, l))))
+
+-- one of these is greatest
+pub greatest : (f : ℕ → ℕ) (ks : List ℕ) (d : ℕ) → Has ks d
+    → (k : ℕ) × Has ks k × ((j : ℕ) → Has ks j → f j ≤ f k)
+greatest f [] d h = elim h [ ]
+greatest f (x ∷ []) d h = (
+  x,
+  inl refl,
+  λ j i. elim i [
+    | inl e ↦ (let s = ap f e in omega (arith, s))
+    | inr m ↦ elim m [ ]
+  ],
+)
+greatest f (x ∷ y ∷ ys) d h = go (greatest f (y ∷ ys) y (inl refl))
+  where
+    go : (k : ℕ) × Has (y ∷ ys) k × ((j : ℕ) → Has (y ∷ ys) j → f j ≤ f k)
+        → (k : ℕ) × Has (x ∷ y ∷ ys) k × ((j : ℕ) → Has (x ∷ y ∷ ys) j → f j ≤ f k)
+    go r = pick (nat_lt (f r.0) (f x)) refl
+      where
+        pick : (t : Bool) → nat_lt (f r.0) (f x) ≡ t
+            → (k : ℕ) × Has (x ∷ y ∷ ys) k × ((j : ℕ) → Has (x ∷ y ∷ ys) j → f j ≤ f k)
+        pick true t = (
+          x,
+          inl refl,
+          λ j i. elim i [
+            | inl e ↦ (let s = ap f e in omega (arith, s))
+            | inr m
+                ↦ (let o = r.2 j m in let b : f r.0 < f x = grind (arith, nat_tests) in omega
+                (arith, o, b))
+          ],
+        )
+        pick false t = (
+          r.0,
+          inr r.1,
+          λ j i. elim i [
+            | inl e ↦ (let s = ap f e in let b : f x ≤ f r.0 = grind (arith, nat_tests) in omega
+                (arith, s, b))
+            | inr m ↦ r.2 j m
+          ],
+        )
+
+-- desk k refuses the ballot, and shows the round that it has promised
+learns : (a : Aim) (r m k : ℕ) (b : Ballot) (w : World) → Fit a r w → r + 1 ≤ a.round + 2
+    → (w.desks a.d).role ≡ Gathering b m [] → length (w.desks a.d).log ≡ m
+    → ((j : ℕ) → Has a.desks j → length (w.desks j).log ≤ m) → Has a.desks k
+    → ((j : ℕ) → Has a.desks j → (w.desks j).stored.promised.round
+    ≤ (w.desks k).stored.promised.round)
+    → b.round < (w.desks k).stored.promised.round → IsPending a w (message a.d k (Prepare b m))
+    → length (w.desks k).log ≡ m
+    → Decides a (lack a w + suc (suc (9 * length a.desks + 2))) w
+learns a r m k b w h room role own lens i most high asked here =
+    comes a (suc (9 * length a.desks + 2)) w (message a.d k (Prepare b m)) (refuses x k a.d b m)
+    h.reached a.mine i asked
+    (refused_at a.n a.d k x b m here (at_most_from_below b q above))
+    (λ reached1. comes a (9 * length a.desks + 2) u (message k a.d (Nack b m q))
+    (gives_up (u.desks a.d) q.round) reached1 i a.mine
+    (pending_new a w k (refuses x k a.d b m) 0 (message k a.d (Nack b m q)) h.late refl)
+    (nack_heard a.n a.d k (u.desks a.d) b m q
+    (is_own_gathering (u.desks a.d) b m [] (ap (λ z. z.role) (same a.d) ∙ role)) above)
+    (λ reached2. last_ballot a r v (fit2 (fit1 reached1) reached2) room
+    (free_idle (v.desks a.d) (ap (λ z. z.role) self))
+    (λ j p. subst (λ (l : List Entry). length l ≤ length (v.desks a.d).log) (sym (logs j))
+    (let l = ap (λ l. length l) (logs a.d) in let o = lens j p in omega (arith, l, o, own)))
+    (λ j p. subst (λ (s : Stored). s.promised.round ≤ known a v) (sym (stored j))
+    (let o = most j p in let e = learnt in omega (arith, o, e)))))
+  where
+    x : Desk
+    x = w.desks k
+
+    q : Ballot
+    q = x.stored.promised
+
+    above : IsBelow b q
+    above = below_from_less b q (inl high)
+
+    ms : List Message
+    ms = message k a.d (Nack b m q) ∷ []
+
+    u : World
+    u = carried w k (refuses x k a.d b m)
+
+    same : (j : ℕ) → u.desks j ≡ w.desks j
+    same j = desks_same w k ms j
+
+    v : World
+    v = carried u a.d (gives_up (u.desks a.d) q.round)
+
+    self : v.desks a.d ≡ adopt (u.desks a.d) (gives_up (u.desks a.d) q.round)
+    self = put_self u.desks a.d (adopt (u.desks a.d) (gives_up (u.desks a.d) q.round))
+
+    logs : (j : ℕ) → (v.desks j).log ≡ (w.desks j).log
+    logs j = put_same (λ z. z.log) u.desks a.d
+        (adopt (u.desks a.d) (gives_up (u.desks a.d) q.round)) refl j ∙ ap (λ z. z.log) (same j)
+
+    stored : (j : ℕ) → (v.desks j).stored ≡ (w.desks j).stored
+    stored j = put_same (λ z. z.stored) u.desks a.d
+        (adopt (u.desks a.d) (gives_up (u.desks a.d) q.round)) refl j ∙ ap (λ z. z.stored) (same j)
+
+    learnt : q.round ≤ known a v
+    learnt = subst (λ (y : Desk). q.round ≤ last_round y.stored (passing y)) (sym self)
+        (omega arith)
+
+    fit1 : IsReached a.n u → Fit a r u
+    fit1 reached1 = fit_plain a r w k x.seen None ms h i reached1 (seen_at a r w k h)
+
+    fit2 : Fit a r u → IsReached a.n v → Fit a r v
+    fit2 g reached2 =
+        fit_plain a r u a.d (max (u.desks a.d).seen q.round) (Some Idle) [] g a.mine reached2
+        (λ s. let l = h.promised k i in let o = g.seen in omega (arith, l, o))
+
+-- with the longest log, whatever was promised
+longest_decides : (a : Aim) (r : ℕ) (w : World) → Fit a r w → r + 1 ≤ a.round + 2
+    → IsFree (w.desks a.d)
+    → ((j : ℕ) → Has a.desks j → length (w.desks j).log ≤ length (w.desks a.d).log)
+    → Decides a (lack a w + (9 * length a.desks + 6)) w
+longest_decides a r w h room free lens =
+    go (greatest (λ j. (w.desks j).stored.promised.round) a.desks a.d a.mine)
+  where
+    m : ℕ
+    m = length (w.desks a.d).log
+
+    b : Ballot
+    b = record { round = known a w + 1; desk = a.d }
+
+    all : ℕ
+    all = 9 * length a.desks + 2
+
+    go : (k : ℕ) × Has a.desks k × ((j : ℕ) → Has a.desks j
+        → (w.desks j).stored.promised.round ≤ (w.desks k).stored.promised.round)
+        → Decides a (lack a w + (9 * length a.desks + 6)) w
+    go g = knows (nat_lt (known a w) (w.desks g.0).stored.promised.round) refl
+      where
+        k : ℕ
+        k = g.0
+
+        q : ℕ
+        q = (w.desks k).stored.promised.round
+
+        own : (v : World) → Made a r b w v → length (v.desks a.d).log ≡ m
+        own v made = ap (λ l. length l) (made.logs a.d)
+
+        lens1 : (v : World) → Made a r b w v → (j : ℕ) → Has a.desks j → length (v.desks j).log ≤ m
+        lens1 v made j p = subst (λ (l : List Entry). length l ≤ m) (sym (made.logs j)) (lens j p)
+
+        most1 : (v : World) → Made a r b w v → (j : ℕ) → Has a.desks j
+            → (v.desks j).stored.promised.round ≤ q
+        most1 v made j p = subst (λ (s : Ballot). s.round ≤ q) (sym (made.promised j)) (g.2 j p)
+
+        refused : (v : World) → Made a r b w v → known a w + 1 < q
+            → Decides a (lack a v + suc (suc (suc all))) v
+        refused v made high =
+            levels a (suc all) r k m v (Prepare b m) g.1 made.fit (own v made) (lens1 v made k g.1)
+            (made.asked k g.1)
+            (λ x less. prepare_ahead a.n a.d k x b m less)
+            (λ u l. learns a r m k b u l.fit room (ap (λ z. z.role) l.own ∙ made.role)
+            (ap (λ z. length z.log) l.own ∙ own v made)
+            (λ j p. lens2 v made u l j p) g.1
+            (λ j p. subst (λ (s : Stored). s.promised.round ≤ (u.desks k).stored.promised.round)
+            (sym (l.stored j))
+            (subst (λ (s : Stored). (v.desks j).stored.promised.round ≤ s.promised.round)
+            (sym (l.stored k))
+            (subst (λ (s : Ballot). (v.desks j).stored.promised.round ≤ s.round)
+            (sym (made.promised k)) (most1 v made j p))))
+            (subst (λ (s : Stored). known a w + 1 < s.promised.round) (sym (l.stored k))
+            (subst (λ (s : Ballot). known a w + 1 < s.round) (sym (made.promised k)) high))
+            (l.sent (message a.d k (Prepare b m)) (made.asked k g.1)) l.here)
+          where
+            lens2 : (v : World) → Made a r b w v → (u : World) → Level a r k m v u → (j : ℕ)
+                → Has a.desks j → length (u.desks j).log ≤ m
+            lens2 v made u l j p = pick (k == j) refl
+              where
+                pick : (t : Bool) → (k == j) ≡ t → length (u.desks j).log ≤ m
+                pick true t =
+                    let s : k ≡ j = grind (arith, nat_tests) in
+                    let e = ap (λ z. length (u.desks z).log) s in
+                    let o = l.here in omega (arith, e, o)
+                pick false t =
+                    let e = ap (λ z. length z.log) (l.others j (λ s. grind (arith, nat_tests))) in
+                    let o = lens1 v made j p in omega (arith, e, o)
+
+        reached : (v : World) → Made a r b w v → q ≤ known a w + 1 → Decides a (lack a v + all) v
+        reached v made near =
+            last_ballot a r v made.fit room
+            (subst (λ (y : Role). IsFreeIn (v.desks a.d).stored.promised y) (sym made.role) tt)
+            (λ j p. let o = lens1 v made j p in let e = own v made in omega (arith, o, e))
+            (λ j p. let o = most1 v made j p in let e = made.known in omega (arith, o, e, near))
+
+        tried : (v : World) → Made a r b w v → (s : Bool) → nat_lt (known a w + 1) q ≡ s
+            → Decides a (lack a v + suc (suc (suc all))) v
+        tried v made true s = refused v made (grind (arith, nat_tests))
+        tried v made false s =
+            decides_more a (lack a v + all) (lack a v + suc (suc (suc all))) v (omega arith)
+            (reached v made (grind (arith, nat_tests)))
+
+        knows : (t : Bool) → nat_lt (known a w) q ≡ t
+            → Decides a (lack a w + (9 * length a.desks + 6)) w
+        knows false t =
+            decides_more a (lack a w + all) (lack a w + (9 * length a.desks + 6)) w (omega arith)
+            (last_ballot a r w h room free lens
+            (λ j p. let o = g.2 j p in let s : q ≤ known a w = grind (arith, nat_tests) in omega
+            (arith, o, s)))
+        knows true t =
+            decides_more a (lack a w + suc (suc (suc (suc all))))
+            (lack a w + (9 * length a.desks + 6)) w (omega arith)
+            (makes_ballot a (suc (suc (suc all))) r r w h free (omega arith) h.under
+            (let l = h.promised k g.1 in let s : known a w < q = grind (arith, nat_tests) in omega
+            (arith, l, s))
+            (λ v made. tried v made (nat_lt (known a w + 1) q) refl))
+
+-- from every world in which desk d is free
+pub free_decides : (a : Aim) (r : ℕ) (w : World) → Fit a r w → r ≤ a.round → IsFree (w.desks a.d)
+    → Decides a (lack a w + (9 * length a.desks + 8)) w
+free_decides a r w h under free = go (greatest (λ j. length (w.desks j).log) a.desks a.d a.mine)
+  where
+    m : ℕ
+    m = length (w.desks a.d).log
+
+    b : Ballot
+    b = record { round = known a w + 1; desk = a.d }
+
+    all : ℕ
+    all = 9 * length a.desks + 6
+
+    go : (k : ℕ) × Has a.desks k × ((j : ℕ) → Has a.desks j
+        → length (w.desks j).log ≤ length (w.desks k).log)
+        → Decides a (lack a w + (9 * length a.desks + 8)) w
+    go g = longer (nat_lt m (length (w.desks g.0).log)) refl
+      where
+        k : ℕ
+        k = g.0
+
+        len : ℕ
+        len = length (w.desks k).log
+
+        caught_up : (v : World) → ((j : ℕ) → (v.desks j).log ≡ (w.desks j).log) → (u : World)
+            → Taken a (suc r) k len v u → Decides a (lack a u + all) u
+        caught_up v logs u t =
+            longest_decides a (suc r) u t.fit (omega (arith, under))
+            (free_idle (u.desks a.d) t.role) lens
+          where
+            lens : (j : ℕ) → Has a.desks j → length (u.desks j).log ≤ length (u.desks a.d).log
+            lens j p = pick (a.d == j) refl
+              where
+                pick : (s : Bool) → (a.d == j) ≡ s
+                    → length (u.desks j).log ≤ length (u.desks a.d).log
+                pick true s =
+                    let i : a.d ≡ j = grind (arith, nat_tests) in
+                    let e = ap (λ z. length (u.desks z).log) i in omega (arith, e)
+                pick false s =
+                    let e = ap (λ z. length z.log) (t.others j (λ i. grind (arith, nat_tests))) in
+                    let l = ap (λ l. length l) (logs j) in
+                    let o = g.2 j p in
+                    let f = t.here in omega (arith, e, l, o, f)
+
+        asks : m < len → (v : World) → Made a (suc r) b w v
+            → (y : Entry) × (on_body a.n k (v.desks k) a.d (Prepare b m) ≡ tells (v.desks k) k a.d m
+            y)
+            → Decides a (lack a v + suc all) v
+        asks less v made t =
+            comes a all v (message a.d k (Prepare b m)) (tells (v.desks k) k a.d m t.0) f.reached
+            a.mine g.1 (made.asked k g.1) t.1
+            (λ reached1. pull a all (suc r) k len g.1 (len - suc m) u m t.0
+            (fit_plain a (suc r) v k (v.desks k).seen None ms f g.1 reached1
+            (seen_at a (suc r) v k f))
+            (ap (λ z. length z.log) (desks_same v k ms a.d) ∙ ap (λ l. length l) (made.logs a.d))
+            (omega (arith, less))
+            (ap (λ z. length z.log) (desks_same v k ms k) ∙ ap (λ l. length l) (made.logs k))
+            (pending_new a v k (tells (v.desks k) k a.d m t.0) 0 (message k a.d (Decided m t.0))
+            f.late refl)
+            (λ z q. caught_up u (λ j. ap (λ y. y.log) (desks_same v k ms j) ∙ made.logs j) z q))
+          where
+            f : Fit a (suc r) v
+            f = made.fit
+
+            ms : List Message
+            ms = message k a.d (Decided m t.0) ∷ []
+
+            u : World
+            u = carried v k (tells (v.desks k) k a.d m t.0)
+
+        longer : (t : Bool) → nat_lt m len ≡ t → Decides a (lack a w + (9 * length a.desks + 8)) w
+        longer false t =
+            decides_more a (lack a w + all) (lack a w + (9 * length a.desks + 8)) w (omega arith)
+            (longest_decides a r w h (omega (arith, under)) free
+            (λ j p. let o = g.2 j p in let s : len ≤ m = grind (arith, nat_tests) in omega
+            (arith, o, s)))
+        longer true t =
+            decides_more a (lack a w + suc (suc all)) (lack a w + (9 * length a.desks + 8)) w
+            (omega arith)
+            (makes_ballot a (suc all) r (suc r) w h free (omega arith) (omega (arith, under))
+            (let o = known_under a r w h in omega (arith, o))
+            (λ v made. asks less v made
+            (prepare_past a.n a.d k (v.desks k) b m
+            (let l = ap (λ l. length l) (made.logs k) in let s = less in omega (arith, l, s)))))
+          where
+            less : m < len
+            less = grind (arith, nat_tests)

@@ -1,0 +1,10 @@
+pub mod Aims
+pub mod Fits
+pub mod Answers
+pub mod Levels
+pub mod Votes
+pub mod Promises
+pub mod Ballots
+pub mod Standing
+pub mod Roles
+pub mod Queue

@@ -1,0 +1,307 @@
+-- The entries of desk d's queue are decided one after the other.
+use Rattle.std.proofs.Common.{◌≡◌, ℕ, zero, suc, ◌≤◌, ◌<◌, ◌+◌, ◌-◌, ◌*◌, max, List, [], ◌∷◌, ◌++◌, ◌⊎◌, inl, inr, Option, Some, length, slice_get, refl, sym, ap, ◌∙◌, subst, arith, length-append}
+use Rattle.std.proofs.Math.Nat.{suc-mul, mul-suc, add-mul}
+use Rattle.std.proofs.lemmas.Option.{slice_get_within}
+use Rattle.acceptor.specs.declared.entry.Entry.{Entry}
+use Rattle.learner.specs.declared.event.WorldEvent.{WorldEvent}
+use Rattle.learner.specs.Chosen.{Has, IsMajority}
+use Rattle.learner.specs.Invariant.{IsSound}
+use Rattle.learner.specs.Worlds.{World, happens, run, after}
+use Rattle.learner.specs.Laws.{IsPrefix}
+use Rattle.learner.proofs.Runs.{after_sound, run_append, run_log}
+use Rattle.progress.specs.Progress.{AreHelp, StandFrom, longest, lacking, enough, CanDecide, HasRoom, NoDeskIsStuck, NoQueueIsStuck}
+use Rattle.progress.proofs.Aims.{IsReached, Aim, lack, IsDecided, Decides, get_left}
+use Rattle.progress.proofs.Roles.{first_decided}
+
+-- what stays the same while one entry after the other is decided
+record Hall : Type 0 where
+  pub n : ℕ
+  pub d : ℕ
+  pub desks : List ℕ
+  pub start : ℕ
+  pub top : ℕ
+  pub majority : IsMajority n desks
+  pub mine : Has desks d
+  pub room : top ≤ 65536
+
+-- what is enough for one entry, besides what is to be caught up
+abbrev each : Hall → ℕ
+each h = 15 * length h.desks + 10
+
+-- these entries come to stand in the log, and these are left in the queue
+record AllDecide (h : Hall) (most : ℕ) (es rest : List Entry) (w : World) : Type 0 where
+  pub events : List WorldEvent
+  pub help : AreHelp h.n h.d h.desks h.start w events
+  pub few : length events + 2 * lacking (run h.n w events) h.top h.desks ≤ most
+  pub decided : StandFrom (length (w.desks h.d).log) es ((run h.n w events).desks h.d).log
+  pub queue : ((run h.n w events).desks h.d).queue ≡ rest
+
+-- the logs, and the rounds that are known, and room for these entries
+record IsRoomy (h : Hall) (old round : ℕ) (es rest : List Entry) (w : World) : Type 0 where
+  pub reached : IsReached h.n w
+  pub late : h.start ≤ length w.sent
+  pub queue : (w.desks h.d).queue ≡ es ++ rest
+  pub lens : (k : ℕ) → Has h.desks k → length (w.desks k).log ≤ old
+  pub promised : (k : ℕ) → Has h.desks k → (w.desks k).stored.promised.round ≤ round
+  pub tried : (w.desks h.d).stored.tried ≤ round
+  pub seen : (w.desks h.d).seen ≤ round
+  pub logs : old + 2 * length es ≤ h.top
+  pub rounds : round + 2 * length es ≤ 4294967295
+
+help_append : (n d : ℕ) (desks : List ℕ) (start : ℕ) (w : World) (xs ys : List WorldEvent)
+    → AreHelp n d desks start w xs → AreHelp n d desks start (run n w xs) ys
+    → AreHelp n d desks start w (xs ++ ys)
+help_append n d desks start w [] ys h k = k
+help_append n d desks start w (x ∷ xs) ys h k =
+    (h.0, help_append n d desks start (happens n w x) xs ys h.1 k)
+
+stand_from : (k l : ℕ) (es log : List Entry) → k ≤ l → StandFrom l es log → StandFrom k es log
+stand_from k l [] log h s = tt
+stand_from k l (e ∷ es) log h s = let a = s.1 in (s.0, omega (arith, h, a), s.2, s.3)
+
+prefix_get : (xs ys : List Entry) (i : ℕ) (e : Entry) → IsPrefix xs ys → slice_get xs i ≡ Some e
+    → slice_get ys i ≡ Some e
+prefix_get xs ys i e p h =
+    subst (λ (l : List Entry). slice_get l i ≡ Some e) p.1 (get_left xs p.0 i e h)
+
+all_decided : (h : Hall) (es rest : List Entry) (old round : ℕ) (w : World)
+    → IsRoomy h old round es rest w
+    → AllDecide h (2 * lacking w h.top h.desks + length es * each h) es rest w
+all_decided h [] rest old round w g =
+    record { events = []; help = tt; few = omega arith; decided = tt; queue = g.queue }
+all_decided h (e ∷ es) rest old round w g =
+    go (first_decided aim w begins)
+    (λ v k. all_decided h es rest (old + 2) (round + 2) v k)
+  where
+    aim : Aim
+    aim =
+        record {
+          n = h.n;
+          d = h.d;
+          desks = h.desks;
+          start = h.start;
+          from = length (w.desks h.d).log;
+          old = old;
+          round = round;
+          top = h.top;
+          first = e;
+          rest = es ++ rest;
+          majority = h.majority;
+          mine = h.mine;
+          tall = let l = g.logs in omega (arith, l);
+          room = let l = g.logs in let r = h.room in omega (arith, l, r);
+          rounds = let l = g.rounds in omega (arith, l);
+        }
+
+    begins : Rattle.progress.proofs.Roles.Begins aim w
+    begins =
+        record {
+          reached = g.reached;
+          late = g.late;
+          queue = g.queue;
+          past = omega arith;
+          lens = g.lens;
+          promised = g.promised;
+          tried = g.tried;
+          seen = g.seen;
+        }
+
+    go : Decides aim (lack aim w + each h) w
+        → ((v : World) → IsRoomy h (old + 2) (round + 2) es rest v
+        → AllDecide h (2 * lacking v h.top h.desks + length es * each h) es rest v)
+        → AllDecide h (2 * lacking w h.top h.desks + length (e ∷ es) * each h) (e ∷ es) rest w
+    go f others = joined (others v roomy)
+      where
+        v : World
+        v = run h.n w f.events
+
+        ends : IsDecided aim v
+        ends = f.ends
+
+        roomy : IsRoomy h (old + 2) (round + 2) es rest v
+        roomy =
+            record {
+              reached = ends.reached;
+              late = ends.late;
+              queue = ends.queue;
+              lens = ends.lens;
+              promised = ends.promised;
+              tried = ends.tried;
+              seen = ends.seen;
+              logs = let l = g.logs in omega (arith, l);
+              rounds = let l = g.rounds in omega (arith, l);
+            }
+
+        joined : AllDecide h (2 * lacking v h.top h.desks + length es * each h) es rest v
+            → AllDecide h (2 * lacking w h.top h.desks + length (e ∷ es) * each h) (e ∷ es) rest w
+        joined o =
+            record {
+              events = f.events ++ o.events;
+              help = help_append h.n h.d h.desks h.start w f.events o.events f.help o.help;
+              few =
+                  let l = length-append f.events o.events in
+                  let same = ap (λ u. lacking u h.top h.desks)
+                  (run_append h.n w f.events o.events) in
+                  let p = f.few in
+                  let q = o.few in
+                  let m = suc-mul (length es) (each h) in omega (arith, l, same, p, q, m);
+              decided = subst (λ (u : World). StandFrom (length (w.desks h.d).log) (e ∷ es)
+                  (u.desks h.d).log) (sym (run_append h.n w f.events o.events)) stand;
+              queue = ap (λ u. (u.desks h.d).queue) (run_append h.n w f.events o.events) ∙ o.queue;
+            }
+          where
+            r : IsReached h.n v
+            r = ends.reached
+
+            grows : IsPrefix (v.desks h.d).log ((run h.n v o.events).desks h.d).log
+            grows = run_log h.n v o.events (subst (λ (u : World). IsSound h.n u) r.same
+                (after_sound h.n r.past)) h.d
+
+            stand : StandFrom (length (w.desks h.d).log) (e ∷ es)
+                ((run h.n v o.events).desks h.d).log
+            stand = (
+              ends.at,
+              ends.past,
+              prefix_get (v.desks h.d).log ((run h.n v o.events).desks h.d).log ends.at e grows
+                  ends.entry,
+              stand_from (suc ends.at) (length (v.desks h.d).log) es
+                  ((run h.n v o.events).desks h.d).log
+                  (slice_get_within (v.desks h.d).log ends.at e ends.entry) o.decided,
+            )
+
+-- of longer logs each desk lacks as much more
+lacking_taller : (w : World) (len more : ℕ) (ks : List ℕ)
+    → lacking w (len + more) ks ≤ lacking w len ks + more * length ks
+lacking_taller w len more [] = omega arith
+lacking_taller w len more (k ∷ ks) =
+    let l = lacking_taller w len more ks in
+    let m = mul-suc more (length ks) in omega (arith, l, m)
+
+-- for each entry 15 for each desk and 10, and four more for each desk
+shares : (c p : ℕ) → c * (15 * p + 10) + 2 * (2 * c * p) ≡ c * (19 * p + 10)
+shares zero p = omega arith
+shares (suc c) p =
+    let s = shares c p in
+    let a = suc-mul c (15 * p + 10) in
+    let b = suc-mul c (19 * p + 10) in
+    let m : 2 * suc c * p ≡ 2 * c * p + 2 *
+    p = (let e : 2 * suc c ≡ 2 * c + 2 = omega arith in ap (λ z. z * p) e
+    ∙ add-mul (2 * c) 2 p) in
+    omega (arith, s, a, b, m)
+
+at_most_longest : (w : World) (ks : List ℕ) (k : ℕ) → Has ks k
+    → length (w.desks k).log ≤ longest w ks
+at_most_longest w [] k h = elim h [ ]
+at_most_longest w (x ∷ ks) k h = go h (λ i. at_most_longest w ks k i)
+  where
+    go : Has (x ∷ ks) k → (Has ks k → length (w.desks k).log ≤ longest w ks)
+        → length (w.desks k).log ≤ longest w (x ∷ ks)
+    go (inl s) ih = let e = ap (λ j. length (w.desks j).log) s in omega (arith, e)
+    go (inr i) ih = let l = ih i in omega (arith, l)
+
+longest_fits : (w : World) (ks : List ℕ) (more : ℕ) → more ≤ 65536
+    → ((k : ℕ) → Has ks k → length (w.desks k).log + more ≤ 65536) → longest w ks + more ≤ 65536
+longest_fits w [] more low h = omega (arith, low)
+longest_fits w (k ∷ ks) more low h =
+    let here = h k (inl refl) in
+    let l = longest_fits w ks more low (λ j i. h j (inr i)) in omega (arith, here, l)
+
+-- a round that is above none of these is far enough from the last
+rounds_fit : (w : World) (d : ℕ) (ks : List ℕ) (more : ℕ)
+    → (w.desks d).stored.tried + more ≤ 4294967295 → (w.desks d).seen + more ≤ 4294967295
+    → ((k : ℕ) → Has ks k → (w.desks k).stored.promised.round + more ≤ 4294967295)
+    → (round : ℕ) × (round + more ≤ 4294967295) × ((w.desks d).stored.tried ≤ round)
+    × ((w.desks d).seen ≤ round)
+    × ((k : ℕ) → Has ks k → (w.desks k).stored.promised.round ≤ round)
+rounds_fit w d [] more t s h = (
+  max (w.desks d).stored.tried (w.desks d).seen,
+  omega (arith, t, s),
+  omega arith,
+  omega arith,
+  λ k i. elim i [ ],
+)
+rounds_fit w d (x ∷ ks) more t s h = go (rounds_fit w d ks more t s (λ k i. h k (inr i)))
+  where
+    go : (round : ℕ) × (round + more ≤ 4294967295) × ((w.desks d).stored.tried ≤ round)
+        × ((w.desks d).seen ≤ round)
+        × ((k : ℕ) → Has ks k → (w.desks k).stored.promised.round ≤ round)
+        → (round : ℕ) × (round + more ≤ 4294967295) × ((w.desks d).stored.tried ≤ round)
+        × ((w.desks d).seen ≤ round)
+        × ((k : ℕ) → Has (x ∷ ks) k → (w.desks k).stored.promised.round ≤ round)
+    go r =
+        let here = h x (inl refl) in
+        let low = r.1 in
+        let t1 = r.2 in
+        let s1 = r.3 in (
+          max (w.desks x).stored.promised.round r.0,
+          omega (arith, here, low),
+          omega (arith, t1),
+          omega (arith, s1),
+          λ k i. elim i [
+            | inl e ↦ (let p = ap (λ j. (w.desks j).stored.promised.round) e in omega (arith, p))
+            | inr m ↦ (let p = r.4 k m in omega (arith, p))
+          ],
+        )
+
+pub no_queue_is_stuck : NoQueueIsStuck
+no_queue_is_stuck n past d desks es rest most mine queue room =
+    go (rounds_fit w d desks (2 * length es) room.tried room.seen room.promised)
+  where
+    w : World
+    w = after n past
+
+    count : ℕ
+    count = length es
+
+    fits : longest w desks + 2 * count ≤ 65536
+    fits = longest_fits w desks (2 * count) (let l = room.logs d mine in omega (arith, l)) room.logs
+
+    h : Hall
+    h =
+        record {
+          n = n;
+          d = d;
+          desks = desks;
+          start = length w.sent;
+          top = longest w desks + 2 * count;
+          majority = most;
+          mine = mine;
+          room = fits;
+        }
+
+    go : (round : ℕ) × (round + 2 * length es ≤ 4294967295) × ((w.desks d).stored.tried ≤ round)
+        × ((w.desks d).seen ≤ round)
+        × ((k : ℕ) → Has desks k → (w.desks k).stored.promised.round ≤ round)
+        → CanDecide n d desks w es rest
+    go r =
+        done
+        (all_decided h es rest (longest w desks) r.0 w
+        (record {
+          reached = record { past = past; same = refl };
+          late = omega arith;
+          queue = queue;
+          lens = at_most_longest w desks;
+          promised = r.4;
+          tried = r.2;
+          seen = r.3;
+          logs = omega arith;
+          rounds = r.1;
+        }))
+      where
+        done : AllDecide h (2 * lacking w h.top desks + count * each h) es rest w
+            → CanDecide n d desks w es rest
+        done o =
+            record {
+              events = o.events;
+              help = o.help;
+              few =
+                  let f = o.few in
+                  let l = lacking_taller w (longest w desks) (2 * count) desks in
+                  let s = shares count (length desks) in omega (arith, f, l, s);
+              decided = o.decided;
+              queue = o.queue;
+            }
+
+pub no_desk_is_stuck : NoDeskIsStuck
+no_desk_is_stuck n past d desks e rest most mine queue room =
+    no_queue_is_stuck n past d desks (e ∷ []) rest most mine queue room
