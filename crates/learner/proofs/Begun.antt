@@ -7,13 +7,13 @@ use Rattle.learner.proofs.Prepared.{PlanGoes}
 use Rattle.learner.proofs.Learned.{nothing_goes}
 use Rattle.acceptor.specs.declared.ballot.Ballot.{Ballot}
 use Rattle.acceptor.specs.declared.entry.Entry.{Entry}
-use Rattle.acceptor.specs.Messages.{desks_from, without, to_others}
+use Rattle.acceptor.specs.Messages.{desks_from, without}
 use Rattle.acceptor.specs.declared.message.Body.TheVariants.{Accept, Behind}
 use Rattle.proposer.specs.declared.role.Role.{Role}
-use Rattle.proposer.specs.Plans.{queue_after, only_say}
+use Rattle.proposer.specs.Plans.{queue_after}
 use Rattle.proposer.specs.declared.plan.Plan.{Plan}
 use Rattle.proposer.specs.declared.role.Role.TheVariants.{Idle, Gathering, Proposing, Leading}
-use Rattle.proposer.specs.Proposing.{is_full, is_outbid, last_round, gather, new_ballot, ask_next, lead, start_leading, start, start_by_role, wants_ballot, tell_length, tick_idle, tick_leading, tick, tick_by_role}
+use Rattle.proposer.specs.Proposing.{is_full, is_outbid, last_round, gather, new_ballot, ask_next, lead, start, start_by_role, wants_ballot, tell_length, tick_idle, tick, tick_by_role}
 use Rattle.proposer.specs.declared.faults.Refusal.{Refusal}
 use Rattle.proposer.specs.declared.faults.Refusal.TheVariants.{LogFull, BallotsSpent}
 use Rattle.learner.specs.Worlds.{World}

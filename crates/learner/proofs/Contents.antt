@@ -21,7 +21,7 @@ use Rattle.acceptor.specs.Storing.{stored_after, log_after}
 use Rattle.proposer.specs.declared.role.Role.TheVariants.{Idle, Gathering, Proposing, Leading}
 use Rattle.acceptor.specs.declared.stored.Change.TheVariants.{Promised, Voted, Tried, Appended}
 use Rattle.acceptor.specs.Answers.{Reply, reported, elsewhere, prepare_here, prepare_reply, accept_here, accept_reply}
-use Rattle.proposer.specs.Proposing.{is_full, is_majority, last_round, gather, new_ballot, is_outbid, ask_next, lead, start_leading, start, start_by_role, wants_ballot, tell_length, tick_idle, tick_leading, tick, tick_by_role, was_heard, higher, highest, choice, propose, promises_heard, promise_by_role, on_promise, votes_heard, accepted_by_role, on_accepted, is_ballot_of, on_nack}
+use Rattle.proposer.specs.Proposing.{is_full, is_majority, last_round, gather, new_ballot, is_outbid, ask_next, lead, start, start_by_role, wants_ballot, tell_length, tick_idle, tick, tick_by_role, was_heard, higher, highest, choice, propose, promises_heard, promise_by_role, on_promise, votes_heard, accepted_by_role, on_accepted, is_ballot_of, on_nack}
 use Rattle.proposer.specs.declared.faults.Refusal.{Refusal}
 use Rattle.proposer.specs.declared.faults.Refusal.TheVariants.{LogFull, BallotsSpent}
 use Rattle.learner.specs.Learning.{on_decided, on_behind, told}

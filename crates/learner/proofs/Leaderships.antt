@@ -1,20 +1,17 @@
 -- Histories of desks that keep their leadership, computed from the definitions.
-use Rattle.std.proofs.Common.{◌≡◌, ℕ, List, [], ◌∷◌, ◌++◌, Some, None, Ok, Err, drop, false, refl}
+use Rattle.std.proofs.Common.{◌≡◌, List, [], ◌∷◌, ◌++◌, Some, None, Ok, Err, drop, false, refl}
 use Rattle.std.specs.Prelude.{codes}
 use Rattle.acceptor.specs.declared.ballot.Ballot.{Ballot}
 use Rattle.acceptor.specs.declared.entry.Entry.{Entry}
-use Rattle.acceptor.specs.declared.message.Body.TheVariants.{Prepare, Promise, Accept, Accepted, Nack, Behind, Decided}
+use Rattle.acceptor.specs.declared.message.Body.TheVariants.{Prepare, Promise, Accept, Accepted, Behind, Decided}
 use Rattle.acceptor.specs.declared.stored.Stored.{Stored}
 use Rattle.acceptor.specs.Messages.{message}
 use Rattle.proposer.specs.declared.faults.Refusal.TheVariants.{LogFull, BallotsSpent}
-use Rattle.proposer.specs.declared.role.Role.TheVariants.{Idle, Gathering, Proposing, Leading}
+use Rattle.proposer.specs.declared.role.Role.TheVariants.{Idle, Proposing, Leading}
 use Rattle.proposer.specs.Plans.{Passing, only_say}
 use Rattle.proposer.specs.Proposing.{start, tick, gather}
-use Rattle.learner.specs.declared.event.Event.TheVariants.{Start, Tick, Deliver}
 use Rattle.learner.specs.declared.event.WorldEvent.{WorldEvent}
 use Rattle.learner.specs.declared.event.WorldEvent.TheVariants.{Submit as SubmitAt, Start as StartAt, Tick as TickAt, Deliver as DeliverNth}
-use Rattle.learner.specs.Desks.{Desk}
-use Rattle.learner.specs.Steps.{step}
 use Rattle.learner.specs.Worlds.{after, log_of}
 use Rattle.learner.proofs.Histories.{a, b, ballot, deliver}
 

@@ -19,7 +19,7 @@ use Rattle.proposer.specs.declared.role.Heard.{Heard}
 use Rattle.proposer.specs.declared.role.Role.{Role}
 use Rattle.proposer.specs.declared.role.Role.TheVariants.{Idle, Gathering, Proposing, Leading}
 use Rattle.proposer.specs.Plans.{only_say, become, append}
-use Rattle.proposer.specs.Proposing.{is_full, is_majority, last_round, gather, new_ballot, is_outbid, ask_next, lead, start_leading, start, start_by_role, wants_ballot, tell_length, tick_idle, tick_leading, tick, tick_by_role, was_heard, highest, choice, propose, promises_heard, promise_by_role, on_promise, votes_heard, accepted_by_role, on_accepted, is_ballot_of, on_nack}
+use Rattle.proposer.specs.Proposing.{is_full, is_majority, last_round, gather, new_ballot, is_outbid, ask_next, lead, start, start_by_role, wants_ballot, tell_length, tick_idle, tick, tick_by_role, was_heard, highest, choice, propose, promises_heard, promise_by_role, on_promise, votes_heard, accepted_by_role, on_accepted, is_ballot_of, on_nack}
 use Rattle.learner.specs.Order.{IsBelow}
 use Rattle.learner.specs.Desks.{Desk, adopt, passing}
 use Rattle.learner.specs.Learning.{on_decided, on_behind, told}
