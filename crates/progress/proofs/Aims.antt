@@ -1,5 +1,5 @@
 -- What desk d aims at: that its first entry is decided, with help alone and in so many events.
-use Rattle.std.proofs.Common.{◌≡◌, ℕ, zero, suc, ◌≤◌, ◌<◌, ◌+◌, ◌-◌, ◌*◌, Bool, true, false, if◌then◌else◌, ◌==◌, ◌&&◌, List, [], ◌∷◌, ◌++◌, ◌⊎◌, inl, inr, Option, Some, None, Ok, length, slice_get, refl, sym, ap, ◌∙◌, subst, arith, length-append}
+use Rattle.std.proofs.Common.{◌≡◌, ℕ, zero, suc, ◌≤◌, ◌<◌, ◌+◌, ◌*◌, Bool, true, false, if◌then◌else◌, ◌==◌, ◌&&◌, List, [], ◌∷◌, ◌++◌, inl, inr, Option, Some, None, Ok, length, slice_get, refl, sym, ap, ◌∙◌, subst, arith, length-append}
 use Rattle.std.proofs.lemmas.Bool.Decides.{nat_tests}
 use Rattle.acceptor.specs.declared.entry.Entry.{Entry}
 use Rattle.acceptor.specs.declared.message.Message.{Message}
@@ -13,7 +13,7 @@ use Rattle.learner.specs.declared.event.WorldEvent.{WorldEvent}
 use Rattle.learner.specs.declared.event.WorldEvent.TheVariants.{Deliver as DeliverNth, Tick as TickAt}
 use Rattle.learner.specs.Chosen.{Has, IsMajority}
 use Rattle.learner.specs.Desks.{Desk, adopt, passing}
-use Rattle.learner.specs.Steps.{IsDesk, is_desk, is_in_range, is_heeded, on_body, done, idle, planned, step}
+use Rattle.learner.specs.Steps.{IsDesk, is_desk, is_heeded, on_body, done, idle, planned, step}
 use Rattle.learner.specs.Worlds.{World, put, world_after, delivered, happens, run, after, new_world}
 use Rattle.learner.specs.Ranges.{IsInRange}
 use Rattle.learner.proofs.Runs.{run_append}

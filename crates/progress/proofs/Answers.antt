@@ -1,5 +1,5 @@
 -- What a desk answers to the messages that are sent on the way.
-use Rattle.std.proofs.Common.{◌≡◌, ℕ, zero, suc, ◌≤◌, ◌<◌, ◌+◌, max, Bool, true, false, if◌then◌else◌, ◌==◌, nat_lt, List, [], ◌∷◌, Option, Some, None, length, slice_get, take, drop, refl, sym, ap, ◌∙◌, arith}
+use Rattle.std.proofs.Common.{◌≡◌, ℕ, zero, suc, ◌<◌, ◌+◌, max, true, false, if◌then◌else◌, ◌==◌, nat_lt, List, [], ◌∷◌, Option, Some, None, length, slice_get, take, drop, refl, ap, ◌∙◌, arith}
 use Rattle.std.proofs.lemmas.Bool.Decides.{nat_tests}
 use Rattle.std.proofs.lemmas.Option.{slice_get_past}
 use Rattle.acceptor.specs.declared.ballot.Ballot.{Ballot}
@@ -8,14 +8,13 @@ use Rattle.acceptor.specs.declared.entry.Entry.{Entry}
 use Rattle.acceptor.specs.declared.message.Report.{Report}
 use Rattle.acceptor.specs.declared.message.Body.TheVariants.{Prepare, Promise, Accept, Accepted, Nack, Behind, Decided}
 use Rattle.acceptor.specs.declared.message.Message.{Message}
-use Rattle.acceptor.specs.declared.stored.Vote.{Vote}
 use Rattle.acceptor.specs.declared.stored.Change.TheVariants.{Promised, Voted}
 use Rattle.acceptor.specs.Messages.{message, has}
-use Rattle.acceptor.specs.Answers.{Reply, reported, elsewhere, prepare_here, accept_here}
+use Rattle.acceptor.specs.Answers.{reported, elsewhere, prepare_here, accept_here}
 use Rattle.proposer.specs.declared.role.Heard.{Heard}
 use Rattle.proposer.specs.declared.role.Role.TheVariants.{Idle, Gathering, Proposing}
 use Rattle.proposer.specs.declared.plan.Plan.{Plan}
-use Rattle.proposer.specs.Plans.{only_say, become, append}
+use Rattle.proposer.specs.Plans.{only_say, append}
 use Rattle.proposer.specs.Proposing.{was_heard, promises_heard, promise_by_role, votes_heard, accepted_by_role, is_ballot_of}
 use Rattle.learner.specs.Desks.{Desk, passing}
 use Rattle.learner.specs.Order.{IsAtMost, IsBelow}

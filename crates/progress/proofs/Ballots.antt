@@ -1,21 +1,19 @@
 -- A desk that neither proposes nor leads on makes ballots, until its first entry is decided.
-use Rattle.std.proofs.Common.{◌≡◌, ℕ, zero, suc, ◌≤◌, ◌<◌, ◌+◌, ◌-◌, ◌*◌, max, not, Bool, true, false, if◌then◌else◌, ◌==◌, nat_lt, List, [], ◌∷◌, ◌++◌, ◌⊎◌, inl, inr, Option, Some, None, Result, Ok, Err, length, refl, sym, ap, ◌∙◌, subst, arith}
+use Rattle.std.proofs.Common.{◌≡◌, ℕ, suc, ◌≤◌, ◌<◌, ◌+◌, ◌-◌, ◌*◌, max, not, Bool, true, false, if◌then◌else◌, ◌==◌, nat_lt, List, [], ◌∷◌, inl, inr, Some, None, Result, Ok, Err, length, refl, sym, ap, ◌∙◌, subst, arith}
 use Rattle.std.proofs.lemmas.Bool.Decides.{nat_tests}
 use Rattle.acceptor.specs.declared.ballot.Ballot.{Ballot}
 use Rattle.acceptor.specs.declared.entry.Entry.{Entry}
 use Rattle.acceptor.specs.Entries.{is_same_entry}
-use Rattle.acceptor.specs.declared.message.Body.TheVariants.{Prepare, Accept, Nack, Behind, Decided}
+use Rattle.acceptor.specs.declared.message.Body.TheVariants.{Prepare, Accept, Nack, Decided}
 use Rattle.acceptor.specs.declared.message.Message.{Message}
-use Rattle.acceptor.specs.declared.stored.Change.TheVariants.{Tried}
 use Rattle.acceptor.specs.declared.stored.Stored.{Stored}
-use Rattle.acceptor.specs.Messages.{message, to_all, to_others}
+use Rattle.acceptor.specs.Messages.{message, to_all}
 use Rattle.proposer.specs.declared.faults.Refusal.{Refusal}
 use Rattle.proposer.specs.declared.faults.Refusal.TheVariants.{BallotsSpent}
 use Rattle.proposer.specs.declared.role.Role.{Role}
 use Rattle.proposer.specs.declared.role.Role.TheVariants.{Idle, Gathering, Proposing, Leading}
 use Rattle.proposer.specs.declared.plan.Plan.{Plan}
-use Rattle.proposer.specs.Plans.{only_say}
-use Rattle.proposer.specs.Proposing.{is_full, is_majority, last_round, gather, new_ballot, ask, ask_next, wants_ballot, tell_length, tick_idle, tick, tick_by_role}
+use Rattle.proposer.specs.Proposing.{is_full, last_round, gather, new_ballot, ask, ask_next, wants_ballot, tell_length, tick_idle, tick, tick_by_role}
 use Rattle.learner.specs.Chosen.{Has, IsMajority}
 use Rattle.learner.specs.Desks.{Desk, adopt, passing}
 use Rattle.learner.specs.Order.{IsAtMost, IsBelow}
@@ -23,10 +21,10 @@ use Rattle.learner.specs.Steps.{on_body}
 use Rattle.learner.specs.Worlds.{World}
 use Rattle.learner.proofs.Order.{below_from_less, at_most_from_below}
 use Rattle.progress.proofs.Aims.{Aim, lack, IsReached, Decides, decides_more, carried, put_same, put_self, IsPending, pending_new, comes, ticks}
-use Rattle.progress.proofs.Fits.{Fit, fit_more, makes, seen_at, fit_plain, fit_tried}
+use Rattle.progress.proofs.Fits.{Fit, fit_more, seen_at, fit_plain, fit_tried}
 use Rattle.progress.proofs.Answers.{refuses, tells, gives_up, prepare_ahead, prepare_past, refused_at, nack_heard, is_own_gathering}
 use Rattle.progress.proofs.Levels.{desks_same, Level, levels, Taken, pull}
-use Rattle.progress.proofs.Votes.{IsClear, Asks, Yields, Leads, self_same, hear_all}
+use Rattle.progress.proofs.Votes.{IsClear, Asks, Leads, self_same, hear_all}
 use Rattle.progress.proofs.Promises.{all_pending, Gathers, Proposes, gather_all}
 
 -- the desk's Tick makes a ballot, once there is an entry in its queue

@@ -1,5 +1,5 @@
 -- What holds of the world on the way to the aim, and that what desks do keeps it.
-use Rattle.std.proofs.Common.{◌≡◌, ℕ, suc, ◌≤◌, ◌<◌, ◌+◌, max, Bool, true, false, List, [], ◌∷◌, ◌++◌, ◌⊎◌, inl, inr, Option, Some, None, length, slice_get, refl, sym, ap, ◌∙◌, subst, arith, length-append}
+use Rattle.std.proofs.Common.{◌≡◌, ℕ, ◌≤◌, ◌+◌, true, false, List, [], ◌∷◌, ◌++◌, ◌⊎◌, Option, Some, None, length, slice_get, refl, sym, ap, ◌∙◌, subst, arith, length-append}
 use Rattle.std.proofs.lemmas.Bool.Decides.{nat_tests}
 use Rattle.std.proofs.lemmas.Slice.Eq.{bytes_eq-Decides}
 use Rattle.acceptor.specs.declared.ballot.Ballot.{Ballot}
@@ -8,15 +8,14 @@ use Rattle.acceptor.specs.Entries.{is_same_entry}
 use Rattle.acceptor.specs.declared.message.Message.{Message}
 use Rattle.acceptor.specs.declared.stored.Vote.{Vote}
 use Rattle.acceptor.specs.declared.stored.Change.{Change}
-use Rattle.acceptor.specs.declared.stored.Change.TheVariants.{Promised, Voted, Tried, Appended}
-use Rattle.acceptor.specs.Storing.{stored_after, log_after}
+use Rattle.acceptor.specs.declared.stored.Change.TheVariants.{Promised, Voted, Tried}
 use Rattle.proposer.specs.declared.role.Role.{Role}
 use Rattle.proposer.specs.declared.plan.Plan.{Plan}
-use Rattle.proposer.specs.Plans.{queue_after, begins_with, only_say, append}
+use Rattle.proposer.specs.Plans.{queue_after, begins_with, append}
 use Rattle.learner.specs.Chosen.{Has}
 use Rattle.learner.specs.Desks.{Desk, adopt, passing}
 use Rattle.learner.specs.Worlds.{World}
-use Rattle.progress.proofs.Aims.{Aim, IsReached, IsDecided, carried, put_at, put_same, put_self, late_more}
+use Rattle.progress.proofs.Aims.{Aim, IsReached, IsDecided, carried, put_at, put_self, late_more}
 
 -- the vote is no later than the logs were at first, or it is for the entry itself
 abbrev pub IsOldOr : Aim → Option Vote → Type 0

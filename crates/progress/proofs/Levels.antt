@@ -1,5 +1,5 @@
 -- Logs are brought to one length, entry by entry: a Behind, and the Decided that answers it.
-use Rattle.std.proofs.Common.{◌≡◌, ℕ, zero, suc, ◌≤◌, ◌<◌, ◌+◌, ◌-◌, Bool, true, false, ◌==◌, nat_lt, List, [], ◌∷◌, ◌++◌, Option, Some, None, length, refl, sym, ap, ◌∙◌, subst, arith, length-append}
+use Rattle.std.proofs.Common.{◌≡◌, ℕ, zero, suc, ◌≤◌, ◌<◌, ◌+◌, ◌-◌, Bool, true, false, nat_lt, List, [], ◌∷◌, None, length, refl, sym, ap, ◌∙◌, subst, arith, length-append}
 use Rattle.std.proofs.lemmas.Bool.Decides.{nat_tests}
 use Rattle.acceptor.specs.declared.entry.Entry.{Entry}
 use Rattle.acceptor.specs.Entries.{is_same_entry}
@@ -10,7 +10,7 @@ use Rattle.acceptor.specs.Messages.{message}
 use Rattle.proposer.specs.declared.role.Role.TheVariants.{Idle}
 use Rattle.proposer.specs.declared.plan.Plan.{Plan}
 use Rattle.learner.specs.Chosen.{Has}
-use Rattle.learner.specs.Desks.{Desk, adopt, passing}
+use Rattle.learner.specs.Desks.{Desk, adopt}
 use Rattle.learner.specs.Steps.{on_body}
 use Rattle.learner.specs.Worlds.{World}
 use Rattle.progress.proofs.Aims.{Aim, lack, IsReached, Decides, decides_here, decides_more, carried, put_other, put_same, put_self, IsPending, pending_more, pending_new, comes, takes}

@@ -1,5 +1,5 @@
 -- Desk d gathers promises of a ballot against which nothing stands, until it can ask for votes.
-use Rattle.std.proofs.Common.{◌≡◌, ℕ, zero, suc, ◌≤◌, ◌<◌, ◌+◌, ◌*◌, ◌||◌, Bool, true, false, if◌then◌else◌, ◌==◌, nat_lt, List, [], ◌∷◌, ◌++◌, ◌⊎◌, inl, inr, Option, Some, None, length, slice_get, refl, sym, ap, ◌∙◌, subst, arith}
+use Rattle.std.proofs.Common.{◌≡◌, ℕ, zero, suc, ◌≤◌, ◌<◌, ◌+◌, ◌*◌, Bool, true, false, if◌then◌else◌, ◌==◌, List, [], ◌∷◌, ◌⊎◌, inl, inr, Option, Some, None, length, slice_get, refl, sym, ap, ◌∙◌, subst, arith}
 use Rattle.std.proofs.lemmas.Bool.Decides.{nat_tests}
 use Rattle.acceptor.specs.declared.ballot.Ballot.{Ballot}
 use Rattle.acceptor.specs.Ballots.{is_below}
@@ -7,7 +7,6 @@ use Rattle.acceptor.specs.declared.entry.Entry.{Entry}
 use Rattle.acceptor.specs.declared.message.Report.{Report}
 use Rattle.acceptor.specs.declared.message.Body.{Body}
 use Rattle.acceptor.specs.declared.message.Body.TheVariants.{Prepare, Promise, Accept}
-use Rattle.acceptor.specs.declared.message.Message.{Message}
 use Rattle.acceptor.specs.declared.stored.Stored.{Stored}
 use Rattle.acceptor.specs.declared.stored.Vote.{Vote}
 use Rattle.acceptor.specs.Messages.{message, desks_from, to_each, to_all}
@@ -19,14 +18,14 @@ use Rattle.proposer.specs.Plans.{become}
 use Rattle.proposer.specs.Proposing.{is_majority, was_heard, higher, highest, choice, propose, ask, promises_heard}
 use Rattle.learner.specs.Chosen.{Has, IsDistinct}
 use Rattle.learner.specs.Desks.{Desk, adopt, passing}
-use Rattle.learner.specs.Order.{IsAtMost, IsBelow}
-use Rattle.learner.specs.Steps.{IsDesk, on_body}
+use Rattle.learner.specs.Order.{IsBelow}
+use Rattle.learner.specs.Steps.{IsDesk}
 use Rattle.learner.specs.Worlds.{World}
 use Rattle.learner.proofs.Order.{at_most_self}
 use Rattle.progress.proofs.Aims.{Aim, lack, IsReached, Decides, decides_more, carried, put_other, put_same, put_self, IsPending, pending_more, pending_new, comes}
-use Rattle.progress.proofs.Fits.{IsOldOr, Fit, makes, fit_plain, fit_promised}
+use Rattle.progress.proofs.Fits.{IsOldOr, Fit, fit_plain, fit_promised}
 use Rattle.progress.proofs.Answers.{promises, prepare_ahead, promised_at, promise_heard}
-use Rattle.progress.proofs.Levels.{Level, levels}
+use Rattle.progress.proofs.Levels.{levels}
 use Rattle.progress.proofs.Votes.{IsClear, clear_level, clear_at, not_same, heard_test}
 
 -- among what is sent to all is what is sent to one

@@ -1,5 +1,5 @@
 -- The entries of desk d's queue are decided one after the other.
-use Rattle.std.proofs.Common.{◌≡◌, ℕ, zero, suc, ◌≤◌, ◌<◌, ◌+◌, ◌-◌, ◌*◌, max, List, [], ◌∷◌, ◌++◌, ◌⊎◌, inl, inr, Option, Some, length, slice_get, refl, sym, ap, ◌∙◌, subst, arith, length-append}
+use Rattle.std.proofs.Common.{◌≡◌, ℕ, zero, suc, ◌≤◌, ◌+◌, ◌*◌, max, List, [], ◌∷◌, ◌++◌, inl, inr, Some, length, slice_get, refl, sym, ap, ◌∙◌, subst, arith, length-append}
 use Rattle.std.proofs.Math.Nat.{suc-mul, mul-suc, add-mul}
 use Rattle.std.proofs.lemmas.Option.{slice_get_within}
 use Rattle.acceptor.specs.declared.entry.Entry.{Entry}
@@ -9,7 +9,7 @@ use Rattle.learner.specs.Invariant.{IsSound}
 use Rattle.learner.specs.Worlds.{World, happens, run, after}
 use Rattle.learner.specs.Laws.{IsPrefix}
 use Rattle.learner.proofs.Runs.{after_sound, run_append, run_log}
-use Rattle.progress.specs.Progress.{AreHelp, StandFrom, longest, lacking, enough, CanDecide, HasRoom, NoDeskIsStuck, NoQueueIsStuck}
+use Rattle.progress.specs.Progress.{AreHelp, StandFrom, longest, lacking, CanDecide, NoDeskIsStuck, NoQueueIsStuck}
 use Rattle.progress.proofs.Aims.{IsReached, Aim, lack, IsDecided, Decides, get_left}
 use Rattle.progress.proofs.Roles.{first_decided}
 

@@ -1,5 +1,5 @@
 -- Whatever its role, desk d gets its first entry decided.
-use Rattle.std.proofs.Common.{◌≡◌, ℕ, zero, suc, ◌≤◌, ◌<◌, ◌+◌, ◌*◌, ◌||◌, Bool, true, false, if◌then◌else◌, ◌==◌, List, [], ◌∷◌, ◌++◌, ◌⊎◌, inl, inr, Option, Some, None, length, slice_get, refl, sym, ap, ◌∙◌, subst, arith}
+use Rattle.std.proofs.Common.{◌≡◌, ℕ, zero, suc, ◌≤◌, ◌<◌, ◌+◌, ◌*◌, ◌||◌, Bool, true, false, if◌then◌else◌, ◌==◌, List, [], ◌∷◌, inl, Option, Some, None, length, slice_get, refl, sym, ap, ◌∙◌, subst, arith}
 use Rattle.std.proofs.lemmas.Bool.Decides.{nat_tests}
 use Rattle.acceptor.specs.declared.ballot.Ballot.{Ballot}
 use Rattle.acceptor.specs.Ballots.{is_below}
@@ -16,13 +16,12 @@ use Rattle.proposer.specs.Proposing.{is_majority, ask_again, tick_by_role}
 use Rattle.learner.specs.Chosen.{Has, IsDistinct, IsMajority}
 use Rattle.learner.specs.Desks.{Desk, passing}
 use Rattle.learner.specs.Invariant.{RoleStands, ProposingStands, LeadingStands, IsSound}
-use Rattle.learner.specs.Order.{IsAtMost, IsBelow}
 use Rattle.learner.specs.Steps.{IsDesk}
 use Rattle.learner.specs.Worlds.{World}
 use Rattle.learner.proofs.Quorum.{drop_each, length-drop_each, Has-drop_each, IsDistinct-drop_each}
 use Rattle.learner.proofs.Runs.{after_sound}
 use Rattle.progress.proofs.Aims.{Aim, lack, IsReached, Decides, decides_more, carried, IsPending, pending_new, ticks}
-use Rattle.progress.proofs.Fits.{IsOldOr, Fit, makes, fit_plain}
+use Rattle.progress.proofs.Fits.{IsOldOr, Fit, fit_plain}
 use Rattle.progress.proofs.Levels.{desks_same}
 use Rattle.progress.proofs.Votes.{Asks, Yields, Leads, hear_all}
 use Rattle.progress.proofs.Ballots.{IsFreeIn, IsFree, free_idle, lead_asks, not_other, free_decides}

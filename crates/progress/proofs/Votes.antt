@@ -1,17 +1,15 @@
 -- Desk d has asked for votes, and hears the desks one after the other: it gives way, or it leads.
-use Rattle.std.proofs.Common.{◌≡◌, ℕ, suc, ◌≤◌, ◌<◌, ◌+◌, ◌*◌, ◌||◌, max, Bool, true, false, if◌then◌else◌, ◌==◌, nat_lt, List, [], ◌∷◌, ◌++◌, ◌⊎◌, inl, inr, Option, Some, None, length, slice_get, refl, sym, ap, ◌∙◌, subst, arith, length-append}
+use Rattle.std.proofs.Common.{◌≡◌, ℕ, suc, ◌≤◌, ◌<◌, ◌+◌, ◌*◌, ◌||◌, max, Bool, true, false, if◌then◌else◌, ◌==◌, nat_lt, List, [], ◌∷◌, ◌++◌, ◌⊎◌, inl, inr, Some, None, length, refl, sym, ap, ◌∙◌, subst, arith, length-append}
 use Rattle.std.proofs.lemmas.Bool.Decides.{nat_tests}
 use Rattle.std.proofs.lemmas.Slice.Eq.{bytes_eq-Decides}
 use Rattle.acceptor.specs.declared.ballot.Ballot.{Ballot}
 use Rattle.acceptor.specs.Ballots.{is_below}
 use Rattle.acceptor.specs.declared.entry.Entry.{Entry}
 use Rattle.acceptor.specs.Entries.{is_same_entry}
-use Rattle.acceptor.specs.declared.message.Body.{Body}
 use Rattle.acceptor.specs.declared.message.Body.TheVariants.{Accept, Accepted, Nack, Decided}
 use Rattle.acceptor.specs.declared.message.Message.{Message}
 use Rattle.acceptor.specs.declared.stored.Stored.{Stored}
 use Rattle.acceptor.specs.Messages.{message, has, to_others}
-use Rattle.proposer.specs.declared.role.Role.{Role}
 use Rattle.proposer.specs.declared.role.Role.TheVariants.{Idle, Proposing, Leading}
 use Rattle.proposer.specs.declared.plan.Plan.{Plan}
 use Rattle.proposer.specs.Plans.{append, become}
@@ -22,10 +20,10 @@ use Rattle.learner.specs.Order.{IsAtMost, IsBelow}
 use Rattle.learner.specs.Steps.{on_body}
 use Rattle.learner.specs.Worlds.{World}
 use Rattle.learner.proofs.Order.{at_most_self}
-use Rattle.progress.proofs.Aims.{Aim, lack, IsReached, Decides, decides_here, decides_more, carried, put_at, put_other, put_same, put_self, IsPending, pending_more, pending_new, comes}
-use Rattle.progress.proofs.Fits.{Fit, makes, seen_at, fit_plain, fit_voted, fit_appended, fit_decided}
+use Rattle.progress.proofs.Aims.{Aim, lack, IsReached, Decides, decides_here, decides_more, carried, put_at, put_same, put_self, IsPending, pending_more, pending_new, comes}
+use Rattle.progress.proofs.Fits.{Fit, seen_at, fit_plain, fit_voted, fit_appended, fit_decided}
 use Rattle.progress.proofs.Answers.{refuses, votes_for, tells, gives_up, accept_past, accept_ahead, voted_at, outvoted_at, vote_heard, nack_heard, is_own_proposing}
-use Rattle.progress.proofs.Levels.{desks_same, Level, levels, Taken, take_one}
+use Rattle.progress.proofs.Levels.{desks_same, Level, levels, take_one}
 
 -- of the desks none has promised a ballot above this one, and none has a longer log
 abbrev pub IsClear : Aim → Ballot → ℕ → World → Type 0
