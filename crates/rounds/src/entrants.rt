@@ -11,8 +11,8 @@ ghost use Rattle.rounds.specs.model.Standings.{is_unfinished};
 
 use crate::cutoff::{allotted, has_started};
 use crate::kept::Kept;
-use crate::ranking::{not_worse_among, order_of, place_at};
 use crate::rank::rank_of;
+use crate::ranking::{not_worse_among, order_of, place_at};
 use crate::rules::Rules;
 use crate::running::{pass_all, recounted};
 use crate::standing::Standing;
