@@ -1,4 +1,4 @@
-pub mod Numerals
+pub mod Spelled
 pub mod Printed
 pub mod Scripted
 pub mod Ran

@@ -1,5 +1,5 @@
 -- A hall from line to line, and how it ends, in words on the whole input.
-use Rattle.std.proofs.Common.{◌≡◌, ℕ, ◌+◌, Bool, true, false, List, [], ◌∷◌, ◌++◌, length, Option, None, inl, inr, refl, sym, ap, ◌∙◌, append_assoc, length-append, subst}
+use Rattle.std.proofs.Common.{◌≡◌, ℕ, ◌+◌, Bool, true, false, ◌≤◌, List, [], ◌∷◌, ◌++◌, length, map, eqb-true, append-nil, Option, None, inl, inr, refl, sym, ap, ◌∙◌, append_assoc, length-append, subst}
 use Rattle.std.specs.Prelude.{Ok}
 use Rattle.std.proofs.KnownBytes.{Appends-trans, Appends-nil}
 use Rattle.std.specs.Io.KnownBytes.{Appends}
@@ -10,26 +10,30 @@ use Rattle.lines.specs.Reading.{Reading, nothing_read, HasGiven, GivesLine, Give
 use Rattle.lines.specs.declared.fault.RunFault.{RunFault}
 use Rattle.lines.specs.declared.fault.RunFault.TheVariants as fault
 use Rattle.lines.proofs.Inputs.{given_of, left_of, left_is, has_read, has_all, part_front, part_after, nothing_written, whole_written, waits_more, all_out, part_out, still_waits, lines_above}
-use Rattle.hall.specs.Scripts.{event_of}
-use Rattle.hall.specs.Halls.{events_of, are_events, event_text, events_text, script_text, logs_text, hall_text, Run, Runs, RunFails}
-use Rattle.hall.specs.model.Running.{DoesLine, LeavesLine, HandlesLine, DoesAll, StopsAmong, EndsBy, IsStopped}
-use Rattle.hall.proofs.Scripted.{AreGood, good_is, events_more, good_more, events_bad, is_bad, script_more, script_begins, text_above, text_bad, text_whole, reads_all}
+use Rattle.hall.specs.Scripts.{SpellsNone, HasEvents, spelling}
+use Rattle.hall.specs.Halls.{event_text, script_text, logs_text, Run, Runs, WritesPart, RunFails}
+use Rattle.hall.specs.model.Events.{events_of, are_events}
+use Rattle.hall.specs.model.Running.{lines_text, hall_text, DoesLine, LeavesLine, HandlesLine, DoesAll, StopsAmong, EndsBy, IsStopped}
+use Rattle.hall.proofs.Spelled.{spelled_found, all_spelled}
+use Rattle.hall.proofs.Scripted.{AreGood, good_is, events_more, good_more, script_more, script_begins, is_hall_text, text_whole, reads_all}
 
 -- ---- one line after the other
 
 -- the events of the lines that were given were done, and a part of what is printed for them waits
 pub record Ran (n : ℕ) (p : Reading) (world : WorldValue) (out given : List ℕ)
     (start now old new : Option (List ℕ)) : Type 0 where
+  pub small : n ≤ 255
   pub read : HasGiven p given start now
   pub good : AreGood n (lines_of given)
   pub world_is : world ≡ record { desks = n; events = events_of n (lines_of given) }
   pub front : List ℕ
-  pub written : Writes old new (script_text n (lines_of given)) front out
+  pub written : Writes old new (lines_text n (lines_of given)) front out
 
 pub begins : (n : ℕ) (world : WorldValue) (out : List ℕ) (start old : Option (List ℕ))
-    → world ≡ record { desks = n; events = [] } → out ≡ [] → HasGiven nothing_read [] start start
-    → Ran n nothing_read world out [] start start old old
-begins n world out start old is none read = record {
+    → n ≤ 255 → world ≡ record { desks = n; events = [] } → out ≡ []
+    → HasGiven nothing_read [] start start → Ran n nothing_read world out [] start start old old
+begins n world out start old small is none read = record {
+  small = small;
   read = read;
   good = refl;
   world_is = is;
@@ -46,24 +50,26 @@ pub one_more : (n : ℕ) (p q : Reading) (world world' : WorldValue)
     → Ran n q world' out'' (given ++ g.more) start now old new'
 one_more n p q world world' line given out out' out'' start before now old new new' a g d w =
     let lines : List (List ℕ) = lines_of given in
+    let spelled = spelled_found n line d.event a.small d.spelled in
     let events : events_of n (lines_of (given ++ g.more)) ≡ events_of n lines ++ d.event ∷ [] =
-    ap (events_of n) g.is ∙ events_more n lines line d.event a.good d.spelled in
-    let text : script_text n (lines_of (given ++ g.more)) ≡ a.front ++ out' =
-    ap (script_text n) g.is
-    ∙ script_more n lines line d.event a.good d.spelled
+    ap (events_of n) g.is ∙ events_more n lines line d.event a.good spelled in
+    let text : lines_text n (lines_of (given ++ g.more)) ≡ a.front ++ out' =
+    ap (lines_text n) g.is
+    ∙ script_more n lines line d.event a.good spelled
     ∙ ap (λ x. x ++ event_text n (events_of n lines) d.event) a.written.parts
     ∙ append_assoc a.front out (event_text n (events_of n lines) d.event)
     ∙ ap (λ (v : WorldValue). a.front ++ (out ++ event_text n v.events d.event)) (sym a.world_is)
     ∙ ap (λ x. a.front ++ x) (sym d.said) in
     record {
+      small = a.small;
       read = g.read;
-      good = subst (AreGood n) (sym g.is) (good_more n lines line d.event a.good d.spelled);
+      good = subst (AreGood n) (sym g.is) (good_more n lines line d.event a.good spelled);
       world_is = d.world
           ∙ ap (λ v. extended v (d.event ∷ [])) a.world_is
           ∙ ap (λ es. let v : WorldValue = record { desks = n; events = es } in v) (sym events);
       front = a.front ++ w.0;
       written =
-          waits_more old new new' (script_text n (lines_of (given ++ g.more))) a.front out' w.0
+          waits_more old new new' (lines_text n (lines_of (given ++ g.more))) a.front out' w.0
           out'' text a.written.written w.1;
     }
 
@@ -98,15 +104,15 @@ Stops n e start now old new =
 -- a part of what is printed for the lines that were given is a part of the whole
 pub part_of_whole : (n : ℕ) (p : Reading) (given : List ℕ) (start now old new : Option (List ℕ))
     → HasGiven p given start now → AreGood n (lines_of given)
-    → AppendsPart old new (script_text n (lines_of given))
+    → AppendsPart old new (lines_text n (lines_of given))
     → (input : List ℕ) × HasLeft start input × AppendsPart old new (hall_text n input)
 part_of_whole n p given start now old new h good part =
     let input = given_of p given start now h in
     let more = script_begins n (lines_of given) input.2.0 good in
-    let all : AppendsPart old new (script_text n (lines_read input.0)) =
-    subst (AppendsPart old new) (sym more.1 ∙ ap (script_text n) (sym input.2.1))
-    (part_front old new (script_text n (lines_of given)) more.0 part) in
-    (input.0, input.1, part_front old new (script_text n (lines_read input.0)) _ all)
+    let all : AppendsPart old new (lines_text n (lines_read input.0)) =
+    subst (AppendsPart old new) (sym more.1 ∙ ap (lines_text n) (sym input.2.1))
+    (part_front old new (lines_text n (lines_of given)) more.0 part) in
+    (input.0, input.1, part_front old new (lines_text n (lines_read input.0)) _ all)
 
 -- all events were done
 pub does_all : (n : ℕ) (p : Reading) (world : WorldValue) (out given : List ℕ)
@@ -127,8 +133,8 @@ does_all n p world out given start now old before new a over last =
             a.world_is
             ∙ ap (λ ls. let v : WorldValue = record { desks = n; events = events_of n ls } in v) lines;
         written =
-            subst (λ ls. Appends old new (script_text n ls)) lines
-            (all_out old before new (script_text n (lines_of given)) a.front out a.written last);
+            subst (λ ls. Appends old new (lines_text n ls)) lines
+            (all_out old before new (lines_text n (lines_of given)) a.front out a.written last);
       },
     )
 
@@ -139,7 +145,7 @@ pub unwritten : (n : ℕ) (p : Reading) (world : WorldValue) (out given : List �
     → (input : List ℕ) × HasLeft start input × AppendsPart old new (hall_text n input)
 unwritten n p world out given start now old before new a part =
     part_of_whole n p given start now old new a.read a.good
-    (part_out old before new (script_text n (lines_of given)) a.front out a.written part)
+    (part_out old before new (lines_text n (lines_of given)) a.front out a.written part)
 
 -- memory ran out, and what waits was not written
 pub forgotten : (n : ℕ) (p : Reading) (world : WorldValue) (out given : List ℕ)
@@ -148,38 +154,39 @@ pub forgotten : (n : ℕ) (p : Reading) (world : WorldValue) (out given : List �
     → (input : List ℕ) × HasLeft start input × AppendsPart old new (hall_text n input)
 forgotten n p world out given start now old new a =
     part_of_whole n p given start now old new a.read a.good
-    (still_waits old new (script_text n (lines_of given)) a.front out a.written)
+    (still_waits old new (lines_text n (lines_of given)) a.front out a.written)
 
 -- the last line that was given spells no event
 pub meets_bad : (n : ℕ) (p q : Reading) (world : WorldValue) (line given out : List ℕ)
     (start before now old between new : Option (List ℕ))
     → Ran n p world out given start before old between → (g : GivesLine q line given start now)
-    → event_of n line ≡ None → Appends between new out
+    → SpellsNone n line → Appends between new out
     → Stops n (fault.BadLine q.lines) start now old new
-meets_bad n p q world line given out start before now old between new a g bad_line last =
+meets_bad n p q world line given out start before now old between new a g none last =
     let lines : List (List ℕ) = lines_of given in
     let input = given_of q (given ++ g.more) start now g.read in
-    let read : lines_read input.0 ≡ (lines ++ line ∷ []) ++ input.2.0 =
-    input.2.1 ∙ ap (λ ls. ls ++ input.2.0) g.is in
-    let bad : are_events n (lines_read input.0) ≡ false =
-    ap (are_events n) read ∙ is_bad n lines input.2.0 line a.good bad_line in
-    let events : events_of n (lines_read input.0) ≡ events_of n lines =
-    ap (events_of n) read ∙ events_bad n lines input.2.0 line a.good bad_line in (
+    let all = all_spelled n lines a.small a.good in (
       input.0,
       input.1,
       record {
-        bad = bad;
+        events = events_of n lines;
+        bad = line;
+        others = input.2.0;
+        spelled = record {
+          parts =
+              input.2.1
+              ∙ ap (λ ls. ls ++ input.2.0) g.is
+              ∙ append_assoc lines (line ∷ []) input.2.0
+              ∙ ap (λ ls. ls ++ line ∷ input.2.0)
+              (all.parts ∙ append-nil (map spelling (events_of n lines)));
+          fit = all.fit;
+          ends = none;
+        };
         is = g.read.lines
             ∙ ap length g.is
             ∙ length-append lines (line ∷ [])
-            ∙ ap (λ k. k + 1) (sym a.good)
-            ∙ ap (λ es. length es + 1) (sym events);
-        written =
-            subst (Appends old new)
-            (sym
-            (text_bad n input.0 bad
-            ∙ ap (λ es. events_text n [] es) events))
-            (all_out old between new (script_text n lines) a.front out a.written last);
+            ∙ ap (λ k. k + 1) (sym a.good);
+        written = all_out old between new (lines_text n lines) a.front out a.written last;
       },
     )
 
@@ -194,13 +201,11 @@ stops n fault.InputTooLong p world out given start before now old between new a 
       above.1,
       record {
         above = above.2;
-        good =
-            subst (λ ls. are_events n ls ≡ true) (sym above.3)
-            (good_is n (lines_of given) a.good);
-        written =
-            subst (Appends old new)
-            (sym (text_above n above.0 above.2 ∙ ap (script_text n) above.3))
-            (all_out old between new (script_text n (lines_of given)) a.front out a.written last);
+        events = events_of n (lines_of given);
+        spelled =
+            subst (λ ls. HasEvents n ls (events_of n (lines_of given)) []) (sym above.3)
+            (all_spelled n (lines_of given) a.small a.good);
+        written = all_out old between new (lines_text n (lines_of given)) a.front out a.written last;
       },
     )
 stops n fault.Read p world out given start before now old between new a f last = (
@@ -212,17 +217,17 @@ stops n fault.Read p world out given start before now old between new a f last =
     parts = refl;
     remains = left_is now;
     within = f.1.within;
-    good =
-        subst (λ ls. are_events n ls ≡ true) (sym f.1.lines) (good_is n (lines_of given) a.good);
-    written =
-        subst (λ ls. Appends old new (script_text n ls)) (sym f.1.lines)
-        (all_out old between new (script_text n (lines_of given)) a.front out a.written last);
+    events = events_of n (lines_of given);
+    spelled =
+        subst (λ ls. HasEvents n ls (events_of n (lines_of given)) []) (sym f.1.lines)
+        (all_spelled n (lines_of given) a.small a.good);
+    written = all_out old between new (lines_text n (lines_of given)) a.front out a.written last;
   },
 )
 stops n fault.NoMemory p world out given start before now old between new a f last =
     part_of_whole n p given start before old new a.read a.good
-    (whole_written old new (script_text n (lines_of given))
-    (all_out old between new (script_text n (lines_of given)) a.front out a.written last))
+    (whole_written old new (lines_text n (lines_of given))
+    (all_out old between new (lines_text n (lines_of given)) a.front out a.written last))
 stops n fault.Write p world out given start before now old between new a f last = absurd f
 stops n fault.NoSuchRound p world out given start before now old between new a f last = absurd f
 stops n fault.BadCount p world out given start before now old between new a f last = absurd f
@@ -260,28 +265,36 @@ ended_bad n result p q k world world' line given out out' start before now old b
 
 -- ---- the run
 
+-- a front part of the text for the whole input was written
+pub writes_part : (n : ℕ) (input : List ℕ) (left old new : Option (List ℕ)) → n ≤ 255
+    → AppendsPart old new (hall_text n input) → WritesPart (run_of n input left old new)
+writes_part n input left old new small part =
+    record { text = hall_text n input; is = is_hall_text n input small; written = part }
+
 -- lines were not all done
-pub fails_among : (e : RunFault) (r : Run) → StopsAmong e r → RunFails e r
-fails_among fault.InputTooLong r s = s
-fails_among (fault.BadLine line) r s = s
-fails_among fault.Read r s = s
-fails_among fault.Write r s = s
-fails_among fault.NoMemory r s = s
-fails_among fault.NoSuchRound r s = absurd s
-fails_among fault.BadCount r s = absurd s
+pub fails_among : (e : RunFault) (n : ℕ) (input : List ℕ) (left old new : Option (List ℕ))
+    → n ≤ 255 → StopsAmong e (run_of n input left old new)
+    → RunFails e (run_of n input left old new)
+fails_among fault.InputTooLong n input left old new small s = s
+fails_among (fault.BadLine line) n input left old new small s = s
+fails_among fault.Read n input left old new small s = s
+fails_among fault.Write n input left old new small s = writes_part n input left old new small s
+fails_among fault.NoMemory n input left old new small s = writes_part n input left old new small s
+fails_among fault.NoSuchRound n input left old new small s = absurd s
+fails_among fault.BadCount n input left old new small s = absurd s
 
 -- the logs were written behind the rest
 pub runs : (n : ℕ) (world : WorldValue) (input : List ℕ) (left old mid new : Option (List ℕ))
-    → DoesAll n world input left old mid → Appends mid new (logs_text n world.events)
+    → n ≤ 255 → DoesAll n world input left old mid → Appends mid new (logs_text n world.events)
     → Runs (run_of n input left old new)
-runs n world input left old mid new d last = record {
+runs n world input left old mid new small d last = record {
   end = d.end;
   within = d.within;
-  good = d.good;
+  events = events_of n (lines_read input);
+  spelled = all_spelled n (lines_read input) small (eqb-true _ _ d.good);
   written =
       subst (Appends old new)
-      (ap (λ (v : WorldValue). script_text n (lines_read input) ++ logs_text n v.events) d.world_is
-      ∙ sym (text_whole n input d.within d.good))
+      (ap (λ (v : WorldValue). lines_text n (lines_read input) ++ logs_text n v.events) d.world_is)
       (Appends-trans old mid new _ _ d.written last);
 }
 
@@ -291,27 +304,31 @@ pub cut_off : (n : ℕ) (world : WorldValue) (input : List ℕ) (left old mid ne
     → AppendsPart old new (hall_text n input)
 cut_off n world input left old mid new d part =
     subst (AppendsPart old new)
-    (ap (λ (v : WorldValue). script_text n (lines_read input) ++ logs_text n v.events) d.world_is
+    (ap (λ (v : WorldValue). lines_text n (lines_read input) ++ logs_text n v.events) d.world_is
     ∙ sym (text_whole n input d.within d.good))
-    (part_after old mid new (script_text n (lines_read input)) (logs_text n world.events) d.written
+    (part_after old mid new (lines_text n (lines_read input)) (logs_text n world.events) d.written
     part)
 
 pub fails_behind : (e : RunFault) (n : ℕ) (world : WorldValue) (input : List ℕ)
     (left old mid new : Option (List ℕ))
-    → IsStopped e → DoesAll n world input left old mid
+    → n ≤ 255 → IsStopped e → DoesAll n world input left old mid
     → AppendsPart mid new (logs_text n world.events) → RunFails e (run_of n input left old new)
-fails_behind e n world input left old mid new (inl is) d part =
+fails_behind e n world input left old mid new small (inl is) d part =
     subst (λ x. RunFails x (run_of n input left old new)) (sym is)
-    (cut_off n world input left old mid new d part)
-fails_behind e n world input left old mid new (inr is) d part =
+    (writes_part n input left old new small (cut_off n world input left old mid new d part))
+fails_behind e n world input left old mid new small (inr is) d part =
     subst (λ x. RunFails x (run_of n input left old new)) (sym is)
-    (cut_off n world input left old mid new d part)
+    (writes_part n input left old new small (cut_off n world input left old mid new d part))
 
 -- nothing was done
-pub fails_at_once : (start old : Option (List ℕ)) (text : List ℕ → List ℕ)
-    → (input : List ℕ) × HasLeft start input × AppendsPart old old (text input)
-fails_at_once start old text =
-    (left_of start, left_is start, nothing_written old (text (left_of start)))
+pub fails_at_once : (n : ℕ) (start old : Option (List ℕ)) → n ≤ 255
+    → (input : List ℕ) × HasLeft start input × WritesPart (run_of n input start old old)
+fails_at_once n start old small = (
+  left_of start,
+  left_is start,
+  writes_part n (left_of start) start old old small
+      (nothing_written old (hall_text n (left_of start))),
+)
 
 pub is_untouched : (n : ℕ) (start old : Option (List ℕ))
     → (input : List ℕ) × HasLeft start input

@@ -1,10 +1,12 @@
 -- The events of lines, and what is printed for them, from one line to the next.
-use Rattle.std.proofs.Common.{◌≡◌, ℕ, ◌+◌, ◌<◌, suc, zero, Bool, true, false, ◌==◌, ◌&&◌, cond, List, [], ◌∷◌, ◌++◌, length, Option, None, Some, refl, sym, ap, ◌∙◌, append_assoc, append-nil, length-append, arith}
+use Rattle.std.proofs.Common.{◌≡◌, ℕ, ◌+◌, ◌<◌, ◌≤◌, suc, zero, Bool, true, false, ◌==◌, ◌&&◌, cond, List, [], ◌∷◌, ◌++◌, length, Option, None, Some, refl, sym, ap, ◌∙◌, append_assoc, append-nil, length-append, arith}
 use Rattle.std.proofs.lemmas.Bool.Decides.{nat_tests}
 use Rattle.learner.specs.declared.event.WorldEvent.{WorldEvent}
 use Rattle.lines.specs.Lines.{is_within, lines_read, lines_of}
-use Rattle.hall.specs.Scripts.{event_of}
-use Rattle.hall.specs.Halls.{before, events_of, are_events, event_text, events_text, script_text, logs_text, hall_text}
+use Rattle.hall.specs.Halls.{IsHallText, event_text, events_text, logs_text}
+use Rattle.hall.specs.model.Events.{event_of, before, events_of, are_events}
+use Rattle.hall.specs.model.Running.{lines_text, hall_text}
+use Rattle.hall.proofs.Spelled.{script_of, are_all}
 
 -- each of the lines spells an event
 abbrev pub AreGood : ℕ → List (List ℕ) → Type 0
@@ -12,9 +14,6 @@ AreGood n lines = length (events_of n lines) ≡ length lines
 
 same_is : (a b : ℕ) → a ≡ b → (a == b) ≡ true
 same_is a b h = grind (arith, nat_tests)
-
-fewer_is : (a b : ℕ) → a < b → (a == b) ≡ false
-fewer_is a b h = grind (arith, nat_tests)
 
 pub good_is : (n : ℕ) (lines : List (List ℕ)) → AreGood n lines → are_events n lines ≡ true
 good_is n lines h = same_is (length (events_of n lines)) (length lines) h
@@ -52,24 +51,6 @@ good_more n lines line e good is =
     ∙ ap (λ k. k + 1) good
     ∙ sym (length-append lines (line ∷ []))
 
--- a line that spells no event, whatever stands behind it
-pub events_bad : (n : ℕ) (lines others : List (List ℕ)) (line : List ℕ) → AreGood n lines
-    → event_of n line ≡ None → events_of n ((lines ++ line ∷ []) ++ others) ≡ events_of n lines
-events_bad n lines others line good is =
-    ap (events_of n) (append_assoc lines (line ∷ []) others)
-    ∙ events_append n lines (line ∷ others) good
-    ∙ ap (λ o. events_of n lines ++ before o (events_of n others)) is
-    ∙ append-nil (events_of n lines)
-
-pub is_bad : (n : ℕ) (lines others : List (List ℕ)) (line : List ℕ) → AreGood n lines
-    → event_of n line ≡ None → are_events n ((lines ++ line ∷ []) ++ others) ≡ false
-is_bad n lines others line good is =
-    let events = ap length (events_bad n lines others line good is) in
-    let all = length-append (lines ++ line ∷ []) others in
-    let front = length-append lines (line ∷ []) in
-    fewer_is (length (events_of n ((lines ++ line ∷ []) ++ others)))
-    (length ((lines ++ line ∷ []) ++ others)) (omega (arith, events, all, front, good))
-
 -- ---- what is printed
 
 text_append : (n : ℕ) (events es fs : List WorldEvent)
@@ -87,16 +68,16 @@ text_append n events (e ∷ es) fs =
 -- one more line
 pub script_more : (n : ℕ) (lines : List (List ℕ)) (line : List ℕ) (e : WorldEvent)
     → AreGood n lines → event_of n line ≡ Some e
-    → script_text n (lines ++ line ∷ [])
-    ≡ script_text n lines ++ event_text n (events_of n lines) e
+    → lines_text n (lines ++ line ∷ [])
+    ≡ lines_text n lines ++ event_text n (events_of n lines) e
 script_more n lines line e good is =
     ap (events_text n []) (events_more n lines line e good is)
     ∙ text_append n [] (events_of n lines) (e ∷ [])
-    ∙ ap (λ x. script_text n lines ++ x) (append-nil (event_text n (events_of n lines) e))
+    ∙ ap (λ x. lines_text n lines ++ x) (append-nil (event_text n (events_of n lines) e))
 
 -- what is printed for the first lines is the front of what is printed for all
 pub script_begins : (n : ℕ) (lines others : List (List ℕ)) → AreGood n lines
-    → (more : List ℕ) × (script_text n (lines ++ others) ≡ script_text n lines ++ more)
+    → (more : List ℕ) × (lines_text n (lines ++ others) ≡ lines_text n lines ++ more)
 script_begins n lines others good = (
   events_text n (events_of n lines) (events_of n others),
   ap (events_text n []) (events_append n lines others good)
@@ -105,36 +86,32 @@ script_begins n lines others good = (
 
 -- ---- the text for a whole input
 
+pub is_hall_text : (n : ℕ) (input : List ℕ) → n ≤ 255 → IsHallText n input (hall_text n input)
+is_hall_text n input small =
+    let all = script_of n (lines_read input) small in
+    record {
+      events = events_of n (lines_read input);
+      others = all.0;
+      spelled = all.1;
+      is =
+          ap
+          (λ b. lines_text n (lines_read input)
+          ++ cond (is_within input && b) (logs_text n (events_of n (lines_read input))) [])
+          (are_all n (lines_read input) all.0 all.1);
+    }
+
 abbrev logs_for : ℕ → List ℕ → Bool → Bool → List ℕ
 logs_for n input within good =
     cond (within && good) (logs_text n (events_of n (lines_read input))) []
 
-pub text_above : (n : ℕ) (input : List ℕ) → is_within input ≡ false
-    → hall_text n input ≡ script_text n (lines_read input)
-text_above n input h =
-    ap (λ b. script_text n (lines_read input) ++ logs_for n input b (are_events n (lines_read input))) h
-    ∙ append-nil (script_text n (lines_read input))
-
-pub text_bad : (n : ℕ) (input : List ℕ) → are_events n (lines_read input) ≡ false
-    → hall_text n input ≡ script_text n (lines_read input)
-text_bad n input h =
-    ap (λ g. script_text n (lines_read input) ++ logs_for n input (is_within input) g) h
-    ∙ step (is_within input)
-  where
-    step : (b : Bool)
-        → script_text n (lines_read input) ++ logs_for n input b false
-        ≡ script_text n (lines_read input)
-    step true = append-nil (script_text n (lines_read input))
-    step false = append-nil (script_text n (lines_read input))
-
 pub text_whole : (n : ℕ) (input : List ℕ) → is_within input ≡ true
     → are_events n (lines_read input) ≡ true
     → hall_text n input
-    ≡ script_text n (lines_read input) ++ logs_text n (events_of n (lines_read input))
+    ≡ lines_text n (lines_read input) ++ logs_text n (events_of n (lines_read input))
 text_whole n input within good =
-    ap (λ b. script_text n (lines_read input) ++ logs_for n input b (are_events n (lines_read input)))
+    ap (λ b. lines_text n (lines_read input) ++ logs_for n input b (are_events n (lines_read input)))
     within
-    ∙ ap (λ g. script_text n (lines_read input) ++ logs_for n input true g) good
+    ∙ ap (λ g. lines_text n (lines_read input) ++ logs_for n input true g) good
 
 pub reads_all : (input : List ℕ) → is_within input ≡ true → lines_read input ≡ lines_of input
 reads_all input h = rw h refl

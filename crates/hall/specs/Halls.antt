@@ -9,21 +9,8 @@ use Rattle.lines.specs.Lines.{whole_lines, is_within, lines_read}
 use Rattle.lines.specs.Bytes.{HasLeft, AppendsPart}
 use Rattle.lines.specs.declared.fault.RunFault.{RunFault}
 use Rattle.lines.specs.declared.fault.RunFault.TheVariants as fault
-use Rattle.hall.specs.Scripts.{event_of}
+use Rattle.hall.specs.Scripts.{HasEvents}
 use Rattle.hall.specs.Texts.{messages_text, refusal_text, log_text}
-
--- the events of the lines in front of the first that spells none
-abbrev pub before : Option WorldEvent → List WorldEvent → List WorldEvent
-before None events = []
-before (Some e) events = e ∷ events
-
-abbrev pub events_of : ℕ → List (List ℕ) → List WorldEvent
-events_of n [] = []
-events_of n (line ∷ lines) = before (event_of n line) (events_of n lines)
-
--- each line spells an event
-abbrev pub are_events : ℕ → List (List ℕ) → Bool
-are_events n lines = length (events_of n lines) == length lines
 
 -- what is printed for an event behind others, at n desks: the messages that it makes the desks
 -- send, or its refusal; line i has the i-th event
@@ -37,22 +24,23 @@ abbrev pub events_text : ℕ → List WorldEvent → List WorldEvent → List �
 events_text n events [] = []
 events_text n events (e ∷ es) = event_text n events e ++ events_text n (events ++ e ∷ []) es
 
--- what is printed for lines, up to the first that spells no event
-abbrev pub script_text : ℕ → List (List ℕ) → List ℕ
-script_text n lines = events_text n [] (events_of n lines)
+-- what is printed for a script's events
+abbrev pub script_text : ℕ → List WorldEvent → List ℕ
+script_text n events = events_text n [] events
 
 -- the log of each desk, in the order of their numbers
 abbrev pub logs_text : ℕ → List WorldEvent → List ℕ
 logs_text n events = flat_map (λ d. log_text d (log_of n events d)) (range_with_len 1 n)
 
--- the text for an input: what is printed for its lines, and then the logs where all of it was read
--- and run; above the limits, what is printed for the whole lines in front
-abbrev pub hall_text : ℕ → List ℕ → List ℕ
-hall_text n input =
-    script_text n (lines_read input)
-    ++
-    (if is_within input && are_events n (lines_read input)
-    then logs_text n (events_of n (lines_read input)) else [])
+-- the text for an input: what is printed for the events of its lines, up to the first line that
+-- spells none, and then the logs, where the input is within the limits and each line spells an event
+pub record IsHallText (n : ℕ) (input text : List ℕ) : Type 0 where
+  pub events : List WorldEvent
+  pub others : List (List ℕ)
+  pub spelled : HasEvents n (lines_read input) events others
+  pub is : text
+      ≡ script_text n events
+      ++ (if is_within input && length others == 0 then logs_text n events else [])
 
 -- a run of n desks: the input, what the reader has left, and what the writer had and has
 pub record Run : Type 0 where
@@ -62,33 +50,32 @@ pub record Run : Type 0 where
   pub old : Option (List ℕ)
   pub new : Option (List ℕ)
 
-abbrev pub run_text : Run → List ℕ
-run_text r = hall_text r.desks r.input
-
-abbrev pub has_events : Run → Bool
-has_events r = are_events r.desks (lines_read r.input)
-
--- all was read and is within the limits, each line spells an event, and the text with the logs is
--- written
+-- all was read and is within the limits, each line spells an event, and what is printed for these
+-- events is written, and then the logs
 pub record Runs (r : Run) : Type 0 where
   pub end : IsAtEnd r.left
   pub within : is_within r.input ≡ true
-  pub good : has_events r ≡ true
-  pub written : Appends r.old r.new (run_text r)
+  pub events : List WorldEvent
+  pub spelled : HasEvents r.desks (lines_read r.input) events []
+  pub written : Appends r.old r.new (script_text r.desks events ++ logs_text r.desks events)
 
 -- this line spells no event, each one in front of it does, and what is printed for those is
 -- written
 pub record MeetsBadLine (line : ℕ) (r : Run) : Type 0 where
-  pub bad : has_events r ≡ false
-  pub is : line ≡ length (events_of r.desks (lines_read r.input)) + 1
-  pub written : Appends r.old r.new (run_text r)
+  pub events : List WorldEvent
+  pub bad : List ℕ
+  pub others : List (List ℕ)
+  pub spelled : HasEvents r.desks (lines_read r.input) events (bad ∷ others)
+  pub is : line ≡ length events + 1
+  pub written : Appends r.old r.new (script_text r.desks events)
 
 -- a byte is above the limits, each whole line in front of it spells an event, and what is printed
 -- for those is written
 pub record IsTooLong (r : Run) : Type 0 where
   pub above : is_within r.input ≡ false
-  pub good : has_events r ≡ true
-  pub written : Appends r.old r.new (run_text r)
+  pub events : List WorldEvent
+  pub spelled : HasEvents r.desks (lines_read r.input) events []
+  pub written : Appends r.old r.new (script_text r.desks events)
 
 -- a part of the input was read and is within the limits, the rest is left, each whole line of the
 -- part spells an event, and what is printed for those is written
@@ -98,8 +85,15 @@ pub record ReadsPart (r : Run) : Type 0 where
   pub parts : r.input ≡ front ++ rest
   pub remains : HasLeft r.left rest
   pub within : is_within front ≡ true
-  pub good : are_events r.desks (whole_lines front) ≡ true
-  pub written : Appends r.old r.new (script_text r.desks (whole_lines front))
+  pub events : List WorldEvent
+  pub spelled : HasEvents r.desks (whole_lines front) events []
+  pub written : Appends r.old r.new (script_text r.desks events)
+
+-- a front part of the text for the whole input is written
+pub record WritesPart (r : Run) : Type 0 where
+  pub text : List ℕ
+  pub is : IsHallText r.desks r.input text
+  pub written : AppendsPart r.old r.new text
 
 -- nothing was read or written
 pub record IsUntouched (r : Run) : Type 0 where
@@ -112,6 +106,6 @@ RunFails fault.BadCount r = IsUntouched r
 RunFails fault.InputTooLong r = IsTooLong r
 RunFails (fault.BadLine line) r = MeetsBadLine line r
 RunFails fault.Read r = ReadsPart r
-RunFails fault.Write r = AppendsPart r.old r.new (run_text r)
-RunFails fault.NoMemory r = AppendsPart r.old r.new (run_text r)
+RunFails fault.Write r = WritesPart r
+RunFails fault.NoMemory r = WritesPart r
 RunFails fault.NoSuchRound r = ⊥

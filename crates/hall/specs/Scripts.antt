@@ -1,11 +1,9 @@
--- The lines of a script: how the events of a hall are spelled, and which event a line spells.
-use Rattle.std.specs.Prelude.{◌≤◌, ℕ, nat_le, if◌then◌else◌, List, ◌++◌, length, bytes_eq, codes, decimal, Option, None, Some}
-use Rattle.std.specs.Option.{option_map, option_and_then}
+-- The lines of a script: how the events of a hall are spelled, and which lines spell one.
+use Rattle.std.specs.Prelude.{◌≡◌, ◌≤◌, ℕ, List, ◌∷◌, [], ◌++◌, map, codes, decimal, Option, None, Some}
 use Rattle.acceptor.specs.Entries.{EntryValue, IsId, IsText}
 use Rattle.learner.specs.declared.event.WorldEvent.{WorldEvent}
 use Rattle.learner.specs.declared.event.WorldEvent.TheVariants.{Submit, Start, Tick, Deliver, Restart}
 use Rattle.learner.specs.Steps.{IsDesk}
-use Rattle.texts.specs.Fields.{cut, number_between}
 
 -- an event: its word, and its fields in decimal, parted by one space each; a text is all that
 -- stands behind the space after the id
@@ -30,43 +28,49 @@ IsFit n (Tick d) = IsDesk n d
 IsFit n (Deliver k) = (1 ≤ k) × (k ≤ most_delivered)
 IsFit n (Restart d) = IsDesk n d
 
--- The event of a line. The fields of a line stand behind a space; where nothing is left the next
--- field is missing.
+abbrev pub AreFit : ℕ → List WorldEvent → Type 0
+AreFit n [] = Unit {0}
+AreFit n (e ∷ es) = IsFit n e × AreFit n es
 
-infixl 10 ◌>>=◌
-abbrev pub ◌>>=◌ : {A B : Type 0} → Option A → (A → Option B) → Option B
-(Some x) >>= f = f x
-None >>= f = None
+-- at n desks the line is the spelling of this event
+abbrev pub Spells : ℕ → List ℕ → WorldEvent → Type 0
+Spells n line e = IsFit n e × (line ≡ spelling e)
 
--- an entry, where the text has at most 600 bytes
-abbrev pub entry_of : ℕ → List ℕ → Option EntryValue
-entry_of id text =
-    if nat_le (length text) 600 then Some (record { id = id; text = text }) else None
+-- the line is the spelling of no event
+abbrev pub SpellsNone : ℕ → List ℕ → Type 0
+SpellsNone n line = (e : WorldEvent) → Spells n line e → ⊥
 
--- a desk of n, an id and a text
-unfoldable pub submit_of : ℕ → Option (List ℕ) → Option WorldEvent
-submit_of n left = do
-  fields ← left
-  desk ← number_between 1 n (cut 32 fields).0
-  more ← (cut 32 fields).1
-  id ← number_between 1 9223372036854775807 (cut 32 more).0
-  text ← (cut 32 more).1
-  entry ← entry_of id text
-  Some (Submit desk entry)
+-- the event that was read of a line is the one that it spells, and none was where it spells none
+abbrev pub IsRead : ℕ → List ℕ → Option WorldEvent → Type 0
+IsRead n line None = SpellsNone n line
+IsRead n line (Some e) = Spells n line e
 
--- one number, and nothing behind it
-abbrev pub number_of : ℕ → (ℕ → WorldEvent) → Option (List ℕ) → Option WorldEvent
-number_of most event left = option_map event (option_and_then (number_between 1 most) left)
+-- the line is the spelling of a Submit
+abbrev pub SpellsSubmit : ℕ → List ℕ → Type 0
+SpellsSubmit n line = (d : ℕ) × (e : EntryValue) × Spells n line (Submit d e)
 
-abbrev pub by_word : ℕ → List ℕ × Option (List ℕ) → Option WorldEvent
-by_word n line =
-    if bytes_eq line.0 (codes "submit") then submit_of n line.1
-    else if bytes_eq line.0 (codes "start") then number_of n Start line.1
-    else if bytes_eq line.0 (codes "tick") then number_of n Tick line.1
-    else if bytes_eq line.0 (codes "deliver") then number_of most_delivered Deliver line.1
-    else if bytes_eq line.0 (codes "restart") then number_of n Restart line.1
-    else None
+-- behind these events the lines end, or one spells none
+abbrev pub EndsScript : ℕ → List (List ℕ) → Type 0
+EndsScript n [] = Unit {0}
+EndsScript n (line ∷ lines) = SpellsNone n line
 
--- the event that a line spells at n desks, where it spells one
-unfoldable pub event_of : ℕ → List ℕ → Option WorldEvent
-event_of n line = by_word n (cut 32 line)
+-- the lines are the spellings of these events and then these others, of which the first, where
+-- there is one, spells none
+pub record HasEvents (n : ℕ) (lines : List (List ℕ)) (events : List WorldEvent)
+    (others : List (List ℕ)) : Type 0 where
+  pub parts : lines ≡ map spelling events ++ others
+  pub fit : AreFit n events
+  pub ends : EndsScript n others
+
+-- The laws, at 255 desks at most: an event has a spelling of its own, and lines have one list of
+-- events.
+
+abbrev pub SpellsOneEvent : Type 0
+SpellsOneEvent =
+    (n : ℕ) (line : List ℕ) (d e : WorldEvent) → n ≤ 255 → Spells n line d → Spells n line e
+    → d ≡ e
+
+abbrev pub HasOneScript : Type 0
+HasOneScript =
+    (n : ℕ) (lines : List (List ℕ)) (ds es : List WorldEvent) (left rest : List (List ℕ)) → n ≤ 255
+    → HasEvents n lines ds left → HasEvents n lines es rest → (ds ≡ es) × (left ≡ rest)

@@ -1,3 +1,3 @@
 -- Models of the code: steps that proofs go through. No public contract cites them.
-pub mod Numerals
+pub mod Events
 pub mod Running

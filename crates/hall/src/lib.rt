@@ -2,10 +2,10 @@
 //! another, refuse, and come to decide.
 #![tactic(auto)]
 
-mod numbers;
 mod printing;
 mod running;
 mod scripts;
 
 pub use lines::{RunFault, lines_are_parted};
 pub use running::hall;
+pub use scripts::{event_of, one_script};

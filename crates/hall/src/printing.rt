@@ -1,14 +1,22 @@
 //! What is printed of a hall.
 
-ghost use Rattle.std.specs.Prelude.{◌≡◌, ◌++◌, ◌<◌, OnOk, codes, length};
+ghost use Rattle.std.specs.Prelude.{◌≡◌, ◌++◌, ◌<◌, OnOk, codes, decimal, length};
 ghost use Rattle.hall.specs.Texts.{number_field, ballot_field, vote_field, body_text, message_text, messages_text, fault_name, refusal_text, entry_text};
 
-use crate::numbers::push_number;
 use acceptor::NoMemory;
 use acceptor::ballot::Ballot;
 use acceptor::entry::Entry;
 use acceptor::message::{Body, Message, Report};
+use itoa::Buffer;
 use world::NodeFault;
+
+/// Adds a number in decimal.
+fn push_number(out: &mut Vec<u8>, number: u64) -> Result<(), NoMemory>
+    ensures { OnOk result (out.new.items ≡ out.old.items ++ decimal number) }
+{
+    let mut buffer = Buffer::new();
+    out.extend_from_slice(buffer.format(number).as_bytes())
+}
 
 /// Adds a space and a number.
 fn push_field(out: &mut Vec<u8>, number: u64) -> Result<(), NoMemory>

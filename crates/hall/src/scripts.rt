@@ -1,38 +1,21 @@
 //! The events of a script, each from its line.
 
-ghost use Rattle.std.specs.Prelude.{◌≡◌, ◌≤◌, ◌<◌, ◌==◌, option_map, option_and_then, IfOk, IfSome, length, position};
-ghost use Rattle.texts.specs.Fields.{cut, number_between};
-ghost use Rattle.hall.specs.Scripts.{by_word, entry_of, event_of, submit_of};
+ghost use Rattle.std.specs.Prelude.{◌≡◌, ◌≤◌, ◌<◌, Some, option_map, option_and_then, IfOk, OnErr, IfSome, length};
+ghost use Rattle.texts.specs.Fields.{number_between};
+ghost use Rattle.hall.specs.Scripts.{IsRead, SpellsSubmit, SpellsOneEvent, HasOneScript};
+ghost use Rattle.hall.specs.model.Events.{by_word, entry_of, submit_of, IsSubmit};
 
-use crate::numbers::number_between;
 use acceptor::NoMemory;
 use acceptor::entry::{Entry, EntryFault};
 use learner::event::WorldEvent;
 use std::alloc::{AllocError, Global};
+use texts::{cut, number_between};
 
 /// The most that a script delivers by number.
 const MOST_DELIVERED: u64 = 999_999_999;
 
 /// The greatest id of an entry.
 const MOST_ID: u64 = 9_223_372_036_854_775_807;
-
-fn space_in(bytes: &[u8]) -> Option<usize>
-    ensures value { result ≡ position (λ b. b == 32) bytes.now }
-    ensures within { IfSome result (λ place. place < length bytes.now) }
-{
-    bytes.iter().position(|byte| *byte == b' ')
-}
-
-/// Parts a text at its first space.
-#[tactic(auto, unfolding(texts::specs::Fields::cut))]
-fn cut(bytes: &[u8]) -> (&[u8], Option<&[u8]>)
-    ensures { (result.0.now, option_map (λ s. s.now) result.1) ≡ cut 32 bytes.now }
-{
-    match space_in(bytes) {
-        Some(place) => (&bytes[..place], Some(&bytes[place + 1..])),
-        None => (bytes, None),
-    }
-}
 
 /// One number of 1 to `most`, and nothing behind it.
 fn number_of(most: u64, left: Option<&[u8]>) -> Option<u64>
@@ -56,7 +39,8 @@ fn desk_of(desks: u8, left: Option<&[u8]>) -> Option<u8>
 /// The entry of an id and a text, which has at most 600 bytes.
 fn entry_of(alloc: Global, id: u64, text: &[u8]) -> Result<Option<Entry>, NoMemory>
     requires { (1 ≤ id) × (id ≤ 9223372036854775807) }
-    ensures { IfOk result (λ e. e ≡ entry_of id text.now) }
+    ensures value { IfOk result (λ e. e ≡ entry_of id text.now) }
+    ensures memory { OnErr result (length text.now ≤ 600) }
 {
     match Entry::new(alloc, id, text) {
         Ok(entry) => Ok(Some(entry)),
@@ -66,21 +50,22 @@ fn entry_of(alloc: Global, id: u64, text: &[u8]) -> Result<Option<Entry>, NoMemo
 }
 
 /// `submit`: a desk, an id and a text.
-#[tactic(auto, unfolding(crate::specs::Scripts::submit_of))]
+#[tactic(auto, unfolding(crate::specs::model::Events::submit_of))]
 fn submit_of(alloc: Global, desks: u8, left: Option<&[u8]>) -> Result<Option<WorldEvent>, NoMemory>
-    ensures { IfOk result (λ e. e ≡ submit_of desks (option_map (λ s. s.now) left.entry)) }
+    ensures value { IfOk result (λ e. e ≡ submit_of desks (option_map (λ s. s.now) left.entry)) }
+    ensures memory { OnErr result (IsSubmit (submit_of desks (option_map (λ s. s.now) left.entry))) }
 {
     let Some(fields) = left else {
         return Ok(None);
     };
-    let (desk, left) = cut(fields);
+    let (desk, left) = cut(fields, b' ');
     let Some(desk) = number_between(1, u64::from(desks), desk) else {
         return Ok(None);
     };
     let Some(more) = left else {
         return Ok(None);
     };
-    let (id, left) = cut(more);
+    let (id, left) = cut(more, b' ');
     let Some(id) = number_between(1, MOST_ID, id) else {
         return Ok(None);
     };
@@ -100,8 +85,10 @@ fn event_of_word(
     word: &[u8],
     left: Option<&[u8]>,
 ) -> Result<Option<WorldEvent>, NoMemory>
-    ensures { IfOk result
+    ensures value { IfOk result
         (λ e. e ≡ by_word desks (word.now, option_map (λ s. s.now) left.entry)) }
+    ensures memory { OnErr result
+        (IsSubmit (by_word desks (word.now, option_map (λ s. s.now) left.entry))) }
 {
     if word == b"submit".as_slice() {
         submit_of(alloc, desks, left)
@@ -118,11 +105,25 @@ fn event_of_word(
     }
 }
 
-/// The event that a line spells in a hall of so many desks, where it spells one.
-#[tactic(auto, unfolding(crate::specs::Scripts::event_of))]
+/// The event that a line spells in a hall of so many desks: `submit D ID TEXT`, `start D`,
+/// `tick D`, `deliver K` or `restart D`, where D is the number of a desk, ID is 1 to 2^63 - 1, TEXT
+/// has at most 600 bytes, and K is 1 to 999,999,999. Fields are parted by one space, and numbers
+/// are decimal without leading zeros. `None` where the line is the spelling of no event.
+///
+/// # Errors
+///
+/// `NoMemory` where memory runs out for the text of a Submit.
 pub fn event_of(alloc: Global, desks: u8, line: &[u8]) -> Result<Option<WorldEvent>, NoMemory>
-    ensures { IfOk result (λ e. e ≡ event_of desks line.now) }
+    ensures spelled { IfOk result (IsRead desks line.now) }
+    ensures memory { OnErr result (SpellsSubmit desks line.now) }
 {
-    let (word, left) = cut(line);
+    let (word, left) = cut(line, b' ');
     event_of_word(alloc, desks, word, left)
 }
+
+/// The laws of a script's lines: a line spells at most one event, and lines have one list of
+/// events, in front of the first line that spells none.
+pub fn one_script()
+    ensures event { SpellsOneEvent }
+    ensures script { HasOneScript }
+{}

@@ -1,5 +1,5 @@
 -- A model of the code: what one line comes to, and all lines, before there are logs.
-use Rattle.std.specs.Prelude.{◌≡◌, ◌⊎◌, ℕ, Bool, true, false, List, ◌∷◌, [], ◌++◌, Option, None, Some}
+use Rattle.std.specs.Prelude.{◌≡◌, ◌⊎◌, ℕ, Bool, true, false, ◌&&◌, if◌then◌else◌, List, ◌∷◌, [], ◌++◌, Option, None, Some}
 use Rattle.std.specs.Io.KnownBytes.{Appends, IsAtEnd}
 use Rattle.learner.specs.declared.event.WorldEvent.{WorldEvent}
 use Rattle.world.specs.WorldValues.{WorldValue, extended}
@@ -7,21 +7,22 @@ use Rattle.lines.specs.Lines.{is_within, lines_read}
 use Rattle.lines.specs.Bytes.{AppendsPart}
 use Rattle.lines.specs.declared.fault.RunFault.{RunFault}
 use Rattle.lines.specs.declared.fault.RunFault.TheVariants as fault
-use Rattle.hall.specs.Scripts.{event_of}
-use Rattle.hall.specs.Halls.{Run, RunFails, are_events, events_of, event_text, script_text}
+use Rattle.hall.specs.Scripts.{Spells, SpellsNone}
+use Rattle.hall.specs.Halls.{Run, RunFails, event_text, script_text, logs_text}
+use Rattle.hall.specs.model.Events.{are_events, events_of}
 
 -- the line spells this event, which was done, and what is printed for it stands behind the rest
 pub record DoesLine (n : ℕ) (line : List ℕ) (old new : WorldValue) (before after : List ℕ) : Type 0
   where
     pub event : WorldEvent
-    pub spelled : event_of n line ≡ Some event
+    pub spelled : Spells n line event
     pub world : new ≡ extended old (event ∷ [])
     pub said : after ≡ before ++ event_text n old.events event
 
 -- the line spells no event, and nothing was done
 pub record LeavesLine (n : ℕ) (line : List ℕ) (old new : WorldValue) (before after : List ℕ)
     : Type 0 where
-  pub bad : event_of n line ≡ None
+  pub bad : SpellsNone n line
   pub world : new ≡ old
   pub said : after ≡ before
 
@@ -30,6 +31,18 @@ abbrev pub HandlesLine : Bool → (n : ℕ) (line : List ℕ) (old new : WorldVa
 HandlesLine true n line old new before after = DoesLine n line old new before after
 HandlesLine false n line old new before after = LeavesLine n line old new before after
 
+-- what is printed for the events of lines
+abbrev pub lines_text : ℕ → List (List ℕ) → List ℕ
+lines_text n lines = script_text n (events_of n lines)
+
+-- the text for an input
+abbrev pub hall_text : ℕ → List ℕ → List ℕ
+hall_text n input =
+    lines_text n (lines_read input)
+    ++
+    (if is_within input && are_events n (lines_read input)
+    then logs_text n (events_of n (lines_read input)) else [])
+
 -- all lines were read and their events were done, and what is printed for them is written
 pub record DoesAll (n : ℕ) (world : WorldValue) (input : List ℕ) (left old new : Option (List ℕ))
     : Type 0 where
@@ -37,15 +50,15 @@ pub record DoesAll (n : ℕ) (world : WorldValue) (input : List ℕ) (left old n
   pub within : is_within input ≡ true
   pub good : are_events n (lines_read input) ≡ true
   pub world_is : world ≡ record { desks = n; events = events_of n (lines_read input) }
-  pub written : Appends old new (script_text n (lines_read input))
+  pub written : Appends old new (lines_text n (lines_read input))
 
 -- why not all lines were done
 abbrev pub StopsAmong : RunFault → Run → Type 0
 StopsAmong fault.InputTooLong r = RunFails fault.InputTooLong r
 StopsAmong (fault.BadLine line) r = RunFails (fault.BadLine line) r
 StopsAmong fault.Read r = RunFails fault.Read r
-StopsAmong fault.Write r = RunFails fault.Write r
-StopsAmong fault.NoMemory r = RunFails fault.NoMemory r
+StopsAmong fault.Write r = AppendsPart r.old r.new (hall_text r.desks r.input)
+StopsAmong fault.NoMemory r = AppendsPart r.old r.new (hall_text r.desks r.input)
 StopsAmong fault.NoSuchRound r = ⊥
 StopsAmong fault.BadCount r = ⊥
 
