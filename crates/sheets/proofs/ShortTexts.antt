@@ -61,7 +61,7 @@ digits_unquoted (b ∷ bytes) h =
 pub plain_decimal : (k n : ℕ) → 0 < k → n < 10 ^ k → n < 10000000 → IsPlain k (decimal n)
 plain_decimal k n some fits small = record {
   short = length-decimal-le k n some fits (omega arith);
-  unquoted = digits_unquoted (decimal n) (decimal_digits n small);
+  unquoted = digits_unquoted (decimal n) (decimal_digits n (omega arith));
 }
 
 plain_two : (n : ℕ) → IsPlain 2 (two_digits n)
