@@ -1,0 +1,234 @@
+-- A text that reads as a command has no line feed.
+use Rattle.std.proofs.Common.{◌≡◌, ℕ, ◌<◌, Bool, true, false, ◌||◌, ◌==◌, not, List, [], ◌∷◌, ◌++◌, map, codes, decimal, Option, Some, None, Ok, refl, sym, ap, ◌∙◌, arith, eqb-true}
+use Rattle.std.specs.Char.{is_ascii_digit}
+use Rattle.std.specs.List.{list_all, list_any, join_with_byte}
+use Rattle.std.proofs.lemmas.Bool.{false≢true}
+use Rattle.std.proofs.lemmas.Bool.Decides.{nat_tests}
+use Rattle.std.proofs.lemmas.List.Folds.{list_all-append}
+use Rattle.cube.specs.declared.moves.Side.{Side}
+use Rattle.cube.specs.declared.moves.Side.TheVariants.{U, R, F, D, L, B}
+use Rattle.cube.specs.declared.moves.Axis.{Axis}
+use Rattle.cube.specs.declared.moves.Axis.TheVariants.{X, Y, Z}
+use Rattle.cube.specs.declared.moves.Kind.{Kind}
+use Rattle.cube.specs.declared.moves.Kind.TheVariants.{Face, Block, Turn}
+use Rattle.cube.specs.declared.moves.Quarter.{Quarter}
+use Rattle.cube.specs.declared.moves.Quarter.TheVariants.{Clockwise, Half, Anticlockwise}
+use Rattle.cube.specs.declared.moves.Move.{Move}
+use Rattle.notation.specs.Tokens.{side_letter, axis_letter, stem, mark, token}
+use Rattle.notation.specs.Notation.{spelling as moves_text}
+use Rattle.formats.specs.declared.events.Event.{Event}
+use Rattle.formats.specs.declared.events.Event.TheVariants.{Cube3, Cube2, Cube4, Cube5, Cube6, Cube7, Blind3, FewestMoves, OneHanded, Clock, Megaminx, Pyraminx, Skewb, Square1, Blind4, Blind5}
+use Rattle.formats.specs.declared.events.Format.{Format}
+use Rattle.formats.specs.declared.events.Format.TheVariants.{Ao5, Mo3, Bo1, Bo2, Bo3}
+use Rattle.formats.specs.Events.{event_name, format_name}
+use Rattle.formats.specs.declared.advance.Advance.{Advance}
+use Rattle.formats.specs.declared.advance.Advance.TheVariants.{Final, Top, Percent}
+use Rattle.texts.specs.declared.command.Command.{Command}
+use Rattle.texts.specs.declared.command.Command.TheVariants.{Register, Open, Enter, Scramble, Attempt, Correct, Strike, SetAdvance, Close}
+use Rattle.texts.specs.declared.command.Entered.{Entered}
+use Rattle.texts.specs.declared.command.Entered.TheVariants.{Time, Solution, Dnf, Dns}
+use Rattle.texts.specs.Spelling.{is_name_byte, is_name, IsFit, IsFitCutoff, IsFitLimit, IsFitAdvance, IsEntered, cutoff_text, limit_text, advance_text, entered_text, words_of, spelling}
+use Rattle.texts.specs.Reading.{SpellsWhatIsRead, command_of}
+use Rattle.texts.proofs.Cuts.{lacks, and-true}
+use Rattle.texts.proofs.FieldSpellings.{decimal_digits}
+use Rattle.lines.specs.Lines.{is_line}
+
+-- ---- bytes
+
+-- a test that a line feed fails: no byte of a text that passes it is a line feed
+lack : (p : ℕ → Bool) → p 10 ≡ false → (bytes : List ℕ) → list_all p bytes ≡ true
+    → lacks 10 bytes ≡ true
+lack p feed [] h = refl
+lack p feed (b ∷ bytes) h =
+    let both = and-true (p b) (list_all p bytes) h in
+    let first : not (b == 10) ≡ true = step (b == 10) refl both.0 in
+    rw (first, lack p feed bytes both.1) refl
+  where
+    step : (t : Bool) → (b == 10) ≡ t → p b ≡ true → not t ≡ true
+    step false is passes = refl
+    step true is passes =
+        absurd (false≢true (sym feed ∙ ap p (sym (eqb-true b 10 is)) ∙ passes))
+
+both-lack : (xs ys : List ℕ) → lacks 10 xs ≡ true → lacks 10 ys ≡ true
+    → lacks 10 (xs ++ ys) ≡ true
+both-lack xs ys front back =
+    list_all-append (λ b. not (b == 10)) xs ys ∙ rw (front, back) refl
+
+number-lacks : (n : ℕ) → n < 10000000 → lacks 10 (decimal n) ≡ true
+number-lacks n small = lack is_ascii_digit refl (decimal n) (decimal_digits n small)
+
+name-lacks : (name : List ℕ) → is_name name ≡ true → lacks 10 name ≡ true
+name-lacks name fits =
+    let bytes : list_all is_name_byte name ≡ true = grind (arith, nat_tests) in
+    lack is_name_byte refl name bytes
+
+-- ---- words
+
+side-lacks : (s : Side) → lacks 10 (side_letter s) ≡ true
+side-lacks U = refl
+side-lacks R = refl
+side-lacks F = refl
+side-lacks D = refl
+side-lacks L = refl
+side-lacks B = refl
+
+axis-lacks : (a : Axis) → lacks 10 (axis_letter a) ≡ true
+axis-lacks X = refl
+axis-lacks Y = refl
+axis-lacks Z = refl
+
+stem-lacks : (k : Kind) → lacks 10 (stem k) ≡ true
+stem-lacks (Face s) = side-lacks s
+stem-lacks (Block s) = both-lack (side_letter s) (codes "w") (side-lacks s) refl
+stem-lacks (Turn a) = axis-lacks a
+
+mark-lacks : (q : Quarter) → lacks 10 (mark q) ≡ true
+mark-lacks Clockwise = refl
+mark-lacks Half = refl
+mark-lacks Anticlockwise = refl
+
+token-lacks : (m : Move) → lacks 10 (token m) ≡ true
+token-lacks m =
+    both-lack (stem m.kind) (mark m.quarter) (stem-lacks m.kind) (mark-lacks m.quarter)
+
+-- words with a space between
+joined-lack : (words : List (List ℕ)) → list_all (lacks 10) words ≡ true
+    → lacks 10 (join_with_byte 32 words) ≡ true
+joined-lack [] h = refl
+joined-lack (w ∷ []) h = (and-true (lacks 10 w) true h).0
+joined-lack (w ∷ x ∷ words) h =
+    let both = and-true (lacks 10 w) (list_all (lacks 10) (x ∷ words)) h in
+    both-lack w (32 ∷ join_with_byte 32 (x ∷ words)) both.0 (joined-lack (x ∷ words) both.1)
+
+tokens-lack : (moves : List Move) → list_all (lacks 10) (map token moves) ≡ true
+tokens-lack [] = refl
+tokens-lack (m ∷ moves) = rw (token-lacks m, tokens-lack moves) refl
+
+moves-lack : (moves : List Move) → lacks 10 (moves_text moves) ≡ true
+moves-lack moves = joined-lack (map token moves) (tokens-lack moves)
+
+event-lacks : (e : Event) → lacks 10 (event_name e) ≡ true
+event-lacks Cube3 = refl
+event-lacks Cube2 = refl
+event-lacks Cube4 = refl
+event-lacks Cube5 = refl
+event-lacks Cube6 = refl
+event-lacks Cube7 = refl
+event-lacks Blind3 = refl
+event-lacks FewestMoves = refl
+event-lacks OneHanded = refl
+event-lacks Clock = refl
+event-lacks Megaminx = refl
+event-lacks Pyraminx = refl
+event-lacks Skewb = refl
+event-lacks Square1 = refl
+event-lacks Blind4 = refl
+event-lacks Blind5 = refl
+
+format-lacks : (f : Format) → lacks 10 (format_name f) ≡ true
+format-lacks Ao5 = refl
+format-lacks Mo3 = refl
+format-lacks Bo1 = refl
+format-lacks Bo2 = refl
+format-lacks Bo3 = refl
+
+pair-lacks : (a b : ℕ) → a < 10000000 → b < 10000000
+    → lacks 10 (decimal a ++ codes ":" ++ decimal b) ≡ true
+pair-lacks a b few less =
+    both-lack (decimal a ++ codes ":") (decimal b)
+    (both-lack (decimal a) (codes ":") (number-lacks a few) refl) (number-lacks b less)
+
+cutoff-lacks : (c : Option (ℕ × ℕ)) → IsFitCutoff c → lacks 10 (cutoff_text c) ≡ true
+cutoff-lacks None fits = refl
+cutoff-lacks (Some c) fits =
+    pair-lacks c.0 c.1 (omega arith) (omega arith)
+
+limit-lacks : (l : Option ℕ) → IsFitLimit l → lacks 10 (limit_text l) ≡ true
+limit-lacks None fits = refl
+limit-lacks (Some l) fits = number-lacks l (omega arith)
+
+advance-lacks : (a : Advance) → IsFitAdvance a → lacks 10 (advance_text a) ≡ true
+advance-lacks Final fits = refl
+advance-lacks (Top n) fits =
+    both-lack (codes "top:") (decimal n) refl (number-lacks n (omega arith))
+advance-lacks (Percent n) fits =
+    both-lack (codes "pct:") (decimal n) refl (number-lacks n (omega arith))
+
+entered-lacks : (x : Entered) → IsEntered x → lacks 10 (entered_text x) ≡ true
+entered-lacks (Time t p) fits =
+    both-lack ((codes "T:" ++ decimal t) ++ codes ":") (decimal p)
+    (both-lack (codes "T:" ++ decimal t) (codes ":")
+    (both-lack (codes "T:") (decimal t) refl (number-lacks t (omega arith))) refl)
+    (number-lacks p (omega arith))
+entered-lacks (Solution moves) fits =
+    both-lack (codes "S:") (moves_text moves) refl (moves-lack moves)
+entered-lacks Dnf fits = refl
+entered-lacks Dns fits = refl
+
+-- ---- commands
+
+words-lack : (c : Command) → IsFit c → list_all (lacks 10) (words_of c) ≡ true
+words-lack (Register n name) fits =
+    rw (number-lacks n (omega arith), name-lacks name fits.1) refl
+words-lack (Open e r s) fits =
+    rw (
+      event-lacks e,
+      number-lacks r (omega arith),
+      format-lacks s.format,
+      cutoff-lacks s.cutoff fits.1.0,
+      limit-lacks s.limit fits.1.1,
+      advance-lacks s.advance fits.1.2,
+    )
+    refl
+words-lack (Enter e n) fits = rw (event-lacks e, number-lacks n (omega arith)) refl
+words-lack (Scramble e r k moves) fits =
+    rw (
+      event-lacks e,
+      number-lacks r (omega arith),
+      number-lacks k (omega arith),
+      moves-lack moves,
+    )
+    refl
+words-lack (Attempt e r k n x) fits =
+    rw (
+      event-lacks e,
+      number-lacks r (omega arith),
+      number-lacks k (omega arith),
+      number-lacks n (omega arith),
+      entered-lacks x fits.3,
+    )
+    refl
+words-lack (Correct e r k n x) fits =
+    rw (
+      event-lacks e,
+      number-lacks r (omega arith),
+      number-lacks k (omega arith),
+      number-lacks n (omega arith),
+      entered-lacks x fits.3,
+    )
+    refl
+words-lack (Strike e r n) fits =
+    rw (event-lacks e, number-lacks r (omega arith), number-lacks n (omega arith)) refl
+words-lack (SetAdvance e r a) fits =
+    rw (event-lacks e, number-lacks r (omega arith), advance-lacks a fits.1) refl
+words-lack (Close e r) fits = rw (event-lacks e, number-lacks r (omega arith)) refl
+
+-- ---- lines
+
+line-lacks : (bytes : List ℕ) → lacks 10 bytes ≡ true → is_line bytes ≡ true
+line-lacks [] h = refl
+line-lacks (b ∷ bytes) h =
+    let both = and-true (not (b == 10)) (lacks 10 bytes) h in
+    step (b == 10) both.0 (line-lacks bytes both.1)
+  where
+    step : (t : Bool) → not t ≡ true → is_line bytes ≡ true
+        → not (t || list_any (λ x. x == 10) bytes) ≡ true
+    step false feed rest = rest
+    step true feed rest = absurd (false≢true feed)
+
+pub command_is_line : SpellsWhatIsRead → (text : List ℕ) (c : Command) → command_of text ≡ Ok c
+    → is_line text ≡ true
+command_is_line spells text c h =
+    let spelled = spells text c h in
+    ap is_line spelled.1
+    ∙ line-lacks (spelling c) (joined-lack (words_of c) (words-lack c spelled.0))

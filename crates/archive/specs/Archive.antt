@@ -1,0 +1,29 @@
+-- The archive of a log: the lines that `replay` reads in the log's place.
+use Rattle.std.specs.Prelude.{ℕ, ◌==◌, Bool, not, ◌&&◌, if◌then◌else◌, List, [], ◌∷◌, ◌++◌, flat_map}
+use Rattle.std.specs.List.{list_any}
+use Rattle.acceptor.specs.declared.entry.Entry.{Entry}
+use Rattle.lines.specs.Lines.{is_line}
+
+-- one of the entries has the id
+abbrev pub has_id : List Entry → ℕ → Bool
+has_id es id = list_any (λ e. e.id == id) es
+
+-- the line of an entry behind these others: its text, where its id is new and the text has no line
+-- feed; else it is empty
+abbrev pub line_of : List Entry → Entry → List ℕ
+line_of before e = if not (has_id before e.id) && is_line e.text then e.text else []
+
+-- a line for each entry, behind these others
+abbrev pub lines_behind : List Entry → List Entry → List (List ℕ)
+lines_behind before [] = []
+lines_behind before (e ∷ es) = line_of before e ∷ lines_behind (before ++ e ∷ []) es
+
+abbrev pub archive : List Entry → List (List ℕ)
+archive log = lines_behind [] log
+
+-- the lines as bytes, a line feed behind each
+abbrev pub bytes_of : List (List ℕ) → List ℕ
+bytes_of lines = flat_map (λ line. line ++ 10 ∷ []) lines
+
+abbrev pub archive_text : List Entry → List ℕ
+archive_text log = bytes_of (archive log)

@@ -1,0 +1,8 @@
+//! The archive of a log: the lines that `replay` reads in the log's place.
+#![tactic(auto)]
+
+pub mod laws;
+mod writing;
+
+pub use lines::RunFault;
+pub use writing::write_log;

@@ -1,0 +1,107 @@
+//! A log, written as the lines that a replay reads.
+
+ghost use Rattle.std.specs.Prelude.{◌≡◌, ◌⊎◌, ◌&&◌, ◌∷◌, [], ◌++◌, not, Some, OnOk, OnErr, IfErr, slice_get, take};
+ghost use Rattle.std.specs.Io.KnownBytes.{Appends};
+ghost use Rattle.acceptor.specs.Entries.{IsText};
+ghost use Rattle.lines.specs.Bytes.{AppendsPart};
+ghost use Rattle.lines.specs.Lines.{is_line};
+ghost use Rattle.lines.specs.declared.fault.RunFault.TheVariants as run_fault;
+ghost use Rattle.learner.specs.Logs.{position_of};
+ghost use Rattle.archive.specs.Archive.{has_id, line_of, archive_text};
+ghost use Rattle.archive.specs.Replayed.{IsReplayed};
+ghost use Rattle.archive.specs.model.Firsts.{is_at};
+
+use crate::laws::archives_are_replayed;
+use acceptor::NoMemory;
+use acceptor::entry::Entry;
+use learner::log::Log;
+use lines::{RunFault, write_long, write_out};
+use std::alloc::Global;
+use std::io::Write;
+
+/// Whether no byte of a text is a line feed.
+fn is_line(text: &[u8]) -> bool
+    ensures { result ≡ is_line text.now }
+{
+    !text.contains(&b'\n')
+}
+
+/// Whether an id stands at a position, and nowhere in front of it.
+fn is_first(log: &Log, pos: u32, id: u64) -> bool
+    ensures { result ≡ is_at pos (position_of log.now.entries id) }
+{
+    match log.position_of(id) {
+        Some(first) => first == pos,
+        None => false,
+    }
+}
+
+/// Whether the line of the entry at a position is its text.
+fn has_line(log: &Log, pos: u32, entry: &Entry) -> bool
+    ensures { slice_get log.now.entries pos ≡ Some entry.now
+        → result
+        ≡ (not (has_id (take pos log.now.entries) entry.now.id) && is_line entry.now.text) }
+{
+    is_first(log, pos, entry.id()) && is_line(entry.text())
+}
+
+/// The line of the entry at a position.
+fn line_of<'a>(log: &Log, pos: u32, entry: &'a Entry) -> &'a [u8]
+    ensures { slice_get log.now.entries pos ≡ Some entry.now
+        → result.now ≡ line_of (take pos log.now.entries) entry.now }
+{
+    if has_line(log, pos, entry) {
+        return entry.text();
+    }
+    &[]
+}
+
+/// Adds the line of the entry at a position, and a line feed.
+fn push_line(out: &mut Vec<u8>, log: &Log, pos: u32, entry: &Entry) -> Result<(), NoMemory>
+    ensures line { OnOk result (slice_get log.now.entries pos ≡ Some entry.now
+        → out.new.items ≡ out.old.items ++ (line_of (take pos log.now.entries) entry.now
+        ++ 10 ∷ [])) }
+    ensures short { IsText entry.now.text }
+{
+    let _ = entry.text();
+    out.extend_from_slice(line_of(log, pos, entry))?;
+    out.extend_from_slice(b"\n")
+}
+
+/// Writes a line for each position of a log: the text of the entry there, where its id stands there
+/// for the first time and the text has no line feed, else an empty one. A line feed ends each.
+///
+/// So `replay` of what was written gives each sheet of the log at its length. A plain copy of the
+/// texts would not: a repeated entry is refused in the log, and would be done again in a replay,
+/// whose ids are the numbers of the lines.
+///
+/// # Errors
+///
+/// `Write` where a write fails, and `NoMemory` where memory runs out: a front part of the lines is
+/// written.
+pub fn write_log<W: Write>(alloc: Global, log: &Log, writer: &mut W) -> Result<(), RunFault>
+    ensures ok { OnOk result (Appends (W.contents writer.old) (W.contents writer.new)
+        (archive_text log.now.entries)) }
+    ensures replayed { OnOk result (IsReplayed log.now.entries) }
+    ensures err { OnErr result (AppendsPart (W.contents writer.old) (W.contents writer.new)
+        (archive_text log.now.entries)) }
+    ensures fault { IfErr result (λ e. (e ≡ run_fault.Write) ⊎ (e ≡ run_fault.NoMemory)) }
+{
+    archives_are_replayed();
+    let mut out = Vec::new(alloc);
+    for pos in 0..log.len() {
+        let Some(entry) = log.entry(pos) else {
+            continue;
+        };
+        let Ok(()) = push_line(&mut out, log, pos, entry) else {
+            return Err(RunFault::NoMemory);
+        };
+        let Ok(()) = write_long(writer, &mut out) else {
+            return Err(RunFault::Write);
+        };
+    }
+    match write_out(writer, &mut out) {
+        Ok(()) => Ok(()),
+        Err(_) => Err(RunFault::Write),
+    }
+}
