@@ -10,8 +10,8 @@ decided, a desk refuses, or more events are taken than the law of `crates/progre
 rounds end early in some worlds; there the law's premise is looked at first, and what happens
 without it is counted.
 
-With `--histories H` it prints the first H cases as histories for `desk hall` in place of the counts:
-headings, each a line `# DESKS TITLE`, with a script behind each. Standard library only.
+With `--histories H` it prints the first H cases as histories for `desk hall` in place of the
+counts: headings, each a line `# DESKS TITLE`, with a script behind each. Standard library only.
 """
 
 import argparse
@@ -58,7 +58,8 @@ def random_world(rng, count):
         at = rng.randrange(1, count + 1)
         if what < 0.2:
             ids += 1
-            world.try_to("submit", at, (ids if rng.random() < 0.9 else 1, b"t%d" % rng.randrange(3)))
+            entry_id = ids if rng.random() < 0.9 else 1
+            world.try_to("submit", at, (entry_id, b"t%d" % rng.randrange(3)))
         elif what < 0.4:
             world.try_to(rng.choice(["start", "tick", "tick"]), at)
         elif what < 0.45:
@@ -240,7 +241,7 @@ def cases(rng, worlds):
     for _ in range(worlds):
         count = rng.choice([3, 5])
         short = rng.random() < 0.2
-        hall_rules.MOST_ROUND = rng.randrange(8, 30) if short else 2**32 - 1
+        hall_rules.MOST_ROUND = rng.randrange(3, 16) if short else 2**32 - 1
         hall_rules.MOST_ENTRIES = rng.randrange(3, 9) if short else 65_536
         world = random_world(rng, count)
         for desk in range(1, count + 1):
