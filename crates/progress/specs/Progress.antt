@@ -58,8 +58,8 @@ pub record CanDecide (n d : ℕ) (desks : List ℕ) (w : World) (es rest : List 
   pub decided : StandFrom (length (w.desks d).log) es ((run n w events).desks d).log
   pub queue : ((run n w events).desks d).queue ≡ rest
 
--- each log of these desks has room for twice as many entries more, and no round that they have
--- promised, or that desk d has tried or seen, is among the last
+-- each log of these desks has room for twice as many entries, and above the rounds that they have
+-- promised, and that desk d has tried or seen, twice as many are left
 pub record HasRoom (d : ℕ) (desks : List ℕ) (w : World) (count : ℕ) : Type 0 where
   pub logs : (k : ℕ) → Has desks k → length (w.desks k).log + 2 * count ≤ 65536
   pub promised : (k : ℕ)
