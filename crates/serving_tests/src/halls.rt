@@ -169,11 +169,11 @@ fn close<K: Keeper + Drop>(places: &mut Vec<Place<K>>, index: usize) -> Result<L
 fn listen(
     rt: &HostRuntime,
     listeners: &mut Vec<Listener>,
-    addresses: &mut Vec<SocketAddr>,
+    addresses: &mut Vec<Option<SocketAddr>>,
 ) -> Result<(), Fail> {
     for _ in 0..3 {
         let listener = Listener::bind(rt, "127.0.0.1:0", None)?;
-        addresses.push(listener.address()?)?;
+        addresses.push(Some(listener.address()?))?;
         listeners.push(listener)?;
     }
     Ok(())
@@ -195,14 +195,14 @@ fn have_all<K: Keeper + Drop>(rt: &impl Abort, places: &[Place<K>]) {
 fn decide(
     rt: &HostRuntime,
     places: &mut Vec<Place<SqlKeeper<FileStore<File>>>>,
-    addresses: &[SocketAddr],
+    addresses: &[Option<SocketAddr>],
 ) -> Result<(), Fail> {
     let alloc = rt.alloc();
     let mut hall = Counting {
         peers: SocketPeers::new(rt, addresses),
         waiting: [0, 1, 0, 0],
     };
-    let Some(first) = addresses.first() else {
+    let Some(Some(first)) = addresses.first() else {
         return Err(Fail::from("no address"));
     };
     let _client = send(rt, first, &burst(alloc)?)?;

@@ -3,6 +3,8 @@
 #![tactic(auto)]
 
 #[cfg(test)]
+mod absent;
+#[cfg(test)]
 mod connections;
 #[cfg(test)]
 mod halls;

@@ -1,6 +1,7 @@
 //! The other desks of a hall over TCP.
 
-ghost use Rattle.std.specs.Prelude.{◌≡◌, ◌⊎◌, ◌<◌, ◌-◌, IfSome};
+ghost use Rattle.std.specs.Prelude.{◌≡◌, ◌≢◌, ◌⊎◌, ◌<◌, ◌-◌, IfErr, IfSome, OnOk};
+ghost use Rattle.std.specs.IoError.{error_kind};
 
 use serving::Peers;
 use std::io;
@@ -34,16 +35,16 @@ pub struct SocketPeers<'a, R> {
 }
 
 impl<'a, R: Net> SocketPeers<'a, R> {
-    /// The desks at these addresses: desk 1 at the first one, and so on. Those behind the fifth are
-    /// left out.
-    pub fn new(net: &'a R, addresses: &[SocketAddr]) -> SocketPeers<'a, R> {
+    /// The desks at these addresses: desk 1 at the first one, and so on. Frames to a desk without
+    /// an address are lost. Addresses behind the fifth are left out.
+    pub fn new(net: &'a R, addresses: &[Option<SocketAddr>]) -> SocketPeers<'a, R> {
         let nowhere = Receiver {
             address: None,
             skips: 0,
         };
         let mut receivers = [nowhere; 6];
         for (receiver, address) in receivers.iter_mut().skip(1).zip(addresses) {
-            receiver.address = Some(*address);
+            receiver.address = *address;
         }
         SocketPeers { net, receivers }
     }
@@ -76,9 +77,23 @@ fn push_to<R: Net>(net: &R, receiver: &mut Receiver, frame: &[u8])
         receiver.skips -= 1;
         return;
     }
-    if let Err(error) = send(net, &address, frame) {
-        if error.kind() == ErrorKind::TimedOut {
-            receiver.skips = MOST_SKIPPED;
+    receiver.skips = skips_behind(send(net, &address, frame));
+}
+
+/// How many pushes are dropped behind one that ended so: some where nobody answered in time.
+fn skips_behind(sent: io::Result<()>) -> u8
+    ensures done { OnOk sent (result ≡ 0) }
+    ensures late { IfErr sent (λ e. error_kind e ≡ ErrorKind.TimedOut → result ≡ 16) }
+    ensures lost { IfErr sent (λ e. error_kind e ≢ ErrorKind.TimedOut → result ≡ 0) }
+    ensures either { (result ≡ 0) ⊎ (result ≡ 16) }
+{
+    match sent {
+        Ok(()) => 0,
+        Err(error) => {
+            if error.kind() == ErrorKind::TimedOut {
+                return MOST_SKIPPED;
+            }
+            0
         }
     }
 }
