@@ -1,0 +1,96 @@
+-- What a desk that serves prints, and when it may.
+use Rattle.std.specs.Prelude.{◌≡◌, ◌⊎◌, ◌≤◌, ℕ, List, ◌++◌, codes, decimal, length, Option}
+use Rattle.std.specs.Io.KnownBytes.{Keeps, Appends}
+use Rattle.lines.specs.Bytes.{AppendsPart}
+use Rattle.store.specs.Ranges.{IsHome, home_at}
+use Rattle.store.specs.declared.home.Home.{Home}
+use Rattle.serve.specs.declared.fault.ServeFault.{ServeFault}
+use Rattle.serve.specs.declared.fault.ServeFault.TheVariants as fault
+use Rattle.serve.specs.declared.service.Service.{Service}
+
+-- which desk it is, of how many, and how long its log is
+abbrev pub first_line : Home → ℕ → List ℕ
+first_line home len =
+    codes "desk " ++ decimal home.desk ++ codes " of " ++ decimal home.desks ++ codes " len "
+    ++ decimal len ++ codes "\n"
+
+-- how many connections it has served
+abbrev pub last_line : ℕ → List ℕ
+last_line count = codes "served " ++ decimal count ++ codes "\n"
+
+abbrev pub both_lines : Home → ℕ → ℕ → List ℕ
+both_lines home len count = first_line home len ++ last_line count
+
+-- the desk, of a hall of as many desks as there are addresses
+abbrev pub home_of : Service → Home
+home_of s = home_at s.hall s.desk (length s.addresses.now)
+
+abbrev pub IsCount : Service → Type 0
+IsCount s = (length s.addresses.now ≡ 3) ⊎ (length s.addresses.now ≡ 5)
+
+-- three addresses or five, and one of these desks
+abbrev pub IsAllowed : Service → Type 0
+IsAllowed s = IsHome (home_of s)
+
+-- the two refusals by name, in this order
+abbrev pub IsRefused : ServeFault → Service → Type 0
+IsRefused fault.BadCount s = ¬ IsCount s
+IsRefused fault.BadDesk s = IsCount s × (¬ IsAllowed s)
+IsRefused _ s = ⊥
+
+-- those of the file
+abbrev pub IsOfStore : ServeFault → Type 0
+IsOfStore fault.WrongDesk = Unit {0}
+IsOfStore fault.Damaged = Unit {0}
+IsOfStore fault.Device = Unit {0}
+IsOfStore fault.NoMemory = Unit {0}
+IsOfStore _ = ⊥
+
+-- those of the address
+abbrev pub IsOfListener : ServeFault → Type 0
+IsOfListener f = (f ≡ fault.CannotListen) ⊎ (f ≡ fault.NoMemory)
+
+-- those of a line
+abbrev pub IsOfLine : ServeFault → Type 0
+IsOfLine f = (f ≡ fault.Write) ⊎ (f ≡ fault.NoMemory)
+
+-- what the writer had and has
+pub record Output : Type 0 where
+  pub old : Option (List ℕ)
+  pub new : Option (List ℕ)
+
+abbrev pub output : Option (List ℕ) → Option (List ℕ) → Output
+output old new = record { old = old; new = new }
+
+-- the desk served, and printed both lines
+pub record Prints (s : Service) (o : Output) : Type 0 where
+  pub allowed : IsAllowed s
+  pub len : ℕ
+  pub count : ℕ
+  pub few : count ≤ s.connections
+  pub written : Appends o.old o.new (both_lines (home_of s) len count)
+
+-- at most a part of both lines was printed
+pub record PrintsPart (s : Service) (o : Output) : Type 0 where
+  pub allowed : IsAllowed s
+  pub len : ℕ
+  pub count : ℕ
+  pub few : count ≤ s.connections
+  pub written : AppendsPart o.old o.new (both_lines (home_of s) len count)
+
+-- the cause of each fault that stands in front of serving: the named ones in this order; the others
+-- are the file's and the socket's, of which no more is known
+abbrev pub Hinders : ServeFault → Service → Type 0
+Hinders fault.BadCount s = ¬ IsCount s
+Hinders fault.BadDesk s = IsCount s × (¬ IsAllowed s)
+Hinders fault.Down s = ⊥
+Hinders fault.Write s = ⊥
+Hinders _ s = IsAllowed s
+
+-- what is printed at each fault: nothing where the desk did not serve
+abbrev pub PrintsAt : ServeFault → Service → Output → Type 0
+PrintsAt fault.Down s o = Prints s o
+PrintsAt fault.CannotListen s o = (IsAllowed s × Keeps o.old o.new) ⊎ Prints s o
+PrintsAt fault.Write s o = PrintsPart s o
+PrintsAt fault.NoMemory s o = (IsAllowed s × Keeps o.old o.new) ⊎ PrintsPart s o
+PrintsAt f s o = Hinders f s × Keeps o.old o.new

@@ -1,0 +1,70 @@
+-- What a desk does that serves: the clients that it serves, and the file that it stands on.
+use Rattle.std.specs.Prelude.{◌≡◌, ◌⊎◌, ℕ, List, None, Result, Ok, Err}
+use Rattle.std.specs.Io.KnownBytes.{Appends}
+use Rattle.lines.specs.Bytes.{AppendsPart}
+use Rattle.node.specs.Handles.{Handles}
+use Rattle.node.specs.Nodes.{NodeValue, KeeperWords}
+use Rattle.serving.specs.Making.{Way}
+use Rattle.serving.specs.declared.ends.Served.{Served}
+use Rattle.sockets.specs.Visits.{Standing, IsServedAll, standing_of}
+use Rattle.sockets.specs.declared.serving_all.AllEnd.{AllEnd}
+use Rattle.sockets.specs.declared.serving_all.AllEnd.TheVariants as all
+use Rattle.sockets.specs.declared.serving_all.ServedAll.{ServedAll}
+use Rattle.store.specs.declared.home.Home.{Home}
+use Rattle.serve.specs.Printing.{Output, first_line, both_lines}
+use Rattle.serve.specs.declared.fault.ServeFault.{ServeFault}
+use Rattle.serve.specs.declared.fault.ServeFault.TheVariants as fault
+
+-- a desk that is to serve: whose it is, at most how many clients, how long its log is, and the
+-- writer
+pub record Turn : Type 0 where
+  pub home : Home
+  pub most : ℕ
+  pub len : ℕ
+  pub out : Output
+
+abbrev pub turn : Home → ℕ → ℕ → Output → Turn
+turn home most len o = record { home = home; most = most; len = len; out = o }
+
+-- these clients were served, one after the other, to this end
+abbrev pub HasServed : {V : Type 0} → {way : Way V} → ServedAll → Turn → Standing way → Standing way
+    → Type 0
+HasServed served t a b = (each : List Served) × IsServedAll served t.home t.most a b each
+
+-- clients were served to this end, and both lines were written
+abbrev pub ServesTo : {V : Type 0} → {way : Way V} → AllEnd → Turn → Standing way → Standing way
+    → Type 0
+ServesTo end t a b =
+    (count : ℕ) × HasServed (record { connections = count; end = end }) t a b
+    × Appends t.out.old t.out.new (both_lines t.home t.len count)
+
+-- the first line was cut off, and nobody was served; or the last one was
+abbrev pub IsCutOff : {V : Type 0} → {way : Way V} → Turn → Standing way → Standing way → Type 0
+IsCutOff t a b =
+    ((a ≡ b) × AppendsPart t.out.old t.out.new (first_line t.home t.len))
+    ⊎ ((served : ServedAll) × HasServed served t a b
+    × AppendsPart t.out.old t.out.new (both_lines t.home t.len served.connections))
+
+-- as many clients were served as were asked for, or one asked the desk to stop
+abbrev pub Serves : {V : Type 0} → {way : Way V} → Turn → Standing way → Standing way → Type 0
+Serves t a b = ServesTo all.All t a b ⊎ ServesTo all.Stopped t a b
+
+-- what the end of serving says
+abbrev pub ends_by : AllEnd → Result (Unit {0}) ServeFault
+ends_by all.All = Ok tt
+ends_by all.Stopped = Ok tt
+ends_by all.Down = Err fault.Down
+ends_by all.CannotListen = Err fault.CannotListen
+
+-- how serving ends by a fault
+abbrev pub FailsServing : {V : Type 0} → {way : Way V} → ServeFault → Turn → Standing way
+    → Standing way → Type 0
+FailsServing fault.Down t a b = ServesTo all.Down t a b
+FailsServing fault.CannotListen t a b = ServesTo all.CannotListen t a b
+FailsServing fault.Write t a b = IsCutOff t a b
+FailsServing fault.NoMemory t a b = IsCutOff t a b
+FailsServing _ t a b = ⊥
+
+-- a node between two connections, where nothing is told of what the other desks were handed
+abbrev pub standing : {K : Type 0} → (k : KeeperWords K) → NodeValue K → Standing (Handles k)
+standing k node = standing_of (Handles k) node None

@@ -1,0 +1,52 @@
+//! Why a desk does not serve, or ends early.
+
+ghost use Rattle.std.specs.Prelude.{◌≡◌};
+ghost use Rattle.serve.specs.Printing.{IsOfStore};
+
+use store::faults::{LoadFault, OpenFault};
+
+/// Why a desk does not serve, or ends early.
+#[derive(Clone, Copy, Debug, PartialEq, Eq)]
+pub enum ServeFault {
+    /// A hall has three desks or five.
+    BadCount,
+    /// A desk's number is 1 to the number of desks.
+    BadDesk,
+    /// The file is the store of another desk or hall, or of a hall of another number of desks.
+    WrongDesk,
+    /// What the file holds is no desk's store, whole and in its ranges.
+    Damaged,
+    /// The file could not be opened or read, or another program has it open.
+    Device,
+    /// The address could not be had, or a client could not be accepted.
+    CannotListen,
+    /// The store refused a save while the desk served.
+    Down,
+    /// A line could not be written.
+    Write,
+    /// Memory ran out.
+    NoMemory,
+}
+
+/// The fault of a store that was not opened.
+pub fn fault_of_open(fault: OpenFault) -> ServeFault
+    ensures { IsOfStore result }
+{
+    match fault {
+        OpenFault::WrongDesk => ServeFault::WrongDesk,
+        OpenFault::Damaged => ServeFault::Damaged,
+        OpenFault::Device => ServeFault::Device,
+        OpenFault::NoMemory => ServeFault::NoMemory,
+    }
+}
+
+/// The fault of a store that was not loaded.
+pub fn fault_of_load(fault: LoadFault) -> ServeFault
+    ensures { IsOfStore result }
+{
+    match fault {
+        LoadFault::Damaged => ServeFault::Damaged,
+        LoadFault::Device => ServeFault::Device,
+        LoadFault::NoMemory => ServeFault::NoMemory,
+    }
+}

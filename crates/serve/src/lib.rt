@@ -1,0 +1,13 @@
+//! A desk that serves: its file is opened, and the clients that come to its address are served one
+//! after the other.
+#![tactic(auto)]
+
+mod fault;
+mod opening;
+mod running;
+mod service;
+mod telling;
+
+pub use fault::ServeFault;
+pub use running::{serve, serve_node};
+pub use service::Service;
