@@ -1,5 +1,5 @@
 -- What was found in the words.
-use Rattle.std.proofs.Common.{◌≡◌, ◌∙◌, ap, ap₂, sym, subst, ℕ, List, Option, None, Some, Bor, IfSome, option_map, unwrap_or}
+use Rattle.std.proofs.Common.{◌≡◌, ◌∙◌, ap, ap₂, sym, subst, ℕ, List, Option, None, Some, Bor, IfSome, option_map, unwrap_or, decimal}
 use Rattle.std.specs.Prelude.{Box}
 use Rattle.std.specs.Box.{box_value}
 use Rattle.clap.specs.Words.{Row, Text, first_of, first_value, found_of, rows_of, subcommand_rows}
@@ -33,6 +33,11 @@ pub text_found : (f : Found) (id : Text) (r : Option (Bor Text))
 text_found f id None h = tt
 text_found f id (Some t) h = sym (first_value-rows f id) ∙ sym h
 
+pub none_found : (f : Found) (id : Text) (r : Option (Bor Text))
+    → option_map (λ s. s.now) r ≡ first_value f id → r ≡ None → first_of id (rows_of f) ≡ None
+none_found f id None h is = sym (first_value-rows f id) ∙ sym h
+none_found f id (Some t) h is = cc
+
 pub finds_named : (found : Option (Text × List Row)) (name : Text) (rows : List Row)
     (t : Option Task)
     → found ≡ Some (name, rows) → IfSome t (λ t. IsTask t name rows)
@@ -53,7 +58,12 @@ request_renamed name other rows r is h =
 
 pub renumbered : (id : Text) (rows : List Row) (m n : ℕ) → m ≡ n → IsNumberAt id rows n
     → IsNumberAt id rows m
-renumbered id rows m n is h = (h.0, h.1, is ∙ h.2)
+renumbered id rows m n is h = h ∙ ap (λ k. Some (decimal k)) (sym is)
+
+pub renumbered_if : (id : Text) (rows : List Row) (m : Option ℕ) (n : ℕ) → IfSome m (λ m. m ≡ n)
+    → IsNumberAt id rows n → IfSome m (λ m. IsNumberAt id rows m)
+renumbered_if id rows None n is h = tt
+renumbered_if id rows (Some m) n is h = renumbered id rows m n is h
 
 request_ids : (r : Request) (name : Text) (rows : List Row) → IsRequest r name rows → HasId r
 request_ids (request.Enter id text) name rows h = h.1
@@ -66,4 +76,5 @@ request_ids request.Stop name rows h = tt
 pub found_ids : (found : Option (Text × List Row)) (t : Task) → Finds found t → HasIds t
 found_ids found (task.Replay event round style) h = tt
 found_ids found (task.Hall desks) h = tt
+found_ids found (task.Serve service) h = tt
 found_ids found (task.Carry errand) h = request_ids errand.request h.0 h.1 h.3.request

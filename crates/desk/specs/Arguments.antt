@@ -1,8 +1,7 @@
 -- The arguments that subcommands take, as the parser of words has them, and what a number is.
-use Rattle.std.specs.Prelude.{◌≡◌, true, false, ℕ, List, codes, Option, Some}
-use Rattle.std.specs.Str.Parse.{digits_value, without_leading_plus}
+use Rattle.std.specs.Prelude.{◌≡◌, true, false, ℕ, List, codes, decimal, Option, Some}
 use Rattle.clap.specs.Words.{App, Row, Rule, Text, app_of, first_of, new_app, new_rule, with_rule}
-use Rattle.clap.specs.declared.builder.ArgAction.TheVariants.{Set, SetTrue}
+use Rattle.clap.specs.declared.builder.ArgAction.TheVariants.{Append, Set, SetTrue}
 use Rattle.clap.specs.declared.builder.command.Command.{Command}
 use Rattle.clap.specs.declared.builder.command.Command.TheViews.{out-Command as fields_of}
 use Rattle.clap.specs.declared.builder.value_parser.ValueParser.{ValueParser}
@@ -15,6 +14,10 @@ value_rule id parser =
 
 abbrev pub option_rule : Text → Option ValueParser → Rule
 option_rule id parser = record (value_rule id parser) { long = Some id }
+
+-- values that may be more than one
+abbrev pub values_rule : Text → Option ValueParser → Rule
+values_rule id parser = record (value_rule id parser) { action = Some Append }
 
 abbrev pub csv_rule : Rule
 csv_rule = record (new_rule (codes "csv")) { long = Some (codes "csv"); action = Some SetTrue }
@@ -38,8 +41,6 @@ errand_words name =
 abbrev pub IsCommand : Command → App → Type 0
 IsCommand c app = (app_of c ≡ app) × ((fields_of c).has_globals ≡ false)
 
--- the first value of the argument writes this number in decimal
+-- the first value of the argument is this number in decimal, without a sign or leading zeros
 abbrev pub IsNumberAt : Text → List Row → ℕ → Type 0
-IsNumberAt id rows n =
-    (text : Text) × (first_of id rows ≡ Some text)
-    × (n ≡ digits_value 10 (without_leading_plus text))
+IsNumberAt id rows n = first_of id rows ≡ Some (decimal n)

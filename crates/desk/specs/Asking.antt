@@ -1,7 +1,7 @@
 -- What the words of the program ask for, as its parser reads words: `clap` says which word is whose
 -- value.
-use Rattle.std.specs.Prelude.{◌≡◌, true, false, ℕ, List, codes, decimal, Option, Some, option_and_then}
-use Rattle.clap.specs.Words.{App, Row, Text, first_of, new_app, one_of, subcommand_of, with_rule, with_subcommand}
+use Rattle.std.specs.Prelude.{◌≡◌, true, false, ℕ, List, codes, decimal, map, Option, None, Some, option_and_then}
+use Rattle.clap.specs.Words.{App, Row, Text, all_of, first_of, new_app, one_of, subcommand_of, with_rule, with_subcommand}
 use Rattle.clap.specs.declared.builder.value_parser.ValueParser.{ValueParser}
 use Rattle.formats.specs.declared.events.Event.{Event}
 use Rattle.formats.specs.Events.{event_named}
@@ -10,7 +10,8 @@ use Rattle.sheets.specs.declared.Style.TheVariants as printed
 use Rattle.wire.specs.declared.values.SheetStyle.{SheetStyle}
 use Rattle.wire.specs.declared.values.SheetStyle.TheVariants as asked
 use Rattle.wire.specs.Ranges.{IsId}
-use Rattle.desk.specs.Arguments.{IsNumberAt, any_text, csv_rule, errand_words, numbers, value_rule}
+use Rattle.desk.specs.Arguments.{IsNumberAt, any_text, csv_rule, errand_words, numbers, option_rule, value_rule, values_rule}
+use Rattle.serve.specs.declared.service.Service.{Service}
 use Rattle.desk.specs.Errands.{HasId}
 use Rattle.desk.specs.declared.task.Errand.{Errand}
 use Rattle.desk.specs.declared.task.Request.{Request}
@@ -30,6 +31,16 @@ replay_words events rounds =
 
 abbrev pub hall_words : App
 hall_words = with_rule (new_app (codes "hall")) (value_rule (codes "desks") (numbers 0 255))
+
+abbrev pub serve_words : App
+serve_words =
+    with_rule (with_rule (with_rule (with_rule (with_rule (with_rule (new_app (codes "serve"))
+    (option_rule (codes "hall") (numbers 0 4294967295)))
+    (option_rule (codes "desk") (numbers 0 255)))
+    (option_rule (codes "store") any_text))
+    (option_rule (codes "connections") (numbers 1 1000000)))
+    (record (option_rule (codes "patience") (numbers 1 86400)) { required = false }))
+    (values_rule (codes "addr") any_text)
 
 abbrev pub enter_words : App
 enter_words =
@@ -69,9 +80,10 @@ pub record Parsers : Type 0 where
 abbrev pub desk_words : Parsers → App
 desk_words p =
     with_subcommand (with_subcommand (with_subcommand (with_subcommand (with_subcommand
-    (with_subcommand (with_subcommand named_app
+    (with_subcommand (with_subcommand (with_subcommand named_app
     (replay_words p.events p.rounds).top)
     hall_words.top)
+    serve_words.top)
     enter_words.top)
     ask_words.top)
     (sheet_words p.sheet_events p.sheet_rounds).top)
@@ -114,18 +126,34 @@ pub record IsErrand (e : Errand) (name : Text) (rows : List Row) : Type 0 where
   pub address : first_of (codes "to") rows ≡ Some e.to.now
   pub request : IsRequest e.request name rows
 
+-- how long a read waits, where the words say it
+abbrev pub IsPatience : Option ℕ → List Row → Type 0
+IsPatience (Some n) rows = IsNumberAt (codes "patience") rows n
+IsPatience None rows = first_of (codes "patience") rows ≡ None
+
+-- a desk of this hall, its file, how many connections it serves, and where the desks listen
+pub record IsService (s : Service) (rows : List Row) : Type 0 where
+  pub hall : IsNumberAt (codes "hall") rows s.hall
+  pub desk : IsNumberAt (codes "desk") rows s.desk
+  pub store : first_of (codes "store") rows ≡ Some s.store.now
+  pub connections : IsNumberAt (codes "connections") rows s.connections
+  pub patience : IsPatience s.patience rows
+  pub addresses : all_of (codes "addr") rows ≡ Some (map (λ a. a.now) s.addresses.now)
+
 abbrev pub IsTask : Task → Text → List Row → Type 0
 IsTask (task.Replay event round style) name rows =
     (name ≡ codes "replay") × IsRound rows event round × IsPrinted rows style
 IsTask (task.Hall desks) name rows =
     (name ≡ codes "hall") × IsNumberAt (codes "desks") rows desks
 IsTask (task.Carry errand) name rows = IsErrand errand name rows
+IsTask (task.Serve service) name rows = (name ≡ codes "serve") × IsService service rows
 
 -- the ids of a task are in their range
 abbrev pub HasIds : Task → Type 0
 HasIds (task.Replay event round style) = Unit {0}
 HasIds (task.Hall desks) = Unit {0}
 HasIds (task.Carry errand) = HasId errand.request
+HasIds (task.Serve service) = Unit {0}
 
 abbrev pub Finds : Option (Text × List Row) → Task → Type 0
 Finds found t = (name : Text) × (rows : List Row) × (found ≡ Some (name, rows)) × IsTask t name rows

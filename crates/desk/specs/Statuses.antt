@@ -8,6 +8,10 @@ use Rattle.lines.specs.declared.fault.RunFault.{RunFault}
 use Rattle.lines.specs.declared.fault.RunFault.TheVariants as run
 use Rattle.replay.specs.Replay.{Run, Replays, ReplayFails}
 use Rattle.hall.specs.Halls.{Run as HallRun, Runs, RunFails}
+use Rattle.serve.specs.Printing.{Prints, PrintsAt, output}
+use Rattle.serve.specs.declared.fault.ServeFault.{ServeFault}
+use Rattle.serve.specs.declared.fault.ServeFault.TheVariants as serve
+use Rattle.serve.specs.declared.service.Service.{Service}
 use Rattle.desk.specs.Asking.{Asks}
 use Rattle.desk.specs.Errands.{DoesErrand, FailsErrand}
 use Rattle.desk.specs.declared.faults.DeskFault.{DeskFault}
@@ -28,6 +32,11 @@ status_of fault.Read = 4
 status_of fault.Write = 4
 status_of fault.CannotConnect = 4
 status_of fault.NoAnswer = 4
+status_of fault.WrongDesk = 3
+status_of fault.DamagedStore = 3
+status_of fault.StoreDevice = 4
+status_of fault.StoreDown = 4
+status_of fault.CannotListen = 4
 status_of fault.NoMemory = 5
 
 -- the fault of a run over lines, as the program names it
@@ -47,6 +56,18 @@ fault_of_client client.NoAnswer = fault.NoAnswer
 fault_of_client client.Write = fault.Write
 fault_of_client client.NoMemory = fault.NoMemory
 
+-- the fault of a desk that serves
+abbrev pub fault_of_serve : ServeFault → DeskFault
+fault_of_serve serve.BadCount = fault.BadCount
+fault_of_serve serve.BadDesk = fault.BadDesk
+fault_of_serve serve.WrongDesk = fault.WrongDesk
+fault_of_serve serve.Damaged = fault.DamagedStore
+fault_of_serve serve.Device = fault.StoreDevice
+fault_of_serve serve.CannotListen = fault.CannotListen
+fault_of_serve serve.Down = fault.StoreDown
+fault_of_serve serve.Write = fault.Write
+fault_of_serve serve.NoMemory = fault.NoMemory
+
 -- a round was replayed to its end, or to a fault
 abbrev pub EndsReplay : ℕ → Run → Type 0
 EndsReplay status r =
@@ -64,6 +85,12 @@ abbrev pub EndsErrand : ℕ → Errand → Option (List ℕ) → Option (List �
 EndsErrand status e old new =
     ((status ≡ 0) × DoesErrand e old new)
     ⊎ ((f : DeskFault) × (status ≡ status_of f) × FailsErrand f e old new)
+
+-- a desk served and printed both lines, or it didn't, or it ended by a fault
+abbrev pub EndsServe : ℕ → Service → Option (List ℕ) → Option (List ℕ) → Type 0
+EndsServe status s old new =
+    ((status ≡ 0) × Prints s (output old new))
+    ⊎ ((e : ServeFault) × (status ≡ status_of (fault_of_serve e)) × PrintsAt e s (output old new))
 
 -- nothing was run: the words were refused or asked for help, whose text was written; or writing it
 -- failed, or memory ran out
@@ -92,6 +119,7 @@ Ends (task.Hall desks) status had left old new =
     × EndsHall status
     (record { desks = desks; input = input; left = left; old = old; new = new })
 Ends (task.Carry errand) status had left old new = Keeps had left × EndsErrand status errand old new
+Ends (task.Serve service) status had left old new = Keeps had left × EndsServe status service old new
 
 -- what a status says: of the words, of the bytes that the reader had and has left, and of those
 -- that were written

@@ -8,6 +8,7 @@ ghost use Rattle.wire.specs.Ranges.{IsId};
 
 use clap::builder::ValueParser;
 use clap::{Arg, ArgAction, ArgMatches, Command};
+use itoa::Buffer;
 use std::alloc::{AllocError, Global};
 
 /// A command with its help and nothing to take.
@@ -113,7 +114,8 @@ pub fn errand_command<'a>(
     with_argument(command, to)
 }
 
-/// The first value of an argument as a number. The parser lets no other through.
+/// The first value of an argument as a number. Where that has a sign or leading zeros, which the
+/// parser lets through, there is none.
 pub fn number_at(found: &ArgMatches<'_>, id: &str) -> Option<u64>
     ensures { IfSome result (λ n. IsNumberAt id.now (rows_of (found_of found.now)) n) }
 {
@@ -121,6 +123,10 @@ pub fn number_at(found: &ArgMatches<'_>, id: &str) -> Option<u64>
     let Ok(number) = text.parse::<u64>() else {
         return None;
     };
+    let mut buffer = Buffer::new();
+    if buffer.format(number) != text {
+        return None;
+    }
     Some(number)
 }
 

@@ -7,10 +7,17 @@ use clap::Error;
 use clap::error::ErrorKind as ParseErrorKind;
 use client::{ClientFault, refusal_name};
 use lines::{RunFault, write_text};
+use serve::ServeFault;
 use std::alloc::Global;
 use std::fmt;
 use std::io::Write;
 use wire::ClientRefusal;
+
+const BAD_NUMBER: &[u8] = b"\
+error: a number is written without a sign and without leading zeros
+
+For more information, try '--help'.
+";
 
 /// Why the program did not do what the words ask for. Its text is one line for people.
 #[derive(Clone, Copy, Debug, PartialEq, Eq)]
@@ -37,6 +44,16 @@ pub enum DeskFault {
     CannotConnect,
     /// The connection ended, a read failed, or what came is not the answer.
     NoAnswer,
+    /// The file is the store of another desk or hall.
+    WrongDesk,
+    /// What the file holds is no desk's store.
+    DamagedStore,
+    /// The file can't be opened or read, or another program has it open.
+    StoreDevice,
+    /// The store refused a save.
+    StoreDown,
+    /// The address can't be had, or a client can't be accepted.
+    CannotListen,
     /// Memory ran out.
     NoMemory,
 }
@@ -76,6 +93,27 @@ impl From<ClientFault> for DeskFault {
     }
 }
 
+impl From<ServeFault> for DeskFault {
+    ghost use Rattle.std.specs.Prelude.{◌≡◌};
+    ghost use Rattle.desk.specs.Statuses.{fault_of_serve};
+
+    ghost from_gives = { λ serving fault. fault ≡ fault_of_serve serving };
+
+    fn from(fault: ServeFault) -> DeskFault {
+        match fault {
+            ServeFault::BadCount => DeskFault::BadCount,
+            ServeFault::BadDesk => DeskFault::BadDesk,
+            ServeFault::WrongDesk => DeskFault::WrongDesk,
+            ServeFault::Damaged => DeskFault::DamagedStore,
+            ServeFault::Device => DeskFault::StoreDevice,
+            ServeFault::CannotListen => DeskFault::CannotListen,
+            ServeFault::Down => DeskFault::StoreDown,
+            ServeFault::Write => DeskFault::Write,
+            ServeFault::NoMemory => DeskFault::NoMemory,
+        }
+    }
+}
+
 impl fmt::Display for DeskFault {
     fn fmt<W: fmt::Write>(&self, f: &mut fmt::Formatter<W>) -> fmt::Result {
         match self {
@@ -90,6 +128,11 @@ impl fmt::Display for DeskFault {
             DeskFault::Write => f.write_str("cannot write"),
             DeskFault::CannotConnect => f.write_str("cannot connect"),
             DeskFault::NoAnswer => f.write_str("no answer"),
+            DeskFault::WrongDesk => f.write_str("wrong desk"),
+            DeskFault::DamagedStore => f.write_str("damaged store"),
+            DeskFault::StoreDevice => f.write_str("store device"),
+            DeskFault::StoreDown => f.write_str("store down"),
+            DeskFault::CannotListen => f.write_str("cannot listen"),
             DeskFault::NoMemory => f.write_str("no memory"),
         }
     }
@@ -106,8 +149,16 @@ fn status_of(fault: DeskFault) -> u8
         | DeskFault::BadCount
         | DeskFault::BadDesk
         | DeskFault::TextTooLong
-        | DeskFault::Refused { refusal: _ } => 3,
-        DeskFault::Read | DeskFault::Write | DeskFault::CannotConnect | DeskFault::NoAnswer => 4,
+        | DeskFault::Refused { refusal: _ }
+        | DeskFault::WrongDesk
+        | DeskFault::DamagedStore => 3,
+        DeskFault::Read
+        | DeskFault::Write
+        | DeskFault::CannotConnect
+        | DeskFault::NoAnswer
+        | DeskFault::StoreDevice
+        | DeskFault::StoreDown
+        | DeskFault::CannotListen => 4,
         DeskFault::NoMemory => 5,
     }
 }
@@ -119,6 +170,14 @@ pub fn tell<F: Write>(faults: &mut F, fault: DeskFault) -> u8
 {
     let _ = writeln!(faults, "{fault}");
     status_of(fault)
+}
+
+/// Refuses words of which a number has a sign or leading zeros, and gives the status.
+pub fn tell_bad_number<F: Write>(faults: &mut F) -> u8
+    ensures { result ≡ 2 }
+{
+    let _ = write_text(faults, BAD_NUMBER);
+    2
 }
 
 /// Writes help and the version to the writer, and what is wrong with the words to the fault stream.

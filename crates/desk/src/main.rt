@@ -8,6 +8,7 @@ mod errands;
 mod faults;
 mod hall_words;
 mod replay_words;
+mod serve_words;
 mod sheet_words;
 mod stop_words;
 mod task;

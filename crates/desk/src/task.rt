@@ -9,9 +9,11 @@ use crate::ask_words::asked_id;
 use crate::enter_words::entered;
 use crate::hall_words::hall_of;
 use crate::replay_words::replay_of;
+use crate::serve_words::serve_of;
 use crate::sheet_words::sheet_of;
 use clap::ArgMatches;
 use formats::Event;
+use serve::Service;
 use sheets::Style;
 use wire::SheetStyle;
 
@@ -65,6 +67,10 @@ pub enum Task<'a> {
     /// To ask a desk.
     Carry {
         errand: Errand<'a>,
+    },
+    /// To run a desk.
+    Serve {
+        service: Service<'a>,
     },
 }
 
@@ -121,12 +127,13 @@ fn errand_of<'a>(name: &str, found: &ArgMatches<'a>) -> Option<Errand<'a>>
 }
 
 /// The task of a subcommand's words.
-fn task_named<'a>(name: &str, found: &ArgMatches<'a>) -> Option<Task<'a>>
+fn task_named<'a>(name: &str, found: &'a ArgMatches<'a>) -> Option<Task<'a>>
     ensures { IfSome result (λ task. IsTask task name.now (rows_of (found_of found.now))) }
 {
     match name {
         "replay" => replay_of(found),
         "hall" => hall_of(found),
+        "serve" => serve_of(found),
         _ => match errand_of(name, found) {
             Some(errand) => Some(Task::Carry { errand }),
             None => None,
@@ -135,7 +142,7 @@ fn task_named<'a>(name: &str, found: &ArgMatches<'a>) -> Option<Task<'a>>
 }
 
 /// What parsed words ask for. The parser gives every value, so there always is a task.
-pub fn task_of<'a>(matches: &ArgMatches<'a>) -> Option<Task<'a>>
+pub fn task_of<'a>(matches: &'a ArgMatches<'a>) -> Option<Task<'a>>
     ensures { IfSome result (λ task. Finds (subcommand_rows_of matches.now) task) }
 {
     let (name, found) = matches.subcommand()?;

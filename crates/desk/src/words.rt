@@ -12,9 +12,10 @@ ghost use Rattle.desk.specs.Statuses.{Ends, Ran, fault_of_run, status_of};
 use crate::ask_words::ask_command;
 use crate::enter_words::enter_command;
 use crate::errands::carry;
-use crate::faults::{DeskFault, tell, tell_words};
+use crate::faults::{DeskFault, tell, tell_bad_number, tell_words};
 use crate::hall_words::hall_command;
 use crate::replay_words::replay_command;
+use crate::serve_words::serve_command;
 use crate::sheet_words::sheet_command;
 use crate::stop_words::stop_command;
 use crate::task::{Task, task_of};
@@ -23,6 +24,8 @@ use clap::{ArgMatches, Command, Error};
 use hall::hall;
 use lines::{RunFault, write_text};
 use replay::replay;
+use serve::serve;
+use sqlite::Unknown;
 use std::alloc::{AllocError, Global};
 use std::io;
 use std::io::{ErrorKind, Read, Write};
@@ -65,6 +68,7 @@ fn command<'a>(alloc: Global) -> Result<Command<'a>, AllocError>
     let command = own_command(alloc);
     let command = with(command, replay_command(alloc)?)?;
     let command = with(command, hall_command(alloc)?)?;
+    let command = with(command, serve_command(alloc)?)?;
     let command = with(command, enter_command(alloc)?)?;
     let command = with(command, ask_command(alloc)?)?;
     let command = with(command, sheet_command(alloc)?)?;
@@ -124,6 +128,10 @@ fn run_task<R: Read, W: Write, F: Write>(
             Ok(()) => 0,
             Err(fault) => tell(faults, fault),
         },
+        Task::Serve { service } => match serve(rt, service, Unknown, writer) {
+            Ok(()) => 0,
+            Err(fault) => tell(faults, DeskFault::from(fault)),
+        },
     }
 }
 
@@ -152,7 +160,7 @@ pub fn run_words<'a, R: Read, W: Write, F: Write>(
         Err(error) => return tell_words(alloc, &error, writer, faults),
     };
     let Some(task) = task_of(&matches) else {
-        return 2;
+        return tell_bad_number(faults);
     };
     run_task(rt, task, reader, writer, faults)
 }

@@ -12,3 +12,8 @@ pub returns-in-replay : goal.returns-in-replay
 returns-in-replay c =
     task_renamed c.args.name.now (codes "replay") (rows_of (found_of c.args.found.now))
     c.replay_of.result c.in-replay.is c.replay_of.ensures
+
+pub returns-in-serve : goal.returns-in-serve
+returns-in-serve c =
+    task_renamed c.args.name.now (codes "serve") (rows_of (found_of c.args.found.now))
+    c.serve_of.result c.in-serve.is c.serve_of.ensures
