@@ -19,6 +19,9 @@ option_rule id parser = record (value_rule id parser) { long = Some id }
 abbrev pub values_rule : Text → Option ValueParser → Rule
 values_rule id parser = record (value_rule id parser) { action = Some Append }
 
+abbrev pub wait_rule : Rule
+wait_rule = record (new_rule (codes "wait")) { long = Some (codes "wait"); action = Some SetTrue }
+
 abbrev pub csv_rule : Rule
 csv_rule = record (new_rule (codes "csv")) { long = Some (codes "csv"); action = Some SetTrue }
 

@@ -10,7 +10,8 @@ use Rattle.sheets.specs.declared.Style.TheVariants as printed
 use Rattle.wire.specs.declared.values.SheetStyle.{SheetStyle}
 use Rattle.wire.specs.declared.values.SheetStyle.TheVariants as asked
 use Rattle.wire.specs.Ranges.{IsId}
-use Rattle.desk.specs.Arguments.{IsNumberAt, any_text, csv_rule, errand_words, numbers, option_rule, value_rule, values_rule}
+use Rattle.desk.specs.Arguments.{IsNumberAt, any_text, csv_rule, errand_words, numbers, option_rule, value_rule, values_rule, wait_rule}
+use Rattle.batch.specs.declared.lines_entered.Batch.{Batch}
 use Rattle.serve.specs.declared.service.Service.{Service}
 use Rattle.desk.specs.Errands.{HasId}
 use Rattle.desk.specs.declared.task.Errand.{Errand}
@@ -42,11 +43,20 @@ serve_words =
     (record (option_rule (codes "patience") (numbers 1 86400)) { required = false }))
     (values_rule (codes "addr") any_text)
 
+abbrev pub log_words : App
+log_words = with_rule (new_app (codes "log")) (option_rule (codes "store") any_text)
+
 abbrev pub enter_words : App
 enter_words =
     with_rule (with_rule (errand_words (codes "enter"))
     (value_rule (codes "id") (numbers 1 9223372036854775807)))
     (value_rule (codes "text") any_text)
+
+abbrev pub lines_words : App
+lines_words =
+    with_rule (with_rule (errand_words (codes "enter-lines"))
+    (option_rule (codes "first-id") (numbers 1 9223372036854775807)))
+    wait_rule
 
 abbrev pub ask_words : App
 ask_words =
@@ -80,11 +90,13 @@ pub record Parsers : Type 0 where
 abbrev pub desk_words : Parsers → App
 desk_words p =
     with_subcommand (with_subcommand (with_subcommand (with_subcommand (with_subcommand
-    (with_subcommand (with_subcommand (with_subcommand named_app
+    (with_subcommand (with_subcommand (with_subcommand (with_subcommand (with_subcommand named_app
     (replay_words p.events p.rounds).top)
     hall_words.top)
     serve_words.top)
+    log_words.top)
     enter_words.top)
+    lines_words.top)
     ask_words.top)
     (sheet_words p.sheet_events p.sheet_rounds).top)
     (errand_words (codes "tick")).top)
@@ -131,6 +143,16 @@ abbrev pub IsPatience : Option ℕ → List Row → Type 0
 IsPatience (Some n) rows = IsNumberAt (codes "patience") rows n
 IsPatience None rows = first_of (codes "patience") rows ≡ None
 
+-- a desk of this hall that lines are entered at, the id of the first one, and whether `--wait` is
+-- there
+pub record IsBatch (to : Text) (b : Batch) (rows : List Row) : Type 0 where
+  pub hall : IsNumberAt (codes "hall") rows b.receiver.hall
+  pub desk : IsNumberAt (codes "desk") rows b.receiver.desk
+  pub address : first_of (codes "to") rows ≡ Some to
+  pub first_id : IsNumberAt (codes "first-id") rows b.first_id
+  pub waits : one_of (codes "wait") rows ≡ Some (codes "true") → b.waits ≡ true
+  pub goes_on : one_of (codes "wait") rows ≡ Some (codes "false") → b.waits ≡ false
+
 -- a desk of this hall, its file, how many connections it serves, and where the desks listen
 pub record IsService (s : Service) (rows : List Row) : Type 0 where
   pub hall : IsNumberAt (codes "hall") rows s.hall
@@ -146,6 +168,10 @@ IsTask (task.Replay event round style) name rows =
 IsTask (task.Hall desks) name rows =
     (name ≡ codes "hall") × IsNumberAt (codes "desks") rows desks
 IsTask (task.Carry errand) name rows = IsErrand errand name rows
+IsTask (task.EnterLines to batch) name rows =
+    (name ≡ codes "enter-lines") × IsBatch to.now batch rows
+IsTask (task.Log store) name rows =
+    (name ≡ codes "log") × (first_of (codes "store") rows ≡ Some store.now)
 IsTask (task.Serve service) name rows = (name ≡ codes "serve") × IsService service rows
 
 -- the ids of a task are in their range
@@ -153,6 +179,8 @@ abbrev pub HasIds : Task → Type 0
 HasIds (task.Replay event round style) = Unit {0}
 HasIds (task.Hall desks) = Unit {0}
 HasIds (task.Carry errand) = HasId errand.request
+HasIds (task.EnterLines to batch) = Unit {0}
+HasIds (task.Log store) = Unit {0}
 HasIds (task.Serve service) = Unit {0}
 
 abbrev pub Finds : Option (Text × List Row) → Task → Type 0

@@ -8,6 +8,14 @@ use Rattle.lines.specs.declared.fault.RunFault.{RunFault}
 use Rattle.lines.specs.declared.fault.RunFault.TheVariants as run
 use Rattle.replay.specs.Replay.{Run, Replays, ReplayFails}
 use Rattle.hall.specs.Halls.{Run as HallRun, Runs, RunFails}
+use Rattle.batch.specs.Entering.{EntersAll, EntersSome, Sides}
+use Rattle.batch.specs.declared.fault.BatchFault.{BatchFault}
+use Rattle.batch.specs.declared.fault.BatchFault.TheVariants as batch
+use Rattle.batch.specs.declared.lines_entered.Batch.{Batch}
+use Rattle.wire.specs.Ranges.{IsDesk}
+use Rattle.stored_log.specs.StoredLogs.{PrintsLog, PrintsLogPart}
+use Rattle.stored_log.specs.declared.fault.LogFault.{LogFault}
+use Rattle.stored_log.specs.declared.fault.LogFault.TheVariants as stored
 use Rattle.serve.specs.Printing.{Prints, PrintsAt, output}
 use Rattle.serve.specs.declared.fault.ServeFault.{ServeFault}
 use Rattle.serve.specs.declared.fault.ServeFault.TheVariants as serve
@@ -37,6 +45,9 @@ status_of fault.DamagedStore = 3
 status_of fault.StoreDevice = 4
 status_of fault.StoreDown = 4
 status_of fault.CannotListen = 4
+status_of fault.NoMoreIds = 3
+status_of fault.StillPending = 3
+status_of fault.Lost = 3
 status_of fault.NoMemory = 5
 
 -- the fault of a run over lines, as the program names it
@@ -67,6 +78,43 @@ fault_of_serve serve.CannotListen = fault.CannotListen
 fault_of_serve serve.Down = fault.StoreDown
 fault_of_serve serve.Write = fault.Write
 fault_of_serve serve.NoMemory = fault.NoMemory
+
+-- the fault of lines that are entered
+abbrev pub fault_of_batch : BatchFault → DeskFault
+fault_of_batch (batch.Lines e) = fault_of_run e
+fault_of_batch batch.TextTooLong = fault.TextTooLong
+fault_of_batch batch.NoMoreIds = fault.NoMoreIds
+fault_of_batch batch.CannotConnect = fault.CannotConnect
+fault_of_batch (batch.Asking e) = fault_of_client e
+fault_of_batch batch.StillPending = fault.StillPending
+fault_of_batch batch.Lost = fault.Lost
+fault_of_batch batch.Write = fault.Write
+fault_of_batch batch.NoMemory = fault.NoMemory
+
+-- the fault of a stored log
+abbrev pub fault_of_log : LogFault → DeskFault
+fault_of_log stored.Damaged = fault.DamagedStore
+fault_of_log stored.Device = fault.StoreDevice
+fault_of_log stored.Write = fault.Write
+fault_of_log stored.NoMemory = fault.NoMemory
+
+-- the archive of a log was written, or a part of it
+abbrev pub EndsLog : ℕ → Option (List ℕ) → Option (List ℕ) → Type 0
+EndsLog status old new =
+    ((status ≡ 0) × PrintsLog old new)
+    ⊎ ((e : LogFault) × (status ≡ status_of (fault_of_log e)) × PrintsLogPart old new)
+
+-- the desk's number is none, and nothing was read or written; or some lines were entered
+abbrev pub FailsLines : DeskFault → Batch → Sides → Type 0
+FailsLines f b s =
+    ((f ≡ fault.BadDesk) × (¬ IsDesk b.receiver.desk) × Keeps s.had s.left × Keeps s.old s.new)
+    ⊎ ((e : BatchFault) × (f ≡ fault_of_batch e) × IsDesk b.receiver.desk × EntersSome b s)
+
+-- all lines were entered, or not
+abbrev pub EndsLines : ℕ → Batch → Sides → Type 0
+EndsLines status b s =
+    ((status ≡ 0) × IsDesk b.receiver.desk × EntersAll b s)
+    ⊎ ((f : DeskFault) × (status ≡ status_of f) × FailsLines f b s)
 
 -- a round was replayed to its end, or to a fault
 abbrev pub EndsReplay : ℕ → Run → Type 0
@@ -119,6 +167,9 @@ Ends (task.Hall desks) status had left old new =
     × EndsHall status
     (record { desks = desks; input = input; left = left; old = old; new = new })
 Ends (task.Carry errand) status had left old new = Keeps had left × EndsErrand status errand old new
+Ends (task.EnterLines to batch) status had left old new =
+    EndsLines status batch (record { had = had; left = left; old = old; new = new })
+Ends (task.Log store) status had left old new = Keeps had left × EndsLog status old new
 Ends (task.Serve service) status had left old new = Keeps had left × EndsServe status service old new
 
 -- what a status says: of the words, of the bytes that the reader had and has left, and of those

@@ -3,11 +3,13 @@
 ghost use Rattle.std.specs.Prelude.{◌≡◌};
 ghost use Rattle.desk.specs.Statuses.{status_of, RunsNothing};
 
+use batch::BatchFault;
 use clap::Error;
 use clap::error::ErrorKind as ParseErrorKind;
 use client::{ClientFault, refusal_name};
 use lines::{RunFault, write_text};
 use serve::ServeFault;
+use stored_log::LogFault;
 use std::alloc::Global;
 use std::fmt;
 use std::io::Write;
@@ -54,6 +56,12 @@ pub enum DeskFault {
     StoreDown,
     /// The address can't be had, or a client can't be accepted.
     CannotListen,
+    /// The next line would have an id above the greatest one.
+    NoMoreIds,
+    /// The desk took a command and does not decide it.
+    StillPending,
+    /// The desk took a command and no longer knows it.
+    Lost,
     /// Memory ran out.
     NoMemory,
 }
@@ -114,6 +122,43 @@ impl From<ServeFault> for DeskFault {
     }
 }
 
+impl From<BatchFault> for DeskFault {
+    ghost use Rattle.std.specs.Prelude.{◌≡◌};
+    ghost use Rattle.desk.specs.Statuses.{fault_of_batch};
+
+    ghost from_gives = { λ entering fault. fault ≡ fault_of_batch entering };
+
+    fn from(fault: BatchFault) -> DeskFault {
+        match fault {
+            BatchFault::Lines(fault) => DeskFault::from(fault),
+            BatchFault::TextTooLong => DeskFault::TextTooLong,
+            BatchFault::NoMoreIds => DeskFault::NoMoreIds,
+            BatchFault::CannotConnect => DeskFault::CannotConnect,
+            BatchFault::Asking(fault) => DeskFault::from(fault),
+            BatchFault::StillPending => DeskFault::StillPending,
+            BatchFault::Lost => DeskFault::Lost,
+            BatchFault::Write => DeskFault::Write,
+            BatchFault::NoMemory => DeskFault::NoMemory,
+        }
+    }
+}
+
+impl From<LogFault> for DeskFault {
+    ghost use Rattle.std.specs.Prelude.{◌≡◌};
+    ghost use Rattle.desk.specs.Statuses.{fault_of_log};
+
+    ghost from_gives = { λ reading fault. fault ≡ fault_of_log reading };
+
+    fn from(fault: LogFault) -> DeskFault {
+        match fault {
+            LogFault::Damaged => DeskFault::DamagedStore,
+            LogFault::Device => DeskFault::StoreDevice,
+            LogFault::Write => DeskFault::Write,
+            LogFault::NoMemory => DeskFault::NoMemory,
+        }
+    }
+}
+
 impl fmt::Display for DeskFault {
     fn fmt<W: fmt::Write>(&self, f: &mut fmt::Formatter<W>) -> fmt::Result {
         match self {
@@ -133,6 +178,9 @@ impl fmt::Display for DeskFault {
             DeskFault::StoreDevice => f.write_str("store device"),
             DeskFault::StoreDown => f.write_str("store down"),
             DeskFault::CannotListen => f.write_str("cannot listen"),
+            DeskFault::NoMoreIds => f.write_str("no more ids"),
+            DeskFault::StillPending => f.write_str("still pending"),
+            DeskFault::Lost => f.write_str("command lost"),
             DeskFault::NoMemory => f.write_str("no memory"),
         }
     }
@@ -151,7 +199,10 @@ fn status_of(fault: DeskFault) -> u8
         | DeskFault::TextTooLong
         | DeskFault::Refused { refusal: _ }
         | DeskFault::WrongDesk
-        | DeskFault::DamagedStore => 3,
+        | DeskFault::DamagedStore
+        | DeskFault::NoMoreIds
+        | DeskFault::StillPending
+        | DeskFault::Lost => 3,
         DeskFault::Read
         | DeskFault::Write
         | DeskFault::CannotConnect

@@ -3,10 +3,13 @@
 
 mod arguments;
 mod ask_words;
+mod enter_lines_words;
 mod enter_words;
+mod entering;
 mod errands;
 mod faults;
 mod hall_words;
+mod log_words;
 mod replay_words;
 mod serve_words;
 mod sheet_words;

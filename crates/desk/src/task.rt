@@ -6,11 +6,14 @@ ghost use Rattle.desk.specs.Asking.{Finds, IsErrand, IsRequest, IsTask};
 
 use crate::arguments::{number_at, text_at};
 use crate::ask_words::asked_id;
+use crate::enter_lines_words::lines_of;
 use crate::enter_words::entered;
 use crate::hall_words::hall_of;
+use crate::log_words::log_of;
 use crate::replay_words::replay_of;
 use crate::serve_words::serve_of;
 use crate::sheet_words::sheet_of;
+use batch::Batch;
 use clap::ArgMatches;
 use formats::Event;
 use serve::Service;
@@ -67,6 +70,15 @@ pub enum Task<'a> {
     /// To ask a desk.
     Carry {
         errand: Errand<'a>,
+    },
+    /// To enter the lines of an input at the desk at an address.
+    EnterLines {
+        to: &'a str,
+        batch: Batch,
+    },
+    /// The log of a stopped desk, from its file.
+    Log {
+        store: &'a str,
     },
     /// To run a desk.
     Serve {
@@ -134,6 +146,8 @@ fn task_named<'a>(name: &str, found: &'a ArgMatches<'a>) -> Option<Task<'a>>
         "replay" => replay_of(found),
         "hall" => hall_of(found),
         "serve" => serve_of(found),
+        "enter-lines" => lines_of(found),
+        "log" => log_of(found),
         _ => match errand_of(name, found) {
             Some(errand) => Some(Task::Carry { errand }),
             None => None,

@@ -10,10 +10,13 @@ ghost use Rattle.desk.specs.Asking.{Parsers, desk_words, named_app, HasIds};
 ghost use Rattle.desk.specs.Statuses.{Ends, Ran, fault_of_run, status_of};
 
 use crate::ask_words::ask_command;
+use crate::enter_lines_words::enter_lines_command;
 use crate::enter_words::enter_command;
+use crate::entering::enter_all;
 use crate::errands::carry;
 use crate::faults::{DeskFault, tell, tell_bad_number, tell_words};
 use crate::hall_words::hall_command;
+use crate::log_words::log_command;
 use crate::replay_words::replay_command;
 use crate::serve_words::serve_command;
 use crate::sheet_words::sheet_command;
@@ -29,6 +32,7 @@ use sqlite::Unknown;
 use std::alloc::{AllocError, Global};
 use std::io;
 use std::io::{ErrorKind, Read, Write};
+use stored_log::write_stored_log;
 
 const ABOUT: &str = "The results desk of a speedcubing competition.";
 
@@ -69,7 +73,9 @@ fn command<'a>(alloc: Global) -> Result<Command<'a>, AllocError>
     let command = with(command, replay_command(alloc)?)?;
     let command = with(command, hall_command(alloc)?)?;
     let command = with(command, serve_command(alloc)?)?;
+    let command = with(command, log_command(alloc)?)?;
     let command = with(command, enter_command(alloc)?)?;
+    let command = with(command, enter_lines_command(alloc)?)?;
     let command = with(command, ask_command(alloc)?)?;
     let command = with(command, sheet_command(alloc)?)?;
     let command = with(command, tick_command(alloc)?)?;
@@ -127,6 +133,14 @@ fn run_task<R: Read, W: Write, F: Write>(
         Task::Carry { errand } => match carry(rt, errand, writer) {
             Ok(()) => 0,
             Err(fault) => tell(faults, fault),
+        },
+        Task::EnterLines { to, batch } => match enter_all(rt, to, batch, reader, writer) {
+            Ok(()) => 0,
+            Err(fault) => tell(faults, fault),
+        },
+        Task::Log { store } => match write_stored_log(rt, store, writer) {
+            Ok(()) => 0,
+            Err(fault) => tell(faults, DeskFault::from(fault)),
         },
         Task::Serve { service } => match serve(rt, service, Unknown, writer) {
             Ok(()) => 0,

@@ -13,6 +13,16 @@ returns-in-replay c =
     task_renamed c.args.name.now (codes "replay") (rows_of (found_of c.args.found.now))
     c.replay_of.result c.in-replay.is c.replay_of.ensures
 
+pub returns-in-enter-lines : goal.returns-in-enter-lines
+returns-in-enter-lines c =
+    task_renamed c.args.name.now (codes "enter-lines") (rows_of (found_of c.args.found.now))
+    c.lines_of.result c.in-enter-lines.is c.lines_of.ensures
+
+pub returns-in-log : goal.returns-in-log
+returns-in-log c =
+    task_renamed c.args.name.now (codes "log") (rows_of (found_of c.args.found.now))
+    c.log_of.result c.in-log.is c.log_of.ensures
+
 pub returns-in-serve : goal.returns-in-serve
 returns-in-serve c =
     task_renamed c.args.name.now (codes "serve") (rows_of (found_of c.args.found.now))

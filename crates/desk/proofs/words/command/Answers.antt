@@ -5,8 +5,8 @@ use Rattle.desk.proofs.words.command.Goals as goal
 pub with-requires : goal.with-requires
 with-requires c = c.in_ok-replay_command.ensures.2.1
 
-pub with-requires-6 : goal.with-requires-6
-with-requires-6 c = c.in_ok-sheet_command.ensures.2.1
+pub with-requires-8 : goal.with-requires-8
+with-requires-8 c = c.in_ok-sheet_command.ensures.2.1
 
 pub returns : goal.returns
 returns c =
@@ -19,13 +19,17 @@ returns c =
     let three =
     subbed _ _ _ _ _ two c.in_ok-serve_command.ensures.0 c.in_ok-command-3.ensures in
     let four =
-    subbed _ _ _ _ _ three c.in_ok-enter_command.ensures.0 c.in_ok-command-4.ensures in
+    subbed _ _ _ _ _ three c.in_ok-log_command.ensures.0 c.in_ok-command-4.ensures in
     let five =
-    subbed _ _ _ _ _ four c.in_ok-ask_command.ensures.0 c.in_ok-command-5.ensures in
-    let six = subbed _ _ _ _ _ five sheet.2.0 c.in_ok-command-6.ensures in
+    subbed _ _ _ _ _ four c.in_ok-enter_command.ensures.0 c.in_ok-command-5.ensures in
+    let six =
+    subbed _ _ _ _ _ five c.in_ok-enter_lines_command.ensures.0 c.in_ok-command-6.ensures in
     let seven =
-    subbed _ _ _ _ _ six c.in_ok-tick_command.ensures.0 c.in_ok-command-7.ensures in
-    IfOk-weaker c.with-8.result _ _
+    subbed _ _ _ _ _ six c.in_ok-ask_command.ensures.0 c.in_ok-command-7.ensures in
+    let eight = subbed _ _ _ _ _ seven sheet.2.0 c.in_ok-command-8.ensures in
+    let nine =
+    subbed _ _ _ _ _ eight c.in_ok-tick_command.ensures.0 c.in_ok-command-9.ensures in
+    IfOk-weaker c.with-10.result _ _
     (λ command made. (
       record {
         events = replay.0;
@@ -33,6 +37,6 @@ returns c =
         sheet_events = sheet.0;
         sheet_rounds = sheet.1;
       },
-      subbed _ _ _ _ _ seven c.in_ok-stop_command.ensures.0 made,
+      subbed _ _ _ _ _ nine c.in_ok-stop_command.ensures.0 made,
     ))
-    c.with-8.ensures
+    c.with-10.ensures
