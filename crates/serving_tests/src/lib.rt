@@ -1,5 +1,6 @@
-//! Tests of `serving` and `sockets` by their public calls: connections of one desk, byte for byte,
-//! and desks over TCP.
+//! Tests by public calls: one desk over a store, and halls of such desks over stores in memory and
+//! over databases (`desks`, `stores`); connections of one desk, byte for byte, and desks over TCP.
+//! What desks say to one another stands in the histories of `hall_runs`.
 #![tactic(auto)]
 
 #[cfg(test)]
@@ -7,6 +8,10 @@ mod absent;
 #[cfg(test)]
 mod connections;
 #[cfg(test)]
+mod desks;
+#[cfg(test)]
 mod halls;
 #[cfg(test)]
 mod sockets_of_one;
+#[cfg(test)]
+mod stores;

@@ -5,7 +5,7 @@ use crate::desks::{CATCH_UP, Hall, ann, deliver, hear, nth, spelled, take};
 use acceptor::message::Message;
 use node::{Event, Node};
 use sqlite::{Alter, Connection, Error, File, FileStore};
-use std::alloc::Global;
+use std::alloc::{AllocError, Global};
 use std::fs;
 use std::process::Abort;
 use std::test::Fail;
@@ -85,14 +85,31 @@ fn agree<K: Keeper + Drop>(rt: &impl Abort, alloc: Global, hall: &mut Hall<K>) -
     Ok(())
 }
 
+/// Three desks over these databases decide an entry, and agree.
+fn agree_over<S: Alter + Drop>(
+    rt: &impl Abort,
+    alloc: Global,
+    first: Result<Connection<S>, AllocError>,
+    second: Result<Connection<S>, AllocError>,
+    third: Result<Connection<S>, AllocError>,
+) -> Result<(), Fail> {
+    let mut hall = nobody(alloc);
+    join(alloc, &mut hall, first?, 1)?;
+    join(alloc, &mut hall, second?, 2)?;
+    join(alloc, &mut hall, third?, 3)?;
+    agree(rt, alloc, &mut hall)
+}
+
 #[test]
 fn three_desks_over_databases_agree(rt: HostRuntime) -> Result<(), Fail> {
     let alloc = rt.alloc();
-    let mut hall = nobody(alloc);
-    join(alloc, &mut hall, Connection::open_in_memory(alloc)?, 1)?;
-    join(alloc, &mut hall, Connection::open_in_memory(alloc)?, 2)?;
-    join(alloc, &mut hall, Connection::open_in_memory(alloc)?, 3)?;
-    agree(&rt, alloc, &mut hall)
+    agree_over(
+        &rt,
+        alloc,
+        Connection::open_in_memory(alloc),
+        Connection::open_in_memory(alloc),
+        Connection::open_in_memory(alloc),
+    )
 }
 
 /// The desk's file.

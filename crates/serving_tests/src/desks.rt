@@ -180,41 +180,62 @@ fn answers(alloc: Global, log: &Log) -> Result<Vec<Answer>, Fail> {
     Ok(answers)
 }
 
-#[test]
-fn id_that_comes_again_is_a_repeat(rt: HostRuntime) -> Result<(), Fail> {
-    let alloc = rt.alloc();
+/// Five desks of a hall in memory.
+fn five_desks(alloc: Global) -> Result<Hall<MemoryKeeper>, Fail> {
     let mut nodes = Vec::new(alloc);
     for desk in 1..6 {
         nodes.push(memory_desk(alloc, desk)?)?;
     }
     let sent = Vec::new(alloc);
-    let mut hall = Hall { nodes, sent };
-    decide(alloc, &mut hall, 1, OPEN)?;
-    decide(alloc, &mut hall, 2, ANN)?;
+    Ok(Hall { nodes, sent })
+}
+
+/// The desk's sheet of the round at this position.
+fn check_sheet(
+    rt: &impl Abort,
+    node: &Node<MemoryKeeper>,
+    position: u32,
+    wanted: &[u8],
+) -> Result<(), Fail> {
+    let sheet = node.sheet_at(position, formats::Event::Cube3, 1, Style::Text)?;
+    assert_eq!(rt; sheet.as_slice(), wanted);
+    Ok(())
+}
+
+/// The desk's log opens a round, and then has the same id again.
+fn check_repeat(rt: &impl Abort, alloc: Global, node: &Node<MemoryKeeper>) -> Result<(), Fail> {
+    assert_eq!(rt;
+        answers(alloc, node.log())?.as_slice(),
+        [Answer::Done, Answer::Refused(Code::Repeat)].as_slice()
+    );
     let done = Told::Done {
         pos: 0,
         answer: Answer::Done,
     };
+    assert_eq!(rt; node.answer(9)?, done);
+    assert_eq!(rt; node.answer(10)?, Told::Unknown);
     let first = b"333 round 1 ao5 open position 1\ncutoff - limit 60000 advance final\n";
+    check_sheet(rt, node, 1, first)?;
     let second = b"333 round 1 ao5 open position 2\ncutoff - limit 60000 advance final\n";
+    check_sheet(rt, node, 2, second)
+}
+
+/// Each desk tells the same of an id that was used twice.
+fn check_repeats(rt: &impl Abort, alloc: Global, hall: &Hall<MemoryKeeper>) -> Result<(), Fail> {
+    assert_eq!(rt; hall.nodes.len(), 5);
     for node in &hall.nodes {
-        assert_eq!(rt;
-            answers(alloc, node.log())?.as_slice(),
-            [Answer::Done, Answer::Refused(Code::Repeat)].as_slice()
-        );
-        assert_eq!(rt; node.answer(9)?, done);
-        assert_eq!(rt; node.answer(10)?, Told::Unknown);
-        let event = formats::Event::Cube3;
-        assert_eq!(rt;
-            node.sheet_at(1, event, 1, Style::Text)?.as_slice(),
-            first.as_slice()
-        );
-        assert_eq!(rt;
-            node.sheet_at(2, event, 1, Style::Text)?.as_slice(),
-            second.as_slice()
-        );
+        check_repeat(rt, alloc, node)?;
     }
     Ok(())
+}
+
+#[test]
+fn id_that_comes_again_is_a_repeat(rt: HostRuntime) -> Result<(), Fail> {
+    let alloc = rt.alloc();
+    let mut hall = five_desks(alloc)?;
+    decide(alloc, &mut hall, 1, OPEN)?;
+    decide(alloc, &mut hall, 2, ANN)?;
+    check_repeats(&rt, alloc, &hall)
 }
 
 /// What a desk answers to a Prepare by (2, 2), once it was opened again after a vote whose save
@@ -252,9 +273,8 @@ fn failed_save_leaves_the_state_before_or_after(rt: HostRuntime) -> Result<(), F
     Ok(())
 }
 
-#[test]
-fn refuses_and_ignores(rt: HostRuntime) -> Result<(), Fail> {
-    let alloc = rt.alloc();
+/// Desk 1 of 3 of hall 7 in memory, which has tried the last round.
+fn spent_desk(alloc: Global) -> Result<Node<MemoryKeeper>, Fail> {
     let mut keeper = MemoryKeeper::new(alloc, 7, 1, 3)?;
     let stored = Stored {
         promised: Ballot::none(),
@@ -262,29 +282,55 @@ fn refuses_and_ignores(rt: HostRuntime) -> Result<(), Fail> {
         tried: u32::MAX,
     };
     keeper.with(&stored, &Log::new(alloc)?)?;
-    let mut node = open(alloc, keeper)?;
-    assert_eq!(rt;
-        (node.home().hall, node.home().desk, node.home().desks),
-        (7, 1, 3)
-    );
-    assert!(rt; matches!(node.handle(Event::Start), Err(NodeFault::BallotsSpent)));
+    open(alloc, keeper)
+}
+
+/// Messages that no desk sends are ignored.
+fn check_ignored(
+    rt: &impl Abort,
+    alloc: Global,
+    node: &mut Node<MemoryKeeper>,
+) -> Result<(), Fail> {
     let unreal = Event::Deliver(prepare(1, 1, 0, 0));
-    says(&rt, &mut node, unreal, &[])?;
+    says(rt, node, unreal, &[])?;
     let entry = ann(alloc)?;
     let past = message(2, 1, Body::Decided { pos: 65536, entry });
-    says(&rt, &mut node, Event::Deliver(past), &[])?;
+    says(rt, node, Event::Deliver(past), &[])
+}
+
+/// The queue takes 64 entries.
+fn check_queue(rt: &impl Abort, alloc: Global, node: &mut Node<MemoryKeeper>) -> Result<(), Fail> {
     for _ in 0..64 {
-        says(&rt, &mut node, Event::Submit(ann(alloc)?), &[])?;
+        says(rt, node, Event::Submit(ann(alloc)?), &[])?;
     }
     let more = node.handle(Event::Submit(ann(alloc)?));
     assert!(rt; matches!(more, Err(NodeFault::Busy)));
     assert_eq!(rt; node.answer(7)?, Told::Pending);
     assert_eq!(rt; (node.queued(), node.is_down()), (64, false));
+    Ok(())
+}
+
+/// There is no sheet past the log, or of a round that was not opened.
+fn check_no_sheet(rt: &impl Abort, node: &Node<MemoryKeeper>) {
     let event = formats::Event::Cube3;
     let sheet = node.sheet_at(1, event, 1, Style::Table);
     assert!(rt; matches!(sheet, Err(SheetFault::NotThere)));
     let sheet = node.sheet_at(0, event, 1, Style::Table);
     assert!(rt; matches!(sheet, Err(SheetFault::NoSuchRound)));
+}
+
+#[test]
+fn refuses_and_ignores(rt: HostRuntime) -> Result<(), Fail> {
+    let alloc = rt.alloc();
+    let mut node = spent_desk(alloc)?;
+    assert_eq!(rt;
+        (node.home().hall, node.home().desk, node.home().desks),
+        (7, 1, 3)
+    );
+    assert!(rt; matches!(node.handle(Event::Start), Err(NodeFault::BallotsSpent)));
+    check_ignored(&rt, alloc, &mut node)?;
+    check_queue(&rt, alloc, &mut node)?;
+    check_no_sheet(&rt, &node);
     Ok(())
 }
 
