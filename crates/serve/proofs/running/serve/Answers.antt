@@ -3,21 +3,21 @@ use Rattle.serve.proofs.Over.{allowed_of, by_name, by_store, hindered, printed, 
 use Rattle.serve.proofs.running.serve.Goals as goal
 
 pub returns-in-Err-clause-err : goal.returns-in-Err-clause-err
-returns-in-Err-clause-err g c = hindered _ _ _ (by_name _ _ c.in-Err.ensures.err) (Keeps-refl _)
+returns-in-Err-clause-err g c = hindered _ c.args.service _ (by_name _ c.args.service c.in-Err.ensures.err) (Keeps-refl _)
 
 pub returns-in-Err-open_desk-clause-err : goal.returns-in-Err-open_desk-clause-err
 returns-in-Err-open_desk-clause-err g c =
-    hindered _ _ _
-    (by_store _ _ c.in-Err-open_desk.ensures.err
-    (allowed_of _ c.in-Ok.home c.in-Ok.ensures.ok.0 c.in-Ok.ensures.ok.1))
+    hindered _ c.args.service _
+    (by_store _ c.args.service c.in-Err-open_desk.ensures.err
+    (allowed_of c.args.service c.in-Ok.home c.in-Ok.ensures.ok.0 c.in-Ok.ensures.ok.1))
     (Keeps-refl _)
 
 pub returns-clause-ok : goal.returns-clause-ok
 returns-clause-ok g c =
-    printed _ _ c.in-Ok.home _ _ _ _ c.serve_there.result c.in-Ok-open_desk.ensures.home
+    printed c.args.service _ c.in-Ok.home _ _ _ _ c.serve_there.result c.in-Ok-open_desk.ensures.home
     c.in-Ok.ensures.ok.0 c.in-Ok.ensures.ok.1 c.serve_there.ensures.ok
 
 pub returns-clause-err : goal.returns-clause-err
 returns-clause-err g c =
-    printed_fault _ _ c.in-Ok.home _ _ _ _ c.serve_there.result c.in-Ok-open_desk.ensures.home
+    printed_fault c.args.service _ c.in-Ok.home _ _ _ _ c.serve_there.result c.in-Ok-open_desk.ensures.home
     c.in-Ok.ensures.ok.0 c.in-Ok.ensures.ok.1 c.serve_there.ensures.err
