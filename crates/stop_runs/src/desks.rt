@@ -102,8 +102,8 @@ pub fn run_from<K: Keeper + Drop>(
     Ok(None)
 }
 
-/// Delivers each message from this number on, until none is left. False: the store of the first desk
-/// has failed, or there were too many.
+/// Delivers each message from this number on, until none is left. False: the store of the first
+/// desk has failed, or there were too many.
 fn deliver_rest<K: Keeper + Drop>(
     first: &mut Node<K>,
     others: &mut Others,
