@@ -39,7 +39,7 @@ pub fn log_command<'a>(alloc: Global) -> Result<Command<'a>, AllocError>
 }
 
 /// What the words of `log` ask for.
-pub fn log_of<'a>(found: &'a ArgMatches<'a>) -> Option<Task<'a>>
+pub fn log_of<'a>(found: &ArgMatches<'a>) -> Option<Task<'a>>
     ensures { IfSome result
         (λ task. IsTask task (codes "log") (rows_of (found_of found.now))) }
 {

@@ -122,7 +122,7 @@ fn patience_at(found: &ArgMatches<'_>) -> Option<Option<u32>>
 }
 
 /// What the words of `serve` ask for.
-pub fn serve_of<'a>(found: &'a ArgMatches<'a>) -> Option<Task<'a>>
+pub fn serve_of<'m, 'a: 'm>(found: &'m ArgMatches<'a>) -> Option<Task<'m>>
     ensures { IfSome result
         (λ task. IsTask task (codes "serve") (rows_of (found_of found.now))) }
 {

@@ -139,7 +139,7 @@ fn errand_of<'a>(name: &str, found: &ArgMatches<'a>) -> Option<Errand<'a>>
 }
 
 /// The task of a subcommand's words.
-fn task_named<'a>(name: &str, found: &'a ArgMatches<'a>) -> Option<Task<'a>>
+fn task_named<'m, 'a: 'm>(name: &str, found: &'m ArgMatches<'a>) -> Option<Task<'m>>
     ensures { IfSome result (λ task. IsTask task name.now (rows_of (found_of found.now))) }
 {
     match name {
@@ -156,7 +156,7 @@ fn task_named<'a>(name: &str, found: &'a ArgMatches<'a>) -> Option<Task<'a>>
 }
 
 /// What parsed words ask for. The parser gives every value, so there always is a task.
-pub fn task_of<'a>(matches: &'a ArgMatches<'a>) -> Option<Task<'a>>
+pub fn task_of<'m, 'a: 'm>(matches: &'m ArgMatches<'a>) -> Option<Task<'m>>
     ensures { IfSome result (λ task. Finds (subcommand_rows_of matches.now) task) }
 {
     let (name, found) = matches.subcommand()?;
