@@ -111,6 +111,7 @@ stops_at f b p given said start before now old new e g = step f g
       next = [];
       written = part_front old new said [] (whole_written old new said e.written);
     }
+
     step : (f : RunFault) → GivesFault f given start now
         → EntersSome b (record { had = start; left = now; old = old; new = new })
     step fault.InputTooLong g = stop g.0 g.1.consumed

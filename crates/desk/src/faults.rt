@@ -9,10 +9,10 @@ use clap::error::ErrorKind as ParseErrorKind;
 use client::{ClientFault, refusal_name};
 use lines::{RunFault, write_text};
 use serve::ServeFault;
-use stored_log::LogFault;
 use std::alloc::Global;
 use std::fmt;
 use std::io::Write;
+use stored_log::LogFault;
 use wire::ClientRefusal;
 
 const BAD_NUMBER: &[u8] = b"\

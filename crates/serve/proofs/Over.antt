@@ -138,9 +138,9 @@ pub printed_fault : {V : Type 0} {way : Way V} (s : Service) (place home : Home)
     (o : Output) (a b : Standing way) (r : Result (Unit {0}) ServeFault)
     → place ≡ home → home ≡ home_of s → IsHome home
     → IfErr r (λ f. (IsOfListener f × Keeps o.old o.new)
-        ⊎ FailsServing f (turn place s.connections len o) a b)
+    ⊎ FailsServing f (turn place s.connections len o) a b)
     → IfErr r (λ f. PrintsAt f s o)
 printed_fault s place home len o a b r there is h =
     IfErr-weaker r _ _ (λ f ends. ends_printed s len o a b f (allowed_of s home is h)
     (subst (λ (p : Home). (IsOfListener f × Keeps o.old o.new)
-        ⊎ FailsServing f (turn p s.connections len o) a b) (there ∙ is) ends))
+    ⊎ FailsServing f (turn p s.connections len o) a b) (there ∙ is) ends))
