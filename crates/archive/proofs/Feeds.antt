@@ -55,7 +55,8 @@ both-lack xs ys front back =
     list_all-append (λ b. not (b == 10)) xs ys ∙ rw (front, back) refl
 
 number-lacks : (n : ℕ) → n < 10000000 → lacks 10 (decimal n) ≡ true
-number-lacks n small = lack is_ascii_digit refl (decimal n) (decimal_digits n small)
+number-lacks n small =
+    lack is_ascii_digit refl (decimal n) (decimal_digits n (omega (arith, small)))
 
 name-lacks : (name : List ℕ) → is_name name ≡ true → lacks 10 name ≡ true
 name-lacks name fits =
