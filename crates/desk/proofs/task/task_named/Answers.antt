@@ -13,10 +13,10 @@ returns-in-replay c =
     task_renamed c.args.name.now (codes "replay") (rows_of (found_of c.args.found.now))
     c.replay_of.result c.in-replay.is c.replay_of.ensures
 
-pub returns-in-enter-lines : goal.returns-in-enter-lines
-returns-in-enter-lines c =
+pub returns-in-text : goal.returns-in-text
+returns-in-text c =
     task_renamed c.args.name.now (codes "enter-lines") (rows_of (found_of c.args.found.now))
-    c.lines_of.result c.in-enter-lines.is c.lines_of.ensures
+    c.lines_of.result c.in-text.is c.lines_of.ensures
 
 pub returns-in-log : goal.returns-in-log
 returns-in-log c =
