@@ -14,6 +14,7 @@ import sys
 
 MOST_ENTRIES = 65_536
 MOST_QUEUED = 64
+MOST_TOLD = 16
 MOST_ROUND = 2**32 - 1
 
 NUMBER = re.compile(rb"[1-9][0-9]*")
@@ -165,11 +166,10 @@ class Desk:
         return [(sender, "Behind", len(self.log))]
 
     def on_behind(self, sender, length):
-        if length < len(self.log):
-            return [(sender, "Decided", length, self.log[length])]
         if length > len(self.log):
             return [(sender, "Behind", len(self.log))]
-        return []
+        last = min(length + MOST_TOLD - 1, len(self.log) - 1)
+        return [(sender, "Decided", pos, self.log[pos]) for pos in range(length, last + 1)]
 
 
 # --- texts ---------------------------------------------------------------------------------------

@@ -24,7 +24,7 @@ use Rattle.acceptor.specs.Answers.{Reply, reported, elsewhere, prepare_here, pre
 use Rattle.proposer.specs.Proposing.{is_full, is_majority, last_round, gather, new_ballot, is_outbid, ask_next, lead, start, start_by_role, wants_ballot, tell_length, tick_idle, tick, tick_by_role, was_heard, higher, highest, choice, propose, promises_heard, promise_by_role, on_promise, votes_heard, accepted_by_role, on_accepted, is_ballot_of, on_nack}
 use Rattle.proposer.specs.declared.faults.Refusal.{Refusal}
 use Rattle.proposer.specs.declared.faults.Refusal.TheVariants.{LogFull, BallotsSpent}
-use Rattle.learner.specs.Learning.{on_decided, on_behind, told}
+use Rattle.learner.specs.Learning.{on_decided, on_behind, told, longest_run}
 use Rattle.learner.specs.Contents.{ListHolds, ReportHolds, BodyHolds, MessagesHold, VoteHolds, HeardHolds, RoleHolds, DeskHolds}
 use Rattle.learner.specs.Steps.{answered, on_body}
 
@@ -443,15 +443,15 @@ behind_holds P Q d x from len h = go (nat_lt (length x.log) len)
     go : (t : Bool)
         → PlanHolds P Q
         (if t then only_say (passing x) (message d from (Behind (length x.log)) ∷ [])
-        else only_say (passing x) (told d from len (take 1 (drop len x.log))))
+        else only_say (passing x) (told d from len (take longest_run (drop len x.log))))
     go true = record { role = tt; change = tt; messages = (tt, tt) }
     go false =
         record {
           role = tt;
           change = tt;
           messages =
-              told_holds P Q d from len (take 1 (drop len x.log))
-              (take_holds P 1 (drop len x.log) (drop_holds P len x.log h.log));
+              told_holds P Q d from len (take longest_run (drop len x.log))
+              (take_holds P longest_run (drop len x.log) (drop_holds P len x.log h.log));
         }
 
 -- what comes with a message of such contents
@@ -499,7 +499,8 @@ ballot_holds P Q n d x = go (last_round x.stored (passing x) == 4294967295)
           change = tt;
           messages =
               each_holds P Q d (desks_from 1 n)
-              (Prepare (record { round = last_round x.stored (passing x) + 1; desk = d }) (length x.log))
+              (Prepare (record { round = last_round x.stored (passing x) + 1; desk = d })
+              (length x.log))
               q;
         }
 

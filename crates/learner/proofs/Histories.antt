@@ -1,5 +1,5 @@
 -- Histories of desks, computed from the definitions.
-use Rattle.std.proofs.Common.{◌≡◌, ℕ, List, [], ◌∷◌, ◌++◌, Some, None, Result, Ok, Err, drop, refl}
+use Rattle.std.proofs.Common.{◌≡◌, ℕ, zero, suc, List, [], ◌∷◌, ◌++◌, Some, None, Result, Ok, Err, drop, refl}
 use Rattle.std.specs.Prelude.{codes, replicate}
 use Rattle.acceptor.specs.declared.ballot.Ballot.{Ballot}
 use Rattle.acceptor.specs.declared.entry.Entry.{Entry}
@@ -15,7 +15,7 @@ use Rattle.learner.specs.declared.event.Event.TheVariants.{Submit, Start, Delive
 use Rattle.learner.specs.declared.event.WorldEvent.{WorldEvent}
 use Rattle.learner.specs.declared.event.WorldEvent.TheVariants.{Submit as SubmitAt, Start as StartAt, Tick as TickAt, Deliver as DeliverNth, Restart as RestartAt}
 use Rattle.learner.specs.Desks.{Desk, first_desk}
-use Rattle.learner.specs.Steps.{Done, step}
+use Rattle.learner.specs.Steps.{Done, on_body, step}
 use Rattle.learner.specs.Worlds.{after, log_of}
 
 abbrev pub a : Entry
@@ -360,3 +360,30 @@ spent_desk = record first_desk { stored = record first_stored { tried = 42949672
 
 spent : step 3 1 spent_desk Start ≡ Err BallotsSpent
 spent = refl
+
+-- A desk with 40 entries tells one that has 10 the next 16, one that has 30 the last 10, and one
+-- that has all of them nothing.
+abbrev entry_at : ℕ → Entry
+entry_at pos = record { id = suc pos; text = codes "CLOSE 333 1" }
+
+abbrev entries_at : ℕ → ℕ → List Entry
+entries_at pos zero = []
+entries_at pos (suc count) = entry_at pos ∷ entries_at (suc pos) count
+
+abbrev desk_of_40 : Desk
+desk_of_40 = record first_desk { log = entries_at 0 40 }
+
+abbrev tells : List ℕ → List Message
+tells [] = []
+tells (pos ∷ rest) = message 1 2 (Decided pos (entry_at pos)) ∷ tells rest
+
+told_sixteen : (on_body 3 1 desk_of_40 2 (Behind 10)).messages
+    ≡ tells (10 ∷ 11 ∷ 12 ∷ 13 ∷ 14 ∷ 15 ∷ 16 ∷ 17 ∷ 18 ∷ 19 ∷ 20 ∷ 21 ∷ 22 ∷ 23 ∷ 24 ∷ 25 ∷ [])
+told_sixteen = refl
+
+told_the_last : (on_body 3 1 desk_of_40 2 (Behind 30)).messages
+    ≡ tells (30 ∷ 31 ∷ 32 ∷ 33 ∷ 34 ∷ 35 ∷ 36 ∷ 37 ∷ 38 ∷ 39 ∷ [])
+told_the_last = refl
+
+told_nothing_more : (on_body 3 1 desk_of_40 2 (Behind 40)).messages ≡ []
+told_nothing_more = refl

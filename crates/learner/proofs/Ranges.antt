@@ -22,7 +22,7 @@ use Rattle.proposer.specs.Plans.{only_say, become, append}
 use Rattle.proposer.specs.Proposing.{is_full, is_majority, last_round, gather, new_ballot, is_outbid, ask_next, lead, start, start_by_role, wants_ballot, tell_length, tick_idle, tick, tick_by_role, was_heard, highest, choice, propose, promises_heard, promise_by_role, on_promise, votes_heard, accepted_by_role, on_accepted, is_ballot_of, on_nack}
 use Rattle.learner.specs.Order.{IsBelow}
 use Rattle.learner.specs.Desks.{Desk, adopt, passing}
-use Rattle.learner.specs.Learning.{on_decided, on_behind, told}
+use Rattle.learner.specs.Learning.{on_decided, on_behind, told, longest_run}
 use Rattle.learner.specs.Steps.{IsDesk, answered, on_body}
 use Rattle.learner.specs.Ranges.{RoleIsPlaced, VoteIsPlaced}
 use Rattle.learner.proofs.Order.{at_most_self, at_most_trans, at_most_from_below}
@@ -407,14 +407,15 @@ behind_placed n d x from len theirs h = go (nat_lt (length x.log) len) refl
     go : (t : Bool) → nat_lt (length x.log) len ≡ t
         → PlanIsPlaced n d x
         (if t then only_say (passing x) (message d from (Behind (length x.log)) ∷ [])
-        else only_say (passing x) (told d from len (take 1 (drop len x.log))))
+        else only_say (passing x) (told d from len (take longest_run (drop len x.log))))
     go true e = says n d x _ h ((refl, theirs, h.log), tt)
     go false e =
         let low : len ≤ length x.log = grind (arith, nat_tests) in
         let most = h.log in
-        let all : len + length (take 1 (drop len x.log)) ≤ length x.log =
-        length-take_drop 1 len x.log low in
-        says n d x _ h (told_placed n d from len (take 1 (drop len x.log)) theirs (omega arith))
+        let all : len + length (take longest_run (drop len x.log)) ≤ length x.log =
+        length-take_drop longest_run len x.log low in
+        says n d x _ h
+        (told_placed n d from len (take longest_run (drop len x.log)) theirs (omega arith))
 
 -- a message in its range is answered by messages in theirs
 pub body_placed : (n d : ℕ) (x : Desk) (from : ℕ) (body : Body) → IsDesk n from → DeskIsPlaced x

@@ -25,13 +25,17 @@ abbrev pub told : ℕ → ℕ → ℕ → List Entry → List Message
 told d from pos [] = []
 told d from pos (e ∷ es) = message d from (Decided pos e) ∷ told d from (suc pos) es
 
--- a desk that lacks entries is told the next of them, and one that has more is told the log's
--- length
+-- the most entries that are told at once
+abbrev pub longest_run : ℕ
+longest_run = 16
+
+-- a desk that lacks entries is told the next of them, so many at most, in order of position; one
+-- that has more is told the log's length
 abbrev pub on_behind : ℕ → List Entry → Passing → ℕ → ℕ → Plan
 on_behind d log p from len =
     if nat_lt (length log) len
     then only_say p (message d from (Behind (length log)) ∷ [])
-    else only_say p (told d from len (take 1 (drop len log)))
+    else only_say p (told d from len (take longest_run (drop len log)))
 
 -- a body that is no Decided is none of this step's
 abbrev pub decided_body_plan : ℕ → List Entry → Passing → ℕ → Body → Plan

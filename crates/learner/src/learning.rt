@@ -1,17 +1,20 @@
 //! How a desk learns what is decided, and catches up.
 
-ghost use Rattle.std.specs.Prelude.{◌≡◌, IfOk, IsOk};
-ghost use Rattle.learner.specs.Learning.{decided_plan, behind_plan};
+ghost use Rattle.std.specs.Prelude.{◌≡◌, ◌≤◌, IfOk, IsOk, take, drop};
+ghost use Rattle.learner.specs.Learning.{decided_plan, behind_plan, told, longest_run};
 ghost use Rattle.proposer.specs.Plans.{IsNothing};
 
 use crate::log::Log;
 use acceptor::NoMemory;
-use acceptor::message::{Body, Message};
+use acceptor::message::{Body, Message, Messages};
 use acceptor::sending::to_one;
 use proposer::plan::Plan;
 use proposer::proposer::Proposer;
 use proposer::role::Role;
 use std::alloc::Global;
+
+/// The most entries that a desk is told at once.
+const LONGEST_RUN: u32 = 16;
 
 /// What the desk plans at a Decided. Another message plans nothing here.
 ///
@@ -48,12 +51,31 @@ pub fn on_decided(
     Ok(proposer.nothing())
 }
 
+/// What a desk is told whose log ends at position `first`: the entries from there on, at most 16, in
+/// order of position, each by a message of its own.
+fn tell(alloc: Global, log: &Log, from: u8, to: u8, first: u32) -> Result<Messages, NoMemory>
+    requires { first ≤ 65536 }
+    ensures { let run = take longest_run (drop first log.now.entries) in
+        IfOk result (λ ms. ms ≡ told from to first run) }
+{
+    let mut messages = Vec::new(alloc);
+    for pos in first..first + LONGEST_RUN {
+        if let Some(entry) = log.entry(pos) {
+            let entry = entry.copy_in(alloc)?;
+            let body = Body::Decided { pos, entry };
+            messages.push(Message { from, to, body })?;
+        }
+    }
+    Ok(Messages::from_vec(messages))
+}
+
 /// What the desk plans at a Behind. Another message plans nothing here.
 ///
-/// A desk whose log is shorter is told the entry at its length. One whose log is longer is answered
-/// by this log's length, so that it tells what is missing here. At equal lengths nothing is sent,
-/// and no memory is taken. Where memory is refused, the answer is NoMemory.
-#[tactic(auto, using(crate::proofs::Told::told_there, crate::proofs::Told::told_nothing))]
+/// A desk whose log is shorter is told the entries from its length on, at most 16 and up to the end
+/// of this log, each by a message of its own, in order of position. One whose log is longer is
+/// answered by this log's length, so that it tells what is missing here. At equal lengths nothing
+/// is sent, and no memory is taken. Where memory is refused, the answer is NoMemory.
+#[tactic(auto, using(crate::proofs::Told::told_nothing))]
 pub fn on_behind(
     alloc: Global,
     log: &Log,
@@ -72,13 +94,8 @@ pub fn on_behind(
             let messages = to_one(alloc, proposer.desk(), message.from, answer)?;
             return Ok(proposer.only_say(messages));
         }
-        if let Some(entry) = log.entry(*theirs) {
-            let entry = entry.copy_in(alloc)?;
-            let news = Body::Decided {
-                pos: *theirs,
-                entry,
-            };
-            let messages = to_one(alloc, proposer.desk(), message.from, news)?;
+        if *theirs < len {
+            let messages = tell(alloc, log, proposer.desk(), message.from, *theirs)?;
             return Ok(proposer.only_say(messages));
         }
     }

@@ -18,7 +18,7 @@ use Rattle.proposer.specs.Plans.{only_say, append}
 use Rattle.proposer.specs.Proposing.{was_heard, promises_heard, promise_by_role, votes_heard, accepted_by_role, is_ballot_of}
 use Rattle.learner.specs.Desks.{Desk, passing}
 use Rattle.learner.specs.Order.{IsAtMost, IsBelow}
-use Rattle.learner.specs.Learning.{told}
+use Rattle.learner.specs.Learning.{told, longest_run}
 use Rattle.learner.specs.Steps.{answered, on_body}
 use Rattle.progress.proofs.Fits.{makes}
 
@@ -165,7 +165,7 @@ drop_some m [] h = absurd (omega (arith, h))
 drop_some zero (x ∷ xs) h = (x, xs, refl)
 drop_some (suc m) (x ∷ xs) h = drop_some m xs (omega (arith, h))
 
--- a desk that is behind is told its next entry, and perhaps further ones
+-- a desk that is behind is told its next entry, and those behind it
 pub told_at : (n d k : ℕ) (x : Desk) (m : ℕ) → m < length x.log
     → (y : Entry) × (more : List Message)
     × (on_body n k x d (Behind m) ≡ makes x.seen None None (message k d (Decided m y) ∷ more))
@@ -173,10 +173,10 @@ told_at n d k x m h =
     let s = drop_some m x.log h in
     let t : nat_lt (length x.log) m ≡ false = grind (arith, nat_tests) in (
       s.0,
-      [],
+      told k d (suc m) (take 15 s.1),
       ap (λ b. if b then asks_more x k d else only_say (passing x)
-          (told k d m (take 1 (drop m x.log)))) t
-          ∙ ap (λ l. only_say (passing x) (told k d m (take 1 l))) s.2,
+          (told k d m (take longest_run (drop m x.log)))) t
+          ∙ ap (λ l. only_say (passing x) (told k d m (take longest_run l))) s.2,
     )
 
 -- desk d at a Promise that it waits for

@@ -24,7 +24,7 @@ use Rattle.proposer.specs.declared.role.Role.TheVariants.{Idle, Gathering, Propo
 use Rattle.proposer.specs.Plans.{Passing, role_after, only_say, become, give_way, append}
 use Rattle.proposer.specs.Proposing.{is_full, is_majority, last_round, gather, new_ballot, is_outbid, ask_next, lead, start, start_by_role, wants_ballot, tell_length, tick_idle, tick, tick_by_role, was_heard, highest, choice, propose, promises_heard, promise_by_role, votes_heard, accepted_by_role, is_ballot_of}
 use Rattle.learner.specs.Desks.{Desk, adopt, passing, restarted}
-use Rattle.learner.specs.Learning.{told}
+use Rattle.learner.specs.Learning.{told, longest_run}
 use Rattle.learner.specs.Steps.{Done, answered, on_body, is_desk, is_heeded, done, idle, planned, passed, step}
 use Rattle.learner.specs.Worlds.{World, put, world_after, nth_sent, delivered, at_desk, happens, run, after, new_world}
 use Rattle.learner.specs.declared.event.Event.{Event}
@@ -272,7 +272,7 @@ body_fits n d x from (Behind len) = go (nat_lt (length x.log) len)
   where
     go : (t : Bool) → PlanFits n (length x.log)
         (if t then only_say (passing x) (message d from (Behind (length x.log)) ∷ []) else only_say
-        (passing x) (told d from len (take 1 (drop len x.log))))
+        (passing x) (told d from len (take longest_run (drop len x.log))))
     go true = (tt, tt)
     go false = (tt, tt)
 body_fits n d x from (Decided pos e) = go (pos == length x.log)
