@@ -1,4 +1,5 @@
 pub mod Sheet
 pub mod Faults
 pub mod FrameLaw
+pub mod ReadingBack
 pub mod model

@@ -4,11 +4,13 @@
 mod as_table;
 mod as_text;
 mod laws;
+mod reading_back;
 mod shown;
 
 pub use as_table::table;
 pub use as_text::text;
 pub use laws::fits_in_a_frame;
+pub use reading_back::table_reads_back;
 
 /// How a sheet is printed.
 #[derive(Clone, Copy, Debug, PartialEq, Eq)]

@@ -1,0 +1,192 @@
+-- The table of a sheet reads back as the fields that were written.
+use Rattle.std.proofs.Common.{◌≡◌, ◌∙◌, ℕ, Bool, true, false, cond, ◌==◌, List, [], ◌∷◌, ◌++◌, map, filter, flat_map, find, Some, None, option_map, unwrap_or, length, refl, sym, ap, subst, eqb-true}
+use Rattle.std.proofs.lemmas.Bool.{eq-eqb}
+use Rattle.std.specs.List.{AllByRecursion, range_with_len}
+use Rattle.csv.specs.Machine.{next_record}
+use Rattle.csv.specs.Reading.{Reached, default_config, strip_bom}
+use Rattle.csv.specs.Writing.{default_writer, read_back, row_text}
+use Rattle.csv.specs.declared.parser.State.TheVariants as st
+use Rattle.csv.proofs.RoundTrip.{read-write, rows_text}
+use Rattle.formats.specs.declared.events.Event.{Event}
+use Rattle.formats.specs.Events.{attempts_of, unit_of}
+use Rattle.rounds.specs.Tables.{Entrant, Table, at_place, entrant, has_number, number_of_entrant, place, standings}
+use Rattle.texts.specs.declared.command.Command.{Command}
+use Rattle.texts.specs.declared.command.Settings.{Settings}
+use Rattle.sheets.specs.Sheet.{entrant_record, header, name_text, record_of, table_of_round}
+use Rattle.sheets.specs.ReadingBack.{TableReadsBack, fields_of_entrant}
+
+-- Lists
+
+all_weaker : {X : Type 0} (P Q : X → Type 0) → ((x : X) → P x → Q x) → (xs : List X)
+    → AllByRecursion P xs → AllByRecursion Q xs
+all_weaker P Q each [] h = tt
+all_weaker P Q each (x ∷ xs) h = (each x h.0, all_weaker P Q each xs h.1)
+
+all_append : {X : Type 0} (P : X → Type 0) (xs ys : List X) → AllByRecursion P xs
+    → AllByRecursion P ys → AllByRecursion P (xs ++ ys)
+all_append P [] ys h k = k
+all_append P (x ∷ xs) ys h k = (h.0, all_append P xs ys h.1 k)
+
+all_map : {X Y : Type 0} (P : Y → Type 0) (f : X → Y) (xs : List X)
+    → AllByRecursion (λ x. P (f x)) xs → AllByRecursion P (map f xs)
+all_map P f [] h = tt
+all_map P f (x ∷ xs) h = (h.0, all_map P f xs h.1)
+
+all_filter : {X : Type 0} (P : X → Type 0) (p : X → Bool) (xs : List X) → AllByRecursion P xs
+    → AllByRecursion P (filter p xs)
+all_filter P p [] h = tt
+all_filter {X} P p (x ∷ xs) h = step (p x) (all_filter P p xs h.1)
+  where
+    step : (b : Bool) → AllByRecursion P (filter p xs)
+        → AllByRecursion P (cond b (x ∷ filter p xs) (filter p xs))
+    step true rest = (h.0, rest)
+    step false rest = rest
+
+all_flat_map : {X Y : Type 0} (P : Y → Type 0) (f : X → List Y) → ((x : X) → AllByRecursion P (f x))
+    → (xs : List X) → AllByRecursion P (flat_map f xs)
+all_flat_map P f each [] = tt
+all_flat_map P f each (x ∷ xs) =
+    all_append P (f x) (flat_map f xs) (each x) (all_flat_map P f each xs)
+
+-- Entrants
+
+-- somebody has the number
+abbrev IsFound : List Entrant → ℕ → Type 0
+IsFound es n = (e : Entrant) × (find (has_number n) es ≡ Some e)
+
+found_behind : (first : Entrant) (es : List Entrant) (n : ℕ) → IsFound es n
+    → IsFound (first ∷ es) n
+found_behind first es n is = step (has_number n first)
+  where
+    step : (b : Bool)
+        → (e : Entrant) × (cond b (Some first) (find (has_number n) es) ≡ Some e)
+    step true = (first, refl)
+    step false = is
+
+all_found : (es : List Entrant) → AllByRecursion (λ e. IsFound es e.number) es
+all_found [] = tt
+all_found (e ∷ es) = (
+  (e, ap (λ b. cond b (Some e) (find (has_number e.number) es)) (eq-eqb e.number e.number refl)),
+  all_weaker (λ x. IsFound es x.number) (λ x. IsFound (e ∷ es) x.number)
+      (λ x is. found_behind e es x.number is) es (all_found es),
+)
+
+-- who is found has the number
+found_number : (es : List Entrant) (n : ℕ) (e : Entrant) → find (has_number n) es ≡ Some e
+    → n ≡ e.number
+found_number [] n e is = absurd (cc is)
+found_number (first ∷ es) n e is =
+    step (has_number n first) refl is (λ later. found_number es n e later)
+  where
+    step : (b : Bool) → has_number n first ≡ b
+        → cond b (Some first) (find (has_number n) es) ≡ Some e
+        → (find (has_number n) es ≡ Some e → n ≡ e.number) → n ≡ e.number
+    step true same here behind =
+        let it : first ≡ e = cc here in eqb-true n first.number same ∙ ap number_of_entrant it
+    step false other later behind = behind later
+
+all_standing : (t : Table) → AllByRecursion (IsFound t.entrants) (standings t)
+all_standing t =
+    all_flat_map (IsFound t.entrants) (λ p. map number_of_entrant (at_place t p))
+    (λ p. all_map (IsFound t.entrants) number_of_entrant (at_place t p)
+    (all_filter (λ e. IsFound t.entrants e.number) (λ e. place t e == p) t.entrants
+    (all_found t.entrants)))
+    (range_with_len 1 (length t.entrants))
+
+-- Records
+
+-- these numbers are those of entrants, and their records are written so
+abbrev Gathered : List Command → Event → Settings × Table → List ℕ → Type 0
+Gathered cs event r ns =
+    (es : List Entrant) × (map number_of_entrant es ≡ ns)
+    × AllByRecursion (λ e. entrant r.1 e.number ≡ Some e) es
+    × (flat_map (record_of (unit_of event) cs r.0 r.1) ns
+    ≡ rows_text (map (fields_of_entrant cs event r) es))
+
+record_found : (cs : List Command) (event : Event) (r : Settings × Table) (e : Entrant)
+    → entrant r.1 e.number ≡ Some e
+    → record_of (unit_of event) cs r.0 r.1 e.number
+    ≡ row_text default_writer (fields_of_entrant cs event r e)
+unfolding entrant_record
+record_found cs event r e is =
+    ap
+    (λ o. unwrap_or
+    (option_map (entrant_record (unit_of event) r.0 r.1 e.number (name_text cs e.number)) o) []) is
+
+gather : (cs : List Command) (event : Event) (r : Settings × Table) (ns : List ℕ)
+    → AllByRecursion (IsFound r.1.entrants) ns → Gathered cs event r ns
+unfolding rows_text
+gather cs event r [] are = ([], refl, tt, refl)
+gather cs event r (n ∷ ns) are =
+    let e = are.0.0 in
+    let same : n ≡ e.number = found_number r.1.entrants n e are.0.1 in
+    let rest = gather cs event r ns are.1 in
+    let found : entrant r.1 e.number ≡ Some e =
+    subst (λ (k : ℕ). entrant r.1 k ≡ Some e) same are.0.1 in
+    let here : record_of (unit_of event) cs r.0 r.1 n
+    ≡ row_text default_writer (fields_of_entrant cs event r e) =
+    ap (record_of (unit_of event) cs r.0 r.1) same ∙ record_found cs event r e found in (
+      e ∷ rest.0,
+      ap (λ k. k ∷ map number_of_entrant rest.0) (sym same) ∙ ap (λ ks. n ∷ ks) rest.1,
+      (found, rest.2),
+      ap (λ x. x ++ flat_map (record_of (unit_of event) cs r.0 r.1) ns) here
+          ∙ ap (λ x. row_text default_writer (fields_of_entrant cs event r e) ++ x) rest.3,
+    )
+
+-- Reading
+
+-- records that have a field each read back one after the other
+reached : (rows : List (List (List ℕ))) → AllByRecursion (λ fields. read_back fields ≡ fields) rows
+    → Reached default_config st.StartRecord (rows_text rows) rows st.StartRecord []
+unfolding Reached rows_text
+reached [] are = (refl, refl)
+reached (fields ∷ rows) are = (
+  (read_back fields, st.StartRecord, rows_text rows),
+  read-write fields (rows_text rows),
+  sym are.0,
+  reached rows are.1,
+)
+
+no_more : next_record default_config st.StartRecord [] [] [] ≡ None
+unfolding next_record
+no_more = refl
+
+each_has_fields : (cs : List Command) (event : Event) (r : Settings × Table) (es : List Entrant)
+    → AllByRecursion (λ fields. read_back fields ≡ fields) (map (fields_of_entrant cs event r) es)
+each_has_fields cs event r [] = tt
+each_has_fields cs event r (e ∷ es) = (refl, each_has_fields cs event r es)
+
+-- the table begins with the name of a column, and so with no mark of an order of bytes
+no_mark : (n : ℕ) (rest : List ℕ)
+    → strip_bom (row_text default_writer (header n) ++ rest)
+    ≡ row_text default_writer (header n) ++ rest
+unfolding strip_bom
+no_mark n rest = refl
+
+table_rows : (cs : List Command) (event : Event) (r : Settings × Table)
+    → (g : Gathered cs event r (standings r.1))
+    → table_of_round cs event r
+    ≡ rows_text (header (attempts_of r.0.format) ∷ map (fields_of_entrant cs event r) g.0)
+unfolding rows_text
+table_rows cs event r g =
+    ap (λ x. row_text default_writer (header (attempts_of r.0.format)) ++ x) g.3
+
+pub reads_back : TableReadsBack
+reads_back cs event round r is =
+    let g = gather cs event r (standings r.1) (all_standing r.1) in
+    let rows = header (attempts_of r.0.format) ∷ map (fields_of_entrant cs event r) g.0 in
+    let text = table_rows cs event r g in
+    let plain = no_mark (attempts_of r.0.format)
+    (flat_map (record_of (unit_of event) cs r.0 r.1) (standings r.1)) in (
+      table_of_round cs event r,
+      ap (option_map (table_of_round cs event)) is,
+      g.0,
+      (g.1, g.2),
+      (
+        st.StartRecord,
+        [],
+        subst (λ (x : List ℕ). Reached default_config st.StartRecord x rows st.StartRecord [])
+            (sym (plain ∙ text)) (reached rows (refl, each_has_fields cs event r g.0)),
+        no_more,
+      ),
+    )
