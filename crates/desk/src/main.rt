@@ -15,8 +15,6 @@ mod serve_words;
 mod sheet_words;
 mod stop_words;
 mod task;
-#[cfg(test)]
-mod tests;
 mod tick_words;
 mod words;
 
