@@ -49,6 +49,22 @@ class World:
         return copy.deepcopy(self)
 
 
+def leave_behind(rng, world, count, ids):
+    """More than half of the desks decide entries, and nothing comes to the others."""
+    part = rng.sample(range(1, count + 1), count // 2 + 1)
+    number = len(world.sent)
+    for _ in range(rng.randrange(1, 24)):
+        ids += 1
+        world.try_to("submit", part[0], (ids, b"t"))
+        world.try_to("tick", part[0])
+        while number < len(world.sent):
+            sender, to = world.sent[number][:2]
+            number += 1
+            if sender in part and to in part:
+                world.do("deliver", number)
+    return ids
+
+
 def random_world(rng, count):
     """Any events: also late, repeated and lost messages, bursts in a part of the hall, restarts."""
     world = World(count)
@@ -64,6 +80,8 @@ def random_world(rng, count):
             world.try_to(rng.choice(["start", "tick", "tick"]), at)
         elif what < 0.45:
             world.do("restart", at)
+        elif what < 0.47:
+            ids = leave_behind(rng, world, count, ids)
         elif what < 0.75 and world.sent:
             world.do("deliver", rng.randrange(1, len(world.sent) + 1))
         elif world.sent:
