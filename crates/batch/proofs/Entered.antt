@@ -5,7 +5,7 @@ use Rattle.std.proofs.KnownBytes.{Appends-trans, Appends-nil}
 use Rattle.std.specs.Io.KnownBytes.{Appends, Consumes}
 use Rattle.lines.specs.Bytes.{AppendsPart}
 use Rattle.lines.specs.Lines.{lines_of}
-use Rattle.lines.specs.Reading.{Reading, nothing_read, HasGiven, GivesLine, GivesFault, Gives}
+use Rattle.lines.specs.Reading.{Reading, nothing_read, HasGiven, GivesLine, GivesNone, GivesFault, Gives}
 use Rattle.lines.specs.declared.fault.RunFault.{RunFault}
 use Rattle.lines.specs.declared.fault.RunFault.TheVariants as fault
 use Rattle.lines.proofs.Inputs.{part_after, part_front, whole_written}
@@ -60,25 +60,32 @@ one_more b p q line given said one start before now old new new' e g is next = r
   written = Appends-trans old new new' said one e.written next;
 }
 
+pub gives_false : (t : Bool) (p : Reading) (line given : List ℕ) (start now : Option (List ℕ))
+    → t ≡ false → Gives (Ok t) p line given start now → GivesNone p given start now
+gives_false true p line given start now is h = cc
+gives_false false p line given start now is h = h
+
 -- all lines were entered
-pub enters_all : (b : Batch) (p : Reading) (given said : List ℕ)
-    (start now old new : Option (List ℕ))
-    → Entered b p given said start now old new → HasGiven p given start now → p.over ≡ true
+unfoldable pub enters_all : (b : Batch) (p q : Reading) (given said : List ℕ)
+    (start before now old new : Option (List ℕ))
+    → Entered b p given said start before old new → GivesNone q given start now
     → EntersAll b (record { had = start; left = now; old = old; new = new })
-enters_all b p given said start now old new e read over = record {
-  input = given;
-  said = said;
-  read = subst (Consumes start now)
-      (ap (λ x. given ++ x) (read.ended over).0 ∙ append-nil given)
-      read.consumed;
-  ended = (read.ended over).1;
-  within = read.within;
-  entered = e.entered;
-  written = e.written;
-}
+enters_all b p q given said start before now old new e none =
+    let ended = none.read.ended none.over in
+    record {
+      input = given;
+      said = said;
+      read =
+          subst (Consumes start now) (ap (λ x. given ++ x) ended.0 ∙ append-nil given)
+          none.read.consumed;
+      ended = ended.1;
+      within = none.read.within;
+      entered = e.entered;
+      written = e.written;
+    }
 
 -- a line was given and not entered
-pub stops_in : (b : Batch) (p q : Reading) (line given said next : List ℕ)
+unfoldable pub stops_in : (b : Batch) (p q : Reading) (line given said next : List ℕ)
     (start before now old new new' : Option (List ℕ))
     → Entered b p given said start before old new → (g : GivesLine q line given start now)
     → AppendsPart new new' next
@@ -94,30 +101,28 @@ stops_in b p q line given said next start before now old new new' e g part = rec
 }
 
 -- reading ended early, behind lines that were entered
-pub stops_at : (f : RunFault) (b : Batch) (p : Reading) (given said : List ℕ)
+pub front_read : (f : RunFault) (given : List ℕ) (start now : Option (List ℕ))
+    → GivesFault f given start now → (rest : List ℕ) × Consumes start now (given ++ rest)
+front_read fault.InputTooLong given start now g = (g.0, g.1.consumed)
+front_read fault.Read given start now g = (g.0, g.1.consumed)
+front_read fault.NoMemory given start now g = (g.0, g.1)
+front_read fault.Write given start now g = absurd g
+front_read fault.NoSuchRound given start now g = absurd g
+front_read fault.BadCount given start now g = absurd g
+front_read (fault.BadLine n) given start now g = absurd g
+
+unfoldable pub stops_at : (f : RunFault) (b : Batch) (p : Reading) (given said : List ℕ)
     (start before now old new : Option (List ℕ))
     → Entered b p given said start before old new → GivesFault f given start now
     → EntersSome b (record { had = start; left = now; old = old; new = new })
-stops_at f b p given said start before now old new e g = step f g
-  where
-    stop : (rest : List ℕ) → Consumes start now (given ++ rest)
-        → EntersSome b (record { had = start; left = now; old = old; new = new })
-    stop rest read = record {
+stops_at f b p given said start before now old new e g =
+    let front = front_read f given start now g in
+    record {
       front = given;
-      rest = rest;
+      rest = front.0;
       said = said;
-      read = read;
+      read = front.1;
       entered = e.entered;
       next = [];
       written = part_front old new said [] (whole_written old new said e.written);
     }
-
-    step : (f : RunFault) → GivesFault f given start now
-        → EntersSome b (record { had = start; left = now; old = old; new = new })
-    step fault.InputTooLong g = stop g.0 g.1.consumed
-    step fault.Read g = stop g.0 g.1.consumed
-    step fault.NoMemory g = stop g.0 g.1
-    step fault.Write g = absurd g
-    step fault.NoSuchRound g = absurd g
-    step fault.BadCount g = absurd g
-    step (fault.BadLine n) g = absurd g

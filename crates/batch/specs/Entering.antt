@@ -1,37 +1,13 @@
 -- What entering lines sends and prints.
-use Rattle.std.specs.Prelude.{◌≡◌, ◌+◌, ◌++◌, ◌∷◌, [], ℕ, Bool, true, false, List, Option, Ok}
+use Rattle.std.specs.Prelude.{◌≡◌, ◌+◌, ◌++◌, ◌∷◌, [], ℕ, Bool, true, false, List, length, Option}
 use Rattle.std.specs.Io.KnownBytes.{Appends, Consumes, IsAtEnd}
-use Rattle.client.specs.Answers.{judged}
 use Rattle.client.specs.Printing.{reply_text}
 use Rattle.lines.specs.Bytes.{AppendsPart}
 use Rattle.lines.specs.Lines.{is_within, lines_of}
-use Rattle.wire.specs.Ranges.{IsFrame}
-use Rattle.wire.specs.declared.frame.Frame.{Frame}
 use Rattle.wire.specs.declared.frame.What.{What}
-use Rattle.wire.specs.declared.frame.What.TheVariants as what
-use Rattle.wire.specs.declared.values.Standing.TheVariants.{Done}
+use Rattle.batch.specs.Asking.{Adds, AreOf, Asked, IsAnswer, IsAwaited, IsDecided, IsTaken, ask_of, submit_of}
 use Rattle.batch.specs.declared.asking.Receiver.{Receiver}
 use Rattle.batch.specs.declared.lines_entered.Batch.{Batch}
-
--- a request goes from a client, which is 0, to the desk
-abbrev pub request_to : Receiver → What → Frame
-request_to r asked = record { hall = r.hall; from = 0; to = r.desk; what = asked }
-
--- the request that enters a text with an id
-abbrev pub submit_of : Receiver → ℕ → List ℕ → Frame
-submit_of r id text = request_to r (what.Submit (record { id = id; text = text }))
-
--- the request that asks what became of an id
-abbrev pub ask_of : Receiver → ℕ → Frame
-ask_of r id = request_to r (what.Ask id)
-
--- a frame came that is the answer to the request
-abbrev pub IsAnswer : Frame → What → Type 0
-IsAnswer asked answer = (given : Frame) × IsFrame given × (judged asked given ≡ Ok answer)
-
--- it says that the command stands in the log
-abbrev pub IsDecided : What → Type 0
-IsDecided answer = (id pos : ℕ) × (said : _) × (answer ≡ what.Told id (Done pos said))
 
 -- what is answered at last, where a command is waited for, and where it is not
 abbrev pub IsLast : Bool → Receiver → ℕ → What → What → Type 0
@@ -81,3 +57,45 @@ pub record EntersSome (b : Batch) (s : Sides) : Type 0 where
   pub entered : Says b b.first_id (lines_of front) said
   pub next : List ℕ
   pub written : AppendsPart s.old s.new (said ++ next)
+
+-- ---- what was asked
+
+-- these requests entered the text with the id, and where it is waited for, they waited until it was
+-- decided
+abbrev pub EnteredBy : Bool → Receiver → ℕ → List ℕ → What → List Asked → Type 0
+EnteredBy true r id text last asked =
+    (taken : What) × (first rest : List Asked) × IsTaken r id text taken first
+    × IsAwaited r id last rest × (asked ≡ first ++ rest)
+EnteredBy false r id text last asked = IsTaken r id text last asked
+
+-- These requests entered the lines, one line after the other, of which the first has this id, and
+-- each further one the next; and this is what is printed of the last answers.
+abbrev pub SaidBy : Batch → ℕ → List (List ℕ) → List ℕ → List Asked → Type 0
+SaidBy b id [] said asked = (said ≡ []) × (asked ≡ [])
+SaidBy b id (line ∷ lines) said asked =
+    (last : What) × (more : List ℕ) × (first rest : List Asked)
+    × EnteredBy b.waits b.receiver id line last first × SaidBy b (id + 1) lines more rest
+    × (said ≡ reply_text last ++ more) × (asked ≡ first ++ rest)
+
+-- what was asked before and afterwards, where it is told
+pub record Told : Type 0 where
+  pub old : Option (List Asked)
+  pub new : Option (List Asked)
+
+-- each line was entered by the requests that were made, and by no others
+pub record AsksAll (b : Batch) (s : Sides) (t : Told) : Type 0 where
+  pub enters : EntersAll b s
+  pub asked : List Asked
+  pub told : Adds t.old t.new asked
+  pub each : SaidBy b b.first_id (lines_of enters.input) enters.said asked
+
+-- So were the lines of the front part. What was asked behind them was for one line, with the next
+-- id.
+pub record AsksSome (b : Batch) (s : Sides) (t : Told) : Type 0 where
+  pub enters : EntersSome b s
+  pub asked : List Asked
+  pub behind : List Asked
+  pub told : Adds t.old t.new (asked ++ behind)
+  pub each : SaidBy b b.first_id (lines_of enters.front) enters.said asked
+  pub line : List ℕ
+  pub next : AreOf b.receiver (b.first_id + length (lines_of enters.front)) line behind

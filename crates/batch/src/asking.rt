@@ -1,8 +1,8 @@
-//! One request to the desk, over a connection of its own.
+//! Requests to a desk and what it answers, one after the other.
 
-ghost use Rattle.std.specs.Prelude.{◌≡◌, IfOk};
+ghost use Rattle.std.specs.Prelude.{◌≡◌, ◌∷◌, [], List, None, Option, IfOk};
 ghost use Rattle.wire.specs.Ranges.{IsFrame};
-ghost use Rattle.batch.specs.Entering.{IsAnswer};
+ghost use Rattle.batch.specs.Asking.{Adds, Asked, IsAnswer, request_to};
 
 use crate::dialing::Dial;
 use crate::fault::BatchFault;
@@ -19,6 +19,45 @@ pub struct Receiver {
     pub hall: u32,
     /// Its number, 1 to 5.
     pub desk: u8,
+}
+
+/// The request of a client, which is 0, to a desk.
+pub(crate) fn request_to(receiver: Receiver, what: What) -> Frame
+    ensures { result ≡ request_to receiver what }
+{
+    Frame {
+        hall: receiver.hall,
+        from: 0,
+        to: receiver.desk,
+        what,
+    }
+}
+
+/// What requests to a desk are made by, one after the other.
+pub trait Ask {
+    /// The requests that were made, each with what came of it, in order, where that is told.
+    ghost asked: { Self → Option (List Asked) };
+
+    /// Makes a request, and gives the desk's answer to it.
+    fn ask(&mut self, alloc: Global, request: &Frame) -> Result<What, BatchFault>
+        requires { IsFrame request.now }
+        ensures told { Adds (asked self.old) (asked self.new)
+            (record { request = request.now; answer = result } ∷ []) }
+        ensures answered { IfOk result (λ answer. IsAnswer request.now answer) };
+}
+
+/// Requests over connections to a desk, each over one of its own.
+#[derive(Drop)]
+pub(crate) struct Dialing<'a, D> {
+    pub(crate) dial: &'a mut D,
+}
+
+impl<D: Dial> Ask for Dialing<'_, D> {
+    ghost asked = { λ _. None };
+
+    fn ask(&mut self, alloc: Global, request: &Frame) -> Result<What, BatchFault> {
+        asked(alloc, self.dial, request)
+    }
 }
 
 /// Why nobody could be reached.
@@ -40,11 +79,7 @@ fn no_answer(fault: ClientFault) -> BatchFault {
 }
 
 /// Opens a connection, writes a request, and reads the answer.
-pub(crate) fn asked<D: Dial>(
-    alloc: Global,
-    dial: &mut D,
-    request: &Frame,
-) -> Result<What, BatchFault>
+fn asked<D: Dial>(alloc: Global, dial: &mut D, request: &Frame) -> Result<What, BatchFault>
     requires { IsFrame request.now }
     ensures { IfOk result (λ answer. IsAnswer request.now answer) }
 {

@@ -1,12 +1,14 @@
 //! One command entered at the desk, and waited for.
 
-ghost use Rattle.std.specs.Prelude.{◌≡◌, IfOk};
+ghost use Rattle.std.specs.Prelude.{◌≡◌, List, IfOk, OnErr, OnOk, IsTrue};
+ghost use Rattle.std.specs.List.{AllByRecursion};
 ghost use Rattle.wire.specs.Ranges.{IsDesk, IsEntry, IsFrame, IsId};
-ghost use Rattle.batch.specs.Entering.{ask_of, submit_of, IsAnswer, IsDecided, IsEntered};
+ghost use Rattle.batch.specs.Asking.{AreOf, Asked, Asks, IsAnswer, IsAwaited, IsDecided, IsTaken, IsTicked, IsTurnedDown, Tries, ask_of, submit_of, tick_of};
+ghost use Rattle.batch.specs.Entering.{EnteredBy, IsEntered};
+ghost use Rattle.batch.specs.model.Trying.{AreFor};
 ghost use Rattle.batch.specs.declared.entering.Fate.TheVariants as fate;
 
-use crate::asking::{Receiver, asked};
-use crate::dialing::Dial;
+use crate::asking::{Ask, Receiver, request_to};
 use crate::fault::BatchFault;
 use acceptor::entry::{Entry, EntryFault};
 use client::ClientFault;
@@ -23,31 +25,33 @@ const TRIES_TO_TICK: u32 = 256;
 const GREATEST: u64 = 9_223_372_036_854_775_807;
 
 /// Gives the desk a tick behind so many tries, and behind no others.
-fn tick_behind<D: Dial>(
+fn tick_behind<A: Ask>(
     alloc: Global,
-    dial: &mut D,
+    desk: &mut A,
     receiver: Receiver,
     tries: u32,
 ) -> Result<(), BatchFault>
     requires { IsDesk receiver.desk }
+    ensures ok { OnOk result
+        (Asks (A.asked desk.old) (A.asked desk.new) (AllByRecursion (IsTicked receiver))) }
+    ensures err { OnErr result (Asks (A.asked desk.old) (A.asked desk.new)
+        (AllByRecursion (λ a. a.request ≡ tick_of receiver))) }
 {
     if tries % TRIES_TO_TICK < TRIES_TO_TICK - 1 {
         return Ok(());
     }
-    let tick = Frame {
-        hall: receiver.hall,
-        from: 0,
-        to: receiver.desk,
-        what: What::Tick,
-    };
-    match asked(alloc, dial, &tick) {
+    let tick = request_to(receiver, What::Tick);
+    match desk.ask(alloc, &tick) {
         Ok(_) => Ok(()),
         Err(fault) => Err(fault),
     }
 }
 
 /// Whether a request is to be made again, since the desk's queue was full.
-fn is_busy(fault: BatchFault) -> bool {
+fn is_busy(fault: BatchFault) -> bool
+    ensures { IsTrue result
+        → fault ≡ BatchFault.Asking (ClientFault.Refused ClientRefusal.Busy) }
+{
     match fault {
         BatchFault::Asking(ClientFault::Refused { refusal }) => refusal == ClientRefusal::Busy,
         _ => false,
@@ -55,18 +59,22 @@ fn is_busy(fault: BatchFault) -> bool {
 }
 
 /// Makes a request until the desk's queue has room.
-fn asked_until_taken<D: Dial>(
+fn asked_until_taken<A: Ask>(
     alloc: Global,
-    dial: &mut D,
+    desk: &mut A,
     receiver: Receiver,
     submit: &Frame,
 ) -> Result<What, BatchFault>
     requires desk { IsDesk receiver.desk }
     requires spelled { IsFrame submit.now }
-    ensures { IfOk result (λ answer. IsAnswer submit.now answer) }
+    ensures answer { IfOk result (λ answer. IsAnswer submit.now answer) }
+    ensures ok { IfOk result (λ answer. Asks (A.asked desk.old) (A.asked desk.new)
+        (Tries (IsTurnedDown receiver submit.now) submit.now answer)) }
+    ensures err { OnErr result
+        (Asks (A.asked desk.old) (A.asked desk.new) (AreFor receiver submit.now)) }
 {
     for tries in 0..MOST_TRIES {
-        match asked(alloc, dial, submit) {
+        match desk.ask(alloc, submit) {
             Ok(answer) => return Ok(answer),
             Err(fault) => {
                 if !is_busy(fault) {
@@ -74,9 +82,11 @@ fn asked_until_taken<D: Dial>(
                 }
             }
         }
-        tick_behind(alloc, dial, receiver, tries)?;
+        if let Err(fault) = tick_behind(alloc, desk, receiver, tries) {
+            return Err(fault);
+        }
     }
-    asked(alloc, dial, submit)
+    desk.ask(alloc, submit)
 }
 
 /// The entry, whose id and text are in their ranges.
@@ -103,27 +113,26 @@ fn entry_of(alloc: Global, id: u64, text: &[u8]) -> Result<Entry, BatchFault>
 }
 
 /// Enters a command, and gives what the desk answers.
-fn submitted<D: Dial>(
+fn submitted<A: Ask>(
     alloc: Global,
-    dial: &mut D,
+    desk: &mut A,
     receiver: Receiver,
     id: u64,
     text: &[u8],
 ) -> Result<What, BatchFault>
     requires { IsDesk receiver.desk }
-    ensures { IfOk result (λ answer. IsAnswer (submit_of receiver id text.now) answer) }
+    ensures answer { IfOk result (λ answer. IsAnswer (submit_of receiver id text.now) answer) }
+    ensures ok { IfOk result (λ answer. Asks (A.asked desk.old) (A.asked desk.new)
+        (IsTaken receiver id text.now answer)) }
+    ensures err { OnErr result (Asks (A.asked desk.old) (A.asked desk.new)
+        (AreFor receiver (submit_of receiver id text.now))) }
 {
     let entry = match entry_of(alloc, id, text) {
         Ok(entry) => entry,
         Err(fault) => return Err(fault),
     };
-    let submit = Frame {
-        hall: receiver.hall,
-        from: 0,
-        to: receiver.desk,
-        what: What::Submit { entry },
-    };
-    asked_until_taken(alloc, dial, receiver, &submit)
+    let submit = request_to(receiver, What::Submit { entry });
+    asked_until_taken(alloc, desk, receiver, &submit)
 }
 
 /// What an answer says of a command.
@@ -136,7 +145,8 @@ enum Fate {
 
 /// What a desk's answer says of a command.
 fn fate_of(told: &What) -> Fate
-    ensures { result ≡ fate.Decided → IsDecided told.now }
+    ensures decided { result ≡ fate.Decided → IsDecided told.now }
+    ensures waits { result ≡ fate.Waits → ¬ IsDecided told.now }
 {
     match told {
         What::Told { standing, .. } => match standing {
@@ -149,24 +159,23 @@ fn fate_of(told: &What) -> Fate
 }
 
 /// Asks until the command with an id is decided, and gives the answer.
-fn decided<D: Dial>(
+fn decided<A: Ask>(
     alloc: Global,
-    dial: &mut D,
+    desk: &mut A,
     receiver: Receiver,
     id: u64,
 ) -> Result<What, BatchFault>
     requires desk { IsDesk receiver.desk }
     requires id { IsId id }
-    ensures { IfOk result (λ told. IsAnswer (ask_of receiver id) told × IsDecided told) }
+    ensures answer { IfOk result (λ told. IsAnswer (ask_of receiver id) told × IsDecided told) }
+    ensures ok { IfOk result (λ told. Asks (A.asked desk.old) (A.asked desk.new)
+        (IsAwaited receiver id told)) }
+    ensures err { OnErr result (Asks (A.asked desk.old) (A.asked desk.new)
+        (AreFor receiver (ask_of receiver id))) }
 {
-    let ask = Frame {
-        hall: receiver.hall,
-        from: 0,
-        to: receiver.desk,
-        what: What::Ask { id },
-    };
+    let ask = request_to(receiver, What::Ask { id });
     for tries in 0..MOST_TRIES {
-        let told = match asked(alloc, dial, &ask) {
+        let told = match desk.ask(alloc, &ask) {
             Ok(told) => told,
             Err(fault) => return Err(fault),
         };
@@ -175,33 +184,39 @@ fn decided<D: Dial>(
             Fate::Unknown => return Err(BatchFault::Lost),
             Fate::Waits => {}
         }
-        tick_behind(alloc, dial, receiver, tries)?;
+        if let Err(fault) = tick_behind(alloc, desk, receiver, tries) {
+            return Err(fault);
+        }
     }
     Err(BatchFault::StillPending)
 }
 
 /// Enters a command, and waits until it is decided where that is asked for. It gives the last
 /// answer.
-pub(crate) fn entered<D: Dial>(
+pub(crate) fn entered<A: Ask>(
     alloc: Global,
-    dial: &mut D,
+    desk: &mut A,
     receiver: Receiver,
     waits: bool,
     id: u64,
     text: &[u8],
 ) -> Result<What, BatchFault>
     requires { IsDesk receiver.desk }
-    ensures { IfOk result (λ last. IsEntered waits receiver id text.now last) }
+    ensures answer { IfOk result (λ last. IsEntered waits receiver id text.now last) }
+    ensures ok { IfOk result (λ last. Asks (A.asked desk.old) (A.asked desk.new)
+        (EnteredBy waits receiver id text.now last)) }
+    ensures err { OnErr result
+        (Asks (A.asked desk.old) (A.asked desk.new) (AreOf receiver id text.now)) }
 {
     if id == 0 || id > GREATEST {
         return Err(BatchFault::NoMoreIds);
     }
-    let taken = match submitted(alloc, dial, receiver, id, text) {
+    let taken = match submitted(alloc, desk, receiver, id, text) {
         Ok(taken) => taken,
         Err(fault) => return Err(fault),
     };
     if !waits {
         return Ok(taken);
     }
-    decided(alloc, dial, receiver, id)
+    decided(alloc, desk, receiver, id)
 }

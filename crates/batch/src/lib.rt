@@ -7,7 +7,7 @@ mod entering;
 mod fault;
 mod lines_entered;
 
-pub use asking::Receiver;
+pub use asking::{Ask, Receiver};
 pub use dialing::Dial;
 pub use fault::BatchFault;
-pub use lines_entered::{Batch, enter_lines};
+pub use lines_entered::{Batch, enter_lines, enter_lines_by};

@@ -5,9 +5,11 @@ ghost use Rattle.wire.specs.Ranges.{IsDesk};
 ghost use Rattle.std.specs.Io.KnownBytes.{Appends};
 ghost use Rattle.lines.specs.Bytes.{AppendsPart};
 ghost use Rattle.client.specs.Printing.{reply_text};
-ghost use Rattle.batch.specs.Entering.{EntersAll, EntersSome, IsSaid};
+ghost use Rattle.wire.specs.declared.frame.What.{What as WhatValue};
+ghost use Rattle.batch.specs.Asking.{AreOf, Asks};
+ghost use Rattle.batch.specs.Entering.{AsksAll, AsksSome, EnteredBy, EntersAll, EntersSome, IsEntered};
 
-use crate::asking::Receiver;
+use crate::asking::{Ask, Dialing, Receiver};
 use crate::dialing::Dial;
 use crate::entering::entered;
 use crate::fault::BatchFault;
@@ -45,26 +47,70 @@ fn print_answer<W: Write>(alloc: Global, writer: &mut W, answer: What) -> Result
 }
 
 /// Enters line `number`, counted from 0, and prints the answer.
-fn enter_line<D: Dial, W: Write>(
+fn enter_line<A: Ask, W: Write>(
     alloc: Global,
-    dial: &mut D,
+    desk: &mut A,
     batch: Batch,
     number: u32,
     line: &[u8],
     writer: &mut W,
 ) -> Result<(), BatchFault>
     requires { IsDesk batch.receiver.desk }
-    ensures ok { OnOk result ((said : List ℕ) × IsSaid batch (batch.first_id + number) line.now said
-        × Appends (W.contents writer.old) (W.contents writer.new) said) }
+    ensures ok { OnOk result ((last : WhatValue)
+        × IsEntered batch.waits batch.receiver (batch.first_id + number) line.now last
+        × Asks (A.asked desk.old) (A.asked desk.new)
+        (EnteredBy batch.waits batch.receiver (batch.first_id + number) line.now last)
+        × Appends (W.contents writer.old) (W.contents writer.new) (reply_text last)) }
     ensures err { OnErr result ((said : List ℕ)
         × AppendsPart (W.contents writer.old) (W.contents writer.new) said) }
+    ensures asked { OnErr result (Asks (A.asked desk.old) (A.asked desk.new)
+        (AreOf batch.receiver (batch.first_id + number) line.now)) }
 {
     let Some(id) = batch.first_id.checked_add(u64::from(number)) else {
         return Err(BatchFault::NoMoreIds);
     };
-    match entered(alloc, dial, batch.receiver, batch.waits, id, line) {
+    match entered(alloc, desk, batch.receiver, batch.waits, id, line) {
         Ok(answer) => print_answer(alloc, writer, answer),
         Err(fault) => Err(fault),
+    }
+}
+
+/// As [`enter_lines`], by requests to a desk that may tell what it was asked.
+pub fn enter_lines_by<A: Ask, R: Read, W: Write>(
+    alloc: Global,
+    desk: &mut A,
+    batch: Batch,
+    reader: &mut R,
+    writer: &mut W,
+) -> Result<(), BatchFault>
+    requires { IsDesk batch.receiver.desk }
+    ensures ok { OnOk result (AsksAll batch (record {
+      had = R.remaining reader.old;
+      left = R.remaining reader.new;
+      old = W.contents writer.old;
+      new = W.contents writer.new;
+    }) (record { old = A.asked desk.old; new = A.asked desk.new })) }
+    ensures err { OnErr result (AsksSome batch (record {
+      had = R.remaining reader.old;
+      left = R.remaining reader.new;
+      old = W.contents writer.old;
+      new = W.contents writer.new;
+    }) (record { old = A.asked desk.old; new = A.asked desk.new })) }
+{
+    let mut lines = LineReader::new();
+    let mut line = Vec::new(alloc);
+    loop {
+        let number = lines.count();
+        match lines.read_line(reader, &mut line) {
+            Ok(true) => {
+                if let Err(fault) = enter_line(alloc, desk, batch, number, &line, writer) {
+                    return Err(fault);
+                }
+            }
+            Ok(false) => return Ok(()),
+            Err(RunFault::NoMemory) => return Err(BatchFault::NoMemory),
+            Err(fault) => return Err(BatchFault::Lines(fault)),
+        }
     }
 }
 
@@ -102,19 +148,6 @@ pub fn enter_lines<D: Dial, R: Read, W: Write>(
       new = W.contents writer.new;
     })) }
 {
-    let mut lines = LineReader::new();
-    let mut line = Vec::new(alloc);
-    loop {
-        let number = lines.count();
-        match lines.read_line(reader, &mut line) {
-            Ok(true) => {
-                if let Err(fault) = enter_line(alloc, dial, batch, number, &line, writer) {
-                    return Err(fault);
-                }
-            }
-            Ok(false) => return Ok(()),
-            Err(RunFault::NoMemory) => return Err(BatchFault::NoMemory),
-            Err(fault) => return Err(BatchFault::Lines(fault)),
-        }
-    }
+    let mut desk = Dialing { dial };
+    enter_lines_by(alloc, &mut desk, batch, reader, writer)
 }

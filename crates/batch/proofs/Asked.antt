@@ -1,0 +1,129 @@
+-- Lines that were entered, and what was asked for that.
+use Rattle.std.proofs.Common.{◌≡◌, ℕ, ◌+◌, List, [], ◌∷◌, ◌++◌, length, Option, Result, Ok, Err, OnErr, refl, sym, ap, ◌∙◌, append_assoc, append-nil, subst, arith}
+use Rattle.client.specs.Printing.{reply_text}
+use Rattle.lines.specs.Lines.{lines_of}
+use Rattle.lines.specs.Reading.{Reading, GivesFault, GivesLine, GivesNone}
+use Rattle.lines.specs.Bytes.{AppendsPart}
+use Rattle.lines.specs.declared.fault.RunFault.{RunFault}
+use Rattle.wire.specs.declared.frame.What.{What}
+use Rattle.batch.specs.Asking.{Adds, AreOf, Asked, Asks}
+use Rattle.batch.specs.Entering.{AsksAll, AsksSome, EnteredBy, SaidBy}
+use Rattle.batch.specs.declared.lines_entered.Batch.{Batch}
+use Rattle.batch.proofs.Entered.{Entered, enters_all, stops_at, stops_in}
+use Rattle.batch.proofs.Trying.{adds_more, adds_none, entered_for}
+
+-- the lines that were given were entered by these requests
+pub record Made (b : Batch) (given said : List ℕ) (asked : List Asked)
+    (old new : Option (List Asked)) : Type 0 where
+  pub told : Adds old new asked
+  pub each : SaidBy b b.first_id (lines_of given) said asked
+
+pub none_made : (b : Batch) (a : Option (List Asked)) → Made b [] [] [] a a
+none_made b a = record { told = adds_none a; each = (refl, refl) }
+
+said_more : (b : Batch) (id : ℕ) (lines : List (List ℕ)) (line said : List ℕ) (last : What)
+    (asked one : List Asked)
+    → SaidBy b id lines said asked → EnteredBy b.waits b.receiver (id + length lines) line last one
+    → SaidBy b id (lines ++ line ∷ []) (said ++ reply_text last) (asked ++ one)
+said_more b id [] line said last asked one h next = (
+  last,
+  [],
+  one,
+  [],
+  subst (λ n. EnteredBy b.waits b.receiver n line last one) (omega arith) next,
+  (refl, refl),
+  ap (λ x. x ++ reply_text last) h.0 ∙ sym (append-nil (reply_text last)),
+  ap (λ x. x ++ one) h.1 ∙ sym (append-nil one),
+)
+said_more b id (l ∷ lines) line said last asked one h next = (
+  h.0,
+  h.1 ++ reply_text last,
+  h.2,
+  h.3 ++ one,
+  h.4,
+  said_more b (id + 1) lines line h.1 last h.3 one h.5
+      (subst (λ n. EnteredBy b.waits b.receiver n line last one) (omega arith) next),
+  ap (λ x. x ++ reply_text last) h.6 ∙ append_assoc (reply_text h.0) h.1 (reply_text last),
+  ap (λ x. x ++ one) h.7 ∙ append_assoc h.2 h.3 one,
+)
+
+-- one more line was entered
+pub made_more : (b : Batch) (q : Reading) (line given said : List ℕ) (last : What)
+    (asked : List Asked) (lines : ℕ) (start now : Option (List ℕ))
+    (old mid new : Option (List Asked))
+    → Made b given said asked old mid → (g : GivesLine q line given start now)
+    → lines ≡ length (lines_of given)
+    → (k : Asks mid new (EnteredBy b.waits b.receiver (b.first_id + lines) line last))
+    → Made b (given ++ g.more) (said ++ reply_text last) (asked ++ k.0) old new
+made_more b q line given said last asked lines start now old mid new m g count k = record {
+  told = adds_more old mid new asked k.0 m.told k.1;
+  each =
+      subst (λ ls. SaidBy b b.first_id ls (said ++ reply_text last) (asked ++ k.0)) (sym g.is)
+      (said_more b b.first_id (lines_of given) line said last asked k.0 m.each
+      (subst (λ n. EnteredBy b.waits b.receiver (b.first_id + n) line last k.0) count k.2));
+}
+
+-- all lines were entered
+pub asks_all : (b : Batch) (p q : Reading) (given said : List ℕ) (asked : List Asked)
+    (start before now old new : Option (List ℕ)) (first last : Option (List Asked))
+    → Entered b p given said start before old new → GivesNone q given start now
+    → Made b given said asked first last
+    → AsksAll b (record { had = start; left = now; old = old; new = new })
+    (record { old = first; new = last })
+unfolding enters_all
+asks_all b p q given said asked start before now old new first last e none m = record {
+  enters = enters_all b p q given said start before now old new e none;
+  asked = asked;
+  told = m.told;
+  each = m.each;
+}
+
+-- a line was given and not entered
+pub asks_in : (b : Batch) (p q : Reading) (line text given said next : List ℕ) (asked : List Asked)
+    (lines : ℕ) (start before now old new new' : Option (List ℕ))
+    (first mid last : Option (List Asked))
+    → Entered b p given said start before old new → (g : GivesLine q line given start now)
+    → AppendsPart new new' next → Made b given said asked first mid
+    → lines ≡ length (lines_of given)
+    → Asks mid last (AreOf b.receiver (b.first_id + lines) text)
+    → AsksSome b (record { had = start; left = now; old = old; new = new' })
+    (record { old = first; new = last })
+unfolding stops_in
+asks_in b p q line text given said next asked lines start before now old new new' first mid last e g
+    part m count k =
+    record {
+      enters = stops_in b p q line given said next start before now old new new' e g part;
+      asked = asked;
+      behind = k.0;
+      told = adds_more first mid last asked k.0 m.told k.1;
+      each = m.each;
+      line = text;
+      next = subst (λ n. AreOf b.receiver (b.first_id + n) text k.0) count k.2;
+    }
+
+-- reading ended early, behind lines that were entered
+pub asks_at : (f : RunFault) (b : Batch) (p : Reading) (given said : List ℕ) (asked : List Asked)
+    (start before now old new : Option (List ℕ)) (first last : Option (List Asked))
+    → Entered b p given said start before old new → GivesFault f given start now
+    → Made b given said asked first last
+    → AsksSome b (record { had = start; left = now; old = old; new = new })
+    (record { old = first; new = last })
+unfolding stops_at
+asks_at f b p given said asked start before now old new first last e g m = record {
+  enters = stops_at f b p given said start before now old new e g;
+  asked = asked;
+  behind = [];
+  told = subst (Adds first last) (sym (append-nil asked)) m.told;
+  each = m.each;
+  line = [];
+  next = tt;
+}
+
+-- what was asked for a line, where what it was answered couldn't be printed
+pub if_unsaid : {E : Type 0} (b : Batch) (id : ℕ) (line : List ℕ) (last : What)
+    (old new : Option (List Asked)) (result : Result (Unit {0}) E)
+    → Asks old new (EnteredBy b.waits b.receiver id line last)
+    → OnErr result (Asks old new (AreOf b.receiver id line))
+if_unsaid b id line last old new (Ok _) h = tt
+if_unsaid b id line last old new (Err e) h =
+    (h.0, h.1, entered_for b.waits b.receiver id line last h.0 h.2)

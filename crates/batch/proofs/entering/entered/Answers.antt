@@ -1,0 +1,12 @@
+use Rattle.batch.proofs.Trying.{if_awaited, if_not_awaited}
+use Rattle.batch.proofs.entering.entered.Goals as goal
+
+pub returns-clause-ok : goal.returns-clause-ok
+returns-clause-ok g c =
+    if_awaited c.args.waits c.args.receiver c.args.id c.args.text.now c.in-Ok.taken _ _ _
+    c.decided.result c.if-not-waits.false c.in-Ok.ensures.ok c.decided.ensures.ok
+
+pub returns-clause-err : goal.returns-clause-err
+returns-clause-err g c =
+    if_not_awaited c.args.receiver c.args.id c.args.text.now c.in-Ok.taken _ _ _ c.decided.result
+    c.in-Ok.ensures.ok c.decided.ensures.err

@@ -1,0 +1,14 @@
+use Rattle.std.proofs.Common.{◌≡◌, ◌+◌, subst, OnErr, rules}
+use Rattle.batch.specs.Asking.{AreOf, Asks}
+use Rattle.batch.proofs.Asked.{if_unsaid}
+use Rattle.batch.proofs.lines_entered.enter_line.Goals as goal
+
+pub returns-in-Ok-clause-asked : goal.returns-in-Ok-clause-asked
+returns-in-Ok-clause-asked g c =
+    let id : c.in-Some.id ≡ c.args.batch.first_id + c.args.number = search rules in
+    subst
+    (λ n. OnErr c.print_answer.result
+    (Asks (g.A.Ask.asked c.args.desk.now) (g.A.Ask.asked c.entered.new.desk)
+    (AreOf c.args.batch.receiver n c.args.line.now))) id
+    (if_unsaid c.args.batch c.in-Some.id c.args.line.now c.in-Ok.answer _ _ c.print_answer.result
+    c.in-Ok.ensures.ok)

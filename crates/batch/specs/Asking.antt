@@ -1,0 +1,93 @@
+-- Requests to a desk, and what came of each.
+use Rattle.std.specs.Prelude.{◌≡◌, ◌⊎◌, ◌++◌, ◌∷◌, [], ℕ, List, Option, None, Some, Result, Ok, Err, IsOk, IsOkAnd, ⊤}
+use Rattle.std.specs.List.{AllByRecursion}
+use Rattle.client.specs.Answers.{judged}
+use Rattle.client.specs.declared.fault.ClientFault.TheVariants.{Refused}
+use Rattle.wire.specs.Ranges.{IsFrame}
+use Rattle.wire.specs.declared.frame.Frame.{Frame}
+use Rattle.wire.specs.declared.frame.What.{What}
+use Rattle.wire.specs.declared.frame.What.TheVariants as what
+use Rattle.wire.specs.declared.values.ClientRefusal.TheVariants.{Busy}
+use Rattle.wire.specs.declared.values.Standing.TheVariants.{Done}
+use Rattle.batch.specs.declared.asking.Receiver.{Receiver}
+use Rattle.batch.specs.declared.fault.BatchFault.{BatchFault}
+use Rattle.batch.specs.declared.fault.BatchFault.TheVariants.{Asking}
+
+-- a request goes from a client, which is 0, to the desk
+abbrev pub request_to : Receiver → What → Frame
+request_to r asked = record { hall = r.hall; from = 0; to = r.desk; what = asked }
+
+-- the request that enters a text with an id
+abbrev pub submit_of : Receiver → ℕ → List ℕ → Frame
+submit_of r id text = request_to r (what.Submit (record { id = id; text = text }))
+
+-- the request that asks what became of an id
+abbrev pub ask_of : Receiver → ℕ → Frame
+ask_of r id = request_to r (what.Ask id)
+
+-- the request that gives the desk a tick
+abbrev pub tick_of : Receiver → Frame
+tick_of r = request_to r what.Tick
+
+-- a frame came that is the answer to the request
+abbrev pub IsAnswer : Frame → What → Type 0
+IsAnswer asked answer = (given : Frame) × IsFrame given × (judged asked given ≡ Ok answer)
+
+-- it says that the command stands in the log
+abbrev pub IsDecided : What → Type 0
+IsDecided answer = (id pos : ℕ) × (said : _) × (answer ≡ what.Told id (Done pos said))
+
+-- a request, and what came of it
+pub record Asked : Type 0 where
+  pub request : Frame
+  pub answer : Result What BatchFault
+
+-- what was asked grows by these, in order, where it is told; who tells may stop, and never begins
+abbrev pub Adds : Option (List Asked) → Option (List Asked) → List Asked → Type 0
+Adds None None more = ⊤
+Adds (Some xs) None more = ⊤
+Adds None (Some ys) more = ⊥
+Adds (Some xs) (Some ys) more = ys ≡ xs ++ more
+
+-- what was asked grows by requests of which this is said
+abbrev pub Asks : Option (List Asked) → Option (List Asked) → (List Asked → Type 0) → Type 0
+Asks old new Is = (more : List Asked) × Adds old new more × Is more
+
+-- the desk was ticked, and answered that
+abbrev pub IsTicked : Receiver → Asked → Type 0
+IsTicked r a = (a.request ≡ tick_of r) × IsOk a.answer
+
+-- the desk's queue was full, or it was ticked
+abbrev pub IsTurnedDown : Receiver → Frame → Asked → Type 0
+IsTurnedDown r submit a =
+    ((a.request ≡ submit) × (a.answer ≡ Err (Asking (Refused Busy)))) ⊎ IsTicked r a
+
+-- it answered that the command isn't decided yet, or was ticked
+abbrev pub IsPutOff : Receiver → Frame → Asked → Type 0
+IsPutOff r ask a =
+    ((a.request ≡ ask) × IsOkAnd a.answer (λ told. ¬ IsDecided told)) ⊎ IsTicked r a
+
+-- one of these two was asked, or for a tick
+abbrev pub IsOneOf : Receiver → Frame → Frame → Asked → Type 0
+IsOneOf r submit ask a =
+    (a.request ≡ submit) ⊎ ((a.request ≡ ask) ⊎ (a.request ≡ tick_of r))
+
+-- the request was made until this was answered; of each one in front this is said
+pub record Tries (Is : Asked → Type 0) (request : Frame) (answer : What) (asked : List Asked)
+    : Type 0 where
+  pub front : List Asked
+  pub each : AllByRecursion Is front
+  pub parts : asked ≡ front ++ (record { request = request; answer = Ok answer }) ∷ []
+
+-- the text was entered with the id as soon as the queue had room
+abbrev pub IsTaken : Receiver → ℕ → List ℕ → What → List Asked → Type 0
+IsTaken r id text = Tries (IsTurnedDown r (submit_of r id text)) (submit_of r id text)
+
+-- it was asked for the id until that was decided
+pub record IsAwaited (r : Receiver) (id : ℕ) (last : What) (asked : List Asked) : Type 0 where
+  pub tries : Tries (IsPutOff r (ask_of r id)) (ask_of r id) last asked
+  pub decided : IsDecided last
+
+-- each request is for this text and id, or a tick
+abbrev pub AreOf : Receiver → ℕ → List ℕ → List Asked → Type 0
+AreOf r id text = AllByRecursion (IsOneOf r (submit_of r id text) (ask_of r id))
