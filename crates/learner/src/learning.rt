@@ -51,8 +51,8 @@ pub fn on_decided(
     Ok(proposer.nothing())
 }
 
-/// What a desk is told whose log ends at position `first`: the entries from there on, at most 16, in
-/// order of position, each by a message of its own.
+/// What a desk is told whose log ends at position `first`: the entries from there on, at most 16,
+/// in order of position, each by a message of its own.
 fn tell(alloc: Global, log: &Log, from: u8, to: u8, first: u32) -> Result<Messages, NoMemory>
     requires { first ≤ 65536 }
     ensures { let run = take longest_run (drop first log.now.entries) in
