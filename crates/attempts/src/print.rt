@@ -1,7 +1,7 @@
 //! Values as a sheet has them.
 
 ghost use Rattle.std.specs.Prelude.{◌≡◌, ◌+◌, ◌<◌, ◌++◌, IfOk, OnOk, OnErr, decimal, length, vec_len, vec_capacity};
-ghost use Rattle.attempts.specs.Texts.{time_text, two_digits, value_text};
+ghost use Rattle.attempts.specs.Texts.{time_text, two_digits, multi_text, solved_in, attempted_in, seconds_in, value_text};
 
 use crate::{NoMemory, Unit, Value};
 use itoa::Buffer;
@@ -43,11 +43,29 @@ fn push_time(out: &mut Vec<u8>, hundredths: u32) -> Result<(), NoMemory>
     push_two_digits(out, hundredths % 100)
 }
 
+/// Adds a result of multi-blind: solved of attempted cubes, and the time in minutes and seconds.
+fn push_multi(out: &mut Vec<u8>, number: u32) -> Result<(), NoMemory>
+    ensures { OnOk result (out.new.items
+        ≡ out.old.items ++ multi_text (solved_in number) (attempted_in number) (seconds_in number)) }
+{
+    let points = 99_u32.saturating_sub(number / 10_000_000);
+    let unsolved = number % 10_000_000 % 100;
+    let seconds = number % 10_000_000 / 100;
+    push_decimal(out, points + unsolved)?;
+    out.push(b'/')?;
+    push_decimal(out, points + 2 * unsolved)?;
+    out.push(b' ')?;
+    push_decimal(out, seconds / 60)?;
+    out.push(b':')?;
+    push_two_digits(out, seconds % 60)
+}
+
 /// A value as a sheet has it, or `NoMemory` where its text finds none.
 ///
 /// Moves are a number in decimal. A time below a minute is seconds, a point and two digits (`9.05`,
 /// `0.07`); a longer one is minutes, a colon, two digits, a point and two digits (`1:00.00`,
-/// `60:18.00`). The others are `DNF` and `DNS`.
+/// `60:18.00`). A result of multi-blind is the solved cubes, a slash, those attempted, a space,
+/// minutes, a colon and two digits of seconds (`11/13 58:20`). The others are `DNF` and `DNS`.
 pub fn print_value(alloc: Global, value: Value, unit: Unit) -> Result<Vec<u8>, NoMemory>
     ensures { IfOk result (λ text. text.items ≡ value_text unit value) }
 {
@@ -57,6 +75,7 @@ pub fn print_value(alloc: Global, value: Value, unit: Unit) -> Result<Vec<u8>, N
             match unit {
                 Unit::Time => push_time(&mut text, number)?,
                 Unit::Moves => push_decimal(&mut text, number)?,
+                Unit::Multi => push_multi(&mut text, number)?,
             }
             Ok(text)
         }
