@@ -2,10 +2,10 @@
 use Rattle.std.proofs.Common.{◌≡◌, ◌↔◌, refl, ap, subst, sym, ℕ, Bool, true, false, cond, List, [], ◌∷◌, Option, Some, unwrap_or, bytes_eq, find, ◌==◌, eqb-true}
 use Rattle.std.proofs.lemmas.Slice.Eq.{bytes_eq-Decides}
 use Rattle.formats.specs.declared.events.Event.{Event}
-use Rattle.formats.specs.declared.events.Event.TheVariants.{Cube3, Cube2, Cube4, Cube5, Cube6, Cube7, Blind3, FewestMoves, OneHanded, Clock, Megaminx, Pyraminx, Skewb, Square1, Blind4, Blind5}
+use Rattle.formats.specs.declared.events.Event.TheVariants.{Cube3, Cube2, Cube4, Cube5, Cube6, Cube7, Blind3, FewestMoves, OneHanded, Clock, Megaminx, Pyraminx, Skewb, Square1, Blind4, Blind5, MultiBlind}
 use Rattle.formats.specs.declared.events.Format.{Format}
 use Rattle.formats.specs.declared.events.Format.TheVariants.{Ao5, Mo3, Bo1, Bo2, Bo3}
-use Rattle.formats.specs.Events.{events, event_name, event_named, event_number, event_numbered, formats, format_name, format_named}
+use Rattle.formats.specs.Events.{all_events, event_name, event_of_name, event_number, event_of_number, formats, format_name, format_named}
 
 found_first : {X : Type 0} (p : X → Bool) (x y : X) (rest : Option X) (b : Bool) → p x ≡ b
     → (rest ≡ Some y → p y ≡ true) → cond b (Some x) rest ≡ Some y → p y ≡ true
@@ -20,77 +20,79 @@ find-passes p (x ∷ xs) y h = found_first p x y (find p xs) (p x) refl (find-pa
 equal_bytes : (xs ys : List ℕ) → bytes_eq xs ys ≡ true → xs ≡ ys
 equal_bytes xs ys h = (bytes_eq-Decides xs ys).0 h
 
-event_named-event_name : (e : Event) → event_named (event_name e) ≡ Some e
-unfolding event_named
-event_named-event_name Cube3 = refl
-event_named-event_name Cube2 = refl
-event_named-event_name Cube4 = refl
-event_named-event_name Cube5 = refl
-event_named-event_name Cube6 = refl
-event_named-event_name Cube7 = refl
-event_named-event_name Blind3 = refl
-event_named-event_name FewestMoves = refl
-event_named-event_name OneHanded = refl
-event_named-event_name Clock = refl
-event_named-event_name Megaminx = refl
-event_named-event_name Pyraminx = refl
-event_named-event_name Skewb = refl
-event_named-event_name Square1 = refl
-event_named-event_name Blind4 = refl
-event_named-event_name Blind5 = refl
+event_of_name-event_name : (e : Event) → event_of_name (event_name e) ≡ Some e
+unfolding event_of_name
+event_of_name-event_name Cube3 = refl
+event_of_name-event_name Cube2 = refl
+event_of_name-event_name Cube4 = refl
+event_of_name-event_name Cube5 = refl
+event_of_name-event_name Cube6 = refl
+event_of_name-event_name Cube7 = refl
+event_of_name-event_name Blind3 = refl
+event_of_name-event_name FewestMoves = refl
+event_of_name-event_name OneHanded = refl
+event_of_name-event_name Clock = refl
+event_of_name-event_name Megaminx = refl
+event_of_name-event_name Pyraminx = refl
+event_of_name-event_name Skewb = refl
+event_of_name-event_name Square1 = refl
+event_of_name-event_name Blind4 = refl
+event_of_name-event_name Blind5 = refl
+event_of_name-event_name MultiBlind = refl
 
-event_named-found : (text : List ℕ) (e : Event) → event_named text ≡ Some e → text ≡ event_name e
-unfolding event_named
-event_named-found text e h =
+event_of_name-found : (text : List ℕ) (e : Event) → event_of_name text ≡ Some e → text ≡ event_name e
+unfolding event_of_name
+event_of_name-found text e h =
     sym (equal_bytes (event_name e) text
-    (find-passes (λ event. bytes_eq (event_name event) text) events e h))
+    (find-passes (λ event. bytes_eq (event_name event) text) all_events e h))
 
-event_named-name : (text : List ℕ) (e : Event) → text ≡ event_name e → event_named text ≡ Some e
-event_named-name text e h =
-    subst (λ name. event_named name ≡ Some e) (sym h) (event_named-event_name e)
+event_of_name-name : (text : List ℕ) (e : Event) → text ≡ event_name e → event_of_name text ≡ Some e
+event_of_name-name text e h =
+    subst (λ name. event_of_name name ≡ Some e) (sym h) (event_of_name-event_name e)
 
 -- a text names the event just where it is the event's name
-pub only_name-event : (e : Event) (text : List ℕ) → (event_named text ≡ Some e)
+pub only_name-event : (e : Event) (text : List ℕ) → (event_of_name text ≡ Some e)
     ↔ (text ≡ event_name e)
-only_name-event e text = (event_named-found text e, event_named-name text e)
+only_name-event e text = (event_of_name-found text e, event_of_name-name text e)
 
 pub ruleset event_names = only_name-event
 
-event_numbered-event_number : (e : Event) → event_numbered (event_number e) ≡ Some e
-unfolding event_numbered
-event_numbered-event_number Cube3 = refl
-event_numbered-event_number Cube2 = refl
-event_numbered-event_number Cube4 = refl
-event_numbered-event_number Cube5 = refl
-event_numbered-event_number Cube6 = refl
-event_numbered-event_number Cube7 = refl
-event_numbered-event_number Blind3 = refl
-event_numbered-event_number FewestMoves = refl
-event_numbered-event_number OneHanded = refl
-event_numbered-event_number Clock = refl
-event_numbered-event_number Megaminx = refl
-event_numbered-event_number Pyraminx = refl
-event_numbered-event_number Skewb = refl
-event_numbered-event_number Square1 = refl
-event_numbered-event_number Blind4 = refl
-event_numbered-event_number Blind5 = refl
+event_of_number-event_number : (e : Event) → event_of_number (event_number e) ≡ Some e
+unfolding event_of_number
+event_of_number-event_number Cube3 = refl
+event_of_number-event_number Cube2 = refl
+event_of_number-event_number Cube4 = refl
+event_of_number-event_number Cube5 = refl
+event_of_number-event_number Cube6 = refl
+event_of_number-event_number Cube7 = refl
+event_of_number-event_number Blind3 = refl
+event_of_number-event_number FewestMoves = refl
+event_of_number-event_number OneHanded = refl
+event_of_number-event_number Clock = refl
+event_of_number-event_number Megaminx = refl
+event_of_number-event_number Pyraminx = refl
+event_of_number-event_number Skewb = refl
+event_of_number-event_number Square1 = refl
+event_of_number-event_number Blind4 = refl
+event_of_number-event_number Blind5 = refl
+event_of_number-event_number MultiBlind = refl
 
-event_numbered-found : (number : ℕ) (e : Event) → event_numbered number ≡ Some e
+event_of_number-found : (number : ℕ) (e : Event) → event_of_number number ≡ Some e
     → number ≡ event_number e
-unfolding event_numbered
-event_numbered-found number e h =
+unfolding event_of_number
+event_of_number-found number e h =
     sym (eqb-true (event_number e) number
-    (find-passes (λ event. event_number event == number) events e h))
+    (find-passes (λ event. event_number event == number) all_events e h))
 
-event_numbered-number : (number : ℕ) (e : Event) → number ≡ event_number e
-    → event_numbered number ≡ Some e
-event_numbered-number number e h =
-    subst (λ n. event_numbered n ≡ Some e) (sym h) (event_numbered-event_number e)
+event_of_number-number : (number : ℕ) (e : Event) → number ≡ event_number e
+    → event_of_number number ≡ Some e
+event_of_number-number number e h =
+    subst (λ n. event_of_number n ≡ Some e) (sym h) (event_of_number-event_number e)
 
 -- a number is an event's just where it is the number of the event
-pub only_number-event : (e : Event) (number : ℕ) → (event_numbered number ≡ Some e)
+pub only_number-event : (e : Event) (number : ℕ) → (event_of_number number ≡ Some e)
     ↔ (number ≡ event_number e)
-only_number-event e number = (event_numbered-found number e, event_numbered-number number e)
+only_number-event e number = (event_of_number-found number e, event_of_number-number number e)
 
 pub ruleset event_numbers = only_number-event
 

@@ -2,11 +2,11 @@
 use Rattle.std.proofs.Common.{◌≡◌, ℕ, ◌-◌, true, refl, sym, ap, ◌∙◌, eqb-true}
 use Rattle.std.specs.Prelude.{slice_index_or}
 use Rattle.formats.specs.declared.events.Event.{Event}
-use Rattle.formats.specs.declared.events.Event.TheVariants.{Cube3, Cube2, Cube4, Cube5, Cube6, Cube7, Blind3, FewestMoves, OneHanded, Clock, Megaminx, Pyraminx, Skewb, Square1, Blind4, Blind5}
-use Rattle.formats.specs.Events.{events, event_number, same_event}
+use Rattle.formats.specs.declared.events.Event.TheVariants.{Cube3, Cube2, Cube4, Cube5, Cube6, Cube7, Blind3, FewestMoves, OneHanded, Clock, Megaminx, Pyraminx, Skewb, Square1, Blind4, Blind5, MultiBlind}
+use Rattle.formats.specs.Events.{all_events, event_number, same_event}
 
 event_at : ℕ → Event
-event_at n = slice_index_or events (n - 1) Cube3
+event_at n = slice_index_or all_events (n - 1) Cube3
 
 event_at-event_number : (e : Event) → event_at (event_number e) ≡ e
 unfolding event_at
@@ -26,6 +26,7 @@ event_at-event_number Skewb = refl
 event_at-event_number Square1 = refl
 event_at-event_number Blind4 = refl
 event_at-event_number Blind5 = refl
+event_at-event_number MultiBlind = refl
 
 pub same_event-equal : (a b : Event) → same_event a b ≡ true → a ≡ b
 same_event-equal a b h =

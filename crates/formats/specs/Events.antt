@@ -1,16 +1,25 @@
 -- Events and formats: their names and numbers, and which format an event may have.
-use Rattle.std.specs.Prelude.{ℕ, Bool, true, false, ◌==◌, List, [], ◌∷◌, codes, bytes_eq, find, Option}
+use Rattle.std.specs.Prelude.{◌≡◌, ℕ, Bool, true, false, ◌==◌, List, [], ◌∷◌, ◌++◌, codes, bytes_eq, find, Option}
 use Rattle.attempts.specs.declared.Unit.{Unit as Measure}
-use Rattle.attempts.specs.declared.Unit.TheVariants.{Time, Moves}
+use Rattle.attempts.specs.declared.Unit.TheVariants.{Time, Moves, Multi}
 use Rattle.formats.specs.declared.events.Event.{Event}
-use Rattle.formats.specs.declared.events.Event.TheVariants.{Cube3, Cube2, Cube4, Cube5, Cube6, Cube7, Blind3, FewestMoves, OneHanded, Clock, Megaminx, Pyraminx, Skewb, Square1, Blind4, Blind5}
+use Rattle.formats.specs.declared.events.Event.TheVariants.{Cube3, Cube2, Cube4, Cube5, Cube6, Cube7, Blind3, FewestMoves, OneHanded, Clock, Megaminx, Pyraminx, Skewb, Square1, Blind4, Blind5, MultiBlind}
 use Rattle.formats.specs.declared.events.Format.{Format}
 use Rattle.formats.specs.declared.events.Format.TheVariants.{Ao5, Mo3, Bo1, Bo2, Bo3}
 
--- all events, in the order of their numbers
+-- the events of edition 1, in the order of their numbers
 abbrev pub events : List Event
 events = Cube3 ∷ Cube2 ∷ Cube4 ∷ Cube5 ∷ Cube6 ∷ Cube7 ∷ Blind3 ∷ FewestMoves ∷ OneHanded ∷ Clock ∷
     Megaminx ∷ Pyraminx ∷ Skewb ∷ Square1 ∷ Blind4 ∷ Blind5 ∷ []
+
+-- edition 2 adds multi-blind
+abbrev pub all_events : List Event
+all_events = events ++ MultiBlind ∷ []
+
+-- the first edition that has the event
+abbrev pub event_edition : Event → ℕ
+event_edition MultiBlind = 2
+event_edition _ = 1
 
 abbrev pub event_name : Event → List ℕ
 event_name Cube3 = codes "333"
@@ -29,10 +38,15 @@ event_name Skewb = codes "skewb"
 event_name Square1 = codes "sq1"
 event_name Blind4 = codes "444bf"
 event_name Blind5 = codes "555bf"
+event_name MultiBlind = codes "333mbf"
 
--- the event that a text names, if it names one
+-- the event of edition 1 that a text names, if it names one
 unfoldable pub event_named : List ℕ → Option Event
 event_named text = find (λ event. bytes_eq (event_name event) text) events
+
+-- the event that a text names, if it names one
+unfoldable pub event_of_name : List ℕ → Option Event
+event_of_name text = find (λ event. bytes_eq (event_name event) text) all_events
 
 -- all formats
 abbrev pub formats : List Format
@@ -58,6 +72,7 @@ attempts_of Bo3 = 3
 
 abbrev pub unit_of : Event → Measure
 unit_of FewestMoves = Moves
+unit_of MultiBlind = Multi
 unit_of _ = Time
 
 -- ao5, bo1, bo2, bo3
@@ -85,6 +100,7 @@ is_allowed FewestMoves format = is_mean_format format
 is_allowed Blind3 format = is_best_format format
 is_allowed Blind4 format = is_best_format format
 is_allowed Blind5 format = is_best_format format
+is_allowed MultiBlind format = is_best_format format
 is_allowed _ format = is_average_format format
 
 -- the number of an event, from 1 on
@@ -105,10 +121,15 @@ event_number Skewb = 13
 event_number Square1 = 14
 event_number Blind4 = 15
 event_number Blind5 = 16
+event_number MultiBlind = 17
 
--- the event that a number is of, if it is of one
+-- the event of edition 1 that a number is of, if it is of one
 unfoldable pub event_numbered : ℕ → Option Event
 event_numbered number = find (λ event. event_number event == number) events
+
+-- the event that a number is of, if it is of one
+unfoldable pub event_of_number : ℕ → Option Event
+event_of_number number = find (λ event. event_number event == number) all_events
 
 -- whether two events are one, by their numbers
 abbrev pub same_event : Event → Event → Bool

@@ -1,16 +1,16 @@
 -- What a competitor's values make: the best, the average, and the order by them.
-use Rattle.std.specs.Prelude.{ℕ, ◌+◌, ◌-◌, ◌*◌, ◌/◌, Bool, true, false, ◌==◌, ◌||◌, ◌&&◌, nat_lt, nat_le, if◌then◌else◌, min, max, List, ◌++◌, ◌%◌, codes, decimal, length, sum, filter_map, Option, None, Some, unwrap_or}
+use Rattle.std.specs.Prelude.{◌≡◌, ℕ, ◌+◌, ◌-◌, ◌*◌, ◌/◌, Bool, true, false, ◌==◌, ◌||◌, ◌&&◌, nat_lt, nat_le, if◌then◌else◌, min, max, List, ◌++◌, ◌%◌, codes, decimal, length, sum, filter_map, Option, None, Some, unwrap_or}
 use Rattle.std.specs.List.{reduce, list_any}
 use Rattle.attempts.specs.declared.Value.{Value}
 use Rattle.attempts.specs.declared.Value.TheVariants as value
 use Rattle.attempts.specs.declared.Unit.{Unit as Measure}
-use Rattle.attempts.specs.declared.Unit.TheVariants.{Time, Moves}
+use Rattle.attempts.specs.declared.Unit.TheVariants.{Time, Moves, Multi}
 use Rattle.formats.specs.declared.events.Format.{Format}
 use Rattle.formats.specs.declared.events.Format.TheVariants.{Ao5, Mo3, Bo1, Bo2, Bo3}
 use Rattle.formats.specs.declared.results.Averaged.{Averaged}
 use Rattle.formats.specs.declared.results.Averaged.TheVariants as averaged
 use Rattle.formats.specs.declared.results.RankKey.{RankKey}
-use Rattle.attempts.specs.Texts.{time_text, two_digits}
+use Rattle.attempts.specs.Texts.{time_text, two_digits, number_text}
 
 abbrev pub number_of : Value → Option ℕ
 number_of (value.Number n) = Some n
@@ -46,10 +46,11 @@ abbrev pub best_of : List Value → Value
 best_of vs = number_or (least (numbers vs)) (without_number (list_any is_dnf vs))
 
 -- a third of a sum: of times to the hundredth, above ten minutes to the second; of moves to the
--- hundredth of a move
+-- hundredth of a move; nothing is averaged in multi-blind
 abbrev pub third_of : Measure → ℕ → ℕ
 third_of Time s = if nat_le s 180000 then (2 * s + 3) / 6 else (s + 150) / 300 * 100
 third_of Moves s = (200 * s + 3) / 6
+third_of Multi s = 0
 
 -- the sum of three or more numbers without the least
 abbrev pub without_least : List ℕ → ℕ
@@ -87,6 +88,12 @@ has_average Bo1 = false
 has_average Bo2 = false
 has_average Bo3 = false
 
+-- multi-blind has the best-of formats alone
+abbrev pub IsFormatOf : Measure → Format → Type 0
+IsFormatOf Multi format = has_average format ≡ false
+IsFormatOf Time format = Unit {0}
+IsFormatOf Moves format = Unit {0}
+
 abbrev pub key_of : Format → Measure → List Value → RankKey
 key_of format unit vs =
     if has_average format
@@ -116,6 +123,7 @@ moves_text n = decimal (n / 100) ++ codes "." ++ two_digits (n % 100)
 abbrev pub averaged_text : Measure → ℕ → List ℕ
 averaged_text Time n = time_text n
 averaged_text Moves n = moves_text n
+averaged_text Multi n = number_text Multi n
 
 -- an average as a sheet has it
 abbrev pub average_text : Measure → Averaged → List ℕ

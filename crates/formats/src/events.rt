@@ -1,7 +1,8 @@
 //! Events and formats: their names and numbers, and which format an event may have.
 
-ghost use Rattle.std.specs.Prelude.{◌≡◌, ◌≤◌, ◌↔◌, ℕ, List, Some};
-ghost use Rattle.formats.specs.Events.{event_name, event_named, event_number, event_numbered, format_name, format_named, attempts_of, unit_of, is_allowed};
+ghost use Rattle.std.specs.Prelude.{◌≡◌, ◌≤◌, ◌↔◌, ℕ, List, Some, IsTrue};
+ghost use Rattle.formats.specs.Events.{event_name, event_named, event_of_name, event_number, event_numbered, event_of_number, event_edition, format_name, format_named, attempts_of, unit_of, is_allowed};
+ghost use Rattle.formats.specs.Results.{IsFormatOf};
 
 use attempts::Unit;
 
@@ -24,6 +25,8 @@ pub enum Event {
     Square1,
     Blind4,
     Blind5,
+    /// 3x3x3 multi-blind, an event of edition 2.
+    MultiBlind,
 }
 
 /// How many attempts a round has, and what counts of them (WCA Regulations, article 9b).
@@ -42,8 +45,8 @@ pub enum Format {
 }
 
 impl Event {
-    /// All events, in the order of their numbers.
-    pub const ALL: [Event; 16] = [
+    /// The events of edition 1, in the order of their numbers.
+    pub const FIRST: [Event; 16] = [
         Event::Cube3,
         Event::Cube2,
         Event::Cube4,
@@ -62,10 +65,31 @@ impl Event {
         Event::Blind5,
     ];
 
+    /// All events, in the order of their numbers: those of edition 1, and `333mbf` of edition 2.
+    pub const ALL: [Event; 17] = [
+        Event::Cube3,
+        Event::Cube2,
+        Event::Cube4,
+        Event::Cube5,
+        Event::Cube6,
+        Event::Cube7,
+        Event::Blind3,
+        Event::FewestMoves,
+        Event::OneHanded,
+        Event::Clock,
+        Event::Megaminx,
+        Event::Pyraminx,
+        Event::Skewb,
+        Event::Square1,
+        Event::Blind4,
+        Event::Blind5,
+        Event::MultiBlind,
+    ];
+
     /// The event of a name, as `333bf`. None where no event has the name.
-    #[tactic(auto, unfolding(crate::specs::Events::event_named))]
+    #[tactic(auto, unfolding(crate::specs::Events::event_of_name))]
     pub fn from_name(name: &[u8]) -> Option<Event>
-        ensures { result ≡ event_named name.now }
+        ensures { result ≡ event_of_name name.now }
     {
         Event::ALL
             .iter()
@@ -73,10 +97,21 @@ impl Event {
             .find(|event| event.name().as_bytes() == name)
     }
 
-    /// The event of a number, 1 to 16. None at any other number.
-    #[tactic(auto, unfolding(crate::specs::Events::event_numbered))]
+    /// The event of edition 1 of a name. None where it has none of the name.
+    #[tactic(auto, unfolding(crate::specs::Events::event_named))]
+    pub fn from_first_name(name: &[u8]) -> Option<Event>
+        ensures { result ≡ event_named name.now }
+    {
+        Event::FIRST
+            .iter()
+            .copied()
+            .find(|event| event.name().as_bytes() == name)
+    }
+
+    /// The event of a number, 1 to 17. None at any other number.
+    #[tactic(auto, unfolding(crate::specs::Events::event_of_number))]
     pub fn from_number(number: u8) -> Option<Event>
-        ensures { result ≡ event_numbered number }
+        ensures { result ≡ event_of_number number }
     {
         Event::ALL
             .iter()
@@ -84,11 +119,32 @@ impl Event {
             .find(|event| event.number() == number)
     }
 
-    /// 1 to 16, in the order of the list. No other number is the event's.
+    /// The event of edition 1 of a number, 1 to 16. None at any other number.
+    #[tactic(auto, unfolding(crate::specs::Events::event_numbered))]
+    pub fn from_first_number(number: u8) -> Option<Event>
+        ensures { result ≡ event_numbered number }
+    {
+        Event::FIRST
+            .iter()
+            .copied()
+            .find(|event| event.number() == number)
+    }
+
+    /// The first edition that has the event: 2 for `333mbf`, and 1 for the others.
+    pub fn edition(self) -> u8
+        ensures { result ≡ event_edition self }
+    {
+        match self {
+            Event::MultiBlind => 2,
+            _ => 1,
+        }
+    }
+
+    /// 1 to 17, in the order of the list. No other number is the event's.
     #[tactic(auto, using(crate::proofs::Naming::event_numbers))]
     pub fn number(self) -> u8
         ensures value { result ≡ event_number self }
-        ensures only { (number : ℕ) → (event_numbered number ≡ Some self)
+        ensures only { (number : ℕ) → (event_of_number number ≡ Some self)
             ↔ (number ≡ event_number self) }
     {
         match self {
@@ -108,6 +164,7 @@ impl Event {
             Event::Square1 => 14,
             Event::Blind4 => 15,
             Event::Blind5 => 16,
+            Event::MultiBlind => 17,
         }
     }
 
@@ -115,7 +172,8 @@ impl Event {
     #[tactic(auto, using(crate::proofs::Naming::event_names))]
     pub fn name(self) -> &'static str
         ensures value { result.now ≡ event_name self }
-        ensures only { (text : List ℕ) → (event_named text ≡ Some self) ↔ (text ≡ event_name self) }
+        ensures only { (text : List ℕ) → (event_of_name text ≡ Some self)
+            ↔ (text ≡ event_name self) }
     {
         match self {
             Event::Cube3 => "333",
@@ -134,6 +192,7 @@ impl Event {
             Event::Square1 => "sq1",
             Event::Blind4 => "444bf",
             Event::Blind5 => "555bf",
+            Event::MultiBlind => "333mbf",
         }
     }
 }
@@ -195,19 +254,21 @@ pub fn unit_of(event: Event) -> Unit
 {
     match event {
         Event::FewestMoves => Unit::Moves,
+        Event::MultiBlind => Unit::Multi,
         _ => Unit::Time,
     }
 }
 
 /// Whether an event may have a format.
 pub fn allowed(event: Event, format: Format) -> bool
-    ensures { result ≡ is_allowed event format }
+    ensures value { result ≡ is_allowed event format }
+    ensures unit { IsTrue result → IsFormatOf (unit_of event) format }
 {
     match event {
         Event::Cube6 | Event::Cube7 | Event::FewestMoves => {
             matches!(format, Format::Mo3 | Format::Bo1 | Format::Bo2)
         }
-        Event::Blind3 | Event::Blind4 | Event::Blind5 => {
+        Event::Blind3 | Event::Blind4 | Event::Blind5 | Event::MultiBlind => {
             matches!(format, Format::Bo1 | Format::Bo2 | Format::Bo3)
         }
         _ => !matches!(format, Format::Mo3),

@@ -8,4 +8,4 @@ mod results;
 
 pub use advance::Advance;
 pub use events::{Event, Format, allowed, attempts_of, unit_of};
-pub use results::{Averaged, RankKey, average, best, better, key, print_average};
+pub use results::{Averaged, RankKey, average, best, better, is_format_of, key, print_average};

@@ -1,8 +1,8 @@
 //! What a competitor's values make: the best, the average, and the order by them.
 
-ghost use Rattle.std.specs.Prelude.{◌≡◌, ◌≤◌, IfOk, All, length, sum};
-ghost use Rattle.attempts.specs.Attempts.{IsInRange};
-ghost use Rattle.formats.specs.Results.{number_of, numbers, least, greatest, best_of, third_of, trimmed, mean_of, averaged_number, average_of, average_text, moves_text, key_of, is_less, is_better};
+ghost use Rattle.std.specs.Prelude.{◌≡◌, ◌≤◌, ◌↔◌, IsTrue, IfOk, All, length, sum};
+ghost use Rattle.attempts.specs.Attempts.{IsInRangeOf};
+ghost use Rattle.formats.specs.Results.{number_of, numbers, least, greatest, best_of, third_of, trimmed, mean_of, averaged_number, average_of, average_text, moves_text, IsFormatOf, key_of, is_less, is_better};
 
 use crate::events::Format;
 use attempts::{NoMemory, Unit, Value, print_value, push_decimal, push_two_digits};
@@ -90,7 +90,7 @@ pub fn better(a: RankKey, b: RankKey) -> bool
 }
 
 /// A third of a sum of three: of times to the hundredth, above ten minutes to the second, of moves
-/// to the hundredth of a move, each time a half up.
+/// to the hundredth of a move, each time a half up. In multi-blind nothing is averaged.
 fn third_of(sum: u32, unit: Unit) -> u32
     requires { sum ≤ 10000000 }
     ensures { result ≡ third_of unit sum }
@@ -99,6 +99,7 @@ fn third_of(sum: u32, unit: Unit) -> u32
         Unit::Time if sum <= 180_000 => (2 * sum + 3) / 6,
         Unit::Time => (sum + 150) / 300 * 100,
         Unit::Moves => (200 * sum + 3) / 6,
+        Unit::Multi => 0,
     }
 }
 
@@ -118,10 +119,8 @@ fn sum(values: &[Value]) -> u32
 
 /// The average of five attempts: the mean of those without the best and the worst. One that is no
 /// number counts as the worst; with more the average is DNF.
-#[tactic(auto, using(crate::proofs::Sums::sums))]
 fn trimmed(values: &[Value], unit: Unit) -> Averaged
-    requires few { length values.now ≤ 5 }
-    requires in_range { All IsInRange values.now }
+    requires { sum (numbers values.now) ≤ 10000000 }
     ensures value { result ≡ trimmed unit (numbers values.now) }
 {
     let rest = sum(values).saturating_sub(least(values).unwrap_or(0));
@@ -136,10 +135,8 @@ fn trimmed(values: &[Value], unit: Unit) -> Averaged
 }
 
 /// The mean of three attempts. One that is no number makes it DNF.
-#[tactic(auto, using(crate::proofs::Sums::sums))]
 fn mean(values: &[Value], unit: Unit) -> Averaged
-    requires few { length values.now ≤ 5 }
-    requires in_range { All IsInRange values.now }
+    requires { sum (numbers values.now) ≤ 10000000 }
     ensures value { result ≡ mean_of unit (numbers values.now) }
 {
     if count(values) == 3 {
@@ -149,13 +146,26 @@ fn mean(values: &[Value], unit: Unit) -> Averaged
     }
 }
 
+/// Whether a round of this unit may have the format: in multi-blind, where nothing is averaged, the
+/// best-of formats alone.
+pub fn is_format_of(unit: Unit, format: Format) -> bool
+    ensures { IsTrue result ↔ IsFormatOf unit format }
+{
+    match (unit, format) {
+        (Unit::Multi, Format::Ao5 | Format::Mo3) => false,
+        (Unit::Multi, Format::Bo1 | Format::Bo2 | Format::Bo3) => true,
+        (Unit::Time | Unit::Moves, _) => true,
+    }
+}
+
 /// The average of an ao5, or the mean of an mo3 (WCA Regulations, article 9f).
 ///
-/// It is Missing until all attempts of the format are there, and in the best-of formats. Times are
-/// in hundredths of a second, above ten minutes in whole seconds; moves are in hundredths of a
-/// move.
+/// It is Missing until all attempts of the format are there, and in the best-of formats, which are
+/// those of multi-blind. Times are in hundredths of a second, above ten minutes in whole seconds;
+/// moves are in hundredths of a move.
 pub fn average(format: Format, unit: Unit, values: &[Value]) -> Averaged
-    requires { All IsInRange values.now }
+    requires format { IsFormatOf unit format }
+    requires in_range { All (IsInRangeOf unit) values.now }
     ensures { result ≡ average_of format unit values.now }
 {
     match format {
@@ -168,7 +178,8 @@ pub fn average(format: Format, unit: Unit, values: &[Value]) -> Averaged
 /// What a competitor with these values is ranked by: in ao5 and mo3 the average and then the best,
 /// otherwise the best alone.
 pub fn key(format: Format, unit: Unit, values: &[Value]) -> RankKey
-    requires { All IsInRange values.now }
+    requires format { IsFormatOf unit format }
+    requires in_range { All (IsInRangeOf unit) values.now }
     ensures { result ≡ key_of format unit values.now }
 {
     match format {
@@ -196,13 +207,13 @@ fn averaged_number(average: Averaged) -> Option<u32>
 /// An average as a sheet has it, or `NoMemory` where its text finds none.
 ///
 /// A time is printed as a value is, moves as whole moves, a point and two digits (`25.67`). The
-/// others are `DNF`, and `-` where there is none.
+/// others are `DNF`, and `-` where there is none, as always in multi-blind.
 pub fn print_average(alloc: Global, average: Averaged, unit: Unit) -> Result<Vec<u8>, NoMemory>
     ensures { IfOk result (λ text. text.items ≡ average_text unit average) }
 {
     match average {
         Averaged::Number(number) => match unit {
-            Unit::Time => print_value(alloc, Value::Number(number), Unit::Time),
+            Unit::Time | Unit::Multi => print_value(alloc, Value::Number(number), unit),
             Unit::Moves => print_hundredths(alloc, number),
         },
         Averaged::Dnf => Vec::from_slice(alloc, b"DNF"),
