@@ -1,7 +1,7 @@
 //! A table that keeps the values alone and counts at each call: the plain, slow program that the
 //! running table is compared with. Its entrants are numbered from 1 on in order of entry.
 
-use attempts::{NoMemory, Unit, Value, in_range};
+use attempts::{NoMemory, Unit, Value, in_range_of};
 use formats::{Format, RankKey, attempts_of, better, key};
 use rounds::RoundTable;
 use std::alloc::Global;
@@ -19,7 +19,7 @@ impl Drop for PlainTable {
 
 /// What these values are ranked by.
 fn key_of(format: Format, values: &[Value]) -> Option<RankKey> {
-    if values.iter().all(|value| in_range(*value)) {
+    if values.iter().all(|value| in_range_of(*value, Unit::Time)) {
         Some(key(format, Unit::Time, values))
     } else {
         None

@@ -5,6 +5,7 @@ use Rattle.std.specs.Map.{values_of}
 use Rattle.std.proofs.lemmas.List.{length-map}
 use Rattle.std.proofs.lemmas.List.Elements.{All-from_recursion, recursion_from_All}
 use Rattle.std.proofs.lemmas.List.Sums.{sum_by-cons}
+use Rattle.attempts.specs.Attempts.{IsInRangeOf}
 use Rattle.formats.specs.declared.results.RankKey.{RankKey}
 use Rattle.formats.specs.Results.{is_better}
 use Rattle.indexmap.specs.IndexMap.{set_value_at}
@@ -15,7 +16,7 @@ use Rattle.rounds.specs.Tables.{allotted, is_started_attempt}
 use Rattle.rounds.specs.model.Field.{set_values_at}
 use Rattle.rounds.specs.model.Ranks.{HasRank}
 use Rattle.rounds.specs.model.Standings.{kept_of, one_if, recounted, passed_by, is_unfinished, place_among}
-use Rattle.rounds.specs.model.Running.{entrant_of, entrants_of, no_result, IsMade, IsPlaced, IsAllotted, Runs}
+use Rattle.rounds.specs.model.Running.{entrant_of, entrants_of, no_result, IsMade, IsPlaced, IsAllotted, IsRanged, Runs}
 use Rattle.rounds.proofs.CutoffOrder.{not_better}
 use Rattle.rounds.proofs.Passing.{passed, recounts, is_counted_in}
 use Rattle.rounds.proofs.EntrantLines.{part_at}
@@ -164,9 +165,17 @@ module _ (rules : Rules) (es : List (ℕ × Standing)) (i : ℕ) (e : ℕ × Sta
       (pass_each (IsAllotted rules) (IsAllotted rules) old_key new_key (λ x h. h) es within)
       (λ n. own)
 
+  ranged_after : All (IsRanged rules) es → All (IsInRangeOf rules.unit) s.row
+      → All (IsRanged rules) changed_lines
+  ranged_after ranged own =
+      set_all (IsRanged rules) (map (passed_by old_key new_key) es) i s
+      (pass_each (IsRanged rules) (IsRanged rules) old_key new_key (λ x h. h) es ranged)
+      (λ n. own)
+
   -- what is kept stays true
   pub runs_after : (started unfinished ranked ahead : ℕ) → Runs rules es started unfinished ranked
       → length s.row ≤ allotted rules.format rules.cutoff s.row
+      → All (IsInRangeOf rules.unit) s.row
       → s.kept ≡ kept_of rules s.row s.kept.place
       → ahead ≡ count_by (λ x. is_better x.kept.key new_key) (values_of es)
       → s.kept.place ≡ 1 + recounted ahead (is_better old_key new_key) false
@@ -175,7 +184,7 @@ module _ (rules : Rules) (es : List (ℕ × Standing)) (i : ℕ) (e : ℕ × Sta
       (recounted started (list_any is_started_attempt e.1.row) (list_any is_started_attempt s.row))
       (recounted unfinished (is_unfinished rules e.1.row) (is_unfinished rules s.row))
       (recounted ranked (is_better old_key no_result) (is_better new_key no_result))
-  runs_after started unfinished ranked ahead runs few own is_ahead is_place has_rank =
+  runs_after started unfinished ranked ahead runs few in_range own is_ahead is_place has_rank =
       record {
         few =
             omega (
@@ -185,6 +194,7 @@ module _ (rules : Rules) (es : List (ℕ × Standing)) (i : ℕ) (e : ℕ × Sta
               length-map es (passed_by old_key new_key),
             );
         cutoff = runs.cutoff;
+        format = runs.format;
         made = made_after runs.made own;
         placed = placed_after runs.placed
             (is_place
@@ -199,6 +209,7 @@ module _ (rules : Rules) (es : List (ℕ × Standing)) (i : ℕ) (e : ℕ × Sta
             (counts_after (λ x. is_better x.kept.key new_key) old_key new_key (λ x. refl) es i e s
             at)));
         within = within_after runs.within few;
+        ranged = ranged_after runs.ranged in_range;
         ordered =
             set_all HasRank (map (passed_by old_key new_key) es) i s
             (pass_each HasRank HasRank old_key new_key

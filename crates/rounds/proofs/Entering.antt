@@ -3,9 +3,10 @@ use Rattle.std.proofs.Common.{◌≡◌, ℕ, ◌+◌, ◌<◌, ◌≤◌, Bool,
 use Rattle.std.specs.List.{list_any, AllByRecursion}
 use Rattle.std.specs.Map.{values_of}
 use Rattle.std.proofs.lemmas.Bool.Decides.{nat_tests}
-use Rattle.std.proofs.lemmas.List.Elements.{All-from_recursion, recursion_from_All, All-push}
+use Rattle.std.proofs.lemmas.List.Elements.{All-from_recursion, recursion_from_All, All-nil, All-push}
 use Rattle.std.proofs.lemmas.List.Sums.{sum_by-cons}
 use Rattle.attempts.specs.declared.Value.{Value}
+use Rattle.attempts.specs.Attempts.{IsInRangeOf}
 use Rattle.formats.specs.declared.events.Format.{Format}
 use Rattle.formats.specs.declared.events.Format.TheVariants.{Ao5, Mo3, Bo1, Bo2, Bo3}
 use Rattle.formats.specs.declared.results.RankKey.{RankKey}
@@ -19,7 +20,7 @@ use Rattle.rounds.specs.declared.standing.Standing.{Standing}
 use Rattle.rounds.specs.Tables.{IsCutoff, allotted, meets, is_started_attempt}
 use Rattle.rounds.specs.model.Ranks.{HasRank}
 use Rattle.rounds.specs.model.Standings.{kept_of, one_if, is_unfinished, place_among}
-use Rattle.rounds.specs.model.Running.{no_result, IsMade, IsPlaced, IsAllotted, Runs}
+use Rattle.rounds.specs.model.Running.{no_result, IsMade, IsPlaced, IsAllotted, IsRanged, Runs}
 
 -- nobody without a result is better than anyone
 none_better : (k : RankKey) → is_better no_result k ≡ false
@@ -97,6 +98,7 @@ module _ (rules : Rules) (es : List (ℕ × Standing)) (n : ℕ) (s : Standing)
       record {
         few = omega (arith, room, length-append es ((n, s) ∷ []));
         cutoff = runs.cutoff;
+        format = runs.format;
         made = All-push (IsMade rules) es (n, s) runs.made own;
         placed = All-push (IsPlaced (values_of (es ++ (n, s) ∷ []))) es (n, s)
             (all_step (IsPlaced (values_of es)) (IsPlaced (values_of (es ++ (n, s) ∷ [])))
@@ -109,6 +111,10 @@ module _ (rules : Rules) (es : List (ℕ × Standing)) (n : ℕ) (s : Standing)
             All-push (IsAllotted rules) es (n, s) runs.within
             (subst (λ vs. length vs ≤ allotted rules.format rules.cutoff vs) (sym none)
             (omega arith));
+        ranged =
+            All-push (IsRanged rules) es (n, s) runs.ranged
+            (subst (λ vs. All (IsInRangeOf rules.unit) vs) (sym none)
+            (All-nil (IsInRangeOf rules.unit)));
         ordered = All-push HasRank es (n, s) runs.ordered has_rank;
         starts =
             runs.starts

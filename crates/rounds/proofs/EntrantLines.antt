@@ -20,7 +20,7 @@ use Rattle.rounds.specs.declared.standing.Standing.{Standing}
 use Rattle.rounds.specs.Tables.{Entrant, IsCutoff, has_number, place}
 use Rattle.rounds.specs.model.Field.{Field, as_table, set_values_at, with_change, IsEntrantAt, IsStandingOf}
 use Rattle.rounds.specs.model.Standings.{kept_of, place_among}
-use Rattle.rounds.specs.model.Running.{entrant_of, entrants_of, IsMade, IsPlaced, IsAllotted}
+use Rattle.rounds.specs.model.Running.{entrant_of, entrants_of, IsMade, IsPlaced, IsAllotted, IsRanged}
 use Rattle.rounds.proofs.Passing.{at_index}
 
 -- the entrant of a number, with a standing
@@ -134,10 +134,10 @@ part_at f xs i x h = slice_get-map f xs i ∙ ap (option_map f) h
 -- what a position among the numbers says of the entrants
 pub index_says : (rules : Rules) (n : ℕ) (es : List (ℕ × Standing))
     → IsCutoff rules.format rules.cutoff → IsDistinct nat_eq (keys_of es)
-    → All (IsAllotted rules) es
+    → All (IsAllotted rules) es → All (IsRanged rules) es
     → MatchOption (position (nat_eq n) (keys_of es)) (find (has_number n) (entrants_of es) ≡ None)
     (IsEntrantAt n (field_with rules es))
-index_says rules n es cutoff distinct few = tell (position (nat_eq n) (keys_of es)) refl
+index_says rules n es cutoff distinct few ranged = tell (position (nat_eq n) (keys_of es)) refl
   where
     tell : (o : Option ℕ) → position (nat_eq n) (keys_of es) ≡ o
         → MatchOption o (find (has_number n) (entrants_of es) ≡ None)
@@ -163,6 +163,7 @@ index_says rules n es cutoff distinct few = tell (position (nat_eq n) (keys_of e
               (f.value ∙ part_at (λ (x : ℕ × Standing). x.1) es i got.0 got.1);
           cutoff = cutoff;
           few = at_index (IsAllotted rules) es i (n, got.0.1) few line;
+          ranged = at_index (IsRanged rules) es i (n, got.0.1) ranged line;
           changed = λ change. change_at n change es i got.0.1 distinct line;
         }
 

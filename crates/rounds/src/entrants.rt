@@ -1,8 +1,10 @@
 //! The entrants of a round, in order of entry, with what is kept of them.
 
-ghost use Rattle.std.specs.Prelude.{◌≡◌, ℕ, ◌<◌, ◌≤◌, ◌&&◌, not, [], None, Some, IfOk, IfSome, OnOk, OnErr, MatchOption, count_by, false, find, length, map, nat_eq, option_map, slice_get};
+ghost use Rattle.std.specs.Prelude.{◌≡◌, ℕ, ◌<◌, ◌≤◌, ◌&&◌, not, [], None, Some, All, IfOk, IfSome, OnOk, OnErr, MatchOption, count_by, false, find, length, map, nat_eq, option_map, slice_get};
 ghost use Rattle.std.specs.List.{list_any, IsDistinct};
 ghost use Rattle.std.specs.List.Sorted.{IsPermutation};
+ghost use Rattle.attempts.specs.Attempts.{IsInRangeOf};
+ghost use Rattle.formats.specs.Results.{IsFormatOf};
 ghost use Rattle.rounds.specs.Tables.{Entrant, IsCutoff, KeepsAllotted, allotted, has_number, has_started, is_finished, not_worse, number_of_entrant, standings, started};
 ghost use Rattle.rounds.specs.CutoffLaw.{MetIsBetterIn};
 ghost use Rattle.rounds.specs.Positions.{place_at};
@@ -55,7 +57,8 @@ impl Model for Entrants {
 
 impl Entrants {
     pub(crate) fn new(alloc: Global, rules: Rules) -> Result<Self, NoMemory>
-        requires { IsCutoff rules.format rules.cutoff }
+        requires cutoff { IsCutoff rules.format rules.cutoff }
+        requires format { IsFormatOf rules.unit rules.format }
         ensures { IfOk result (λ entrants. entrants ≡ record { rules = rules; entrants = [] }) }
     {
         Ok(Entrants {
@@ -130,6 +133,7 @@ impl Entrants {
     pub(crate) fn replace(&mut self, index: usize, row: ValueRow)
         requires within { index < length self.old.entrants }
         requires few { length row ≤ allotted self.old.rules.format self.old.rules.cutoff row }
+        requires in_range { All (IsInRangeOf self.old.rules.unit) row }
         ensures { self.new ≡ with_values_at self.old index row }
     {
         let before = &self.standings[index];

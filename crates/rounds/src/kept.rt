@@ -1,7 +1,8 @@
 //! What the table keeps of an entrant, so that no call has to work it out again.
 
 ghost use Rattle.std.specs.Prelude.{◌≡◌, All};
-ghost use Rattle.attempts.specs.Attempts.{IsInRange};
+ghost use Rattle.attempts.specs.Attempts.{IsInRangeOf};
+ghost use Rattle.formats.specs.Results.{IsFormatOf};
 ghost use Rattle.rounds.specs.model.Standings.{kept_of};
 
 use crate::rules::Rules;
@@ -23,7 +24,8 @@ pub struct Kept {
 impl Kept {
     /// What these values make, with this place.
     pub(crate) fn of(rules: Rules, values: &[Value], place: u16) -> Self
-        requires { All IsInRange values.now }
+        requires format { IsFormatOf rules.unit rules.format }
+        requires in_range { All (IsInRangeOf rules.unit) values.now }
         ensures { result ≡ kept_of rules values.now place }
     {
         Kept {

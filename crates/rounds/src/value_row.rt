@@ -1,7 +1,6 @@
 //! The values of one entrant, in a fixed row of five.
 
-ghost use Rattle.std.specs.Prelude.{◌≡◌, ◌<◌, ◌≤◌, [], ◌∷◌, ◌++◌, length, All, slice_set};
-ghost use Rattle.attempts.specs.Attempts.{IsInRange};
+ghost use Rattle.std.specs.Prelude.{◌≡◌, ◌<◌, ◌≤◌, [], ◌∷◌, ◌++◌, length, slice_set};
 ghost use Rattle.rounds.specs.Tables.{without_last};
 
 use attempts::Value;
@@ -40,15 +39,13 @@ impl ValueRow {
     pub(crate) fn values(&self) -> &[Value]
         ensures values { result.now ≡ self.now }
         ensures few { length result.now ≤ 5 }
-        ensures in_range { All IsInRange result.now }
     {
         &self.values[..self.done as usize]
     }
 
     /// The row with the next value.
     pub(crate) fn with_next(&self, value: Value) -> Self
-        requires room { length self.now < 5 }
-        requires in_range { IsInRange value }
+        requires { length self.now < 5 }
         ensures { result ≡ self.now ++ value ∷ [] }
     {
         let mut values = self.values;
@@ -61,8 +58,7 @@ impl ValueRow {
 
     /// The row with another value at an index.
     pub(crate) fn with_other(&self, index: usize, value: Value) -> Self
-        requires there { index < length self.now }
-        requires in_range { IsInRange value }
+        requires { index < length self.now }
         ensures { result ≡ slice_set self.now index value }
     {
         let mut values = self.values;

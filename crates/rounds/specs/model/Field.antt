@@ -1,6 +1,7 @@
 -- The entrants of a round as the table sees them.
-use Rattle.std.specs.Prelude.{◌≡◌, ◌<◌, ◌≤◌, ℕ, zero, suc, Bool, false, if◌then◌else◌, List, [], ◌∷◌, ◌++◌, Some, find, length, map, slice_get}
+use Rattle.std.specs.Prelude.{◌≡◌, ◌<◌, ◌≤◌, ℕ, zero, suc, Bool, false, if◌then◌else◌, List, [], ◌∷◌, ◌++◌, Some, find, length, map, slice_get, All}
 use Rattle.attempts.specs.declared.Value.{Value}
+use Rattle.attempts.specs.Attempts.{IsInRangeOf}
 use Rattle.rounds.specs.declared.rules.Rules.{Rules}
 use Rattle.rounds.specs.declared.standing.Standing.{Standing}
 use Rattle.rounds.specs.Tables.{Entrant, Table, IsCutoff, allotted, has_number, place}
@@ -46,6 +47,7 @@ pub record IsEntrantAt (n : ℕ) (f : Field) (i : ℕ) : Type 0 where
   pub found : find (has_number n) f.entrants ≡ Some entrant
   pub cutoff : IsCutoff f.rules.format f.rules.cutoff
   pub few : length entrant.values ≤ allotted f.rules.format f.rules.cutoff entrant.values
+  pub ranged : All (IsInRangeOf f.rules.unit) entrant.values
   pub changed : (change : List Value → List Value)
       → set_values_at f.entrants i (change entrant.values) ≡ map (with_change n change) f.entrants
 

@@ -1,6 +1,5 @@
 -- How the values of one entrant are kept.
-use Rattle.std.specs.Prelude.{◌≡◌, ◌≤◌, length, take, All}
-use Rattle.attempts.specs.Attempts.{IsInRange}
+use Rattle.std.specs.Prelude.{◌≡◌, ◌≤◌, length, take}
 use Rattle.rounds.specs.model.ValueRows.{Values}
 use Rattle.rounds.specs.declared.value_row.ValueRow.TheInside.{Inside}
 
@@ -11,4 +10,3 @@ values_of_row a = take a.done a.values
 pub record IsRowOfFive (a : Inside) : Type 0 where
   pub few : a.done ≤ 5
   pub room : length a.values ≡ 5
-  pub in_range : All IsInRange (take a.done a.values)

@@ -3,10 +3,11 @@ use Rattle.std.specs.Prelude.{◌≡◌, ◌≤◌, ℕ, List, None, All, count_
 use Rattle.std.specs.List.{list_any}
 use Rattle.std.specs.Map.{values_of}
 use Rattle.formats.specs.declared.results.RankKey.{RankKey}
-use Rattle.formats.specs.Results.{is_better}
+use Rattle.formats.specs.Results.{IsFormatOf, is_better}
 use Rattle.rounds.specs.declared.entrants.Entrants.TheInside.{Inside}
 use Rattle.rounds.specs.declared.rules.Rules.{Rules}
 use Rattle.rounds.specs.declared.standing.Standing.{Standing}
+use Rattle.attempts.specs.Attempts.{IsInRangeOf}
 use Rattle.rounds.specs.Tables.{Entrant, IsCutoff, allotted, is_started_attempt}
 use Rattle.rounds.specs.model.Field.{Field}
 use Rattle.rounds.specs.model.Ranks.{HasRank}
@@ -37,14 +38,20 @@ IsPlaced ss line = line.1.kept.place ≡ place_among ss line.1.kept.key
 abbrev pub IsAllotted : Rules → ℕ × Standing → Type 0
 IsAllotted rules line = length line.1.row ≤ allotted rules.format rules.cutoff line.1.row
 
+-- each value is in the range of the unit
+abbrev pub IsRanged : Rules → ℕ × Standing → Type 0
+IsRanged rules line = All (IsInRangeOf rules.unit) line.1.row
+
 -- what is kept of these entrants is theirs
 pub record Runs (rules : Rules) (lines : List (ℕ × Standing)) (started unfinished ranked : ℕ) : Type
     0 where
   pub few : length lines ≤ 999
   pub cutoff : IsCutoff rules.format rules.cutoff
+  pub format : IsFormatOf rules.unit rules.format
   pub made : All (IsMade rules) lines
   pub placed : All (IsPlaced (values_of lines)) lines
   pub within : All (IsAllotted rules) lines
+  pub ranged : All (IsRanged rules) lines
   pub ordered : All HasRank lines
   pub starts : started ≡ count_by (λ s. list_any is_started_attempt s.row) (values_of lines)
   pub unfinishes : unfinished ≡ count_by (λ s. is_unfinished rules s.row) (values_of lines)

@@ -5,4 +5,5 @@ pub returns : goal.returns
 returns c =
     rw (c.get_index_of.ensures.index, ← c.self.view_is)
     (index_says c.self.inside.rules c.args.number c.self.inside.standings.entries
-    c.self.invariant.cutoff c.get_index_of.ensures.unique c.self.invariant.within)
+    c.self.invariant.cutoff c.get_index_of.ensures.unique c.self.invariant.within
+    c.self.invariant.ranged)

@@ -1,6 +1,7 @@
-use Rattle.std.proofs.Common.{◌+◌, false, List, map, ap, subst, sym, ◌∙◌}
+use Rattle.std.proofs.Common.{◌+◌, false, List, All, map, ap, subst, sym, ◌∙◌}
 use Rattle.std.specs.List.{list_any}
 use Rattle.indexmap.specs.IndexMap.{set_value_at}
+use Rattle.attempts.specs.Attempts.{IsInRangeOf}
 use Rattle.formats.specs.Results.{is_better}
 use Rattle.rounds.specs.declared.kept.Kept.{Kept}
 use Rattle.rounds.specs.declared.standing.Standing.{Standing}
@@ -44,11 +45,17 @@ recounted-requires-clause-counted c =
     c.args.index c.index-before.result.now c.index-before.ensures
     c.better-3.result c.pass_all-ahead.result c.better-3.ensures c.pass_all-ahead.ensures.ahead
 
+pub of-kept-requires-clause-in_range : goal.of-kept-requires-clause-in_range
+of-kept-requires-clause-in_range c =
+    subst (λ vs. All (IsInRangeOf c.self.inside.rules.unit) vs) (sym c.values.ensures.values)
+    (rw (← c.self.view_is) at c.requires.in_range)
+
 pub rank_of-rank-requires : goal.rank_of-rank-requires
 rank_of-rank-requires c =
     subst (λ (k : Kept). IsBelow 2147483647 k.key.tie) (sym c.of-kept.ensures)
     (small_tie c.self.inside.rules.format c.self.inside.rules.unit c.values.result.now
-    c.values.ensures.in_range)
+    (subst (λ vs. All (IsInRangeOf c.self.inside.rules.unit) vs) (sym c.values.ensures.values)
+    (rw (← c.self.view_is) at c.requires.in_range)))
 
 pub pass_all-ahead-requires-clause-ranked : goal.pass_all-ahead-requires-clause-ranked
 pass_all-ahead-requires-clause-ranked c = c.self.invariant.ordered
@@ -97,7 +104,7 @@ invariant_of-self c =
     c.better-2.ensures c.recounted-self-inside-3.result c.recounted-self-inside-3.ensures)
     (runs_after rules es i (line.0, before) line.1 after c.self.inside.started
     c.self.inside.unfinished c.self.inside.ranked c.pass_all-ahead.result c.self.invariant
-    (rw (← c.self.view_is) at c.requires.few)
+    (rw (← c.self.view_is) at c.requires.few) (rw (← c.self.view_is) at c.requires.in_range)
     (ap (λ (k : Kept). record k { place = 1 + c.recounted.result })
     (c.of-kept.ensures ∙ ap (λ vs. kept_of rules vs 0) c.values.ensures.values))
     c.pass_all-ahead.ensures.ahead

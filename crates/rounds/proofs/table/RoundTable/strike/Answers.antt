@@ -1,4 +1,6 @@
-use Rattle.std.proofs.Common.{◌≤◌, length, ap, sym, subst, ◌∙◌}
+use Rattle.std.proofs.Common.{◌-◌, ◌≤◌, length, All, ap, sym, subst, ◌∙◌}
+use Rattle.std.proofs.lemmas.List.Elements.{All-take}
+use Rattle.attempts.specs.Attempts.{IsInRangeOf}
 use Rattle.rounds.specs.Tables.{allotted, without_last}
 use Rattle.rounds.proofs.Allotted.{one_less}
 use Rattle.rounds.proofs.TableCalls.{changed_table}
@@ -12,6 +14,15 @@ replace-requires-clause-few c =
     (sym
     (c.without_last-shorter.ensures ∙ ap without_last (c.row_at-row.ensures at.entrant at.there)))
     (one_less rules.format rules.cutoff at.entrant.values at.cutoff at.few)
+
+pub replace-requires-clause-in_range : goal.replace-requires-clause-in_range
+replace-requires-clause-in_range c =
+    let at = c.in-Some.ensures in
+    let unit = c.self.inside.entrants.rules.unit in
+    subst (λ vs. All (IsInRangeOf unit) vs)
+    (sym
+    (c.without_last-shorter.ensures ∙ ap without_last (c.row_at-row.ensures at.entrant at.there)))
+    (All-take (IsInRangeOf unit) (length at.entrant.values - 1) at.entrant.values at.ranged)
 
 pub returns-clause-struck : goal.returns-clause-struck
 returns-clause-struck c =
