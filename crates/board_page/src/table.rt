@@ -1,0 +1,184 @@
+//! A sheet's table in HTML.
+
+ghost use Rattle.std.specs.Prelude.{◌≡◌, ◌++◌, [], List, ℕ, get_or, map, flat_map, IfOk, OnOk};
+ghost use Rattle.csv.specs.Reading.{AreRecords, default_config, strip_bom};
+ghost use Rattle.csv.specs.Records.{fields_of};
+ghost use Rattle.csv.specs.declared.parser.State.TheVariants as st;
+ghost use Rattle.board_page.specs.Table.{cell, heading, headings, line, line_start, position_of, section_start, table, title_of, IsSheetOf};
+
+use crate::escaping::push_escaped;
+use csv::{ByteRecord, ReaderBuilder};
+use std::alloc::{AllocError, Global};
+
+/// The records of a text. A record may have any number of fields, so that nothing but want of
+/// memory keeps the reader from them.
+fn records_of(alloc: Global, text: &[u8]) -> Result<Vec<ByteRecord>, AllocError>
+    ensures { IfOk result (λ rows. AreRecords default_config st.StartRecord
+        (strip_bom text.now) (map fields_of rows.items)) }
+{
+    let rdr = ReaderBuilder::new()
+        .has_headers(false)
+        .flexible(true)
+        .from_reader(alloc, text);
+    let mut rows = Vec::new(alloc);
+    for row in rdr.into_byte_records() {
+        let Ok(row) = row else {
+            return Err(AllocError);
+        };
+        rows.push(row)?;
+    }
+    Ok(rows)
+}
+
+/// The field at a place.
+fn field_at(row: &ByteRecord, place: usize) -> &[u8]
+    ensures { result.now ≡ get_or (fields_of row.now) place [] }
+{
+    match row.get(place) {
+        Some(field) => field,
+        None => &[],
+    }
+}
+
+fn push_heading(out: &mut Vec<u8>, field: &[u8]) -> Result<(), AllocError>
+    ensures { OnOk result (out.new.items ≡ out.old.items ++ heading field.now) }
+{
+    out.extend_from_slice(b"<th scope=\"col\">")?;
+    push_escaped(out, field)?;
+    out.extend_from_slice(b"</th>")?;
+    Ok(())
+}
+
+fn push_cell(out: &mut Vec<u8>, field: &[u8]) -> Result<(), AllocError>
+    ensures { OnOk result (out.new.items ≡ out.old.items ++ cell field.now) }
+{
+    out.extend_from_slice(b"<td>")?;
+    push_escaped(out, field)?;
+    out.extend_from_slice(b"</td>")?;
+    Ok(())
+}
+
+/// Adds a heading for each field.
+fn push_each_heading(out: &mut Vec<u8>, row: &ByteRecord) -> Result<(), AllocError>
+    ensures { OnOk result (out.new.items ≡ out.old.items ++ flat_map heading (fields_of row.now)) }
+{
+    for place in 0..row.len() {
+        push_heading(out, field_at(row, place))?;
+    }
+    Ok(())
+}
+
+/// Adds a cell for each field.
+fn push_each_cell(out: &mut Vec<u8>, row: &ByteRecord) -> Result<(), AllocError>
+    ensures { OnOk result (out.new.items ≡ out.old.items ++ flat_map cell (fields_of row.now)) }
+{
+    for place in 0..row.len() {
+        push_cell(out, field_at(row, place))?;
+    }
+    Ok(())
+}
+
+/// Adds the beginning of a table, up to its first line.
+fn push_headings(out: &mut Vec<u8>, row: &ByteRecord) -> Result<(), AllocError>
+    ensures { OnOk result (out.new.items ≡ out.old.items ++ headings (fields_of row.now)) }
+{
+    out.extend_from_slice(b"<table><thead><tr>")?;
+    push_each_heading(out, row)?;
+    out.extend_from_slice(b"</tr></thead><tbody>\n")?;
+    Ok(())
+}
+
+fn push_line_start(out: &mut Vec<u8>, class: &[u8]) -> Result<(), AllocError>
+    ensures { OnOk result (out.new.items ≡ out.old.items ++ line_start class.now) }
+{
+    out.extend_from_slice(b"<tr class=\"")?;
+    push_escaped(out, class)?;
+    out.extend_from_slice(b"\">")?;
+    Ok(())
+}
+
+/// Adds the line of a record, whose class is its last field.
+fn push_line(out: &mut Vec<u8>, row: &ByteRecord) -> Result<(), AllocError>
+    ensures { OnOk result (out.new.items ≡ out.old.items ++ line (fields_of row.now)) }
+{
+    push_line_start(out, field_at(row, row.len().saturating_sub(1)))?;
+    push_each_cell(out, row)?;
+    out.extend_from_slice(b"</tr>\n")?;
+    Ok(())
+}
+
+fn push_lines(out: &mut Vec<u8>, rows: &[ByteRecord]) -> Result<(), AllocError>
+    ensures { OnOk result (out.new.items
+        ≡ out.old.items ++ flat_map line (map fields_of rows.now)) }
+{
+    for row in rows {
+        push_line(out, row)?;
+    }
+    Ok(())
+}
+
+fn push_table(out: &mut Vec<u8>, rows: &[ByteRecord]) -> Result<(), AllocError>
+    ensures { OnOk result (out.new.items ≡ out.old.items ++ table (map fields_of rows.now)) }
+{
+    let [names, entrants @ ..] = rows else {
+        return out.extend_from_slice(b"<table></table>\n");
+    };
+    push_headings(out, names)?;
+    push_lines(out, entrants)?;
+    out.extend_from_slice(b"</tbody></table>\n")?;
+    Ok(())
+}
+
+fn push_section_start(out: &mut Vec<u8>, anchor: &[u8]) -> Result<(), AllocError>
+    ensures { OnOk result (out.new.items ≡ out.old.items ++ section_start anchor.now) }
+{
+    out.extend_from_slice(b"<section id=\"")?;
+    push_escaped(out, anchor)?;
+    out.extend_from_slice(b"\">")?;
+    Ok(())
+}
+
+fn push_title(out: &mut Vec<u8>, title: &[u8]) -> Result<(), AllocError>
+    ensures { OnOk result (out.new.items ≡ out.old.items ++ title_of title.now) }
+{
+    out.extend_from_slice(b"<h2>")?;
+    push_escaped(out, title)?;
+    out.extend_from_slice(b"</h2>\n")?;
+    Ok(())
+}
+
+fn push_position(out: &mut Vec<u8>, position: &[u8]) -> Result<(), AllocError>
+    ensures { OnOk result (out.new.items ≡ out.old.items ++ position_of position.now) }
+{
+    out.extend_from_slice(b"<p>position ")?;
+    push_escaped(out, position)?;
+    out.extend_from_slice(b"</p></section>\n")?;
+    Ok(())
+}
+
+/// Adds a sheet in HTML: under its title the table whose cells are the fields of the CSV `text`, as
+/// a reader of CSV reads it, each escaped, in their order; below it the position. The first record
+/// of the text names the columns; each further one is a line, whose class is its last field. Other
+/// pages refer to the sheet by its anchor.
+///
+/// # Errors
+///
+/// Where memory is wanting. A front part of the sheet may have been added then.
+pub fn push_sheet(
+    out: &mut Vec<u8>,
+    anchor: &[u8],
+    title: &[u8],
+    text: &[u8],
+    position: &[u8],
+) -> Result<(), AllocError>
+    ensures { OnOk result ((page : List ℕ)
+        × IsSheetOf anchor.now title.now position.now text.now page
+        × (out.new.items ≡ out.old.items ++ page)) }
+{
+    let rows = records_of(*out.allocator(), text)?;
+    push_section_start(out, anchor)?;
+    push_title(out, title)?;
+    push_table(out, &rows)?;
+    push_position(out, position)?;
+    Ok(())
+}
