@@ -1,2 +1,3 @@
+pub mod Files
 pub mod Printing
 pub mod Serves

@@ -1,6 +1,7 @@
 -- What a desk does that serves: the clients that it serves, and the file that it stands on.
-use Rattle.std.specs.Prelude.{◌≡◌, ◌⊎◌, ℕ, List, None, Result, Ok, Err}
-use Rattle.std.specs.Io.KnownBytes.{Appends}
+use Rattle.std.specs.Prelude.{◌≡◌, ◌⊎◌, ℕ, List, length, None, Result, Ok, Err}
+use Rattle.std.specs.Io.KnownBytes.{Appends, Keeps}
+use Rattle.sqlite.specs.Recovery.{Image}
 use Rattle.lines.specs.Bytes.{AppendsPart}
 use Rattle.node.specs.Handles.{Handles}
 use Rattle.node.specs.Nodes.{NodeValue, KeeperWords}
@@ -11,9 +12,11 @@ use Rattle.sockets.specs.declared.serving_all.AllEnd.{AllEnd}
 use Rattle.sockets.specs.declared.serving_all.AllEnd.TheVariants as all
 use Rattle.sockets.specs.declared.serving_all.ServedAll.{ServedAll}
 use Rattle.store.specs.declared.home.Home.{Home}
-use Rattle.serve.specs.Printing.{Output, first_line, both_lines}
+use Rattle.serve.specs.Files.{IsOpenedOn}
+use Rattle.serve.specs.Printing.{Hinders, Output, first_line, both_lines, home_of}
 use Rattle.serve.specs.declared.fault.ServeFault.{ServeFault}
 use Rattle.serve.specs.declared.fault.ServeFault.TheVariants as fault
+use Rattle.serve.specs.declared.service.Service.{Service}
 
 -- a desk that is to serve: whose it is, at most how many clients, how long its log is, and the
 -- writer
@@ -68,3 +71,18 @@ FailsServing _ t a b = ⊥
 -- a node between two connections, where nothing is told of what the other desks were handed
 abbrev pub standing : {K : Type 0} → (k : KeeperWords K) → NodeValue K → Standing (Handles k)
 standing k node = standing_of (Handles k) node None
+
+-- The desk that was opened on these files served so: from what it was then, with the length of its
+-- log in the first line, to what it was at the end.
+pub record IsRun {K : Type 0} (k : KeeperWords K) (files : Image) (s : Service) (o : Output)
+    (Does : Turn → Standing (Handles k) → Standing (Handles k) → Type 0) : Type 0 where
+  pub first : NodeValue K
+  pub last : NodeValue K
+  pub opened : IsOpenedOn k files (home_of s) first
+  pub served : Does (turn (home_of s) s.connections (length first.desk.log) o) (standing k first)
+      (standing k last)
+
+-- nothing was printed and nobody served, by this cause
+pub record IsHindered (f : ServeFault) (s : Service) (o : Output) : Type 0 where
+  pub cause : Hinders f s
+  pub silent : Keeps o.old o.new

@@ -1,7 +1,13 @@
 //! A desk's file, opened.
 
 ghost use Rattle.std.specs.Prelude.{◌≡◌, false, IfOk, IfErr};
+ghost use Rattle.sqlite.specs.Files.{file_state, IsOpened};
+ghost use Rattle.sqlite.specs.Start.{FindsIn};
+ghost use Rattle.sqlite.specs.State.{HasCleanDisk};
+ghost use Rattle.sqlite.specs.WalFiles.{image_at};
+ghost use Rattle.node.specs.Nodes.{words};
 ghost use Rattle.store.specs.Ranges.{IsHome};
+ghost use Rattle.serve.specs.Files.{IsOpenedOn};
 ghost use Rattle.serve.specs.Printing.{IsOfStore};
 
 use crate::fault::{ServeFault, fault_of_load, fault_of_open};
@@ -20,6 +26,9 @@ fn open_file<S: Start>(
     start: S,
 ) -> Result<Connection<FileStore<FileFrom<S>>>, ServeFault>
     ensures autocommit { IfOk result (λ conn. conn.in_transaction ≡ false) }
+    ensures opened { IfOk result (λ conn. HasCleanDisk (file_state conn) → IsOpened conn) }
+    ensures found { IfOk result (λ conn. HasCleanDisk (file_state conn)
+        → FindsIn (image_at S.Start) (file_state conn)) }
     ensures err { IfErr result IsOfStore }
 {
     match Connection::open_from(rt, path, false, start) {
@@ -28,7 +37,8 @@ fn open_file<S: Start>(
     }
 }
 
-/// Opens the desk that the file keeps.
+/// Opens the desk that the file keeps, with the state and the log that the file held. `S` stands
+/// for what it and its log held.
 pub fn open_desk<S: Start>(
     rt: &HostRuntime,
     home: Home,
@@ -36,8 +46,9 @@ pub fn open_desk<S: Start>(
     start: S,
 ) -> Result<Node<SqlKeeper<FileStore<FileFrom<S>>>>, ServeFault>
     requires { IsHome home }
-    ensures home { IfOk result
-        (λ node. ⟦<SqlKeeper<FileStore<FileFrom<S>>> as Keeper>⟧.home_of node.keeper ≡ home) }
+    ensures opened { let k = ⟦<SqlKeeper<FileStore<FileFrom<S>>> as Keeper>⟧ in
+        IfOk result (IsOpenedOn (words k.home_of k.failures_of k.is_down k.is_honest k.keeps
+        k.may_hold k.may_break) (image_at S.Start) home) }
     ensures err { IfErr result IsOfStore }
 {
     let conn = match open_file(rt, path, start) {

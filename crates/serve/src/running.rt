@@ -6,7 +6,8 @@ ghost use Rattle.node.specs.Handles.{Handles};
 ghost use Rattle.node.specs.Nodes.{words};
 ghost use Rattle.sockets.specs.Visits.{standing_of};
 ghost use Rattle.serve.specs.Printing.{IsOfListener, Prints, PrintsAt, output};
-ghost use Rattle.serve.specs.Serves.{FailsServing, Serves, ends_by, standing, turn};
+ghost use Rattle.serve.specs.Serves.{FailsServing, IsHindered, IsRun, Serves, ends_by, standing, turn};
+ghost use Rattle.sqlite.specs.WalFiles.{image_at};
 
 use crate::fault::ServeFault;
 use crate::opening::open_desk;
@@ -15,13 +16,14 @@ use crate::telling::{tell_first, tell_last};
 use node::Node;
 use serving::Peers;
 use sockets::{Accept, AllEnd, Listener, SocketPeers, serve_all};
-use sqlite::Start;
+use sqlite::{FileFrom, FileStore, Start};
 use std::alloc::Global;
 use std::io;
 use std::io::{ErrorKind, Write};
 use std::net::{Net, SocketAddr, ToSocketAddrs};
 use std::time::Duration;
 use store::keeper::Keeper;
+use store::sql::SqlKeeper;
 
 /// What the end of serving says: a fault where a client could not be accepted or the desk is down.
 fn told_end(end: AllEnd) -> Result<(), ServeFault>
@@ -188,6 +190,16 @@ pub fn serve<S: Start, W: Write>(
         (Prints service.entry (output (W.contents writer.old) (W.contents writer.new))) }
     ensures err { IfErr result
         (λ f. PrintsAt f service.entry (output (W.contents writer.old) (W.contents writer.new))) }
+    ensures serves { let k = ⟦<SqlKeeper<FileStore<FileFrom<S>>> as Keeper>⟧ in
+        OnOk result (IsRun (words k.home_of k.failures_of k.is_down k.is_honest k.keeps
+        k.may_hold k.may_break) (image_at S.Start) service.entry
+        (output (W.contents writer.old) (W.contents writer.new)) Serves) }
+    ensures fails { let k = ⟦<SqlKeeper<FileStore<FileFrom<S>>> as Keeper>⟧ in
+        IfErr result (λ f. IsHindered f service.entry
+        (output (W.contents writer.old) (W.contents writer.new))
+        ⊎ IsRun (words k.home_of k.failures_of k.is_down k.is_honest k.keeps
+        k.may_hold k.may_break) (image_at S.Start) service.entry
+        (output (W.contents writer.old) (W.contents writer.new)) (FailsServing f)) }
 {
     let home = match home_of(service) {
         Ok(home) => home,

@@ -1,7 +1,7 @@
 -- What an opening gives, and what a refusal tells and leaves.
 use Rattle.std.specs.Prelude.{◌≡◌, ◌≢◌, ◌⊎◌, List, [], IsTrue}
 use Rattle.sqlite.specs.Tree.{Trees}
-use Rattle.sqlite.specs.State.{State}
+use Rattle.sqlite.specs.State.{State, HasCleanDisk}
 use Rattle.sqlite.specs.declared.error.Error.{Error}
 use Rattle.sqlite.specs.declared.error.Error.TheVariants.{SqliteFailure}
 use Rattle.sqlite.specs.declared.error.ErrorCode.TheVariants.{OutOfMemory, SystemIoFailure, DiskFull, CannotOpen, DatabaseBusy}
@@ -28,6 +28,8 @@ refusal_of _ = Damaged
 
 -- What a keeper keeps that was opened for a desk over a connection.
 pub record Opens (home : Home) (old : State) (keeps : Stored → List Entry → Type 0) : Type 0 where
+  -- the connection had been given back what was written
+  pub honest : HasCleanDisk old
   -- it is a state with all of it in its ranges
   pub kept : (s : Stored) × (log : List Entry) × IsSound home s log × keeps s log
   -- there was nothing at all, or a state of this desk

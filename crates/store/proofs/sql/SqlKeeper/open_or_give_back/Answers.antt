@@ -3,6 +3,7 @@ use Rattle.store.proofs.sql.SqlKeeper.open_or_give_back.Goals as goal
 
 pub returns-in-Ok-clause-opened : goal.returns-in-Ok-clause-opened
 returns-in-Ok-clause-opened g c clean = record {
+  honest = c.prepare.ensures.clean clean;
   kept =
       let all = c.in-Ok.ensures.found clean in (all.0, all.1, all.4, (refl, all.2, all.3, all.5));
   found = c.in-Ok.ensures.before clean;
