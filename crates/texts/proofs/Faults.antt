@@ -7,7 +7,7 @@ use Rattle.texts.specs.declared.command.Command.{Command}
 use Rattle.texts.specs.declared.reading.CommandFault.{CommandFault}
 use Rattle.texts.specs.declared.reading.CommandFault.TheVariants as fault
 use Rattle.texts.specs.Fields.{cut}
-use Rattle.texts.specs.Reading.{◌>>=◌, field, last_field, no_field, register_of, open_of, enter_of, scramble_of, attempt_of, correct_of, strike_of, set_advance_of, close_of, is_word, by_word, command_of, Gives}
+use Rattle.texts.specs.Reading.{◌>>=◌, field, last_field, no_field, register_of, open_of, enter_of, scramble_of, attempt_of, correct_of, strike_of, set_advance_of, close_of, set_edition_of, is_word, by_word, command_of, Gives}
 
 -- what is read of fields: a value, or a field at fault
 abbrev IsOfFields : {A : Type 0} → Result A CommandFault → Type 0
@@ -107,6 +107,11 @@ close left =
     then _ _ (field-IsOfFields _ _ left)
     (λ e. then _ _ (field-IsOfFields _ _ e.1) (λ r. then _ _ (none-IsOfFields _ r.1) (λ u. tt)))
 
+set_edition : (left : Option (List ℕ)) → IsOfFields (set_edition_of left)
+unfolding set_edition_of
+set_edition left =
+    then _ _ (field-IsOfFields _ _ left) (λ e. then _ _ (none-IsOfFields _ e.1) (λ u. tt))
+
 -- What is said where no word stands is said of no word.
 
 word-short : (b : Bool) (read others : Result Command CommandFault) → IsOfFields read
@@ -125,9 +130,10 @@ by_word-short text =
     (word-short (bytes_eq text.0 (codes "COR")) (correct_of text.1) _ (correct text.1)
     (word-short (bytes_eq text.0 (codes "STR")) (strike_of text.1) _ (strike text.1)
     (word-short (bytes_eq text.0 (codes "ADV")) (set_advance_of text.1) _ (set_advance text.1)
-    (word-short (bytes_eq text.0 (codes "CLOSE")) (close_of text.1) (Err fault.NotACommand)
-    (close text.1)
-    (λ e. let bad : Err fault.NotACommand ≡ Err fault.TooLong = e in cc)))))))))
+    (word-short (bytes_eq text.0 (codes "CLOSE")) (close_of text.1) _ (close text.1)
+    (word-short (bytes_eq text.0 (codes "EDITION")) (set_edition_of text.1) (Err fault.NotACommand)
+    (set_edition text.1)
+    (λ e. let bad : Err fault.NotACommand ≡ Err fault.TooLong = e in cc))))))))))
 
 word-none : (b rest : Bool) (read others : Result Command CommandFault) → IsOfFields read
     → (others ≡ Err fault.NotACommand) ↔ (rest ≡ false)
@@ -150,9 +156,9 @@ by_word-none text =
     (word-none (bytes_eq text.0 (codes "COR")) _ (correct_of text.1) _ (correct text.1)
     (word-none (bytes_eq text.0 (codes "STR")) _ (strike_of text.1) _ (strike text.1)
     (word-none (bytes_eq text.0 (codes "ADV")) _ (set_advance_of text.1) _ (set_advance text.1)
-    (word-none (bytes_eq text.0 (codes "CLOSE")) false (close_of text.1) (Err fault.NotACommand)
-    (close text.1)
-    (λ e. refl, λ e. refl)))))))))
+    (word-none (bytes_eq text.0 (codes "CLOSE")) _ (close_of text.1) _ (close text.1)
+    (word-none (bytes_eq text.0 (codes "EDITION")) false (set_edition_of text.1)
+    (Err fault.NotACommand) (set_edition text.1) (λ e. refl, λ e. refl))))))))))
 
 -- What `read` answers.
 

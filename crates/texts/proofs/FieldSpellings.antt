@@ -7,23 +7,18 @@ use Rattle.std.proofs.lemmas.Bool.{false≢true}
 use Rattle.std.proofs.lemmas.Bool.Decides.{nat_tests}
 use Rattle.std.proofs.lemmas.Fmt.{digits_decimal, length-decimal-le, decimal_nonempty}
 use Rattle.formats.specs.declared.events.Event.{Event}
-use Rattle.formats.specs.declared.events.Event.TheVariants.{Cube3, Cube2, Cube4, Cube5, Cube6, Cube7, Blind3, FewestMoves, OneHanded, Clock, Megaminx, Pyraminx, Skewb, Square1, Blind4, Blind5}
+use Rattle.formats.specs.declared.events.Event.TheVariants.{Cube3, Cube2, Cube4, Cube5, Cube6, Cube7, Blind3, FewestMoves, OneHanded, Clock, Megaminx, Pyraminx, Skewb, Square1, Blind4, Blind5, MultiBlind}
 use Rattle.formats.specs.declared.events.Format.{Format}
 use Rattle.formats.specs.declared.events.Format.TheVariants.{Ao5, Mo3, Bo1, Bo2, Bo3}
-use Rattle.formats.specs.Events.{events, event_name, event_named, formats, format_name, format_named}
-use Rattle.cube.specs.declared.moves.Move.{Move}
-use Rattle.notation.specs.Notation.{spelling as moves_text}
+use Rattle.formats.specs.Events.{all_events, event_name, event_of_name, formats, format_name, format_named}
 use Rattle.formats.specs.declared.advance.Advance.{Advance}
 use Rattle.formats.specs.declared.advance.Advance.TheVariants.{Final, Top, Percent}
-use Rattle.texts.specs.declared.command.Entered.{Entered}
-use Rattle.texts.specs.declared.command.Entered.TheVariants.{Time, Solution, Dnf, Dns}
 use Rattle.texts.specs.Numerals.{digits_value, within}
-use Rattle.texts.specs.Spelling.{is_name, IsWithin, IsFitCutoff, IsFitLimit, IsFitAdvance, IsEntered, cutoff_text, limit_text, advance_text, entered_text}
-use Rattle.texts.specs.Fields.{number_between, name_of, cutoff_of, limit_of, advance_of, cut, pair_with, second_number, two_numbers, moves_of, time_with, time_of, entered_of}
+use Rattle.texts.specs.Spelling.{is_name, IsWithin, IsFitCutoff, IsFitLimit, IsFitAdvance, cutoff_text, limit_text, advance_text}
+use Rattle.texts.specs.Fields.{number_between, name_of, cutoff_of, limit_of, advance_of, cut, pair_with, second_number, two_numbers}
 use Rattle.texts.proofs.Numerals.{own, number_between-decimal}
 use Rattle.texts.proofs.Cuts.{and-true, lacks, behind, cut_spelled, cut-behind}
 use Rattle.texts.proofs.Spelled.{IsSpelled, chosen, bytes_eq-equal, find-only}
-use Rattle.texts.proofs.MoveSpellings.{moves_spelled}
 
 -- Numbers.
 
@@ -108,12 +103,12 @@ name_short bytes fits = grind (arith, nat_tests)
 
 -- Events and formats.
 
-pub event_spelled : IsSpelled event_named event_name (λ x. Unit {0})
-unfolding event_named
+pub event_spelled : IsSpelled event_of_name event_name (λ x. Unit {0})
+unfolding event_of_name
 event_spelled =
-    record { only = λ bytes x h. (tt, find-only event_name bytes events x h); found = found }
+    record { only = λ bytes x h. (tt, find-only event_name bytes all_events x h); found = found }
   where
-    found : (x : Event) → Unit {0} → event_named (event_name x) ≡ Some x
+    found : (x : Event) → Unit {0} → event_of_name (event_name x) ≡ Some x
     found Cube3 fits = refl
     found Cube2 fits = refl
     found Cube4 fits = refl
@@ -130,6 +125,7 @@ event_spelled =
     found Square1 fits = refl
     found Blind4 fits = refl
     found Blind5 fits = refl
+    found MultiBlind fits = refl
 
 pub event_short : (x : Event) → length (event_name x) ≤ 80
 event_short Cube3 = omega arith
@@ -148,6 +144,7 @@ event_short Skewb = omega arith
 event_short Square1 = omega arith
 event_short Blind4 = omega arith
 event_short Blind5 = omega arith
+event_short MultiBlind = omega arith
 
 pub event_no_space : (x : Event) → lacks 32 (event_name x) ≡ true
 event_no_space Cube3 = refl
@@ -166,6 +163,7 @@ event_no_space Skewb = refl
 event_no_space Square1 = refl
 event_no_space Blind4 = refl
 event_no_space Blind5 = refl
+event_no_space MultiBlind = refl
 
 pub format_spelled : IsSpelled format_named format_name (λ x. Unit {0})
 unfolding format_named
@@ -195,14 +193,14 @@ format_no_space Bo3 = refl
 
 -- Two numbers with a colon between.
 
-abbrev pair_text : ℕ × ℕ → List ℕ
+abbrev pub pair_text : ℕ × ℕ → List ℕ
 pair_text p = decimal p.0 ++ codes ":" ++ decimal p.1
 
-abbrev ArePair : (ℕ → Type 0) → (ℕ → Type 0) → List ℕ × Option (List ℕ) → ℕ × ℕ → Type 0
+abbrev pub ArePair : (ℕ → Type 0) → (ℕ → Type 0) → List ℕ × Option (List ℕ) → ℕ × ℕ → Type 0
 ArePair First Second parts p =
     (First p.0 × Second p.1) × (parts.0 ++ behind 58 parts.1 ≡ pair_text p)
 
-pair-only : (first second : List ℕ → Option ℕ) (First Second : ℕ → Type 0)
+pub pair-only : (first second : List ℕ → Option ℕ) (First Second : ℕ → Type 0)
     → IsSpelled first decimal First → IsSpelled second decimal Second
     → (parts : List ℕ × Option (List ℕ)) (p : ℕ × ℕ) → two_numbers first second parts ≡ Some p
     → ArePair First Second parts p
@@ -232,7 +230,7 @@ pair-only first second First Second one two parts p h = start (first parts.0) re
     start None front e = absurd (let bad : None ≡ Some p = e in cc)
     start (Some a) front e = after a front parts.1 refl e
 
-pair-found : (first second : List ℕ → Option ℕ) (First Second : ℕ → Type 0)
+pub pair-found : (first second : List ℕ → Option ℕ) (First Second : ℕ → Type 0)
     → IsSpelled first decimal First → IsSpelled second decimal Second → (a b : ℕ)
     → a < 10000000000000000000
     → First a → Second b
@@ -441,103 +439,3 @@ pub advance_no_space : (x : Advance) → IsFitAdvance x → lacks 32 (advance_te
 advance_no_space Final fits = refl
 advance_no_space (Top n) fits = decimal_no_space n (omega arith)
 advance_no_space (Percent n) fits = decimal_no_space n (omega arith)
-
--- Outcomes.
-
-hundredths : IsSpelled (number_between 1 999999) decimal (IsWithin 1 999999)
-hundredths = number_spelled 1 999999 (omega arith)
-
-penalties : IsSpelled (number_between 0 9) decimal (IsWithin 0 9)
-penalties = number_spelled 0 9 (omega arith)
-
--- a time and its penalties, behind `T:`
-abbrev IsTime : List ℕ × Option (List ℕ) → Entered → Type 0
-IsTime parts x = IsEntered x × (codes "T:" ++ (parts.0 ++ behind 58 parts.1) ≡ entered_text x)
-
-time-only : (parts : List ℕ × Option (List ℕ)) (x : Entered) → time_of parts ≡ Some x
-    → IsTime parts x
-time-only parts x h = step (two_numbers (number_between 1 999999) (number_between 0 9) parts) refl h
-  where
-    step : (o : Option (ℕ × ℕ))
-        → two_numbers (number_between 1 999999) (number_between 0 9) parts ≡ o
-        → option_map time_with o ≡ Some x → IsTime parts x
-    step None is e = absurd (let bad : None ≡ Some x = e in cc)
-    step (Some p) is e =
-        let same : time_with p ≡ x = cc in
-        let read = pair-only _ _ _ _ hundredths penalties parts p is in
-        subst (IsTime parts) same (read.0, ap (λ y. codes "T:" ++ y) read.1)
-
-abbrev IsRead : List ℕ → Entered → Type 0
-IsRead bytes x = IsEntered x × (bytes ≡ entered_text x)
-
-pub entered_spelled : IsSpelled entered_of entered_text IsEntered
-unfolding entered_of
-entered_spelled = record {
-  only = λ bytes x h. dnf bytes x (bytes_eq bytes (codes "DNF")) refl h;
-  found = found;
-}
-  where
-    moves : (bytes : List ℕ) (x : Entered) (o : Option (List Move))
-        → bytes_eq (take 2 bytes) (codes "S:") ≡ true → moves_of (drop 2 bytes) ≡ o
-        → option_map Solution o ≡ Some x → IsRead bytes x
-    moves bytes x None is are h = absurd (let bad : None ≡ Some x = h in cc)
-    moves bytes x (Some ms) is are h =
-        let same : Solution ms ≡ x = cc in
-        let read = moves_spelled.only (drop 2 bytes) ms are in
-        subst (IsRead bytes) same (
-          read.0,
-          sym (take-append-drop 2 bytes) ∙ ap (λ y. take 2 bytes ++ y) read.1
-              ∙ ap (λ y. y ++ moves_text ms) (bytes_eq-equal (take 2 bytes) (codes "S:") is),
-        )
-
-    solution : (bytes : List ℕ) (x : Entered) (b : Bool) → bytes_eq (take 2 bytes) (codes "S:") ≡ b
-        → cond b (option_map Solution (moves_of (drop 2 bytes))) None ≡ Some x → IsRead bytes x
-    solution bytes x false is h = absurd (let bad : None ≡ Some x = h in cc)
-    solution bytes x true is h = moves bytes x (moves_of (drop 2 bytes)) is refl h
-
-    time : (bytes : List ℕ) (x : Entered) (b : Bool) → bytes_eq (take 2 bytes) (codes "T:") ≡ b
-        → cond b (time_of (cut 58 (drop 2 bytes)))
-        (cond (bytes_eq (take 2 bytes) (codes "S:")) (option_map Solution (moves_of (drop 2 bytes)))
-        None)
-        ≡ Some x
-        → IsRead bytes x
-    time bytes x false is h = solution bytes x (bytes_eq (take 2 bytes) (codes "S:")) refl h
-    time bytes x true is h =
-        let spelled = time-only (cut 58 (drop 2 bytes)) x h in (
-          spelled.0,
-          sym (take-append-drop 2 bytes)
-              ∙ ap (λ y. take 2 bytes ++ y) (cut_spelled 58 (drop 2 bytes))
-              ∙ rw (bytes_eq-equal (take 2 bytes) (codes "T:") is) spelled.1,
-        )
-
-    dns : (bytes : List ℕ) (x : Entered) (b : Bool) → bytes_eq bytes (codes "DNS") ≡ b
-        → cond b (Some Dns)
-        (cond (bytes_eq (take 2 bytes) (codes "T:")) (time_of (cut 58 (drop 2 bytes)))
-        (cond (bytes_eq (take 2 bytes) (codes "S:")) (option_map Solution (moves_of (drop 2 bytes)))
-        None))
-        ≡ Some x
-        → IsRead bytes x
-    dns bytes x false is h = time bytes x (bytes_eq (take 2 bytes) (codes "T:")) refl h
-    dns bytes x true is h =
-        let same : Dns ≡ x = cc in
-        subst (IsRead bytes) same (tt, bytes_eq-equal bytes (codes "DNS") is)
-
-    dnf : (bytes : List ℕ) (x : Entered) (b : Bool) → bytes_eq bytes (codes "DNF") ≡ b
-        → cond b (Some Dnf)
-        (cond (bytes_eq bytes (codes "DNS")) (Some Dns)
-        (cond (bytes_eq (take 2 bytes) (codes "T:")) (time_of (cut 58 (drop 2 bytes)))
-        (cond (bytes_eq (take 2 bytes) (codes "S:")) (option_map Solution (moves_of (drop 2 bytes)))
-        None)))
-        ≡ Some x
-        → IsRead bytes x
-    dnf bytes x false is h = dns bytes x (bytes_eq bytes (codes "DNS")) refl h
-    dnf bytes x true is h =
-        let same : Dnf ≡ x = cc in
-        subst (IsRead bytes) same (tt, bytes_eq-equal bytes (codes "DNF") is)
-
-    found : (x : Entered) → IsEntered x → entered_of (entered_text x) ≡ Some x
-    found (Time t p) fits =
-        rw (pair-found _ _ _ _ hundredths penalties t p (omega arith) fits.0 fits.1) refl
-    found (Solution ms) fits = rw (moves_spelled.found ms fits) refl
-    found Dnf fits = refl
-    found Dns fits = refl

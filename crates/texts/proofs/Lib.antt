@@ -3,6 +3,8 @@ pub mod Faults
 pub mod FieldSpellings
 pub mod MoveSpellings
 pub mod Numerals
+pub mod OutcomeSpellings
+pub mod ReadBefore
 pub mod Spelled
 pub mod TakenFields
 pub mod Words

@@ -5,23 +5,24 @@ use Rattle.std.specs.Result.{IfOk}
 use Rattle.std.proofs.lemmas.Bool.Decides.{nat_tests}
 use Rattle.std.proofs.lemmas.List.{append-nil}
 use Rattle.formats.specs.declared.events.Event.{Event}
-use Rattle.formats.specs.Events.{event_name, event_named, format_name}
+use Rattle.formats.specs.Events.{event_name, event_of_name, format_name}
 use Rattle.formats.specs.declared.advance.Advance.{Advance}
 use Rattle.cube.specs.declared.moves.Move.{Move}
 use Rattle.notation.specs.Notation.{spelling as moves_text}
 use Rattle.texts.specs.declared.command.Command.{Command}
-use Rattle.texts.specs.declared.command.Command.TheVariants.{Register, Open, Enter, Scramble, Attempt, Correct, Strike, SetAdvance, Close}
+use Rattle.texts.specs.declared.command.Command.TheVariants.{Register, Open, Enter, Scramble, Attempt, Correct, Strike, SetAdvance, Close, SetEdition}
 use Rattle.texts.specs.declared.command.Entered.{Entered}
 use Rattle.texts.specs.declared.command.Settings.{Settings}
 use Rattle.texts.specs.declared.reading.CommandFault.{CommandFault}
 use Rattle.texts.specs.declared.reading.CommandFault.TheVariants as fault
-use Rattle.texts.specs.Spelling.{spelling, IsFit, IsWithin, last_round, cutoff_text, limit_text, advance_text, entered_text}
+use Rattle.texts.specs.Spelling.{spelling, IsFit, IsWithin, last_round, last_edition, cutoff_text, limit_text, advance_text, entered_text}
 use Rattle.texts.specs.Fields.{cut, number_between}
-use Rattle.texts.specs.Reading.{field, register_of, open_of, enter_of, scramble_of, attempt_of, correct_of, strike_of, set_advance_of, close_of, moves_field, by_word, command_of, Gives, ReadsAs}
+use Rattle.texts.specs.Reading.{field, register_of, open_of, enter_of, scramble_of, attempt_of, correct_of, strike_of, set_advance_of, close_of, set_edition_of, moves_field, by_word, command_of, Gives, ReadsAs}
 use Rattle.texts.proofs.Cuts.{behind, cut_spelled, cut-behind, lacks}
 use Rattle.texts.proofs.Spelled.{IsSpelled, bytes_eq-equal}
 use Rattle.texts.proofs.MoveSpellings.{moves_spelled}
-use Rattle.texts.proofs.FieldSpellings.{number_spelled, number_short, decimal_no_space, name_spelled, name_short, event_spelled, event_short, event_no_space, format_spelled, format_short, format_no_space, cutoff_spelled, cutoff_short, cutoff_no_space, limit_spelled, limit_short, limit_no_space, advance_spelled, advance_short, advance_no_space, entered_spelled}
+use Rattle.texts.proofs.FieldSpellings.{number_spelled, number_short, decimal_no_space, name_spelled, name_short, event_spelled, event_short, event_no_space, format_spelled, format_short, format_no_space, cutoff_spelled, cutoff_short, cutoff_no_space, limit_spelled, limit_short, limit_no_space, advance_spelled, advance_short, advance_no_space}
+use Rattle.texts.proofs.OutcomeSpellings.{entered_spelled}
 use Rattle.texts.proofs.TakenFields.{field_only, last_only, none_only, field_then, field_last, ok_equal}
 
 -- What the words take.
@@ -37,6 +38,9 @@ round = number_spelled 1 last_round (omega arith)
 
 attempt : IsSpelled (number_between 1 5) decimal (IsWithin 1 5)
 attempt = number_spelled 1 5 (omega arith)
+
+pub edition : IsSpelled (number_between 2 last_edition) decimal (IsWithin 2 last_edition)
+edition = number_spelled 2 last_edition (omega arith)
 
 register_only : (left : Option (List ℕ)) (c : Command) → register_of left ≡ Ok c
     → Spells (codes "REG" ++ behind 32 left) c
@@ -182,6 +186,16 @@ close_only left c h =
     subst (Spells (codes "CLOSE" ++ behind 32 left)) same
     (r.fits, rw (event.spelled, r.spelled, end.0, append-nil) refl)
 
+set_edition_only : (left : Option (List ℕ)) (c : Command) → set_edition_of left ≡ Ok c
+    → Spells (codes "EDITION" ++ behind 32 left) c
+unfolding set_edition_of
+set_edition_only left c h =
+    let e = field_only edition 1 left _ c h in
+    let end = none_only 2 e.left' _ c e.next in
+    let same : SetEdition e.value ≡ c = ok_equal _ c end.1 in
+    subst (Spells (codes "EDITION" ++ behind 32 left)) same
+    (e.fits, rw (e.spelled, end.0, append-nil) refl)
+
 -- a word, where it is the first of those that may stand there
 abbrev IsOnly : List ℕ × Option (List ℕ) → Result Command CommandFault → Command → Type 0
 IsOnly text read c = read ≡ Ok c → Spells (text.0 ++ behind 32 text.1) c
@@ -211,9 +225,10 @@ by_word_only text c short =
     (word_only (codes "STR") strike_of _ text c _ refl short (λ left s. strike_only left c)
     (word_only (codes "ADV") set_advance_of _ text c _ refl short
     (λ left s. set_advance_only left c)
-    (word_only (codes "CLOSE") close_of (Err fault.NotACommand) text c _ refl short
-    (λ left s. close_only left c)
-    (λ e. absurd (let bad : Err fault.NotACommand ≡ Ok c = e in cc))))))))))
+    (word_only (codes "CLOSE") close_of _ text c _ refl short (λ left s. close_only left c)
+    (word_only (codes "EDITION") set_edition_of (Err fault.NotACommand) text c _ refl short
+    (λ left s. set_edition_only left c)
+    (λ e. absurd (let bad : Err fault.NotACommand ≡ Ok c = e in cc)))))))))))
 
 pub spelled_only : (bytes : List ℕ) (c : Command) → command_of bytes ≡ Ok c → Spells bytes c
 unfolding command_of
@@ -297,6 +312,11 @@ spelling_short (Close e r) fits =
     join_short (codes "CLOSE") (event_name e ∷ decimal r ∷ [])
     (omega arith, (event_short e, (number_short r (omega arith), tt))) in
     omega arith
+spelling_short (SetEdition e) fits =
+    let whole =
+    join_short (codes "EDITION") (decimal e ∷ [])
+    (omega arith, (number_short e (omega arith), tt)) in
+    omega arith
 
 -- What is spelled is read.
 
@@ -325,7 +345,7 @@ enter_found e n fits =
 
 -- the first field, an event
 event_then : (e : Event) (left : List ℕ)
-    → field 1 event_named (Some (event_name e ++ 32 ∷ left)) ≡ Ok (e, Some left)
+    → field 1 event_of_name (Some (event_name e ++ 32 ∷ left)) ≡ Ok (e, Some left)
 event_then e left = field_then event_spelled 1 e (Some left) tt (event_no_space e)
 
 open_found : (e : Event) (r : ℕ) (s : Settings) → IsFit (Open e r s)
@@ -439,6 +459,12 @@ close_found e r fits =
     rw (event_then e (decimal r))
     (rw (field_last round 2 r fits (decimal_no_space r (omega arith))) refl)
 
+set_edition_found : (e : ℕ) → IsFit (SetEdition e)
+    → set_edition_of (Some (decimal e)) ≡ Ok (SetEdition e)
+unfolding set_edition_of
+set_edition_found e fits =
+    rw (field_last edition 1 e fits (decimal_no_space e (omega arith))) refl
+
 word_found : (word left : List ℕ) → lacks 32 word ≡ true → length (word ++ 32 ∷ left) ≤ 600
     → command_of (word ++ 32 ∷ left) ≡ by_word (word, Some left)
 unfolding command_of
@@ -470,6 +496,9 @@ spelled_found (SetAdvance e r advance) fits =
     ∙ set_advance_found e r advance fits
 spelled_found (Close e r) fits =
     word_found (codes "CLOSE") _ refl (spelling_short (Close e r) fits) ∙ close_found e r fits
+spelled_found (SetEdition e) fits =
+    word_found (codes "EDITION") _ refl (spelling_short (SetEdition e) fits)
+    ∙ set_edition_found e fits
 
 pub spelled_once : (c d : Command) → IsFit c → IsFit d → spelling c ≡ spelling d → c ≡ d
 spelled_once c d fits fits' same =

@@ -108,6 +108,26 @@ abbrev pub time_of : List ℕ × Option (List ℕ) → Option Entered
 time_of parts =
     option_map time_with (two_numbers (number_between 1 999999) (number_between 0 9) parts)
 
+-- solved cubes of so many in so many seconds, where they are no more than these
+abbrev pub multi_with : ℕ → ℕ × ℕ → Option Entered
+multi_with solved rest =
+    if nat_le solved rest.0 then Some (entered.Multi solved rest.0 rest.1) else None
+
+abbrev pub attempted_of : ℕ → Option (List ℕ) → Option Entered
+attempted_of solved None = None
+attempted_of solved (Some bytes) =
+    option_and_then (multi_with solved)
+    (two_numbers (number_between 2 99) (number_between 1 5999) (cut 58 bytes))
+
+-- three numbers with a colon between each two: cubes solved, cubes attempted, and seconds
+abbrev pub multi_of : List ℕ × Option (List ℕ) → Option Entered
+multi_of parts =
+    option_and_then (λ solved. attempted_of solved parts.1) (number_between 0 99 parts.0)
+
+abbrev pub cubes_of : List ℕ → Option Entered
+cubes_of bytes =
+    if bytes_eq (take 2 bytes) (codes "M:") then multi_of (cut 58 (drop 2 bytes)) else None
+
 unfoldable pub entered_of : List ℕ → Option Entered
 entered_of bytes =
     if bytes_eq bytes (codes "DNF") then Some entered.Dnf
@@ -115,7 +135,7 @@ entered_of bytes =
     else if bytes_eq (take 2 bytes) (codes "T:") then time_of (cut 58 (drop 2 bytes))
     else if bytes_eq (take 2 bytes) (codes "S:")
     then option_map entered.Solution (moves_of (drop 2 bytes))
-    else None
+    else cubes_of bytes
 
 abbrev pub IsSolution : Entered → Type 0
 IsSolution (entered.Solution moves) = Unit {0}

@@ -3,11 +3,11 @@ use Rattle.std.specs.Prelude.{◌≡◌, ◌≤◌, ℕ, nat_lt, Bool, if◌then
 use Rattle.std.specs.List.{list_any}
 use Rattle.std.specs.Option.{ok_or}
 use Rattle.texts.specs.declared.command.Command.{Command}
-use Rattle.texts.specs.declared.command.Command.TheVariants.{Register, Open, Enter, Scramble, Attempt, Correct, Strike, SetAdvance, Close}
+use Rattle.texts.specs.declared.command.Command.TheVariants.{Register, Open, Enter, Scramble, Attempt, Correct, Strike, SetAdvance, Close, SetEdition}
 use Rattle.texts.specs.declared.reading.CommandFault.{CommandFault}
 use Rattle.texts.specs.declared.reading.CommandFault.TheVariants as fault
-use Rattle.texts.specs.Spelling.{last_round, IsFit, spelling}
-use Rattle.formats.specs.Events.{event_named, format_named}
+use Rattle.texts.specs.Spelling.{last_round, last_edition, IsFit, spelling}
+use Rattle.formats.specs.Events.{event_of_name, format_named}
 use Rattle.texts.specs.Fields.{cut, number_between, name_of, cutoff_of, limit_of, advance_of, moves_of, entered_of, IsSolution}
 
 infixl 10 ◌>>=◌
@@ -53,7 +53,7 @@ register_of left = do
 
 unfoldable pub open_of : Option (List ℕ) → Result Command CommandFault
 open_of left = do
-  event ← field 1 event_named left
+  event ← field 1 event_of_name left
   round ← field 2 (number_between 1 last_round) event.1
   form ← field 3 format_named round.1
   cutoff ← field 4 cutoff_of form.1
@@ -70,14 +70,14 @@ open_of left = do
 
 unfoldable pub enter_of : Option (List ℕ) → Result Command CommandFault
 enter_of left = do
-  event ← field 1 event_named left
+  event ← field 1 event_of_name left
   number ← field 2 (number_between 1 9999) event.1
   end ← no_field 3 number.1
   Ok (Enter event.0 number.0)
 
 unfoldable pub scramble_of : Option (List ℕ) → Result Command CommandFault
 scramble_of left = do
-  event ← field 1 event_named left
+  event ← field 1 event_of_name left
   round ← field 2 (number_between 1 last_round) event.1
   attempt ← field 3 (number_between 1 5) round.1
   moves ← last_field 4 moves_of attempt.1
@@ -85,7 +85,7 @@ scramble_of left = do
 
 unfoldable pub attempt_of : Option (List ℕ) → Result Command CommandFault
 attempt_of left = do
-  event ← field 1 event_named left
+  event ← field 1 event_of_name left
   round ← field 2 (number_between 1 last_round) event.1
   attempt ← field 3 (number_between 1 5) round.1
   number ← field 4 (number_between 1 9999) attempt.1
@@ -94,7 +94,7 @@ attempt_of left = do
 
 unfoldable pub correct_of : Option (List ℕ) → Result Command CommandFault
 correct_of left = do
-  event ← field 1 event_named left
+  event ← field 1 event_of_name left
   round ← field 2 (number_between 1 last_round) event.1
   attempt ← field 3 (number_between 1 5) round.1
   number ← field 4 (number_between 1 9999) attempt.1
@@ -103,7 +103,7 @@ correct_of left = do
 
 unfoldable pub strike_of : Option (List ℕ) → Result Command CommandFault
 strike_of left = do
-  event ← field 1 event_named left
+  event ← field 1 event_of_name left
   round ← field 2 (number_between 1 last_round) event.1
   number ← field 3 (number_between 1 9999) round.1
   end ← no_field 4 number.1
@@ -111,7 +111,7 @@ strike_of left = do
 
 unfoldable pub set_advance_of : Option (List ℕ) → Result Command CommandFault
 set_advance_of left = do
-  event ← field 1 event_named left
+  event ← field 1 event_of_name left
   round ← field 2 (number_between 1 last_round) event.1
   advance ← field 3 advance_of round.1
   end ← no_field 4 advance.1
@@ -119,15 +119,21 @@ set_advance_of left = do
 
 unfoldable pub close_of : Option (List ℕ) → Result Command CommandFault
 close_of left = do
-  event ← field 1 event_named left
+  event ← field 1 event_of_name left
   round ← field 2 (number_between 1 last_round) event.1
   end ← no_field 3 round.1
   Ok (Close event.0 round.0)
 
+unfoldable pub set_edition_of : Option (List ℕ) → Result Command CommandFault
+set_edition_of left = do
+  edition ← field 1 (number_between 2 last_edition) left
+  end ← no_field 2 edition.1
+  Ok (SetEdition edition.0)
+
 abbrev pub words : List (List ℕ)
 words =
     codes "REG" ∷ codes "OPEN" ∷ codes "ENT" ∷ codes "SCR" ∷ codes "ATT" ∷ codes "COR"
-    ∷ codes "STR" ∷ codes "ADV" ∷ codes "CLOSE" ∷ []
+    ∷ codes "STR" ∷ codes "ADV" ∷ codes "CLOSE" ∷ codes "EDITION" ∷ []
 
 abbrev pub is_word : List ℕ → Bool
 is_word bytes = list_any (λ word. bytes_eq bytes word) words
@@ -143,6 +149,7 @@ by_word text =
     else if bytes_eq text.0 (codes "STR") then strike_of text.1
     else if bytes_eq text.0 (codes "ADV") then set_advance_of text.1
     else if bytes_eq text.0 (codes "CLOSE") then close_of text.1
+    else if bytes_eq text.0 (codes "EDITION") then set_edition_of text.1
     else Err fault.NotACommand
 
 -- the command that a text spells, or why it spells none

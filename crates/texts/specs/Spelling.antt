@@ -9,7 +9,7 @@ use Rattle.notation.specs.Notation.{spelling as moves_text}
 use Rattle.formats.specs.declared.advance.Advance.{Advance}
 use Rattle.formats.specs.declared.advance.Advance.TheVariants.{Final, Top, Percent}
 use Rattle.texts.specs.declared.command.Command.{Command}
-use Rattle.texts.specs.declared.command.Command.TheVariants.{Register, Open, Enter, Scramble, Attempt, Correct, Strike, SetAdvance, Close}
+use Rattle.texts.specs.declared.command.Command.TheVariants.{Register, Open, Enter, Scramble, Attempt, Correct, Strike, SetAdvance, Close, SetEdition}
 use Rattle.texts.specs.declared.command.Entered.{Entered}
 use Rattle.texts.specs.declared.command.Entered.TheVariants as entered
 use Rattle.texts.specs.declared.command.Settings.{Settings}
@@ -29,11 +29,14 @@ advance_text (Top number) = codes "top:" ++ decimal number
 advance_text (Percent percent) = codes "pct:" ++ decimal percent
 
 -- a time in hundredths and its penalties: `T:h:p`; a solution: `S:` and its moves, one space
--- between neighbours
+-- between neighbours; solved cubes, attempted ones and seconds: `M:s:a:t`
 abbrev pub entered_text : Entered → List ℕ
 entered_text (entered.Time time penalties) =
     codes "T:" ++ decimal time ++ codes ":" ++ decimal penalties
 entered_text (entered.Solution moves) = codes "S:" ++ moves_text moves
+entered_text (entered.Multi solved attempted seconds) =
+    codes "M:" ++ decimal solved ++ codes ":"
+    ++ (decimal attempted ++ codes ":" ++ decimal seconds)
 entered_text entered.Dnf = codes "DNF"
 entered_text entered.Dns = codes "DNS"
 
@@ -57,6 +60,7 @@ words_of (Strike event round number) =
 words_of (SetAdvance event round advance) =
     codes "ADV" ∷ event_name event ∷ decimal round ∷ advance_text advance ∷ []
 words_of (Close event round) = codes "CLOSE" ∷ event_name event ∷ decimal round ∷ []
+words_of (SetEdition edition) = codes "EDITION" ∷ decimal edition ∷ []
 
 -- the spelling of a command
 abbrev pub spelling : Command → List ℕ
@@ -69,6 +73,9 @@ IsWithin low high n = (low ≤ n) × (n ≤ high)
 
 abbrev pub last_round : ℕ
 last_round = 4
+
+abbrev pub last_edition : ℕ
+last_edition = 2
 
 abbrev pub is_name_byte : ℕ → Bool
 is_name_byte b = nat_le 32 b && not (b == 127)
@@ -106,6 +113,8 @@ AreMoves moves = IsWithin 1 400 (length moves)
 abbrev pub IsEntered : Entered → Type 0
 IsEntered (entered.Time time penalties) = IsWithin 1 999999 time × IsWithin 0 9 penalties
 IsEntered (entered.Solution moves) = AreMoves moves
+IsEntered (entered.Multi solved attempted seconds) =
+    IsWithin 0 attempted solved × IsWithin 2 99 attempted × IsWithin 1 5999 seconds
 IsEntered entered.Dnf = Unit {0}
 IsEntered entered.Dns = Unit {0}
 
@@ -131,3 +140,4 @@ IsFit (Correct event round attempt number outcome) =
 IsFit (Strike event round number) = IsWithin 1 last_round round × IsWithin 1 9999 number
 IsFit (SetAdvance event round advance) = IsWithin 1 last_round round × IsFitAdvance advance
 IsFit (Close event round) = IsWithin 1 last_round round
+IsFit (SetEdition edition) = IsWithin 2 last_edition edition

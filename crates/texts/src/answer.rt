@@ -6,7 +6,7 @@ ghost use Rattle.texts.specs.Codes.{code_name, code_number, code_numbered};
 /// Why a command was refused: the first of its checks that failed.
 #[derive(Clone, Copy, Debug, PartialEq, Eq)]
 pub enum Code {
-    /// The text is no command.
+    /// The text is no command of the edition that holds.
     Unread,
     /// The id was seen before, whatever its command was answered.
     Repeat,
@@ -22,7 +22,7 @@ pub enum Code {
     RoundsRule,
     /// The event does not have the format.
     FormatNotAllowed,
-    /// The cutoff counts as many attempts as the format has, or more.
+    /// The cutoff counts as many attempts as the format has, or more, or the event takes none.
     CutoffNotAllowed,
     /// A timed event lacks a time limit, or another event has one.
     LimitNotAllowed,
@@ -34,7 +34,7 @@ pub enum Code {
     WrongOutcome,
     /// The round was closed.
     Closed,
-    /// The number is registered, or entered, already.
+    /// The number is registered, or entered, already, or the edition holds.
     Already,
     /// The round has 999 entrants.
     Full,

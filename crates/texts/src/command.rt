@@ -62,10 +62,21 @@ pub struct Settings {
 #[derive(Drop)]
 pub enum Entered {
     /// `T:`: a measured time of 1 to 999,999 hundredths of a second, and 0 to 9 penalties.
-    Time { hundredths: u32, penalties: u8 },
+    Time {
+        hundredths: u32,
+        penalties: u8,
+    },
     /// `S:`: a solution for the scramble of its attempt, as many moves as its text of at most 600
     /// bytes holds.
-    Solution { moves: Moves },
+    Solution {
+        moves: Moves,
+    },
+    /// `M:`: in `333mbf`, 0 to `attempted` cubes solved of 2 to 99, in 1 to 5,999 seconds.
+    Multi {
+        solved: u8,
+        attempted: u8,
+        seconds: u16,
+    },
     /// `DNF`: did not finish.
     Dnf,
     /// `DNS`: did not start.
@@ -133,5 +144,9 @@ pub enum Command {
     Close {
         event: Event,
         round: u8,
+    },
+    /// `EDITION`: the edition of the commands that holds from the next one on, which is 2.
+    SetEdition {
+        edition: u8,
     },
 }

@@ -4,7 +4,7 @@ ghost use Rattle.std.specs.Prelude.{◌≡◌, ◌≤◌, ◌==◌, ◌<◌, len
 ghost use Rattle.std.specs.List.{list_all};
 ghost use Rattle.std.specs.Str.{is_utf8};
 ghost use Rattle.texts.specs.Spelling.{is_name, is_name_byte, has_single_spaces};
-ghost use Rattle.texts.specs.Fields.{cut, number_between, cutoff_of, two_numbers, limit_of, percent_of, advance_of, moves_of, time_of, entered_of, MayBeSolution};
+ghost use Rattle.texts.specs.Fields.{cut, number_between, cutoff_of, two_numbers, limit_of, percent_of, advance_of, moves_of, time_of, multi_of, cubes_of, entered_of, MayBeSolution};
 
 use crate::command::Entered;
 use crate::numbers::number_between;
@@ -14,6 +14,9 @@ use std::alloc::Global;
 
 /// The last round that commands name.
 pub const LAST_ROUND: u64 = 4;
+
+/// The last edition that commands name.
+pub const LAST_EDITION: u64 = 2;
 
 fn place_of(bytes: &[u8], by: u8) -> Option<usize>
     ensures value { result ≡ position (λ b. b == by) bytes.now }
@@ -166,7 +169,49 @@ fn time_of(bytes: &[u8]) -> Option<Entered>
     })
 }
 
-/// What a judge enters: a time, a solution, or no result.
+/// How many cubes were attempted, and in how many seconds.
+#[tactic(auto, unfolding(crate::specs::Fields::cut))]
+fn attempted_of(bytes: &[u8]) -> Option<(u8, u16)>
+    ensures { result
+        ≡ two_numbers (number_between 2 99) (number_between 1 5999) (cut 58 bytes.now) }
+{
+    let (attempted, left) = cut(bytes, b':');
+    let attempted = number_between(2, 99, attempted)?;
+    let seconds = number_between(1, 5999, left?)?;
+    Some((attempted as u8, seconds as u16))
+}
+
+/// How many cubes of multi-blind were solved, of how many, and in how many seconds.
+#[tactic(auto, unfolding(crate::specs::Fields::cut))]
+fn multi_of(bytes: &[u8]) -> Option<Entered>
+    ensures { result ≡ multi_of (cut 58 bytes.now) }
+{
+    let (solved, left) = cut(bytes, b':');
+    let solved = number_between(0, 99, solved)? as u8;
+    let (attempted, seconds) = attempted_of(left?)?;
+    if solved <= attempted {
+        Some(Entered::Multi {
+            solved,
+            attempted,
+            seconds,
+        })
+    } else {
+        None
+    }
+}
+
+/// Cubes of multi-blind, behind their letter.
+fn cubes_of(bytes: &[u8]) -> Option<Entered>
+    ensures { result ≡ cubes_of bytes.now }
+{
+    if bytes.len() >= 2 && &bytes[..2] == b"M:".as_slice() {
+        multi_of(&bytes[2..])
+    } else {
+        None
+    }
+}
+
+/// What a judge enters: a time, a solution, cubes of multi-blind, or no result.
 #[tactic(auto, unfolding(crate::specs::Fields::entered_of))]
 pub fn entered_of(alloc: Global, bytes: &[u8]) -> Result<Option<Entered>, NoMemory>
     ensures value { IfOk result (λ outcome. outcome ≡ entered_of bytes.now) }
@@ -182,6 +227,6 @@ pub fn entered_of(alloc: Global, bytes: &[u8]) -> Result<Option<Entered>, NoMemo
         let moves = moves_of(alloc, &bytes[2..])?;
         Ok(moves.map(|moves| Entered::Solution { moves }))
     } else {
-        Ok(None)
+        Ok(cubes_of(bytes))
     }
 }

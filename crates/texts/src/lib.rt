@@ -3,6 +3,7 @@
 
 mod answer;
 mod command;
+mod editions;
 mod fields;
 mod numbers;
 mod printing;
@@ -10,6 +11,7 @@ mod reading;
 
 pub use answer::{Answer, Code};
 pub use command::{Command, Entered, Name, Settings};
+pub use editions::{edition_of, first_edition_reads};
 pub use fields::cut;
 pub use formats::Advance;
 pub use numbers::number_between;

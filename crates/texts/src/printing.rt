@@ -4,8 +4,8 @@ ghost use Rattle.std.specs.Prelude.{◌≡◌, ◌++◌, IfOk, OnOk, codes, deci
 ghost use Rattle.formats.specs.Events.{event_name, format_name};
 ghost use Rattle.notation.specs.Notation.{spelling as moves_text};
 ghost use Rattle.texts.specs.Spelling.{cutoff_text, limit_text, advance_text, entered_text, spelling};
-ghost use Rattle.texts.specs.declared.command.Command.TheVariants.{Register as RegisterOf, Open as OpenOf, Enter as EnterOf, Scramble as ScrambleOf, Attempt as AttemptOf, Correct as CorrectOf, Strike as StrikeOf, SetAdvance as SetAdvanceOf, Close as CloseOf};
-ghost use Rattle.texts.specs.declared.command.Entered.TheVariants.{Time as TimeOf, Solution as SolutionOf};
+ghost use Rattle.texts.specs.declared.command.Command.TheVariants.{Register as RegisterOf, Open as OpenOf, Enter as EnterOf, Scramble as ScrambleOf, Attempt as AttemptOf, Correct as CorrectOf, Strike as StrikeOf, SetAdvance as SetAdvanceOf, Close as CloseOf, SetEdition as SetEditionOf};
+ghost use Rattle.texts.specs.declared.command.Entered.TheVariants.{Time as TimeOf, Solution as SolutionOf, Multi as MultiOf};
 
 use crate::command::{Command, Entered, Settings};
 use attempts::{NoMemory, push_decimal};
@@ -103,6 +103,18 @@ fn push_solution(alloc: Global, out: &mut Vec<u8>, moves: &[Move]) -> Result<(),
     push_moves(alloc, out, moves)
 }
 
+fn push_multi(out: &mut Vec<u8>, solved: u8, attempted: u8, seconds: u16) -> Result<(), NoMemory>
+    ensures { OnOk result
+        (out.new.items ≡ out.old.items ++ entered_text (MultiOf solved attempted seconds)) }
+{
+    out.extend_from_slice(b"M:")?;
+    push_decimal(out, u32::from(solved))?;
+    out.extend_from_slice(b":")?;
+    push_decimal(out, u32::from(attempted))?;
+    out.extend_from_slice(b":")?;
+    push_decimal(out, u32::from(seconds))
+}
+
 fn push_entered(alloc: Global, out: &mut Vec<u8>, outcome: &Entered) -> Result<(), NoMemory>
     ensures { OnOk result (out.new.items ≡ out.old.items ++ entered_text outcome.now) }
 {
@@ -112,6 +124,11 @@ fn push_entered(alloc: Global, out: &mut Vec<u8>, outcome: &Entered) -> Result<(
             penalties,
         } => push_time(out, *hundredths, *penalties),
         Entered::Solution { moves } => push_solution(alloc, out, moves.as_slice()),
+        Entered::Multi {
+            solved,
+            attempted,
+            seconds,
+        } => push_multi(out, *solved, *attempted, *seconds),
         Entered::Dnf => out.extend_from_slice(b"DNF"),
         Entered::Dns => out.extend_from_slice(b"DNS"),
     }
@@ -283,6 +300,13 @@ fn push_close(out: &mut Vec<u8>, event: Event, round: u8) -> Result<(), NoMemory
     push_round(out, event, round)
 }
 
+fn push_set_edition(out: &mut Vec<u8>, edition: u8) -> Result<(), NoMemory>
+    ensures { OnOk result (out.new.items ≡ out.old.items ++ spelling (SetEditionOf edition)) }
+{
+    out.extend_from_slice(b"EDITION")?;
+    push_number(out, u32::from(edition))
+}
+
 /// The spelling of a command. `read` takes it where the fields are in their ranges and it has at
 /// most 600 bytes, which only moves can exceed. It is `NoMemory` only where a growth was refused.
 pub fn print(alloc: Global, command: &Command) -> Result<Vec<u8>, NoMemory>
@@ -328,6 +352,7 @@ pub fn print(alloc: Global, command: &Command) -> Result<Vec<u8>, NoMemory>
             advance,
         } => push_set_advance(&mut out, *event, *round, *advance)?,
         Command::Close { event, round } => push_close(&mut out, *event, *round)?,
+        Command::SetEdition { edition } => push_set_edition(&mut out, *edition)?,
     }
     Ok(out)
 }

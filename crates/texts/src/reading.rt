@@ -3,12 +3,12 @@
 ghost use Rattle.std.specs.Prelude.{◌≡◌, ◌<◌, ◌≤◌, ◌↔◌, false, nat_lt, length, option_map, ok_or, Option, Some, None, IfOk};
 ghost use Rattle.texts.specs.Spelling.{IsFit, spelling};
 ghost use Rattle.texts.specs.Fields.{cut};
-ghost use Rattle.texts.specs.Reading.{Gives, moves_field, is_word, Reads, ReadsAs, front, no_field, register_of, open_of, enter_of, scramble_of, attempt_of, correct_of, strike_of, set_advance_of, close_of, by_word, command_of, ReadsWhatIsSpelled, SpellsWhatIsRead, SpellsOneCommand, SpellsShort};
+ghost use Rattle.texts.specs.Reading.{Gives, moves_field, is_word, Reads, ReadsAs, front, no_field, register_of, open_of, enter_of, scramble_of, attempt_of, correct_of, strike_of, set_advance_of, close_of, set_edition_of, by_word, command_of, ReadsWhatIsSpelled, SpellsWhatIsRead, SpellsOneCommand, SpellsShort};
 ghost use Rattle.texts.specs.declared.reading.CommandFault.TheVariants.{NoMemory as OutOfMemory, BadField as BadFieldAt};
 
 use crate::command::{Command, Name, Settings};
 use crate::fields::{
-    LAST_ROUND, advance_of, cut, cutoff_of, entered_of, is_name, limit_of, moves_of,
+    LAST_EDITION, LAST_ROUND, advance_of, cut, cutoff_of, entered_of, is_name, limit_of, moves_of,
 };
 use crate::numbers::number_between;
 use formats::{Event, Format};
@@ -255,6 +255,21 @@ fn close_of(left: Option<&[u8]>) -> Result<Command, CommandFault>
     })
 }
 
+/// `EDITION`: the edition.
+#[tactic(auto, unfolding(crate::specs::Reading::set_edition_of))]
+fn set_edition_of(left: Option<&[u8]>) -> Result<Command, CommandFault>
+    ensures { Gives 0 result (set_edition_of (option_map (λ s. s.now) left.entry)) }
+{
+    let (bytes, left) = field(1, left)?;
+    let edition = number_between(2, LAST_EDITION, bytes).ok_or(CommandFault::BadField {
+        index: 1,
+    })?;
+    no_field(2, left)?;
+    Ok(Command::SetEdition {
+        edition: edition as u8,
+    })
+}
+
 /// The command of a word and what is left behind it.
 fn command_of_word(alloc: Global, word: &[u8], left: Option<&[u8]>) -> Result<Command, CommandFault>
     ensures { Gives (moves_field word.now) result
@@ -278,6 +293,8 @@ fn command_of_word(alloc: Global, word: &[u8], left: Option<&[u8]>) -> Result<Co
         set_advance_of(left)
     } else if word == b"CLOSE".as_slice() {
         close_of(left)
+    } else if word == b"EDITION".as_slice() {
+        set_edition_of(left)
     } else {
         Err(CommandFault::NotACommand)
     }
@@ -291,8 +308,9 @@ fn is_too_long(text: &[u8]) -> bool
 }
 
 /// The command that a text spells: a word and its fields, parted by one space each, of at most 600
-/// bytes. The faults stand in the order of `CommandFault`. Memory is taken for a name and for
-/// moves.
+/// bytes. The spellings are those of edition 2, and [`edition_of`](crate::edition_of) says which of
+/// them edition 1 has too. The faults stand in the order of `CommandFault`. Memory is taken for a
+/// name and for moves.
 pub fn read(alloc: Global, text: &[u8]) -> Result<Command, CommandFault>
     ensures value { Gives (moves_field (cut 32 text.now).0) result (command_of text.now) }
 
