@@ -8,7 +8,7 @@ use Rattle.formats.specs.declared.events.Event.{Event}
 use Rattle.formats.specs.Events.{same_event}
 use Rattle.formats.proofs.SameEvent.{same_event-equal}
 use Rattle.texts.specs.declared.command.Command.{Command}
-use Rattle.texts.specs.declared.command.Command.TheVariants.{Register, Open, Enter, Scramble, Attempt, Correct, Strike, SetAdvance, Close}
+use Rattle.texts.specs.declared.command.Command.TheVariants.{Register, Open, Enter, Scramble, Attempt, Correct, Strike, SetAdvance, Close, SetEdition}
 use Rattle.texts.specs.declared.command.Entered.{Entered}
 use Rattle.texts.specs.declared.command.Settings.{Settings}
 use Rattle.rounds.specs.Tables.{Entrant, Table, replaced, without_last}
@@ -269,6 +269,11 @@ pub round_scramble : (e f : Event) (r s k : ℕ) (moves : List Move) (cs : List 
     → round_of (cs ++ Scramble f s k moves ∷ []) e r ≡ round_of cs e r
 round_scramble e f r s k moves cs =
     round_same e r cs (Scramble f s k moves) refl refl refl refl (λ settings earlier x. refl)
+
+pub round_edition : (e : Event) (r edition : ℕ) (cs : List Command)
+    → round_of (cs ++ SetEdition edition ∷ []) e r ≡ round_of cs e r
+round_edition e r edition cs =
+    round_same e r cs (SetEdition edition) refl refl refl refl (λ settings earlier x. refl)
 
 -- the table of a round that is opened behind these commands
 abbrev pub opening_table : Event → ℕ → Settings → List Command → Table

@@ -5,6 +5,7 @@ use Rattle.std.specs.List.{list_any, range_with_len}
 use Rattle.std.specs.declared.alloc.AllocError.{AllocError}
 use Rattle.std.specs.Option.{option_or, option_and_then}
 use Rattle.std.proofs.lemmas.Bool.{false≢true}
+use Rattle.std.proofs.lemmas.Bool.Decides.{nat_tests}
 use Rattle.cube.specs.declared.moves.Move.{Move}
 use Rattle.formats.specs.declared.events.Event.{Event}
 use Rattle.formats.specs.Events.{same_event, unit_of, attempts_of}
@@ -12,7 +13,7 @@ use Rattle.formats.proofs.SameEvent.{same_event-equal}
 use Rattle.texts.specs.declared.answer.Code.{Code}
 use Rattle.texts.specs.declared.answer.Code.TheVariants as code
 use Rattle.texts.specs.declared.command.Command.{Command}
-use Rattle.texts.specs.declared.command.Command.TheVariants.{Register, Open, Enter, Scramble, Attempt, Correct, Strike, SetAdvance, Close}
+use Rattle.texts.specs.declared.command.Command.TheVariants.{Register, Open, Enter, Scramble, Attempt, Correct, Strike, SetAdvance, Close, SetEdition}
 use Rattle.texts.specs.declared.command.Entered.{Entered}
 use Rattle.texts.specs.declared.command.Settings.{Settings}
 use Rattle.commands.specs.declared.kept_rounds.KeptRound.{KeptRound}
@@ -24,7 +25,7 @@ use Rattle.commands.specs.Accepted.{name_given, scrambling, scramble_of, is_move
 use Rattle.commands.specs.History.{added}
 use Rattle.commands.specs.model.Kept.{has_name, scramble_at, kept_round, kept_scramble, AreCompetitors, AreRounds, IsIndexOf, ChangesRound, AddsRound, AddsScramble, with_attempt, with_correction, with_strike, with_advance, with_end, with_entry, with_newcomers}
 use Rattle.commands.proofs.Lookups.{at_end, found_push}
-use Rattle.commands.proofs.EachCommand.{round_attempt, round_correct, round_strike, round_advance, round_close, round_enter, round_register, round_scramble, round_open}
+use Rattle.commands.proofs.EachCommand.{round_attempt, round_correct, round_strike, round_advance, round_close, round_enter, round_register, round_scramble, round_open, round_edition}
 use Rattle.commands.proofs.OneMore.{new_table, with_table, scramble_kept, scramble_new}
 use Rattle.commands.proofs.Registrations.{AreCompetitors-other}
 
@@ -350,6 +351,33 @@ scrambled cs e r k moves (Some code) old new is low allowed same done unchanged 
   competitors = rw (same, append-nil cs) is.competitors;
   rounds = rw (unchanged, append-nil cs) is.rounds;
 }
+
+-- a setting of the edition, which the index does not note
+edition_noted : (cs : List Command) (edition : ℕ) (refused : Option Code) (index : Index)
+    → IsIndexOf cs index → IsIndexOf (cs ++ added refused (SetEdition edition)) index
+edition_noted cs edition None index is = record {
+  competitors =
+      AreCompetitors-other cs (SetEdition edition) index.competitors (λ n. refl) (λ name. refl)
+      is.competitors;
+  rounds =
+      same_rounds cs (SetEdition edition) index.rounds.opened.items index.rounds.opened.items
+      (λ e r. refl) (λ e r k. refl) (λ e r k. refl) (λ e r. round_edition e r edition cs)
+      is.rounds;
+}
+edition_noted cs edition (Some code) index is = record {
+  competitors = rw (append-nil cs) is.competitors;
+  rounds = rw (append-nil cs) is.rounds;
+}
+
+pub edition_set : (cs : List Command) (edition : ℕ) (index : Index) → IsIndexOf cs index
+    → IsIndexOf (cs ++ SetEdition edition ∷ []) index
+edition_set cs edition index is = edition_noted cs edition None index is
+
+pub edition_refused : (cs : List Command) (index : Index) → IsIndexOf cs index
+    → IsIndexOf (cs ++ []) index
+edition_refused cs index is = edition_noted cs 0 (Some code.Already) index is
+
+pub ruleset editions = (edition_set, edition_refused, nat_tests)
 
 -- the same of an answer that want of memory may take the place of
 pub registered : (cs : List Command) (n : ℕ) (name : List ℕ)

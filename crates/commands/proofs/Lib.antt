@@ -1,4 +1,6 @@
+pub mod Before
 pub mod EachCommand
+pub mod Editions
 pub mod Entries
 pub mod Indexed
 pub mod KeptLemmas
@@ -8,3 +10,4 @@ pub mod OneMore
 pub mod Places
 pub mod Registrations
 pub mod Sizes
+pub mod Units

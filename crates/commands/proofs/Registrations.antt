@@ -11,7 +11,7 @@ use Rattle.std.proofs.lemmas.Bool.{false≢true}
 use Rattle.std.proofs.lemmas.List.Folds.{list_any-append}
 use Rattle.std.proofs.lemmas.List.Sorted.{list_any-IsPermutation}
 use Rattle.texts.specs.declared.command.Command.{Command}
-use Rattle.texts.specs.declared.command.Command.TheVariants.{Register, Open, Enter, Scramble, Attempt, Correct, Strike, SetAdvance, Close}
+use Rattle.texts.specs.declared.command.Command.TheVariants.{Register, Open, Enter, Scramble, Attempt, Correct, Strike, SetAdvance, Close, SetEdition}
 use Rattle.commands.specs.declared.competitors.Competitors.{Competitors}
 use Rattle.texts.specs.declared.answer.Code.TheVariants as code
 use Rattle.commands.specs.Accepted.{name_given, name_of, is_registered, names_other, refusal}
@@ -41,6 +41,7 @@ others_have (Correct e r k m x ∷ cs) n name none = others_have cs n name none
 others_have (Strike e r m ∷ cs) n name none = others_have cs n name none
 others_have (SetAdvance e r advance ∷ cs) n name none = others_have cs n name none
 others_have (Close e r ∷ cs) n name none = others_have cs n name none
+others_have (SetEdition e ∷ cs) n name none = others_have cs n name none
 
 -- a command that gives nobody a name leaves the competitors as they are
 pub AreCompetitors-other : (cs : List Command) (c : Command) (kept : Competitors)

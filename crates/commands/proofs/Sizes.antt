@@ -1,6 +1,6 @@
 -- What every list of accepted commands keeps to: names and numbers in their ranges, and at most 999
 -- entrants in a round.
-use Rattle.std.proofs.Common.{◌≡◌, ℕ, zero, suc, ◌+◌, ◌-◌, ◌*◌, ◌/◌, ◌<◌, ◌≤◌, Bool, true, false, ◌&&◌, ◌==◌, not, cond, nat_le, List, [], ◌∷◌, ◌++◌, length, take, set, map, filter, flat_map, fold, Option, Some, None, IfSome, option_map, is_some, Result, Ok, Err, IfOk, refl, sym, ap, ◌∙◌, subst, arith, append-nil, length-append, eqb-true}
+use Rattle.std.proofs.Common.{◌≡◌, ℕ, zero, suc, ◌+◌, ◌-◌, ◌*◌, ◌/◌, ◌<◌, ◌≤◌, Bool, true, false, ◌&&◌, ◌==◌, not, cond, nat_le, nat_lt, List, [], ◌∷◌, ◌++◌, length, take, set, map, filter, flat_map, fold, Option, Some, None, IfSome, option_map, is_some, Result, Ok, Err, IfOk, refl, sym, ap, ◌∙◌, subst, arith, append-nil, length-append, eqb-true}
 use Rattle.std.specs.List.{range_with_len, AllByRecursion, list_any}
 use Rattle.std.specs.Option.{option_or, option_and_then}
 use Rattle.std.proofs.lemmas.Bool.{false≢true}
@@ -14,7 +14,8 @@ use Rattle.fmc_check.specs.declared.Fm.TheVariants as fm
 use Rattle.fmc_check.specs.Fewest.{is_solution, result_of}
 use Rattle.attempts.specs.declared.Value.{Value}
 use Rattle.attempts.specs.declared.Value.TheVariants as value
-use Rattle.attempts.specs.Attempts.{rounded, reaches, solution_value, IsInRange}
+use Rattle.attempts.specs.Attempts.{rounded, reaches, solution_value, multi_number, is_multi_finished, IsInRangeOf}
+use Rattle.attempts.specs.declared.Unit.TheVariants as measure
 use Rattle.formats.specs.declared.events.Event.{Event}
 use Rattle.formats.specs.Events.{same_event}
 use Rattle.formats.proofs.SameEvent.{same_event-equal}
@@ -25,26 +26,27 @@ use Rattle.advancement.specs.Advancing.{goes_on}
 use Rattle.texts.specs.declared.answer.Code.{Code}
 use Rattle.texts.specs.declared.answer.Code.TheVariants as code
 use Rattle.texts.specs.declared.command.Command.{Command}
-use Rattle.texts.specs.declared.command.Command.TheVariants.{Register, Open, Enter, Scramble, Attempt, Correct, Strike, SetAdvance, Close}
+use Rattle.texts.specs.declared.command.Command.TheVariants.{Register, Open, Enter, Scramble, Attempt, Correct, Strike, SetAdvance, Close, SetEdition}
 use Rattle.texts.specs.declared.command.Entered.{Entered}
 use Rattle.texts.specs.declared.command.Entered.TheVariants as entered
 use Rattle.texts.specs.declared.command.Settings.{Settings}
 use Rattle.texts.specs.declared.reading.CommandFault.{CommandFault}
 use Rattle.texts.specs.Spelling.{IsFit, IsFitSettings, IsFitAdvance, IsEntered}
 use Rattle.texts.specs.Reading.{command_of}
-use Rattle.commands.specs.Accepted.{name_given, name_of, is_registered, settled, who_advance, round_in, round_of, refusal, enter_code, enter_refusal, scramble_of}
+use Rattle.texts.specs.Editions.{edition_of}
+use Rattle.commands.specs.Accepted.{name_given, name_of, is_registered, settled, edition_in, who_advance, round_in, round_of, refusal, enter_code, enter_refusal, scramble_of}
 use Rattle.commands.specs.model.Kept.{with_attempt, with_correction, with_strike, with_advance, with_end, with_entry, newcomer}
-use Rattle.commands.specs.History.{History, nothing, is_seen, added_read, read_refusal, after, history}
+use Rattle.commands.specs.History.{History, nothing, is_seen, added_read, spelled_refusal, read_refusal, after, history}
 use Rattle.commands.proofs.Lookups.{first_push}
 use Rattle.texts.proofs.FieldSpellings.{name_short}
-use Rattle.commands.proofs.EachCommand.{opening_table, round_open, round_enter, round_scramble, round_attempt, round_correct, round_strike, round_advance, round_close, round_register}
+use Rattle.commands.proofs.EachCommand.{opening_table, round_open, round_enter, round_scramble, round_attempt, round_correct, round_strike, round_advance, round_close, round_register, round_edition}
 use Rattle.commands.proofs.OneMore.{with_table}
 use Rattle.texts.proofs.Words.{spelled_only}
 
 -- an entrant's number and values are in their ranges
 pub record IsSmallEntrant (e : Entrant) : Type 0 where
   pub number : e.number ≤ 9999
-  pub values : AllByRecursion IsInRange e.values
+  pub values : AllByRecursion (IsInRangeOf measure.Multi) e.values
 
 -- a round's number and settings are in their ranges, and it has at most 999 entrants
 pub record IsSmallRound (r : ℕ) (x : Settings × Table) : Type 0 where
@@ -178,24 +180,39 @@ rounded_small n small = step (nat_le n 60000)
 
 -- what was entered settles to a value in its range
 settled_small : (settings : Settings) (scramble : Option (List Move)) (x : Entered) → IsEntered x
-    → IsInRange (settled settings scramble x)
+    → IsInRangeOf measure.Multi (settled settings scramble x)
 unfolding result_of
 settled_small settings scramble (entered.Time time penalties) is =
     step (reaches settings.limit time)
   where
     step : (b : Bool)
-        → IsInRange (cond b value.Dnf (value.Number (rounded (time + 200 * penalties))))
+        → IsInRangeOf measure.Multi
+        (cond b value.Dnf (value.Number (rounded (time + 200 * penalties))))
     step true = tt
-    step false = rounded_small (time + 200 * penalties) (omega (arith, is.0.1, is.1.1))
+    step false =
+        let small = rounded_small (time + 200 * penalties) (omega (arith, is.0.1, is.1.1)) in
+        omega (arith, small)
 settled_small settings None (entered.Solution solution) is = tt
 settled_small settings (Some scramble) (entered.Solution solution) is =
     step (is_solution scramble solution)
   where
-    step : (b : Bool) → IsInRange (solution_value (cond b (fm.Moves (turn_count solution)) fm.Dnf))
+    step : (b : Bool)
+        → IsInRangeOf measure.Multi
+        (solution_value (cond b (fm.Moves (turn_count solution)) fm.Dnf))
     step true =
         let less = count_by-le-length (λ (move : Move). is_turn move.kind) solution in
         omega (arith, less, is.1)
     step false = tt
+settled_small settings scramble (entered.Multi solved attempted seconds) is =
+    step (is_multi_finished solved attempted) refl
+  where
+    step : (b : Bool) → is_multi_finished solved attempted ≡ b
+        → IsInRangeOf measure.Multi
+        (cond b (value.Number (multi_number solved attempted seconds)) value.Dnf)
+    step true finished =
+        let few : attempted - solved ≤ solved = grind (arith, nat_tests) in
+        omega (arith, few, is.0.1, is.1.1, is.2.1)
+    step false finished = tt
 settled_small settings scramble entered.Dnf is = tt
 settled_small settings scramble entered.Dns is = tt
 
@@ -203,7 +220,8 @@ settled_small settings scramble entered.Dns is = tt
 
 -- an entrant whose values are changed, or not
 entrant_small : (b : Bool) (e : Entrant) (vs : List Value) → IsSmallEntrant e
-    → AllByRecursion IsInRange vs → IsSmallEntrant (cond b (record e { values = vs }) e)
+    → AllByRecursion (IsInRangeOf measure.Multi) vs
+    → IsSmallEntrant (cond b (record e { values = vs }) e)
 entrant_small true e vs h is = record { number = h.number; values = is }
 entrant_small false e vs h is = h
 
@@ -225,7 +243,8 @@ attempt_small r n scramble y fits x h =
     each_small r (plus_value n (settled x.0 scramble y))
     (λ e is.
     entrant_small (has_number n e) e _ is
-    (all_append IsInRange e.values _ is.values (settled_small x.0 scramble y fits, tt)))
+    (all_append (IsInRangeOf measure.Multi) e.values _ is.values
+    (settled_small x.0 scramble y fits, tt)))
     x h
 
 correction_small : (r n k : ℕ) (scramble : Option (List Move)) (y : Entered) → IsEntered y
@@ -234,7 +253,8 @@ correction_small r n k scramble y fits x h =
     each_small r (with_replaced n k (settled x.0 scramble y))
     (λ e is.
     entrant_small (has_number n e) e _ is
-    (all_set IsInRange e.values (k - 1) _ is.values (settled_small x.0 scramble y fits)))
+    (all_set (IsInRangeOf measure.Multi) e.values (k - 1) _ is.values
+    (settled_small x.0 scramble y fits)))
     x h
 
 strike_small : (r n : ℕ) (x : Settings × Table) → IsSmallRound r x
@@ -243,7 +263,7 @@ strike_small r n x h =
     each_small r (less_last n)
     (λ e is.
     entrant_small (has_number n e) e _ is
-    (all_take IsInRange (length e.values - 1) e.values is.values))
+    (all_take (IsInRangeOf measure.Multi) (length e.values - 1) e.values is.values))
     x h
 
 advance_small : (r : ℕ) (advance : Advance) → IsFitAdvance advance → (x : Settings × Table)
@@ -475,17 +495,26 @@ small_more cs (Close f s) fits allowed h =
     round_is r _ _ (round_close e f r s cs)
     (changed r (same_event e f && r == s) with_end (round_of cs e r) (h.rounds e r) (end_small r)))
     h
+small_more cs (SetEdition edition) fits allowed h =
+    small_with cs (SetEdition edition) (λ n. tt)
+    (λ e r. round_is r _ _ (round_edition e r edition cs) (h.rounds e r)) h
 
 -- Entries
 
+not_refused : (later : Bool) (refused : Option Code)
+    → cond later (Some code.Unread) refused ≡ None → refused ≡ None
+not_refused true refused h = absurd (some≢none code.Unread h)
+not_refused false refused h = h
+
 small_answered : (cs : List Command) (c : Command) → IsFit c → IsSmall cs → (refused : Option Code)
-    → refusal cs c ≡ refused → IsSmall (cs ++ added_read refused (Ok c))
-small_answered cs c fits h None is = small_more cs c fits is h
+    → spelled_refusal cs c ≡ refused → IsSmall (cs ++ added_read refused (Ok c))
+small_answered cs c fits h None is =
+    small_more cs c fits (not_refused (nat_lt (edition_in cs) (edition_of c)) (refusal cs c) is) h
 small_answered cs c fits h (Some why) is = subst IsSmall (sym (append-nil cs)) h
 
 small_read : (cs : List Command) (read : Result Command CommandFault) → IfOk read IsFit → IsSmall cs
     → IsSmall (cs ++ added_read (read_refusal cs read) read)
-small_read cs (Ok c) fits h = small_answered cs c fits h (refusal cs c) refl
+small_read cs (Ok c) fits h = small_answered cs c fits h (spelled_refusal cs c) refl
 small_read cs (Err fault) fits h = subst IsSmall (sym (append-nil cs)) h
 
 read_fits : (bytes : List ℕ) (read : Result Command CommandFault) → command_of bytes ≡ read

@@ -1,6 +1,6 @@
 -- What a list of accepted commands says: who is registered, which rounds were opened, and what was
 -- done in them.
-use Rattle.std.specs.Prelude.{ℕ, zero, suc, ◌+◌, ◌-◌, Bool, true, false, not, ◌==◌, ◌&&◌, nat_lt, if◌then◌else◌, List, [], ◌∷◌, ◌++◌, map, unwrap_or, bytes_eq, option_to_list, is_some, Option, None, Some}
+use Rattle.std.specs.Prelude.{ℕ, zero, suc, ◌+◌, ◌-◌, Bool, true, false, not, ◌==◌, ◌&&◌, nat_lt, nat_le, if◌then◌else◌, List, [], ◌∷◌, ◌++◌, map, unwrap_or, bytes_eq, option_to_list, is_some, Option, None, Some}
 use Rattle.std.specs.List.{list_any, range_with_len}
 use Rattle.std.specs.Option.{option_or, option_map, option_and_then}
 use Rattle.cube.specs.declared.moves.Move.{Move}
@@ -15,7 +15,7 @@ use Rattle.formats.specs.declared.events.Event.{Event}
 use Rattle.formats.specs.declared.events.Format.{Format}
 use Rattle.formats.specs.Events.{same_event, unit_of, is_allowed, attempts_of}
 use Rattle.texts.specs.declared.command.Command.{Command}
-use Rattle.texts.specs.declared.command.Command.TheVariants.{Register, Open, Enter, Scramble, Attempt, Correct, Strike, SetAdvance, Close}
+use Rattle.texts.specs.declared.command.Command.TheVariants.{Register, Open, Enter, Scramble, Attempt, Correct, Strike, SetAdvance, Close, SetEdition}
 use Rattle.texts.specs.declared.command.Entered.{Entered}
 use Rattle.texts.specs.declared.command.Entered.TheVariants as entered
 use Rattle.texts.specs.declared.command.Settings.{Settings}
@@ -107,6 +107,8 @@ solved_under (Some scramble) solution = outcome.Solution (result_of scramble sol
 abbrev pub outcome_of : Option (List Move) → Entered → Outcome
 outcome_of scramble (entered.Time time penalties) = outcome.Time time penalties
 outcome_of scramble (entered.Solution solution) = solved_under scramble solution
+outcome_of scramble (entered.Multi solved attempted seconds) =
+    outcome.Multi solved attempted seconds
 outcome_of scramble entered.Dnf = outcome.Dnf
 outcome_of scramble entered.Dns = outcome.Dns
 
@@ -204,6 +206,22 @@ round_in e (suc r) cs =
 abbrev pub round_of : List Command → Event → ℕ → Option (Settings × Table)
 round_of cs e r = round_in e r cs
 
+-- Editions
+
+-- the edition that a command sets
+abbrev pub edition_set : Command → Option ℕ
+edition_set (SetEdition edition) = Some edition
+edition_set _ = None
+
+-- the edition after more commands: the last that was set
+abbrev pub edition_after : ℕ → List Command → ℕ
+edition_after edition [] = edition
+edition_after edition (c ∷ cs) = edition_after (unwrap_or (edition_set c) edition) cs
+
+-- the edition that holds: edition 1 until another is set
+abbrev pub edition_in : List Command → ℕ
+edition_in cs = edition_after 1 cs
+
 -- Checks
 
 -- the code for a table's refusal of an entry; want of memory is no answer to a command
@@ -242,15 +260,30 @@ abbrev pub enter_refusal : ℕ → Option (Settings × Table) → Option Code
 enter_refusal n None = Some code.RoundUnknown
 enter_refusal n (Some round) = option_and_then enter_code (enter_fault round.1 n)
 
+-- timed events alone take times
+abbrev pub is_time : Measure → Bool
+is_time measure.Time = true
+is_time measure.Moves = false
+is_time measure.Multi = false
+
 -- fewest moves alone takes scrambles and solutions
 abbrev pub is_moves : Measure → Bool
 is_moves measure.Moves = true
 is_moves measure.Time = false
+is_moves measure.Multi = false
 
--- what was entered is none that an event takes: a time in fewest moves, a solution elsewhere
+-- multi-blind alone takes cubes
+abbrev pub is_multi : Measure → Bool
+is_multi measure.Multi = true
+is_multi measure.Time = false
+is_multi measure.Moves = false
+
+-- what was entered is none that an event takes: a time in fewest moves and multi-blind, a solution
+-- but in fewest moves, cubes but in multi-blind
 abbrev pub is_wrong : Measure → Entered → Bool
-is_wrong unit (entered.Time time penalties) = is_moves unit
+is_wrong unit (entered.Time time penalties) = not (is_time unit)
 is_wrong unit (entered.Solution solution) = not (is_moves unit)
+is_wrong unit (entered.Multi solved attempted seconds) = not (is_multi unit)
 is_wrong unit entered.Dnf = false
 is_wrong unit entered.Dns = false
 
@@ -258,6 +291,7 @@ is_wrong unit entered.Dns = false
 abbrev pub lacks_scramble : Option (List Move) → Entered → Bool
 lacks_scramble scramble (entered.Solution solution) = not (is_some scramble)
 lacks_scramble scramble (entered.Time time penalties) = false
+lacks_scramble scramble (entered.Multi solved attempted seconds) = false
 lacks_scramble scramble entered.Dnf = false
 lacks_scramble scramble entered.Dns = false
 
@@ -337,15 +371,16 @@ close_refusal rounds r None = Some code.RoundUnknown
 close_refusal rounds r (Some round) =
     end_refusal (close_fault round.1) (breaks_rounds_rule rounds r round.0.advance)
 
--- a cutoff counts fewer attempts than the format has
-abbrev pub is_cutoff : Format → Option (ℕ × ℕ) → Bool
-is_cutoff format None = true
-is_cutoff format (Some cutoff) = nat_lt cutoff.0 (attempts_of format)
+-- a cutoff counts fewer attempts than the format has; multi-blind has no cutoff
+abbrev pub is_cutoff : Measure → Format → Option (ℕ × ℕ) → Bool
+is_cutoff unit format None = true
+is_cutoff unit format (Some cutoff) = not (is_multi unit) && nat_lt cutoff.0 (attempts_of format)
 
 -- timed events have a limit, and others have none
 abbrev pub is_limit : Measure → Option ℕ → Bool
 is_limit measure.Time limit = is_some limit
 is_limit measure.Moves limit = not (is_some limit)
+is_limit measure.Multi limit = not (is_some limit)
 
 -- the first check of a command that fails, each a sentence on the accepted commands so far
 abbrev pub refusal : List Command → Command → Option Code
@@ -357,7 +392,8 @@ refusal cs (Open e r settings) =
     if is_some (round_of cs e r) then Some code.RoundOpen
     else if nat_lt 1 r && not (leads_on (round_of cs e (r - 1))) then Some code.RoundUnknown
     else if not (is_allowed e settings.format) then Some code.FormatNotAllowed
-    else if not (is_cutoff settings.format settings.cutoff) then Some code.CutoffNotAllowed
+    else if not (is_cutoff (unit_of e) settings.format settings.cutoff)
+    then Some code.CutoffNotAllowed
     else if not (is_limit (unit_of e) settings.limit) then Some code.LimitNotAllowed
     else None
 refusal cs (Enter e n) =
@@ -376,3 +412,5 @@ refusal cs (Strike e r n) =
     else strike_refusal n (round_of cs e r)
 refusal cs (SetAdvance e r advance) = advance_refusal (round_of cs e r)
 refusal cs (Close e r) = close_refusal (round_of cs e) r (round_of cs e r)
+refusal cs (SetEdition edition) =
+    if nat_le edition (edition_in cs) then Some code.Already else None

@@ -1,5 +1,5 @@
 -- What a list of entries, each an id and a text, comes to.
-use Rattle.std.specs.Prelude.{◌≡◌, ℕ, Bool, ◌==◌, if◌then◌else◌, List, [], ◌∷◌, ◌++◌, fold, Option, None, Some, Result, Ok, Err}
+use Rattle.std.specs.Prelude.{◌≡◌, ℕ, Bool, ◌==◌, nat_lt, if◌then◌else◌, List, [], ◌∷◌, ◌++◌, fold, Option, None, Some, Result, Ok, Err}
 use Rattle.std.specs.List.{list_any}
 use Rattle.texts.specs.declared.command.Command.{Command}
 use Rattle.texts.specs.declared.answer.Answer.{Answer}
@@ -7,8 +7,9 @@ use Rattle.texts.specs.declared.answer.Answer.TheVariants.{Done, Refused}
 use Rattle.texts.specs.declared.answer.Code.{Code}
 use Rattle.texts.specs.declared.answer.Code.TheVariants as code
 use Rattle.texts.specs.declared.reading.CommandFault.{CommandFault}
+use Rattle.texts.specs.Editions.{edition_of}
 use Rattle.texts.specs.Reading.{command_of}
-use Rattle.commands.specs.Accepted.{refusal}
+use Rattle.commands.specs.Accepted.{edition_in, refusal}
 
 -- the ids seen so far, and the accepted commands, each in order
 pub record History : Type 0 where
@@ -31,10 +32,16 @@ abbrev pub added : Option Code → Command → List Command
 added None c = c ∷ []
 added (Some why) c = []
 
+-- the first check that fails for a command: that the edition that holds has its spelling, then its
+-- own
+abbrev pub spelled_refusal : List Command → Command → Option Code
+spelled_refusal cs c =
+    if nat_lt (edition_in cs) (edition_of c) then Some code.Unread else refusal cs c
+
 -- the first check that fails for what a text reads as: that it is a command, then the checks of the
 -- command
 abbrev pub read_refusal : List Command → Result Command CommandFault → Option Code
-read_refusal cs (Ok c) = refusal cs c
+read_refusal cs (Ok c) = spelled_refusal cs c
 read_refusal cs (Err fault) = Some code.Unread
 
 abbrev pub added_read : Option Code → Result Command CommandFault → List Command

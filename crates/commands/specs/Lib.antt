@@ -1,7 +1,10 @@
 pub mod Accepted
+pub mod EditionLaws
+pub mod FirstEdition
 pub mod History
 pub mod model
 pub use Rattle.texts.specs.Codes
+pub use Rattle.texts.specs.Editions
 pub use Rattle.texts.specs.Fields
 pub use Rattle.texts.specs.Numerals
 pub use Rattle.texts.specs.Reading

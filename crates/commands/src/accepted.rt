@@ -1,9 +1,9 @@
 //! The accepted commands, with what is looked up of them.
 
-ghost use Rattle.std.specs.Prelude.{◌≡◌, ◌++◌, [], IfOk, OnOk, OnErr, option_map};
-ghost use Rattle.commands.specs.Accepted.{name_of, round_of, refusal};
+ghost use Rattle.std.specs.Prelude.{◌≡◌, ◌++◌, [], IfOk, OnOk, OnErr, option_map, unwrap_or};
+ghost use Rattle.commands.specs.Accepted.{name_of, round_of, refusal, edition_set, edition_in};
 ghost use Rattle.texts.specs.Spelling.{IsFit};
-ghost use Rattle.commands.specs.History.{answer_of, added};
+ghost use Rattle.commands.specs.History.{answer_of, added, spelled_refusal};
 
 use crate::index::Index;
 use attempts::NoMemory;
@@ -11,40 +11,76 @@ use formats::Event;
 use rounds::RoundTable;
 use std::alloc::Global;
 use std::marker::Model;
-use texts::{Answer, Command, Settings};
+use texts::{Answer, Code, Command, Settings, edition_of};
 
-/// The accepted commands in order, with what is looked up of them.
+/// The accepted commands in order, with what is looked up of them, and the edition that holds.
 #[derive(Drop)]
 pub(crate) struct AcceptedCommands {
     accepted: Vec<Command>,
     index: Index,
+    edition: u8,
 }
 
 impl Model for AcceptedCommands {
     ghost use Rattle.std.specs.Prelude.{List};
     ghost use Rattle.texts.specs.declared.command.Command.{Command};
-    ghost use Rattle.commands.specs.model.Kept.{IsIndexOf};
+    ghost use Rattle.commands.specs.model.Kept.{IsAccepted};
 
     ghost Value = { List Command };
 
     ghost view = { λ b. b.accepted.items };
 
-    ghost invariant = { λ b. IsIndexOf b.accepted.items b.index };
+    ghost invariant = { λ b. IsAccepted b.accepted.items b.index b.edition };
+}
+
+/// The edition that holds behind one more command.
+fn edition_after(edition: u8, command: &Command) -> u8
+    ensures { result ≡ unwrap_or (edition_set command.now) edition }
+{
+    match command {
+        Command::SetEdition { edition } => *edition,
+        _ => edition,
+    }
 }
 
 impl AcceptedCommands {
     /// No command is accepted yet.
+    #[tactic(auto, using(crate::proofs::Editions::acceptances))]
     pub(crate) fn new(alloc: Global) -> Self
         ensures { result ≡ [] }
     {
         AcceptedCommands {
             accepted: Vec::new(alloc),
             index: Index::new(alloc),
+            edition: 1,
         }
     }
 
-    /// Does a command, or says why not.
+    /// The edition that holds.
+    pub(crate) fn edition(&self) -> u8
+        ensures { result ≡ edition_in self.now }
+    {
+        self.edition
+    }
+
+    /// Does what a text spells, or says why not: the spelling of a later edition than holds is
+    /// `Unread`.
     pub(crate) fn apply(&mut self, alloc: Global, command: Command) -> Result<Answer, NoMemory>
+        requires { IsFit command }
+        ensures answer { IfOk result (λ a. a ≡ answer_of (spelled_refusal self.old command)) }
+        ensures added { OnOk result
+            (self.new ≡ self.old ++ added (spelled_refusal self.old command) command) }
+        ensures err { OnErr result (self.new ≡ self.old) }
+    {
+        if edition_of(&command) > self.edition() {
+            return Ok(Answer::Refused(Code::Unread));
+        }
+        self.do_command(alloc, command)
+    }
+
+    /// Does a command, or says why not.
+    #[tactic(auto, using(crate::proofs::Editions::acceptances))]
+    fn do_command(&mut self, alloc: Global, command: Command) -> Result<Answer, NoMemory>
         requires { IsFit command }
         ensures answer { IfOk result (λ a. a ≡ answer_of (refusal self.old command)) }
         ensures added { OnOk result
@@ -52,8 +88,12 @@ impl AcceptedCommands {
         ensures err { OnErr result (self.new ≡ self.old) }
     {
         self.accepted.reserve(1)?;
-        match self.index.apply(alloc, &self.accepted, &command)? {
+        match self
+            .index
+            .apply(alloc, &self.accepted, self.edition, &command)?
+        {
             None => {
+                self.edition = edition_after(self.edition, &command);
                 self.accepted.push(command).unwrap();
                 Ok(Answer::Done)
             }

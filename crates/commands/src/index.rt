@@ -2,7 +2,7 @@
 
 ghost use Rattle.std.specs.Prelude.{◌≡◌, ◌≤◌, IsTrue, ◌++◌, ◌∷◌, [], List, IfOk, OnOk, OnErr, option_map};
 ghost use Rattle.cube.specs.declared.moves.Move.{Move};
-ghost use Rattle.commands.specs.Accepted.{scramble_of, refusal, is_cutoff, is_limit};
+ghost use Rattle.commands.specs.Accepted.{scramble_of, refusal, is_cutoff, is_limit, edition_in};
 ghost use Rattle.texts.specs.Spelling.{IsFit, IsEntered, IsFitCutoff};
 ghost use Rattle.rounds.specs.Tables.{IsCutoff};
 ghost use Rattle.commands.specs.History.{added};
@@ -11,6 +11,7 @@ ghost use Rattle.texts.specs.declared.command.Command.TheVariants as command;
 
 use crate::competitors::Competitors;
 use crate::kept_rounds::KeptRounds;
+use crate::outcomes::is_multi;
 use advancement::Advance;
 use attempts::{NoMemory, Unit};
 use cube::Move;
@@ -18,14 +19,14 @@ use formats::{Event, Format, allowed, attempts_of, unit_of};
 use std::alloc::Global;
 use texts::{Code, Command, Entered, Name, Settings};
 
-/// Whether a cutoff counts fewer attempts than the format has.
-fn is_cutoff(format: Format, cutoff: Option<(u8, u32)>) -> bool
-    ensures value { result ≡ is_cutoff format cutoff }
+/// Whether a cutoff counts fewer attempts than the format has. Multi-blind has none.
+fn is_cutoff(unit: Unit, format: Format, cutoff: Option<(u8, u32)>) -> bool
+    ensures value { result ≡ is_cutoff unit format cutoff }
     ensures within { IsFitCutoff cutoff → IsTrue result → IsCutoff format cutoff }
 {
     match cutoff {
         None => true,
-        Some((attempts, _)) => attempts < attempts_of(format),
+        Some((attempts, _)) => !is_multi(unit) && attempts < attempts_of(format),
     }
 }
 
@@ -35,7 +36,7 @@ fn is_limit(unit: Unit, limit: Option<u32>) -> bool
 {
     match unit {
         Unit::Time => limit.is_some(),
-        Unit::Moves => limit.is_none(),
+        Unit::Moves | Unit::Multi => limit.is_none(),
     }
 }
 
@@ -128,7 +129,7 @@ impl Index {
         if !allowed(event, settings.format) {
             return Ok(Some(Code::FormatNotAllowed));
         }
-        if !is_cutoff(settings.format, settings.cutoff) {
+        if !is_cutoff(unit_of(event), settings.format, settings.cutoff) {
             return Ok(Some(Code::CutoffNotAllowed));
         }
         if !is_limit(unit_of(event), settings.limit) {
@@ -198,6 +199,7 @@ impl Index {
     }
 
     /// Adds an attempt, or says why not.
+    #[tactic(auto, using(crate::proofs::Units::units))]
     fn attempt(
         &mut self,
         accepted: &[Command],
@@ -225,6 +227,7 @@ impl Index {
     }
 
     /// Replaces an attempt, or says why not.
+    #[tactic(auto, using(crate::proofs::Units::units))]
     fn correct(
         &mut self,
         accepted: &[Command],
@@ -291,14 +294,34 @@ impl Index {
         self.rounds.close(event, round)
     }
 
-    /// Does a command that will stand behind the accepted ones, or says why not.
+    /// Sets the edition, or says why not, where edition `holds` does. Nothing here is looked up by
+    /// it.
+    #[tactic(auto, using(crate::proofs::Indexed::editions))]
+    fn set_edition(&mut self, accepted: &[Command], holds: u8, edition: u8) -> Option<Code>
+        requires index { IsIndexOf accepted.now self.old }
+        requires holds { holds ≡ edition_in accepted.now }
+        ensures code { result ≡ refusal accepted.now (command.SetEdition edition) }
+        ensures index { IsIndexOf (accepted.now ++ added result (command.SetEdition edition))
+            self.new }
+    {
+        if edition <= holds {
+            Some(Code::Already)
+        } else {
+            None
+        }
+    }
+
+    /// Does a command that will stand behind the accepted ones, or says why not, where edition
+    /// `holds` does.
     pub(crate) fn apply(
         &mut self,
         alloc: Global,
         accepted: &[Command],
+        holds: u8,
         command: &Command,
     ) -> Result<Option<Code>, NoMemory>
         requires index { IsIndexOf accepted.now self.old }
+        requires holds { holds ≡ edition_in accepted.now }
         requires command { IsFit command.now }
         ensures code { IfOk result (λ code. code ≡ refusal accepted.now command.now) }
         ensures index { IfOk result
@@ -344,6 +367,7 @@ impl Index {
                 advance,
             } => Ok(self.set_advance(accepted, *event, *round, *advance)),
             Command::Close { event, round } => Ok(self.close(accepted, *event, *round)),
+            Command::SetEdition { edition } => Ok(self.set_edition(accepted, holds, *edition)),
         }
     }
 }

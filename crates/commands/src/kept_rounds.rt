@@ -3,10 +3,11 @@
 ghost use Rattle.std.specs.Prelude.{◌≡◌, ◌≤◌, ◌-◌, [], is_some, IfOk, IfNone, OnOk, OnErr, OnSome, MatchOption, option_map, option_and_then, position, None, length, nat_eq};
 ghost use Rattle.std.specs.List.{list_any, range_with_len, IsDistinct};
 ghost use Rattle.formats.specs.Events.{unit_of};
+ghost use Rattle.formats.specs.Results.{IsFormatOf};
 ghost use Rattle.rounds.specs.Tables.{IsCutoff, empty_table, enter_fault, with_entrant};
 ghost use Rattle.commands.specs.Accepted.{enter_refusal, scramble_refusal, entered_refusal, put_refusal, correct_refusal, strike_refusal, advance_refusal, is_final, leads_on, competitors_of, has_too_few, breaks_rounds_rule, close_refusal, who_advance};
 ghost use Rattle.texts.specs.Spelling.{IsEntered};
-ghost use Rattle.commands.specs.model.Kept.{is_round, kept_round, kept_scramble, IsKeptAt, with_attempt, with_correction, with_strike, with_advance, with_end, with_entry, with_newcomers, ChangesRound, AddsRound, AddsScramble};
+ghost use Rattle.commands.specs.model.Kept.{is_round, kept_round, kept_scramble, IsKeptAt, with_attempt, with_correction, with_strike, with_advance, with_end, with_entry, with_newcomers, HasUnit, ChangesRound, AddsRound, AddsScramble};
 
 use crate::codes::{close_code, correct_code, put_code, strike_code};
 use crate::outcomes::{is_moves, outcome_of, refusal};
@@ -79,6 +80,7 @@ fn table_with(
     numbers: &[u16],
 ) -> Result<RoundTable, NoMemory>
     requires cutoff { IsCutoff settings.format settings.cutoff }
+    requires format { IsFormatOf (unit_of event) settings.format }
     requires each_once { IsDistinct nat_eq numbers.now }
     requires few { length numbers.now ≤ 999 }
     ensures { IfOk result (λ table. table ≡ with_newcomers
@@ -201,7 +203,8 @@ impl KeptRounds {
         entered: &Entered,
         scramble: Option<&[Move]>,
     ) -> Option<Code>
-        requires { IsEntered entered.now }
+        requires entered { IsEntered entered.now }
+        requires unit { HasUnit event (kept_round event round self.old.opened.items) }
         ensures code { result
             ≡ entered_refusal event entered.now (option_map (λ moves. moves.now) scramble.entry)
             (put_refusal number attempt) (kept_round event round self.old.opened.items) }
@@ -236,7 +239,8 @@ impl KeptRounds {
         entered: &Entered,
         scramble: Option<&[Move]>,
     ) -> Option<Code>
-        requires { IsEntered entered.now }
+        requires entered { IsEntered entered.now }
+        requires unit { HasUnit event (kept_round event round self.old.opened.items) }
         ensures code { result
             ≡ entered_refusal event entered.now (option_map (λ moves. moves.now) scramble.entry)
             (correct_refusal number attempt (option_map (λ moves. moves.now) scramble.entry)
@@ -439,6 +443,7 @@ impl KeptRounds {
         settings: Settings,
     ) -> Result<(), NoMemory>
         requires cutoff { IsCutoff settings.format settings.cutoff }
+        requires format { IsFormatOf (unit_of event) settings.format }
         requires round { 1 ≤ round }
         ensures ok { OnOk result
             (AddsRound event round (

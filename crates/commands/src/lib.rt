@@ -10,8 +10,8 @@ mod kept_rounds;
 mod meet;
 mod outcomes;
 
-pub use meet::{Meet, every_id_is_seen};
+pub use meet::{Meet, every_id_is_seen, first_edition_answers};
 pub use texts::{
-    Advance, Answer, Code, Command, CommandFault, Entered, Name, Settings, one_spelling, print,
-    print_advance, print_cutoff, print_limit, read,
+    Advance, Answer, Code, Command, CommandFault, Entered, Name, Settings, edition_of,
+    first_edition_reads, one_spelling, print, print_advance, print_cutoff, print_limit, read,
 };

@@ -3,7 +3,8 @@
 ghost use Rattle.std.specs.Prelude.{◌≡◌, ◌++◌, ◌∷◌, [], List, ℕ, true, Ok, IfOk, OnOk, OnErr, option_map};
 ghost use Rattle.commands.specs.History.{is_seen, answer_to, answer_of, added_read, read_refusal, after, nothing, StandsFor, SeesEachId};
 ghost use Rattle.texts.specs.Reading.{command_of};
-ghost use Rattle.commands.specs.Accepted.{name_of, round_of};
+ghost use Rattle.commands.specs.EditionLaws.{AnswersAsBefore};
+ghost use Rattle.commands.specs.Accepted.{name_of, round_of, edition_in};
 
 use crate::accepted::AcceptedCommands;
 use attempts::NoMemory;
@@ -66,8 +67,8 @@ impl Meet {
     }
 
     /// Takes one more entry, and says what its command is answered: `Repeat` where the id was seen
-    /// before, `Unread` where the text is no command, else the first check of the command that
-    /// fails, or `Done`.
+    /// before, `Unread` where the text is no command of the edition that holds, else the first
+    /// check of the command that fails, or `Done`.
     ///
     /// A refused entry adds its id to those seen and changes nothing else. At `NoMemory` nothing
     /// changes at all.
@@ -92,6 +93,14 @@ impl Meet {
         let answer = do_text(&mut self.accepted, self.alloc, text)?;
         self.ids.insert(id).unwrap();
         Ok(answer)
+    }
+
+    /// The edition of the commands that holds: 1, and 2 once `EDITION 2` is accepted. The spelling
+    /// of a later edition is no command.
+    pub fn edition(&self) -> u8
+        ensures { result ≡ edition_in self.now.accepted }
+    {
+        self.accepted.edition()
     }
 
     /// The name of a competitor, 1 to 80 bytes of UTF-8, where the number is registered.
@@ -121,4 +130,10 @@ impl Meet {
 /// refused ones included.
 pub fn every_id_is_seen()
     ensures { SeesEachId }
+{}
+
+/// A law: behind entries without the text `EDITION 2` an entry without it is answered as edition 1
+/// answered it, by that edition's own definitions.
+pub fn first_edition_answers()
+    ensures { AnswersAsBefore }
 {}

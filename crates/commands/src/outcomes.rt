@@ -1,8 +1,9 @@
 //! What a judge enters, as an outcome of the attempt.
 
-ghost use Rattle.std.specs.Prelude.{◌≡◌, option_map};
-ghost use Rattle.attempts.specs.Attempts.{IsOutcome};
-ghost use Rattle.commands.specs.Accepted.{outcome_of, is_wrong, is_moves, lacks_scramble, unfit_refusal};
+ghost use Rattle.std.specs.Prelude.{◌≡◌, false, option_map};
+ghost use Rattle.attempts.specs.Attempts.{IsOutcome, IsOutcomeOf};
+ghost use Rattle.attempts.specs.declared.Unit.{Unit as Measure};
+ghost use Rattle.commands.specs.Accepted.{outcome_of, is_time, is_wrong, is_moves, is_multi, lacks_scramble, unfit_refusal};
 ghost use Rattle.texts.specs.Spelling.{IsEntered};
 
 use attempts::{Outcome, Unit};
@@ -11,23 +12,44 @@ use fmc_check::check;
 use formats::{Event, unit_of};
 use texts::{Code, Entered};
 
-/// Whether solutions are entered, and not times.
+/// Whether times are entered.
+fn is_time(unit: Unit) -> bool
+    ensures { result ≡ is_time unit }
+{
+    match unit {
+        Unit::Time => true,
+        Unit::Moves | Unit::Multi => false,
+    }
+}
+
+/// Whether solutions are entered.
 pub(crate) fn is_moves(unit: Unit) -> bool
     ensures { result ≡ is_moves unit }
 {
     match unit {
         Unit::Moves => true,
-        Unit::Time => false,
+        Unit::Time | Unit::Multi => false,
     }
 }
 
-/// Whether what was entered is a time where solutions are, or a solution where times are.
+/// Whether cubes of multi-blind are entered.
+pub(crate) fn is_multi(unit: Unit) -> bool
+    ensures { result ≡ is_multi unit }
+{
+    match unit {
+        Unit::Multi => true,
+        Unit::Time | Unit::Moves => false,
+    }
+}
+
+/// Whether what was entered is a time, a solution or cubes where another of these is entered.
 fn is_wrong(unit: Unit, entered: &Entered) -> bool
     ensures { result ≡ is_wrong unit entered.now }
 {
     match entered {
-        Entered::Time { .. } => is_moves(unit),
+        Entered::Time { .. } => !is_time(unit),
         Entered::Solution { .. } => !is_moves(unit),
+        Entered::Multi { .. } => !is_multi(unit),
         Entered::Dnf | Entered::Dns => false,
     }
 }
@@ -38,7 +60,7 @@ fn lacks_scramble(scramble: Option<&[Move]>, entered: &Entered) -> bool
 {
     match entered {
         Entered::Solution { .. } => scramble.is_none(),
-        Entered::Time { .. } | Entered::Dnf | Entered::Dns => false,
+        Entered::Time { .. } | Entered::Multi { .. } | Entered::Dnf | Entered::Dns => false,
     }
 }
 
@@ -57,11 +79,14 @@ pub(crate) fn refusal(event: Event, entered: &Entered, scramble: Option<&[Move]>
 }
 
 /// What was entered, a solution by its result under the scramble.
+#[tactic(auto, using(crate::proofs::Units::units))]
 pub(crate) fn outcome_of(scramble: Option<&[Move]>, entered: &Entered) -> Outcome
     requires { IsEntered entered.now }
     ensures value { result
         ≡ outcome_of (option_map (λ moves. moves.now) scramble.entry) entered.now }
     ensures outcome { IsOutcome result }
+    ensures of_unit { (unit : Measure) → is_wrong unit entered.now ≡ false
+        → IsOutcomeOf unit result }
 {
     match entered {
         Entered::Time {
@@ -76,6 +101,15 @@ pub(crate) fn outcome_of(scramble: Option<&[Move]>, entered: &Entered) -> Outcom
                 result: check(scramble, moves.as_slice()),
             },
             None => Outcome::Dnf,
+        },
+        Entered::Multi {
+            solved,
+            attempted,
+            seconds,
+        } => Outcome::Multi {
+            solved: *solved,
+            attempted: *attempted,
+            seconds: *seconds,
         },
         Entered::Dnf => Outcome::Dnf,
         Entered::Dns => Outcome::Dns,

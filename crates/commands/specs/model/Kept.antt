@@ -1,12 +1,12 @@
 -- A model of the code: what is kept beside the accepted commands, and how a command changes it.
-use Rattle.std.specs.Prelude.{is_some, true, false, ◌-◌, ◌<◌, ◌≤◌, length, slice_get, slice_index_or, slice_set, [], ◌++◌, map, if◌then◌else◌, ◌≡◌, ℕ, Bool, ◌==◌, ◌&&◌, List, find, bytes_eq, nat_eq, Option, None, Some}
+use Rattle.std.specs.Prelude.{is_some, IfSome, true, false, ◌-◌, ◌<◌, ◌≤◌, length, slice_get, slice_index_or, slice_set, [], ◌++◌, map, if◌then◌else◌, ◌≡◌, ℕ, Bool, ◌==◌, ◌&&◌, List, find, bytes_eq, nat_eq, Option, None, Some}
 use Rattle.std.specs.List.{list_any}
 use Rattle.std.specs.Option.{option_or, option_map, option_and_then}
 use Rattle.std.specs.HashMap.{get}
 use Rattle.std.specs.HashSet.{contains_by}
 use Rattle.cube.specs.declared.moves.Move.{Move}
 use Rattle.formats.specs.declared.events.Event.{Event}
-use Rattle.formats.specs.Events.{same_event}
+use Rattle.formats.specs.Events.{same_event, unit_of}
 use Rattle.texts.specs.declared.command.Command.{Command}
 use Rattle.texts.specs.declared.command.Command.TheVariants.{Register}
 use Rattle.texts.specs.declared.command.Entered.{Entered}
@@ -16,7 +16,7 @@ use Rattle.commands.specs.declared.competitors.Competitors.{Competitors}
 use Rattle.commands.specs.declared.index.Index.{Index}
 use Rattle.rounds.specs.Tables.{Entrant, Table, with_value, corrected, struck, closed, with_entrant}
 use Rattle.formats.specs.declared.advance.Advance.{Advance}
-use Rattle.commands.specs.Accepted.{name_given, name_of, scrambling, scramble_of, settled, round_of}
+use Rattle.commands.specs.Accepted.{name_given, name_of, scrambling, scramble_of, settled, round_of, edition_in}
 
 -- the name that the command at a place gives a number
 abbrev pub name_at : List Command → ℕ → ℕ → Option (List ℕ)
@@ -66,6 +66,11 @@ pub record IsIndexOf (cs : List Command) (index : Index) : Type 0 where
   pub competitors : AreCompetitors cs index.competitors
   pub rounds : AreRounds cs index.rounds.opened.items
 
+-- the accepted commands are indexed, and the edition is the one that holds
+pub record IsAccepted (cs : List Command) (kept : Index) (now : ℕ) : Type 0 where
+  pub index : IsIndexOf cs kept
+  pub edition : now ≡ edition_in cs
+
 -- the round at a place is the kept one of an event and a number
 pub record IsKeptAt (xs : List KeptRound) (e : Event) (r : ℕ) (i : ℕ) : Type 0 where
   pub within : i < length xs
@@ -109,6 +114,10 @@ newcomer n = record { number = n; values = [] }
 -- a table with more entrants, in order
 abbrev pub with_newcomers : Table → List ℕ → Table
 with_newcomers t ns = record t { entrants = t.entrants ++ map newcomer ns }
+
+-- the unit of a round, where it is there, is the event's
+abbrev pub HasUnit : Event → Option (Settings × Table) → Type 0
+HasUnit e round = IfSome round (λ x. x.1.unit ≡ unit_of e)
 
 -- one round is changed, and no other; no scramble is
 pub record ChangesRound (e : Event) (r : ℕ) (change : Settings × Table → Settings × Table)

@@ -3,6 +3,7 @@ use Rattle.attempts.specs.Attempts.{value_of}
 use Rattle.rounds.specs.Tables.{correct_fault}
 use Rattle.commands.specs.Accepted.{correct_code}
 use Rattle.commands.proofs.KeptLemmas.{round_changed_to, refused_unfit, answered_by_table, kept_is}
+use Rattle.commands.proofs.Units.{outcome_fits}
 use Rattle.commands.proofs.kept_rounds.KeptRounds.correct.Goals as goal
 
 pub returns-in-Some-refusal-clause-code : goal.returns-in-Some-refusal-clause-code
@@ -33,3 +34,12 @@ returns-in-Err-clause-code c =
     ∙ ap (value_of c.index_mut-kept.result.now.settings.limit) c.outcome_of.ensures.value))
     ∙ ap (option_map correct_code) c.in-Err.ensures.refused
     ∙ ap Some (sym c.correct_code.ensures))
+
+pub correct-requires : goal.correct-requires
+correct-requires c =
+    c.settle-value.ensures.in_range c.index_mut-kept.result.now.table.unit
+    (outcome_fits c.args.event _ c.args.entered.now _ _ _ c.requires.unit
+    (kept_is c.args.self.now.opened.items c.args.event c.args.round c.in-Some.place
+    c.index_mut-kept.result.now (rw c.deref.ensures.value at c.in-Some.ensures)
+    c.index_mut-kept.ensures.value)
+    c.in_default-refusal.ensures c.outcome_of.ensures.of_unit)

@@ -1,5 +1,6 @@
 use Rattle.std.proofs.Common.{refl, sym}
-use Rattle.commands.proofs.KeptLemmas.{round_changed_to, refused_unfit}
+use Rattle.commands.proofs.KeptLemmas.{round_changed_to, refused_unfit, kept_is}
+use Rattle.commands.proofs.Units.{outcome_fits}
 use Rattle.commands.proofs.kept_rounds.KeptRounds.put.Goals as goal
 
 pub returns-in-Some-refusal-clause-code : goal.returns-in-Some-refusal-clause-code
@@ -13,3 +14,12 @@ returns-in-Ok-clause-done c =
     c.index_mut-kept.result.now _ _ (rw c.deref.ensures.value at c.in-Some.ensures)
     c.index_mut-kept.ensures.value refl refl refl
     (rw (c.in-Ok.ensures.put, c.settle-value.ensures.value, c.outcome_of.ensures.value) refl)
+
+pub put-requires : goal.put-requires
+put-requires c =
+    c.settle-value.ensures.in_range c.index_mut-kept.result.now.table.unit
+    (outcome_fits c.args.event _ c.args.entered.now _ _ _ c.requires.unit
+    (kept_is c.args.self.now.opened.items c.args.event c.args.round c.in-Some.place
+    c.index_mut-kept.result.now (rw c.deref.ensures.value at c.in-Some.ensures)
+    c.index_mut-kept.ensures.value)
+    c.in_default-refusal.ensures c.outcome_of.ensures.of_unit)
