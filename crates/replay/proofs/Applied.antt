@@ -1,13 +1,13 @@
 -- A replay from line to line, and how it ends, in words on the whole input.
-use Rattle.std.proofs.Common.{◌≡◌, ℕ, ◌+◌, Bool, true, false, cond, List, [], ◌∷◌, ◌++◌, length, fold, unwrap_or, is_some, Option, None, Some, refl, sym, ap, ◌∙◌, append_assoc, append-nil, length-append, subst, add_comm, arith}
+use Rattle.std.proofs.Common.{◌≡◌, ℕ, ◌+◌, Bool, true, false, List, [], ◌∷◌, ◌++◌, length, fold, unwrap_or, is_some, Option, None, Some, refl, sym, ap, ◌∙◌, append_assoc, append-nil, length-append, subst, add_comm, arith}
 use Rattle.std.specs.Prelude.{Ok}
 use Rattle.std.proofs.KnownBytes.{Appends-trans, Appends-nil}
-use Rattle.std.specs.Io.KnownBytes.{Appends, Consumes, IsAtEnd}
+use Rattle.std.specs.Io.KnownBytes.{Appends}
 use Rattle.std.specs.List.{enumerate_from}
 use Rattle.commands.specs.History.{History, nothing, history, after, answer_to}
 use Rattle.lines.specs.Bytes.{Writes, AppendsPart, HasLeft}
-use Rattle.lines.specs.Lines.{whole_lines, lines_of, is_within, lines_read}
-use Rattle.lines.specs.Reading.{Reading, nothing_read, HasGiven, GivesLine, GivesNone, GivesFault, Gives, IsAbove, IsBroken}
+use Rattle.lines.specs.Lines.{lines_of, is_within, lines_read}
+use Rattle.lines.specs.Reading.{Reading, nothing_read, HasGiven, GivesLine, GivesFault, Gives}
 use Rattle.lines.specs.declared.fault.RunFault.{RunFault}
 use Rattle.lines.specs.declared.fault.RunFault.TheVariants as fault
 use Rattle.lines.proofs.Inputs.{given_of, left_of, left_is, has_read, has_all, part_front, part_after, nothing_written, whole_written, waits_more, all_out, part_out, still_waits, lines_above}

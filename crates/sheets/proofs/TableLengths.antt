@@ -5,7 +5,6 @@ use Rattle.std.proofs.lemmas.List.FromFn.{length-range_with_len}
 use Rattle.csv.specs.Writing.{default_writer, needs_quotes, escaped, quoted, field_text, fields_text, is_blank, row_text}
 use Rattle.attempts.specs.declared.Unit.{Unit as Measure}
 use Rattle.attempts.specs.declared.Value.{Value}
-use Rattle.attempts.specs.Attempts.{IsInRange}
 use Rattle.formats.specs.declared.events.Event.{Event}
 use Rattle.formats.specs.declared.results.Averaged.{Averaged}
 use Rattle.formats.specs.Events.{attempts_of, unit_of}
@@ -16,16 +15,14 @@ use Rattle.texts.specs.declared.command.Settings.{Settings}
 use Rattle.commands.specs.Accepted.{name_of}
 use Rattle.commands.proofs.Sizes.{IsSmall, IsSmallRound, IsSmallEntrant, standings_few}
 use Rattle.sheets.specs.Sheet.{attempt_text, best_text, is_marked, name_text, yes_or_no, header, entrant_fields, entrant_record, record_of, table_of_round}
-use Rattle.sheets.proofs.ShortTexts.{IsPlain, IsNoQuote, plain_decimal, plain_attempt, plain_best, plain_average}
+use Rattle.sheets.proofs.ShortTexts.{IsPlain, IsBare, IsSmallValue, plain_decimal, plain_attempt, plain_best, plain_average}
 use Rattle.sheets.proofs.Lengths.{append_short, each_short, IsShown, shown, place_small, name_given_short, at_most_five}
 
 -- Fields
 
-escaped_plain : (text : List ℕ) → AllByRecursion IsNoQuote text
-    → length (escaped default_writer text) ≡ length text
-unfolding escaped
-escaped_plain [] are = refl
-escaped_plain (b ∷ bytes) are = rw are.0 (ap (λ (n : ℕ). suc n) (escaped_plain bytes are.1))
+bare : (text : List ℕ) → AllByRecursion IsBare text → needs_quotes default_writer text ≡ false
+bare [] are = refl
+bare (b ∷ bytes) are = rw (are.0, bare bytes are.1) refl
 
 -- a quote mark between quotes is doubled
 escaped_short : (text : List ℕ) → length (escaped default_writer text) ≤ 2 * length text
@@ -40,13 +37,8 @@ escaped_short (b ∷ bytes) = step (b == 34) (escaped_short bytes)
     step false rest = omega (arith, rest)
 
 field_plain : (most : ℕ) (text : List ℕ) → IsPlain most text
-    → length (field_text default_writer text) ≤ most + 2
-field_plain most text is = step (needs_quotes default_writer text)
-  where
-    step : (b : Bool) → length (cond b (quoted default_writer text) text) ≤ most + 2
-    step true = let long = length-append (escaped default_writer text) (34 ∷ []) in let same =
-        escaped_plain text is.unquoted in let short = is.short in omega (arith, long, same, short)
-    step false = let short = is.short in omega (arith, short)
+    → length (field_text default_writer text) ≤ most
+field_plain most text is = rw (bare text is.unquoted) is.short
 
 field_short : (text : List ℕ) → length text ≤ 80 → length (field_text default_writer text) ≤ 162
 field_short text short = step (needs_quotes default_writer text)
@@ -94,23 +86,23 @@ unfolding fields_text
 none_left = omega arith
 
 abbrev IsColumn : (ℕ → List ℕ) → ℕ → Type 0
-IsColumn f k = IsPlain 11 (f k)
+IsColumn f k = IsPlain 15 (f k)
 
 -- a column for each of some numbers, and the last one
 columns_short : (f : ℕ → List ℕ) (last : List ℕ) (most : ℕ)
     → length (field_text default_writer last) ≤ most → (ks : List ℕ)
     → AllByRecursion (IsColumn f) ks
-    → length (fields_text default_writer (map f ks ++ last ∷ [])) ≤ 14 * length ks + (1 + most)
+    → length (fields_text default_writer (map f ks ++ last ∷ [])) ≤ 16 * length ks + (1 + most)
 columns_short f last most is [] are = let one =
     fields_short most 0 last [] is none_left in omega (arith, one)
 columns_short f last most is (k ∷ ks) are =
     let rest = columns_short f last most is ks are.1 in
     let more =
-    fields_short 13 (14 * length ks + (1 + most)) (f k) (map f ks ++ last ∷ [])
-    (field_plain 11 (f k) are.0) rest in
+    fields_short 15 (16 * length ks + (1 + most)) (f k) (map f ks ++ last ∷ [])
+    (field_plain 15 (f k) are.0) rest in
     omega (arith, more)
 
-each_column : (f : ℕ → List ℕ) → ((k : ℕ) → IsPlain 11 (f k)) → (ks : List ℕ)
+each_column : (f : ℕ → List ℕ) → ((k : ℕ) → IsPlain 15 (f k)) → (ks : List ℕ)
     → AllByRecursion (IsColumn f) ks
 each_column f each [] = tt
 each_column f each (k ∷ ks) = (each k, each_column f each ks)
@@ -118,36 +110,36 @@ each_column f each (k ∷ ks) = (each k, each_column f each ks)
 numbered_columns : (a n : ℕ) → a + n ≤ 10 → AllByRecursion (IsColumn decimal) (range_with_len a n)
 numbered_columns a zero few = tt
 numbered_columns a (suc n) few = (
-  plain_decimal 11 a (omega arith) (omega arith) (omega arith),
+  plain_decimal 15 a (omega arith) (omega arith) (omega arith),
   numbered_columns (a + 1) n (omega arith),
 )
 
 fields_of_short : (unit : Measure) (n at number : ℕ) (name : List ℕ) (average : Averaged)
     (vs : List Value) (marked : Bool) → n ≤ 5 → at ≤ 1000 → number ≤ 9999 → length name ≤ 80
-    → IsPlain 11 (average_text unit average) → AllByRecursion IsInRange vs
+    → IsPlain 15 (average_text unit average) → AllByRecursion IsSmallValue vs
     → length (row_text default_writer (entrant_fields unit n at number name average vs marked))
-    ≤ 283
+    ≤ 291
 fields_of_short unit n at number name average vs marked columns low small short is are =
     let all =
-    columns_short (attempt_text unit vs) (yes_or_no marked) 5 (field_plain 3 (yes_or_no marked)
+    columns_short (attempt_text unit vs) (yes_or_no marked) 3 (field_plain 3 (yes_or_no marked)
     (answer_plain marked)) (range_with_len 0 n) (each_column (attempt_text unit vs)
     (plain_attempt unit vs are) (range_with_len 0 n)) in
     let count = length-range_with_len 0 n in
     let last : length (fields_text default_writer (map (attempt_text unit vs) (range_with_len 0 n)
-    ++ yes_or_no marked ∷ [])) ≤ 76 = omega (arith, all, count, columns) in
-    row_short 6 274 (decimal at) _ (field_plain 4 (decimal at) (plain_decimal 4 at (omega arith)
+    ++ yes_or_no marked ∷ [])) ≤ 84 = omega (arith, all, count, columns) in
+    row_short 4 284 (decimal at) _ (field_plain 4 (decimal at) (plain_decimal 4 at (omega arith)
     (omega arith) (omega arith)))
-    (fields_short 6 267 (decimal number) _ (field_plain 4 (decimal number)
+    (fields_short 4 279 (decimal number) _ (field_plain 4 (decimal number)
     (plain_decimal 4 number (omega arith) (omega arith) (omega arith)))
-    (fields_short 162 104 name _ (field_short name short)
-    (fields_short 13 90 (average_text unit average) _
-    (field_plain 11 (average_text unit average) is)
-    (fields_short 13 76 (best_text unit vs) _ (field_plain 11 (best_text unit vs)
+    (fields_short 162 116 name _ (field_short name short)
+    (fields_short 15 100 (average_text unit average) _
+    (field_plain 15 (average_text unit average) is)
+    (fields_short 15 84 (best_text unit vs) _ (field_plain 15 (best_text unit vs)
     (plain_best unit vs are)) last))))
 
 record_short : (unit : Measure) (settings : Settings) (t : Table) (number : ℕ) (name : List ℕ)
     (e : Entrant) → length t.entrants ≤ 999 → length name ≤ 80 → IsShown number e
-    → length (entrant_record unit settings t number name e) ≤ 283
+    → length (entrant_record unit settings t number name e) ≤ 291
 unfolding entrant_record
 record_short unit settings t number name e few short is =
     fields_of_short unit (attempts_of settings.format) (place t e) number name
@@ -157,42 +149,42 @@ record_short unit settings t number name e few short is =
 
 record_of_short : (unit : Measure) (cs : List Command) (settings : Settings) (t : Table)
     → IsSmall cs → length t.entrants ≤ 999 → AllByRecursion IsSmallEntrant t.entrants → (n : ℕ)
-    → length (record_of unit cs settings t n) ≤ 283
+    → length (record_of unit cs settings t n) ≤ 291
 record_of_short unit cs settings t small few are n = step (entrant t n) (shown t are n)
   where
     step : (o : Option Entrant) → IfSome o (IsShown n)
         → length (unwrap_or (option_map (entrant_record unit settings t n (name_text cs n)) o) [])
-        ≤ 283
+        ≤ 291
     step None is = omega arith
     step (Some e) is =
         record_short unit settings t n (name_text cs n) e few (name_given_short (name_of cs n)
         (small.names n)) is
 
-header_short : (n : ℕ) → n ≤ 5 → length (row_text default_writer (header n)) ≤ 1050
+header_short : (n : ℕ) → n ≤ 5 → length (row_text default_writer (header n)) ≤ 1060
 header_short n few =
     let all =
     columns_short decimal (codes "advances") 162 (field_short (codes "advances") (omega arith))
     (range_with_len 1 n) (numbered_columns 1 n (omega arith)) in
     let count = length-range_with_len 1 n in
     let last : length (fields_text default_writer (map decimal (range_with_len 1 n)
-    ++ codes "advances" ∷ [])) ≤ 233 = omega (arith, all, count, few) in
-    row_short 162 885 (codes "place") _ (field_short (codes "place") (omega arith))
-    (fields_short 162 722 (codes "number") _ (field_short (codes "number") (omega arith))
-    (fields_short 162 559 (codes "name") _ (field_short (codes "name") (omega arith))
-    (fields_short 162 396 (codes "average") _ (field_short (codes "average") (omega arith))
-    (fields_short 162 233 (codes "best") _ (field_short (codes "best") (omega arith)) last))))
+    ++ codes "advances" ∷ [])) ≤ 243 = omega (arith, all, count, few) in
+    row_short 162 895 (codes "place") _ (field_short (codes "place") (omega arith))
+    (fields_short 162 732 (codes "number") _ (field_short (codes "number") (omega arith))
+    (fields_short 162 569 (codes "name") _ (field_short (codes "name") (omega arith))
+    (fields_short 162 406 (codes "average") _ (field_short (codes "average") (omega arith))
+    (fields_short 162 243 (codes "best") _ (field_short (codes "best") (omega arith)) last))))
 
 -- the table of a round
 pub table_short : (cs : List Command) (event : Event) (round : ℕ) (r : Settings × Table)
     → IsSmall cs → IsSmallRound round r → length (table_of_round cs event r) ≤ 299992
 table_short cs event round r small is =
     let records =
-    each_short 283 (record_of (unit_of event) cs r.0 r.1)
+    each_short 291 (record_of (unit_of event) cs r.0 r.1)
     (record_of_short (unit_of event) cs r.0 r.1 small is.few is.entrants) (standings r.1) in
     let count = standings_few r.1 in
     let few = is.few in
     let whole =
-    append_short 1050 282717 (row_text default_writer (header (attempts_of r.0.format)))
+    append_short 1060 290709 (row_text default_writer (header (attempts_of r.0.format)))
     (flat_map (record_of (unit_of event) cs r.0 r.1) (standings r.1))
     (header_short (attempts_of r.0.format) (at_most_five r.0.format)) (omega (
       arith,

@@ -4,8 +4,8 @@ use Rattle.std.specs.List.{AllByRecursion, range_with_len}
 use Rattle.std.proofs.lemmas.Fmt.{length-decimal-le}
 use Rattle.std.proofs.lemmas.List.FromFn.{length-range_with_len}
 use Rattle.attempts.specs.declared.Unit.{Unit as Measure}
+use Rattle.attempts.specs.declared.Unit.TheVariants.{Time, Moves, Multi}
 use Rattle.attempts.specs.declared.Value.{Value}
-use Rattle.attempts.specs.Attempts.{IsInRange}
 use Rattle.formats.specs.declared.events.Event.{Event}
 use Rattle.formats.specs.declared.events.Format.{Format}
 use Rattle.formats.specs.declared.results.Averaged.{Averaged}
@@ -18,8 +18,8 @@ use Rattle.commands.specs.Accepted.{name_of}
 use Rattle.texts.specs.Spelling.{IsFitSettings, cutoff_text, limit_text, advance_text}
 use Rattle.texts.proofs.FieldSpellings.{event_short, format_short, cutoff_short, limit_short, advance_short}
 use Rattle.commands.proofs.Sizes.{IsSmall, IsSmallRound, IsSmallEntrant, standings_few}
-use Rattle.sheets.specs.Sheet.{state_text, right, mark, title, standing, first_line, second_line, results, attempts, person, attempt_text, best_text, is_marked, name_text, entrant_line, line_of, text_of_round}
-use Rattle.sheets.proofs.ShortTexts.{IsPlain, plain_attempt, plain_best, plain_average}
+use Rattle.sheets.specs.Sheet.{state_text, right, columns, mark, title, standing, first_line, second_line, results, attempts, person, attempt_text, best_text, is_marked, name_text, entrant_line, line_of, text_of_round}
+use Rattle.sheets.proofs.ShortTexts.{IsPlain, IsSmallValue, plain_attempt, plain_best, plain_average}
 use Rattle.sheets.proofs.Lengths.{append_short, right_short, each_short, IsShown, shown, place_small, name_given_short, at_most_five}
 
 state_short : (closed : Bool) → length (state_text closed) ≤ 6
@@ -70,27 +70,35 @@ second_short settings fits =
     (advance_short settings.advance fits.2))
     (omega arith))
 
+narrow : (unit : Measure) → columns unit ≤ 15
+narrow Time = omega arith
+narrow Moves = omega arith
+narrow Multi = omega arith
+
 results_short : (unit : Measure) (at : ℕ) (average : Averaged) (vs : List Value) → at ≤ 1000
-    → IsPlain 11 (average_text unit average) → IsPlain 11 (best_text unit vs)
-    → length (results unit at average vs) ≤ 28
+    → IsPlain 15 (average_text unit average) → IsPlain 15 (best_text unit vs)
+    → length (results unit at average vs) ≤ 36
 results_short unit at average vs low is best =
-    append_short 17 11 (right 3 (decimal at) ++ codes " " ++ right 9 (average_text unit average)
-    ++ codes " ") (right 9 (best_text unit vs))
-    (append_short 16 1 (right 3 (decimal at) ++ codes " "
-    ++ right 9 (average_text unit average)) (codes " ")
-    (append_short 5 11 (right 3 (decimal at) ++ codes " ") (right 9 (average_text unit average))
+    append_short 21 15 (right 3 (decimal at) ++ codes " "
+    ++ right (columns unit) (average_text unit average) ++ codes " ")
+    (right (columns unit) (best_text unit vs))
+    (append_short 20 1 (right 3 (decimal at) ++ codes " "
+    ++ right (columns unit) (average_text unit average)) (codes " ")
+    (append_short 5 15 (right 3 (decimal at) ++ codes " ")
+    (right (columns unit) (average_text unit average))
     (append_short 4 1 (right 3 (decimal at)) (codes " ") (right_short 3 4 (decimal at) (omega arith)
     (length-decimal-le 4 at (omega arith) (omega arith) (omega arith))) (omega arith))
-    (right_short 9 11 (average_text unit average) (omega arith) is.short))
+    (right_short (columns unit) 15 (average_text unit average) (narrow unit) is.short))
     (omega arith))
-    (right_short 9 11 (best_text unit vs) (omega arith) best.short)
+    (right_short (columns unit) 15 (best_text unit vs) (narrow unit) best.short)
 
-attempts_short : (unit : Measure) (format : Format) (vs : List Value) → AllByRecursion IsInRange vs
-    → length (attempts unit (attempts_of format) vs) ≤ 60
+attempts_short : (unit : Measure) (format : Format) (vs : List Value)
+    → AllByRecursion IsSmallValue vs → length (attempts unit (attempts_of format) vs) ≤ 80
 attempts_short unit format vs are =
-    let all = each_short 12 (λ k. codes " " ++ right 9 (attempt_text unit vs k))
-    (λ k. append_short 1 11 (codes " ") (right 9 (attempt_text unit vs k)) (omega arith)
-    (right_short 9 11 (attempt_text unit vs k) (omega arith)
+    let all = each_short 16 (λ k. codes " " ++ right (columns unit) (attempt_text unit vs k))
+    (λ k. append_short 1 15 (codes " ") (right (columns unit) (attempt_text unit vs k))
+    (omega arith)
+    (right_short (columns unit) 15 (attempt_text unit vs k) (narrow unit)
     (plain_attempt unit vs are k).short))
     (range_with_len 0 (attempts_of format)) in
     let count = length-range_with_len 0 (attempts_of format) in
@@ -114,13 +122,13 @@ person_short number marked name low short =
 
 entrant_line_short : (unit : Measure) (settings : Settings) (t : Table) (number : ℕ) (name : List ℕ)
     (e : Entrant) → length t.entrants ≤ 999 → length name ≤ 80 → IsShown number e
-    → length (entrant_line unit settings t number name e) ≤ 177
+    → length (entrant_line unit settings t number name e) ≤ 205
 unfolding entrant_line
 entrant_line_short unit settings t number name e few short is =
-    append_short 88 89 (results unit (place t e) (average_of t.format t.unit e.values) e.values
+    append_short 116 89 (results unit (place t e) (average_of t.format t.unit e.values) e.values
     ++ attempts unit (attempts_of settings.format) e.values)
     (person number (is_marked settings t number) name)
-    (append_short 28 60 (results unit (place t e) (average_of t.format t.unit e.values) e.values)
+    (append_short 36 80 (results unit (place t e) (average_of t.format t.unit e.values) e.values)
     (attempts unit (attempts_of settings.format) e.values)
     (results_short unit (place t e) (average_of t.format t.unit e.values) e.values
     (place_small t few e) (plain_average unit t.format t.unit e.values is.parts.values)
@@ -130,12 +138,12 @@ entrant_line_short unit settings t number name e few short is =
 
 line_short : (unit : Measure) (cs : List Command) (settings : Settings) (t : Table) → IsSmall cs
     → length t.entrants ≤ 999 → AllByRecursion IsSmallEntrant t.entrants → (n : ℕ)
-    → length (line_of unit cs settings t n) ≤ 177
+    → length (line_of unit cs settings t n) ≤ 205
 line_short unit cs settings t small few are n = step (entrant t n) (shown t are n)
   where
     step : (o : Option Entrant) → IfSome o (IsShown n)
         → length (unwrap_or (option_map (entrant_line unit settings t n (name_text cs n)) o) [])
-        ≤ 177
+        ≤ 205
     step None is = omega arith
     step (Some e) is =
         entrant_line_short unit settings t n (name_text cs n) e few (name_given_short (name_of cs n)
@@ -147,7 +155,7 @@ pub text_short : (cs : List Command) (event : Event) (round position : ℕ) (r :
     → length (text_of_round cs event round position r) ≤ 299992
 text_short cs event round position r small is fits =
     let lines =
-    each_short 177 (line_of (unit_of event) cs r.0 r.1)
+    each_short 205 (line_of (unit_of event) cs r.0 r.1)
     (line_short (unit_of event) cs r.0 r.1 small is.few is.entrants) (standings r.1) in
     let count = standings_few r.1 in
     let few = is.few in
@@ -157,7 +165,7 @@ text_short cs event round position r small is fits =
     (title_short event round r.0.format is.last) (standing_short r.1.is_closed position fits))
     (second_short r.0 is.settings) in
     let whole =
-    append_short 461 176823 (first_line event round r.0 r.1.is_closed position
+    append_short 461 204795 (first_line event round r.0 r.1.is_closed position
     ++ second_line r.0) (flat_map (line_of (unit_of event) cs r.0 r.1) (standings r.1)) top
     (omega (arith, lines, count, few)) in
     omega (arith, whole)

@@ -1,3 +1,5 @@
+pub mod EditionLaw
+pub mod FirstEdition
 pub mod Sheet
 pub mod Faults
 pub mod FrameLaw

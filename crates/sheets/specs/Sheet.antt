@@ -6,6 +6,7 @@ use Rattle.std.specs.Option.{option_map}
 use Rattle.csv.specs.Writing.{row_text, default_writer}
 use Rattle.attempts.specs.declared.Value.{Value}
 use Rattle.attempts.specs.declared.Unit.{Unit as Measure}
+use Rattle.attempts.specs.declared.Unit.TheVariants.{Time, Moves, Multi}
 use Rattle.attempts.specs.Texts.{value_text}
 use Rattle.formats.specs.declared.events.Event.{Event}
 use Rattle.formats.specs.declared.events.Format.{Format}
@@ -75,16 +76,22 @@ second_line settings =
     ++ (codes " limit " ++ limit_text settings.limit)
     ++ (codes " advance " ++ advance_text settings.advance ++ codes "\n")
 
+-- how wide the columns of results are
+abbrev pub columns : Measure → ℕ
+columns Time = 9
+columns Moves = 9
+columns Multi = 11
+
 -- the line of an entrant: place, average and best; a column for each attempt of the format; number,
 -- mark and name
 abbrev pub results : Measure → ℕ → Averaged → List Value → List ℕ
 results unit place average vs =
-    right 3 (decimal place) ++ codes " " ++ right 9 (average_text unit average) ++ codes " "
-    ++ right 9 (best_text unit vs)
+    right 3 (decimal place) ++ codes " " ++ right (columns unit) (average_text unit average)
+    ++ codes " " ++ right (columns unit) (best_text unit vs)
 
 abbrev pub attempts : Measure → ℕ → List Value → List ℕ
 attempts unit n vs =
-    flat_map (λ k. codes " " ++ right 9 (attempt_text unit vs k)) (range_with_len 0 n)
+    flat_map (λ k. codes " " ++ right (columns unit) (attempt_text unit vs k)) (range_with_len 0 n)
 
 abbrev pub person : ℕ → Bool → List ℕ → List ℕ
 person number marked name =

@@ -4,7 +4,7 @@ ghost use Rattle.std.specs.Prelude.{◌≡◌, ◌++◌, IfOk, OnOk, IfErr, flat
 ghost use Rattle.advancement.specs.Advancing.{IsBorder};
 ghost use Rattle.formats.specs.Results.{best_of};
 ghost use Rattle.formats.specs.Events.{attempts_of, unit_of};
-ghost use Rattle.sheets.specs.Sheet.{right, mark, state_text, title, standing, first_line, second_line, results, attempts, person, line_of, text_of_round, text_sheet};
+ghost use Rattle.sheets.specs.Sheet.{right, columns, mark, state_text, title, standing, first_line, second_line, results, attempts, person, line_of, text_of_round, text_sheet};
 ghost use Rattle.sheets.specs.Faults.{NoSheet};
 
 use crate::SheetFault;
@@ -90,6 +90,16 @@ fn push_second_line(out: &mut Vec<u8>, alloc: Global, settings: Settings) -> Res
     out.extend_from_slice(b"\n")
 }
 
+/// How wide the columns of results are: a result of multi-blind takes eleven, as `11/13 58:20`.
+fn columns(unit: Unit) -> usize
+    ensures { result ≡ columns unit }
+{
+    match unit {
+        Unit::Time | Unit::Moves => 9,
+        Unit::Multi => 11,
+    }
+}
+
 /// Adds the place, the average and the best of an entrant.
 fn push_results(out: &mut Vec<u8>, alloc: Global, row: Row<'_>, unit: Unit) -> Result<(), NoMemory>
     requires { row.best ≡ best_of row.values.now }
@@ -101,16 +111,17 @@ fn push_results(out: &mut Vec<u8>, alloc: Global, row: Row<'_>, unit: Unit) -> R
     let best = best_text(alloc, row.values, row.best, unit)?;
     push_right(out, 3, &place)?;
     out.extend_from_slice(b" ")?;
-    push_right(out, 9, &average)?;
+    push_right(out, columns(unit), &average)?;
     out.extend_from_slice(b" ")?;
-    push_right(out, 9, &best)
+    push_right(out, columns(unit), &best)
 }
 
-fn push_attempt(out: &mut Vec<u8>, text: &[u8]) -> Result<(), NoMemory>
-    ensures { OnOk result (out.new.items ≡ out.old.items ++ (codes " " ++ right 9 text.now)) }
+fn push_attempt(out: &mut Vec<u8>, unit: Unit, text: &[u8]) -> Result<(), NoMemory>
+    ensures { OnOk result (out.new.items
+        ≡ out.old.items ++ (codes " " ++ right (columns unit) text.now)) }
 {
     out.extend_from_slice(b" ")?;
-    push_right(out, 9, text)
+    push_right(out, columns(unit), text)
 }
 
 /// Adds a column for each attempt of the format.
@@ -125,7 +136,7 @@ fn push_attempts(
 {
     for place in 0..count {
         let text = attempt_text(alloc, values, place as usize, unit)?;
-        push_attempt(out, &text)?;
+        push_attempt(out, unit, &text)?;
     }
     Ok(())
 }
@@ -236,7 +247,8 @@ fn text_of(alloc: Global, shown: Shown<'_>, round: u8, position: u32) -> Result<
 /// the position, which is printed as given. The second has the cutoff, the limit (hundredths of a
 /// second) and the advance. Then each entrant has a line, in order of place, and at one place in
 /// order of entry: place, average, best, each attempt of the format, number, mark and name. A value
-/// that is not there is `-`. The mark is `Q` once the round is closed and the competitor advances.
+/// that is not there is `-`. Results stand on the right of nine columns, and of eleven in
+/// multi-blind. The mark is `Q` once the round is closed and the competitor advances.
 ///
 /// # Errors
 ///

@@ -9,7 +9,7 @@ mod shown;
 
 pub use as_table::table;
 pub use as_text::text;
-pub use laws::fits_in_a_frame;
+pub use laws::{first_edition_sheets, fits_in_a_frame};
 pub use reading_back::table_reads_back;
 
 /// How a sheet is printed.
