@@ -17,16 +17,16 @@ use Rattle.cube.specs.declared.moves.Move.{Move}
 use Rattle.notation.specs.Tokens.{side_letter, axis_letter, stem, mark, token}
 use Rattle.notation.specs.Notation.{spelling as moves_text}
 use Rattle.formats.specs.declared.events.Event.{Event}
-use Rattle.formats.specs.declared.events.Event.TheVariants.{Cube3, Cube2, Cube4, Cube5, Cube6, Cube7, Blind3, FewestMoves, OneHanded, Clock, Megaminx, Pyraminx, Skewb, Square1, Blind4, Blind5}
+use Rattle.formats.specs.declared.events.Event.TheVariants.{Cube3, Cube2, Cube4, Cube5, Cube6, Cube7, Blind3, FewestMoves, OneHanded, Clock, Megaminx, Pyraminx, Skewb, Square1, Blind4, Blind5, MultiBlind}
 use Rattle.formats.specs.declared.events.Format.{Format}
 use Rattle.formats.specs.declared.events.Format.TheVariants.{Ao5, Mo3, Bo1, Bo2, Bo3}
 use Rattle.formats.specs.Events.{event_name, format_name}
 use Rattle.formats.specs.declared.advance.Advance.{Advance}
 use Rattle.formats.specs.declared.advance.Advance.TheVariants.{Final, Top, Percent}
 use Rattle.texts.specs.declared.command.Command.{Command}
-use Rattle.texts.specs.declared.command.Command.TheVariants.{Register, Open, Enter, Scramble, Attempt, Correct, Strike, SetAdvance, Close}
+use Rattle.texts.specs.declared.command.Command.TheVariants.{Register, Open, Enter, Scramble, Attempt, Correct, Strike, SetAdvance, Close, SetEdition}
 use Rattle.texts.specs.declared.command.Entered.{Entered}
-use Rattle.texts.specs.declared.command.Entered.TheVariants.{Time, Solution, Dnf, Dns}
+use Rattle.texts.specs.declared.command.Entered.TheVariants.{Time, Solution, Multi, Dnf, Dns}
 use Rattle.texts.specs.Spelling.{is_name_byte, is_name, IsFit, IsFitCutoff, IsFitLimit, IsFitAdvance, IsEntered, cutoff_text, limit_text, advance_text, entered_text, words_of, spelling}
 use Rattle.texts.specs.Reading.{SpellsWhatIsRead, command_of}
 use Rattle.texts.proofs.Cuts.{lacks, and-true}
@@ -125,6 +125,7 @@ event-lacks Skewb = refl
 event-lacks Square1 = refl
 event-lacks Blind4 = refl
 event-lacks Blind5 = refl
+event-lacks MultiBlind = refl
 
 format-lacks : (f : Format) → lacks 10 (format_name f) ≡ true
 format-lacks Ao5 = refl
@@ -163,6 +164,12 @@ entered-lacks (Time t p) fits =
     (number-lacks p (omega arith))
 entered-lacks (Solution moves) fits =
     both-lack (codes "S:") (moves_text moves) refl (moves-lack moves)
+entered-lacks (Multi s a t) fits =
+    both-lack ((codes "M:" ++ decimal s) ++ codes ":") (decimal a ++ codes ":" ++ decimal t)
+    (both-lack (codes "M:" ++ decimal s) (codes ":")
+    (both-lack (codes "M:") (decimal s) refl
+    (number-lacks s (omega (arith, fits.0.1, fits.1.1)))) refl)
+    (pair-lacks a t (omega (arith, fits.1.1)) (omega (arith, fits.2.1)))
 entered-lacks Dnf fits = refl
 entered-lacks Dns fits = refl
 
@@ -213,6 +220,7 @@ words-lack (Strike e r n) fits =
 words-lack (SetAdvance e r a) fits =
     rw (event-lacks e, number-lacks r (omega arith), advance-lacks a fits.1) refl
 words-lack (Close e r) fits = rw (event-lacks e, number-lacks r (omega arith)) refl
+words-lack (SetEdition e) fits = rw (number-lacks e (omega arith)) refl
 
 -- ---- lines
 
