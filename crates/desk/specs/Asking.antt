@@ -4,7 +4,7 @@ use Rattle.std.specs.Prelude.{◌≡◌, true, false, ℕ, List, codes, decimal,
 use Rattle.clap.specs.Words.{App, Row, Text, all_of, first_of, new_app, one_of, subcommand_of, with_rule, with_subcommand}
 use Rattle.clap.specs.declared.builder.value_parser.ValueParser.{ValueParser}
 use Rattle.formats.specs.declared.events.Event.{Event}
-use Rattle.formats.specs.Events.{event_named}
+use Rattle.formats.specs.Events.{event_named, event_of_name}
 use Rattle.sheets.specs.declared.Style.{Style}
 use Rattle.sheets.specs.declared.Style.TheVariants as printed
 use Rattle.wire.specs.declared.values.SheetStyle.{SheetStyle}
@@ -104,9 +104,10 @@ desk_words p =
 
 -- ---- what their values say
 
--- an event by its name, and a round as it prints in decimal
-pub record IsRound (rows : List Row) (event : Event) (round : ℕ) : Type 0 where
-  pub named : option_and_then event_named (first_of (codes "event") rows) ≡ Some event
+-- an event by its name among some, and a round as it prints in decimal
+pub record IsRound (named_by : Text → Option Event) (rows : List Row) (event : Event)
+    (round : ℕ) : Type 0 where
+  pub named : option_and_then named_by (first_of (codes "event") rows) ≡ Some event
   pub numbered : first_of (codes "round") rows ≡ Some (decimal round)
 
 -- whether `--csv` is there
@@ -126,7 +127,7 @@ IsRequest (request.Enter id text) name rows =
 IsRequest (request.Ask id) name rows =
     (name ≡ codes "ask") × IsId id × IsNumberAt (codes "id") rows id
 IsRequest (request.Sheet event round position style) name rows =
-    (name ≡ codes "sheet") × IsRound rows event round
+    (name ≡ codes "sheet") × IsRound event_named rows event round
     × IsNumberAt (codes "position") rows position × IsAsked rows style
 IsRequest request.Tick name rows = name ≡ codes "tick"
 IsRequest request.Stop name rows = name ≡ codes "stop"
@@ -164,7 +165,7 @@ pub record IsService (s : Service) (rows : List Row) : Type 0 where
 
 abbrev pub IsTask : Task → Text → List Row → Type 0
 IsTask (task.Replay event round style) name rows =
-    (name ≡ codes "replay") × IsRound rows event round × IsPrinted rows style
+    (name ≡ codes "replay") × IsRound event_of_name rows event round × IsPrinted rows style
 IsTask (task.Hall desks) name rows =
     (name ≡ codes "hall") × IsNumberAt (codes "desks") rows desks
 IsTask (task.Carry errand) name rows = IsErrand errand name rows

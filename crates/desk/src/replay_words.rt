@@ -3,7 +3,7 @@
 ghost use Rattle.std.specs.Prelude.{◌≡◌, true, false, codes, decimal, option_and_then, IfOk, IfSome, Option, Some};
 ghost use Rattle.clap.specs.Words.{first_of, found_of, rows_of, rule_of};
 ghost use Rattle.clap.specs.declared.builder.value_parser.ValueParser.{ValueParser};
-ghost use Rattle.formats.specs.Events.{event_named};
+ghost use Rattle.formats.specs.Events.{event_named, event_of_name};
 ghost use Rattle.desk.specs.Arguments.{IsCommand, value_rule};
 ghost use Rattle.desk.specs.Asking.{replay_words, IsTask};
 
@@ -15,10 +15,11 @@ use formats::Event;
 use sheets::Style;
 use std::alloc::{AllocError, Global};
 
-/// The events' names, as they are typed: those of [`Event::ALL`].
-static NAMES: [&str; 16] = [
+/// The events' names, as they are typed: those of [`Event::ALL`], of which [`Event::FIRST`] are the
+/// first sixteen.
+static NAMES: [&str; 17] = [
     "333", "222", "444", "555", "666", "777", "333bf", "333fm", "333oh", "clock", "minx", "pyram",
-    "skewb", "sq1", "444bf", "555bf",
+    "skewb", "sq1", "444bf", "555bf", "333mbf",
 ];
 
 /// The rounds' numbers, as they are typed.
@@ -32,15 +33,17 @@ Standard input has one command a line:
   REG 1 Ann Li                  registers competitor 1 under a name
   OPEN 333 1 ao5 - 60000 final  opens a round: event, round, format, cutoff (- or 2:1500, attempts
                                 and the value to be below), time limit in hundredths of a second
-                                (- in 333fm), who advances (final, top:8 or pct:75)
+                                (- in 333fm and 333mbf), who advances (final, top:8 or pct:75)
   ENT 333 1                     enters competitor 1 in round 1 of the event
   SCR 333fm 1 2 R' U' F         the scramble of attempt 2 of a fewest-moves round
   ATT 333 1 2 1 T:1200:0        attempt 2 of competitor 1 in round 1: 12.00 seconds, no penalty;
-                                or DNF, or DNS, or in 333fm S: and a solution
+                                or DNF, or DNS, or in 333fm S: and a solution, or in 333mbf
+                                M:11:13:3500, 11 cubes solved of 13 in 3,500 seconds
   COR 333 1 2 1 T:1300:0        corrects that attempt
   STR 333 1 1                   removes the last attempt of competitor 1
   ADV 333 1 top:8               changes who advances from round 1
   CLOSE 333 1                   closes round 1; the next round is then opened by OPEN
+  EDITION 2                     from here on 333mbf is an event
 
 At most 65,536 lines, 10,000 bytes a line and 39,387,136 bytes in all are read.
 
@@ -50,8 +53,8 @@ docs/FORMATS.md explains each CODE, the fields of the commands and the columns o
 Exit status: 0 the sheet was printed; 2 the words are not understood, or ask for help;
 3 no such round, or input too long; 4 cannot read, or cannot write; 5 no memory.";
 
-/// The value EVENT.
-pub fn event_value<'a>(alloc: Global) -> Arg<'a>
+/// The value EVENT: one of these names.
+fn name_value<'a>(alloc: Global, names: &'a [&'a str]) -> Arg<'a>
     ensures rule { (parser : Option ValueParser)
         × (rule_of result ≡ value_rule (codes "event") parser) }
     ensures local { result.global ≡ false }
@@ -61,8 +64,26 @@ pub fn event_value<'a>(alloc: Global) -> Arg<'a>
         "event",
         "EVENT",
         "The event",
-        ValueParser::from(NAMES.as_slice()),
+        ValueParser::from(names),
     )
+}
+
+/// The value EVENT: an event of any edition.
+pub fn event_value<'a>(alloc: Global) -> Arg<'a>
+    ensures rule { (parser : Option ValueParser)
+        × (rule_of result ≡ value_rule (codes "event") parser) }
+    ensures local { result.global ≡ false }
+{
+    name_value(alloc, &NAMES)
+}
+
+/// The value EVENT: an event of edition 1.
+pub fn first_event_value<'a>(alloc: Global) -> Arg<'a>
+    ensures rule { (parser : Option ValueParser)
+        × (rule_of result ≡ value_rule (codes "event") parser) }
+    ensures local { result.global ≡ false }
+{
+    name_value(alloc, &NAMES[..16])
 }
 
 /// The value ROUND.
@@ -106,10 +127,18 @@ fn round_of(number: &str) -> Option<u8>
 
 /// The value of EVENT.
 pub fn event_at(found: &ArgMatches<'_>) -> Option<Event>
-    ensures { IfSome result (λ event. option_and_then event_named
+    ensures { IfSome result (λ event. option_and_then event_of_name
         (first_of (codes "event") (rows_of (found_of found.now))) ≡ Some event) }
 {
     Event::from_name(text_at(found, "event")?.as_bytes())
+}
+
+/// The value of EVENT, an event of edition 1.
+pub fn first_event_at(found: &ArgMatches<'_>) -> Option<Event>
+    ensures { IfSome result (λ event. option_and_then event_named
+        (first_of (codes "event") (rows_of (found_of found.now))) ≡ Some event) }
+{
+    Event::from_first_name(text_at(found, "event")?.as_bytes())
 }
 
 /// The value of ROUND.
