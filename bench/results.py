@@ -18,7 +18,7 @@ import stickers
 
 EVENTS = ("Cube3", "Cube2", "Cube4", "Cube5", "Cube6", "Cube7", "Blind3", "FewestMoves",
           "OneHanded", "Clock",
-          "Megaminx", "Pyraminx", "Skewb", "Square1", "Blind4", "Blind5")
+          "Megaminx", "Pyraminx", "Skewb", "Square1", "Blind4", "Blind5", "MultiBlind")
 CODES = ("Unread", "Repeat", "UnknownCompetitor", "NameTaken", "RoundUnknown", "RoundOpen",
          "RoundsRule",
          "FormatNotAllowed", "CutoffNotAllowed", "LimitNotAllowed", "NoScramble", "ScrambleThere",
@@ -127,6 +127,18 @@ def solved_lines(text):
     return [value_text(moves if moves <= 80 else "DNF")]
 
 
+def multi_lines(text):
+    """Points are the solved less the unsolved; less than none, or fewer than two solved, is DNF.
+    More points are better, then a shorter time, then fewer unsolved: the value is less."""
+    solved, attempted, seconds = (int(field) for field in text.split())
+    unsolved = attempted - solved
+    points = solved - unsolved
+    if solved < 2 or points < 0:
+        return ["Dnf", "DNF"]
+    value = (99 - points) * 10_000_000 + 100 * seconds + unsolved
+    return [f"Number({value})", f"{solved}/{attempted} {seconds // 60}:{seconds % 60:02}"]
+
+
 def values_of(text):
     return [field if field in ("DNF", "DNS") else int(field) for field in text.decode().split()]
 
@@ -176,10 +188,10 @@ def better_lines(text):
 
 def event_lines(text):
     number = int(text)
-    if not 1 <= number <= 16:
+    if not 1 <= number <= len(rules.EVENTS):
         return ["no event"]
     name = rules.EVENTS[number - 1]
-    unit = "Moves" if name == "333fm" else "Time"
+    unit = {"333fm": "Moves", "333mbf": "Multi"}.get(name, "Time")
     formats = " ".join(form.capitalize() for form in FORMATS if form in rules.FORMATS[name])
     return [f"{number} {EVENTS[number - 1]} {name} {unit} {formats}"]
 
@@ -274,7 +286,8 @@ class Competition:
 
 PLAIN = {"moves": moves_lines, "cube": cube_lines, "opposites": opposites_lines,
          "solve": solve_lines,
-         "time": time_lines, "solved": solved_lines, "value": value_lines, "digits": digits_lines,
+         "time": time_lines, "solved": solved_lines, "multi": multi_lines, "value": value_lines,
+         "digits": digits_lines,
          "results": results_lines,
          "better": better_lines, "event": event_lines, "named": named_lines, "format": format_lines,
          "code": code_lines, "later": later_lines, "top": top_lines, "percent": percent_lines,

@@ -16,9 +16,11 @@ from stickers import TOKEN, fewest_moves
 
 TIMES = ("333", "222", "444", "555", "333oh", "clock", "minx", "pyram", "skewb", "sq1")
 MEANS = ("666", "777", "333fm")
-BLIND = ("333bf", "444bf", "555bf")
+BLIND = ("333bf", "444bf", "555bf", "333mbf")
 EVENTS = ("333", "222", "444", "555", "666", "777", "333bf", "333fm", "333oh", "clock", "minx",
-          "pyram", "skewb", "sq1", "444bf", "555bf")
+          "pyram", "skewb", "sq1", "444bf", "555bf", "333mbf")
+# what an event takes but for DNF and DNS: a time where nothing is said
+TAKES = {"333fm": "S", "333mbf": "M"}
 FORMATS = ({event: ("ao5", "bo1", "bo2", "bo3") for event in TIMES}
            | {event: ("mo3", "bo1", "bo2") for event in MEANS}
            | {event: ("bo1", "bo2", "bo3") for event in BLIND})
@@ -111,13 +113,20 @@ def moves(text):
 
 
 def outcome(text):
-    """('T', hundredths, penalties), ('S', tokens), ('DNF',) or ('DNS',), or None."""
+    """('T', hundredths, penalties), ('S', tokens), ('M', solved, attempted, seconds), ('DNF',)
+    or ('DNS',), or None."""
     if text in (b"DNF", b"DNS"):
         return (text.decode(),)
     if text.startswith(b"S:"):
         solution = moves(text[2:])
         return None if solution is None else ("S", solution)
     parts = text.split(b":")
+    if len(parts) == 4 and parts[0] == b"M":
+        attempted, seconds = number(parts[2], 2, 99), number(parts[3], 1, 5_999)
+        solved = None if attempted is None else number(parts[1], 0, attempted)
+        if solved is not None and seconds is not None:
+            return ("M", solved, attempted, seconds)
+        return None
     if len(parts) == 3 and parts[0] == b"T":
         hundredths, penalties = number(parts[1], 1, 999_999), number(parts[2], 0, 9)
         if hundredths is not None and penalties is not None:
@@ -139,6 +148,7 @@ WORDS = {
     b"STR": ([EVENT, ROUND, WHO], False),
     b"ADV": ([EVENT, ROUND, advance], False),
     b"CLOSE": ([EVENT, ROUND], False),
+    b"EDITION": ([in_range(2, 2)], False),
 }
 
 
@@ -155,7 +165,22 @@ def read(text):
     return None if None in values else (word.decode(), values)
 
 
+def edition_of(word, fields):
+    """The first edition that has the spelling."""
+    outcomes = [field for field in fields if isinstance(field, tuple) and field[0] == "M"]
+    return 2 if "333mbf" in fields or outcomes else 1
+
+
 # --- results -------------------------------------------------------------------------------------
+
+
+def multi(solved, attempted, seconds):
+    """Less for more points, then for a shorter time, then for fewer unsolved cubes."""
+    unsolved = attempted - solved
+    points = solved - unsolved
+    if points < 0 or solved < 2:
+        return "DNF"
+    return (99 - points) * 10_000_000 + 100 * seconds + unsolved
 
 
 def timed(hundredths, penalties, time_limit):
@@ -263,16 +288,22 @@ class Meet:
         self.taken = set()
         # (event, round) to Round
         self.rounds = {}
+        self.edition = 1
 
     def apply(self, text):
         """None where the command is done, otherwise the code of its refusal."""
         command = read(text)
-        if command is None:
+        if command is None or edition_of(*command) > self.edition:
             return "Unread"
         word, fields = command
         return {"REG": self.register, "OPEN": self.open, "ENT": self.enter, "SCR": self.scramble,
                 "ATT": self.attempt, "COR": self.correct, "STR": self.strike, "ADV": self.change,
-                "CLOSE": self.close}[word](*fields)
+                "CLOSE": self.close, "EDITION": self.set_edition}[word](*fields)
+
+    def set_edition(self, edition):
+        if edition <= self.edition:
+            return "Already"
+        self.edition = edition
 
     def register(self, who, text):
         if who in self.names:
@@ -290,9 +321,9 @@ class Meet:
             return "RoundUnknown"
         if form not in FORMATS[what]:
             return "FormatNotAllowed"
-        if cut != "-" and cut[0] >= ATTEMPTS[form]:
+        if cut != "-" and (what == "333mbf" or cut[0] >= ATTEMPTS[form]):
             return "CutoffNotAllowed"
-        if (time_limit == "-") != (what == "333fm"):
+        if (time_limit == "-") != (what in TAKES):
             return "LimitNotAllowed"
         entrants = before.advancing() if which > 1 else []
         self.rounds[what, which] = Round(what, form, cut, time_limit, wish, entrants)
@@ -332,7 +363,7 @@ class Meet:
         if (what, which) not in self.rounds:
             return "RoundUnknown"
         table = self.rounds[what, which]
-        if out[0] == ("T" if what == "333fm" else "S"):
+        if out[0] in "TSM" and out[0] != TAKES.get(what, "T"):
             return "WrongOutcome"
         if out[0] == "S" and count not in table.scrambles:
             return "NoScramble"
@@ -343,12 +374,15 @@ class Meet:
         return None
 
     def settle(self, what, which, count, out):
-        """The value of an attempt: a number of hundredths or of moves, 'DNF' or 'DNS'."""
+        """The value of an attempt: a number of hundredths, of moves or of multi-blind, 'DNF' or
+        'DNS'."""
         table = self.rounds[what, which]
         if out[0] == "T":
             return timed(out[1], out[2], table.limit)
         if out[0] == "S":
             return fewest_moves(table.scrambles[count], out[1])
+        if out[0] == "M":
+            return multi(*out[1:])
         return out[0]
 
     def attempt(self, what, which, count, who, out):
@@ -418,6 +452,11 @@ class Meet:
 def printed(value, what):
     if not isinstance(value, int) or what == "333fm":
         return str(value)
+    if what == "333mbf":
+        missing, rest = divmod(value, 10_000_000)
+        seconds, unsolved = divmod(rest, 100)
+        solved = 99 - missing + unsolved
+        return f"{solved}/{solved + unsolved} {seconds // 60}:{seconds % 60:02}"
     minutes, rest = divmod(value, 6_000)
     seconds, hundredths = divmod(rest, 100)
     if minutes:
@@ -456,7 +495,8 @@ def text_sheet(meet, what, which, position):
            f"cutoff {spelled(table.cutoff)} limit {spelled(table.limit)} "
            f"advance {spelled(table.advance)}\n".encode()]
     for place, who, shown, advances in rows(table):
-        columns = "".join(f" {text:>9}" for text in shown)
+        width = 11 if what == "333mbf" else 9
+        columns = "".join(f" {text:>{width}}" for text in shown)
         out.append(f"{place:>3}{columns} {who:>4} {'Q' if advances else '-'} ".encode()
                    + meet.names[who] + b"\n")
     return b"".join(out)

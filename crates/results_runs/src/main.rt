@@ -8,6 +8,7 @@
 //! - `solve SCRAMBLE/SOLUTION`: the result of a fewest-moves solution.
 //! - `time HUNDREDTHS PENALTIES LIMIT`, `solved MOVES LIMIT`: the value of an attempt; a limit of 0
 //!   is none.
+//! - `multi SOLVED ATTEMPTED SECONDS`: the value of a multi-blind attempt, and how it prints.
 //! - `value N`: how a value prints, in seconds and in moves. `digits N M`: N, and the last two
 //!   digits of M.
 //! - `results EVENT FORMAT VALUES`: best, average, and what ranks. `better EVENT FORMAT
@@ -42,6 +43,7 @@ fn run_plain(alloc: Global, out: &mut Vec<u8>, word: &str, rest: &str) -> io::Re
         "solve" => moving::show_solution(alloc, out, rest),
         "time" => results::show_time(out, rest),
         "solved" => results::show_solved(out, rest),
+        "multi" => results::show_multi(alloc, out, rest),
         "value" => results::show_value(alloc, out, rest),
         "digits" => results::show_digits(out, rest),
         "results" => results::show_results(alloc, out, rest),

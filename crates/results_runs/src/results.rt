@@ -1,12 +1,14 @@
 //! Values, bests and averages.
 
-use crate::fields::{cut, misspelt, number, push_line, small, value, values};
+use crate::fields::{count, cut, misspelt, number, push_line, small, value, values};
 use attempts::{
-    NoMemory, Outcome, Unit, Value, in_range, print_value, push_decimal, push_two_digits, settle,
+    NoMemory, Outcome, Unit, Value, in_range, in_range_of, print_value, push_decimal,
+    push_two_digits, settle,
 };
 use fmc_check::Fm;
 use formats::{
-    Averaged, Event, Format, RankKey, average, best, better, key, print_average, unit_of,
+    Averaged, Event, Format, RankKey, average, best, better, is_format_of, key, print_average,
+    unit_of,
 };
 use std::alloc::Global;
 use std::io;
@@ -41,6 +43,24 @@ pub fn show_solved(out: &mut Vec<u8>, rest: &str) -> io::Result<()> {
     writeln!(out, "{:?}", settled(number(moves), limit_of(number(limit))))
 }
 
+/// A result of multi-blind, with each field brought into its range.
+fn multi_of(rest: &str) -> Outcome {
+    let (solved, rest) = cut(rest, ' ');
+    let (attempted, seconds) = cut(rest, ' ');
+    let attempted = small(attempted).max(2).min(99);
+    Outcome::Multi {
+        solved: small(solved).min(attempted),
+        attempted,
+        seconds: count(seconds).max(1).min(5999),
+    }
+}
+
+pub fn show_multi(alloc: Global, out: &mut Vec<u8>, rest: &str) -> io::Result<()> {
+    let value = settle(multi_of(rest), None);
+    writeln!(out, "{value:?}")?;
+    push_line(out, &print_value(alloc, value, Unit::Multi)?)
+}
+
 pub fn show_value(alloc: Global, out: &mut Vec<u8>, rest: &str) -> io::Result<()> {
     let value = value(rest);
     if !in_range(value) {
@@ -66,9 +86,9 @@ fn event_and_format(rest: &str) -> Option<(Unit, Format, &str)> {
     Some((unit_of(event), format, rest))
 }
 
-/// The average and what ranks, where all values are in their range.
+/// The average and what ranks, where the unit has the format and all values are in its range.
 fn results_of(format: Format, unit: Unit, values: &[Value]) -> Option<(Averaged, RankKey)> {
-    if values.iter().all(|value| in_range(*value)) {
+    if is_format_of(unit, format) && values.iter().all(|value| in_range_of(*value, unit)) {
         Some((average(format, unit, values), key(format, unit, values)))
     } else {
         None
