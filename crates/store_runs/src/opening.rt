@@ -6,7 +6,7 @@ use crate::steps::{cut, misspelt, number, show_steps, small};
 use acceptor::stored::{Change, Stored};
 use learner::log::Log;
 use sqlite::{Alter, Connection};
-use std::alloc::Global;
+use std::alloc::{AllocError, Global};
 use std::io;
 use std::io::Write;
 use store::faults::OpenFault;
@@ -109,14 +109,6 @@ fn show_changed<S: Alter + Drop>(
     show_opened(alloc, out, conn, home, steps)
 }
 
-pub fn show_sql(alloc: Global, out: &mut Vec<u8>, rest: &str) -> io::Result<()> {
-    let (sql, rest) = cut(rest, '|');
-    match Connection::open_in_memory(alloc) {
-        Ok(conn) => show_changed(alloc, out, conn, sql, rest),
-        Err(_) => Err(misspelt()),
-    }
-}
-
 /// Makes a store with the five changes, and gives its connection.
 fn made<S: Alter + Drop>(alloc: Global, conn: Connection<S>) -> Result<Connection<S>, io::Error> {
     let mut said = Vec::new(alloc);
@@ -129,19 +121,22 @@ fn made<S: Alter + Drop>(alloc: Global, conn: Connection<S>) -> Result<Connectio
     }
 }
 
-fn show_spoilt_over<S: Alter + Drop>(
+/// Does SQL to a database, in which desk 1 of hall 7 made five changes first where it is spoilt.
+fn show_over<S: Alter + Drop>(
     alloc: Global,
     out: &mut Vec<u8>,
-    conn: Connection<S>,
+    opened: Result<Connection<S>, AllocError>,
+    word: &str,
     rest: &str,
 ) -> io::Result<()> {
     let (sql, rest) = cut(rest, '|');
-    show_changed(alloc, out, made(alloc, conn)?, sql, rest)
+    if word == "spoilt" {
+        return show_changed(alloc, out, made(alloc, opened?)?, sql, rest);
+    }
+    show_changed(alloc, out, opened?, sql, rest)
 }
 
-pub fn show_spoilt(alloc: Global, out: &mut Vec<u8>, rest: &str) -> io::Result<()> {
-    match Connection::open_in_memory(alloc) {
-        Ok(conn) => show_spoilt_over(alloc, out, conn, rest),
-        Err(_) => Err(misspelt()),
-    }
+/// Does what a line with this word asks of a database in memory.
+pub fn show_database(alloc: Global, out: &mut Vec<u8>, word: &str, rest: &str) -> io::Result<()> {
+    show_over(alloc, out, Connection::open_in_memory(alloc), word, rest)
 }

@@ -1,15 +1,29 @@
 //! Two files in memory, of which one fails from some call on.
 
-use sqlite::{Connection, FileStore, Files, Options};
+use sqlite::{FileStore, Files, Leftover, Options};
 use sqlite_disk::{Crash, Disk, Fuse, Memory};
 use std::alloc::Global;
 use std::io;
-use store::faults::OpenFault;
-use store::opening::open_fault;
 
 pub type Disks = Files<Fuse<Memory>>;
 
-pub type OnDisks = Connection<FileStore<Fuse<Memory>>>;
+/// What two such files are in, or what is left of them.
+pub trait IntoDisks: Drop {
+    /// The files, with no further call on them.
+    fn into_disks(self) -> Disks;
+}
+
+impl IntoDisks for FileStore<Fuse<Memory>> {
+    fn into_disks(self) -> Disks {
+        self.close()
+    }
+}
+
+impl IntoDisks for Leftover<Fuse<Memory>> {
+    fn into_disks(self) -> Disks {
+        self.into_files()
+    }
+}
 
 /// Which file fails.
 #[derive(Clone, Copy, PartialEq, Eq)]
@@ -62,20 +76,10 @@ pub fn after_stop(alloc: Global, mut disks: Disks, stop: Stop) -> io::Result<Dis
     })
 }
 
-/// Opens the files. The log is copied into the database once it has more than so many frames.
-pub fn connect(alloc: Global, disks: Disks, frames: usize) -> Result<OnDisks, (OpenFault, Disks)> {
-    if !disks.may_be_used() {
-        return Err((OpenFault::Damaged, disks));
-    }
+/// How the files are opened: the log is copied into the database once it has more than so many
+/// frames.
+pub fn copied_behind(frames: usize) -> Options {
     let mut options = Options::new(7);
     options.checkpoint_frames = frames;
-    match Connection::open_files(alloc, disks, options) {
-        Ok(conn) => Ok(conn),
-        Err((error, left)) => Err((open_fault(error), left.into_files())),
-    }
-}
-
-/// The files of a connection, with no further call on them.
-pub fn disks_of(conn: OnDisks) -> Disks {
-    conn.into_store().close()
+    options
 }

@@ -1,21 +1,22 @@
 //! Runs that are stopped at one call after the other.
 
 use crate::desks::{Others, astray, enter_again, have_agreed, run_from};
-use crate::disks::{Stop, Which, after_stop, connect, disks_of, new_disks};
+use crate::disks::{Disks, IntoDisks, Stop, Which, after_stop, copied_behind, new_disks};
 use crate::events::EVENTS;
 use crate::stored::{changes_in, is_after};
 use node::{Event, Node, NodeFault};
-use sqlite::{Alter, Connection};
+use sqlite::{Alter, Connection, Error};
 use std::alloc::Global;
 use std::io;
 use std::io::Write;
 use store::faults::{LoadFault, OpenFault};
 use store::keeper::Keeper;
+use store::opening::open_fault;
 use store::sql::SqlKeeper;
 
 /// What is tried.
 #[derive(Clone, Copy)]
-pub struct Trial {
+struct Trial {
     which: Which,
     stop: Stop,
     frames: usize,
@@ -23,7 +24,7 @@ pub struct Trial {
 
 /// What came of all runs of a trial.
 #[derive(Drop)]
-pub struct Told {
+struct Told {
     /// How many runs were stopped.
     stops: u32,
     /// Whether one was stopped while the desk was opened, and in each of the events.
@@ -45,7 +46,7 @@ enum Reached {
 }
 
 /// The trial of a line.
-pub fn trial_of(line: &str) -> Option<Trial> {
+fn trial_of(line: &str) -> Option<Trial> {
     let (file, rest) = line.split_once(' ')?;
     let (stop, frames) = rest.split_once(' ')?;
     let which = match file {
@@ -201,31 +202,82 @@ fn second_life<S: Alter + Drop>(
     }
 }
 
-/// One run, in which a file fails from this call on.
-fn run_once(alloc: Global, trial: Trial, calls: u64) -> io::Result<Reached> {
-    let mut others = Others::new(alloc)?;
-    let disks = new_disks(alloc, trial.which, calls);
-    let (reached, disks) = match connect(alloc, disks, trial.frames) {
+/// The desk's first life over what the files were opened as, and the files behind it.
+fn live_first<S: Alter + IntoDisks, L: IntoDisks>(
+    alloc: Global,
+    found: Result<Connection<S>, (Error, L)>,
+    others: &mut Others,
+) -> (io::Result<Reached>, Disks) {
+    match found {
         Ok(conn) => {
-            let (reached, conn) = first_life(alloc, conn, &mut others);
-            (reached, disks_of(conn))
+            let (reached, conn) = first_life(alloc, conn, others);
+            (reached, conn.into_store().into_disks())
         }
-        Err((fault, disks)) => (Ok(unopened(fault)), disks),
-    };
-    let disks = after_stop(alloc, disks, trial.stop)?;
-    let reached = reached?;
-    if let Reached::Otherwise(_) = reached {
-        return Ok(reached);
+        Err((error, left)) => (Ok(unopened(open_fault(error))), left.into_disks()),
     }
-    match connect(alloc, disks, trial.frames) {
-        Ok(conn) => second_life(alloc, conn, &mut others, reached),
+}
+
+/// The desk's second life over what the files were opened as.
+fn live_second<S: Alter + IntoDisks, L: IntoDisks>(
+    alloc: Global,
+    found: Result<Connection<S>, (Error, L)>,
+    others: &mut Others,
+    reached: Reached,
+) -> io::Result<Reached> {
+    match found {
+        Ok(conn) => second_life(alloc, conn, others, reached),
         Err(_) => Ok(Reached::Otherwise("the files are not opened again")),
     }
 }
 
+/// The desk's first life, and the files behind it, or its second one, up to which it came so far.
+fn live_over<S: Alter + IntoDisks, L: IntoDisks>(
+    alloc: Global,
+    found: Result<Connection<S>, (Error, L)>,
+    others: &mut Others,
+    so_far: Option<Reached>,
+) -> (io::Result<Reached>, Option<Disks>) {
+    match so_far {
+        Some(reached) => (live_second(alloc, found, others, reached), None),
+        None => {
+            let (reached, disks) = live_first(alloc, found, others);
+            (reached, Some(disks))
+        }
+    }
+}
+
+/// A life of the desk over its files, as above. This function alone opens them: each in which the
+/// type of a store stands takes the prover half a minute.
+fn run_over(
+    alloc: Global,
+    disks: Disks,
+    frames: usize,
+    others: &mut Others,
+    so_far: Option<Reached>,
+) -> (io::Result<Reached>, Option<Disks>) {
+    if !disks.may_be_used() {
+        return (Ok(Reached::Otherwise("the files may not be used")), None);
+    }
+    let found = Connection::open_files(alloc, disks, copied_behind(frames));
+    live_over(alloc, found, others, so_far)
+}
+
+/// One run, in which a file fails from this call on.
+fn run_once(alloc: Global, trial: Trial, calls: u64) -> io::Result<Reached> {
+    let mut others = Others::new(alloc)?;
+    let disks = new_disks(alloc, trial.which, calls);
+    let (reached, left) = run_over(alloc, disks, trial.frames, &mut others, None);
+    let reached = reached?;
+    let (Some(disks), false) = (left, matches!(reached, Reached::Otherwise(_))) else {
+        return Ok(reached);
+    };
+    let disks = after_stop(alloc, disks, trial.stop)?;
+    run_over(alloc, disks, trial.frames, &mut others, Some(reached)).0
+}
+
 /// Runs with the file failing from its first call on, then from its second on, until no run is
 /// stopped or one does otherwise than stated.
-pub fn run_trial(alloc: Global, trial: Trial) -> io::Result<Told> {
+fn run_trial(alloc: Global, trial: Trial) -> io::Result<Told> {
     let mut told = Told {
         stops: 0,
         stopped: [false; 15],
@@ -251,7 +303,7 @@ pub fn run_trial(alloc: Global, trial: Trial) -> io::Result<Told> {
 }
 
 /// Prints what came of a trial.
-pub fn show(out: &mut Vec<u8>, line: &str, told: &Told, is_counted: bool) -> io::Result<()> {
+fn show(out: &mut Vec<u8>, line: &str, told: &Told, is_counted: bool) -> io::Result<()> {
     write!(out, "{line}: stopped in")?;
     for (at, stopped) in told.stopped.iter().enumerate() {
         match (*stopped, at) {
@@ -267,4 +319,18 @@ pub fn show(out: &mut Vec<u8>, line: &str, told: &Told, is_counted: bool) -> io:
         write!(out, ", {} runs", told.stops)?;
     }
     writeln!(out, "")
+}
+
+/// Does the trial of a line, and prints what came of it. A line that has none is printed as it is.
+pub fn show_trial(
+    alloc: Global,
+    out: &mut Vec<u8>,
+    line: &str,
+    is_counted: bool,
+) -> io::Result<()> {
+    let Some(trial) = trial_of(line) else {
+        return writeln!(out, "{line}");
+    };
+    let told = run_trial(alloc, trial)?;
+    show(out, line, &told, is_counted)
 }
