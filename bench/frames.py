@@ -11,9 +11,10 @@ is printed as Rust's `Debug` does. Standard library only.
 import sys
 
 MOST = 300_000
+VERSIONS = {1: "One", 2: "Two"}
 EVENTS = ("Cube3", "Cube2", "Cube4", "Cube5", "Cube6", "Cube7", "Blind3", "FewestMoves",
           "OneHanded", "Clock",
-          "Megaminx", "Pyraminx", "Skewb", "Square1", "Blind4", "Blind5")
+          "Megaminx", "Pyraminx", "Skewb", "Square1", "Blind4", "Blind5", "MultiBlind")
 CODES = ("Unread", "Repeat", "UnknownCompetitor", "NameTaken", "RoundUnknown", "RoundOpen",
          "RoundsRule",
          "FormatNotAllowed", "CutoffNotAllowed", "LimitNotAllowed", "NoScramble", "ScrambleThere",
@@ -33,8 +34,8 @@ class Bad(Exception):
 class Fields:
     """The bytes behind a kind, taken from the left."""
 
-    def __init__(self, data):
-        self.data, self.at = data, 0
+    def __init__(self, data, version):
+        self.data, self.at, self.version = data, 0, version
 
     def number(self, size, low=0, high=None):
         part = self.data[self.at:self.at + size]
@@ -68,6 +69,15 @@ class Fields:
         which = self.id()
         return f"Entry {{ id: {which}, text: {self.bytes(self.number(2, 0, 600))} }}"
 
+    def decided(self):
+        """A position and the entries from there on: one, or in version 2 as many as a byte says."""
+        first = self.number(4, 0, 65_535)
+        count = self.number(1, 1, 16) if self.version == 2 else 1
+        entries = [self.entry() for _ in range(count)]
+        if first + count - 1 > 65_535:
+            raise Bad
+        return f"{first}, entries: Entries {{ items: [{', '.join(entries)}] }}"
+
     def vote(self):
         if self.number(1, 0, 1) == 0:
             return "None"
@@ -88,7 +98,7 @@ class Fields:
 
 
 def event(fields):
-    return fields.one_of(EVENTS, 1)
+    return fields.one_of(EVENTS[:16 if fields.version == 1 else 17], 1)
 
 
 def style(fields):
@@ -120,7 +130,7 @@ KINDS = {
     4: ("Accepted", [BALLOT, POSITION]),
     5: ("Nack", [BALLOT, POSITION, ("promised", Fields.ballot)]),
     6: ("Behind", [("len", length_of_log)]),
-    7: ("Decided", [POSITION, ENTRY]),
+    7: ("Decided", [("pos", Fields.decided)]),
     16: ("Submit", [ENTRY]),
     17: ("Ask", [ID]),
     18: ("Sheet", [("event", event), ("round", byte), ("position", any_position),
@@ -143,12 +153,12 @@ def goes(kind, sender, receiver):
 
 def frame(data):
     """The kind and the text of the frame behind a length, or the name of its fault."""
-    if data[0] != 1:
+    if data[0] not in VERSIONS:
         return "BadVersion"
     if data[7] not in KINDS:
         return "BadKind"
     name, wanted = KINDS[data[7]]
-    fields = Fields(data[8:])
+    fields = Fields(data[8:], data[0])
     try:
         values = [f"{field}: {taken(fields)}" for field, taken in wanted]
     except Bad:
@@ -157,7 +167,8 @@ def frame(data):
         return "BadBody"
     what = f"{name} {{ {', '.join(values)} }}" if values else name
     hall = int.from_bytes(data[1:5], "big")
-    return data[7], f"Frame {{ hall: {hall}, from: {data[5]}, to: {data[6]}, what: {what} }}"
+    said = f"hall: {hall}, from: {data[5]}, to: {data[6]}, what: {what}"
+    return data[7], f"Frame {{ version: {VERSIONS[data[0]]}, {said} }}"
 
 
 def stream(data):

@@ -9,13 +9,15 @@ use Rattle.wire.specs.declared.frame.What.{What}
 use Rattle.wire.specs.declared.frame.What.TheVariants as what
 use Rattle.wire.specs.declared.values.ClientRefusal.TheVariants.{Busy}
 use Rattle.wire.specs.declared.values.Standing.TheVariants.{Done}
+use Rattle.wire.specs.declared.values.Version.TheVariants.{One}
 use Rattle.batch.specs.declared.asking.Receiver.{Receiver}
 use Rattle.batch.specs.declared.fault.BatchFault.{BatchFault}
 use Rattle.batch.specs.declared.fault.BatchFault.TheVariants.{Asking}
 
--- a request goes from a client, which is 0, to the desk
+-- a request goes from a client, which is 0, to the desk, in version 1
 abbrev pub request_to : Receiver → What → Frame
-request_to r asked = record { hall = r.hall; from = 0; to = r.desk; what = asked }
+request_to r asked =
+    record { version = One; hall = r.hall; from = 0; to = r.desk; what = asked }
 
 -- the request that enters a text with an id
 abbrev pub submit_of : Receiver → ℕ → List ℕ → Frame

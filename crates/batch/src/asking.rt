@@ -10,7 +10,7 @@ use client::{ClientFault, exchange};
 use std::alloc::Global;
 use std::io;
 use std::io::ErrorKind;
-use wire::{Frame, What};
+use wire::{Frame, Version, What};
 
 /// A desk that commands are entered at.
 #[derive(Clone, Copy, Debug)]
@@ -21,11 +21,12 @@ pub struct Receiver {
     pub desk: u8,
 }
 
-/// The request of a client, which is 0, to a desk.
+/// The request of a client, which is 0, to a desk, in version 1 of the wire.
 pub(crate) fn request_to(receiver: Receiver, what: What) -> Frame
     ensures { result ≡ request_to receiver what }
 {
     Frame {
+        version: Version::One,
         hall: receiver.hall,
         from: 0,
         to: receiver.desk,

@@ -1,13 +1,14 @@
 -- The fields of each kind: what is read is spelled so and in its ranges, and what is spelled so is
 -- read.
-use Rattle.std.proofs.Common.{◌≡◌, ℕ, zero, suc, ◌^◌, ◌<◌, ◌≤◌, Bool, true, false, cond, eqb, List, [], ◌∷◌, ◌++◌, Some, refl, ap, subst, arith}
+use Rattle.std.proofs.Common.{◌≡◌, ℕ, zero, suc, ◌^◌, ◌<◌, ◌≤◌, Bool, true, false, cond, eqb, leb, List, [], ◌∷◌, ◌++◌, Some, None, refl, ap, subst, arith}
+use Rattle.std.proofs.lemmas.Bool.{leb-true, le-leb}
 use Rattle.std.specs.Prelude.{find, map}
 use Rattle.std.specs.Option.{option_map}
 use Rattle.std.specs.Int.{w32, w64, to_be_bytes}
 use Rattle.texts.specs.Codes.{code_number}
 use Rattle.formats.specs.declared.events.Event.{Event}
-use Rattle.formats.specs.declared.events.Event.TheVariants.{Cube3, Cube2, Cube4, Cube5, Cube6, Cube7, Blind3, FewestMoves, OneHanded, Clock, Megaminx, Pyraminx, Skewb, Square1, Blind4, Blind5}
-use Rattle.formats.specs.Events.{events, event_number}
+use Rattle.formats.specs.declared.events.Event.TheVariants.{Cube3, Cube2, Cube4, Cube5, Cube6, Cube7, Blind3, FewestMoves, OneHanded, Clock, Megaminx, Pyraminx, Skewb, Square1, Blind4, Blind5, MultiBlind}
+use Rattle.formats.specs.Events.{all_events, event_number}
 use Rattle.texts.specs.declared.answer.Answer.{Answer}
 use Rattle.texts.specs.declared.answer.Answer.TheVariants as answer
 use Rattle.texts.specs.declared.answer.Code.{Code}
@@ -19,11 +20,12 @@ use Rattle.wire.specs.declared.values.Standing.TheVariants.{Unknown, Pending, Do
 use Rattle.wire.specs.declared.values.SheetStyle.{SheetStyle}
 use Rattle.wire.specs.declared.values.SheetStyle.TheVariants.{Text, Table}
 use Rattle.wire.specs.Fields.{byte_at, number_at, two, numbered}
-use Rattle.wire.specs.Numbers.{answers, answer_number, refusals, refusal_number, styles, style_number}
-use Rattle.wire.specs.Ranges.{IsBallot, IsPosition, IsId, IsEntry, IsReport, IsStanding}
-use Rattle.wire.specs.Reading.{ballot_at, limited_at, position_at, id_at, entry_at, report_at, member_at, standing_at}
+use Rattle.wire.specs.declared.values.Version.{Version}
+use Rattle.wire.specs.Numbers.{last_event, answers, answer_number, refusals, refusal_number, styles, style_number}
+use Rattle.wire.specs.Ranges.{IsBallot, IsPosition, IsId, IsEntry, IsReport, IsStanding, IsEventOf}
+use Rattle.wire.specs.Reading.{ballot_at, limited_at, position_at, id_at, entry_at, report_at, member_at, event_at, standing_at}
 use Rattle.wire.specs.Spelling.{ballot_bytes, entry_bytes, report_bytes, standing_bytes}
-use Rattle.wire.proofs.Taking.{IsBytes, IsBytes-rest, bind_some, some_is, Takes, wide32, number_takes, number_again, byte_takes}
+use Rattle.wire.proofs.Taking.{IsBytes, IsBytes-rest, bind_some, passed, some_is, Takes, wide32, number_takes, number_again, byte_takes}
 use Rattle.wire.proofs.FieldLaws.{ballot_takes, ballot_again, limited_takes, limited_again, id_takes, id_again, entry_takes, entry_again, report_takes, report_again}
 use Rattle.wire.proofs.Sequences.{IsField, two_fields, member_field}
 
@@ -68,7 +70,7 @@ report_field = record { takes = report_takes; again = report_again }
 
 -- ---- members of lists
 
-event_found : (x : Event) → numbered event_number events (event_number x) ≡ Some x
+event_found : (x : Event) → numbered event_number all_events (event_number x) ≡ Some x
 event_found Cube3 = refl
 event_found Cube2 = refl
 event_found Cube4 = refl
@@ -85,10 +87,26 @@ event_found Skewb = refl
 event_found Square1 = refl
 event_found Blind4 = refl
 event_found Blind5 = refl
+event_found MultiBlind = refl
 
-pub event_field : IsField (λ (x : Event). event_number x ∷ []) (λ (x : Event). Unit {0})
-    (member_at event_number events)
-event_field = member_field event_number events event_found
+any_event_field : IsField (λ (x : Event). event_number x ∷ []) (λ (x : Event). Unit {0})
+    (member_at event_number all_events)
+any_event_field = member_field event_number all_events event_found
+
+-- an event of a version
+pub event_field : (v : Version) → IsField (λ (x : Event). event_number x ∷ []) (IsEventOf v)
+    (event_at v)
+unfolding event_at
+event_field v = record {
+  takes = λ bytes x fits e.
+      let a = bind_some (member_at event_number all_events bytes)
+      (λ n. cond (leb (event_number n.0) (last_event v)) (Some n) None) x e in
+      let b = passed (leb (event_number a.0.0) (last_event v)) a.0 x a.2 in
+      let t = any_event_field.takes bytes a.0 fits a.1 in
+      subst (λ (y : Event × List ℕ). Takes bytes (event_number y.0 ∷ []) y.1 × IsEventOf v y.0) b.1
+      (t.0, leb-true _ _ b.0);
+  again = λ x rest fits. rw (any_event_field.again x rest tt, le-leb _ _ fits) refl;
+}
 
 style_found : (x : SheetStyle) → numbered style_number styles (style_number x) ≡ Some x
 style_found Text = refl

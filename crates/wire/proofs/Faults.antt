@@ -1,15 +1,19 @@
 -- Which fault stands at the front of bytes.
-use Rattle.std.proofs.Common.{◌≡◌, ℕ, ◌+◌, ◌<◌, ◌≤◌, Bool, true, false, cond, ltb, eqb, not, List, [], ◌∷◌, length, get_or, take, drop, Option, Some, None, Result, Ok, Err, refl, sym, ap, subst, ◌∙◌, arith}
+use Rattle.std.proofs.Common.{◌≡◌, ℕ, ◌+◌, ◌<◌, ◌≤◌, Bool, true, false, cond, ltb, not, List, [], ◌∷◌, length, get_or, take, drop, Option, Some, None, Result, Ok, Err, refl, sym, ap, subst, ◌∙◌, arith, inl, inr}
 use Rattle.std.specs.Int.{w32, from_be_bytes}
-use Rattle.std.proofs.lemmas.Bool.{ltb-true, ltb-false, eqb-true, eqb-false}
+use Rattle.std.proofs.lemmas.Bool.{ltb-true, ltb-false}
 use Rattle.std.proofs.lemmas.List.{length-drop, length-take, get_or-take, get_or-drop}
 use Rattle.wire.specs.declared.fault.WireFault.{WireFault}
 use Rattle.wire.specs.declared.fault.WireFault.TheVariants.{BadLength, BadVersion, BadKind, BadBody, NoMemory}
 use Rattle.wire.specs.declared.frame.Frame.{Frame}
 use Rattle.wire.specs.declared.frame.What.{What}
-use Rattle.wire.specs.Laws.{AreBytes, length_at, IsLength, IsWhole, BeginsWithFrame, IsFirstFault, IsFaultWhereFirst}
+use Rattle.wire.specs.declared.values.Version.{Version}
+use Rattle.wire.specs.declared.values.Version.TheVariants.{One, Two}
+use Rattle.wire.specs.Numbers.{versions, version_number}
+use Rattle.wire.proofs.Sequences.{numbered_is}
+use Rattle.wire.specs.Laws.{AreBytes, IsVersion, length_at, IsLength, IsWhole, BeginsWithFrame, IsFirstFault, IsFaultWhereFirst}
 use Rattle.wire.specs.Ranges.{way_of}
-use Rattle.wire.specs.Reading.{between, what_of, is_kind, goes, frame_from, frame_of}
+use Rattle.wire.specs.Reading.{between, what_of, is_kind, goes, frame_from, frame_in, version_of, frame_of}
 use Rattle.wire.specs.Stream.{Front, Waits, Begins, Breaks, by_frame, by_length, front}
 use Rattle.wire.proofs.FieldLaws.{between_is, between_holds}
 use Rattle.wire.proofs.Streams.{front_takes, front_again}
@@ -17,33 +21,47 @@ use Rattle.wire.proofs.Streams.{front_takes, front_again}
 -- ---- the bytes behind a length: the version and the kind that a fault, or a frame, shows
 
 abbrev Shows : Result Frame WireFault → ℕ → ℕ → Type 0
-Shows (Ok f) version kind = (version ≡ 1) × (is_kind kind ≡ true)
+Shows (Ok f) version kind = IsVersion version × (is_kind kind ≡ true)
 Shows (Err BadLength) version kind = ⊥
-Shows (Err BadVersion) version kind = version ≡ 1 → ⊥
-Shows (Err BadKind) version kind = (version ≡ 1) × (is_kind kind ≡ false)
-Shows (Err BadBody) version kind = (version ≡ 1) × (is_kind kind ≡ true)
+Shows (Err BadVersion) version kind = IsVersion version → ⊥
+Shows (Err BadKind) version kind = IsVersion version × (is_kind kind ≡ false)
+Shows (Err BadBody) version kind = IsVersion version × (is_kind kind ≡ true)
 Shows (Err NoMemory) version kind = ⊥
 
-from_shows : (hall from to version kind : ℕ) (o : Option What) → version ≡ 1 → is_kind kind ≡ true
-    → Shows (frame_from hall from to o) version kind
-from_shows hall from to version kind None v k = (v, k)
-from_shows hall from to version kind (Some w) v k = go (goes (way_of w) from to) where
-  go : (b : Bool) → Shows (cond b (Ok (record { hall = hall; from = from; to = to; what = w }))
+from_shows : (v : Version) (hall from to version kind : ℕ) (o : Option What) → IsVersion version
+    → is_kind kind ≡ true → Shows (frame_from v hall from to o) version kind
+from_shows v hall from to version kind None is k = (is, k)
+from_shows v hall from to version kind (Some w) is k = go (goes (way_of w) from to) where
+  go : (b : Bool) → Shows (cond b
+      (Ok (record { version = v; hall = hall; from = from; to = to; what = w }))
       (Err BadBody)) version kind
-  go true = (v, k)
-  go false = (v, k)
+  go true = (is, k)
+  go false = (is, k)
 
-kind_shows : (version kind : ℕ) (r : Result Frame WireFault) → version ≡ 1
+kind_shows : (version kind : ℕ) (r : Result Frame WireFault) → IsVersion version
     → (is_kind kind ≡ true → Shows r version kind) → (b : Bool) → is_kind kind ≡ b
     → Shows (cond (not b) (Err BadKind) r) version kind
 kind_shows version kind r v later true e = later e
 kind_shows version kind r v later false e = (v, e)
 
-version_shows : (version kind : ℕ) (r : Result Frame WireFault)
-    → (version ≡ 1 → Shows r version kind) → (b : Bool) → eqb version 1 ≡ b
-    → Shows (cond (not b) (Err BadVersion) r) version kind
-version_shows version kind r later true e = later (eqb-true _ _ e)
-version_shows version kind r later false e = eqb-false _ _ e
+-- a number that is that of a version is 1 or 2
+is_version : (n : ℕ) (v : Version) → version_of n ≡ Some v → IsVersion n
+is_version n One e = inl (sym (numbered_is version_number versions n One e))
+is_version n Two e = inr (sym (numbered_is version_number versions n Two e))
+
+no_version : (n : ℕ) → version_of n ≡ None → IsVersion n → ⊥
+no_version n e (inl one) = let bad : Some One ≡ None =
+    subst (λ (k : ℕ). version_of k ≡ None) one e in absurd cc
+no_version n e (inr two) = let bad : Some Two ≡ None =
+    subst (λ (k : ℕ). version_of k ≡ None) two e in absurd cc
+
+version_shows : (o : Option Version) (version hall from to kind : ℕ) (bytes : List ℕ)
+    → version_of version ≡ o → Shows (frame_in o hall from to kind bytes) version kind
+version_shows None version hall from to kind bytes is = no_version version is
+version_shows (Some v) version hall from to kind bytes is =
+    let known = is_version version v is in
+    kind_shows version kind (frame_from v hall from to (what_of v kind bytes)) known
+    (from_shows v hall from to version kind (what_of v kind bytes) known) (is_kind kind) refl
 
 frame_shows : (bytes : List ℕ) → 8 ≤ length bytes → Shows (frame_of bytes) (get_or bytes 0 0)
     (get_or bytes 7 0)
@@ -57,25 +75,21 @@ frame_shows (version ∷ a ∷ b ∷ c ∷ d ∷ []) le = absurd (omega (arith, 
 frame_shows (version ∷ a ∷ b ∷ c ∷ d ∷ from ∷ []) le = absurd (omega (arith, le))
 frame_shows (version ∷ a ∷ b ∷ c ∷ d ∷ from ∷ to ∷ []) le = absurd (omega (arith, le))
 frame_shows (version ∷ a ∷ b ∷ c ∷ d ∷ from ∷ to ∷ kind ∷ bytes) le =
-    version_shows version kind (cond (not (is_kind kind)) (Err BadKind)
-    (frame_from (from_be_bytes w32 (a ∷ b ∷ c ∷ d ∷ [])) from to (what_of kind bytes)))
-    (λ v. kind_shows version kind (frame_from (from_be_bytes w32 (a ∷ b ∷ c ∷ d ∷ [])) from to
-    (what_of kind bytes)) v (from_shows (from_be_bytes w32 (a ∷ b ∷ c ∷ d ∷ [])) from to version
-    kind (what_of kind bytes) v) (is_kind kind) refl)
-    (eqb version 1) refl
+    version_shows (version_of version) version (from_be_bytes w32 (a ∷ b ∷ c ∷ d ∷ [])) from to
+    kind bytes refl
 
 -- ---- what the front says of bytes
 
 abbrev pub Tells : Front → List ℕ → Type 0
 Tells Waits bytes = (4 ≤ length bytes → IsLength (length_at bytes)
     × (length bytes < 4 + length_at bytes))
-Tells (Begins f rest) bytes = IsWhole bytes × (get_or bytes 4 0 ≡ 1)
+Tells (Begins f rest) bytes = IsWhole bytes × IsVersion (get_or bytes 4 0)
     × (is_kind (get_or bytes 11 0) ≡ true)
 Tells (Breaks BadLength) bytes = (4 ≤ length bytes) × (IsLength (length_at bytes) → ⊥)
-Tells (Breaks BadVersion) bytes = IsWhole bytes × (get_or bytes 4 0 ≡ 1 → ⊥)
-Tells (Breaks BadKind) bytes = IsWhole bytes × (get_or bytes 4 0 ≡ 1)
+Tells (Breaks BadVersion) bytes = IsWhole bytes × (IsVersion (get_or bytes 4 0) → ⊥)
+Tells (Breaks BadKind) bytes = IsWhole bytes × IsVersion (get_or bytes 4 0)
     × (is_kind (get_or bytes 11 0) ≡ false)
-Tells (Breaks BadBody) bytes = IsWhole bytes × (get_or bytes 4 0 ≡ 1)
+Tells (Breaks BadBody) bytes = IsWhole bytes × IsVersion (get_or bytes 4 0)
     × (is_kind (get_or bytes 11 0) ≡ true)
 Tells (Breaks NoMemory) bytes = ⊥
 

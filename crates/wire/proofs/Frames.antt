@@ -1,29 +1,31 @@
 -- What is read as a frame is spelled so, and what is spelled so is read.
-use Rattle.std.proofs.Common.{◌≡◌, ℕ, ◌^◌, ◌<◌, List, [], ◌∷◌, ◌++◌, Option, Some, refl, subst, arith}
+use Rattle.std.proofs.Common.{◌≡◌, ℕ, ◌^◌, ◌<◌, List, [], ◌∷◌, ◌++◌, Option, Some, refl, sym, subst, arith}
 use Rattle.std.specs.Int.{w32}
 use Rattle.acceptor.specs.declared.ballot.Ballot.{Ballot}
 use Rattle.acceptor.specs.declared.entry.Entry.{Entry}
 use Rattle.acceptor.specs.declared.message.Report.{Report}
 use Rattle.formats.specs.declared.events.Event.{Event}
-use Rattle.formats.specs.Events.{events, event_number}
+use Rattle.formats.specs.Events.{event_number}
 use Rattle.wire.specs.declared.values.Standing.{Standing}
 use Rattle.wire.specs.declared.values.SheetStyle.{SheetStyle}
+use Rattle.wire.specs.declared.values.Version.{Version}
 use Rattle.wire.specs.declared.frame.What.{What}
 use Rattle.wire.specs.declared.frame.What.TheVariants.{Prepare, Promise, Accept, Accepted, Nack, Behind, Decided, Submit, Ask, Sheet, Tick, Stop, Taken, Told, SheetText, Refused, Fine}
 use Rattle.wire.specs.Fields.{byte_at, number_at, two, all_of}
 use Rattle.wire.specs.Numbers.{refusals, refusal_number, styles, style_number}
-use Rattle.wire.specs.Ranges.{IsBallot, IsPosition, IsId, IsEntry, IsReport, IsStanding, IsBody}
-use Rattle.wire.specs.Reading.{ballot_at, limited_at, position_at, id_at, entry_at, report_at, member_at, standing_at, prepare_of, promise_of, accept_of, accepted_of, nack_of, behind_of, decided_of, submit_of, ask_of, sheet_of, taken_of, told_of, refused_of, what_of}
+use Rattle.wire.specs.Ranges.{IsBallot, IsPosition, IsId, IsEntry, IsReport, IsStanding, IsEventOf, IsBody}
+use Rattle.wire.specs.Reading.{ballot_at, limited_at, position_at, id_at, entry_at, report_at, member_at, event_at, standing_at, prepare_of, promise_of, accept_of, accepted_of, nack_of, behind_of, decided_of, submit_of, ask_of, sheet_of, taken_of, told_of, refused_of, what_of}
 use Rattle.wire.specs.Spelling.{ballot_bytes, entry_bytes, report_bytes, standing_bytes, kind_of, body}
 use Rattle.wire.proofs.Taking.{IsBytes, bind_some, some_is}
 use Rattle.wire.proofs.Sequences.{IsField, two_fields, all_takes, all_again}
+use Rattle.wire.proofs.Runs.{run_takes, run_again}
 use Rattle.wire.proofs.Bodies.{u32, u64, ballot_field, limited_field, position_field, any_field, byte_field, id_field, entry_field, report_field, event_field, style_field, refusal_field, standing_field}
 
--- the bytes are the fields of this kind
-pub record IsWhat (kind : ℕ) (bytes : List ℕ) (w : What) : Type 0 where
+-- the bytes are the fields of this kind, in this version
+pub record IsWhat (v : Version) (kind : ℕ) (bytes : List ℕ) (w : What) : Type 0 where
   pub number : kind_of w ≡ kind
-  pub spelled : bytes ≡ body w
-  pub fits : IsBody w
+  pub spelled : bytes ≡ body v w
+  pub fits : IsBody v w
 
 -- ---- the fields of each kind, as one field
 
@@ -89,157 +91,157 @@ rps_field = two_fields (λ (b : ℕ). b ∷ []) (λ (b : ℕ). b < 256) byte_at
     (λ (p : ℕ × SheetStyle). (p.0 < 2 ^ 32) × Unit {0})
     (two (number_at w32) (member_at style_number styles)) byte_field ps_field
 
-erps_field : IsField (λ (p : Event × (ℕ × (ℕ × SheetStyle))). (event_number p.0 ∷ []) ++
+erps_field : (v : Version) → IsField (λ (p : Event × (ℕ × (ℕ × SheetStyle))). (event_number p.0 ∷ []) ++
     ((p.1.0 ∷ []) ++ (u32 p.1.1.0 ++ style_number p.1.1.1 ∷ [])))
-    (λ (p : Event × (ℕ × (ℕ × SheetStyle))). Unit {0}
+    (λ (p : Event × (ℕ × (ℕ × SheetStyle))). IsEventOf v p.0
     × ((p.1.0 < 256) × ((p.1.1.0 < 2 ^ 32) × Unit {0})))
-    (two (member_at event_number events)
+    (two (event_at v)
     (two byte_at (two (number_at w32) (member_at style_number styles))))
-erps_field = two_fields (λ (x : Event). event_number x ∷ []) (λ (x : Event). Unit {0})
-    (member_at event_number events)
+erps_field v = two_fields (λ (x : Event). event_number x ∷ []) (IsEventOf v) (event_at v)
     (λ (p : ℕ × (ℕ × SheetStyle)). (p.0 ∷ []) ++ (u32 p.1.0 ++ style_number p.1.1 ∷ []))
     (λ (p : ℕ × (ℕ × SheetStyle)). (p.0 < 256) × ((p.1.0 < 2 ^ 32) × Unit {0}))
-    (two byte_at (two (number_at w32) (member_at style_number styles))) event_field rps_field
+    (two byte_at (two (number_at w32) (member_at style_number styles))) (event_field v) rps_field
 
 -- ---- what is read is spelled so
 
-pub prepare_takes : (bytes : List ℕ) (w : What) → IsBytes bytes → prepare_of bytes ≡ Some w
-    → IsWhat 1 bytes w
-prepare_takes bytes w fits e =
+pub prepare_takes : (v : Version) (bytes : List ℕ) (w : What) → IsBytes bytes
+    → prepare_of bytes ≡ Some w → IsWhat v 1 bytes w
+prepare_takes v bytes w fits e =
     let a = bind_some (all_of (two ballot_at position_at) bytes) (λ x. Some (Prepare x.0 x.1)) w
     e in
     let t = all_takes _ _ _ bp_field bytes a.0 fits a.1 in
-    subst (λ (y : What). IsWhat 1 bytes y) (some_is (Prepare a.0.0 a.0.1) w a.2)
+    subst (λ (y : What). IsWhat v 1 bytes y) (some_is (Prepare a.0.0 a.0.1) w a.2)
     (record { number = refl; spelled = t.0; fits = t.1 })
 
-pub promise_takes : (bytes : List ℕ) (w : What) → IsBytes bytes → promise_of bytes ≡ Some w
-    → IsWhat 2 bytes w
-promise_takes bytes w fits e =
+pub promise_takes : (v : Version) (bytes : List ℕ) (w : What) → IsBytes bytes
+    → promise_of bytes ≡ Some w → IsWhat v 2 bytes w
+promise_takes v bytes w fits e =
     let a = bind_some (all_of (two ballot_at (two position_at report_at)) bytes)
     (λ x. Some (Promise x.0 x.1.0 x.1.1)) w e in
     let t = all_takes _ _ _ bpv_field bytes a.0 fits a.1 in
-    subst (λ (y : What). IsWhat 2 bytes y) (some_is (Promise a.0.0 a.0.1.0 a.0.1.1) w a.2)
+    subst (λ (y : What). IsWhat v 2 bytes y) (some_is (Promise a.0.0 a.0.1.0 a.0.1.1) w a.2)
     (record { number = refl; spelled = t.0; fits = (t.1.0, t.1.1.0, t.1.1.1) })
 
-pub accept_takes : (bytes : List ℕ) (w : What) → IsBytes bytes → accept_of bytes ≡ Some w
-    → IsWhat 3 bytes w
-accept_takes bytes w fits e =
+pub accept_takes : (v : Version) (bytes : List ℕ) (w : What) → IsBytes bytes
+    → accept_of bytes ≡ Some w → IsWhat v 3 bytes w
+accept_takes v bytes w fits e =
     let a = bind_some (all_of (two ballot_at (two position_at entry_at)) bytes)
     (λ x. Some (Accept x.0 x.1.0 x.1.1)) w e in
     let t = all_takes _ _ _ bpe_field bytes a.0 fits a.1 in
-    subst (λ (y : What). IsWhat 3 bytes y) (some_is (Accept a.0.0 a.0.1.0 a.0.1.1) w a.2)
+    subst (λ (y : What). IsWhat v 3 bytes y) (some_is (Accept a.0.0 a.0.1.0 a.0.1.1) w a.2)
     (record { number = refl; spelled = t.0; fits = (t.1.0, t.1.1.0, t.1.1.1) })
 
-pub accepted_takes : (bytes : List ℕ) (w : What) → IsBytes bytes → accepted_of bytes ≡ Some w
-    → IsWhat 4 bytes w
-accepted_takes bytes w fits e =
+pub accepted_takes : (v : Version) (bytes : List ℕ) (w : What) → IsBytes bytes
+    → accepted_of bytes ≡ Some w → IsWhat v 4 bytes w
+accepted_takes v bytes w fits e =
     let a = bind_some (all_of (two ballot_at position_at) bytes) (λ x. Some (Accepted x.0 x.1)) w
     e in
     let t = all_takes _ _ _ bp_field bytes a.0 fits a.1 in
-    subst (λ (y : What). IsWhat 4 bytes y) (some_is (Accepted a.0.0 a.0.1) w a.2)
+    subst (λ (y : What). IsWhat v 4 bytes y) (some_is (Accepted a.0.0 a.0.1) w a.2)
     (record { number = refl; spelled = t.0; fits = t.1 })
 
-pub nack_takes : (bytes : List ℕ) (w : What) → IsBytes bytes → nack_of bytes ≡ Some w
-    → IsWhat 5 bytes w
-nack_takes bytes w fits e =
+pub nack_takes : (v : Version) (bytes : List ℕ) (w : What) → IsBytes bytes
+    → nack_of bytes ≡ Some w → IsWhat v 5 bytes w
+nack_takes v bytes w fits e =
     let a = bind_some (all_of (two ballot_at (two position_at ballot_at)) bytes)
     (λ x. Some (Nack x.0 x.1.0 x.1.1)) w e in
     let t = all_takes _ _ _ bpb_field bytes a.0 fits a.1 in
-    subst (λ (y : What). IsWhat 5 bytes y) (some_is (Nack a.0.0 a.0.1.0 a.0.1.1) w a.2)
+    subst (λ (y : What). IsWhat v 5 bytes y) (some_is (Nack a.0.0 a.0.1.0 a.0.1.1) w a.2)
     (record { number = refl; spelled = t.0; fits = (t.1.0, t.1.1.0, t.1.1.1) })
 
-pub behind_takes : (bytes : List ℕ) (w : What) → IsBytes bytes → behind_of bytes ≡ Some w
-    → IsWhat 6 bytes w
-behind_takes bytes w fits e =
+pub behind_takes : (v : Version) (bytes : List ℕ) (w : What) → IsBytes bytes
+    → behind_of bytes ≡ Some w → IsWhat v 6 bytes w
+behind_takes v bytes w fits e =
     let a = bind_some (all_of (limited_at 65536) bytes) (λ x. Some (Behind x)) w e in
     let t = all_takes _ _ _ (limited_field 65536 (omega arith)) bytes a.0 fits a.1 in
-    subst (λ (y : What). IsWhat 6 bytes y) (some_is (Behind a.0) w a.2)
+    subst (λ (y : What). IsWhat v 6 bytes y) (some_is (Behind a.0) w a.2)
     (record { number = refl; spelled = t.0; fits = t.1 })
 
-pub decided_takes : (bytes : List ℕ) (w : What) → IsBytes bytes → decided_of bytes ≡ Some w
-    → IsWhat 7 bytes w
-decided_takes bytes w fits e =
-    let a = bind_some (all_of (two position_at entry_at) bytes) (λ x. Some (Decided x.0 x.1)) w e in
-    let t = all_takes _ _ _ pe_field bytes a.0 fits a.1 in
-    subst (λ (y : What). IsWhat 7 bytes y) (some_is (Decided a.0.0 a.0.1) w a.2)
-    (record { number = refl; spelled = t.0; fits = t.1 })
+pub decided_takes : (v : Version) (bytes : List ℕ) (w : What) → IsBytes bytes
+    → decided_of v bytes ≡ Some w → IsWhat v 7 bytes w
+decided_takes v bytes w fits e =
+    let run = run_takes v bytes w fits e in
+    subst (λ (y : What). IsWhat v 7 bytes y) (sym run.is)
+    (record { number = refl; spelled = run.spelled; fits = run.fits })
 
-pub submit_takes : (bytes : List ℕ) (w : What) → IsBytes bytes → submit_of bytes ≡ Some w
-    → IsWhat 16 bytes w
-submit_takes bytes w fits e =
+pub submit_takes : (v : Version) (bytes : List ℕ) (w : What) → IsBytes bytes
+    → submit_of bytes ≡ Some w → IsWhat v 16 bytes w
+submit_takes v bytes w fits e =
     let a = bind_some (all_of entry_at bytes) (λ x. Some (Submit x)) w e in
     let t = all_takes _ _ _ entry_field bytes a.0 fits a.1 in
-    subst (λ (y : What). IsWhat 16 bytes y) (some_is (Submit a.0) w a.2)
+    subst (λ (y : What). IsWhat v 16 bytes y) (some_is (Submit a.0) w a.2)
     (record { number = refl; spelled = t.0; fits = t.1 })
 
-pub ask_takes : (bytes : List ℕ) (w : What) → IsBytes bytes → ask_of bytes ≡ Some w
-    → IsWhat 17 bytes w
-ask_takes bytes w fits e =
+pub ask_takes : (v : Version) (bytes : List ℕ) (w : What) → IsBytes bytes
+    → ask_of bytes ≡ Some w → IsWhat v 17 bytes w
+ask_takes v bytes w fits e =
     let a = bind_some (all_of id_at bytes) (λ x. Some (Ask x)) w e in
     let t = all_takes _ _ _ id_field bytes a.0 fits a.1 in
-    subst (λ (y : What). IsWhat 17 bytes y) (some_is (Ask a.0) w a.2)
+    subst (λ (y : What). IsWhat v 17 bytes y) (some_is (Ask a.0) w a.2)
     (record { number = refl; spelled = t.0; fits = t.1 })
 
-pub sheet_takes : (bytes : List ℕ) (w : What) → IsBytes bytes → sheet_of bytes ≡ Some w
-    → IsWhat 18 bytes w
-sheet_takes bytes w fits e =
-    let a = bind_some (all_of (two (member_at event_number events)
+pub sheet_takes : (v : Version) (bytes : List ℕ) (w : What) → IsBytes bytes
+    → sheet_of v bytes ≡ Some w → IsWhat v 18 bytes w
+sheet_takes v bytes w fits e =
+    let a = bind_some (all_of (two (event_at v)
     (two byte_at (two (number_at w32) (member_at style_number styles)))) bytes)
     (λ x. Some (Sheet x.0 x.1.0 x.1.1.0 x.1.1.1)) w e in
-    let t = all_takes _ _ _ erps_field bytes a.0 fits a.1 in
-    subst (λ (y : What). IsWhat 18 bytes y)
+    let t = all_takes _ _ _ (erps_field v) bytes a.0 fits a.1 in
+    subst (λ (y : What). IsWhat v 18 bytes y)
     (some_is (Sheet a.0.0 a.0.1.0 a.0.1.1.0 a.0.1.1.1) w a.2)
-    (record { number = refl; spelled = t.0; fits = (t.1.1.0, t.1.1.1.0) })
+    (record { number = refl; spelled = t.0; fits = (t.1.0, t.1.1.0, t.1.1.1.0) })
 
-pub taken_takes : (bytes : List ℕ) (w : What) → IsBytes bytes → taken_of bytes ≡ Some w
-    → IsWhat 32 bytes w
-taken_takes bytes w fits e =
+pub taken_takes : (v : Version) (bytes : List ℕ) (w : What) → IsBytes bytes
+    → taken_of bytes ≡ Some w → IsWhat v 32 bytes w
+taken_takes v bytes w fits e =
     let a = bind_some (all_of id_at bytes) (λ x. Some (Taken x)) w e in
     let t = all_takes _ _ _ id_field bytes a.0 fits a.1 in
-    subst (λ (y : What). IsWhat 32 bytes y) (some_is (Taken a.0) w a.2)
+    subst (λ (y : What). IsWhat v 32 bytes y) (some_is (Taken a.0) w a.2)
     (record { number = refl; spelled = t.0; fits = t.1 })
 
-pub told_takes : (bytes : List ℕ) (w : What) → IsBytes bytes → told_of bytes ≡ Some w
-    → IsWhat 33 bytes w
-told_takes bytes w fits e =
+pub told_takes : (v : Version) (bytes : List ℕ) (w : What) → IsBytes bytes
+    → told_of bytes ≡ Some w → IsWhat v 33 bytes w
+told_takes v bytes w fits e =
     let a = bind_some (all_of (two id_at standing_at) bytes) (λ x. Some (Told x.0 x.1)) w e in
     let t = all_takes _ _ _ is_field bytes a.0 fits a.1 in
-    subst (λ (y : What). IsWhat 33 bytes y) (some_is (Told a.0.0 a.0.1) w a.2)
+    subst (λ (y : What). IsWhat v 33 bytes y) (some_is (Told a.0.0 a.0.1) w a.2)
     (record { number = refl; spelled = t.0; fits = t.1 })
 
-pub refused_takes : (bytes : List ℕ) (w : What) → IsBytes bytes → refused_of bytes ≡ Some w
-    → IsWhat 35 bytes w
-refused_takes bytes w fits e =
+pub refused_takes : (v : Version) (bytes : List ℕ) (w : What) → IsBytes bytes
+    → refused_of bytes ≡ Some w → IsWhat v 35 bytes w
+refused_takes v bytes w fits e =
     let a = bind_some (all_of (member_at refusal_number refusals) bytes) (λ x. Some (Refused x)) w
     e in
     let t = all_takes _ _ _ refusal_field bytes a.0 fits a.1 in
-    subst (λ (y : What). IsWhat 35 bytes y) (some_is (Refused a.0) w a.2)
+    subst (λ (y : What). IsWhat v 35 bytes y) (some_is (Refused a.0) w a.2)
     (record { number = refl; spelled = t.0; fits = tt })
 
 -- ---- what is spelled so is read
 
-pub what_again : (w : What) → IsBody w → what_of (kind_of w) (body w) ≡ Some w
+pub what_again : (v : Version) (w : What) → IsBody v w
+    → what_of v (kind_of w) (body v w) ≡ Some w
 unfolding what_of
-what_again (Prepare b pos) fits = rw (all_again _ _ _ bp_field (b, pos) fits) refl
-what_again (Promise b pos vote) fits =
+what_again v (Prepare b pos) fits = rw (all_again _ _ _ bp_field (b, pos) fits) refl
+what_again v (Promise b pos vote) fits =
     rw (all_again _ _ _ bpv_field (b, (pos, vote)) (fits.0, (fits.1, fits.2))) refl
-what_again (Accept b pos e) fits =
+what_again v (Accept b pos e) fits =
     rw (all_again _ _ _ bpe_field (b, (pos, e)) (fits.0, (fits.1, fits.2))) refl
-what_again (Accepted b pos) fits = rw (all_again _ _ _ bp_field (b, pos) fits) refl
-what_again (Nack b pos promised) fits =
+what_again v (Accepted b pos) fits = rw (all_again _ _ _ bp_field (b, pos) fits) refl
+what_again v (Nack b pos promised) fits =
     rw (all_again _ _ _ bpb_field (b, (pos, promised)) (fits.0, (fits.1, fits.2))) refl
-what_again (Behind len) fits = rw (all_again _ _ _ (limited_field 65536 (omega arith)) len fits)
+what_again v (Behind len) fits = rw (all_again _ _ _ (limited_field 65536 (omega arith)) len fits)
     refl
-what_again (Decided pos e) fits = rw (all_again _ _ _ pe_field (pos, e) fits) refl
-what_again (Submit e) fits = rw (all_again _ _ _ entry_field e fits) refl
-what_again (Ask id) fits = rw (all_again _ _ _ id_field id fits) refl
-what_again (Sheet event round position style) fits =
-    rw (all_again _ _ _ erps_field (event, (round, (position, style))) (tt, (fits.0, (fits.1, tt))))
+what_again v (Decided pos entries) fits = rw (run_again v pos entries fits) refl
+what_again v (Submit e) fits = rw (all_again _ _ _ entry_field e fits) refl
+what_again v (Ask id) fits = rw (all_again _ _ _ id_field id fits) refl
+what_again v (Sheet event round position style) fits =
+    rw (all_again _ _ _ (erps_field v) (event, (round, (position, style)))
+    (fits.0, (fits.1, (fits.2, tt))))
     refl
-what_again Tick fits = refl
-what_again Stop fits = refl
-what_again (Taken id) fits = rw (all_again _ _ _ id_field id fits) refl
-what_again (Told id s) fits = rw (all_again _ _ _ is_field (id, s) fits) refl
-what_again (SheetText bytes) fits = refl
-what_again (Refused refusal) fits = rw (all_again _ _ _ refusal_field refusal tt) refl
-what_again Fine fits = refl
+what_again v Tick fits = refl
+what_again v Stop fits = refl
+what_again v (Taken id) fits = rw (all_again _ _ _ id_field id fits) refl
+what_again v (Told id s) fits = rw (all_again _ _ _ is_field (id, s) fits) refl
+what_again v (SheetText bytes) fits = refl
+what_again v (Refused refusal) fits = rw (all_again _ _ _ refusal_field refusal tt) refl
+what_again v Fine fits = refl

@@ -2,6 +2,7 @@ pub mod Taking
 pub mod FieldLaws
 pub mod Sequences
 pub mod Bodies
+pub mod Runs
 pub mod Frames
 pub mod Whole
 pub mod WhatKind

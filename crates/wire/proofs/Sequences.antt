@@ -52,7 +52,7 @@ all_again s F r f x fits =
 
 -- ---- one byte for a member of a list
 
-numbered_is : {A : Type 0} (number_of : A → ℕ) (members : List A) (n : ℕ) (x : A)
+pub numbered_is : {A : Type 0} (number_of : A → ℕ) (members : List A) (n : ℕ) (x : A)
     → numbered number_of members n ≡ Some x → number_of x ≡ n
 numbered_is number_of [] n x e = absurd cc
 numbered_is {A} number_of (m ∷ ms) n x e = go (eqb (number_of m) n) refl

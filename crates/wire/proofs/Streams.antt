@@ -9,6 +9,7 @@ use Rattle.wire.specs.declared.fault.WireFault.TheVariants.{BadLength}
 use Rattle.wire.specs.declared.frame.Frame.{Frame}
 use Rattle.wire.specs.declared.values.Standing.{Standing}
 use Rattle.wire.specs.declared.values.Standing.TheVariants as standings
+use Rattle.wire.specs.declared.values.Version.{Version}
 use Rattle.wire.specs.declared.frame.What.{What}
 use Rattle.wire.specs.declared.frame.What.TheVariants.{Prepare, Promise, Accept, Accepted, Nack, Behind, Decided, Submit, Ask, Sheet, Tick, Stop, Taken, Told, SheetText, Refused, Fine}
 use Rattle.wire.specs.Ranges.{IsReport, IsBody, IsFrame}
@@ -17,6 +18,7 @@ use Rattle.wire.specs.Spelling.{report_bytes, standing_bytes, body, inside, spel
 use Rattle.wire.specs.Stream.{Front, Waits, Begins, Breaks, by_frame, by_length, front}
 use Rattle.wire.proofs.Taking.{IsBytes, IsBytes-take, IsBytes-drop, wide32}
 use Rattle.wire.proofs.FieldLaws.{between_is, between_holds}
+use Rattle.wire.proofs.Runs.{run_short}
 use Rattle.wire.proofs.Whole.{frame_takes, frame_again}
 
 -- ---- lengths
@@ -30,28 +32,29 @@ standing_short standings.Unknown = omega arith
 standing_short standings.Pending = omega arith
 standing_short (standings.Done pos a) = omega arith
 
-body_short : (w : What) → IsBody w → length (body w) ≤ 299992
-body_short (Prepare b pos) h = omega arith
-body_short (Promise b pos vote) h = omega (arith, report_short vote h.2)
-body_short (Accept b pos e) h = omega (arith, h.2.1)
-body_short (Accepted b pos) h = omega arith
-body_short (Nack b pos promised) h = omega arith
-body_short (Behind len) h = omega arith
-body_short (Decided pos e) h = omega (arith, h.1.1)
-body_short (Submit e) h = omega (arith, h.1)
-body_short (Ask id) h = omega arith
-body_short (Sheet event round position style) h = omega arith
-body_short Tick h = omega arith
-body_short Stop h = omega arith
-body_short (Taken id) h = omega arith
-body_short (Told id s) h = omega (arith, standing_short s)
-body_short (SheetText bytes) h = h
-body_short (Refused refusal) h = omega arith
-body_short Fine h = omega arith
+body_short : (v : Version) (w : What) → IsBody v w → length (body v w) ≤ 299992
+body_short v (Prepare b pos) h = omega arith
+body_short v (Promise b pos vote) h = omega (arith, report_short vote h.2)
+body_short v (Accept b pos e) h = omega (arith, h.2.1)
+body_short v (Accepted b pos) h = omega arith
+body_short v (Nack b pos promised) h = omega arith
+body_short v (Behind len) h = omega arith
+body_short v (Decided pos entries) h = run_short v pos entries h
+body_short v (Submit e) h = omega (arith, h.1)
+body_short v (Ask id) h = omega arith
+body_short v (Sheet event round position style) h = omega arith
+body_short v Tick h = omega arith
+body_short v Stop h = omega arith
+body_short v (Taken id) h = omega arith
+body_short v (Told id s) h = omega (arith, standing_short s)
+body_short v (SheetText bytes) h = h
+body_short v (Refused refusal) h = omega arith
+body_short v Fine h = omega arith
 
 inside_length : (f : Frame) → IsFrame f → (8 ≤ length (inside f)) × (length (inside f) ≤ 300000)
 inside_length f fits =
-    let short : length (body f.what) ≤ 299992 = body_short f.what fits.body in
+    let short : length (body f.version f.what) ≤ 299992 =
+    body_short f.version f.what fits.body in
     (omega arith, omega (arith, short))
 
 -- ---- what begins a stream

@@ -4,63 +4,68 @@ use Rattle.std.specs.Int.{w32, to_be_bytes, from_be_bytes}
 use Rattle.std.proofs.lemmas.Bool.{eqb-true}
 use Rattle.std.proofs.lemmas.List.{nil_from_length}
 use Rattle.wire.specs.declared.fault.WireFault.{WireFault}
-use Rattle.wire.specs.declared.fault.WireFault.TheVariants.{BadVersion, BadKind, BadBody}
+use Rattle.wire.specs.declared.fault.WireFault.TheVariants.{BadKind, BadBody}
 use Rattle.wire.specs.declared.frame.Frame.{Frame}
 use Rattle.wire.specs.declared.frame.What.{What}
 use Rattle.wire.specs.declared.frame.What.TheVariants.{Prepare, Promise, Accept, Accepted, Nack, Behind, Decided, Submit, Ask, Sheet, Tick, Stop, Taken, Told, SheetText, Refused, Fine}
 use Rattle.wire.specs.Ranges.{Way, Between, FromClient, ToClient, way_of, Goes, IsBody, IsFrame}
-use Rattle.wire.specs.Reading.{empty_of, what_of, is_kind, is_desk, goes, frame_from, frame_of}
+use Rattle.wire.specs.declared.values.Version.{Version}
+use Rattle.wire.specs.declared.values.Version.TheVariants.{One, Two}
+use Rattle.wire.specs.Numbers.{versions, version_number}
+use Rattle.wire.specs.Reading.{empty_of, what_of, is_kind, is_desk, goes, frame_from, frame_in, version_of, frame_of}
 use Rattle.wire.specs.Spelling.{kind_of, body, inside}
 use Rattle.wire.proofs.Taking.{IsBytes, IsBytes-take, passed, wide32}
 use Rattle.wire.proofs.FieldLaws.{and_true, both_true, between_is, between_holds}
+use Rattle.wire.proofs.Sequences.{numbered_is}
 use Rattle.wire.proofs.Frames.{IsWhat, prepare_takes, promise_takes, accept_takes, accepted_takes, nack_takes, behind_takes, decided_takes, submit_takes, ask_takes, sheet_takes, taken_takes, told_takes, refused_takes, what_again}
 
 -- a kind without fields
-empty_takes : (kind : ℕ) (what : What) (bytes : List ℕ) (w : What) → kind_of what ≡ kind
-    → body what ≡ [] → IsBody what → empty_of what bytes ≡ Some w → IsWhat kind bytes w
-empty_takes kind what bytes w number empty fits e =
+empty_takes : (v : Version) (kind : ℕ) (what : What) (bytes : List ℕ) (w : What)
+    → kind_of what ≡ kind → body v what ≡ [] → IsBody v what → empty_of what bytes ≡ Some w
+    → IsWhat v kind bytes w
+empty_takes v kind what bytes w number empty fits e =
     let a = passed (eqb (length bytes) 0) what w e in
     let nothing : bytes ≡ [] = nil_from_length bytes (eqb-true _ _ a.0) in
-    subst (λ (y : What). IsWhat kind bytes y) a.1
+    subst (λ (y : What). IsWhat v kind bytes y) a.1
     (record { number = number; spelled = nothing ∙ sym empty; fits = fits })
 
-text_takes : (bytes : List ℕ) (w : What) → length bytes ≤ 299992 → Some (SheetText bytes) ≡ Some w
-    → IsWhat 34 bytes w
-text_takes bytes w short e =
+text_takes : (v : Version) (bytes : List ℕ) (w : What) → length bytes ≤ 299992
+    → Some (SheetText bytes) ≡ Some w → IsWhat v 34 bytes w
+text_takes v bytes w short e =
     let same : SheetText bytes ≡ w = cc in
-    subst (λ (y : What). IsWhat 34 bytes y) same
+    subst (λ (y : What). IsWhat v 34 bytes y) same
     (record { number = refl; spelled = refl; fits = short })
 
 -- one test of the chain: the kind is this one, or the chain goes on
-pick : (kind k : ℕ) (bytes : List ℕ) (w : What) (x y : Option What)
-    → (x ≡ Some w → IsWhat k bytes w) → (y ≡ Some w → IsWhat kind bytes w)
-    → cond (eqb kind k) x y ≡ Some w → IsWhat kind bytes w
-pick kind k bytes w x y here there e = go (eqb kind k) refl e where
-  go : (b : Bool) → eqb kind k ≡ b → cond b x y ≡ Some w → IsWhat kind bytes w
-  go true t h = subst (λ (n : ℕ). IsWhat n bytes w) (sym (eqb-true _ _ t)) (here h)
+pick : (v : Version) (kind k : ℕ) (bytes : List ℕ) (w : What) (x y : Option What)
+    → (x ≡ Some w → IsWhat v k bytes w) → (y ≡ Some w → IsWhat v kind bytes w)
+    → cond (eqb kind k) x y ≡ Some w → IsWhat v kind bytes w
+pick v kind k bytes w x y here there e = go (eqb kind k) refl e where
+  go : (b : Bool) → eqb kind k ≡ b → cond b x y ≡ Some w → IsWhat v kind bytes w
+  go true t h = subst (λ (n : ℕ). IsWhat v n bytes w) (sym (eqb-true _ _ t)) (here h)
   go false t h = there h
 
-pub what_takes : (kind : ℕ) (bytes : List ℕ) (w : What) → IsBytes bytes → length bytes ≤ 299992
-    → what_of kind bytes ≡ Some w → IsWhat kind bytes w
+pub what_takes : (v : Version) (kind : ℕ) (bytes : List ℕ) (w : What) → IsBytes bytes
+    → length bytes ≤ 299992 → what_of v kind bytes ≡ Some w → IsWhat v kind bytes w
 unfolding what_of
-what_takes kind bytes w fits short e =
-    pick kind 1 bytes w _ _ (prepare_takes bytes w fits)
-    (pick kind 2 bytes w _ _ (promise_takes bytes w fits)
-    (pick kind 3 bytes w _ _ (accept_takes bytes w fits)
-    (pick kind 4 bytes w _ _ (accepted_takes bytes w fits)
-    (pick kind 5 bytes w _ _ (nack_takes bytes w fits)
-    (pick kind 6 bytes w _ _ (behind_takes bytes w fits)
-    (pick kind 7 bytes w _ _ (decided_takes bytes w fits)
-    (pick kind 16 bytes w _ _ (submit_takes bytes w fits)
-    (pick kind 17 bytes w _ _ (ask_takes bytes w fits)
-    (pick kind 18 bytes w _ _ (sheet_takes bytes w fits)
-    (pick kind 19 bytes w _ _ (empty_takes 19 Tick bytes w refl refl tt)
-    (pick kind 20 bytes w _ _ (empty_takes 20 Stop bytes w refl refl tt)
-    (pick kind 32 bytes w _ _ (taken_takes bytes w fits)
-    (pick kind 33 bytes w _ _ (told_takes bytes w fits)
-    (pick kind 34 bytes w _ _ (text_takes bytes w short)
-    (pick kind 35 bytes w _ _ (refused_takes bytes w fits)
-    (pick kind 36 bytes w _ _ (empty_takes 36 Fine bytes w refl refl tt)
+what_takes v kind bytes w fits short e =
+    pick v kind 1 bytes w _ _ (prepare_takes v bytes w fits)
+    (pick v kind 2 bytes w _ _ (promise_takes v bytes w fits)
+    (pick v kind 3 bytes w _ _ (accept_takes v bytes w fits)
+    (pick v kind 4 bytes w _ _ (accepted_takes v bytes w fits)
+    (pick v kind 5 bytes w _ _ (nack_takes v bytes w fits)
+    (pick v kind 6 bytes w _ _ (behind_takes v bytes w fits)
+    (pick v kind 7 bytes w _ _ (decided_takes v bytes w fits)
+    (pick v kind 16 bytes w _ _ (submit_takes v bytes w fits)
+    (pick v kind 17 bytes w _ _ (ask_takes v bytes w fits)
+    (pick v kind 18 bytes w _ _ (sheet_takes v bytes w fits)
+    (pick v kind 19 bytes w _ _ (empty_takes v 19 Tick bytes w refl refl tt)
+    (pick v kind 20 bytes w _ _ (empty_takes v 20 Stop bytes w refl refl tt)
+    (pick v kind 32 bytes w _ _ (taken_takes v bytes w fits)
+    (pick v kind 33 bytes w _ _ (told_takes v bytes w fits)
+    (pick v kind 34 bytes w _ _ (text_takes v bytes w short)
+    (pick v kind 35 bytes w _ _ (refused_takes v bytes w fits)
+    (pick v kind 36 bytes w _ _ (empty_takes v 36 Fine bytes w refl refl tt)
     (λ h. absurd cc))))))))))))))))) e
 
 -- ---- the bytes behind a length
@@ -119,19 +124,44 @@ pub record IsInside (bytes : List ℕ) (f : Frame) : Type 0 where
   pub fits : IsFrame f
   pub spelled : bytes ≡ inside f
 
-from_takes : (hall from to kind : ℕ) (bytes : List ℕ) (o : Option What) (f : Frame) → hall < 2 ^ 32
-    → ((w : What) → o ≡ Some w → IsWhat kind bytes w) → frame_from hall from to o ≡ Ok f
-    → IsFrame f × (1 ∷ to_be_bytes w32 hall ++ from ∷ to ∷ kind ∷ bytes ≡ inside f)
-from_takes hall from to kind bytes None f small taken e = absurd cc
-from_takes hall from to kind bytes (Some w) f small taken e =
-    let made : Frame = record { hall = hall; from = from; to = to; what = w } in
+from_takes : (v : Version) (hall from to kind : ℕ) (bytes : List ℕ) (o : Option What) (f : Frame)
+    → hall < 2 ^ 32
+    → ((w : What) → o ≡ Some w → IsWhat v kind bytes w) → frame_from v hall from to o ≡ Ok f
+    → IsFrame f × (version_number v ∷ to_be_bytes w32 hall ++ from ∷ to ∷ kind ∷ bytes ≡ inside f)
+from_takes v hall from to kind bytes None f small taken e = absurd cc
+from_takes v hall from to kind bytes (Some w) f small taken e =
+    let made : Frame = record {
+      version = v;
+      hall = hall;
+      from = from;
+      to = to;
+      what = w;
+    } in
     let g = granted (goes (way_of w) from to) BadBody made f e in
     let t = taken w refl in
-    let spelled : 1 ∷ to_be_bytes w32 hall ++ from ∷ to ∷ kind ∷ bytes ≡ inside made =
+    let spelled : version_number v ∷ to_be_bytes w32 hall ++ from ∷ to ∷ kind ∷ bytes ≡ inside made =
     rw (← t.number, t.spelled) refl in
     subst (λ (y : Frame). IsFrame y
-    × (1 ∷ to_be_bytes w32 hall ++ from ∷ to ∷ kind ∷ bytes ≡ inside y)) g.1
+    × (version_number v ∷ to_be_bytes w32 hall ++ from ∷ to ∷ kind ∷ bytes ≡ inside y)) g.1
     (record { hall = small; goes = goes_is (way_of w) from to g.0; body = t.fits }, spelled)
+
+-- the version that a number has
+version_is : (n : ℕ) (v : Version) → version_of n ≡ Some v → version_number v ≡ n
+version_is n v e = numbered_is version_number versions n v e
+
+in_takes : (o : Option Version) (n hall from to kind : ℕ) (bytes : List ℕ) (f : Frame)
+    → version_of n ≡ o → hall < 2 ^ 32 → IsBytes bytes → length bytes ≤ 299992
+    → frame_in o hall from to kind bytes ≡ Ok f
+    → IsFrame f × (n ∷ to_be_bytes w32 hall ++ from ∷ to ∷ kind ∷ bytes ≡ inside f)
+in_takes None n hall from to kind bytes f is small fits short e = absurd cc
+in_takes (Some v) n hall from to kind bytes f is small fits short e =
+    let k = let_by (is_kind kind) BadKind (frame_from v hall from to (what_of v kind bytes)) f e in
+    let t = from_takes v hall from to kind bytes (what_of v kind bytes) f small
+    (λ w h. what_takes v kind bytes w fits short h) k.1 in (
+      t.0,
+      ap (λ (m : ℕ). m ∷ (to_be_bytes w32 hall ++ from ∷ to ∷ kind ∷ bytes))
+          (sym (version_is n v is)) ∙ t.1,
+    )
 
 pub frame_takes : (bytes : List ℕ) (f : Frame) → IsBytes bytes → length bytes ≤ 300000
     → frame_of bytes ≡ Ok f → IsInside bytes f
@@ -150,32 +180,34 @@ frame_takes (version ∷ a ∷ b ∷ c ∷ d ∷ from ∷ to ∷ kind ∷ bytes)
     (λ i. fits (suc i)) in
     let rest_fit : IsBytes bytes = λ i. fits (suc (suc (suc (suc (suc (suc (suc (suc i)))))))) in
     let hall : ℕ = from_be_bytes w32 four in
-    let v = let_by (eqb version 1) BadVersion
-    (cond (not (is_kind kind)) (Err BadKind) (frame_from hall from to (what_of kind bytes))) f
-    e in
-    let k = let_by (is_kind kind) BadKind (frame_from hall from to (what_of kind bytes)) f v.1 in
     let same : to_be_bytes w32 hall ≡ four = wide32.back four refl four_fit in
-    let t = from_takes hall from to kind bytes (what_of kind bytes) f (wide32.below four four_fit)
-    (λ w h. what_takes kind bytes w rest_fit (omega (arith, short)) h) k.1 in
-    let front : version ∷ four ++ from ∷ to ∷ kind ∷ bytes ≡ 1 ∷ to_be_bytes w32
+    let t = in_takes (version_of version) version hall from to kind bytes f refl
+    (wide32.below four four_fit) rest_fit (omega (arith, short)) e in
+    let front : version ∷ four ++ from ∷ to ∷ kind ∷ bytes ≡ version ∷ to_be_bytes w32
     hall ++ from ∷ to ∷ kind ∷ bytes =
-    ap (λ (n : ℕ). n ∷ (four ++ from ∷ to ∷ kind ∷ bytes)) (eqb-true _ _ v.0)
-    ∙ ap (λ (h : List ℕ). 1 ∷ (h ++ from ∷ to ∷ kind ∷ bytes)) (sym same) in
+    ap (λ (h : List ℕ). version ∷ (h ++ from ∷ to ∷ kind ∷ bytes)) (sym same) in
     record { fits = t.0; spelled = front ∙ t.1 }
 
+version_again : (v : Version) → version_of (version_number v) ≡ Some v
+version_again One = refl
+version_again Two = refl
+
 framed : (a b c d : ℕ) (f : Frame) → from_be_bytes w32 (a ∷ b ∷ c ∷ d ∷ []) ≡ f.hall → IsFrame f
-    → frame_of (1 ∷ a ∷ b ∷ c ∷ d ∷ f.from ∷ f.to ∷ kind_of f.what ∷ body f.what) ≡ Ok f
+    → frame_of (version_number f.version ∷ a ∷ b ∷ c ∷ d ∷ f.from ∷ f.to ∷ kind_of f.what ∷
+    body f.version f.what) ≡ Ok f
 unfolding frame_of
 framed a b c d f hall fits = rw (
+  version_again f.version,
   kind_is f.what,
-  what_again f.what fits.body,
+  what_again f.version f.what fits.body,
   goes_holds
       (way_of f.what) f.from f.to fits.goes,
   hall,
 ) refl
 
 four_cells : (h : List ℕ) (f : Frame) → length h ≡ 4 → from_be_bytes w32 h ≡ f.hall → IsFrame f
-    → frame_of (1 ∷ (h ++ f.from ∷ f.to ∷ kind_of f.what ∷ body f.what)) ≡ Ok f
+    → frame_of (version_number f.version ∷ (h ++ f.from ∷ f.to ∷ kind_of f.what ∷
+    body f.version f.what)) ≡ Ok f
 four_cells [] f len hall fits = absurd (omega (arith, len))
 four_cells (a ∷ []) f len hall fits = absurd (omega (arith, len))
 four_cells (a ∷ b ∷ []) f len hall fits = absurd (omega (arith, len))

@@ -1,5 +1,5 @@
 -- What the spellings of frames keep to.
-use Rattle.std.specs.Prelude.{◌≡◌, ◌↔◌, ℕ, ◌+◌, ◌<◌, ◌≤◌, true, false, List, [], ◌++◌, length, take, slice_index}
+use Rattle.std.specs.Prelude.{◌≡◌, ◌⊎◌, ◌↔◌, ℕ, ◌+◌, ◌<◌, ◌≤◌, true, false, List, [], ◌++◌, length, take, slice_index}
 use Rattle.std.specs.Int.{w32, from_be_bytes}
 use Rattle.wire.specs.declared.fault.WireFault.{WireFault}
 use Rattle.wire.specs.declared.fault.WireFault.TheVariants.{BadLength, BadVersion, BadKind, BadBody, NoMemory}
@@ -38,14 +38,17 @@ pub record IsWhole (bytes : List ℕ) : Type 0 where
 abbrev pub BeginsWithFrame : List ℕ → Type 0
 BeginsWithFrame bytes = (f : Frame) × (rest : List ℕ) × IsFrame f × (bytes ≡ spelling f ++ rest)
 
+abbrev pub IsVersion : ℕ → Type 0
+IsVersion n = (n ≡ 1) ⊎ (n ≡ 2)
+
 -- which fault is the first: the version is byte 4, the kind byte 11
 abbrev pub IsFirstFault : WireFault → List ℕ → Type 0
 IsFirstFault BadLength bytes = (4 ≤ length bytes) × ¬ IsLength (length_at bytes)
-IsFirstFault BadVersion bytes = IsWhole bytes × ¬ (slice_index bytes 4 ≡ 1)
+IsFirstFault BadVersion bytes = IsWhole bytes × ¬ IsVersion (slice_index bytes 4)
 IsFirstFault BadKind bytes =
-    IsWhole bytes × (slice_index bytes 4 ≡ 1) × (is_kind (slice_index bytes 11) ≡ false)
+    IsWhole bytes × IsVersion (slice_index bytes 4) × (is_kind (slice_index bytes 11) ≡ false)
 IsFirstFault BadBody bytes =
-    IsWhole bytes × (slice_index bytes 4 ≡ 1)
+    IsWhole bytes × IsVersion (slice_index bytes 4)
     × (is_kind (slice_index bytes 11) ≡ true) × ¬ BeginsWithFrame bytes
 IsFirstFault NoMemory bytes = ⊥
 

@@ -1,4 +1,4 @@
--- The numbers that kinds, answers and refusals have on the wire.
+-- The numbers that versions, answers and refusals have on the wire.
 use Rattle.std.specs.Prelude.{ℕ, List, [], ◌∷◌, map}
 use Rattle.texts.specs.declared.answer.Answer.{Answer}
 use Rattle.texts.specs.declared.answer.Answer.TheVariants.{Done, Refused}
@@ -7,6 +7,20 @@ use Rattle.wire.specs.declared.values.ClientRefusal.{ClientRefusal}
 use Rattle.wire.specs.declared.values.ClientRefusal.TheVariants as refusal
 use Rattle.wire.specs.declared.values.SheetStyle.{SheetStyle}
 use Rattle.wire.specs.declared.values.SheetStyle.TheVariants.{Text, Table}
+use Rattle.wire.specs.declared.values.Version.{Version}
+use Rattle.wire.specs.declared.values.Version.TheVariants.{One, Two}
+
+abbrev pub version_number : Version → ℕ
+version_number One = 1
+version_number Two = 2
+
+abbrev pub versions : List Version
+versions = One ∷ Two ∷ []
+
+-- the last event whose sheets can be asked for in a version
+abbrev pub last_event : Version → ℕ
+last_event One = 16
+last_event Two = 17
 
 abbrev pub refusal_number : ClientRefusal → ℕ
 refusal_number refusal.Busy = 1

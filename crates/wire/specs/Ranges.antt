@@ -1,5 +1,6 @@
 -- What a frame may hold: the ranges of its fields.
-use Rattle.std.specs.Prelude.{◌≡◌, ℕ, ◌^◌, ◌≤◌, ◌<◌, length, Option, Some, None, nat_le, if◌then◌else◌}
+use Rattle.std.specs.Prelude.{◌≡◌, ℕ, ◌+◌, ◌^◌, ◌≤◌, ◌<◌, List, length, Option, Some, None, nat_le, if◌then◌else◌}
+use Rattle.std.specs.List.{AllByRecursion}
 use Rattle.acceptor.specs.declared.ballot.Ballot.{Ballot}
 use Rattle.acceptor.specs.declared.entry.Entry.{Entry}
 use Rattle.acceptor.specs.declared.message.Report.{Report}
@@ -8,6 +9,12 @@ use Rattle.wire.specs.declared.values.Standing.{Standing}
 use Rattle.wire.specs.declared.values.Standing.TheVariants.{Unknown, Pending, Done}
 use Rattle.wire.specs.declared.frame.What.{What}
 use Rattle.wire.specs.declared.frame.What.TheVariants.{Prepare, Promise, Accept, Accepted, Nack, Behind, Decided, Submit, Ask, Sheet, Tick, Stop, Taken, Told, SheetText, Refused, Fine}
+use Rattle.formats.specs.declared.events.Event.{Event}
+use Rattle.formats.specs.Events.{event_number}
+use Rattle.wire.specs.declared.values.Version.{Version}
+use Rattle.wire.specs.declared.values.Version.TheVariants.{One, Two}
+pub use Rattle.wire.specs.Entries.{IsId, IsEntry}
+use Rattle.wire.specs.Numbers.{last_event}
 use Rattle.wire.specs.Spelling.{kind_of}
 
 -- a desk of a hall
@@ -24,12 +31,6 @@ IsBallot b = (1 ≤ b.round) × (b.round < 2 ^ 32) × IsDesk b.desk
 abbrev pub IsPosition : ℕ → Type 0
 IsPosition pos = pos ≤ 65535
 
-abbrev pub IsId : ℕ → Type 0
-IsId id = (1 ≤ id) × (id < 2 ^ 63)
-
-abbrev pub IsEntry : Entry → Type 0
-IsEntry e = IsId e.id × (length e.text ≤ 600)
-
 abbrev pub IsReport : Option Report → Type 0
 IsReport None = Unit {0}
 IsReport (Some r) = IsBallot r.ballot × IsEntry r.entry
@@ -39,25 +40,42 @@ IsStanding Unknown = Unit {0}
 IsStanding Pending = Unit {0}
 IsStanding (Done pos answer) = IsPosition pos
 
--- the fields of a kind; a sheet and all that stands in front of it fill at most 300,000 bytes
-abbrev pub IsBody : What → Type 0
-IsBody (Prepare b pos) = IsBallot b × IsPosition pos
-IsBody (Promise b pos vote) = IsBallot b × IsPosition pos × IsReport vote
-IsBody (Accept b pos e) = IsBallot b × IsPosition pos × IsEntry e
-IsBody (Accepted b pos) = IsBallot b × IsPosition pos
-IsBody (Nack b pos promised) = IsBallot b × IsPosition pos × IsBallot promised
-IsBody (Behind len) = len ≤ 65536
-IsBody (Decided pos e) = IsPosition pos × IsEntry e
-IsBody (Submit e) = IsEntry e
-IsBody (Ask id) = IsId id
-IsBody (Sheet event round position style) = (round < 256) × (position < 2 ^ 32)
-IsBody Tick = Unit {0}
-IsBody Stop = Unit {0}
-IsBody (Taken id) = IsId id
-IsBody (Told id s) = IsId id × IsStanding s
-IsBody (SheetText bytes) = length bytes ≤ 299992
-IsBody (Refused refusal) = Unit {0}
-IsBody Fine = Unit {0}
+-- how many entries a Decided has in a version
+abbrev pub IsCount : Version → ℕ → Type 0
+IsCount One n = n ≡ 1
+IsCount Two n = (1 ≤ n) × (n ≤ 16)
+
+-- the entries from a position on, of which the last stands at 65,535 at most
+abbrev pub AreDecided : Version → ℕ → List Entry → Type 0
+AreDecided version pos entries =
+    IsCount version (length entries) × (pos + length entries ≤ 65536)
+    × AllByRecursion IsEntry entries
+
+-- an event whose sheets can be asked for in a version
+abbrev pub IsEventOf : Version → Event → Type 0
+IsEventOf version event = event_number event ≤ last_event version
+
+-- the fields of a kind in a version; a sheet and all that stands in front of it fill at most
+-- 300,000 bytes
+abbrev pub IsBody : Version → What → Type 0
+IsBody v (Prepare b pos) = IsBallot b × IsPosition pos
+IsBody v (Promise b pos vote) = IsBallot b × IsPosition pos × IsReport vote
+IsBody v (Accept b pos e) = IsBallot b × IsPosition pos × IsEntry e
+IsBody v (Accepted b pos) = IsBallot b × IsPosition pos
+IsBody v (Nack b pos promised) = IsBallot b × IsPosition pos × IsBallot promised
+IsBody v (Behind len) = len ≤ 65536
+IsBody v (Decided pos entries) = AreDecided v pos entries
+IsBody v (Submit e) = IsEntry e
+IsBody v (Ask id) = IsId id
+IsBody v (Sheet event round position style) =
+    IsEventOf v event × (round < 256) × (position < 2 ^ 32)
+IsBody v Tick = Unit {0}
+IsBody v Stop = Unit {0}
+IsBody v (Taken id) = IsId id
+IsBody v (Told id s) = IsId id × IsStanding s
+IsBody v (SheetText bytes) = length bytes ≤ 299992
+IsBody v (Refused refusal) = Unit {0}
+IsBody v Fine = Unit {0}
 
 -- who sends a kind to whom: desk to desk, client to desk, desk to client
 pub data Way : Type 0 where
@@ -83,4 +101,4 @@ Goes ToClient from to = IsDesk from × IsClient to
 pub record IsFrame (f : Frame) : Type 0 where
   pub hall : f.hall < 2 ^ 32
   pub goes : Goes (way_of f.what) f.from f.to
-  pub body : IsBody f.what
+  pub body : IsBody f.version f.what

@@ -1,11 +1,12 @@
 -- The frame that bytes spell, field by field from the left.
-use Rattle.std.specs.Prelude.{ℕ, zero, suc, Bool, ◌&&◌, List, [], ◌∷◌, length, take, drop, Option, Some, None, Result, Ok, Err, not, nat_le, ◌==◌, if◌then◌else◌}
+use Rattle.std.specs.Prelude.{ℕ, zero, suc, ◌+◌, Bool, ◌&&◌, List, [], ◌∷◌, length, take, drop, Option, Some, None, Result, Ok, Err, not, nat_le, ◌==◌, if◌then◌else◌}
 use Rattle.std.specs.List.{list_any}
 use Rattle.std.specs.Int.{w16, w32, w64, from_be_bytes}
 use Rattle.acceptor.specs.declared.ballot.Ballot.{Ballot}
 use Rattle.acceptor.specs.declared.entry.Entry.{Entry}
 use Rattle.acceptor.specs.declared.message.Report.{Report}
-use Rattle.formats.specs.Events.{events, event_number}
+use Rattle.formats.specs.declared.events.Event.{Event}
+use Rattle.formats.specs.Events.{all_events, event_number}
 use Rattle.wire.specs.declared.fault.WireFault.{WireFault}
 use Rattle.wire.specs.declared.fault.WireFault.TheVariants.{BadVersion, BadKind, BadBody}
 use Rattle.wire.specs.declared.frame.Frame.{Frame}
@@ -15,7 +16,9 @@ use Rattle.wire.specs.declared.frame.What.{What}
 use Rattle.wire.specs.declared.frame.What.TheVariants.{Prepare, Promise, Accept, Accepted, Nack, Behind, Decided, Submit, Ask, Sheet, Tick, Stop, Taken, Told, SheetText, Refused, Fine}
 use Rattle.wire.specs.Fields.{Read, ◌>>=◌, number_at, byte_at, two, all_of, numbered}
 use Rattle.wire.specs.Ranges.{Way, Between, FromClient, ToClient, way_of}
-use Rattle.wire.specs.Numbers.{answers, answer_number, refusals, refusal_number, styles, style_number}
+use Rattle.wire.specs.declared.values.Version.{Version}
+use Rattle.wire.specs.declared.values.Version.TheVariants.{One, Two}
+use Rattle.wire.specs.Numbers.{versions, version_number, last_event, answers, answer_number, refusals, refusal_number, styles, style_number}
 
 abbrev pub between : ℕ → ℕ → ℕ → Bool
 between low high n = nat_le low n && nat_le n high
@@ -82,6 +85,27 @@ standing_at (suc (suc zero) ∷ rest) = do
   Some (Done done.0.0 done.0.1, done.1)
 standing_at (suc (suc (suc b)) ∷ rest) = None
 
+-- how many entries a Decided has: one in version 1; in version 2 a byte says it
+unfoldable pub count_at : Version → List ℕ → Read ℕ
+count_at One bytes = Some (1, bytes)
+count_at Two bytes = do
+  n ← byte_at bytes
+  if between 1 16 n.0 then Some n else None
+
+-- so many entries, one behind the other
+unfoldable pub entries_at : ℕ → List ℕ → Read (List Entry)
+entries_at zero bytes = Some ([], bytes)
+entries_at (suc n) bytes = do
+  first ← entry_at bytes
+  others ← entries_at n first.1
+  Some (first.0 ∷ others.0, others.1)
+
+-- an event whose sheets can be asked for in a version
+unfoldable pub event_at : Version → List ℕ → Read Event
+event_at version bytes = do
+  event ← member_at event_number all_events bytes
+  if nat_le (event_number event.0) (last_event version) then Some event else None
+
 -- the fields of each kind
 abbrev pub prepare_of : List ℕ → Option What
 prepare_of bytes = all_of (two ballot_at position_at) bytes >>= λ x. Some (Prepare x.0 x.1)
@@ -107,8 +131,12 @@ nack_of bytes =
 abbrev pub behind_of : List ℕ → Option What
 behind_of bytes = all_of (limited_at 65536) bytes >>= λ x. Some (Behind x)
 
-abbrev pub decided_of : List ℕ → Option What
-decided_of bytes = all_of (two position_at entry_at) bytes >>= λ x. Some (Decided x.0 x.1)
+abbrev pub decided_of : Version → List ℕ → Option What
+decided_of version bytes = do
+  pos ← position_at bytes
+  count ← count_at version pos.1
+  entries ← all_of (entries_at count.0) count.1
+  if nat_le (pos.0 + count.0) 65536 then Some (Decided pos.0 entries) else None
 
 abbrev pub submit_of : List ℕ → Option What
 submit_of bytes = all_of entry_at bytes >>= λ x. Some (Submit x)
@@ -116,9 +144,9 @@ submit_of bytes = all_of entry_at bytes >>= λ x. Some (Submit x)
 abbrev pub ask_of : List ℕ → Option What
 ask_of bytes = all_of id_at bytes >>= λ x. Some (Ask x)
 
-abbrev pub sheet_of : List ℕ → Option What
-sheet_of bytes =
-    all_of (two (member_at event_number events)
+abbrev pub sheet_of : Version → List ℕ → Option What
+sheet_of version bytes =
+    all_of (two (event_at version)
     (two byte_at (two (number_at w32) (member_at style_number styles))))
     bytes
     >>= λ x. Some (Sheet x.0 x.1.0 x.1.1.0 x.1.1.1)
@@ -142,19 +170,19 @@ kinds = 1 ∷ 2 ∷ 3 ∷ 4 ∷ 5 ∷ 6 ∷ 7 ∷ 16 ∷ 17 ∷ 18 ∷ 19 ∷ 20
 abbrev pub is_kind : ℕ → Bool
 is_kind kind = list_any (λ k. k == kind) kinds
 
--- the fields of the kind with this number
-unfoldable pub what_of : ℕ → List ℕ → Option What
-what_of kind bytes =
+-- the fields of the kind with this number, in a version
+unfoldable pub what_of : Version → ℕ → List ℕ → Option What
+what_of version kind bytes =
     if kind == 1 then prepare_of bytes
     else if kind == 2 then promise_of bytes
     else if kind == 3 then accept_of bytes
     else if kind == 4 then accepted_of bytes
     else if kind == 5 then nack_of bytes
     else if kind == 6 then behind_of bytes
-    else if kind == 7 then decided_of bytes
+    else if kind == 7 then decided_of version bytes
     else if kind == 16 then submit_of bytes
     else if kind == 17 then ask_of bytes
-    else if kind == 18 then sheet_of bytes
+    else if kind == 18 then sheet_of version bytes
     else if kind == 19 then empty_of Tick bytes
     else if kind == 20 then empty_of Stop bytes
     else if kind == 32 then taken_of bytes
@@ -173,17 +201,25 @@ goes Between from to = is_desk from && is_desk to
 goes FromClient from to = (from == 0) && is_desk to
 goes ToClient from to = is_desk from && (to == 0)
 
-abbrev pub frame_from : ℕ → ℕ → ℕ → Option What → Result Frame WireFault
-frame_from hall from to None = Err BadBody
-frame_from hall from to (Some what) =
+abbrev pub frame_from : Version → ℕ → ℕ → ℕ → Option What → Result Frame WireFault
+frame_from version hall from to None = Err BadBody
+frame_from version hall from to (Some what) =
     if goes (way_of what) from to
-    then Ok (record { hall = hall; from = from; to = to; what = what })
+    then Ok (record { version = version; hall = hall; from = from; to = to; what = what })
     else Err BadBody
+
+-- what stands behind the version, where it is one
+abbrev pub frame_in : Option Version → ℕ → ℕ → ℕ → ℕ → List ℕ → Result Frame WireFault
+frame_in None hall from to kind bytes = Err BadVersion
+frame_in (Some version) hall from to kind bytes =
+    if not (is_kind kind) then Err BadKind
+    else frame_from version hall from to (what_of version kind bytes)
+
+abbrev pub version_of : ℕ → Option Version
+version_of n = numbered version_number versions n
 
 -- what stands behind a length: the frame, or the first fault
 unfoldable pub frame_of : List ℕ → Result Frame WireFault
 frame_of (version ∷ a ∷ b ∷ c ∷ d ∷ from ∷ to ∷ kind ∷ bytes) =
-    if not (version == 1) then Err BadVersion
-    else if not (is_kind kind) then Err BadKind
-    else frame_from (from_be_bytes w32 (a ∷ b ∷ c ∷ d ∷ [])) from to (what_of kind bytes)
+    frame_in (version_of version) (from_be_bytes w32 (a ∷ b ∷ c ∷ d ∷ [])) from to kind bytes
 frame_of _ = Err BadBody

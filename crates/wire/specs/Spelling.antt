@@ -1,5 +1,6 @@
 -- The bytes of a frame: one spelling for each. Numbers are unsigned, the highest byte first.
 use Rattle.std.specs.Prelude.{ℕ, List, [], ◌∷◌, ◌++◌, length, Option, Some, None}
+use Rattle.std.specs.List.{flat_map}
 use Rattle.std.specs.Int.{w16, w32, w64, to_be_bytes}
 use Rattle.acceptor.specs.declared.ballot.Ballot.{Ballot}
 use Rattle.acceptor.specs.declared.entry.Entry.{Entry}
@@ -10,7 +11,9 @@ use Rattle.wire.specs.declared.values.Standing.{Standing}
 use Rattle.wire.specs.declared.values.Standing.TheVariants.{Unknown, Pending, Done}
 use Rattle.wire.specs.declared.frame.What.{What}
 use Rattle.wire.specs.declared.frame.What.TheVariants.{Prepare, Promise, Accept, Accepted, Nack, Behind, Decided, Submit, Ask, Sheet, Tick, Stop, Taken, Told, SheetText, Refused, Fine}
-use Rattle.wire.specs.Numbers.{answer_number, refusal_number, style_number}
+use Rattle.wire.specs.declared.values.Version.{Version}
+use Rattle.wire.specs.declared.values.Version.TheVariants.{One, Two}
+use Rattle.wire.specs.Numbers.{answer_number, refusal_number, style_number, version_number}
 
 abbrev pub ballot_bytes : Ballot → List ℕ
 ballot_bytes b = to_be_bytes w32 b.round ++ b.desk ∷ []
@@ -39,7 +42,7 @@ kind_of (Accept b pos e) = 3
 kind_of (Accepted b pos) = 4
 kind_of (Nack b pos promised) = 5
 kind_of (Behind len) = 6
-kind_of (Decided pos e) = 7
+kind_of (Decided pos entries) = 7
 kind_of (Submit e) = 16
 kind_of (Ask id) = 17
 kind_of (Sheet event round position style) = 18
@@ -51,30 +54,41 @@ kind_of (SheetText bytes) = 34
 kind_of (Refused refusal) = 35
 kind_of Fine = 36
 
--- the fields of a frame, in their order
-abbrev pub body : What → List ℕ
-body (Prepare b pos) = ballot_bytes b ++ to_be_bytes w32 pos
-body (Promise b pos vote) = ballot_bytes b ++ to_be_bytes w32 pos ++ report_bytes vote
-body (Accept b pos e) = ballot_bytes b ++ to_be_bytes w32 pos ++ entry_bytes e
-body (Accepted b pos) = ballot_bytes b ++ to_be_bytes w32 pos
-body (Nack b pos promised) = ballot_bytes b ++ to_be_bytes w32 pos ++ ballot_bytes promised
-body (Behind len) = to_be_bytes w32 len
-body (Decided pos e) = to_be_bytes w32 pos ++ entry_bytes e
-body (Submit e) = entry_bytes e
-body (Ask id) = to_be_bytes w64 id
-body (Sheet event round position style) =
+-- how many entries a Decided has, which only version 2 says
+abbrev pub count_bytes : Version → ℕ → List ℕ
+count_bytes One n = []
+count_bytes Two n = n ∷ []
+
+abbrev pub decided_bytes : Version → ℕ → List Entry → List ℕ
+decided_bytes version pos entries =
+    to_be_bytes w32 pos ++ count_bytes version (length entries) ++ flat_map entry_bytes entries
+
+-- the fields of a frame of a version, in their order
+abbrev pub body : Version → What → List ℕ
+body v (Prepare b pos) = ballot_bytes b ++ to_be_bytes w32 pos
+body v (Promise b pos vote) = ballot_bytes b ++ to_be_bytes w32 pos ++ report_bytes vote
+body v (Accept b pos e) = ballot_bytes b ++ to_be_bytes w32 pos ++ entry_bytes e
+body v (Accepted b pos) = ballot_bytes b ++ to_be_bytes w32 pos
+body v (Nack b pos promised) = ballot_bytes b ++ to_be_bytes w32 pos ++ ballot_bytes promised
+body v (Behind len) = to_be_bytes w32 len
+body v (Decided pos entries) = decided_bytes v pos entries
+body v (Submit e) = entry_bytes e
+body v (Ask id) = to_be_bytes w64 id
+body v (Sheet event round position style) =
     event_number event ∷ round ∷ to_be_bytes w32 position ++ style_number style ∷ []
-body Tick = []
-body Stop = []
-body (Taken id) = to_be_bytes w64 id
-body (Told id s) = to_be_bytes w64 id ++ standing_bytes s
-body (SheetText bytes) = bytes
-body (Refused refusal) = refusal_number refusal ∷ []
-body Fine = []
+body v Tick = []
+body v Stop = []
+body v (Taken id) = to_be_bytes w64 id
+body v (Told id s) = to_be_bytes w64 id ++ standing_bytes s
+body v (SheetText bytes) = bytes
+body v (Refused refusal) = refusal_number refusal ∷ []
+body v Fine = []
 
 -- what stands behind the length: version, hall, sender, receiver, kind, fields
 abbrev pub inside : Frame → List ℕ
-inside f = 1 ∷ to_be_bytes w32 f.hall ++ f.from ∷ f.to ∷ kind_of f.what ∷ body f.what
+inside f =
+    version_number f.version ∷ to_be_bytes w32 f.hall ++ f.from ∷ f.to ∷ kind_of f.what ∷
+    body f.version f.what
 
 abbrev pub spelling : Frame → List ℕ
 spelling f = to_be_bytes w32 (length (inside f)) ++ inside f

@@ -10,7 +10,7 @@ use std::alloc::{AllocError, AllocFailed};
 pub enum WireFault {
     /// The length is not 8 to 300,000. It is known with the four bytes of the length.
     BadLength,
-    /// The version is not 1. This and the faults below are known with the whole frame.
+    /// The version is neither 1 nor 2. This and the faults below are known with the whole frame.
     BadVersion,
     /// No kind has this number.
     BadKind,

@@ -4,16 +4,16 @@
 ghost use Rattle.std.specs.Prelude.{◌≡◌, IfOk, IfErr, IfSome, option_map};
 ghost use Rattle.std.specs.Int.{w16, w32, w64};
 ghost use Rattle.acceptor.specs.Entries.{IsId, IsText};
-ghost use Rattle.formats.specs.Events.{events, event_number};
+ghost use Rattle.formats.specs.Events.{all_events, event_number};
 ghost use Rattle.wire.specs.Fields.{number_at, byte_at, numbered, ended};
 ghost use Rattle.wire.specs.Numbers.{answers, answer_number, refusals, refusal_number, styles, style_number};
-ghost use Rattle.wire.specs.Reading.{ballot_at, limited_at, position_at, id_at, text_at, entry_at, report_at, member_at, standing_at};
+ghost use Rattle.wire.specs.Reading.{ballot_at, limited_at, position_at, id_at, text_at, entry_at, report_at, member_at, event_at, standing_at};
 ghost use Rattle.wire.specs.declared.fault.WireFault.TheVariants.{NoMemory};
 ghost use Rattle.wire.specs.model.Gives.{GivesField};
 ghost use Rattle.wire.specs.model.Parts.{part_entry, part_report, IsPart};
 
 use crate::fault::WireFault;
-use crate::values::{ClientRefusal, SheetStyle, Standing};
+use crate::values::{ClientRefusal, SheetStyle, Standing, Version};
 use acceptor::ballot::Ballot;
 use acceptor::entry::{Entry, EntryFault};
 use acceptor::message::Report;
@@ -209,13 +209,26 @@ fn there<A: Copy>(member: Option<A>) -> Result<A, WireFault>
     }
 }
 
-#[tactic(auto, unfolding(crate::specs::Reading::member_at, formats::specs::Events::event_numbered))]
-pub(crate) fn event_of(bytes: &[u8]) -> Result<(Event, &[u8]), WireFault>
-    ensures { GivesField (λ x. (x.0, x.1.now)) result (member_at event_number events bytes.now) }
+#[tactic(auto, unfolding(crate::specs::Reading::member_at, formats::specs::Events::event_of_number))]
+fn any_event_of(bytes: &[u8]) -> Result<(Event, &[u8]), WireFault>
+    ensures { GivesField (λ x. (x.0, x.1.now)) result (member_at event_number all_events bytes.now) }
 {
     let (number, rest) = byte_of(bytes)?;
     let event = there(Event::from_number(number))?;
     Ok((event, rest))
+}
+
+/// An event whose sheets can be asked for in this version.
+#[tactic(auto, unfolding(crate::specs::Reading::event_at))]
+pub(crate) fn event_of(version: Version, bytes: &[u8]) -> Result<(Event, &[u8]), WireFault>
+    ensures { GivesField (λ x. (x.0, x.1.now)) result (event_at version bytes.now) }
+{
+    let (event, rest) = any_event_of(bytes)?;
+    if event.number() <= version.last_event() {
+        Ok((event, rest))
+    } else {
+        Err(WireFault::BadBody)
+    }
 }
 
 #[tactic(auto, unfolding(crate::specs::Reading::member_at))]

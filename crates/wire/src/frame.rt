@@ -3,7 +3,8 @@
 ghost use Rattle.std.specs.Prelude.{◌≡◌};
 
 use crate::bytes::Bytes;
-use crate::values::{ClientRefusal, SheetStyle, Standing};
+use crate::entries::Entries;
+use crate::values::{ClientRefusal, SheetStyle, Standing, Version};
 use acceptor::ballot::Ballot;
 use acceptor::entry::Entry;
 use acceptor::message::Report;
@@ -13,6 +14,8 @@ use formats::Event;
 /// the client.
 #[derive(PartialEq, Eq, Debug, Drop)]
 pub struct Frame {
+    /// The version in which it is spelled.
+    pub version: Version,
     /// The number of the hall.
     pub hall: u32,
     /// The desk that sends it, 1 to 5, or 0 for a client.
@@ -27,7 +30,8 @@ pub struct Frame {
 ///
 /// A frame has a spelling where each field is in its range. A ballot has a round of at least 1 and
 /// a desk of 1 to 5; a position is at most 65,535; an id is 1 to 2^63 - 1; an entry has an id and a
-/// text of at most 600 bytes. Prepare to Decided go from a desk to a desk, Submit to Stop from a
+/// text of at most 600 bytes. A Decided has one entry in version 1 and 1 to 16 in version 2, for
+/// consecutive positions, and a Sheet an event of 1 to 16 or 1 to 17. Prepare to Decided go from a desk to a desk, Submit to Stop from a
 /// client (0) to a desk, and Taken to Fine from a desk to a client.
 #[derive(PartialEq, Eq, Debug, Drop)]
 pub enum What {
@@ -63,10 +67,10 @@ pub enum What {
     Behind {
         len: u32,
     },
-    /// What stands in the log at a position.
+    /// What stands in the log from a position on.
     Decided {
         pos: u32,
-        entry: Entry,
+        entries: Entries,
     },
     /// A client enters a command.
     Submit {

@@ -5,6 +5,8 @@
 #![tactic(auto)]
 
 pub mod bytes;
+mod decided;
+pub mod entries;
 pub mod fault;
 mod fields;
 pub mod frame;
@@ -16,9 +18,10 @@ pub mod values;
 mod writing;
 
 pub use bytes::Bytes;
+pub use entries::Entries;
 pub use fault::WireFault;
 pub use frame::{Frame, What};
 pub use reader::{FrameReader, Received, read_pieces};
 pub use std::alloc::AllocError as NoMemory;
-pub use values::{ClientRefusal, SheetStyle, Standing};
+pub use values::{ClientRefusal, SheetStyle, Standing, Version};
 pub use writing::encode;

@@ -4,16 +4,18 @@ ghost use Rattle.std.specs.Prelude.{◌≡◌, IfOk, IfErr};
 ghost use Rattle.wire.specs.declared.fault.WireFault.TheVariants.{NoMemory};
 ghost use Rattle.wire.specs.declared.frame.What.TheVariants.{SheetText};
 ghost use Rattle.wire.specs.Ranges.{way_of_kind};
-ghost use Rattle.wire.specs.Reading.{prepare_of, promise_of, accept_of, accepted_of, nack_of, behind_of, decided_of, submit_of, ask_of, sheet_of, taken_of, told_of, refused_of, empty_of, what_of, is_kind, is_desk, goes, frame_of};
+ghost use Rattle.wire.specs.Reading.{prepare_of, promise_of, accept_of, accepted_of, nack_of, behind_of, submit_of, ask_of, sheet_of, taken_of, told_of, refused_of, empty_of, what_of, is_kind, is_desk, goes, frame_of};
 ghost use Rattle.wire.specs.model.Gives.{GivesBody, GivesFrame};
 
 use crate::bytes::Bytes;
+use crate::decided::decided_of;
 use crate::fault::WireFault;
 use crate::fields::{
     ballot_of, byte_of, end, entry_of, event_of, id_of, limited_of, position_of, refusal_of,
     report_of, standing_of, style_of, u32_of,
 };
 use crate::frame::{Frame, What};
+use crate::values::Version;
 use std::alloc::Global;
 
 fn prepare_of(bytes: &[u8]) -> Result<What, WireFault>
@@ -81,16 +83,6 @@ fn behind_of(bytes: &[u8]) -> Result<What, WireFault>
     Ok(What::Behind { len })
 }
 
-fn decided_of(alloc: Global, bytes: &[u8]) -> Result<What, WireFault>
-    ensures { GivesBody result (decided_of bytes.now) }
-{
-    let (pos, rest) = position_of(bytes)?;
-    let (entry, rest) = entry_of(rest)?;
-    end(rest)?;
-    let entry = entry.to_entry(alloc)?;
-    Ok(What::Decided { pos, entry })
-}
-
 fn submit_of(alloc: Global, bytes: &[u8]) -> Result<What, WireFault>
     ensures { GivesBody result (submit_of bytes.now) }
 {
@@ -108,10 +100,10 @@ fn ask_of(bytes: &[u8]) -> Result<What, WireFault>
     Ok(What::Ask { id })
 }
 
-fn sheet_of(bytes: &[u8]) -> Result<What, WireFault>
-    ensures { GivesBody result (sheet_of bytes.now) }
+fn sheet_of(version: Version, bytes: &[u8]) -> Result<What, WireFault>
+    ensures { GivesBody result (sheet_of version bytes.now) }
 {
-    let (event, rest) = event_of(bytes)?;
+    let (event, rest) = event_of(version, bytes)?;
     let (round, rest) = byte_of(rest)?;
     let (position, rest) = u32_of(rest)?;
     let (style, rest) = style_of(rest)?;
@@ -167,8 +159,8 @@ fn empty_of(what: What, bytes: &[u8]) -> Result<What, WireFault>
 
 /// The fields of the kind with this number.
 #[tactic(auto, unfolding(crate::specs::Reading::what_of))]
-fn what_of(alloc: Global, kind: u8, bytes: &[u8]) -> Result<What, WireFault>
-    ensures { GivesBody result (what_of kind bytes.now) }
+fn what_of(alloc: Global, version: Version, kind: u8, bytes: &[u8]) -> Result<What, WireFault>
+    ensures { GivesBody result (what_of version kind bytes.now) }
 {
     match kind {
         1 => prepare_of(bytes),
@@ -177,10 +169,10 @@ fn what_of(alloc: Global, kind: u8, bytes: &[u8]) -> Result<What, WireFault>
         4 => accepted_of(bytes),
         5 => nack_of(bytes),
         6 => behind_of(bytes),
-        7 => decided_of(alloc, bytes),
+        7 => decided_of(alloc, version, bytes),
         16 => submit_of(alloc, bytes),
         17 => ask_of(bytes),
-        18 => sheet_of(bytes),
+        18 => sheet_of(version, bytes),
         19 => empty_of(What::Tick, bytes),
         20 => empty_of(What::Stop, bytes),
         32 => taken_of(bytes),
@@ -224,12 +216,12 @@ fn goes(kind: u8, from: u8, to: u8) -> bool
 pub(crate) fn frame_of(alloc: Global, bytes: &[u8]) -> Result<Frame, WireFault>
     ensures { GivesFrame result (frame_of bytes.now) }
 {
-    let [version, a, b, c, d, from, to, kind, fields @ ..] = bytes else {
+    let [number, a, b, c, d, from, to, kind, fields @ ..] = bytes else {
         return Err(WireFault::BadBody);
     };
-    if *version != 1 {
+    let Some(version) = Version::from_number(*number) else {
         return Err(WireFault::BadVersion);
-    }
+    };
     if !is_kind(*kind) {
         return Err(WireFault::BadKind);
     }
@@ -237,8 +229,9 @@ pub(crate) fn frame_of(alloc: Global, bytes: &[u8]) -> Result<Frame, WireFault>
         return Err(WireFault::BadBody);
     }
     let hall = u32::from_be_bytes([*a, *b, *c, *d]);
-    let what = what_of(alloc, *kind, fields)?;
+    let what = what_of(alloc, version, *kind, fields)?;
     Ok(Frame {
+        version,
         hall,
         from: *from,
         to: *to,

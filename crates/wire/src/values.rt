@@ -1,8 +1,18 @@
-//! The values that only frames have: styles of sheets, what became of a command, refusals.
+//! The values that only frames have: their versions, styles of sheets, what became of a command,
+//! refusals.
 
 ghost use Rattle.std.specs.Prelude.{◌≡◌};
 
 use texts::Answer;
+
+/// The version of the wire in which a frame is spelled.
+#[derive(Clone, Copy, Debug, PartialEq, Eq)]
+pub enum Version {
+    /// A Decided has one entry, and sheets are those of the events 1 to 16.
+    One,
+    /// A Decided has 1 to 16 entries, and sheets are those of the events 1 to 17.
+    Two,
+}
 
 /// How a sheet is printed.
 #[derive(Clone, Copy, Debug, PartialEq, Eq)]
@@ -43,6 +53,44 @@ pub enum ClientRefusal {
     NoSuchRound,
     /// The frame was for another hall, or for another desk.
     Foreign,
+}
+
+impl Version {
+    ghost use Rattle.wire.specs.Fields.{numbered};
+    ghost use Rattle.wire.specs.Numbers.{versions, version_number, last_event};
+
+    /// All versions.
+    pub const ALL: [Version; 2] = [Version::One, Version::Two];
+
+    /// The version's number, with which what stands behind a frame's length begins.
+    pub fn number(self) -> u8
+        ensures { result ≡ version_number self }
+    {
+        match self {
+            Version::One => 1,
+            Version::Two => 2,
+        }
+    }
+
+    /// The version that has a number, if one has it.
+    pub fn from_number(number: u8) -> Option<Version>
+        ensures { result ≡ numbered version_number versions number }
+    {
+        Version::ALL
+            .iter()
+            .copied()
+            .find(|version| version.number() == number)
+    }
+
+    /// The number of the last event whose sheets can be asked for in this version.
+    pub fn last_event(self) -> u8
+        ensures { result ≡ last_event self }
+    {
+        match self {
+            Version::One => 16,
+            Version::Two => 17,
+        }
+    }
 }
 
 impl SheetStyle {

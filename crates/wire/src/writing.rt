@@ -1,22 +1,20 @@
 //! Frames as bytes.
 
-ghost use Rattle.std.specs.Prelude.{◌≡◌, ◌≤◌, ◌++◌, IfOk, OnOk, length, drop};
+ghost use Rattle.std.specs.Prelude.{◌≡◌, ◌≤◌, ◌<◌, ◌++◌, IfOk, OnOk, length, drop};
 ghost use Rattle.std.specs.Int.{w16, w32, w64, to_be_bytes};
 ghost use Rattle.wire.specs.Numbers.{answer_number};
 ghost use Rattle.wire.specs.Ranges.{IsFrame, IsBody};
-ghost use Rattle.wire.specs.Spelling.{ballot_bytes, text_bytes, entry_bytes, report_bytes, standing_bytes, kind_of, body, inside, spelling};
+ghost use Rattle.std.specs.List.{flat_map};
+ghost use Rattle.wire.specs.Spelling.{ballot_bytes, text_bytes, entry_bytes, count_bytes, report_bytes, standing_bytes, kind_of, body, inside, spelling};
 
 use crate::NoMemory;
 use crate::frame::{Frame, What};
-use crate::values::Standing;
+use crate::values::{Standing, Version};
 use acceptor::ballot::Ballot;
 use acceptor::entry::Entry;
 use acceptor::message::Report;
 use std::alloc::Global;
 use texts::Answer;
-
-/// The one version of this wire.
-const VERSION: u8 = 1;
 
 fn put_u32(out: &mut Vec<u8>, number: u32) -> Result<(), NoMemory>
     ensures { OnOk result (out.new.items ≡ out.old.items ++ to_be_bytes w32 number) }
@@ -102,9 +100,34 @@ fn put_standing(out: &mut Vec<u8>, standing: Standing) -> Result<(), NoMemory>
     Ok(())
 }
 
-/// The fields of a frame, in their order.
-fn put_body(out: &mut Vec<u8>, what: &What) -> Result<(), NoMemory>
-    ensures { OnOk result (out.new.items ≡ out.old.items ++ body what.now) }
+/// How many entries a Decided has, which only version 2 says.
+fn put_count(out: &mut Vec<u8>, version: Version, count: usize) -> Result<(), NoMemory>
+    requires { count < 256 }
+    ensures { OnOk result (out.new.items ≡ out.old.items ++ count_bytes version count) }
+{
+    match version {
+        Version::One => Ok(()),
+        Version::Two => {
+            out.push(count as u8)?;
+            Ok(())
+        }
+    }
+}
+
+#[tactic(auto, using(crate::proofs::Runs::put_more))]
+fn put_entries(out: &mut Vec<u8>, entries: &[Entry]) -> Result<(), NoMemory>
+    ensures { OnOk result (out.new.items ≡ out.old.items ++ flat_map entry_bytes entries.now) }
+{
+    for entry in entries {
+        put_entry(out, entry)?;
+    }
+    Ok(())
+}
+
+/// The fields of a frame of this version, in their order.
+fn put_body(out: &mut Vec<u8>, version: Version, what: &What) -> Result<(), NoMemory>
+    requires { IsBody version what.now }
+    ensures { OnOk result (out.new.items ≡ out.old.items ++ body version what.now) }
 {
     match what {
         What::Prepare { ballot, pos } | What::Accepted { ballot, pos } => {
@@ -127,9 +150,10 @@ fn put_body(out: &mut Vec<u8>, what: &What) -> Result<(), NoMemory>
             put_ballot(out, *promised)
         }
         What::Behind { len } => put_u32(out, *len),
-        What::Decided { pos, entry } => {
+        What::Decided { pos, entries } => {
             put_u32(out, *pos)?;
-            put_entry(out, entry)
+            put_count(out, version, entries.as_slice().len())?;
+            put_entries(out, entries.as_slice())
         }
         What::Submit { entry } => put_entry(out, entry),
         What::Ask { id } | What::Taken { id } => put_u64(out, *id),
@@ -159,12 +183,13 @@ fn put_body(out: &mut Vec<u8>, what: &What) -> Result<(), NoMemory>
 
 /// What stands behind the length.
 fn put_inside(out: &mut Vec<u8>, frame: &Frame) -> Result<(), NoMemory>
+    requires { IsFrame frame.now }
     ensures { OnOk result (out.new.items ≡ out.old.items ++ inside frame.now) }
 {
-    out.push(VERSION)?;
+    out.push(frame.version.number())?;
     put_u32(out, frame.hall)?;
     out.extend_from_slice(&[frame.from, frame.to, frame.what.kind()])?;
-    put_body(out, &frame.what)
+    put_body(out, frame.version, &frame.what)
 }
 
 /// The bytes of a frame whose fields are in their ranges: a length of four bytes, the version, the

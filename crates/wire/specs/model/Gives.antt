@@ -1,5 +1,6 @@
 -- What the functions that read a frame return, beside what reading gives.
-use Rattle.std.specs.Prelude.{◌≡◌, Option, Some, None, IsSome, Result, Ok, Err, IsOk}
+use Rattle.acceptor.specs.declared.entry.Entry.{Entry}
+use Rattle.std.specs.Prelude.{List, ◌++◌, ℕ, ◌≡◌, Option, Some, None, IsSome, Result, Ok, Err, IsOk}
 use Rattle.wire.specs.declared.fault.WireFault.{WireFault}
 use Rattle.wire.specs.declared.fault.WireFault.TheVariants.{BadLength, BadVersion, BadKind, BadBody, NoMemory}
 use Rattle.wire.specs.declared.frame.Frame.{Frame}
@@ -28,6 +29,20 @@ LacksBody NoMemory read = IsSome read
 abbrev pub GivesBody : Result What WireFault → Option What → Type 0
 GivesBody (Ok what) read = read ≡ Some what
 GivesBody (Err e) read = LacksBody e read
+
+-- entries were put behind others; memory may be refused whatever stands there
+abbrev pub LacksEntries : WireFault → Option (List Entry × List ℕ) → Type 0
+LacksEntries BadLength read = ⊥
+LacksEntries BadVersion read = ⊥
+LacksEntries BadKind read = ⊥
+LacksEntries BadBody read = read ≡ None
+LacksEntries NoMemory read = Unit {0}
+
+abbrev pub PushesEntries : {U : Type 0} → Result U WireFault → List Entry → List Entry
+    → Option (List Entry × List ℕ) → Type 0
+PushesEntries (Ok done) old new read =
+    (entries : List Entry) × (rest : List ℕ) × (read ≡ Some (entries, rest)) × (new ≡ old ++ entries)
+PushesEntries (Err e) old new read = LacksEntries e read
 
 -- a frame, or the first fault; memory is wanted only where there is a frame
 abbrev pub GivesFrame : Result Frame WireFault → Result Frame WireFault → Type 0

@@ -1,0 +1,203 @@
+-- The fields of a Decided: what is read is spelled so and in its ranges, and what is spelled so is
+-- read.
+use Rattle.std.proofs.Common.{◌≡◌, ℕ, zero, suc, ◌+◌, ◌*◌, ◌<◌, ◌≤◌, cond, leb, List, [], ◌∷◌, ◌++◌, length, get_or, take, Some, None, Result, Ok, Err, OnOk, refl, sym, ap, subst, ◌∙◌, append_assoc, arith}
+use Rattle.std.specs.List.{flat_map, AllByRecursion}
+use Rattle.std.proofs.lemmas.Bool.{leb-true, le-leb}
+use Rattle.std.proofs.lemmas.List.{length-append, append-nil, take_more, flat_map_more}
+use Rattle.acceptor.specs.declared.entry.Entry.{Entry}
+use Rattle.wire.specs.declared.frame.What.{What}
+use Rattle.wire.specs.declared.frame.What.TheVariants.{Decided}
+use Rattle.wire.specs.declared.values.Version.{Version}
+use Rattle.wire.specs.declared.values.Version.TheVariants.{One, Two}
+use Rattle.wire.specs.Fields.{◌>>=◌, byte_at, all_of}
+use Rattle.wire.specs.Ranges.{IsEntry, IsPosition, IsCount, AreDecided}
+use Rattle.wire.specs.Reading.{between, position_at, entry_at, count_at, entries_at, decided_of}
+use Rattle.wire.specs.Spelling.{entry_bytes, count_bytes, decided_bytes}
+use Rattle.wire.proofs.Taking.{IsBytes, bind_some, passed, some_is, Takes, Takes-then}
+use Rattle.wire.proofs.FieldLaws.{between_is, between_holds}
+use Rattle.wire.proofs.Sequences.{IsField, all_takes, all_again}
+use Rattle.wire.proofs.Bodies.{u32, position_field, byte_field, entry_field}
+
+-- ---- the count
+
+count_takes : (v : Version) (bytes : List ℕ) (x : ℕ × List ℕ) → IsBytes bytes
+    → count_at v bytes ≡ Some x → Takes bytes (count_bytes v x.0) x.1 × IsCount v x.0
+unfolding count_at
+count_takes One bytes x fits e =
+    subst (λ (y : ℕ × List ℕ). Takes bytes (count_bytes One y.0) y.1 × IsCount One y.0)
+    (some_is (1, bytes) x e) (record { parts = refl; are_bytes = fits }, refl)
+count_takes Two bytes x fits e =
+    let a = bind_some (byte_at bytes) (λ n. cond (between 1 16 n.0) (Some n) None) x e in
+    let c = passed (between 1 16 a.0.0) a.0 x a.2 in
+    let t = byte_field.takes bytes a.0 fits a.1 in
+    subst (λ (y : ℕ × List ℕ). Takes bytes (count_bytes Two y.0) y.1 × IsCount Two y.0) c.1
+    (t.0, between_is 1 16 a.0.0 c.0)
+
+count_again : (v : Version) (n : ℕ) (rest : List ℕ) → IsCount v n
+    → count_at v (count_bytes v n ++ rest) ≡ Some (n, rest)
+unfolding count_at byte_at
+count_again One n rest fits = ap (λ (k : ℕ). Some (k, rest)) (sym fits)
+count_again Two n rest fits = rw (between_holds 1 16 n fits.0 fits.1) refl
+
+-- ---- entries, one behind the other
+
+abbrev AreSoMany : ℕ → List Entry → Type 0
+AreSoMany n es = (length es ≡ n) × AllByRecursion IsEntry es
+
+entries_takes : (n : ℕ) (bytes : List ℕ) (x : List Entry × List ℕ) → IsBytes bytes
+    → entries_at n bytes ≡ Some x → Takes bytes (flat_map entry_bytes x.0) x.1 × AreSoMany n x.0
+unfolding entries_at
+entries_takes zero bytes x fits e =
+    subst (λ (y : List Entry × List ℕ). Takes bytes (flat_map entry_bytes y.0) y.1
+    × AreSoMany zero y.0) (some_is ([], bytes) x e)
+    (record { parts = refl; are_bytes = fits }, (refl, tt))
+entries_takes (suc n) bytes x fits e =
+    let a = bind_some (entry_at bytes)
+    (λ y. entries_at n y.1 >>= λ z. Some (y.0 ∷ z.0, z.1)) x e in
+    let b = bind_some (entries_at n a.0.1) (λ z. Some (a.0.0 ∷ z.0, z.1)) x a.2 in
+    let t0 = entry_field.takes bytes a.0 fits a.1 in
+    let t1 = entries_takes n a.0.1 b.0 t0.0.are_bytes b.1 in
+    let made : List Entry × List ℕ = (a.0.0 ∷ b.0.0, b.0.1) in
+    subst (λ (y : List Entry × List ℕ). Takes bytes (flat_map entry_bytes y.0) y.1
+    × AreSoMany (suc n) y.0) (some_is made x b.2) (
+      Takes-then bytes (entry_bytes a.0.0) a.0.1 (flat_map entry_bytes b.0.0) b.0.1 t0.0 t1.0,
+      (ap (λ (k : ℕ). suc k) t1.1.0, (t0.1, t1.1.1)),
+    )
+
+entries_again : (es : List Entry) (rest : List ℕ) → AllByRecursion IsEntry es
+    → entries_at (length es) (flat_map entry_bytes es ++ rest) ≡ Some (es, rest)
+unfolding entries_at
+entries_again [] rest fits = refl
+entries_again (e ∷ es) rest fits =
+    let regrouped : flat_map entry_bytes (e ∷ es) ++ rest ≡ entry_bytes
+    e ++ (flat_map entry_bytes es ++ rest) =
+    append_assoc (entry_bytes e) (flat_map entry_bytes es) rest in
+    ap (entries_at (suc (length es))) regrouped ∙ rw (
+      entry_field.again e (flat_map entry_bytes es ++ rest) fits.0,
+      entries_again es rest fits.1,
+    ) refl
+
+entries_field : (n : ℕ) → IsField (flat_map entry_bytes) (AreSoMany n) (entries_at n)
+entries_field n = record {
+  takes = entries_takes n;
+  again = λ es rest fits.
+      subst (λ (k : ℕ). entries_at k (flat_map entry_bytes es ++ rest) ≡ Some (es, rest)) fits.0
+      (entries_again es rest fits.1);
+}
+
+-- ---- the whole
+
+pub record IsRun (v : Version) (bytes : List ℕ) (w : What) : Type 0 where
+  pub pos : ℕ
+  pub entries : List Entry
+  pub is : w ≡ Decided pos entries
+  pub spelled : bytes ≡ decided_bytes v pos entries
+  pub fits : AreDecided v pos entries
+
+-- position, count and entries, in a row
+joined : (v : Version) (pos n : ℕ) (bytes x y : List ℕ) (es : List Entry) → bytes ≡ u32 pos ++ x
+    → x ≡ count_bytes v n ++ y → y ≡ flat_map entry_bytes es → length es ≡ n
+    → bytes ≡ decided_bytes v pos es
+joined v pos n bytes x y es e f g many = rw (e, f, g, many) refl
+
+pub run_takes : (v : Version) (bytes : List ℕ) (w : What) → IsBytes bytes
+    → decided_of v bytes ≡ Some w → IsRun v bytes w
+run_takes v bytes w fits e =
+    let a = bind_some (position_at bytes)
+    (λ p. count_at v p.1 >>= λ c. all_of (entries_at c.0) c.1
+    >>= λ es. cond (leb (p.0 + c.0) 65536) (Some (Decided p.0 es)) None) w e in
+    let b = bind_some (count_at v a.0.1)
+    (λ c. all_of (entries_at c.0) c.1
+    >>= λ es. cond (leb (a.0.0 + c.0) 65536) (Some (Decided a.0.0 es)) None) w a.2 in
+    let c = bind_some (all_of (entries_at b.0.0) b.0.1)
+    (λ es. cond (leb (a.0.0 + b.0.0) 65536) (Some (Decided a.0.0 es)) None) w b.2 in
+    let d = passed (leb (a.0.0 + b.0.0) 65536) (Decided a.0.0 c.0) w c.2 in
+    let t0 = position_field.takes bytes a.0 fits a.1 in
+    let t1 = count_takes v a.0.1 b.0 t0.0.are_bytes b.1 in
+    let t2 = all_takes _ _ _ (entries_field b.0.0) b.0.1 c.0 t1.0.are_bytes c.1 in
+    let many : length c.0 ≡ b.0.0 = t2.1.0 in
+    record {
+      pos = a.0.0;
+      entries = c.0;
+      is = sym {a = Decided a.0.0 c.0} d.1;
+      spelled = joined v a.0.0 b.0.0 bytes a.0.1 b.0.1 c.0 t0.0.parts t1.0.parts t2.0 many;
+      fits = (
+        subst (λ (k : ℕ). IsCount v k) (sym many) t1.1,
+        subst (λ (k : ℕ). a.0.0 + k ≤ 65536) (sym many) (leb-true _ _ d.0),
+        t2.1.1,
+      );
+    }
+
+counted : (v : Version) (n : ℕ) → IsCount v n → 1 ≤ n
+counted One n fits = omega (arith, fits)
+counted Two n fits = fits.0
+
+pub run_again : (v : Version) (pos : ℕ) (entries : List Entry) → AreDecided v pos entries
+    → decided_of v (decided_bytes v pos entries) ≡ Some (Decided pos entries)
+run_again v pos entries fits =
+    let some : 1 ≤ length entries = counted v (length entries) fits.0 in
+    let most : pos + length entries ≤ 65536 = fits.1 in
+    let low : IsPosition pos = omega (arith, some, most) in
+    rw (
+      position_field.again pos (count_bytes v (length entries) ++ flat_map entry_bytes entries) low,
+      count_again v (length entries) (flat_map entry_bytes entries) fits.0,
+      all_again _ _ _ (entries_field (length entries)) entries (refl, fits.2),
+      le-leb _ _ most,
+    ) refl
+
+-- ---- lengths
+
+entries_short : (es : List Entry) → AllByRecursion IsEntry es
+    → length (flat_map entry_bytes es) ≤ 610 * length es
+entries_short [] fits = omega arith
+entries_short (e ∷ es) fits =
+    let others : length (flat_map entry_bytes es) ≤ 610 * length es = entries_short es fits.1 in
+    let here : length e.text ≤ 600 = fits.0.1 in
+    omega (arith, length-append (entry_bytes e) (flat_map entry_bytes es), others, here)
+
+count_most : (v : Version) (n : ℕ) → IsCount v n → (n ≤ 16) × (length (count_bytes v n) ≤ 1)
+count_most One n fits = (omega (arith, fits), omega arith)
+count_most Two n fits = (fits.1, omega arith)
+
+pub run_short : (v : Version) (pos : ℕ) (entries : List Entry) → AreDecided v pos entries
+    → length (decided_bytes v pos entries) ≤ 299992
+run_short v pos entries fits =
+    let c = count_most v (length entries) fits.0 in
+    let es = entries_short entries fits.2 in
+    omega (
+      arith,
+      length-append (u32 pos) (count_bytes v (length entries) ++ flat_map entry_bytes entries),
+      length-append (count_bytes v (length entries)) (flat_map entry_bytes entries),
+      c.0,
+      c.1,
+      es,
+    )
+
+-- ---- putting entries, one after the other
+
+-- one more entry was put
+pub put_more : (es : List Entry) (i : ℕ) (e : Entry) (out : List ℕ) → i < length es
+    → e ≡ get_or es i e
+    → (out ++ flat_map entry_bytes (take i es)) ++ entry_bytes e
+    ≡ out ++ flat_map entry_bytes (take (i + 1) es)
+put_more es i e out lt is =
+    let more : take (i + 1) es ≡ take i es ++ e ∷ [] =
+    take_more es i e lt ∙ ap (λ (x : Entry). take i es ++ x ∷ []) (sym is) in
+    flat_map_more entry_bytes out (take i es) e
+    ∙ ap (λ (x : List Entry). out ++ flat_map entry_bytes x) (sym more)
+
+-- a ballot and a position were put, and then what stands behind them
+placed : (out b p e : List ℕ) → (out ++ (b ++ p)) ++ e ≡ out ++ (b ++ (p ++ e))
+placed out b p e = append_assoc out (b ++ p) e ∙ ap (λ (x : List ℕ). out ++ x) (append_assoc b p e)
+
+pub put_behind : {T E : Type 0} (r : Result T E) (new mid old b p e : List ℕ)
+    → mid ≡ old ++ (b ++ p) → OnOk r (new ≡ mid ++ e) → OnOk r (new ≡ old ++ (b ++ (p ++ e)))
+put_behind (Ok x) new mid old b p e is h =
+    h ∙ ap (λ (z : List ℕ). z ++ e) is ∙ placed old b p e
+put_behind (Err x) new mid old b p e is h = tt
+
+-- no entry was put behind others
+pub none_pushed : (n : ℕ) (bytes : List ℕ) (es : List Entry) → n ≡ 0
+    → (x : List Entry) × (rest : List ℕ) × (entries_at n bytes ≡ Some (x, rest)) × (es ≡ es ++ x)
+unfolding entries_at
+none_pushed n bytes es e = ([], bytes, rw e refl, sym (append-nil es))
