@@ -20,6 +20,7 @@ use Rattle.store.specs.Kept.{Keeps}
 use Rattle.store.specs.Layout.{no_schema}
 use Rattle.store.specs.Opening.{Opens}
 use Rattle.store.specs.declared.home.Home.{Home}
+use Rattle.serving.specs.Making.{speaking, spoken}
 use Rattle.sockets.specs.Visits.{Standing}
 use Rattle.store.specs.Ranges.{IsHome}
 use Rattle.serve.proofs.Over.{allowed_of, by_listener}
@@ -87,10 +88,11 @@ opened_on k files home c keeper node fresh found opens place n = record {
 
 run_of : {K : Type 0} (k : KeeperWords K) (files : Image) (s : Service) (home : Home) (o : Output)
     (first last : NodeValue K)
-    (Does : Turn → Standing (Handles k) → Standing (Handles k) → Type 0)
+    (Does : Turn → Standing (speaking (Handles k) (spoken s.wire))
+    → Standing (speaking (Handles k) (spoken s.wire)) → Type 0)
     → IsOpenedOn k files home first → home ≡ home_of s
     → Does (turn (k.home_of first.keeper) s.connections (length first.desk.log) o)
-    (standing k first) (standing k last)
+    (standing k s.wire first) (standing k s.wire last)
     → IsRun k files s o Does
 run_of k files s home o first last Does opened is does = record {
   first = first;
@@ -98,8 +100,8 @@ run_of k files s home o first last Does opened is does = record {
   opened = subst (λ h. IsOpenedOn k files h first) is opened;
   served =
       subst
-      (λ h. Does (turn h s.connections (length first.desk.log) o) (standing k first)
-      (standing k last))
+      (λ h. Does (turn h s.connections (length first.desk.log) o) (standing k s.wire first)
+      (standing k s.wire last))
       (opened.place ∙ is) does;
 }
 
@@ -107,7 +109,7 @@ pub runs : {K : Type 0} (k : KeeperWords K) (files : Image) (s : Service) (home 
     (o : Output) (first last : NodeValue K) (r : Result (Unit {0}) ServeFault)
     → IsOpenedOn k files home first → home ≡ home_of s
     → OnOk r (Serves (turn (k.home_of first.keeper) s.connections (length first.desk.log) o)
-    (standing k first) (standing k last))
+    (standing k s.wire first) (standing k s.wire last))
     → OnOk r (IsRun k files s o Serves)
 runs k files s home o first last r opened is h =
     on_ok_weaker r (run_of k files s home o first last Serves opened is) h
@@ -117,7 +119,7 @@ pub runs_ill : {K : Type 0} (k : KeeperWords K) (files : Image) (s : Service) (h
     → IsOpenedOn k files home first → home ≡ home_of s → IsHome home
     → IfErr r (λ f. (IsOfListener f × KeepsBytes o.old o.new)
     ⊎ FailsServing f (turn (k.home_of first.keeper) s.connections (length first.desk.log) o)
-    (standing k first) (standing k last))
+    (standing k s.wire first) (standing k s.wire last))
     → IfErr r (λ f. IsHindered f s o ⊎ IsRun k files s o (FailsServing f))
 runs_ill k files s home o first last r opened is allowed h =
     IfErr-weaker r _ _ (λ f. how f) h
@@ -125,7 +127,7 @@ runs_ill k files s home o first last r opened is allowed h =
     how : (f : ServeFault)
         → (IsOfListener f × KeepsBytes o.old o.new)
         ⊎ FailsServing f (turn (k.home_of first.keeper) s.connections (length first.desk.log) o)
-        (standing k first) (standing k last)
+        (standing k s.wire first) (standing k s.wire last)
         → IsHindered f s o ⊎ IsRun k files s o (FailsServing f)
     how f (inl e) =
         inl (record { cause = by_listener f s e.0 (allowed_of s home is allowed); silent = e.1 })

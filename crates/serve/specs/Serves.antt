@@ -5,7 +5,7 @@ use Rattle.sqlite.specs.Recovery.{Image}
 use Rattle.lines.specs.Bytes.{AppendsPart}
 use Rattle.node.specs.Handles.{Handles}
 use Rattle.node.specs.Nodes.{NodeValue, KeeperWords}
-use Rattle.serving.specs.Making.{Way}
+use Rattle.serving.specs.Making.{Way, speaking, spoken}
 use Rattle.serving.specs.declared.ends.Served.{Served}
 use Rattle.sockets.specs.Visits.{Standing, IsServedAll, standing_of}
 use Rattle.sockets.specs.declared.serving_all.AllEnd.{AllEnd}
@@ -69,18 +69,20 @@ FailsServing fault.NoMemory t a b = IsCutOff t a b
 FailsServing _ t a b = ⊥
 
 -- a node between two connections, where nothing is told of what the other desks were handed
-abbrev pub standing : {K : Type 0} → (k : KeeperWords K) → NodeValue K → Standing (Handles k)
-standing k node = standing_of (Handles k) node None
+abbrev pub standing : {K : Type 0} → (k : KeeperWords K) → (wire : ℕ) → NodeValue K
+    → Standing (speaking (Handles k) (spoken wire))
+standing k wire node = standing_of (speaking (Handles k) (spoken wire)) node None
 
 -- The desk that was opened on these files served so: from what it was then, with the length of its
 -- log in the first line, to what it was at the end.
 pub record IsRun {K : Type 0} (k : KeeperWords K) (files : Image) (s : Service) (o : Output)
-    (Does : Turn → Standing (Handles k) → Standing (Handles k) → Type 0) : Type 0 where
+    (Does : Turn → Standing (speaking (Handles k) (spoken s.wire))
+    → Standing (speaking (Handles k) (spoken s.wire)) → Type 0) : Type 0 where
   pub first : NodeValue K
   pub last : NodeValue K
   pub opened : IsOpenedOn k files (home_of s) first
-  pub served : Does (turn (home_of s) s.connections (length first.desk.log) o) (standing k first)
-      (standing k last)
+  pub served : Does (turn (home_of s) s.connections (length first.desk.log) o)
+      (standing k s.wire first) (standing k s.wire last)
 
 -- nothing was printed and nobody served, by this cause
 pub record IsHindered (f : ServeFault) (s : Service) (o : Output) : Type 0 where

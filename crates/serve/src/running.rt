@@ -4,7 +4,9 @@ ghost use Rattle.std.specs.Prelude.{◌≡◌, ◌⊎◌, ◌≤◌, None, lengt
 ghost use Rattle.std.specs.Io.KnownBytes.{Keeps};
 ghost use Rattle.node.specs.Handles.{Handles};
 ghost use Rattle.node.specs.Nodes.{words};
+ghost use Rattle.serving.specs.Making.{speaking, spoken};
 ghost use Rattle.sockets.specs.Visits.{standing_of};
+ghost use Rattle.wire.specs.Laws.{IsVersion};
 ghost use Rattle.serve.specs.Printing.{IsOfListener, Prints, PrintsAt, output};
 ghost use Rattle.serve.specs.Serves.{FailsServing, IsHindered, IsRun, Serves, ends_by, standing, turn};
 ghost use Rattle.sqlite.specs.WalFiles.{image_at};
@@ -51,17 +53,21 @@ pub fn serve_node<K: Keeper + Drop, A: Accept, P: Peers, W: Write>(
     most: u32,
     node: &mut Node<K>,
     peers: &mut P,
+    wire: u8,
     writer: &mut W,
 ) -> Result<(), ServeFault>
-    ensures ok { let way = Handles
-        (words K.home_of K.failures_of K.is_down K.is_honest K.keeps K.may_hold K.may_break) in
+    requires version { IsVersion wire }
+    ensures ok { let way = speaking (Handles
+        (words K.home_of K.failures_of K.is_down K.is_honest K.keeps K.may_hold K.may_break))
+        (spoken wire) in
         OnOk result (Serves
         (turn (K.home_of node.old.keeper) most (length node.old.desk.log)
         (output (W.contents writer.old) (W.contents writer.new)))
         (standing_of way node.old (P.handed peers.old))
         (standing_of way node.new (P.handed peers.new))) }
-    ensures err { let way = Handles
-        (words K.home_of K.failures_of K.is_down K.is_honest K.keeps K.may_hold K.may_break) in
+    ensures err { let way = speaking (Handles
+        (words K.home_of K.failures_of K.is_down K.is_honest K.keeps K.may_hold K.may_break))
+        (spoken wire) in
         IfErr result (λ f. FailsServing f
         (turn (K.home_of node.old.keeper) most (length node.old.desk.log)
         (output (W.contents writer.old) (W.contents writer.new)))
@@ -71,7 +77,7 @@ pub fn serve_node<K: Keeper + Drop, A: Accept, P: Peers, W: Write>(
     if let Err(fault) = tell_first(alloc, writer, node.home(), node.log().len()) {
         return Err(fault);
     }
-    let served = serve_all(alloc, listener, most, node, peers);
+    let served = serve_all(alloc, listener, most, node, peers, wire);
     if let Err(fault) = tell_last(alloc, writer, served.connections) {
         return Err(fault);
     }
@@ -130,19 +136,20 @@ fn serve_there<K: Keeper + Drop, W: Write>(
     node: &mut Node<K>,
     writer: &mut W,
 ) -> Result<(), ServeFault>
+    requires version { IsVersion service.wire }
     ensures ok { let k =
         words K.home_of K.failures_of K.is_down K.is_honest K.keeps K.may_hold K.may_break in
         OnOk result (Serves
         (turn (K.home_of node.old.keeper) service.entry.connections (length node.old.desk.log)
         (output (W.contents writer.old) (W.contents writer.new)))
-        (standing k node.old) (standing k node.new)) }
+        (standing k service.entry.wire node.old) (standing k service.entry.wire node.new)) }
     ensures err { let k =
         words K.home_of K.failures_of K.is_down K.is_honest K.keeps K.may_hold K.may_break in
         IfErr result (λ f. (IsOfListener f × Keeps (W.contents writer.old) (W.contents writer.new))
         ⊎ FailsServing f
         (turn (K.home_of node.old.keeper) service.entry.connections (length node.old.desk.log)
         (output (W.contents writer.old) (W.contents writer.new)))
-        (standing k node.old) (standing k node.new)) }
+        (standing k service.entry.wire node.old) (standing k service.entry.wire node.new)) }
 {
     let mut listener = match listen(rt, service) {
         Ok(listener) => listener,
@@ -156,6 +163,7 @@ fn serve_there<K: Keeper + Drop, W: Write>(
         service.connections,
         node,
         &mut peers,
+        service.wire,
         writer,
     )
 }
@@ -186,6 +194,7 @@ pub fn serve<S: Start, W: Write>(
     start: S,
     writer: &mut W,
 ) -> Result<(), ServeFault>
+    requires version { IsVersion service.wire }
     ensures ok { OnOk result
         (Prints service.entry (output (W.contents writer.old) (W.contents writer.new))) }
     ensures err { IfErr result

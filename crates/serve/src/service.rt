@@ -18,6 +18,8 @@ pub struct Service<'a> {
     pub store: &'a str,
     /// How many connections are served.
     pub connections: u32,
+    /// The version of the wire in which frames for other desks are pushed, 1 or 2.
+    pub wire: u8,
     /// How many seconds a read waits; without it a read waits as long as the connection stands.
     pub patience: Option<u32>,
     /// Where the desks of the hall listen, in the order of their numbers.

@@ -36,7 +36,7 @@ pub does_behind : {V : Type 0} (way : Way V) (home h : Home) (x y z : Seen) (eve
     (ms more rest : List Message) (left last : ℕ) (answer : Answer) (u v : V)
     (p : Option (List Push)) (b : Outside way)
     → h ≡ home
-    → (fate : Fate) → Calls h event fate x y ms more answer → IsCall way h event fate x u v
+    → (fate : Fate) → Calls h event fate x y ms more answer → IsCall way.handles h event fate x u v
     → Does home (settle_by home left) (at y more left) (at z rest last) (outside_of way v p) b
     → Does home (λ s. settle_by home left (call home event s)) (at x ms left) (at z rest last)
     (outside_of way u p) b
@@ -60,7 +60,7 @@ does_behind way home h x y z event ms more rest left last answer u v p b same fa
 pub part_at_behind : {V : Type 0} (way : Way V) (home h : Home) (x y : Seen) (event : Event)
     (ms : List Message) (left : ℕ) (u v : V) (p : Option (List Push))
     → h ≡ home
-    → (fate : Fate) × LosesMessages h event fate x y × IsCall way h event fate x u v
+    → (fate : Fate) × LosesMessages h event fate x y × IsCall way.handles h event fate x u v
     → DoesPart home (λ s. settle_by home left (call home event s)) (at x ms left) y
     (outside_of way u p) (outside_of way v p)
 part_at_behind way home h x y event ms left u v p same l =
@@ -73,7 +73,7 @@ pub part_after_behind : {V : Type 0} (way : Way V) (home h : Home) (x y shown : 
     (event : Event) (ms more : List Message) (left : ℕ) (answer : Answer) (u v : V)
     (p : Option (List Push)) (b : Outside way)
     → h ≡ home
-    → (fate : Fate) → Calls h event fate x y ms more answer → IsCall way h event fate x u v
+    → (fate : Fate) → Calls h event fate x y ms more answer → IsCall way.handles h event fate x u v
     → DoesPart home (settle_by home left) (at y more left) shown (outside_of way v p) b
     → DoesPart home (λ s. settle_by home left (call home event s)) (at x ms left) shown
     (outside_of way u p) b
@@ -151,7 +151,7 @@ adds_entered home (Err why) s = ([], sym (append-nil s.done))
 -- memory was refused in the call that hands the entry in
 enters_part : {V : Type 0} (way : Way V) (home h : Home) (e : Entry) (fate : Fate) (x y : Seen)
     (u v : V) (p : Option (List Push))
-    → h ≡ home → LosesMessages home (Submit e) fate x y → IsCall way h (Submit e) fate x u v
+    → h ≡ home → LosesMessages home (Submit e) fate x y → IsCall way.handles h (Submit e) fate x u v
     → DoesPart home (enter home e) (at x [] 16) y (outside_of way u p) (outside_of way v p)
 unfolding enter
 enters_part way home h e fate x y u v p same l made =
@@ -175,7 +175,7 @@ enters_part way home h e fate x y u v p same l made =
 pub entered_lost : {V : Type 0} (way : Way V) (home h : Home) (e : Entry) (x y : Seen) (u v : V)
     (p : Option (List Push))
     → h ≡ home
-    → (fate : Fate) × LosesMessages h (Submit e) fate x y × IsCall way h (Submit e) fate x u v
+    → (fate : Fate) × LosesMessages h (Submit e) fate x y × IsCall way.handles h (Submit e) fate x u v
     → DoesPart home (enter home e) (at x [] 16) y (outside_of way u p) (outside_of way v p)
 entered_lost way home h e x y u v p same l =
     enters_part way home h e l.0 x y u v p same
@@ -186,7 +186,7 @@ pub entered_part : {V : Type 0} (way : Way V) (home h : Home) (e : Entry) (x y s
     (ms more : List Message) (answer : Answer) (u v : V) (p : Option (List Push)) (b : Outside way)
     → h ≡ home → ms ≡ [] → answer ≡ Taken
     → (fate : Fate) × Calls h (Submit e) fate x y ms more answer
-    × IsCall way h (Submit e) fate x u v
+    × IsCall way.handles h (Submit e) fate x u v
     → DoesPart home (starts home) (at y more 16) shown (outside_of way v p) b
     → DoesPart home (enter home e) (at x [] 16) shown (outside_of way u p) b
 entered_part way home h e x y shown ms more answer u v p b same none taken called d =
@@ -207,7 +207,7 @@ pub entered_all : {V : Type 0} (way : Way V) (home h : Home) (e : Entry) (x y z 
     (p : Option (List Push)) (b : Outside way)
     → h ≡ home → ms ≡ [] → rest ≡ [] → answer ≡ Taken
     → (fate : Fate) × Calls h (Submit e) fate x y ms more answer
-    × IsCall way h (Submit e) fate x u v
+    × IsCall way.handles h (Submit e) fate x u v
     → Does home (starts home) (at y more 16) (at z rest last) (outside_of way v p) b
     → w ≡ answer_first (what.Taken e.id) answer z
     → AnswersSome home x z (Entered e) (Some w) (outside_of way u p) b
@@ -258,7 +258,7 @@ pub entered_not : {V : Type 0} (way : Way V) (home h : Home) (e : Entry) (x y : 
     (ms more : List Message) (answer : Answer) (w : What) (u v : V) (p : Option (List Push))
     → h ≡ home → ms ≡ [] → (answer ≡ Taken → ⊥)
     → (fate : Fate) × Calls h (Submit e) fate x y ms more answer
-    × IsCall way h (Submit e) fate x u v
+    × IsCall way.handles h (Submit e) fate x u v
     → w ≡ answer_first (what.Taken e.id) answer y
     → AnswersSome home x y (Entered e) (Some w) (outside_of way u p) (outside_of way v p)
 entered_not way home h e x y ms more answer w u v p same none other called is =

@@ -7,7 +7,7 @@ use Rattle.learner.specs.declared.event.Event.{Event}
 use Rattle.learner.specs.Desks.{Desk}
 use Rattle.learner.specs.Ranges.{AreInRange}
 use Rattle.learner.specs.Steps.{Done, step}
-use Rattle.serving.specs.Making.{Way}
+use Rattle.serving.specs.Making.{Handling}
 use Rattle.serving.specs.model.Calling.{Calls, IsCall, LosesMessages}
 use Rattle.serving.specs.declared.calling.Answer.{Answer}
 use Rattle.serving.specs.Answering.{answer_of}
@@ -150,7 +150,7 @@ comes home x y event r t e d =
     (record { takes = t; ended = e; down = d })
 
 -- the call, with the messages that wait
-pub calls_so : {V : Type 0} (way : Way V) (home : Home) (x y : Seen) (event : Event)
+pub calls_so : {V : Type 0} (way : Handling V) (home : Home) (x y : Seen) (event : Event)
     (r : Result (List Message) NodeFault) (ms more : List Message) (answer : Answer) (u v : V)
     → (x.is_down ≡ false
     → Takes (step home.desks home.desk x.desk event) home.desks home.desk x.desk y.desk r)
@@ -170,7 +170,7 @@ calls_so way home x y event r ms more answer u v t e d made is waits =
     )
 
 -- the call, whose messages were lost
-pub loses_so : {V : Type 0} (way : Way V) (home : Home) (x y : Seen) (event : Event)
+pub loses_so : {V : Type 0} (way : Handling V) (home : Home) (x y : Seen) (event : Event)
     (r : Result (List Message) NodeFault) (u v : V)
     → (x.is_down ≡ false
     → Takes (step home.desks home.desk x.desk event) home.desks home.desk x.desk y.desk r)

@@ -7,7 +7,9 @@ use Rattle.acceptor.specs.declared.message.Body.TheVariants.{Prepare, Promise, A
 use Rattle.acceptor.specs.declared.message.Message.{Message}
 use Rattle.learner.specs.Ranges.{IsInRange}
 use Rattle.learner.specs.Steps.{is_real, is_in_range}
-use Rattle.wire.specs.Ranges.{IsFrame, IsBody, IsBallot, IsPosition, IsDesk, Goes, way_of}
+use Rattle.wire.specs.declared.values.Version.{Version}
+use Rattle.wire.specs.declared.values.Version.TheVariants.{One, Two}
+use Rattle.wire.specs.Ranges.{IsCount, IsFrame, IsBody, IsBallot, IsPosition, IsDesk, Goes, way_of}
 use Rattle.serving.specs.model.Framing.{IsTyped}
 use Rattle.serving.specs.Serving.{what_of, framed}
 
@@ -24,25 +26,32 @@ is_ballot n b few h small =
 is_position : (pos : ℕ) → nat_lt pos 65536 ≡ true → IsPosition pos
 is_position pos h = omega (arith, ltb-true _ _ h)
 
-is_body : (n : ℕ) (b : Body) → n ≤ 5 → is_in_range n b ≡ true → IsTyped b → IsBody (what_of b)
-is_body n (Prepare b pos) few h t =
+-- one entry is good in both versions
+one_is : (v : Version) → IsCount v 1
+one_is One = refl
+one_is Two = (omega arith, omega arith)
+
+is_body : (v : Version) (n : ℕ) (b : Body) → n ≤ 5 → is_in_range n b ≡ true → IsTyped b
+    → IsBody v (what_of b)
+is_body v n (Prepare b pos) few h t =
     let p = both _ _ h in (is_ballot n b few p.0 t, is_position pos p.1)
-is_body n (Promise b pos None) few h t =
+is_body v n (Promise b pos None) few h t =
     let p = both _ _ h in (is_ballot n b few p.0 t.0, is_position pos p.1, tt)
-is_body n (Promise b pos (Some r)) few h t =
+is_body v n (Promise b pos (Some r)) few h t =
     let p = both _ _ h in
     let q = both _ _ p.0 in
     (is_ballot n b few q.0 t.0, is_position pos q.1, (is_ballot n r.ballot few p.1 t.1.0, t.1.1))
-is_body n (Accept b pos e) few h t =
+is_body v n (Accept b pos e) few h t =
     let p = both _ _ h in (is_ballot n b few p.0 t.0, is_position pos p.1, t.1)
-is_body n (Accepted b pos) few h t =
+is_body v n (Accepted b pos) few h t =
     let p = both _ _ h in (is_ballot n b few p.0 t, is_position pos p.1)
-is_body n (Nack b pos q) few h t =
+is_body v n (Nack b pos q) few h t =
     let p = both _ _ h in
     let r = both _ _ p.0 in
     (is_ballot n b few r.0 t.0, is_position pos r.1, is_ballot n q few p.1 t.1)
-is_body n (Behind len) few h t = leb-true _ _ h
-is_body n (Decided pos e) few h t = (is_position pos h, t)
+is_body v n (Behind len) few h t = leb-true _ _ h
+is_body v n (Decided pos e) few h t =
+    let low : pos ≤ 65535 = is_position pos h in (one_is v, omega (arith, low), (t, tt))
 
 goes : (n : ℕ) (b : Body) (from to : ℕ) → IsDesk from → IsDesk to
     → Goes (way_of (what_of b)) from to
@@ -54,13 +63,13 @@ goes n (Nack b pos q) from to x y = (x, y)
 goes n (Behind len) from to x y = (x, y)
 goes n (Decided pos e) from to x y = (x, y)
 
-pub is_frame : (hall n : ℕ) (m : Message) → hall < 2 ^ 32 → n ≤ 5 → IsInRange n m → IsTyped m.body
-    → IsFrame (framed hall m)
-is_frame hall n m small few h t =
+pub is_frame : (v : Version) (hall n : ℕ) (m : Message) → hall < 2 ^ 32 → n ≤ 5 → IsInRange n m → IsTyped m.body
+    → IsFrame (framed v hall m)
+is_frame v hall n m small few h t =
     record {
       hall = small;
       goes =
           goes n m.body m.from m.to (h.from.0, omega (arith, h.from.1, few))
           (h.to.0, omega (arith, h.to.1, few));
-      body = is_body n m.body few h.body t;
+      body = is_body v n m.body few h.body t;
     }

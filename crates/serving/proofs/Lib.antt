@@ -11,6 +11,8 @@ pub mod Parts
 pub mod Started
 pub mod Answered
 pub mod Entering
+pub mod Delivered
+pub mod Told
 pub mod OneFrame
 pub mod Sheets
 pub mod Running

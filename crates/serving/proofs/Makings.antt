@@ -4,23 +4,28 @@ use Rattle.acceptor.specs.declared.message.Message.{Message}
 use Rattle.learner.specs.declared.event.Event.{Event}
 use Rattle.store.specs.declared.home.Home.{Home}
 use Rattle.serving.specs.Adding.{Push, Hands}
-use Rattle.serving.specs.Making.{Way, Call, calls_of, Lead, Outside, outside_of, Makes}
+use Rattle.wire.specs.declared.values.Version.{Version}
+use Rattle.serving.specs.Making.{Handling, Way, Call, calls_of, Lead, Outside, outside_of, Makes}
 use Rattle.serving.specs.Nodes.{Seen, Fate, reply}
-use Rattle.serving.specs.Serving.{Act, Called, Pushed, pushed, pushes_of}
+use Rattle.serving.specs.Telling.{run_pushed}
+use Rattle.serving.specs.Serving.{Act, Called, Pushed, Answered, pushed, pushes_of}
 use Rattle.serving.specs.model.Calling.{IsCall}
 use Rattle.serving.specs.model.Reaching.{did_call}
 use Rattle.serving.proofs.Handing.{Hands-nil, Hands-trans}
 
-pushes_of_map : (hall : ℕ) (ms : List Message)
-    → pushes_of hall (map (λ m. Pushed m) ms) ≡ map (pushed hall) ms
-pushes_of_map hall [] = refl
-pushes_of_map hall (m ∷ ms) = ap (λ z. pushed hall m ∷ z) (pushes_of_map hall ms)
+pushes_of_map : (v : Version) (hall : ℕ) (ms : List Message)
+    → pushes_of v hall (map (λ m. Pushed m) ms) ≡ map (pushed v hall) ms
+pushes_of_map v hall [] = refl
+pushes_of_map v hall (m ∷ ms) = ap (λ z. pushed v hall m ∷ z) (pushes_of_map v hall ms)
 
-pushes_of_both : (hall : ℕ) (xs ys : List Act)
-    → pushes_of hall (xs ++ ys) ≡ pushes_of hall xs ++ pushes_of hall ys
-pushes_of_both hall [] ys = refl
-pushes_of_both hall (Called e r ∷ xs) ys = pushes_of_both hall xs ys
-pushes_of_both hall (Pushed m ∷ xs) ys = ap (λ z. pushed hall m ∷ z) (pushes_of_both hall xs ys)
+pushes_of_both : (v : Version) (hall : ℕ) (xs ys : List Act)
+    → pushes_of v hall (xs ++ ys) ≡ pushes_of v hall xs ++ pushes_of v hall ys
+pushes_of_both v hall [] ys = refl
+pushes_of_both v hall (Called e r ∷ xs) ys = pushes_of_both v hall xs ys
+pushes_of_both v hall (Pushed m ∷ xs) ys =
+    ap (λ z. pushed v hall m ∷ z) (pushes_of_both v hall xs ys)
+pushes_of_both v hall (Answered run ∷ xs) ys =
+    ap (λ z. run_pushed v hall run ∷ z) (pushes_of_both v hall xs ys)
 
 calls_of_map : (ms : List Message) → calls_of (map (λ m. Pushed m) ms) ≡ []
 calls_of_map [] = refl
@@ -31,8 +36,9 @@ calls_of_both [] ys = refl
 calls_of_both (Called e r ∷ xs) ys =
     ap (λ z. calls_of (Called e r ∷ []) ++ z) (calls_of_both xs ys)
 calls_of_both (Pushed m ∷ xs) ys = calls_of_both xs ys
+calls_of_both (Answered run ∷ xs) ys = calls_of_both xs ys
 
-pub Lead-trans : {V : Type 0} (way : Way V) (x y z : V) (cs ds : List Call) → Lead way x cs y
+pub Lead-trans : {V : Type 0} (way : Handling V) (x y z : V) (cs ds : List Call) → Lead way x cs y
     → Lead way y ds z → Lead way x (cs ++ ds) z
 Lead-trans way x y z [] ds h k = subst (λ u. Lead way u ds z) (sym h) k
 Lead-trans way x y z (c ∷ cs) ds h k = (h.0, h.1, Lead-trans way h.0 y z cs ds h.2 k)
@@ -44,32 +50,33 @@ pub Makes-trans : {V : Type 0} {way : Way V} (hall : ℕ) (a b c : Outside way) 
     → Makes hall a b xs → Makes hall b c ys → Makes hall a c (xs ++ ys)
 Makes-trans {V} {way} hall a b c xs ys h k = record {
   calls =
-      subst (λ z. Lead way a.node z c.node) (sym (calls_of_both xs ys))
-      (Lead-trans way a.node b.node c.node (calls_of xs) (calls_of ys) h.calls k.calls);
+      subst (λ z. Lead way.handles a.node z c.node) (sym (calls_of_both xs ys))
+      (Lead-trans way.handles a.node b.node c.node (calls_of xs) (calls_of ys) h.calls k.calls);
   pushes =
-      subst (λ z. Hands a.handed c.handed z) (sym (pushes_of_both hall xs ys))
-      (Hands-trans a.handed b.handed c.handed (pushes_of hall xs) (pushes_of hall ys) h.pushes
+      subst (λ z. Hands a.handed c.handed z) (sym (pushes_of_both way.wire hall xs ys))
+      (Hands-trans a.handed b.handed c.handed (pushes_of way.wire hall xs)
+      (pushes_of way.wire hall ys) h.pushes
       k.pushes);
 }
 
 -- pushes leave the node as it is
 pub Makes-pushes : {V : Type 0} {way : Way V} (hall : ℕ) (a : Outside way) (u : V)
     (b c : Option (List Push)) (acts : List Act) (ms : List Message)
-    → Makes hall a (outside_of way u b) acts → Hands b c (map (pushed hall) ms)
+    → Makes hall a (outside_of way u b) acts → Hands b c (map (pushed way.wire hall) ms)
     → Makes hall a (outside_of way u c) (acts ++ map (λ m. Pushed m) ms)
 Makes-pushes {V} {way} hall a u b c acts ms h k =
     Makes-trans hall a (outside_of way u b) (outside_of way u c) acts (map (λ m. Pushed m) ms) h
     (record {
-      calls = subst (λ z. Lead way u z u) (sym (calls_of_map ms)) refl;
-      pushes = subst (λ z. Hands b c z) (sym (pushes_of_map hall ms)) k;
+      calls = subst (λ z. Lead way.handles u z u) (sym (calls_of_map ms)) refl;
+      pushes = subst (λ z. Hands b c z) (sym (pushes_of_map way.wire hall ms)) k;
     })
 
 -- a call hands nothing over
 pub Makes-call : {V : Type 0} (way : Way V) (home h : Home) (event : Event) (fate : Fate) (x : Seen)
     (u v : V) (p : Option (List Push))
-    → h ≡ home → IsCall way h event fate x u v
+    → h ≡ home → IsCall way.handles h event fate x u v
     → Makes home.hall (outside_of way u p) (outside_of way v p) (did_call home event fate x ∷ [])
 Makes-call way home h event fate x u v p same made = record {
-  calls = (v, subst (λ z. IsCall way z event fate x u v) same made, refl);
+  calls = (v, subst (λ z. IsCall way.handles z event fate x u v) same made, refl);
   pushes = Hands-nil p;
 }

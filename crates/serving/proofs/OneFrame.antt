@@ -1,12 +1,16 @@
 -- A frame: its request, the answer, and how it ends the connection.
-use Rattle.std.proofs.Common.{◌≡◌, refl, sym, ap, subst, ◌∙◌, ℕ, List, [], ◌∷◌, ◌++◌, Option, None, Some}
+use Rattle.std.proofs.Common.{◌≡◌, refl, sym, ap, subst, ◌∙◌, arith, ℕ, ◌^◌, ◌<◌, ◌≤◌, List, [], ◌∷◌, ◌++◌, Option, None, Some}
 use Rattle.std.proofs.lemmas.List.{append-nil}
 use Rattle.std.specs.Io.KnownBytes.{Appends}
 use Rattle.store.specs.declared.home.Home.{Home}
+use Rattle.learner.specs.Steps.{IsDesk}
+use Rattle.wire.specs.Ranges.{IsFrame, Goes, Way as Direction}
 use Rattle.wire.specs.Spelling.{spelling}
+use Rattle.wire.specs.declared.values.Version.{Version}
 use Rattle.wire.specs.declared.frame.Frame.{Frame}
 use Rattle.wire.specs.declared.frame.What.{What}
 use Rattle.serving.specs.Making.{Way, Outside, outside_of}
+use Rattle.serving.specs.Answering.{IsAnswer}
 use Rattle.serving.specs.Asking.{request, ending, close_by}
 use Rattle.lines.specs.Bytes.{AppendsPart}
 use Rattle.serving.specs.model.Writing.{WriteEnds}
@@ -19,11 +23,21 @@ use Rattle.serving.specs.declared.ends.FrameFault.{FrameFault}
 use Rattle.serving.specs.declared.ends.FrameFault.TheVariants as fault
 use Rattle.serving.specs.declared.request.Request.{Request}
 
+-- an answer of a desk is a frame, in each version
+pub answer_is_frame : (v : Version) (home : Home) (w : What) → home.hall < 2 ^ 32
+    → IsDesk home.desks home.desk → home.desks ≤ 5 → IsAnswer w → IsFrame (answer_frame v home w)
+answer_is_frame v home w small ours few h = record {
+  hall = small;
+  goes = subst (λ (z : Direction). Goes z home.desk 0) (sym h.way)
+      ((ours.0, omega (arith, ours.1, few)), refl);
+  body = h.body v;
+}
+
 -- the frame was served whole
 pub serves : {V : Type 0} {way : Way V} (home : Home) (f : Frame) (r : Request) (x y : Seen) (w : Option What)
     (close : Option Close) (o n : Option (List ℕ)) (a b : Outside way)
     → r ≡ request home f → AnswersSome home x y r w a b
-    → Appends o n (answer_bytes (framed_answer home w)) → close ≡ close_by (ending r) y.is_down
+    → Appends o n (answer_bytes (framed_answer f.version home w)) → close ≡ close_by (ending r) y.is_down
     → (fates : List Fate)
     × ServesOne home (sides x o a) (sides y n b) (record { frame = f; fates = fates }) close
 unfolding serve_frame close_of
@@ -35,30 +49,30 @@ serves home f r x y w close o n a b is h written c =
             c ∙ ap (λ z. close_by (ending z) y.is_down) is
             ∙ ap (λ (z : Seen). close_by (ending (request home f)) z.is_down) g.node;
         answered =
-            subst (λ z. Appends o n (answer_bytes (framed_answer home z))) g.answer_is written;
+            subst (λ z. Appends o n (answer_bytes (framed_answer f.version home z))) g.answer_is written;
         made = g.made;
         node = g.node;
       },
     )
 
 -- the answer's bytes are one frame
-pub one_frame : (home : Home) (w : What) (o n : Option (List ℕ))
-    → Appends o n (spelling (answer_frame home w))
-    → Appends o n (answer_bytes (framed_answer home (Some w)))
-one_frame home w o n h =
-    subst (λ z. Appends o n z) (sym (append-nil (spelling (answer_frame home w)))) h
+pub one_frame : (v : Version) (home : Home) (w : What) (o n : Option (List ℕ))
+    → Appends o n (spelling (answer_frame v home w))
+    → Appends o n (answer_bytes (framed_answer v home (Some w)))
+one_frame v home w o n h =
+    subst (λ z. Appends o n z) (sym (append-nil (spelling (answer_frame v home w)))) h
 
-pub one_frame_fails : (home : Home) (w : What) (why : FrameFault) (o n : Option (List ℕ))
-    → WriteEnds why o n (spelling (answer_frame home w))
-    → WriteEnds why o n (answer_bytes (framed_answer home (Some w)))
-one_frame_fails home w why o n h =
-    subst (λ z. WriteEnds why o n z) (sym (append-nil (spelling (answer_frame home w)))) h
+pub one_frame_fails : (v : Version) (home : Home) (w : What) (why : FrameFault) (o n : Option (List ℕ))
+    → WriteEnds why o n (spelling (answer_frame v home w))
+    → WriteEnds why o n (answer_bytes (framed_answer v home (Some w)))
+one_frame_fails v home w why o n h =
+    subst (λ z. WriteEnds why o n z) (sym (append-nil (spelling (answer_frame v home w)))) h
 
 -- the answer could not be written whole
 pub answer_fails : {V : Type 0} {way : Way V} (home : Home) (f : Frame) (r : Request) (x y : Seen) (w : Option What)
     (why : FrameFault) (o n : Option (List ℕ)) (a b : Outside way)
     → r ≡ request home f → AnswersSome home x y r w a b
-    → WriteEnds why o n (answer_bytes (framed_answer home w))
+    → WriteEnds why o n (answer_bytes (framed_answer f.version home w))
     → (fates : List Fate)
     × FailsIn why home (sides x o a) (sides y n b) (record { frame = f; fates = fates })
 unfolding serve_frame
@@ -67,7 +81,7 @@ answer_fails home f r x y w fault.Write o n a b is h part =
       h.0,
       record {
         answered =
-            subst (λ z. AppendsPart o n (answer_bytes (framed_answer home z))) g.answer_is part;
+            subst (λ z. AppendsPart o n (answer_bytes (framed_answer f.version home z))) g.answer_is part;
         made = g.made;
         node = g.node;
       },

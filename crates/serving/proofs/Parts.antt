@@ -89,7 +89,7 @@ pub part_front : {V : Type 0} {way : Way V} (home : Home) (all : Service → Ser
     (b c : Option (List Push))
     → left ≡ suc k → Reaches home all first (settle_by home left) (at x ms left) xs past
     → Makes home.hall a (outside_of way u b) xs
-    → PushesPart home.hall (in_front home.desk ms) b c
+    → PushesPart way.wire home.hall (in_front home.desk ms) b c
     → DoesPart home all first x a (outside_of way u c)
 part_front {V} {way} home all first left k x ms xs past a u b c is h made part =
     let reach =
@@ -110,7 +110,7 @@ pub part_last : {V : Type 0} {way : Way V} (home : Home) (all : Service → Serv
     (b c : Option (List Push))
     → left ≡ 0 → Reaches home all first (settle_by home left) (at x ms left) xs past
     → Makes home.hall a (outside_of way u b) xs
-    → PushesPart home.hall (to_others home.desk ms) b c
+    → PushesPart way.wire home.hall (to_others home.desk ms) b c
     → DoesPart home all first x a (outside_of way u c)
 part_last {V} {way} home all first left x ms xs past a u b c is h made part =
     let reach =
@@ -125,7 +125,7 @@ part_last {V} {way} home all first left x ms xs past a u b c is h made part =
     (adds_push part.1 []) refl (Makes-pushes home.hall a u b c xs part.0 made part.2.handed)
 
 -- the node took the event, and its messages were lost
-lost : (home : Home) (g : Service → Service) (event : Event) (fate : Fate) (x y : Seen)
+pub lost : (home : Home) (g : Service → Service) (event : Event) (fate : Fate) (x y : Seen)
     (ms : List Message) (left : ℕ)
     → LosesMessages home event fate x y
     → Reaches home (λ s. g (call home event s)) (at x ms left) g
@@ -145,7 +145,7 @@ pub part_call : {V : Type 0} (way : Way V) (home h : Home) (all : Service → Se
     → h ≡ home
     → Reaches home all first (λ s. settle_by home k (call home event s)) (at x ms left) xs past
     → Makes home.hall a (outside_of way u p) xs
-    → (fate : Fate) × LosesMessages h event fate x y × IsCall way h event fate x u v
+    → (fate : Fate) × LosesMessages h event fate x y × IsCall way.handles h event fate x u v
     → DoesPart home all first y a (outside_of way v p)
 part_call way home h all first k left event x y ms xs past a u v p same r made l =
     part_of home all (λ s. settle_by home k (call home event s)) (settle_by home k) first
@@ -162,7 +162,7 @@ pub part_after_call : {V : Type 0} (way : Way V) (home h : Home) (x y shown : Se
     (ms more : List Message) (left : ℕ) (answer : Answer) (u v : V) (p : Option (List Push))
     (b : Outside way)
     → h ≡ home → ms ≡ []
-    → (fate : Fate) → Calls h event fate x y ms more answer → IsCall way h event fate x u v
+    → (fate : Fate) → Calls h event fate x y ms more answer → IsCall way.handles h event fate x u v
     → DoesPart home (settle_by home left) (at y more left) shown (outside_of way v p) b
     → DoesPart home (λ s. settle_by home left (call home event s)) (at x [] left) shown
     (outside_of way u p) b
@@ -182,7 +182,7 @@ part_after_call way home h x y shown event ms more left answer u v p b same none
 pub part_at_call : {V : Type 0} (way : Way V) (home h : Home) (x y : Seen) (event : Event)
     (ms : List Message) (left : ℕ) (u v : V) (p : Option (List Push))
     → h ≡ home → ms ≡ []
-    → (fate : Fate) × LosesMessages h event fate x y × IsCall way h event fate x u v
+    → (fate : Fate) × LosesMessages h event fate x y × IsCall way.handles h event fate x u v
     → DoesPart home (λ s. settle_by home left (call home event s)) (at x [] left) y
     (outside_of way u p) (outside_of way v p)
 part_at_call way home h x y event ms left u v p same none l =

@@ -179,7 +179,7 @@ pub does_call : {V : Type 0} (way : Way V) (home h : Home) (x y z : Seen) (event
     (ms more rest : List Message) (left last : ℕ) (answer : Answer) (u v : V)
     (p : Option (List Push)) (b : Outside way)
     → h ≡ home → ms ≡ [] → rest ≡ []
-    → (fate : Fate) → Calls h event fate x y ms more answer → IsCall way h event fate x u v
+    → (fate : Fate) → Calls h event fate x y ms more answer → IsCall way.handles h event fate x u v
     → Does home (settle_by home left) (at y more left) (at z rest last) (outside_of way v p) b
     → (acts : List Act) × (past : List Fate)
     × DoesCall home left last event answer x z acts past (outside_of way u p) b

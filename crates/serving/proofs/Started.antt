@@ -24,7 +24,7 @@ adds_if home true s =
     (adds_settle home (call home Start s).left) s
 adds_if home false s = ([], sym (append-nil s.done))
 
-adds_start : (home : Home) (before : List Entry) → OnlyAdds (start_if_grown home before)
+pub adds_start : (home : Home) (before : List Entry) → OnlyAdds (start_if_grown home before)
 unfolding start_if_grown
 adds_start home before s = adds_if home (wants_start before s.seen) s
 
@@ -40,7 +40,7 @@ take_first home event x rest second xs past r = record {
   calls = r.calls;
 }
 
-start_due : (home : Home) (before : List Entry) (y : Seen) (left : ℕ) → wants_start before y ≡ true
+pub start_due : (home : Home) (before : List Entry) (y : Seen) (left : ℕ) → wants_start before y ≡ true
     → Reaches home (start_if_grown home before) (at y [] left)
     (λ s. settle_by home left (call home Start s)) (at y [] left) [] []
 unfolding start_if_grown call
@@ -57,7 +57,7 @@ start_due home before y left h = record {
   calls = λ more later. refl;
 }
 
-start_not_due : (home : Home) (before : List Entry) (y : Seen) (left : ℕ)
+pub start_not_due : (home : Home) (before : List Entry) (y : Seen) (left : ℕ)
     → wants_start before y ≡ false
     → Reaches home (start_if_grown home before) (at y [] left) (λ s. s) (at y [] left) [] []
 unfolding start_if_grown call
@@ -102,7 +102,7 @@ take_then home event x y left xs past h r =
     past []
     (take_first home event x (λ s. s) (at y [] left) xs past r) (start_due home x.desk.log y left h)
 
-makes_then : {V : Type 0} {way : Way V} (hall : ℕ) (xs ys : List Act) (a b c : Outside way)
+pub makes_then : {V : Type 0} {way : Way V} (hall : ℕ) (xs ys : List Act) (a b c : Outside way)
     → Makes hall a b xs → Makes hall b c ys → Makes hall a c ((xs ++ []) ++ ys)
 makes_then hall xs ys a b c h k =
     subst (λ z. Makes hall a c (z ++ ys)) (sym (append-nil xs)) (Makes-trans hall a b c xs ys h k)

@@ -12,6 +12,7 @@ use Rattle.sheets.specs.declared.Style.TheVariants as layout
 use Rattle.wire.specs.Ranges.{IsBody, ToClient, way_of}
 use Rattle.wire.specs.declared.values.ClientRefusal.{ClientRefusal as Refusal}
 use Rattle.wire.specs.declared.values.ClientRefusal.TheVariants as refusal
+use Rattle.wire.specs.declared.values.Version.{Version}
 use Rattle.wire.specs.declared.values.Standing.{Standing}
 use Rattle.wire.specs.declared.values.Standing.TheVariants.{Unknown, Pending, Done}
 use Rattle.wire.specs.declared.values.SheetStyle.{SheetStyle as Style}
@@ -74,5 +75,5 @@ printed x fate event round position style =
 
 -- a frame of this kind and with these fields is one for a client
 pub record IsAnswer (w : What) : Type 0 where
-  pub body : IsBody w
+  pub body : (version : Version) → IsBody version w
   pub way : way_of w ≡ ToClient

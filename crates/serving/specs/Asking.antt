@@ -1,5 +1,5 @@
 -- What a frame asks of this desk.
-use Rattle.std.specs.Prelude.{ℕ, ◌^◌, ◌<◌, ◌==◌, ◌&&◌, if◌then◌else◌, Bool, Option, None, Some}
+use Rattle.std.specs.Prelude.{ℕ, ◌+◌, ◌^◌, ◌<◌, ◌≤◌, ◌==◌, ◌&&◌, if◌then◌else◌, Bool, length, Option, None, Some}
 use Rattle.acceptor.specs.declared.message.Body.{Body}
 use Rattle.acceptor.specs.declared.message.Body.TheVariants as body
 use Rattle.wire.specs.Ranges.{IsEntry, IsId}
@@ -11,19 +11,19 @@ use Rattle.serving.specs.declared.ends.Close.TheVariants as close
 use Rattle.serving.specs.declared.request.Ending.{Ending}
 use Rattle.serving.specs.declared.request.Ending.TheVariants as ends
 use Rattle.serving.specs.declared.request.Request.{Request}
-use Rattle.serving.specs.declared.request.Request.TheVariants.{Heard, Entered, Asked, Printed, Ticked, Stopped, Strange, Ignored}
+use Rattle.serving.specs.declared.request.Request.TheVariants.{Heard, Lagging, Learned, Entered, Asked, Printed, Ticked, Stopped, Strange, Ignored}
 use Rattle.serving.specs.Nodes.{Seen}
 use Rattle.store.specs.declared.home.Home.{Home}
 
--- the frame as a message, where it is one from a desk to a desk
+-- the frame as one message, where it is one from a desk to a desk
 abbrev pub body_of : What → Option Body
 body_of (what.Prepare b pos) = Some (body.Prepare b pos)
 body_of (what.Promise b pos vote) = Some (body.Promise b pos vote)
 body_of (what.Accept b pos e) = Some (body.Accept b pos e)
 body_of (what.Accepted b pos) = Some (body.Accepted b pos)
 body_of (what.Nack b pos promised) = Some (body.Nack b pos promised)
-body_of (what.Behind len) = Some (body.Behind len)
-body_of (what.Decided pos e) = Some (body.Decided pos e)
+body_of (what.Behind len) = None
+body_of (what.Decided pos es) = None
 body_of (what.Submit e) = None
 body_of (what.Ask id) = None
 body_of (what.Sheet event round position style) = None
@@ -51,8 +51,10 @@ ours from to (what.Promise b pos vote) = heard from to (body_of (what.Promise b 
 ours from to (what.Accept b pos e) = heard from to (body_of (what.Accept b pos e))
 ours from to (what.Accepted b pos) = heard from to (body_of (what.Accepted b pos))
 ours from to (what.Nack b pos promised) = heard from to (body_of (what.Nack b pos promised))
-ours from to (what.Behind len) = heard from to (body_of (what.Behind len))
-ours from to (what.Decided pos e) = heard from to (body_of (what.Decided pos e))
+ours from to (what.Behind len) =
+    Lagging (record { from = from; to = to; body = body.Behind len })
+ours from to (what.Decided pos es) =
+    Learned (record { from = from; to = to; pos = pos; entries = es })
 ours from to (what.Taken id) = Ignored
 ours from to (what.Told id s) = Ignored
 ours from to (what.SheetText bytes) = Ignored
@@ -72,7 +74,7 @@ strange (what.Accept b pos e) = Ignored
 strange (what.Accepted b pos) = Ignored
 strange (what.Nack b pos promised) = Ignored
 strange (what.Behind len) = Ignored
-strange (what.Decided pos e) = Ignored
+strange (what.Decided pos es) = Ignored
 strange (what.Taken id) = Ignored
 strange (what.Told id s) = Ignored
 strange (what.SheetText bytes) = Ignored
@@ -91,6 +93,8 @@ AsksInRange (Entered e) = IsEntry e
 AsksInRange (Asked id) = IsId id
 AsksInRange (Printed event round position style) = position < 2 ^ 32
 AsksInRange (Heard m) = Unit {0}
+AsksInRange (Lagging m) = Unit {0}
+AsksInRange (Learned run) = run.pos + length run.entries ≤ 65536
 AsksInRange Ticked = Unit {0}
 AsksInRange Stopped = Unit {0}
 AsksInRange Strange = Unit {0}
@@ -99,6 +103,8 @@ AsksInRange Ignored = Unit {0}
 -- how a request ends the connection of itself: where the desk is down behind it, or at a Stop
 abbrev pub ending : Request → Ending
 ending (Heard m) = ends.IfDown
+ending (Lagging m) = ends.IfDown
+ending (Learned run) = ends.IfDown
 ending (Entered e) = ends.IfDown
 ending Ticked = ends.IfDown
 ending Stopped = ends.AtStop

@@ -2,6 +2,7 @@
 use Rattle.std.specs.Prelude.{◌≡◌, ◌⊎◌, ◌≤◌, ◌<◌, ℕ, List, [], ◌∷◌, ◌++◌, length, Option, None, Some}
 use Rattle.std.specs.List.{flat_map, AllByRecursion}
 use Rattle.std.specs.Io.KnownBytes.{Appends, Consumes, IsAtEnd}
+use Rattle.wire.specs.declared.values.Version.{Version}
 use Rattle.wire.specs.declared.frame.Frame.{Frame}
 use Rattle.wire.specs.declared.frame.What.{What}
 use Rattle.wire.specs.Ranges.{IsFrame}
@@ -37,24 +38,25 @@ pub record Outcome : Type 0 where
   pub answers : List Frame
   pub seen : Seen
 
--- an answer is this desk's, for the client
-abbrev pub answer_frame : Home → What → Frame
-answer_frame home w = record { hall = home.hall; from = home.desk; to = 0; what = w }
+-- an answer is this desk's, for the client, in the version of what it answers
+abbrev pub answer_frame : Version → Home → What → Frame
+answer_frame version home w =
+    record { version = version; hall = home.hall; from = home.desk; to = 0; what = w }
 
-abbrev pub framed_answer : Home → Option What → List Frame
-framed_answer home None = []
-framed_answer home (Some w) = answer_frame home w ∷ []
+abbrev pub framed_answer : Version → Home → Option What → List Frame
+framed_answer version home None = []
+framed_answer version home (Some w) = answer_frame version home w ∷ []
 
-abbrev pub serve_request : Home → Seen → List Fate → Request → Outcome
-serve_request home x fates r =
+abbrev pub serve_request : Version → Home → Seen → List Fate → Request → Outcome
+serve_request version home x fates r =
     record {
       acts = (served home x fates r).done;
-      answers = framed_answer home (answer home x fates r);
+      answers = framed_answer version home (answer home x fates r);
       seen = (served home x fates r).seen;
     }
 
 unfoldable pub serve_frame : Home → Seen → Begun → Outcome
-serve_frame home x b = serve_request home x b.fates (request home b.frame)
+serve_frame home x b = serve_request b.frame.version home x b.fates (request home b.frame)
 
 -- how the frame ends the connection of itself, if it does
 unfoldable pub close_of : Home → Seen → Begun → Option Close

@@ -2,6 +2,7 @@ pub mod Adding
 pub mod Nodes
 pub mod Answering
 pub mod Asking
+pub mod Telling
 pub mod Serving
 pub mod Making
 pub mod Connection

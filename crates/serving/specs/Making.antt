@@ -1,15 +1,30 @@
 -- Calls of a node and pushes to other desks as they are made.
-use Rattle.std.specs.Prelude.{◌≡◌, ℕ, List, [], ◌∷◌, Option, Result}
+use Rattle.std.specs.Prelude.{◌≡◌, ℕ, ◌==◌, if◌then◌else◌, List, [], ◌∷◌, Option, Result}
 use Rattle.acceptor.specs.declared.message.Message.{Message}
 use Rattle.learner.specs.declared.event.Event.{Event}
 use Rattle.world.specs.declared.faults.NodeFault.{NodeFault}
+use Rattle.wire.specs.declared.values.Version.{Version}
+use Rattle.wire.specs.declared.values.Version.TheVariants.{One, Two}
 use Rattle.serving.specs.Adding.{Push, Hands}
-use Rattle.serving.specs.Serving.{Act, Called, Pushed, pushes_of}
+use Rattle.serving.specs.Serving.{Act, Called, Pushed, Answered, pushes_of}
 
 -- what is said of a call of a node of a kind: the node before it, the event, the answer, and the
 -- node behind it
-abbrev pub Way : Type 0 → Type 1
-Way V = V → Event → Result (List Message) NodeFault → V → Type 0
+abbrev pub Handling : Type 0 → Type 1
+Handling V = V → Event → Result (List Message) NodeFault → V → Type 0
+
+-- how a node of a kind is served: what is said of its calls, and the version in which frames are
+-- pushed
+pub record Way (V : Type 0) : Type 1 where
+  pub handles : Handling V
+  pub wire : Version
+
+abbrev pub speaking : {V : Type 0} → Handling V → Version → Way V
+speaking handles wire = record { handles = handles; wire = wire }
+
+-- the version that has this number, 1 or 2
+abbrev pub spoken : ℕ → Version
+spoken n = if n == 2 then Two else One
 
 -- a call of a node
 pub record Call : Type 0 where
@@ -21,9 +36,10 @@ abbrev pub calls_of : List Act → List Call
 calls_of [] = []
 calls_of (Called e r ∷ acts) = record { event = e; answer = r } ∷ calls_of acts
 calls_of (Pushed m ∷ acts) = calls_of acts
+calls_of (Answered run ∷ acts) = calls_of acts
 
 -- these calls, one after the other, lead from the first node to the last
-abbrev pub Lead : {V : Type 0} → Way V → V → List Call → V → Type 0
+abbrev pub Lead : {V : Type 0} → Handling V → V → List Call → V → Type 0
 Lead {V} way x [] y = x ≡ y
 Lead {V} way x (c ∷ cs) y = (z : V) × way x c.event c.answer z × Lead way z cs y
 
@@ -39,5 +55,5 @@ outside_of way node handed = record { node = node; handed = handed }
 -- they lead from the one node to the other
 pub record Makes {V : Type 0} {way : Way V} (hall : ℕ) (old new : Outside way)
     (acts : List Act) : Type 0 where
-  pub calls : Lead way old.node (calls_of acts) new.node
-  pub pushes : Hands old.handed new.handed (pushes_of hall acts)
+  pub calls : Lead way.handles old.node (calls_of acts) new.node
+  pub pushes : Hands old.handed new.handed (pushes_of way.wire hall acts)

@@ -1,10 +1,11 @@
 -- Serving: what is done for a frame, and for one frame after the other.
-use Rattle.std.specs.Prelude.{ℕ, zero, suc, ◌==◌, ◌&&◌, not, nat_lt, Bool, if◌then◌else◌, List, [], ◌∷◌, ◌++◌, length, map, Option, None, Some, Result, Ok, Err}
+use Rattle.std.specs.Prelude.{ℕ, zero, suc, ◌+◌, ◌==◌, ◌&&◌, not, nat_lt, Bool, if◌then◌else◌, List, [], ◌∷◌, ◌++◌, length, map, Option, None, Some, Result, Ok, Err}
 use Rattle.acceptor.specs.declared.message.Message.{Message}
 use Rattle.acceptor.specs.declared.message.Body.{Body}
 use Rattle.acceptor.specs.declared.message.Body.TheVariants as body
 use Rattle.learner.specs.declared.event.Event.{Event}
 use Rattle.learner.specs.declared.event.Event.TheVariants.{Submit, Start, Tick, Deliver}
+use Rattle.wire.specs.declared.values.Version.{Version}
 use Rattle.wire.specs.declared.frame.Frame.{Frame}
 use Rattle.wire.specs.declared.values.ClientRefusal.TheVariants as refusal
 use Rattle.acceptor.specs.declared.entry.Entry.{Entry}
@@ -17,8 +18,10 @@ use Rattle.world.specs.declared.faults.NodeFault.TheVariants as fault
 use Rattle.serving.specs.Adding.{Push}
 use Rattle.serving.specs.Nodes.{Seen, Fate, Goes, Reply, reply}
 use Rattle.serving.specs.Answering.{answer_of, answer_first, standing, told_what, printed}
+use Rattle.serving.specs.Telling.{run_of, run_pushed}
+use Rattle.serving.specs.declared.request.Run.{Run}
 use Rattle.serving.specs.declared.request.Request.{Request}
-use Rattle.serving.specs.declared.request.Request.TheVariants.{Heard, Entered, Asked, Printed, Ticked, Stopped, Strange, Ignored}
+use Rattle.serving.specs.declared.request.Request.TheVariants.{Heard, Lagging, Learned, Entered, Asked, Printed, Ticked, Stopped, Strange, Ignored}
 
 -- ---- messages as frames
 
@@ -29,21 +32,23 @@ what_of (body.Accept b pos e) = what.Accept b pos e
 what_of (body.Accepted b pos) = what.Accepted b pos
 what_of (body.Nack b pos promised) = what.Nack b pos promised
 what_of (body.Behind len) = what.Behind len
-what_of (body.Decided pos e) = what.Decided pos e
+what_of (body.Decided pos e) = what.Decided pos (e ∷ [])
 
-abbrev pub framed : ℕ → Message → Frame
-framed hall m = record { hall = hall; from = m.from; to = m.to; what = what_of m.body }
+abbrev pub framed : Version → ℕ → Message → Frame
+framed version hall m =
+    record { version = version; hall = hall; from = m.from; to = m.to; what = what_of m.body }
 
-abbrev pub pushed : ℕ → Message → Push
-pushed hall m = record { to = m.to; bytes = spelling (framed hall m) }
+abbrev pub pushed : Version → ℕ → Message → Push
+pushed version hall m = record { to = m.to; bytes = spelling (framed version hall m) }
 
 -- ---- one frame
 
--- what is done while a frame is served: the node is called, with an event and its answer to it, or
--- a message is pushed to another desk
+-- what is done while a frame is served: the node is called, with an event and its answer to it, a
+-- message is pushed to another desk, or a desk that is behind is answered by a run of entries
 pub data Act : Type 0 where
   Called : Event → Result (List Message) NodeFault → Act
   Pushed : Message → Act
+  Answered : Run → Act
 
 -- where the service of a frame stands: the node, the messages that wait, how many more the desk may
 -- deliver to itself, what was done, and the fates of the calls to come
@@ -140,10 +145,13 @@ settle home s = settle_by home s.left s
 
 -- ---- what was done
 
-abbrev pub pushes_of : ℕ → List Act → List Push
-pushes_of hall [] = []
-pushes_of hall (Called e r ∷ acts) = pushes_of hall acts
-pushes_of hall (Pushed m ∷ acts) = pushed hall m ∷ pushes_of hall acts
+-- the frames that are pushed, in a version: one for a message, and one for a run
+abbrev pub pushes_of : Version → ℕ → List Act → List Push
+pushes_of version hall [] = []
+pushes_of version hall (Called e r ∷ acts) = pushes_of version hall acts
+pushes_of version hall (Pushed m ∷ acts) = pushed version hall m ∷ pushes_of version hall acts
+pushes_of version hall (Answered run ∷ acts) =
+    run_pushed version hall run ∷ pushes_of version hall acts
 
 -- the node after the calls among these acts, which come to these fates
 abbrev pub seen_after : Home → Seen → List Act → List Fate → Seen
@@ -151,6 +159,7 @@ seen_after home x [] fates = x
 seen_after home x (Called e r ∷ acts) fates =
     seen_after home (reply home x e (first_fate fates)).seen acts (later_fates fates)
 seen_after home x (Pushed m ∷ acts) fates = seen_after home x acts fates
+seen_after home x (Answered run ∷ acts) fates = seen_after home x acts fates
 
 -- ---- the node's part of a frame
 
@@ -171,6 +180,51 @@ start_if_grown home before s =
 unfoldable pub take : Home → Event → Service → Service
 take home event s = start_if_grown home s.seen.desk.log (settle home (call home event s))
 
+-- a desk says what was decided at a position
+abbrev pub decided : ℕ → ℕ → ℕ → Entry → Event
+decided from to pos e =
+    Deliver (record { from = from; to = to; body = body.Decided pos e })
+
+-- the next entries, unless the node is down
+abbrev pub unless_down : (Service → Service) → Service → Service
+unless_down next s = if s.seen.is_down then s else next s
+
+-- The entries of a frame from a position on are delivered one after the other, each as an event of
+-- its own. What waits of an earlier one is dropped, so only the last one's messages are left; at
+-- Down the other entries are dropped.
+unfoldable pub learn : Home → ℕ → ℕ → ℕ → List Entry → Service → Service
+learn home from to pos [] s = s
+learn home from to pos (e ∷ es) s =
+    unless_down (λ t. learn home from to (pos + 1) es t)
+    (call home (decided from to pos e) (waits [] s.left s))
+
+-- entries, all that comes of the last one, and Start where the log grew
+unfoldable pub learn_all : Home → Run → Service → Service
+learn_all home run s =
+    start_if_grown home s.seen.desk.log
+    (settle_by home s.left (learn home run.from run.to run.pos run.entries s))
+
+-- The answer to a desk that is behind: a run of entries goes out as one, and anything else as what
+-- comes of other messages.
+abbrev pub hand_out : Home → Option Run → Service → Service
+hand_out home None s = settle home s
+hand_out home (Some run) s =
+    record {
+      seen = s.seen;
+      waiting = [];
+      left = s.left;
+      done = s.done ++ Answered run ∷ [];
+      fates = s.fates;
+    }
+
+unfoldable pub answer_out : Home → Service → Service
+answer_out home s = hand_out home (run_of home.desk s.waiting) s
+
+-- a desk says how long its log is, all that comes of it, and Start where the log grew
+unfoldable pub tell : Home → Message → Service → Service
+tell home m s =
+    start_if_grown home s.seen.desk.log (answer_out home (call home (Deliver m) s))
+
 -- an entry that was taken is followed by Start
 abbrev pub entered_by : Home → Result (List Message) NodeFault → Service → Service
 entered_by home (Ok ms) s = settle home (call home Start s)
@@ -186,6 +240,8 @@ begun x fates = record { seen = x; waiting = []; left = 16; done = []; fates = f
 -- the calls and pushes of a request, with the fates of its calls
 abbrev pub served : Home → Seen → List Fate → Request → Service
 served home x fates (Heard m) = take home (Deliver m) (begun x fates)
+served home x fates (Lagging m) = tell home m (begun x fates)
+served home x fates (Learned run) = learn_all home run (begun x fates)
 served home x fates (Entered e) = enter home e (begun x fates)
 served home x fates Ticked = take home Tick (begun x fates)
 served home x fates _ = begun x fates
@@ -196,6 +252,8 @@ served home x fates _ = begun x fates
 -- is Refused
 abbrev pub answer : Home → Seen → List Fate → Request → Option What
 answer home x fates (Heard m) = None
+answer home x fates (Lagging m) = None
+answer home x fates (Learned run) = None
 answer home x fates (Entered e) =
     Some (answer_first (what.Taken e.id)
     (answer_of (reply_to home (Submit e) (begun x fates)).result)

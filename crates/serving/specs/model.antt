@@ -2,6 +2,7 @@
 -- them.
 pub mod Writing
 pub mod Framing
+pub mod Gathering
 pub mod Pushing
 pub mod Calling
 pub mod Reaching

@@ -1,7 +1,7 @@
 //! The frames that a piece of the stream gave.
 
 ghost use Rattle.std.specs.Prelude.{◌≡◌, ◌≤◌, ◌<◌, List};
-ghost use Rattle.serving.specs.Making.{outside_of};
+ghost use Rattle.serving.specs.Making.{outside_of, speaking};
 ghost use Rattle.std.specs.List.{AllByRecursion};
 ghost use Rattle.wire.specs.declared.frame.Frame.{Frame as FrameValue};
 ghost use Rattle.wire.specs.Ranges.{IsFrame};
@@ -16,7 +16,7 @@ use crate::peers::Peers;
 use std::alloc::Global;
 use std::io::Write;
 use store::home::Home;
-use wire::Frame;
+use wire::{Frame, Version};
 
 /// The most frames of a connection.
 const MOST_FRAMES: u32 = 64;
@@ -26,6 +26,7 @@ const MOST_FRAMES: u32 = 64;
 pub fn serve_batch<D: Desk, W: Write, P: Peers>(
     alloc: Global,
     home: Home,
+    wire: Version,
     node: &mut D,
     writer: &mut W,
     peers: &mut P,
@@ -39,14 +40,14 @@ pub fn serve_batch<D: Desk, W: Write, P: Peers>(
     requires open { count.old < 64 }
     ensures batch { (begun : List Begun) × (left : List FrameValue) × IsBatch result home
         (sides (D.seen node.old) (W.contents writer.old)
-        (outside_of D.handles node.old (P.handed peers.old))) (sides (D.seen node.new)
-        (W.contents writer.new) (outside_of D.handles node.new (P.handed peers.new)))
+        (outside_of (speaking D.handles wire) node.old (P.handed peers.old))) (sides (D.seen node.new)
+        (W.contents writer.new) (outside_of (speaking D.handles wire) node.new (P.handed peers.new)))
         frames.items begun left count.old count.new }
     ensures home { D.home_of node.new ≡ D.home_of node.old }
 {
     for frame in frames {
         *count += 1;
-        match serve_frame(alloc, home, node, writer, peers, frame) {
+        match serve_frame(alloc, home, wire, node, writer, peers, frame) {
             Ok(None) => {}
             Ok(Some(Close::Stopped)) => return Some(End::Stopped),
             Ok(Some(Close::Down)) => return Some(End::Down),

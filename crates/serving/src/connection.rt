@@ -3,7 +3,8 @@
 ghost use Rattle.std.specs.Prelude.{◌≡◌, ℕ, List, Option};
 ghost use Rattle.node.specs.Handles.{Handles};
 ghost use Rattle.node.specs.Nodes.{words};
-ghost use Rattle.serving.specs.Making.{outside_of};
+ghost use Rattle.wire.specs.Laws.{IsVersion};
+ghost use Rattle.serving.specs.Making.{outside_of, speaking, spoken};
 ghost use Rattle.serving.specs.Connection.{Begun, IsConnection, sides};
 
 use crate::desk::Desk;
@@ -15,7 +16,7 @@ use node::Node;
 use std::alloc::Global;
 use std::io::{ErrorKind, Read, Write};
 use store::keeper::Keeper;
-use wire::FrameReader;
+use wire::{FrameReader, Version};
 
 /// Serves a connection over a reader that counts its reads, frame by frame, until one of its ends.
 pub fn serve_source<D: Desk, S: Source, W: Write, P: Peers>(
@@ -24,13 +25,14 @@ pub fn serve_source<D: Desk, S: Source, W: Write, P: Peers>(
     writer: &mut W,
     node: &mut D,
     peers: &mut P,
+    wire: Version,
 ) -> Served
     requires fresh { S.reads source.old ≡ 0 }
     ensures served { (bytes : List ℕ) × (begun : List Begun) × (rest : List ℕ) × IsConnection result
         (D.home_of node.old)
         (sides (D.seen node.old) (W.contents writer.old)
-        (outside_of D.handles node.old (P.handed peers.old))) (sides (D.seen node.new)
-        (W.contents writer.new) (outside_of D.handles node.new (P.handed peers.new)))
+        (outside_of (speaking D.handles wire) node.old (P.handed peers.old))) (sides (D.seen node.new)
+        (W.contents writer.new) (outside_of (speaking D.handles wire) node.new (P.handed peers.new)))
         bytes begun rest (S.remaining source.old) (S.remaining source.new) (S.reads source.new) }
     ensures home { D.home_of node.new ≡ D.home_of node.old }
 {
@@ -58,6 +60,7 @@ pub fn serve_source<D: Desk, S: Source, W: Write, P: Peers>(
                 if let Some(end) = serve_piece(
                     alloc,
                     home,
+                    wire,
                     node,
                     writer,
                     peers,
@@ -84,32 +87,47 @@ pub fn serve_source<D: Desk, S: Source, W: Write, P: Peers>(
     }
 }
 
+/// The version that has this number.
+fn spoken(wire: u8) -> Version
+    ensures { result ≡ spoken wire }
+{
+    if wire == 2 {
+        Version::Two
+    } else {
+        Version::One
+    }
+}
+
 /// Serves a connection of a desk, frame by frame, until one of its ends: the stream's end, a Stop,
 /// 64 frames, 19,200,256 reads, a fault of the stream, a read or a write that fails, a store that
-/// fails, or want of memory. Each frame's answer is written before the next frame is begun.
+/// fails, or want of memory. Each frame's answer is written before the next frame is begun, in the
+/// version of that frame. What is said to other desks is pushed in the version `wire`, 1 or 2; both
+/// are read.
 pub fn serve_connection<K: Keeper + Drop, R: Read + Drop, W: Write, P: Peers>(
     alloc: Global,
     reader: R,
     writer: &mut W,
     node: &mut Node<K>,
     peers: &mut P,
+    wire: u8,
 ) -> Served
+    requires version { IsVersion wire }
     ensures served { (left : Option (List ℕ)) × (reads : ℕ) × (bytes : List ℕ) ×
         (begun : List Begun) × (rest : List ℕ)
         × IsConnection result (K.home_of node.old.keeper)
         (sides (record { desk = node.old.desk; is_down = node.old.is_down }) (W.contents writer.old)
         (outside_of
-        (Handles
+        (speaking (Handles
         (words K.home_of K.failures_of K.is_down K.is_honest K.keeps K.may_hold K.may_break))
-        node.old (P.handed peers.old)))
+        (spoken wire)) node.old (P.handed peers.old)))
         (sides (record { desk = node.new.desk; is_down = node.new.is_down }) (W.contents writer.new)
         (outside_of
-        (Handles
+        (speaking (Handles
         (words K.home_of K.failures_of K.is_down K.is_honest K.keeps K.may_hold K.may_break))
-        node.new (P.handed peers.new)))
+        (spoken wire)) node.new (P.handed peers.new)))
         bytes begun rest (R.remaining reader) left reads }
     ensures home { K.home_of node.new.keeper ≡ K.home_of node.old.keeper }
 {
     let mut source = Counted::new(reader);
-    serve_source(alloc, &mut source, writer, node, peers)
+    serve_source(alloc, &mut source, writer, node, peers, spoken(wire))
 }

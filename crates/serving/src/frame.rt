@@ -1,7 +1,7 @@
 //! One frame.
 
 ghost use Rattle.std.specs.Prelude.{◌≡◌, ◌≤◌, List, IfOk, IfErr};
-ghost use Rattle.serving.specs.Making.{outside_of};
+ghost use Rattle.serving.specs.Making.{outside_of, speaking};
 ghost use Rattle.wire.specs.Ranges.{IsFrame};
 ghost use Rattle.learner.specs.Steps.{IsDesk};
 ghost use Rattle.serving.specs.Connection.{Begun, FailsIn, sides};
@@ -18,7 +18,7 @@ use crate::writing::write_answer;
 use std::alloc::Global;
 use std::io::Write;
 use store::home::Home;
-use wire::Frame;
+use wire::{Frame, Version};
 
 /// The end of the connection, where the frame behind which the desk is seen so ends it.
 fn close_by<D: Desk>(ending: Ending, node: &D) -> Option<Close>
@@ -41,6 +41,7 @@ fn close_by<D: Desk>(ending: Ending, node: &D) -> Option<Close>
 pub fn serve_frame<D: Desk, W: Write, P: Peers>(
     alloc: Global,
     home: Home,
+    wire: Version,
     node: &mut D,
     writer: &mut W,
     peers: &mut P,
@@ -52,22 +53,23 @@ pub fn serve_frame<D: Desk, W: Write, P: Peers>(
     requires spelled { IsFrame frame }
     ensures ok { IfOk result (λ close. (fates : List Fate) × ServesOne home
         (sides (D.seen node.old) (W.contents writer.old)
-        (outside_of D.handles node.old (P.handed peers.old))) (sides (D.seen node.new)
-        (W.contents writer.new) (outside_of D.handles node.new (P.handed peers.new)))
+        (outside_of (speaking D.handles wire) node.old (P.handed peers.old))) (sides (D.seen node.new)
+        (W.contents writer.new) (outside_of (speaking D.handles wire) node.new (P.handed peers.new)))
         (record { frame = frame; fates = fates }) close) }
     ensures err { IfErr result (λ e. (fates : List Fate) × FailsIn e home
         (sides (D.seen node.old) (W.contents writer.old)
-        (outside_of D.handles node.old (P.handed peers.old))) (sides (D.seen node.new)
-        (W.contents writer.new) (outside_of D.handles node.new (P.handed peers.new)))
+        (outside_of (speaking D.handles wire) node.old (P.handed peers.old))) (sides (D.seen node.new)
+        (W.contents writer.new) (outside_of (speaking D.handles wire) node.new (P.handed peers.new)))
         (record { frame = frame; fates = fates })) }
     ensures home { D.home_of node.new ≡ D.home_of node.old }
 {
+    let version = frame.version;
     let request = request_of(home, frame);
     let ending = request.ending();
-    let Ok(answer) = serve_request(alloc, home, node, peers, request) else {
+    let Ok(answer) = serve_request(alloc, home, wire, node, peers, request) else {
         return Err(FrameFault::NoMemory);
     };
-    match write_answer(alloc, home, answer, writer) {
+    match write_answer(alloc, version, home, answer, writer) {
         Ok(()) => Ok(close_by(ending, node)),
         Err(fault) => Err(fault),
     }

@@ -13,6 +13,7 @@ mod ends;
 mod frame;
 mod framing;
 pub mod laws;
+mod learning;
 mod node_desk;
 mod peers;
 mod piece;
@@ -22,6 +23,7 @@ mod requests;
 mod settling;
 mod source;
 mod taking;
+mod telling;
 mod writing;
 
 pub use connection::serve_connection;

@@ -1,7 +1,7 @@
 //! A piece of the stream.
 
 ghost use Rattle.std.specs.Prelude.{◌≡◌, ◌≤◌, ◌<◌, ◌++◌, List, ℕ, None};
-ghost use Rattle.serving.specs.Making.{outside_of};
+ghost use Rattle.serving.specs.Making.{outside_of, speaking};
 ghost use Rattle.wire.specs.Stream.{Waits, front};
 ghost use Rattle.learner.specs.Steps.{IsDesk};
 ghost use Rattle.serving.specs.Connection.{Begun, sides};
@@ -14,13 +14,14 @@ use crate::peers::Peers;
 use std::alloc::Global;
 use std::io::Write;
 use store::home::Home;
-use wire::{FrameReader, WireFault};
+use wire::{FrameReader, Version, WireFault};
 
 /// Serves the frames that are whole with this piece of the stream. Where one of them, or a fault
 /// behind them, ends the connection, that end is given.
 pub fn serve_piece<D: Desk, W: Write, P: Peers>(
     alloc: Global,
     home: Home,
+    wire: Version,
     node: &mut D,
     writer: &mut W,
     peers: &mut P,
@@ -35,14 +36,14 @@ pub fn serve_piece<D: Desk, W: Write, P: Peers>(
     requires unbroken { stream.old.fault ≡ None }
     ensures piece { (begun : List Begun) × (rest : List ℕ) × IsPiece result home
         (sides (D.seen node.old) (W.contents writer.old)
-        (outside_of D.handles node.old (P.handed peers.old))) (sides (D.seen node.new)
-        (W.contents writer.new) (outside_of D.handles node.new (P.handed peers.new)))
+        (outside_of (speaking D.handles wire) node.old (P.handed peers.old))) (sides (D.seen node.new)
+        (W.contents writer.new) (outside_of (speaking D.handles wire) node.new (P.handed peers.new)))
         (stream.old.held ++ piece.now) begun rest count.old count.new stream.new }
     ensures home { D.home_of node.new ≡ D.home_of node.old }
 {
     match stream.feed(piece) {
         Ok(frames) => {
-            if let Some(end) = serve_batch(alloc, home, node, writer, peers, frames, count) {
+            if let Some(end) = serve_batch(alloc, home, wire, node, writer, peers, frames, count) {
                 return Some(end);
             }
             match stream.fault() {

@@ -14,23 +14,24 @@ use acceptor::message::Message;
 use std::alloc::Global;
 use std::collections::VecDeque;
 use store::home::Home;
-use wire::encode;
+use wire::{Version, encode};
 
 /// Pushes a message to its receiver.
 fn push_message<P: Peers>(
     alloc: Global,
     home: Home,
+    wire: Version,
     message: Message,
     peers: &mut P,
 ) -> Result<(), NoMemory>
     requires few { home.desks ≤ 5 }
     requires in_range { IsInRange home.desks message }
     ensures ok { OnOk result
-        (Hands (P.handed peers.old) (P.handed peers.new) (pushed home.hall message ∷ [])) }
+        (Hands (P.handed peers.old) (P.handed peers.new) (pushed wire home.hall message ∷ [])) }
     ensures err { OnErr result (peers.new ≡ peers.old) }
 {
     let to = message.to;
-    let frame = framed(home.hall, home.desks, message);
+    let frame = framed(alloc, wire, home.hall, home.desks, message)?;
     let bytes = encode(alloc, &frame)?;
     peers.push(to, &bytes);
     Ok(())
@@ -41,6 +42,7 @@ fn push_message<P: Peers>(
 pub fn push_front<P: Peers>(
     alloc: Global,
     home: Home,
+    wire: Version,
     waiting: &mut VecDeque<Message>,
     peers: &mut P,
 ) -> Result<Option<Message>, NoMemory>
@@ -48,19 +50,19 @@ pub fn push_front<P: Peers>(
     requires in_range { AreInRange home.desks home.desk waiting.old.items }
     ensures pushed { OnOk result
         (Hands (P.handed peers.old) (P.handed peers.new)
-        (map (pushed home.hall) (in_front home.desk waiting.old.items))) }
+        (map (pushed wire home.hall) (in_front home.desk waiting.old.items))) }
     ensures own { IfOk result
         (λ own. Leads own (from_own home.desk waiting.old.items) waiting.new.items) }
     ensures in_range { AreInRange home.desks home.desk waiting.new.items }
     ensures err { OnErr result
-        (PushesPart home.hall (in_front home.desk waiting.old.items) (P.handed peers.old)
+        (PushesPart wire home.hall (in_front home.desk waiting.old.items) (P.handed peers.old)
         (P.handed peers.new)) }
 {
     while let Some(message) = waiting.pop_front() {
         if message.to == home.desk {
             return Ok(Some(message));
         }
-        push_message(alloc, home, message, peers)?;
+        push_message(alloc, home, wire, message, peers)?;
     }
     Ok(None)
 }
@@ -69,6 +71,7 @@ pub fn push_front<P: Peers>(
 pub fn push_others<P: Peers>(
     alloc: Global,
     home: Home,
+    wire: Version,
     waiting: &mut VecDeque<Message>,
     peers: &mut P,
 ) -> Result<(), NoMemory>
@@ -76,15 +79,15 @@ pub fn push_others<P: Peers>(
     requires in_range { AreInRange home.desks home.desk waiting.old.items }
     ensures pushed { OnOk result
         (Hands (P.handed peers.old) (P.handed peers.new)
-        (map (pushed home.hall) (to_others home.desk waiting.old.items))) }
+        (map (pushed wire home.hall) (to_others home.desk waiting.old.items))) }
     ensures empty { OnOk result (waiting.new.items ≡ []) }
     ensures err { OnErr result
-        (PushesPart home.hall (to_others home.desk waiting.old.items) (P.handed peers.old)
+        (PushesPart wire home.hall (to_others home.desk waiting.old.items) (P.handed peers.old)
         (P.handed peers.new)) }
 {
     while let Some(message) = waiting.pop_front() {
         if message.to != home.desk {
-            push_message(alloc, home, message, peers)?;
+            push_message(alloc, home, wire, message, peers)?;
         }
     }
     Ok(())

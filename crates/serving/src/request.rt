@@ -8,7 +8,19 @@ use acceptor::entry::Entry;
 use acceptor::message::{Body, Message};
 use formats::Event;
 use store::home::Home;
-use wire::{Frame, SheetStyle as Style, What};
+use wire::{Entries, Frame, SheetStyle as Style, Version, What};
+
+/// What a desk says was decided, from a position on.
+#[derive(Debug, Drop)]
+pub struct Run {
+    /// The desk that says it.
+    pub from: u8,
+    /// The desk to which it is said.
+    pub to: u8,
+    /// The position of the first entry.
+    pub pos: u32,
+    pub entries: Entries,
+}
 
 /// What a frame asks of this desk.
 #[derive(Debug, Drop)]
@@ -16,6 +28,14 @@ pub enum Request {
     /// A desk says something.
     Heard {
         message: Message,
+    },
+    /// A desk says how long its log is.
+    Lagging {
+        message: Message,
+    },
+    /// A desk says what was decided from a position on.
+    Learned {
+        run: Run,
     },
     /// A client enters a command.
     Entered {
@@ -59,7 +79,11 @@ impl Request {
         ensures { result ≡ ending self.now }
     {
         match self {
-            Request::Heard { .. } | Request::Entered { .. } | Request::Ticked => Ending::IfDown,
+            Request::Heard { .. }
+            | Request::Lagging { .. }
+            | Request::Learned { .. }
+            | Request::Entered { .. }
+            | Request::Ticked => Ending::IfDown,
             Request::Stopped => Ending::AtStop,
             Request::Asked { .. } | Request::Printed { .. } | Request::Strange | Request::Ignored =>
                 Ending::Never,
@@ -101,8 +125,8 @@ fn heard(from: u8, to: u8, body: Body) -> Request
 }
 
 /// What a frame for this desk asks.
-fn ours(from: u8, to: u8, what: What) -> Request
-    requires { IsBody what }
+fn ours(version: Version, from: u8, to: u8, what: What) -> Request
+    requires { IsBody version what }
     ensures ours { result ≡ ours from to what }
     ensures in_range { AsksInRange result }
 {
@@ -139,8 +163,21 @@ fn ours(from: u8, to: u8, what: What) -> Request
                 promised,
             },
         ),
-        What::Behind { len } => heard(from, to, Body::Behind { len }),
-        What::Decided { pos, entry } => heard(from, to, Body::Decided { pos, entry }),
+        What::Behind { len } => Request::Lagging {
+            message: Message {
+                from,
+                to,
+                body: Body::Behind { len },
+            },
+        },
+        What::Decided { pos, entries } => Request::Learned {
+            run: Run {
+                from,
+                to,
+                pos,
+                entries,
+            },
+        },
         What::Taken { .. }
         | What::Told { .. }
         | What::SheetText { .. }
@@ -156,13 +193,14 @@ pub fn request_of(home: Home, frame: Frame) -> Request
     ensures in_range { AsksInRange result }
 {
     let Frame {
+        version,
         hall,
         from,
         to,
         what,
     } = frame;
     if hall == home.hall && to == home.desk {
-        ours(from, to, what)
+        ours(version, from, to, what)
     } else {
         strange(what)
     }

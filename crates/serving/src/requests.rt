@@ -1,7 +1,7 @@
 //! A request: its calls, its pushes and its answer.
 
 ghost use Rattle.std.specs.Prelude.{◌≡◌, ◌≤◌, ℕ, [], None, Some, List, IfOk, OnOk, OnErr, IfSome};
-ghost use Rattle.serving.specs.Making.{outside_of};
+ghost use Rattle.serving.specs.Making.{outside_of, speaking};
 ghost use Rattle.learner.specs.Ranges.{AreInRange};
 ghost use Rattle.learner.specs.declared.event.Event.TheVariants.{Start};
 ghost use Rattle.serving.specs.model.Reaching.{Does, DoesPart, at};
@@ -14,10 +14,12 @@ ghost use Rattle.serving.specs.model.Requests.{AnswersSome, FailsToAnswer};
 use crate::answering::{answer_first, asked, printed};
 use crate::calling::{Answer, call};
 use crate::desk::Desk;
+use crate::learning::learn;
 use crate::peers::Peers;
 use crate::request::Request;
 use crate::settling::settle;
 use crate::taking::{MOST_OWN, take};
+use crate::telling::tell;
 use acceptor::NoMemory;
 use acceptor::entry::Entry;
 use acceptor::message::Message;
@@ -25,12 +27,13 @@ use learner::event::Event;
 use std::alloc::Global;
 use std::collections::VecDeque;
 use store::home::Home;
-use wire::{ClientRefusal as Refusal, What};
+use wire::{ClientRefusal as Refusal, Version, What};
 
 /// A desk says something: it is delivered.
 fn hear<D: Desk, P: Peers>(
     alloc: Global,
     home: Home,
+    wire: Version,
     node: &mut D,
     peers: &mut P,
     message: Message,
@@ -40,15 +43,15 @@ fn hear<D: Desk, P: Peers>(
     ensures ok { IfOk result
         (λ _.
         AnswersSome home (D.seen node.old) (D.seen node.new) (Request.Heard message) None
-        (outside_of D.handles node.old (P.handed peers.old))
-        (outside_of D.handles node.new (P.handed peers.new))) }
+        (outside_of (speaking D.handles wire) node.old (P.handed peers.old))
+        (outside_of (speaking D.handles wire) node.new (P.handed peers.new))) }
     ensures err { OnErr result
         (FailsToAnswer home (D.seen node.old) (D.seen node.new) (Request.Heard message)
-        (outside_of D.handles node.old (P.handed peers.old))
-        (outside_of D.handles node.new (P.handed peers.new))) }
+        (outside_of (speaking D.handles wire) node.old (P.handed peers.old))
+        (outside_of (speaking D.handles wire) node.new (P.handed peers.new))) }
     ensures home { D.home_of node.new ≡ D.home_of node.old }
 {
-    take(alloc, home, node, peers, Event::Deliver(message))?;
+    take(alloc, home, wire, node, peers, Event::Deliver(message))?;
     Ok(())
 }
 
@@ -56,6 +59,7 @@ fn hear<D: Desk, P: Peers>(
 fn tick<D: Desk, P: Peers>(
     alloc: Global,
     home: Home,
+    wire: Version,
     node: &mut D,
     peers: &mut P,
 ) -> Result<What, NoMemory>
@@ -64,16 +68,16 @@ fn tick<D: Desk, P: Peers>(
     ensures ok { IfOk result
         (λ w.
         AnswersSome home (D.seen node.old) (D.seen node.new) Request.Ticked (Some w)
-        (outside_of D.handles node.old (P.handed peers.old))
-        (outside_of D.handles node.new (P.handed peers.new))) }
+        (outside_of (speaking D.handles wire) node.old (P.handed peers.old))
+        (outside_of (speaking D.handles wire) node.new (P.handed peers.new))) }
     ensures err { OnErr result
         (FailsToAnswer home (D.seen node.old) (D.seen node.new) Request.Ticked
-        (outside_of D.handles node.old (P.handed peers.old))
-        (outside_of D.handles node.new (P.handed peers.new))) }
+        (outside_of (speaking D.handles wire) node.old (P.handed peers.old))
+        (outside_of (speaking D.handles wire) node.new (P.handed peers.new))) }
     ensures in_range { IfOk result IsAnswer }
     ensures home { D.home_of node.new ≡ D.home_of node.old }
 {
-    let answer = take(alloc, home, node, peers, Event::Tick)?;
+    let answer = take(alloc, home, wire, node, peers, Event::Tick)?;
     Ok(answer_first(What::Fine, answer, node))
 }
 
@@ -81,6 +85,7 @@ fn tick<D: Desk, P: Peers>(
 fn start<D: Desk, P: Peers>(
     alloc: Global,
     home: Home,
+    wire: Version,
     node: &mut D,
     waiting: &mut VecDeque<Message>,
     peers: &mut P,
@@ -91,18 +96,18 @@ fn start<D: Desk, P: Peers>(
     ensures ok { OnOk result ((last : ℕ) × Does home (λ s. settle_by home 16 (call home Start s))
         (at (D.seen node.old) waiting.old.items 16)
         (at (D.seen node.new) waiting.new.items last)
-        (outside_of D.handles node.old (P.handed peers.old))
-        (outside_of D.handles node.new (P.handed peers.new))) }
+        (outside_of (speaking D.handles wire) node.old (P.handed peers.old))
+        (outside_of (speaking D.handles wire) node.new (P.handed peers.new))) }
     ensures err { OnErr result (DoesPart home (λ s. settle_by home 16 (call home Start s))
         (at (D.seen node.old) waiting.old.items 16)
-        (D.seen node.new) (outside_of D.handles node.old (P.handed peers.old))
-        (outside_of D.handles node.new (P.handed peers.new))) }
+        (D.seen node.new) (outside_of (speaking D.handles wire) node.old (P.handed peers.old))
+        (outside_of (speaking D.handles wire) node.new (P.handed peers.new))) }
     ensures empty { OnOk result (waiting.new.items ≡ []) }
     ensures home { D.home_of node.new ≡ D.home_of node.old }
 {
     let mut left = MOST_OWN;
     call(node, waiting, Event::Start)?;
-    settle(alloc, home, node, waiting, &mut left, peers)?;
+    settle(alloc, home, wire, node, waiting, &mut left, peers)?;
     Ok(())
 }
 
@@ -110,6 +115,7 @@ fn start<D: Desk, P: Peers>(
 fn enter<D: Desk, P: Peers>(
     alloc: Global,
     home: Home,
+    wire: Version,
     node: &mut D,
     peers: &mut P,
     entry: Entry,
@@ -120,12 +126,12 @@ fn enter<D: Desk, P: Peers>(
     ensures ok { IfOk result
         (λ w.
         AnswersSome home (D.seen node.old) (D.seen node.new) (Request.Entered entry) (Some w)
-        (outside_of D.handles node.old (P.handed peers.old))
-        (outside_of D.handles node.new (P.handed peers.new))) }
+        (outside_of (speaking D.handles wire) node.old (P.handed peers.old))
+        (outside_of (speaking D.handles wire) node.new (P.handed peers.new))) }
     ensures err { OnErr result
         (FailsToAnswer home (D.seen node.old) (D.seen node.new) (Request.Entered entry)
-        (outside_of D.handles node.old (P.handed peers.old))
-        (outside_of D.handles node.new (P.handed peers.new))) }
+        (outside_of (speaking D.handles wire) node.old (P.handed peers.old))
+        (outside_of (speaking D.handles wire) node.new (P.handed peers.new))) }
     ensures in_range { IfOk result IsAnswer }
     ensures home { D.home_of node.new ≡ D.home_of node.old }
 {
@@ -135,7 +141,7 @@ fn enter<D: Desk, P: Peers>(
     if answer != Answer::Taken {
         return Ok(answer_first(What::Taken { id }, answer, node));
     }
-    start(alloc, home, node, &mut waiting, peers)?;
+    start(alloc, home, wire, node, &mut waiting, peers)?;
     Ok(answer_first(What::Taken { id }, answer, node))
 }
 
@@ -143,6 +149,7 @@ fn enter<D: Desk, P: Peers>(
 pub fn serve_request<D: Desk, P: Peers>(
     alloc: Global,
     home: Home,
+    wire: Version,
     node: &mut D,
     peers: &mut P,
     request: Request,
@@ -153,22 +160,30 @@ pub fn serve_request<D: Desk, P: Peers>(
     ensures ok { IfOk result
         (λ w.
         AnswersSome home (D.seen node.old) (D.seen node.new) request w
-        (outside_of D.handles node.old (P.handed peers.old))
-        (outside_of D.handles node.new (P.handed peers.new))) }
+        (outside_of (speaking D.handles wire) node.old (P.handed peers.old))
+        (outside_of (speaking D.handles wire) node.new (P.handed peers.new))) }
     ensures err { OnErr result
         (FailsToAnswer home (D.seen node.old) (D.seen node.new) request
-        (outside_of D.handles node.old (P.handed peers.old))
-        (outside_of D.handles node.new (P.handed peers.new))) }
+        (outside_of (speaking D.handles wire) node.old (P.handed peers.old))
+        (outside_of (speaking D.handles wire) node.new (P.handed peers.new))) }
     ensures in_range { IfOk result (λ w. IfSome w IsAnswer) }
     ensures home { D.home_of node.new ≡ D.home_of node.old }
 {
     match request {
         Request::Heard { message } => {
-            hear(alloc, home, node, peers, message)?;
+            hear(alloc, home, wire, node, peers, message)?;
             Ok(None)
         }
-        Request::Entered { entry } => Ok(Some(enter(alloc, home, node, peers, entry)?)),
-        Request::Ticked => Ok(Some(tick(alloc, home, node, peers)?)),
+        Request::Lagging { message } => {
+            tell(alloc, home, wire, node, peers, message)?;
+            Ok(None)
+        }
+        Request::Learned { run } => {
+            learn(alloc, home, wire, node, peers, run)?;
+            Ok(None)
+        }
+        Request::Entered { entry } => Ok(Some(enter(alloc, home, wire, node, peers, entry)?)),
+        Request::Ticked => Ok(Some(tick(alloc, home, wire, node, peers)?)),
         Request::Asked { id } => Ok(Some(asked(node, id))),
         Request::Printed {
             event,

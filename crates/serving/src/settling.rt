@@ -1,7 +1,7 @@
 //! The messages of a frame, one after the other.
 
 ghost use Rattle.std.specs.Prelude.{◌≡◌, ◌≤◌, [], map, List, OnOk, OnErr};
-ghost use Rattle.serving.specs.Making.{outside_of};
+ghost use Rattle.serving.specs.Making.{outside_of, speaking};
 ghost use Rattle.learner.specs.Ranges.{AreInRange};
 ghost use Rattle.serving.specs.Adding.{Hands};
 ghost use Rattle.serving.specs.model.Pushing.{PushesPart};
@@ -18,12 +18,14 @@ use learner::event::Event;
 use std::alloc::Global;
 use std::collections::VecDeque;
 use store::home::Home;
+use wire::Version;
 
 /// Takes the messages that wait in order: one to the desk itself is delivered, as long as `left`
 /// allows, and one to another desk is pushed. What comes of a delivery goes behind the rest.
 pub fn settle<D: Desk, P: Peers>(
     alloc: Global,
     home: Home,
+    wire: Version,
     node: &mut D,
     waiting: &mut VecDeque<Message>,
     left: &mut u8,
@@ -35,21 +37,21 @@ pub fn settle<D: Desk, P: Peers>(
     ensures ok { OnOk result
         (Does home (settle_by home left.old) (at (D.seen node.old) waiting.old.items left.old)
         (at (D.seen node.new) waiting.new.items left.new)
-        (outside_of D.handles node.old (P.handed peers.old))
-        (outside_of D.handles node.new (P.handed peers.new))) }
+        (outside_of (speaking D.handles wire) node.old (P.handed peers.old))
+        (outside_of (speaking D.handles wire) node.new (P.handed peers.new))) }
     ensures err { OnErr result (DoesPart home (settle_by home left.old)
         (at (D.seen node.old) waiting.old.items left.old)
-        (D.seen node.new) (outside_of D.handles node.old (P.handed peers.old))
-        (outside_of D.handles node.new (P.handed peers.new))) }
+        (D.seen node.new) (outside_of (speaking D.handles wire) node.old (P.handed peers.old))
+        (outside_of (speaking D.handles wire) node.new (P.handed peers.new))) }
     ensures empty { OnOk result (waiting.new.items ≡ []) }
     ensures home { D.home_of node.new ≡ D.home_of node.old }
 {
     while *left > 0 {
-        let Some(message) = push_front(alloc, home, waiting, peers)? else {
+        let Some(message) = push_front(alloc, home, wire, waiting, peers)? else {
             return Ok(());
         };
         *left -= 1;
         call(node, waiting, Event::Deliver(message))?;
     }
-    push_others(alloc, home, waiting, peers)
+    push_others(alloc, home, wire, waiting, peers)
 }

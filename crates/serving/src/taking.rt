@@ -1,7 +1,7 @@
 //! An event, all that comes of it, and Start where the log grew.
 
 ghost use Rattle.std.specs.Prelude.{◌≡◌, ◌≤◌, ℕ, [], List, IfOk, OnErr};
-ghost use Rattle.serving.specs.Making.{outside_of};
+ghost use Rattle.serving.specs.Making.{outside_of, speaking};
 ghost use Rattle.serving.specs.Nodes.{Fate};
 ghost use Rattle.serving.specs.model.Reaching.{DoesCall, DoesTake, DoesPart, at};
 ghost use Rattle.serving.specs.Serving.{Act, call, settle_by, take, grew};
@@ -16,6 +16,7 @@ use learner::event::Event;
 use std::alloc::Global;
 use std::collections::VecDeque;
 use store::home::Home;
+use wire::Version;
 
 /// The most messages of a frame that the desk delivers to itself.
 pub const MOST_OWN: u8 = 16;
@@ -24,6 +25,7 @@ pub const MOST_OWN: u8 = 16;
 pub fn call_and_settle<D: Desk, P: Peers>(
     alloc: Global,
     home: Home,
+    wire: Version,
     node: &mut D,
     left: &mut u8,
     peers: &mut P,
@@ -34,22 +36,22 @@ pub fn call_and_settle<D: Desk, P: Peers>(
     ensures ok { IfOk result (λ answer. (acts : List Act) × (past : List Fate) × DoesCall home
         left.old left.new event answer
         (D.seen node.old) (D.seen node.new) acts past
-        (outside_of D.handles node.old (P.handed peers.old))
-        (outside_of D.handles node.new (P.handed peers.new))) }
+        (outside_of (speaking D.handles wire) node.old (P.handed peers.old))
+        (outside_of (speaking D.handles wire) node.new (P.handed peers.new))) }
     ensures err { OnErr result (DoesPart home (λ s. settle_by home left.old (call home event s))
         (at (D.seen node.old) [] left.old)
-        (D.seen node.new) (outside_of D.handles node.old (P.handed peers.old))
-        (outside_of D.handles node.new (P.handed peers.new))) }
+        (D.seen node.new) (outside_of (speaking D.handles wire) node.old (P.handed peers.old))
+        (outside_of (speaking D.handles wire) node.new (P.handed peers.new))) }
     ensures home { D.home_of node.new ≡ D.home_of node.old }
 {
     let mut waiting = VecDeque::new(alloc);
     let answer = call(node, &mut waiting, event)?;
-    settle(alloc, home, node, &mut waiting, left, peers)?;
+    settle(alloc, home, wire, node, &mut waiting, left, peers)?;
     Ok(answer)
 }
 
 /// Whether Start is due behind a frame that began with so many entries in the log.
-fn grew<D: Desk>(before: u32, node: &D) -> bool
+pub fn grew<D: Desk>(before: u32, node: &D) -> bool
     ensures { result ≡ grew before (D.seen node.now) }
 {
     !node.is_down() && before < node.log().len() && node.queued() > 0
@@ -60,6 +62,7 @@ fn grew<D: Desk>(before: u32, node: &D) -> bool
 pub fn take<D: Desk, P: Peers>(
     alloc: Global,
     home: Home,
+    wire: Version,
     node: &mut D,
     peers: &mut P,
     event: Event,
@@ -69,19 +72,19 @@ pub fn take<D: Desk, P: Peers>(
     ensures ok { IfOk result (λ answer. (left : ℕ) × (acts : List Act) × (past : List Fate) ×
         DoesTake home left event answer
         (D.seen node.old) (D.seen node.new) acts past
-        (outside_of D.handles node.old (P.handed peers.old))
-        (outside_of D.handles node.new (P.handed peers.new))) }
+        (outside_of (speaking D.handles wire) node.old (P.handed peers.old))
+        (outside_of (speaking D.handles wire) node.new (P.handed peers.new))) }
     ensures err { OnErr result
         (DoesPart home (take home event) (at (D.seen node.old) [] 16) (D.seen node.new)
-        (outside_of D.handles node.old (P.handed peers.old))
-        (outside_of D.handles node.new (P.handed peers.new))) }
+        (outside_of (speaking D.handles wire) node.old (P.handed peers.old))
+        (outside_of (speaking D.handles wire) node.new (P.handed peers.new))) }
     ensures home { D.home_of node.new ≡ D.home_of node.old }
 {
     let before = node.log().len();
     let mut left = MOST_OWN;
-    let answer = call_and_settle(alloc, home, node, &mut left, peers, event)?;
+    let answer = call_and_settle(alloc, home, wire, node, &mut left, peers, event)?;
     if grew(before, node) {
-        call_and_settle(alloc, home, node, &mut left, peers, Event::Start)?;
+        call_and_settle(alloc, home, wire, node, &mut left, peers, Event::Start)?;
     }
     Ok(answer)
 }

@@ -16,7 +16,7 @@ use lines::write_text;
 use std::alloc::Global;
 use std::io::Write;
 use store::home::Home;
-use wire::{Frame, What, encode};
+use wire::{Frame, Version, What, encode};
 
 /// Writes a frame. Where memory is refused nothing is written.
 pub fn write_frame<W: Write>(alloc: Global, frame: &Frame, writer: &mut W) -> Result<(), FrameFault>
@@ -38,6 +38,7 @@ pub fn write_frame<W: Write>(alloc: Global, frame: &Frame, writer: &mut W) -> Re
 /// Writes an answer of the desk at home here to its client.
 fn write_what<W: Write>(
     alloc: Global,
+    version: Version,
     home: Home,
     what: What,
     writer: &mut W,
@@ -47,13 +48,14 @@ fn write_what<W: Write>(
     requires in_range { IsAnswer what }
     ensures ok { OnOk result
         (Appends (W.contents writer.old) (W.contents writer.new)
-        (spelling (answer_frame home what))) }
+        (spelling (answer_frame version home what))) }
     ensures err { IfErr result
         (λ e.
         WriteEnds e (W.contents writer.old) (W.contents writer.new)
-        (spelling (answer_frame home what))) }
+        (spelling (answer_frame version home what))) }
 {
     let answer = Frame {
+        version,
         hall: home.hall,
         from: home.desk,
         to: 0,
@@ -66,6 +68,7 @@ fn write_what<W: Write>(
 /// where memory is refused nothing is.
 pub fn write_answer<W: Write>(
     alloc: Global,
+    version: Version,
     home: Home,
     answer: Option<What>,
     writer: &mut W,
@@ -75,14 +78,14 @@ pub fn write_answer<W: Write>(
     requires in_range { ForSome answer IsAnswer }
     ensures ok { OnOk result
         (Appends (W.contents writer.old) (W.contents writer.new)
-        (answer_bytes (framed_answer home answer))) }
+        (answer_bytes (framed_answer version home answer))) }
     ensures err { IfErr result
         (λ e.
         WriteEnds e (W.contents writer.old) (W.contents writer.new)
-        (answer_bytes (framed_answer home answer))) }
+        (answer_bytes (framed_answer version home answer))) }
 {
     match answer {
-        Some(what) => write_what(alloc, home, what, writer),
+        Some(what) => write_what(alloc, version, home, what, writer),
         None => Ok(()),
     }
 }

@@ -1,6 +1,7 @@
 //! Connections of desk 1 of 3 in hall 7: what is read, written and pushed, byte for byte.
 
 ghost use Rattle.std.specs.Prelude.{None};
+ghost use Rattle.wire.specs.Laws.{IsVersion};
 
 use node::{Node, Told};
 use serving::{End, Peers, Served, serve_connection};
@@ -32,6 +33,13 @@ const PREPARES: &[u8] =
 
 /// Tick from a client.
 pub(crate) const TICK: &[u8] = b"\0\0\0\x08\x01\0\0\0\x07\0\x01\x13";
+
+/// Entries 7 (`A`) and 8 (`B`) from position 0 on, from desk 1 to desk 3, in version 2.
+const RUN: &[u8] =
+    b"\0\0\0\x23\x02\0\0\0\x07\x01\x03\x07\0\0\0\0\x02\0\0\0\0\0\0\0\x07\0\x01A\0\0\0\0\0\0\0\x08\0\x01B";
+
+/// Desk 1 says to desk 3, in version 2, that its log is empty.
+const BEHIND: &[u8] = b"\0\0\0\x0c\x02\0\0\0\x07\x01\x03\x06\0\0\0\0";
 
 pub(crate) const FINE: &[u8] = b"\0\0\0\x08\x01\0\0\0\x07\x01\0\x24";
 
@@ -103,7 +111,7 @@ fn check_served(
         bytes: Vec::new(alloc),
     };
     let mut output = Vec::new(alloc);
-    let came = serve_connection(alloc, input, &mut output, &mut node, &mut peers);
+    let came = serve_connection(alloc, input, &mut output, &mut node, &mut peers, 1);
     assert!(rt; came == served);
     assert!(rt; output.as_slice() == written);
     assert!(rt; peers.bytes.as_slice() == pushed);
@@ -159,7 +167,14 @@ fn ends_after_64_frames(rt: HostRuntime) -> Result<(), Fail> {
         bytes: Vec::new(alloc),
     };
     let mut output = Vec::new(alloc);
-    let served = serve_connection(alloc, input.as_slice(), &mut output, &mut node, &mut peers);
+    let served = serve_connection(
+        alloc,
+        input.as_slice(),
+        &mut output,
+        &mut node,
+        &mut peers,
+        1,
+    );
     assert!(rt;
         served
             == Served {
@@ -183,7 +198,7 @@ fn breaks_off_at_a_failed_write(rt: HostRuntime) -> Result<(), Fail> {
         room: 10,
         bytes: Vec::new(alloc),
     };
-    let served = serve_connection(alloc, SUBMIT_ASK, &mut output, &mut node, &mut peers);
+    let served = serve_connection(alloc, SUBMIT_ASK, &mut output, &mut node, &mut peers, 1);
     assert!(rt;
         served
             == Served {
@@ -195,4 +210,66 @@ fn breaks_off_at_a_failed_write(rt: HostRuntime) -> Result<(), Fail> {
     assert!(rt; peers.bytes.as_slice() == PREPARES);
     assert!(rt; node.answer(5)? == Told::Pending);
     Ok(())
+}
+
+/// Desk 3 of 3 serves this input in a version of the wire, answers nothing, and pushes these bytes.
+fn check_pushed(
+    rt: &impl Abort,
+    alloc: Global,
+    node: &mut Node<MemoryKeeper>,
+    input: &[u8],
+    wire: u8,
+    pushed: &[u8],
+) -> Result<(), Fail>
+    requires { IsVersion wire }
+{
+    let mut peers = Kept {
+        bytes: Vec::new(alloc),
+    };
+    let mut output = Vec::new(alloc);
+    let served = serve_connection(alloc, input, &mut output, node, &mut peers, wire);
+    assert!(rt;
+        served
+            == Served {
+                frames: 1,
+                end: End::End
+            }
+    );
+    assert!(rt; output.is_empty());
+    assert!(rt; peers.bytes.as_slice() == pushed);
+    Ok(())
+}
+
+/// A run of two entries, and then desk 1 at position 0, at an empty desk 3 that pushes in a version
+/// of the wire: what it pushes of each.
+fn check_run(
+    rt: &impl Abort,
+    alloc: Global,
+    wire: u8,
+    heard: &[u8],
+    told: &[u8],
+) -> Result<(), Fail>
+    requires { IsVersion wire }
+{
+    let mut node = Node::open(alloc, MemoryKeeper::new(alloc, 7, 3, 3)?)?;
+    check_pushed(rt, alloc, &mut node, RUN, wire, heard)?;
+    assert!(rt; node.log().len() == 2);
+    assert!(rt; node.log().position_of(7) == Some(0));
+    assert!(rt; node.log().position_of(8) == Some(1));
+    check_pushed(rt, alloc, &mut node, BEHIND, wire, told)
+}
+
+#[test]
+fn a_run_in_version_2(rt: HostRuntime) -> Result<(), Fail> {
+    let behind = b"\x01\0\0\0\x0c\x02\0\0\0\x07\x03\x01\x06\0\0\0\x02";
+    let run =
+        b"\x01\0\0\0\x23\x02\0\0\0\x07\x03\x01\x07\0\0\0\0\x02\0\0\0\0\0\0\0\x07\0\x01A\0\0\0\0\0\0\0\x08\0\x01B";
+    check_run(&rt, rt.alloc(), 2, behind, run)
+}
+
+#[test]
+fn a_run_in_version_1(rt: HostRuntime) -> Result<(), Fail> {
+    let behind = b"\x01\0\0\0\x0c\x01\0\0\0\x07\x03\x01\x06\0\0\0\x02";
+    let first = b"\x01\0\0\0\x17\x01\0\0\0\x07\x03\x01\x07\0\0\0\0\0\0\0\0\0\0\0\x07\0\x01A";
+    check_run(&rt, rt.alloc(), 1, behind, first)
 }

@@ -16,10 +16,10 @@ use std::process::Abort;
 use std::test::Fail;
 use store::keeper::Keeper;
 use store::sql::SqlKeeper;
-use wire::{Frame, What, encode};
+use wire::{Frame, Version, What, encode};
 
 /// How many commands one client hands in at once.
-const BURST: u64 = 30;
+const BURST: u64 = 20;
 
 /// Pushes frames over TCP, and counts the connections that wait for each desk.
 #[derive(Drop)]
@@ -41,7 +41,8 @@ impl Peers for Counting<'_> {
     }
 }
 
-/// The desk serves the connections that wait for it, and there were some.
+/// The desk serves the connections that wait for it, and there were some. Desk 1 pushes in version 1
+/// of the wire, and the others in version 2.
 fn serve_waiting<K: Keeper + Drop>(
     alloc: Global,
     desk: usize,
@@ -54,7 +55,8 @@ fn serve_waiting<K: Keeper + Drop>(
     };
     let count = *waiting;
     *waiting = 0;
-    let served = serve_all(alloc, listener, count, node, hall);
+    let wire = if desk == 1 { 1 } else { 2 };
+    let served = serve_all(alloc, listener, count, node, hall, wire);
     if served.end != AllEnd::All {
         return Err(Fail::from("not all were served"));
     }
@@ -96,6 +98,7 @@ fn burst(alloc: Global) -> Result<Vec<u8>, Fail> {
     let mut frames = Vec::new(alloc);
     for id in 1..BURST + 1 {
         let frame = Frame {
+            version: Version::One,
             hall: 7,
             from: 0,
             to: 1,

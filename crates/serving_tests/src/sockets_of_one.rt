@@ -30,7 +30,7 @@ fn serve(rt: &HostRuntime, listener: &mut Listener, most: u32) -> Result<ServedA
     let mut peers = Kept {
         bytes: Vec::new(alloc),
     };
-    Ok(serve_all(alloc, listener, most, &mut node, &mut peers))
+    Ok(serve_all(alloc, listener, most, &mut node, &mut peers, 1))
 }
 
 #[test]

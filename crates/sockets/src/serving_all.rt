@@ -3,7 +3,8 @@
 ghost use Rattle.std.specs.Prelude.{◌≡◌, List};
 ghost use Rattle.node.specs.Handles.{Handles};
 ghost use Rattle.node.specs.Nodes.{words};
-ghost use Rattle.serving.specs.Making.{outside_of};
+ghost use Rattle.serving.specs.Making.{speaking, spoken};
+ghost use Rattle.wire.specs.Laws.{IsVersion};
 ghost use Rattle.serving.specs.declared.ends.Served.{Served as ServedValue};
 ghost use Rattle.sockets.specs.Visits.{IsVisit, IsServedAll, end_behind, standing_of};
 
@@ -42,38 +43,47 @@ fn serve_client<K: Keeper + Drop, A: Accept, P: Peers>(
     writer: A::Writer,
     node: &mut Node<K>,
     peers: &mut P,
+    wire: u8,
 ) -> Served
+    requires version { IsVersion wire }
     ensures visit { IsVisit (K.home_of node.old.keeper) result
-        (standing_of (Handles
+        (standing_of (speaking (Handles
         (words K.home_of K.failures_of K.is_down K.is_honest K.keeps K.may_hold K.may_break))
+        (spoken wire))
         node.old (P.handed peers.old))
-        (standing_of (Handles
+        (standing_of (speaking (Handles
         (words K.home_of K.failures_of K.is_down K.is_honest K.keeps K.may_hold K.may_break))
+        (spoken wire))
         node.new (P.handed peers.new)) }
     ensures home { K.home_of node.new.keeper ≡ K.home_of node.old.keeper }
 {
     let mut writer = writer;
-    let served = serve_connection(alloc, reader, &mut writer, node, peers);
+    let served = serve_connection(alloc, reader, &mut writer, node, peers, wire);
     listener.close(writer);
     served
 }
 
 /// Serves `most` clients, one after the other, each as `serve_connection` does. A Stop, a desk that
 /// is down, or a client that can't be accepted ends it earlier; any other end of a connection is
-/// followed by the next client.
+/// followed by the next client. What is said to other desks is pushed in the version `wire` of the
+/// wire, 1 or 2.
 pub fn serve_all<K: Keeper + Drop, A: Accept, P: Peers>(
     alloc: Global,
     listener: &mut A,
     most: u32,
     node: &mut Node<K>,
     peers: &mut P,
+    wire: u8,
 ) -> ServedAll
+    requires version { IsVersion wire }
     ensures served { (each : List ServedValue) × IsServedAll result (K.home_of node.old.keeper) most
-        (standing_of (Handles
+        (standing_of (speaking (Handles
         (words K.home_of K.failures_of K.is_down K.is_honest K.keeps K.may_hold K.may_break))
+        (spoken wire))
         node.old (P.handed peers.old))
-        (standing_of (Handles
+        (standing_of (speaking (Handles
         (words K.home_of K.failures_of K.is_down K.is_honest K.keeps K.may_hold K.may_break))
+        (spoken wire))
         node.new (P.handed peers.new))
         each }
     ensures home { K.home_of node.new.keeper ≡ K.home_of node.old.keeper }
@@ -87,7 +97,7 @@ pub fn serve_all<K: Keeper + Drop, A: Accept, P: Peers>(
             };
         };
         connections += 1;
-        let served = serve_client(alloc, listener, reader, writer, node, peers);
+        let served = serve_client(alloc, listener, reader, writer, node, peers, wire);
         if let Some(end) = end_behind(served.end) {
             return ServedAll { connections, end };
         }

@@ -106,6 +106,7 @@ impl Side {
             &mut self.written,
             &mut self.node,
             &mut self.pushed,
+            1,
         )
     }
 

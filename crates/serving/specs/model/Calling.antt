@@ -6,7 +6,7 @@ use Rattle.serving.specs.declared.calling.Answer.{Answer}
 use Rattle.store.specs.declared.home.Home.{Home}
 use Rattle.serving.specs.Nodes.{Seen, Fate, reply}
 use Rattle.serving.specs.Answering.{answer_of}
-use Rattle.serving.specs.Making.{Way}
+use Rattle.serving.specs.Making.{Handling}
 use Rattle.serving.specs.Serving.{waiting_after}
 
 -- the call came to this fate
@@ -17,7 +17,7 @@ pub record Calls (home : Home) (event : Event) (fate : Fate) (x y : Seen) (ms mo
   pub waits : more ≡ waiting_after ms (reply home x event fate).result
 
 -- it is a call of the node's, with the answer of this fate
-abbrev pub IsCall : {V : Type 0} → Way V → Home → Event → Fate → Seen → V → V → Type 0
+abbrev pub IsCall : {V : Type 0} → Handling V → Home → Event → Fate → Seen → V → V → Type 0
 IsCall way home event fate x u v = way u event (reply home x event fate).result v
 
 -- the call came to this fate, and its messages were lost

@@ -2,7 +2,7 @@ use Rattle.std.proofs.Common.{◌≡◌, List, ◌++◌, ◌+◌, ◌<◌, lengt
 use Rattle.std.specs.List.{AllByRecursion}
 use Rattle.std.specs.Vec.Iter.{into_iter_items, into_iter_len}
 use Rattle.wire.specs.Ranges.{IsFrame}
-use Rattle.serving.specs.Making.{outside_of}
+use Rattle.serving.specs.Making.{outside_of, speaking}
 use Rattle.serving.specs.Connection.{Begun, frames_of, Serves, sides}
 use Rattle.serving.proofs.batch.serve_batch.Given as goal
 
@@ -19,6 +19,6 @@ invariant-loop-frame g l = record {
       × (l.count ≡ l.initial.count + length begun)
       × Serves l.home
       (sides (g.D.Desk.seen l.initial.node) (g.W.Write.contents l.initial.writer)
-      (outside_of g.D.Desk.handles l.initial.node (g.P.Peers.handed l.initial.peers)))
-      (sides (g.D.Desk.seen l.node) (g.W.Write.contents l.writer) (outside_of g.D.Desk.handles l.node (g.P.Peers.handed l.peers))) begun;
+      (outside_of (speaking g.D.Desk.handles l.wire) l.initial.node (g.P.Peers.handed l.initial.peers)))
+      (sides (g.D.Desk.seen l.node) (g.W.Write.contents l.writer) (outside_of (speaking g.D.Desk.handles l.wire) l.node (g.P.Peers.handed l.peers))) begun;
 }

@@ -1,5 +1,5 @@
 use Rattle.std.proofs.Common.{◌≡◌, ℕ, List, ◌-◌, ◌≤◌}
-use Rattle.serving.specs.Making.{outside_of}
+use Rattle.serving.specs.Making.{outside_of, speaking}
 use Rattle.serving.specs.Connection.{Begun, sides}
 use Rattle.serving.proofs.Pieces.{SoFar}
 use Rattle.serving.proofs.connection.serve_source.Given as goal
@@ -12,8 +12,8 @@ invariant-loop-reads g l = record {
   counted : g.S.Source.reads l.source ≡ l.reads;
   so_far : (bytes : List ℕ) × (begun : List Begun) × (rest : List ℕ) × SoFar l.home
       (sides (g.D.Desk.seen l.initial.node) (g.W.Write.contents l.initial.writer)
-      (outside_of g.D.Desk.handles l.initial.node (g.P.Peers.handed l.initial.peers)))
-      (sides (g.D.Desk.seen l.node) (g.W.Write.contents l.writer) (outside_of g.D.Desk.handles l.node (g.P.Peers.handed l.peers)))
+      (outside_of (speaking g.D.Desk.handles l.wire) l.initial.node (g.P.Peers.handed l.initial.peers)))
+      (sides (g.D.Desk.seen l.node) (g.W.Write.contents l.writer) (outside_of (speaking g.D.Desk.handles l.wire) l.node (g.P.Peers.handed l.peers)))
       bytes begun rest (g.S.Source.remaining l.initial.source) (g.S.Source.remaining l.source)
       l.frames l.stream;
 }

@@ -9,7 +9,7 @@ abbrev pub invariant-loop-message : goal.invariant-loop-message
 invariant-loop-message g l = record {
   range : AreInRange l.home.desks l.home.desk l.waiting.items;
   so_far : (front : List Message)
-      × PushesUntil l.home.hall l.home.desk l.initial.waiting.items l.waiting.items front
+      × PushesUntil l.wire l.home.hall l.home.desk l.initial.waiting.items l.waiting.items front
       (g.P.Peers.handed l.initial.peers) (g.P.Peers.handed l.peers);
 }
 

@@ -14,7 +14,7 @@ loop-message-preserved-in-Continue-1 g c =
       range = range.1;
       so_far = (
         kept.so_far.0 ++ c.in-Some.message ∷ [],
-        others_more c.args.home.hall c.args.home.desk _ _ _ kept.so_far.0 c.in-Some.message _ _ _
+        others_more c.args.wire c.args.home.hall c.args.home.desk _ _ _ kept.so_far.0 c.in-Some.message _ _ _
             c.in-Some.ensures.items (ne_eqb _ _ c.if-message-home.true) kept.so_far.1
             c.in_ok-push_message.ensures.ok,
       );

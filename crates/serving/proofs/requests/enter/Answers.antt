@@ -8,6 +8,7 @@ use Rattle.serving.specs.declared.request.Request.TheVariants.{Entered}
 use Rattle.serving.proofs.Answered.{fails}
 use Rattle.serving.proofs.Entering.{entered_lost, entered_part, entered_all, entered_not}
 use Rattle.serving.proofs.Parts.{given_err}
+use Rattle.serving.specs.Making.{speaking}
 use Rattle.serving.proofs.requests.enter.Goals as goal
 
 pub returns-in_err-answer-clause-err : goal.returns-in_err-answer-clause-err
@@ -15,14 +16,14 @@ returns-in_err-answer-clause-err g c =
     given_err c.from_residual.result
     (fails c.args.home (enter c.args.home c.args.entry) (Entered c.args.entry) _ _ _ _
     (λ fates. refl)
-    (entered_lost g.D.Desk.handles c.args.home (g.D.Desk.home_of c.args.node.now) c.args.entry _ _
+    (entered_lost (speaking g.D.Desk.handles c.args.wire) c.args.home (g.D.Desk.home_of c.args.node.now) c.args.entry _ _
     c.args.node.now c.call.new.node (g.P.Peers.handed c.args.peers.now) c.requires.home
     c.in_err-answer.ensures.err))
 
 pub returns-then-ne-clause-ok : goal.returns-then-ne-clause-ok
 returns-then-ne-clause-ok g c =
     let other : (c.in_ok-answer.answer ≡ Taken) → ⊥ = search rules in
-    entered_not g.D.Desk.handles c.args.home (g.D.Desk.home_of c.args.node.now) c.args.entry
+    entered_not (speaking g.D.Desk.handles c.args.wire) c.args.home (g.D.Desk.home_of c.args.node.now) c.args.entry
     (g.D.Desk.seen c.args.node.now) (g.D.Desk.seen c.call.new.node)
     c.new-waiting.result.items c.call.new.waiting.items c.in_ok-answer.answer c.answer_first.result
     c.args.node.now c.call.new.node (g.P.Peers.handed c.args.peers.now)
@@ -37,7 +38,7 @@ returns-in_err-start-clause-err g c =
     given_err c.from_residual-in_err-start.result
     (fails c.args.home (enter c.args.home c.args.entry) (Entered c.args.entry) _ _ _ _
     (λ fates. refl)
-    (entered_part g.D.Desk.handles c.args.home (g.D.Desk.home_of c.args.node.now) c.args.entry
+    (entered_part (speaking g.D.Desk.handles c.args.wire) c.args.home (g.D.Desk.home_of c.args.node.now) c.args.entry
     (g.D.Desk.seen c.args.node.now) (g.D.Desk.seen c.call.new.node) (g.D.Desk.seen c.start.new.node)
     c.new-waiting.result.items c.call.new.waiting.items c.in_ok-answer.answer
     c.args.node.now c.call.new.node (g.P.Peers.handed c.args.peers.now) _
@@ -47,7 +48,7 @@ returns-in_err-start-clause-err g c =
 pub returns-clause-ok : goal.returns-clause-ok
 returns-clause-ok g c =
     let taken : c.in_ok-answer.answer ≡ Taken = search rules in
-    entered_all g.D.Desk.handles c.args.home (g.D.Desk.home_of c.args.node.now) c.args.entry
+    entered_all (speaking g.D.Desk.handles c.args.wire) c.args.home (g.D.Desk.home_of c.args.node.now) c.args.entry
     (g.D.Desk.seen c.args.node.now) (g.D.Desk.seen c.call.new.node) (g.D.Desk.seen c.start.new.node)
     c.new-waiting.result.items c.call.new.waiting.items c.start.new.waiting.items
     c.in_ok-start.ensures.ok.0 c.in_ok-answer.answer c.answer_first-2.result

@@ -1,13 +1,14 @@
 use Rattle.learner.specs.declared.event.Event.TheVariants.{Start}
 use Rattle.serving.proofs.Entering.{does_behind, part_at_behind, part_after_behind}
 use Rattle.serving.proofs.Parts.{given_err}
+use Rattle.serving.specs.Making.{speaking}
 use Rattle.serving.proofs.requests.start.Goals as goal
 
 pub returns-clause-ok : goal.returns-clause-ok
 returns-clause-ok g c =
     let called = c.in_ok-call.ensures.ok in (
       c.settle.new.left,
-      does_behind g.D.Desk.handles c.args.home (g.D.Desk.home_of c.args.node.now)
+      does_behind (speaking g.D.Desk.handles c.args.wire) c.args.home (g.D.Desk.home_of c.args.node.now)
           (g.D.Desk.seen c.args.node.now)
           (g.D.Desk.seen c.call.new.node) (g.D.Desk.seen c.settle.new.node)
           Start c.args.waiting.now.items c.call.new.waiting.items c.settle.new.waiting.items 16
@@ -18,7 +19,7 @@ returns-clause-ok g c =
 pub returns-in_err-call-clause-err : goal.returns-in_err-call-clause-err
 returns-in_err-call-clause-err g c =
     given_err c.from_residual.result
-    (part_at_behind g.D.Desk.handles c.args.home (g.D.Desk.home_of c.args.node.now)
+    (part_at_behind (speaking g.D.Desk.handles c.args.wire) c.args.home (g.D.Desk.home_of c.args.node.now)
     (g.D.Desk.seen c.args.node.now) (g.D.Desk.seen c.call.new.node) Start
     c.args.waiting.now.items 16 c.args.node.now c.call.new.node
     (g.P.Peers.handed c.args.peers.now)
@@ -28,7 +29,7 @@ pub returns-in_err-settle-clause-err : goal.returns-in_err-settle-clause-err
 returns-in_err-settle-clause-err g c =
     let called = c.in_ok-call.ensures.ok in
     given_err c.from_residual-in_err-settle.result
-    (part_after_behind g.D.Desk.handles c.args.home (g.D.Desk.home_of c.args.node.now)
+    (part_after_behind (speaking g.D.Desk.handles c.args.wire) c.args.home (g.D.Desk.home_of c.args.node.now)
     (g.D.Desk.seen c.args.node.now) (g.D.Desk.seen c.call.new.node)
     (g.D.Desk.seen c.settle.new.node)
     Start c.args.waiting.now.items c.call.new.waiting.items 16 _ c.args.node.now c.call.new.node

@@ -1,7 +1,7 @@
 use Rattle.std.proofs.Common.{◌≡◌, sym, ◌∙◌, suc, [], ◌∷◌, ◌++◌, ◌-◌, map, subst, arith}
 use Rattle.learner.specs.declared.event.Event.TheVariants.{Deliver}
 use Rattle.serving.specs.model.Calling.{Calls}
-use Rattle.serving.specs.Making.{outside_of}
+use Rattle.serving.specs.Making.{outside_of, speaking}
 use Rattle.serving.specs.model.Reaching.{did_call}
 use Rattle.serving.specs.Serving.{Pushed, settle_by, in_front, to_others}
 use Rattle.serving.proofs.Makings.{Makes-nil, Makes-trans, Makes-pushes, Makes-call}
@@ -67,12 +67,12 @@ loop-left-preserved g c =
         (kept.so_far.1 ++ []) ++ called.0 ∷ [],
         goes_on home _ _ _ _ _ _ _ _ _ _
             (goes_on home _ _ _ _ _ _ kept.so_far.0 _ kept.so_far.1 [] kept.so_far.2 one) then,
-        Makes-trans home.hall _ (outside_of g.D.Desk.handles c.loop-left.node between)
-            (outside_of g.D.Desk.handles c.call.new.node between)
+        Makes-trans home.hall _ (outside_of (speaking g.D.Desk.handles c.args.wire) c.loop-left.node between)
+            (outside_of (speaking g.D.Desk.handles c.args.wire) c.call.new.node between)
             (kept.so_far.0 ++ map (λ m. Pushed m) front) (delivered ∷ [])
             (Makes-pushes home.hall _ c.loop-left.node _ _ kept.so_far.0 _ kept.so_far.3
             c.in_ok-message.ensures.pushed)
-            (Makes-call g.D.Desk.handles home (g.D.Desk.home_of c.loop-left.node)
+            (Makes-call (speaking g.D.Desk.handles c.args.wire) home (g.D.Desk.home_of c.loop-left.node)
             (Deliver c.in-Some.message) called.0 x c.loop-left.node c.call.new.node between
             kept.home called.2),
       );
@@ -120,7 +120,7 @@ returns-in_err-call-clause-err g c =
     c.push_front.new.waiting.items c.in-Some.message is
     (leads_some _ _ _ _ c.in-Some.is c.in_ok-message.ensures.own) in
     given_err c.from_residual-in_err-call.result
-    (part_call g.D.Desk.handles home (g.D.Desk.home_of c.loop-left.node)
+    (part_call (speaking g.D.Desk.handles c.args.wire) home (g.D.Desk.home_of c.loop-left.node)
     (settle_by home c.args.left.now) _ k k (Deliver c.in-Some.message) x
     (g.D.Desk.seen c.call.new.node) c.push_front.new.waiting.items
     (kept.so_far.0 ++ map (λ m. Pushed m) front) (kept.so_far.1 ++ []) _ c.loop-left.node

@@ -1,6 +1,6 @@
 use Rattle.std.proofs.Common.{List, ◌≡◌}
 use Rattle.learner.specs.Ranges.{AreInRange}
-use Rattle.serving.specs.Making.{outside_of, Makes}
+use Rattle.serving.specs.Making.{outside_of, speaking, Makes}
 use Rattle.serving.specs.Nodes.{Fate}
 use Rattle.serving.specs.model.Reaching.{Reaches, at}
 use Rattle.serving.specs.Serving.{Act, settle_by}
@@ -16,8 +16,8 @@ invariant-loop-left g l = record {
       (at (g.D.Desk.seen l.initial.node) l.initial.waiting.items l.initial.left)
       (settle_by l.home l.left) (at (g.D.Desk.seen l.node) l.waiting.items l.left) acts past
       × Makes l.home.hall
-      (outside_of g.D.Desk.handles l.initial.node (g.P.Peers.handed l.initial.peers))
-      (outside_of g.D.Desk.handles l.node (g.P.Peers.handed l.peers)) acts;
+      (outside_of (speaking g.D.Desk.handles l.wire) l.initial.node (g.P.Peers.handed l.initial.peers))
+      (outside_of (speaking g.D.Desk.handles l.wire) l.node (g.P.Peers.handed l.peers)) acts;
 }
 
 abbrev pub decreases-loop-left : goal.decreases-loop-left

@@ -1,6 +1,7 @@
 use Rattle.std.proofs.Common.{◌≡◌, List, ◌-◌}
 use Rattle.node.specs.Handles.{Handles}
 use Rattle.node.specs.Nodes.{words}
+use Rattle.serving.specs.Making.{speaking, spoken}
 use Rattle.serving.specs.declared.ends.Served.{Served}
 use Rattle.sockets.specs.Visits.{standing_of}
 use Rattle.sockets.proofs.Visiting.{SoFar}
@@ -10,7 +11,10 @@ use Rattle.sockets.proofs.serving_all.serve_all.Given as goal
 abbrev pub invariant-loop-connections : goal.invariant-loop-connections
 invariant-loop-connections g l =
     let k = g.K.Keeper in
-    let way = Handles (words k.home_of k.failures_of k.is_down k.is_honest k.keeps k.may_hold k.may_break) in
+    let way =
+    speaking
+    (Handles (words k.home_of k.failures_of k.is_down k.is_honest k.keeps k.may_hold k.may_break))
+    (spoken l.wire) in
     record {
       home : k.home_of l.node.keeper ≡ k.home_of l.initial.node.keeper;
       so_far : (each : List Served)
