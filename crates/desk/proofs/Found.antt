@@ -78,5 +78,5 @@ found_ids found (task.Replay event round style) h = tt
 found_ids found (task.Hall desks) h = tt
 found_ids found (task.EnterLines to batch) h = tt
 found_ids found (task.Log store) h = tt
-found_ids found (task.Serve service) h = tt
+found_ids found (task.Serve service) h = h.3.1.version
 found_ids found (task.Carry errand) h = request_ids errand.request h.0 h.1 h.3.request

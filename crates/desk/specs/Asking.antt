@@ -1,14 +1,15 @@
 -- What the words of the program ask for, as its parser reads words: `clap` says which word is whose
 -- value.
-use Rattle.std.specs.Prelude.{◌≡◌, true, false, ℕ, List, codes, decimal, map, Option, None, Some, option_and_then}
+use Rattle.std.specs.Prelude.{◌≡◌, ◌⊎◌, true, false, ℕ, List, codes, decimal, map, Option, None, Some, option_and_then}
 use Rattle.clap.specs.Words.{App, Row, Text, all_of, first_of, new_app, one_of, subcommand_of, with_rule, with_subcommand}
 use Rattle.clap.specs.declared.builder.value_parser.ValueParser.{ValueParser}
 use Rattle.formats.specs.declared.events.Event.{Event}
-use Rattle.formats.specs.Events.{event_named, event_of_name}
+use Rattle.formats.specs.Events.{event_of_name}
 use Rattle.sheets.specs.declared.Style.{Style}
 use Rattle.sheets.specs.declared.Style.TheVariants as printed
 use Rattle.wire.specs.declared.values.SheetStyle.{SheetStyle}
 use Rattle.wire.specs.declared.values.SheetStyle.TheVariants as asked
+use Rattle.wire.specs.Laws.{IsVersion}
 use Rattle.wire.specs.Ranges.{IsId}
 use Rattle.desk.specs.Arguments.{IsNumberAt, any_text, csv_rule, errand_words, numbers, option_rule, value_rule, values_rule, wait_rule}
 use Rattle.batch.specs.declared.lines_entered.Batch.{Batch}
@@ -35,12 +36,14 @@ hall_words = with_rule (new_app (codes "hall")) (value_rule (codes "desks") (num
 
 abbrev pub serve_words : App
 serve_words =
-    with_rule (with_rule (with_rule (with_rule (with_rule (with_rule (new_app (codes "serve"))
+    with_rule (with_rule (with_rule (with_rule (with_rule (with_rule (with_rule
+    (new_app (codes "serve"))
     (option_rule (codes "hall") (numbers 0 4294967295)))
     (option_rule (codes "desk") (numbers 0 255)))
     (option_rule (codes "store") any_text))
     (option_rule (codes "connections") (numbers 1 1000000)))
     (record (option_rule (codes "patience") (numbers 1 86400)) { required = false }))
+    (record (option_rule (codes "wire") (numbers 1 2)) { required = false }))
     (values_rule (codes "addr") any_text)
 
 abbrev pub log_words : App
@@ -104,10 +107,9 @@ desk_words p =
 
 -- ---- what their values say
 
--- an event by its name among some, and a round as it prints in decimal
-pub record IsRound (named_by : Text → Option Event) (rows : List Row) (event : Event)
-    (round : ℕ) : Type 0 where
-  pub named : option_and_then named_by (first_of (codes "event") rows) ≡ Some event
+-- an event by its name, and a round as it prints in decimal
+pub record IsRound (rows : List Row) (event : Event) (round : ℕ) : Type 0 where
+  pub named : option_and_then event_of_name (first_of (codes "event") rows) ≡ Some event
   pub numbered : first_of (codes "round") rows ≡ Some (decimal round)
 
 -- whether `--csv` is there
@@ -127,7 +129,7 @@ IsRequest (request.Enter id text) name rows =
 IsRequest (request.Ask id) name rows =
     (name ≡ codes "ask") × IsId id × IsNumberAt (codes "id") rows id
 IsRequest (request.Sheet event round position style) name rows =
-    (name ≡ codes "sheet") × IsRound event_named rows event round
+    (name ≡ codes "sheet") × IsRound rows event round
     × IsNumberAt (codes "position") rows position × IsAsked rows style
 IsRequest request.Tick name rows = name ≡ codes "tick"
 IsRequest request.Stop name rows = name ≡ codes "stop"
@@ -144,6 +146,11 @@ abbrev pub IsPatience : Option ℕ → List Row → Type 0
 IsPatience (Some n) rows = IsNumberAt (codes "patience") rows n
 IsPatience None rows = first_of (codes "patience") rows ≡ None
 
+-- the version of the wire, 1 where none is given
+abbrev pub IsWire : ℕ → List Row → Type 0
+IsWire n rows =
+    IsNumberAt (codes "wire") rows n ⊎ ((first_of (codes "wire") rows ≡ None) × (n ≡ 1))
+
 -- a desk of this hall that lines are entered at, the id of the first one, and whether `--wait` is
 -- there
 pub record IsBatch (to : Text) (b : Batch) (rows : List Row) : Type 0 where
@@ -154,18 +161,21 @@ pub record IsBatch (to : Text) (b : Batch) (rows : List Row) : Type 0 where
   pub waits : one_of (codes "wait") rows ≡ Some (codes "true") → b.waits ≡ true
   pub goes_on : one_of (codes "wait") rows ≡ Some (codes "false") → b.waits ≡ false
 
--- a desk of this hall, its file, how many connections it serves, and where the desks listen
+-- a desk of this hall, its file, how many connections it serves, how long it waits for a silent
+-- one, the version in which it pushes, and where the desks listen
 pub record IsService (s : Service) (rows : List Row) : Type 0 where
   pub hall : IsNumberAt (codes "hall") rows s.hall
   pub desk : IsNumberAt (codes "desk") rows s.desk
   pub store : first_of (codes "store") rows ≡ Some s.store.now
   pub connections : IsNumberAt (codes "connections") rows s.connections
   pub patience : IsPatience s.patience rows
+  pub wire : IsWire s.wire rows
+  pub version : IsVersion s.wire
   pub addresses : all_of (codes "addr") rows ≡ Some (map (λ a. a.now) s.addresses.now)
 
 abbrev pub IsTask : Task → Text → List Row → Type 0
 IsTask (task.Replay event round style) name rows =
-    (name ≡ codes "replay") × IsRound event_of_name rows event round × IsPrinted rows style
+    (name ≡ codes "replay") × IsRound rows event round × IsPrinted rows style
 IsTask (task.Hall desks) name rows =
     (name ≡ codes "hall") × IsNumberAt (codes "desks") rows desks
 IsTask (task.Carry errand) name rows = IsErrand errand name rows
@@ -175,14 +185,14 @@ IsTask (task.Log store) name rows =
     (name ≡ codes "log") × (first_of (codes "store") rows ≡ Some store.now)
 IsTask (task.Serve service) name rows = (name ≡ codes "serve") × IsService service rows
 
--- the ids of a task are in their range
+-- the ids of a task are in their range, and its version of the wire is one
 abbrev pub HasIds : Task → Type 0
 HasIds (task.Replay event round style) = Unit {0}
 HasIds (task.Hall desks) = Unit {0}
 HasIds (task.Carry errand) = HasId errand.request
 HasIds (task.EnterLines to batch) = Unit {0}
 HasIds (task.Log store) = Unit {0}
-HasIds (task.Serve service) = Unit {0}
+HasIds (task.Serve service) = IsVersion service.wire
 
 abbrev pub Finds : Option (Text × List Row) → Task → Type 0
 Finds found t = (name : Text) × (rows : List Row) × (found ≡ Some (name, rows)) × IsTask t name rows

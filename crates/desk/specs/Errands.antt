@@ -1,11 +1,14 @@
 -- The frame of an errand, and how an errand ends.
-use Rattle.std.specs.Prelude.{◌≡◌, ◌⊎◌, ◌≤◌, ℕ, List, length, Option, Ok, Err}
+use Rattle.std.specs.Prelude.{◌≡◌, ◌⊎◌, ◌≤◌, ℕ, nat_le, if◌then◌else◌, List, length, Option, Ok, Err}
 use Rattle.std.specs.Io.KnownBytes.{Keeps, Appends}
 use Rattle.client.specs.Answers.{judged}
 use Rattle.client.specs.Printing.{reply_text}
 use Rattle.client.specs.declared.fault.ClientFault.TheVariants as client
 use Rattle.lines.specs.Bytes.{AppendsPart}
 use Rattle.wire.specs.Ranges.{IsDesk, IsFrame, IsId}
+use Rattle.formats.specs.Events.{event_number}
+use Rattle.wire.specs.declared.values.Version.{Version}
+use Rattle.wire.specs.declared.values.Version.TheVariants.{One, Two}
 use Rattle.wire.specs.declared.frame.Frame.{Frame}
 use Rattle.wire.specs.declared.frame.What.{What}
 use Rattle.wire.specs.declared.frame.What.TheVariants as what
@@ -22,9 +25,26 @@ what_of (request.Sheet event round position style) = what.Sheet event round posi
 what_of request.Tick = what.Tick
 what_of request.Stop = what.Stop
 
+-- the first version of the wire that has a frame for the request: only the sheet of an event behind
+-- the 16th asks for the second one
+abbrev pub version_of : Request → Version
+version_of (request.Enter id text) = One
+version_of (request.Ask id) = One
+version_of (request.Sheet event round position style) =
+    if nat_le (event_number event) 16 then One else Two
+version_of request.Tick = One
+version_of request.Stop = One
+
 -- the frame goes from a client, which is 0, to the desk
 abbrev pub frame_of : Errand → Frame
-frame_of e = record { hall = e.hall; from = 0; to = e.desk; what = what_of e.request }
+frame_of e =
+    record {
+      version = version_of e.request;
+      hall = e.hall;
+      from = 0;
+      to = e.desk;
+      what = what_of e.request;
+    }
 
 -- an id is in its range
 abbrev pub HasId : Request → Type 0

@@ -5,7 +5,8 @@ ghost use Rattle.client.specs.Answers.{judged};
 ghost use Rattle.wire.specs.Ranges.{IsBody, IsEntry, IsFrame};
 ghost use Rattle.wire.specs.declared.frame.Frame.{Frame};
 ghost use Rattle.wire.specs.declared.frame.What.TheVariants as what;
-ghost use Rattle.desk.specs.Errands.{Answers, DoesErrand, FailsErrand, FailsTalk, FailsToConnect, HasId, Hinders, IsAllowed, IsShort, frame_of, what_of};
+ghost use Rattle.desk.specs.Errands.{Answers, DoesErrand, FailsErrand, FailsTalk, FailsToConnect, HasId, Hinders, IsAllowed, IsShort, frame_of, version_of, what_of};
+ghost use Rattle.wire.specs.declared.values.Version.TheVariants as version;
 ghost use Rattle.desk.specs.declared.faults.DeskFault.TheVariants as desk_fault;
 
 use crate::faults::DeskFault;
@@ -17,7 +18,7 @@ use std::alloc::Global;
 use std::io;
 use std::io::{ErrorKind, Write};
 use std::net::TcpStream;
-use wire::{Frame, What};
+use wire::{Frame, Version, What};
 
 /// The entry, whose id and text are in their ranges.
 fn kept(entry: Entry) -> Entry
@@ -32,7 +33,7 @@ fn kept(entry: Entry) -> Entry
 /// A command for a desk's queue.
 fn submit(alloc: Global, id: u64, text: &str) -> Result<What, DeskFault>
     ensures ok { IfOk result (λ w. w ≡ what.Submit (record { id = id; text = text.now })) }
-    ensures body { IfOk result IsBody }
+    ensures body { IfOk result (IsBody version.One) }
     ensures short { OnOk result (length text.now ≤ 600) }
     ensures err { IfErr result (λ f. (f ≡ desk_fault.NoMemory)
         ⊎ ((f ≡ desk_fault.TextTooLong) × (600 < length text.now))) }
@@ -50,7 +51,7 @@ fn submit(alloc: Global, id: u64, text: &str) -> Result<What, DeskFault>
 fn what_of(alloc: Global, request: Request<'_>) -> Result<What, DeskFault>
     requires { HasId request }
     ensures what { IfOk result (λ w. w ≡ what_of request.entry) }
-    ensures body { IfOk result IsBody }
+    ensures body { IfOk result (IsBody (version_of request.entry)) }
     ensures short { OnOk result (IsShort request.entry) }
     ensures err { IfErr result (λ f. (f ≡ desk_fault.NoMemory)
         ⊎ ((f ≡ desk_fault.TextTooLong) × (¬ IsShort request.entry))) }
@@ -74,6 +75,22 @@ fn what_of(alloc: Global, request: Request<'_>) -> Result<What, DeskFault>
     }
 }
 
+/// The first version of the wire that has a frame for a request.
+fn version_of(request: &Request<'_>) -> Version
+    ensures { result ≡ version_of request.now.entry }
+{
+    match request {
+        Request::Sheet { event, .. } => {
+            if event.number() <= Version::One.last_event() {
+                Version::One
+            } else {
+                Version::Two
+            }
+        }
+        Request::Enter { .. } | Request::Ask { .. } | Request::Tick | Request::Stop => Version::One,
+    }
+}
+
 /// The frame of an errand, from a client, which is 0, to the desk.
 ///
 /// # Errors
@@ -90,8 +107,10 @@ pub(crate) fn frame_of(alloc: Global, errand: Errand<'_>) -> Result<Frame, DeskF
     if errand.desk == 0 || errand.desk > 5 {
         return Err(DeskFault::BadDesk);
     }
+    let version = version_of(&errand.request);
     match what_of(alloc, errand.request) {
         Ok(what) => Ok(Frame {
+            version,
             hall: errand.hall,
             from: 0,
             to: errand.desk,

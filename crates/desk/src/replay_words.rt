@@ -3,7 +3,7 @@
 ghost use Rattle.std.specs.Prelude.{◌≡◌, true, false, codes, decimal, option_and_then, IfOk, IfSome, Option, Some};
 ghost use Rattle.clap.specs.Words.{first_of, found_of, rows_of, rule_of};
 ghost use Rattle.clap.specs.declared.builder.value_parser.ValueParser.{ValueParser};
-ghost use Rattle.formats.specs.Events.{event_named, event_of_name};
+ghost use Rattle.formats.specs.Events.{event_of_name};
 ghost use Rattle.desk.specs.Arguments.{IsCommand, value_rule};
 ghost use Rattle.desk.specs.Asking.{replay_words, IsTask};
 
@@ -15,8 +15,7 @@ use formats::Event;
 use sheets::Style;
 use std::alloc::{AllocError, Global};
 
-/// The events' names, as they are typed: those of [`Event::ALL`], of which [`Event::FIRST`] are the
-/// first sixteen.
+/// The events' names, as they are typed: those of [`Event::ALL`].
 static NAMES: [&str; 17] = [
     "333", "222", "444", "555", "666", "777", "333bf", "333fm", "333oh", "clock", "minx", "pyram",
     "skewb", "sq1", "444bf", "555bf", "333mbf",
@@ -53,8 +52,8 @@ docs/FORMATS.md explains each CODE, the fields of the commands and the columns o
 Exit status: 0 the sheet was printed; 2 the words are not understood, or ask for help;
 3 no such round, or input too long; 4 cannot read, or cannot write; 5 no memory.";
 
-/// The value EVENT: one of these names.
-fn name_value<'a>(alloc: Global, names: &'a [&'a str]) -> Arg<'a>
+/// The value EVENT.
+pub fn event_value<'a>(alloc: Global) -> Arg<'a>
     ensures rule { (parser : Option ValueParser)
         × (rule_of result ≡ value_rule (codes "event") parser) }
     ensures local { result.global ≡ false }
@@ -64,26 +63,8 @@ fn name_value<'a>(alloc: Global, names: &'a [&'a str]) -> Arg<'a>
         "event",
         "EVENT",
         "The event",
-        ValueParser::from(names),
+        ValueParser::from(NAMES.as_slice()),
     )
-}
-
-/// The value EVENT: an event of any edition.
-pub fn event_value<'a>(alloc: Global) -> Arg<'a>
-    ensures rule { (parser : Option ValueParser)
-        × (rule_of result ≡ value_rule (codes "event") parser) }
-    ensures local { result.global ≡ false }
-{
-    name_value(alloc, &NAMES)
-}
-
-/// The value EVENT: an event of edition 1.
-pub fn first_event_value<'a>(alloc: Global) -> Arg<'a>
-    ensures rule { (parser : Option ValueParser)
-        × (rule_of result ≡ value_rule (codes "event") parser) }
-    ensures local { result.global ≡ false }
-{
-    name_value(alloc, &NAMES[..16])
 }
 
 /// The value ROUND.
@@ -131,14 +112,6 @@ pub fn event_at(found: &ArgMatches<'_>) -> Option<Event>
         (first_of (codes "event") (rows_of (found_of found.now))) ≡ Some event) }
 {
     Event::from_name(text_at(found, "event")?.as_bytes())
-}
-
-/// The value of EVENT, an event of edition 1.
-pub fn first_event_at(found: &ArgMatches<'_>) -> Option<Event>
-    ensures { IfSome result (λ event. option_and_then event_named
-        (first_of (codes "event") (rows_of (found_of found.now))) ≡ Some event) }
-{
-    Event::from_first_name(text_at(found, "event")?.as_bytes())
 }
 
 /// The value of ROUND.

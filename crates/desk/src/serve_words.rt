@@ -3,7 +3,8 @@
 ghost use Rattle.std.specs.Prelude.{◌≡◌, false, codes, IfOk, IfSome};
 ghost use Rattle.clap.specs.Words.{found_of, rows_of, rule_of};
 ghost use Rattle.desk.specs.Arguments.{IsCommand, IsNumberAt, any_text, numbers, option_rule, values_rule};
-ghost use Rattle.desk.specs.Asking.{serve_words, IsPatience, IsTask};
+ghost use Rattle.desk.specs.Asking.{serve_words, IsPatience, IsTask, IsWire};
+ghost use Rattle.wire.specs.Laws.{IsVersion};
 
 use crate::arguments::{number_at, option, plain_command, text_at, value, with_argument};
 use crate::task::{Task, of_four_bytes, of_one_byte};
@@ -59,6 +60,22 @@ fn patience_option<'a>(alloc: Global) -> Arg<'a>
     .required(false)
 }
 
+/// The option `--wire`.
+fn wire_option<'a>(alloc: Global) -> Arg<'a>
+    ensures rule { rule_of result
+        ≡ record (option_rule (codes "wire") (numbers 1 2)) { required = false } }
+    ensures local { result.global ≡ false }
+{
+    option(
+        alloc,
+        "wire",
+        "VERSION",
+        "The version of the wire in which the other desks are spoken to, 1 or 2; 1 without it",
+        ValueParser::unsigned(1, 2),
+    )
+    .required(false)
+}
+
 /// The words of `serve`.
 pub fn serve_command<'a>(alloc: Global) -> Result<Command<'a>, AllocError>
     ensures { IfOk result (λ command. IsCommand command serve_words) }
@@ -97,6 +114,7 @@ pub fn serve_command<'a>(alloc: Global) -> Result<Command<'a>, AllocError>
     );
     let command = with_argument(command, connections)?;
     let command = with_argument(command, patience_option(alloc))?;
+    let command = with_argument(command, wire_option(alloc))?;
     with_argument(command, address_value(alloc))
 }
 
@@ -121,6 +139,31 @@ fn patience_at(found: &ArgMatches<'_>) -> Option<Option<u32>>
     }
 }
 
+/// The value of VERSION, which is there.
+fn version_at(found: &ArgMatches<'_>) -> Option<u8>
+    ensures number { IfSome result
+        (λ wire. IsNumberAt (codes "wire") (rows_of (found_of found.now)) wire) }
+    ensures version { IfSome result IsVersion }
+{
+    let wire = of_one_byte(number_at(found, "wire")?)?;
+    if wire == 1 || wire == 2 {
+        Some(wire)
+    } else {
+        None
+    }
+}
+
+/// The value of VERSION, or 1 where there is none.
+fn wire_at(found: &ArgMatches<'_>) -> Option<u8>
+    ensures wire { IfSome result (λ wire. IsWire wire (rows_of (found_of found.now))) }
+    ensures version { IfSome result IsVersion }
+{
+    match found.get_str("wire") {
+        None => Some(1),
+        Some(_) => version_at(found),
+    }
+}
+
 /// What the words of `serve` ask for.
 pub fn serve_of<'m, 'a: 'm>(found: &'m ArgMatches<'a>) -> Option<Task<'m>>
     ensures { IfSome result
@@ -131,6 +174,7 @@ pub fn serve_of<'m, 'a: 'm>(found: &'m ArgMatches<'a>) -> Option<Task<'m>>
     let store = text_at(found, "store")?;
     let connections = of_four_bytes(number_at(found, "connections")?)?;
     let patience = patience_at(found)?;
+    let wire = wire_at(found)?;
     let addresses = found.get_strs("addr")?;
     Some(Task::Serve {
         service: Service {
@@ -138,6 +182,7 @@ pub fn serve_of<'m, 'a: 'm>(found: &'m ArgMatches<'a>) -> Option<Task<'m>>
             desk,
             store,
             connections,
+            wire,
             patience,
             addresses,
         },

@@ -7,7 +7,7 @@ ghost use Rattle.desk.specs.Arguments.{IsCommand};
 ghost use Rattle.desk.specs.Asking.{sheet_words, IsRequest};
 
 use crate::arguments::{csv_flag, errand_command, number_at, value, with_argument};
-use crate::replay_words::{first_event_at, first_event_value, round_at, round_value};
+use crate::replay_words::{event_at, event_value, round_at, round_value};
 use crate::task::{Request, of_four_bytes};
 use clap::builder::ValueParser;
 use clap::{ArgMatches, Command};
@@ -31,7 +31,7 @@ pub fn sheet_command<'a>(alloc: Global) -> Result<Command<'a>, AllocError>
         × IsCommand command (sheet_words events rounds)) }
 {
     let command = errand_command(alloc, "sheet", ABOUT, AFTER)?;
-    let command = with_argument(command, first_event_value(alloc))?;
+    let command = with_argument(command, event_value(alloc))?;
     let command = with_argument(command, round_value(alloc))?;
     let position = value(
         alloc,
@@ -61,7 +61,7 @@ pub fn sheet_of<'a>(found: &ArgMatches<'a>) -> Option<Request<'a>>
     ensures { IfSome result
         (λ request. IsRequest request (codes "sheet") (rows_of (found_of found.now))) }
 {
-    let event = first_event_at(found)?;
+    let event = event_at(found)?;
     let round = round_at(found)?;
     let position = of_four_bytes(number_at(found, "position")?)?;
     let style = style_of(found.get_flag("csv"));

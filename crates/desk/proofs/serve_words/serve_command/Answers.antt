@@ -30,5 +30,9 @@ returns c =
     added c.in_ok-command-4.command c.in_ok-command-5.command _ c.patience_option.result _ four
     c.patience_option.ensures.rule c.in_ok-command-5.ensures.app
     c.in_ok-command-5.ensures.local in
-    added_last c.with_argument-6.result c.in_ok-command-5.command _ c.address_value.result _ five
-    c.address_value.ensures.rule c.with_argument-6.ensures.app c.with_argument-6.ensures.local
+    let six =
+    added c.in_ok-command-5.command c.in_ok-command-6.command _ c.wire_option.result _ five
+    c.wire_option.ensures.rule c.in_ok-command-6.ensures.app
+    c.in_ok-command-6.ensures.local in
+    added_last c.with_argument-7.result c.in_ok-command-6.command _ c.address_value.result _ six
+    c.address_value.ensures.rule c.with_argument-7.ensures.app c.with_argument-7.ensures.local

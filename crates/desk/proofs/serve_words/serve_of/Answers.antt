@@ -21,6 +21,8 @@ returns c =
             renumbered (codes "connections") rows c.in_ok-connections.connections _
             c.in_ok-connections.ensures c.in_ok-number_at-3.ensures;
         patience = c.in_ok-patience.ensures;
+        wire = c.in_ok-wire.ensures.wire;
+        version = c.in_ok-wire.ensures.version;
         addresses = sym (raw_values-rows f (codes "addr")) ∙ sym c.in_ok-addresses.ensures;
       },
     )

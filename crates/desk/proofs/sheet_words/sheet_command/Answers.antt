@@ -6,10 +6,10 @@ use Rattle.desk.proofs.sheet_words.sheet_command.Goals as goal
 
 pub returns : goal.returns
 returns c =
-    let event = c.first_event_value.ensures.rule in
+    let event = c.event_value.ensures.rule in
     let round = c.round_value.ensures.rule in
     let one =
-    added c.in_ok-command.command c.in_ok-command-2.command _ c.first_event_value.result _
+    added c.in_ok-command.command c.in_ok-command-2.command _ c.event_value.result _
     c.in_ok-command.ensures event.1 c.in_ok-command-2.ensures.app
     c.in_ok-command-2.ensures.local in
     let two =
