@@ -64,12 +64,20 @@ def sheet(numbers):
     return 7
 
 
-def body(numbers, kind):
+def decided(numbers, version):
+    """One entry, or in version 2 one to three behind their number."""
+    size = position(numbers)
+    if version == 1:
+        return size + entry(numbers)
+    return size + 1 + sum(entry(numbers) for _ in range(1 + numbers.below(3)))
+
+
+def body(numbers, version, kind):
     """How long the body of a frame of this kind is."""
     if kind == 6:
         return position(numbers)
     if kind == 7:
-        return position(numbers) + entry(numbers)
+        return decided(numbers, version)
     if kind in (1, 2, 3, 4, 5):
         size = ballot(numbers) + position(numbers)
         more = {2: vote, 3: entry, 5: ballot}.get(kind)
@@ -87,7 +95,8 @@ def body(numbers, kind):
 def frame(numbers):
     """A frame's length, its kind, and whether it is for another hall or desk."""
     kind = STOP if numbers.below(100) == 0 else KINDS[numbers.below(16)]
-    size = 12 + body(numbers, kind)
+    version = 1 + numbers.below(2)
+    size = 12 + body(numbers, version, kind)
     other_hall = numbers.below(8) == 0
     if not 16 <= kind <= STOP:
         numbers.below(3)

@@ -89,14 +89,33 @@ fn put_sheet(rng: &mut SplitMix64, body: &mut Vec<u8>) -> Result<(), AllocError>
     Ok(())
 }
 
+/// A position and what was decided from there on: one entry, or in version 2 one to three behind
+/// their number.
+fn put_decided(rng: &mut SplitMix64, version: u8, body: &mut Vec<u8>) -> Result<(), AllocError> {
+    put_position(rng, body)?;
+    if version == 1 {
+        return put_entry(rng, body);
+    }
+    let count = byte(rng, 1, 3);
+    body.push(count)?;
+    for _ in 0..count {
+        put_entry(rng, body)?;
+    }
+    Ok(())
+}
+
 /// The body of a kind of what desks say to one another.
-fn put_said(rng: &mut SplitMix64, kind: u8, body: &mut Vec<u8>) -> Result<(), AllocError> {
+fn put_said(
+    rng: &mut SplitMix64,
+    version: u8,
+    kind: u8,
+    body: &mut Vec<u8>,
+) -> Result<(), AllocError> {
     if kind == 6 {
         return put_position(rng, body);
     }
     if kind == 7 {
-        put_position(rng, body)?;
-        return put_entry(rng, body);
+        return put_decided(rng, version, body);
     }
     put_ballot(rng, body)?;
     put_position(rng, body)?;
@@ -109,9 +128,14 @@ fn put_said(rng: &mut SplitMix64, kind: u8, body: &mut Vec<u8>) -> Result<(), Al
 }
 
 /// The body of a kind.
-fn put_body(rng: &mut SplitMix64, kind: u8, body: &mut Vec<u8>) -> Result<(), AllocError> {
+fn put_body(
+    rng: &mut SplitMix64,
+    version: u8,
+    kind: u8,
+    body: &mut Vec<u8>,
+) -> Result<(), AllocError> {
     match kind {
-        1..=7 => put_said(rng, kind, body),
+        1..=7 => put_said(rng, version, kind, body),
         16 => put_entry(rng, body),
         17 => put_id(rng, body),
         18 => put_sheet(rng, body),
@@ -119,19 +143,19 @@ fn put_body(rng: &mut SplitMix64, kind: u8, body: &mut Vec<u8>) -> Result<(), Al
     }
 }
 
-/// A frame of these fields.
+/// A frame of these fields: its version, its hall, sender and receiver, its kind and body.
 pub fn framed(
     alloc: Global,
-    hall: u32,
-    from: u8,
-    to: u8,
+    version: u8,
+    ends: (u32, u8, u8),
     kind: u8,
     body: &[u8],
 ) -> Result<Vec<u8>, AllocError> {
+    let (hall, from, to) = ends;
     let mut bytes = Vec::new(alloc);
     let inside = body.len().min(300_000) as u32 + 8;
     put_u32(&mut bytes, inside)?;
-    bytes.push(1)?;
+    bytes.push(version)?;
     put_u32(&mut bytes, hall)?;
     bytes.push(from)?;
     bytes.push(to)?;
@@ -149,11 +173,12 @@ fn draw_kind(rng: &mut SplitMix64) -> u8 {
     KINDS.get(at).copied().unwrap_or(19)
 }
 
-/// A random frame: one in eight is for hall 8, and one in eight for desk 2.
+/// A random frame of either version: one in eight is for hall 8, and one in eight for desk 2.
 pub fn draw(alloc: Global, rng: &mut SplitMix64) -> Result<Drawn, AllocError> {
     let kind = draw_kind(rng);
+    let version = byte(rng, 1, 2);
     let mut body = Vec::new(alloc);
-    put_body(rng, kind, &mut body)?;
+    put_body(rng, version, kind, &mut body)?;
     let hall = if byte(rng, 0, 8) == 0 { 8 } else { 7 };
     let from = if (16..=STOP).contains(&kind) {
         0
@@ -163,7 +188,7 @@ pub fn draw(alloc: Global, rng: &mut SplitMix64) -> Result<Drawn, AllocError> {
     let other = if byte(rng, 0, 8) == 0 { 2 } else { 1 };
     let to = if kind == 36 { 0 } else { other };
     Ok(Drawn {
-        bytes: framed(alloc, hall, from, to, kind, &body)?,
+        bytes: framed(alloc, version, (hall, from, to), kind, &body)?,
         kind,
         is_foreign: hall == 8 || to == 2,
     })
