@@ -40,8 +40,10 @@ pub fn serve_batch<D: Desk, W: Write, P: Peers>(
     requires open { count.old < 64 }
     ensures batch { (begun : List Begun) × (left : List FrameValue) × IsBatch result home
         (sides (D.seen node.old) (W.contents writer.old)
-        (outside_of (speaking D.handles wire) node.old (P.handed peers.old))) (sides (D.seen node.new)
-        (W.contents writer.new) (outside_of (speaking D.handles wire) node.new (P.handed peers.new)))
+        (outside_of (speaking D.handles wire) node.old (P.handed peers.old)))
+        (sides (D.seen node.new)
+        (W.contents writer.new)
+        (outside_of (speaking D.handles wire) node.new (P.handed peers.new)))
         frames.items begun left count.old count.new }
     ensures home { D.home_of node.new ≡ D.home_of node.old }
 {

@@ -31,8 +31,10 @@ pub fn serve_source<D: Desk, S: Source, W: Write, P: Peers>(
     ensures served { (bytes : List ℕ) × (begun : List Begun) × (rest : List ℕ) × IsConnection result
         (D.home_of node.old)
         (sides (D.seen node.old) (W.contents writer.old)
-        (outside_of (speaking D.handles wire) node.old (P.handed peers.old))) (sides (D.seen node.new)
-        (W.contents writer.new) (outside_of (speaking D.handles wire) node.new (P.handed peers.new)))
+        (outside_of (speaking D.handles wire) node.old (P.handed peers.old)))
+        (sides (D.seen node.new)
+        (W.contents writer.new)
+        (outside_of (speaking D.handles wire) node.new (P.handed peers.new)))
         bytes begun rest (S.remaining source.old) (S.remaining source.new) (S.reads source.new) }
     ensures home { D.home_of node.new ≡ D.home_of node.old }
 {

@@ -53,13 +53,17 @@ pub fn serve_frame<D: Desk, W: Write, P: Peers>(
     requires spelled { IsFrame frame }
     ensures ok { IfOk result (λ close. (fates : List Fate) × ServesOne home
         (sides (D.seen node.old) (W.contents writer.old)
-        (outside_of (speaking D.handles wire) node.old (P.handed peers.old))) (sides (D.seen node.new)
-        (W.contents writer.new) (outside_of (speaking D.handles wire) node.new (P.handed peers.new)))
+        (outside_of (speaking D.handles wire) node.old (P.handed peers.old)))
+        (sides (D.seen node.new)
+        (W.contents writer.new)
+        (outside_of (speaking D.handles wire) node.new (P.handed peers.new)))
         (record { frame = frame; fates = fates }) close) }
     ensures err { IfErr result (λ e. (fates : List Fate) × FailsIn e home
         (sides (D.seen node.old) (W.contents writer.old)
-        (outside_of (speaking D.handles wire) node.old (P.handed peers.old))) (sides (D.seen node.new)
-        (W.contents writer.new) (outside_of (speaking D.handles wire) node.new (P.handed peers.new)))
+        (outside_of (speaking D.handles wire) node.old (P.handed peers.old)))
+        (sides (D.seen node.new)
+        (W.contents writer.new)
+        (outside_of (speaking D.handles wire) node.new (P.handed peers.new)))
         (record { frame = frame; fates = fates })) }
     ensures home { D.home_of node.new ≡ D.home_of node.old }
 {

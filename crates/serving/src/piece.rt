@@ -36,8 +36,10 @@ pub fn serve_piece<D: Desk, W: Write, P: Peers>(
     requires unbroken { stream.old.fault ≡ None }
     ensures piece { (begun : List Begun) × (rest : List ℕ) × IsPiece result home
         (sides (D.seen node.old) (W.contents writer.old)
-        (outside_of (speaking D.handles wire) node.old (P.handed peers.old))) (sides (D.seen node.new)
-        (W.contents writer.new) (outside_of (speaking D.handles wire) node.new (P.handed peers.new)))
+        (outside_of (speaking D.handles wire) node.old (P.handed peers.old)))
+        (sides (D.seen node.new)
+        (W.contents writer.new)
+        (outside_of (speaking D.handles wire) node.new (P.handed peers.new)))
         (stream.old.held ++ piece.now) begun rest count.old count.new stream.new }
     ensures home { D.home_of node.new ≡ D.home_of node.old }
 {

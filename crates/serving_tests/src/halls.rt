@@ -41,8 +41,8 @@ impl Peers for Counting<'_> {
     }
 }
 
-/// The desk serves the connections that wait for it, and there were some. Desk 1 pushes in version 1
-/// of the wire, and the others in version 2.
+/// The desk serves the connections that wait for it, and there were some. Desk 1 pushes in version
+/// 1 of the wire, and the others in version 2.
 fn serve_waiting<K: Keeper + Drop>(
     alloc: Global,
     desk: usize,

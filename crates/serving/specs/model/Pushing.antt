@@ -16,7 +16,8 @@ pub record PushesFront (version : Version) (hall : ℕ) (ms front rest : List Me
   pub parts : ms ≡ front ++ rest
   pub handed : Hands old new (map (pushed version hall) front)
 
-abbrev pub PushesPart : Version → ℕ → List Message → Option (List Push) → Option (List Push) → Type 0
+abbrev pub PushesPart : Version → ℕ → List Message → Option (List Push) → Option (List Push)
+    → Type 0
 PushesPart version hall ms old new =
     (front : List Message) × (rest : List Message) × PushesFront version hall ms front rest old new
 
