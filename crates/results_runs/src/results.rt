@@ -1,5 +1,7 @@
 //! Values, bests and averages.
 
+ghost use Rattle.attempts.specs.Attempts.{IsOutcome};
+
 use crate::fields::{count, cut, misspelt, number, push_line, small, value, values};
 use attempts::{
     NoMemory, Outcome, Unit, Value, in_range, in_range_of, print_value, push_decimal,
@@ -44,7 +46,9 @@ pub fn show_solved(out: &mut Vec<u8>, rest: &str) -> io::Result<()> {
 }
 
 /// A result of multi-blind, with each field brought into its range.
-fn multi_of(rest: &str) -> Outcome {
+fn multi_of(rest: &str) -> Outcome
+    ensures { IsOutcome result }
+{
     let (solved, rest) = cut(rest, ' ');
     let (attempted, seconds) = cut(rest, ' ');
     let attempted = small(attempted).max(2).min(99);
