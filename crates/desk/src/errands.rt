@@ -77,7 +77,7 @@ fn what_of(alloc: Global, request: Request<'_>) -> Result<What, DeskFault>
 
 /// The first version of the wire that has a frame for a request.
 fn version_of(request: &Request<'_>) -> Version
-    ensures { result ≡ version_of request.now.entry }
+    ensures { result ≡ version_of request.now }
 {
     match request {
         Request::Sheet { event, .. } => {
