@@ -12,9 +12,6 @@ use std::io;
 use std::io::Write;
 use wire::WireFault;
 
-/// A refusal of a frame for another hall or another desk.
-const FOREIGN: &[u8] = b"\0\0\0\x09\x01\0\0\0\x07\x01\0\x23\x08";
-
 /// What is asked of both desks in the end: Tick, Prepare of (9, 2) at positions 0, 1 and 2, Submit,
 /// and Behind of length 0. So their promise, vote, ballot, queue and log are told.
 const PROBE: &[u8] = b"\0\0\0\x08\x01\0\0\0\x07\0\x01\x13\
@@ -79,12 +76,20 @@ fn draw_frames(alloc: Global, rng: &mut SplitMix64) -> Result<Vec<Drawn>, AllocE
     Ok(frames)
 }
 
+/// Writes the refusal of a frame for another hall or another desk, in the version of the frame.
+fn write_foreign(side: &mut Side, frame: &Drawn) -> Result<(), AllocError> {
+    let version = frame.bytes.get(4).copied().unwrap_or(1);
+    side.write(b"\0\0\0\x09")?;
+    side.write(&[version])?;
+    side.write(b"\0\0\0\x07\x01\0\x23\x08")
+}
+
 /// Serves a frame on a connection of its own. One that is for another hall or desk is answered in
 /// the desk's place, and changes nothing.
 fn serve_alone(alloc: Global, side: &mut Side, frame: &Drawn) -> Result<bool, AllocError> {
     if frame.is_foreign {
         if (16..=STOP).contains(&frame.kind) {
-            side.write(FOREIGN)?;
+            write_foreign(side, frame)?;
         }
         return Ok(true);
     }
