@@ -5,8 +5,12 @@ use Rattle.desk.proofs.words.run_task.Goals as goal
 
 pub returns-in-Err-serve-clause-ends : goal.returns-in-Err-serve-clause-ends
 returns-in-Err-serve-clause-ends g c =
-    subst (λ t. Ends t c.tell-in-Err-serve.result _ _ _ _) (sym c.in-Serve.is) (
-      Keeps-refl _,
+    let had = g.R.Read.remaining c.args.reader.now in
+    let old = g.W.Write.contents c.args.writer.now in
+    let new = g.W.Write.contents c.serve.new.writer in
+    let status = c.tell-in-Err-serve.result in
+    subst (λ t. Ends t status had had old new) (sym c.in-Serve.is) (
+      Keeps-refl had,
       inr (
         c.in-Err-serve.fault,
         c.tell-in-Err-serve.ensures ∙ ap status_of c.from-in-Err-serve.ensures,
