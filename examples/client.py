@@ -13,14 +13,14 @@ import struct
 import sys
 
 EVENTS = """333 222 444 555 666 777 333bf 333fm 333oh clock minx pyram skewb sq1 444bf
-555bf""".split()
+555bf 333mbf""".split()
 CODES = """Done Unread Repeat UnknownCompetitor NameTaken RoundUnknown RoundOpen RoundsRule
 FormatNotAllowed CutoffNotAllowed LimitNotAllowed NoScramble ScrambleThere WrongOutcome Closed
 Already Full NotEntered OutOfOrder NoMoreAttempts NoSuchAttempt CutoffLost Unfinished""".split()
 REFUSALS = "Busy LogFull BallotsSpent NoMemory Down NotThere NoSuchRound Foreign".split()
 SUBMIT, ASK, SHEET, TICK, STOP = 16, 17, 18, 19, 20
 TAKEN, TOLD, SHEET_TEXT, REFUSED, FINE = 32, 33, 34, 35, 36
-VERSION, CLIENT = 1, 0
+FIRST, SECOND, CLIENT = 1, 2, 0  # versions of the wire; a client's number
 LEAST, MOST = 8, 300_000  # the values of a frame's length
 NO_ANSWER = "no answer", 4
 
@@ -43,15 +43,15 @@ def read_exactly(stream, count):
     return bytes_read
 
 
-def exchange(address, hall, desk, kind, body, wanted):
-    """Sends one frame to the desk of the hall, and returns the fields of the wanted answer."""
+def exchange(address, hall, desk, kind, body, wanted, spoken=FIRST):
+    """Sends one frame to a desk, and returns the fields of the wanted answer."""
     host, _, port = address.rpartition(":")
     try:
         stream = socket.create_connection((host.strip("[]"), int(port)))
     except (OSError, ValueError, OverflowError):
         raise Fault("cannot connect", 4) from None
     with stream:
-        inside = struct.pack(">BIBBB", VERSION, hall, CLIENT, desk, kind) + body
+        inside = struct.pack(">BIBBB", spoken, hall, CLIENT, desk, kind) + body
         try:
             stream.sendall(struct.pack(">I", len(inside)) + inside)
         except OSError:
@@ -61,21 +61,21 @@ def exchange(address, hall, desk, kind, body, wanted):
             raise Fault(*NO_ANSWER)
         inside = read_exactly(stream, length)
     version, of_hall, sender, to, got = struct.unpack(">BIBBB", inside[:8])
+    if version not in (FIRST, SECOND):
+        raise Fault(*NO_ANSWER)
     fields = inside[8:]
-    if (version, to, got, len(fields)) == (VERSION, CLIENT, REFUSED, 1) and 1 <= fields[0] <= 8:
+    if (to, got, len(fields)) == (CLIENT, REFUSED, 1) and 1 <= fields[0] <= 8:
         raise Fault("refused " + REFUSALS[fields[0] - 1], 3)
-    if (version, of_hall, sender, to, got) != (VERSION, hall, desk, CLIENT, wanted):
+    if (of_hall, sender, to, got) != (hall, desk, CLIENT, wanted):
         raise Fault(*NO_ANSWER)
     return fields
 
 
 def enter(given):
-    text = given.text.encode("utf-8", "surrogateescape")
-    if len(text) > 600:
+    if len(text := given.text.encode("utf-8", "surrogateescape")) > 600:
         raise Fault("text too long", 3)
     entry = struct.pack(">QH", given.id, len(text)) + text
-    taken = exchange(given.to, given.hall, given.desk, SUBMIT, entry, TAKEN)
-    if taken != entry[:8]:
+    if exchange(given.to, given.hall, given.desk, SUBMIT, entry, TAKEN) != entry[:8]:
         raise Fault(*NO_ANSWER)
     return b"taken %d\n" % given.id
 
@@ -94,7 +94,8 @@ def ask(given):
 def sheet(given):
     event = EVENTS.index(given.event) + 1
     body = struct.pack(">BBIB", event, given.round, given.position, given.csv)
-    return exchange(given.to, given.hall, given.desk, SHEET, body, SHEET_TEXT)
+    asked = given.to, given.hall, given.desk, SHEET, body, SHEET_TEXT
+    return exchange(*asked, FIRST if event <= 16 else SECOND)
 
 
 def bare(kind, given):
@@ -133,9 +134,8 @@ def words():
 
 
 def main():
-    given = words()
     try:
-        if not 1 <= given.desk <= 5:
+        if not 1 <= (given := words()).desk <= 5:
             raise Fault("bad desk number", 3)
         sys.stdout.buffer.write(given.run(given))
     except Fault as fault:
