@@ -1,5 +1,6 @@
 -- The arguments that subcommands take, as the parser of words has them, and what a number is.
-use Rattle.std.specs.Prelude.{◌≡◌, true, false, ℕ, List, codes, decimal, Option, Some}
+use Rattle.std.specs.Prelude.{◌≡◌, ◌∷◌, [], true, false, ℕ, List, codes, decimal, map, Option, Some}
+use Rattle.std.specs.Borrow.{Bor}
 use Rattle.clap.specs.Words.{App, Row, Rule, Text, app_of, first_of, new_app, new_rule, with_rule}
 use Rattle.clap.specs.declared.builder.ArgAction.TheVariants.{Append, Set, SetTrue}
 use Rattle.clap.specs.declared.builder.command.Command.{Command}
@@ -31,6 +32,16 @@ numbers low high = Some (parser.Unsigned low high)
 
 abbrev pub any_text : Option ValueParser
 any_text = Some parser.String
+
+-- one of these texts and no other
+pub record IsOneOf (p : Option ValueParser) (texts : List Text) : Type 0 where
+  pub names : Bor (List (Bor Text))
+  pub parsed : p ≡ Some (parser.Names names)
+  pub are : map (λ name. name.now) names.now ≡ texts
+
+-- a round as it is typed
+abbrev pub round_numbers : List Text
+round_numbers = codes "1" ∷ codes "2" ∷ codes "3" ∷ codes "4" ∷ []
 
 -- what every subcommand takes that asks a desk
 abbrev pub errand_words : Text → App

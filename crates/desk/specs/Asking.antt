@@ -4,14 +4,14 @@ use Rattle.std.specs.Prelude.{◌≡◌, ◌⊎◌, true, false, ℕ, List, code
 use Rattle.clap.specs.Words.{App, Row, Text, all_of, first_of, new_app, one_of, subcommand_of, with_rule, with_subcommand}
 use Rattle.clap.specs.declared.builder.value_parser.ValueParser.{ValueParser}
 use Rattle.formats.specs.declared.events.Event.{Event}
-use Rattle.formats.specs.Events.{event_of_name}
+use Rattle.formats.specs.Events.{all_events, event_name, event_of_name}
 use Rattle.sheets.specs.declared.Style.{Style}
 use Rattle.sheets.specs.declared.Style.TheVariants as printed
 use Rattle.wire.specs.declared.values.SheetStyle.{SheetStyle}
 use Rattle.wire.specs.declared.values.SheetStyle.TheVariants as asked
 use Rattle.wire.specs.Laws.{IsVersion}
 use Rattle.wire.specs.Ranges.{IsId}
-use Rattle.desk.specs.Arguments.{IsNumberAt, any_text, csv_rule, errand_words, numbers, option_rule, value_rule, values_rule, wait_rule}
+use Rattle.desk.specs.Arguments.{IsNumberAt, IsOneOf, any_text, csv_rule, errand_words, numbers, option_rule, round_numbers, value_rule, values_rule, wait_rule}
 use Rattle.batch.specs.declared.lines_entered.Batch.{Batch}
 use Rattle.serve.specs.declared.service.Service.{Service}
 use Rattle.desk.specs.Errands.{HasId}
@@ -21,14 +21,20 @@ use Rattle.desk.specs.declared.task.Request.TheVariants as request
 use Rattle.desk.specs.declared.task.Task.{Task}
 use Rattle.desk.specs.declared.task.Task.TheVariants as task
 
--- ---- the words that subcommands take; which texts pass as an event and a round changes nothing
--- here
+-- ---- the words that subcommands take
 
-abbrev pub replay_words : Option ValueParser → Option ValueParser → App
-replay_words events rounds =
+-- what passes as an event, the name of one, and what as a round
+pub record RoundParsers : Type 0 where
+  pub events : Option ValueParser
+  pub rounds : Option ValueParser
+  pub named : IsOneOf events (map event_name all_events)
+  pub numbered : IsOneOf rounds round_numbers
+
+abbrev pub replay_words : RoundParsers → App
+replay_words p =
     with_rule (with_rule (with_rule (new_app (codes "replay"))
-    (value_rule (codes "event") events))
-    (value_rule (codes "round") rounds))
+    (value_rule (codes "event") p.events))
+    (value_rule (codes "round") p.rounds))
     csv_rule
 
 abbrev pub hall_words : App
@@ -66,11 +72,11 @@ ask_words =
     with_rule (errand_words (codes "ask"))
     (value_rule (codes "id") (numbers 1 9223372036854775807))
 
-abbrev pub sheet_words : Option ValueParser → Option ValueParser → App
-sheet_words events rounds =
+abbrev pub sheet_words : RoundParsers → App
+sheet_words p =
     with_rule (with_rule (with_rule (with_rule (errand_words (codes "sheet"))
-    (value_rule (codes "event") events))
-    (value_rule (codes "round") rounds))
+    (value_rule (codes "event") p.events))
+    (value_rule (codes "round") p.rounds))
     (value_rule (codes "position") (numbers 0 4294967295)))
     csv_rule
 
@@ -83,25 +89,23 @@ named_app =
           record (new_app (codes "desk")).top { has_version = true; subcommand_required = true };
     }
 
--- what passes as an event and as a round at `replay` and at `sheet`
+-- what passes at `replay` and at `sheet`
 pub record Parsers : Type 0 where
-  pub events : Option ValueParser
-  pub rounds : Option ValueParser
-  pub sheet_events : Option ValueParser
-  pub sheet_rounds : Option ValueParser
+  pub replay : RoundParsers
+  pub sheet : RoundParsers
 
 abbrev pub desk_words : Parsers → App
 desk_words p =
     with_subcommand (with_subcommand (with_subcommand (with_subcommand (with_subcommand
     (with_subcommand (with_subcommand (with_subcommand (with_subcommand (with_subcommand named_app
-    (replay_words p.events p.rounds).top)
+    (replay_words p.replay).top)
     hall_words.top)
     serve_words.top)
     log_words.top)
     enter_words.top)
     lines_words.top)
     ask_words.top)
-    (sheet_words p.sheet_events p.sheet_rounds).top)
+    (sheet_words p.sheet).top)
     (errand_words (codes "tick")).top)
     (errand_words (codes "stop")).top
 

@@ -1,11 +1,12 @@
 //! The subcommand `replay`: its words and its help.
 
-ghost use Rattle.std.specs.Prelude.{◌≡◌, true, false, codes, decimal, option_and_then, IfOk, IfSome, Option, Some};
+ghost use Rattle.std.specs.Prelude.{◌≡◌, true, false, codes, decimal, map, option_and_then};
+ghost use Rattle.std.specs.Prelude.{IfOk, IfSome, Option, Some};
 ghost use Rattle.clap.specs.Words.{first_of, found_of, rows_of, rule_of};
 ghost use Rattle.clap.specs.declared.builder.value_parser.ValueParser.{ValueParser};
-ghost use Rattle.formats.specs.Events.{event_of_name};
-ghost use Rattle.desk.specs.Arguments.{IsCommand, value_rule};
-ghost use Rattle.desk.specs.Asking.{replay_words, IsTask};
+ghost use Rattle.formats.specs.Events.{all_events, event_name, event_of_name};
+ghost use Rattle.desk.specs.Arguments.{IsCommand, IsOneOf, round_numbers, value_rule};
+ghost use Rattle.desk.specs.Asking.{replay_words, IsTask, RoundParsers};
 
 use crate::arguments::{csv_flag, plain_command, text_at, value, with_argument};
 use crate::task::Task;
@@ -15,13 +16,14 @@ use formats::Event;
 use sheets::Style;
 use std::alloc::{AllocError, Global};
 
-/// The events' names, as they are typed: those of [`Event::ALL`].
+/// The texts that pass as an event: the names of [`Event::ALL`], which the contract of
+/// [`event_value`] says.
 static NAMES: [&str; 17] = [
     "333", "222", "444", "555", "666", "777", "333bf", "333fm", "333oh", "clock", "minx", "pyram",
     "skewb", "sq1", "444bf", "555bf", "333mbf",
 ];
 
-/// The rounds' numbers, as they are typed.
+/// The texts that pass as a round.
 static ROUNDS: [&str; 4] = ["1", "2", "3", "4"];
 
 const ABOUT: &str = "Reads the commands of a competition and prints the result sheet of a round.";
@@ -54,7 +56,7 @@ Exit status: 0 the sheet was printed; 2 the words are not understood, or ask for
 
 /// The value EVENT.
 pub fn event_value<'a>(alloc: Global) -> Arg<'a>
-    ensures rule { (parser : Option ValueParser)
+    ensures rule { (parser : Option ValueParser) × IsOneOf parser (map event_name all_events)
         × (rule_of result ≡ value_rule (codes "event") parser) }
     ensures local { result.global ≡ false }
 {
@@ -69,7 +71,7 @@ pub fn event_value<'a>(alloc: Global) -> Arg<'a>
 
 /// The value ROUND.
 pub fn round_value<'a>(alloc: Global) -> Arg<'a>
-    ensures rule { (parser : Option ValueParser)
+    ensures rule { (parser : Option ValueParser) × IsOneOf parser round_numbers
         × (rule_of result ≡ value_rule (codes "round") parser) }
     ensures local { result.global ≡ false }
 {
@@ -84,8 +86,7 @@ pub fn round_value<'a>(alloc: Global) -> Arg<'a>
 
 /// The words of `replay`.
 pub fn replay_command<'a>(alloc: Global) -> Result<Command<'a>, AllocError>
-    ensures { IfOk result (λ command. (events : Option ValueParser) × (rounds : Option ValueParser)
-        × IsCommand command (replay_words events rounds)) }
+    ensures { IfOk result (λ command. (p : RoundParsers) × IsCommand command (replay_words p)) }
 {
     let command = plain_command(alloc, "replay", ABOUT, INPUT);
     let command = with_argument(command, event_value(alloc))?;
@@ -93,7 +94,7 @@ pub fn replay_command<'a>(alloc: Global) -> Result<Command<'a>, AllocError>
     with_argument(command, csv_flag(alloc))
 }
 
-/// The round of a number as it is typed: those of [`ROUNDS`].
+/// The round of a number as it is typed.
 fn round_of(number: &str) -> Option<u8>
     ensures { IfSome result (λ round. number.now ≡ decimal round) }
 {

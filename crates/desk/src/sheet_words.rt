@@ -1,10 +1,9 @@
 //! The subcommand `sheet`: its words and its help.
 
-ghost use Rattle.std.specs.Prelude.{◌≡◌, true, false, codes, IfOk, IfSome, Option};
+ghost use Rattle.std.specs.Prelude.{◌≡◌, true, false, codes, IfOk, IfSome};
 ghost use Rattle.clap.specs.Words.{found_of, rows_of};
-ghost use Rattle.clap.specs.declared.builder.value_parser.ValueParser.{ValueParser};
 ghost use Rattle.desk.specs.Arguments.{IsCommand};
-ghost use Rattle.desk.specs.Asking.{sheet_words, IsRequest};
+ghost use Rattle.desk.specs.Asking.{sheet_words, IsRequest, RoundParsers};
 
 use crate::arguments::{csv_flag, errand_command, number_at, value, with_argument};
 use crate::replay_words::{event_at, event_value, round_at, round_value};
@@ -27,8 +26,7 @@ opened the round); 4 cannot connect, cannot write, or no answer; 5 no memory.";
 
 /// The words of `sheet`.
 pub fn sheet_command<'a>(alloc: Global) -> Result<Command<'a>, AllocError>
-    ensures { IfOk result (λ command. (events : Option ValueParser) × (rounds : Option ValueParser)
-        × IsCommand command (sheet_words events rounds)) }
+    ensures { IfOk result (λ command. (p : RoundParsers) × IsCommand command (sheet_words p)) }
 {
     let command = errand_command(alloc, "sheet", ABOUT, AFTER)?;
     let command = with_argument(command, event_value(alloc))?;
