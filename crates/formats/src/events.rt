@@ -1,7 +1,7 @@
 //! Events and formats: their names and numbers, and which format an event may have.
 
 ghost use Rattle.std.specs.Prelude.{◌≡◌, ◌≤◌, ◌↔◌, ℕ, List, Some, IsTrue};
-ghost use Rattle.formats.specs.Events.{event_name, event_named, event_of_name, event_number, event_numbered, event_of_number, event_edition, format_name, format_named, attempts_of, unit_of, is_allowed};
+ghost use Rattle.formats.specs.Events.{event_name, event_of_name, event_number, event_of_number, event_edition, format_name, format_named, attempts_of, unit_of, is_allowed};
 ghost use Rattle.formats.specs.Results.{IsFormatOf};
 
 use attempts::Unit;
@@ -45,26 +45,6 @@ pub enum Format {
 }
 
 impl Event {
-    /// The events of edition 1, in the order of their numbers.
-    pub const FIRST: [Event; 16] = [
-        Event::Cube3,
-        Event::Cube2,
-        Event::Cube4,
-        Event::Cube5,
-        Event::Cube6,
-        Event::Cube7,
-        Event::Blind3,
-        Event::FewestMoves,
-        Event::OneHanded,
-        Event::Clock,
-        Event::Megaminx,
-        Event::Pyraminx,
-        Event::Skewb,
-        Event::Square1,
-        Event::Blind4,
-        Event::Blind5,
-    ];
-
     /// All events, in the order of their numbers: those of edition 1, and `333mbf` of edition 2.
     pub const ALL: [Event; 17] = [
         Event::Cube3,
@@ -97,34 +77,12 @@ impl Event {
             .find(|event| event.name().as_bytes() == name)
     }
 
-    /// The event of edition 1 of a name. None where it has none of the name.
-    #[tactic(auto, unfolding(crate::specs::Events::event_named))]
-    pub fn from_first_name(name: &[u8]) -> Option<Event>
-        ensures { result ≡ event_named name.now }
-    {
-        Event::FIRST
-            .iter()
-            .copied()
-            .find(|event| event.name().as_bytes() == name)
-    }
-
     /// The event of a number, 1 to 17. None at any other number.
     #[tactic(auto, unfolding(crate::specs::Events::event_of_number))]
     pub fn from_number(number: u8) -> Option<Event>
         ensures { result ≡ event_of_number number }
     {
         Event::ALL
-            .iter()
-            .copied()
-            .find(|event| event.number() == number)
-    }
-
-    /// The event of edition 1 of a number, 1 to 16. None at any other number.
-    #[tactic(auto, unfolding(crate::specs::Events::event_numbered))]
-    pub fn from_first_number(number: u8) -> Option<Event>
-        ensures { result ≡ event_numbered number }
-    {
-        Event::FIRST
             .iter()
             .copied()
             .find(|event| event.number() == number)
