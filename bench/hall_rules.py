@@ -5,8 +5,8 @@
     bench/hall_rules.py --histories < HISTORIES
 
 A second program, written from the protocol's table of events and 'Paxos Made Simple' and sharing
-nothing with the crates. With `--histories` the input is that of crates/hall_runs: headings, each a
-line `# DESKS TITLE`, with a script behind each. Standard library only.
+nothing with the crates. With `--histories` the input is like checks/stored/halls.txt: headings, each
+a line `# DESKS TITLE`, with a script behind each. Standard library only.
 """
 
 import re
