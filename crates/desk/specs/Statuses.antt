@@ -170,7 +170,8 @@ Ends (task.Carry errand) status had left old new = Keeps had left × EndsErrand 
 Ends (task.EnterLines to batch) status had left old new =
     EndsLines status batch (record { had = had; left = left; old = old; new = new })
 Ends (task.Log store) status had left old new = Keeps had left × EndsLog status old new
-Ends (task.Serve service) status had left old new = Keeps had left × EndsServe status service old new
+Ends (task.Serve service) status had left old new =
+    Keeps had left × EndsServe status service old new
 
 -- what a status says: of the words, of the bytes that the reader had and has left, and of those
 -- that were written

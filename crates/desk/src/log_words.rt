@@ -20,8 +20,8 @@ text has no line feed, else an empty line. So `desk replay` of these lines print
 the desk would print at the end of its log.
 
 Exit status: 0 the log was printed; 2 the words are not understood, or ask for help; 3 damaged store
-(FILE holds no desk's store); 4 store device (FILE is not there, cannot be opened, or another program
-has it open), or cannot write; 5 no memory.";
+(FILE holds no desk's store); 4 store device (FILE is not there, cannot be opened, or another
+program has it open), or cannot write; 5 no memory.";
 
 /// The words of `log`.
 pub fn log_command<'a>(alloc: Global) -> Result<Command<'a>, AllocError>

@@ -33,7 +33,8 @@ abbrev pub logs_text : ℕ → List WorldEvent → List ℕ
 logs_text n events = flat_map (λ d. log_text d (log_of n events d)) (range_with_len 1 n)
 
 -- the text for an input: what is printed for the events of its lines, up to the first line that
--- spells none, and then the logs, where the input is within the limits and each line spells an event
+-- spells none, and then the logs, where the input is within the limits and each line spells an
+-- event
 pub record IsHallText (n : ℕ) (input text : List ℕ) : Type 0 where
   pub events : List WorldEvent
   pub others : List (List ℕ)

@@ -53,7 +53,8 @@ fn entry_of(alloc: Global, id: u64, text: &[u8]) -> Result<Option<Entry>, NoMemo
 #[tactic(auto, unfolding(crate::specs::model::Events::submit_of))]
 fn submit_of(alloc: Global, desks: u8, left: Option<&[u8]>) -> Result<Option<WorldEvent>, NoMemory>
     ensures value { IfOk result (λ e. e ≡ submit_of desks (option_map (λ s. s.now) left.entry)) }
-    ensures memory { OnErr result (IsSubmit (submit_of desks (option_map (λ s. s.now) left.entry))) }
+    ensures memory { OnErr result
+        (IsSubmit (submit_of desks (option_map (λ s. s.now) left.entry))) }
 {
     let Some(fields) = left else {
         return Ok(None);

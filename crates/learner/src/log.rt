@@ -54,7 +54,8 @@ impl Model for Log {
 }
 
 impl Log {
-    ghost use Rattle.std.specs.Prelude.{◌<◌, ◌≤◌, ◌↔◌, [], IsTrue, IsOk, IfOk, OnOk, OnErr, length, slice_get, option_map};
+    ghost use Rattle.std.specs.Prelude.{◌<◌, ◌≤◌, ◌↔◌, [], IsTrue, IsOk, IfOk, OnOk, OnErr};
+    ghost use Rattle.std.specs.Prelude.{length, slice_get, option_map};
     ghost use Rattle.learner.specs.Logs.{empty_log, appended, reserved, position_of};
 
     /// The log with no entry, and with no room reserved. It takes its first memory here; where that

@@ -13,7 +13,8 @@ use acceptor::{MOST_ENTRIES, NoMemory};
 impl Proposer {
     ghost use Rattle.std.specs.Prelude.{◌≡◌, IfOk};
     ghost use Rattle.proposer.specs.Refusals.{PlansAs, RefusesAs};
-    ghost use Rattle.proposer.specs.Proposing.{start_idle, tick_idle, new_ballot, tell_length, wants_ballot};
+    ghost use Rattle.proposer.specs.Proposing.{start_idle, tick_idle, new_ballot};
+    ghost use Rattle.proposer.specs.Proposing.{tell_length, wants_ballot};
 
     /// The plan of an idle desk that is told to start.
     pub(crate) fn start_idle(&self, stored: &Stored, len: u32) -> Result<Plan, StepFault>

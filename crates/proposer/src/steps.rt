@@ -12,7 +12,8 @@ impl Proposer {
     ghost use Rattle.std.specs.Prelude.{◌≡◌, IfOk, IsOk, Ok, IsOkAnd};
     ghost use Rattle.proposer.specs.Plans.{IsNothing};
     ghost use Rattle.proposer.specs.Refusals.{PlansAs, RefusesAs};
-    ghost use Rattle.proposer.specs.Sides.{start_plan, tick_plan, promise_plan, accepted_plan, nack_plan};
+    ghost use Rattle.proposer.specs.Sides.{start_plan, tick_plan, promise_plan};
+    ghost use Rattle.proposer.specs.Sides.{accepted_plan, nack_plan};
 
     /// What the desk plans when it is told to start, where this is stored and the log is `len`
     /// long.

@@ -43,7 +43,8 @@ impl Model for Hall {
 impl Hall {
     ghost use Rattle.std.specs.Prelude.{◌⊎◌, None, OnOk};
     ghost use Rattle.learner.specs.Steps.{IsDesk};
-    ghost use Rattle.learner.specs.Worlds.{new_world, at_desk, delivered, restart_at, nth_sent, happens};
+    ghost use Rattle.learner.specs.Worlds.{new_world, at_desk, delivered};
+    ghost use Rattle.learner.specs.Worlds.{restart_at, nth_sent, happens};
     ghost use Rattle.world.specs.model.Halls.{world_of};
     ghost use Rattle.world.specs.WorldValues.{refusal, refusal_at};
 
