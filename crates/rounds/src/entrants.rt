@@ -1,14 +1,19 @@
 //! The entrants of a round, in order of entry, with what is kept of them.
 
-ghost use Rattle.std.specs.Prelude.{◌≡◌, ℕ, ◌<◌, ◌≤◌, ◌&&◌, not, [], None, Some, All, IfOk, IfSome, OnOk, OnErr, MatchOption, count_by, false, find, length, map, nat_eq, option_map, slice_get};
+ghost use Rattle.std.specs.Prelude.{◌≡◌, ◌<◌, ◌≤◌, [], None, Some, All, IfOk, IfSome};
+ghost use Rattle.std.specs.Prelude.{OnOk, OnErr, MatchOption, false, find, length, map};
+ghost use Rattle.std.specs.Prelude.{nat_eq, option_map, slice_get};
 ghost use Rattle.std.specs.List.{list_any, IsDistinct};
 ghost use Rattle.std.specs.List.Sorted.{IsPermutation};
 ghost use Rattle.attempts.specs.Attempts.{IsInRangeOf};
 ghost use Rattle.formats.specs.Results.{IsFormatOf};
-ghost use Rattle.rounds.specs.Tables.{Entrant, IsCutoff, KeepsAllotted, allotted, has_number, has_started, is_finished, not_worse, number_of_entrant, standings, started};
+ghost use Rattle.rounds.specs.Tables.{Entrant, IsCutoff, KeepsAllotted, allotted, has_number};
+ghost use Rattle.rounds.specs.Tables.{has_started, is_finished, not_worse, number_of_entrant};
+ghost use Rattle.rounds.specs.Tables.{standings, started};
 ghost use Rattle.rounds.specs.CutoffLaw.{MetIsBetterIn};
 ghost use Rattle.rounds.specs.Positions.{place_at};
-ghost use Rattle.rounds.specs.model.Field.{as_table, with_newcomer, with_values_at, IsEntrantAt, IsStandingOf};
+ghost use Rattle.rounds.specs.model.Field.{as_table, with_newcomer, with_values_at, IsEntrantAt};
+ghost use Rattle.rounds.specs.model.Field.{IsStandingOf};
 ghost use Rattle.rounds.specs.model.Standings.{is_unfinished};
 
 use crate::cutoff::{allotted, has_started};
@@ -101,7 +106,8 @@ impl Entrants {
     /// The values of the entrant at an index.
     pub(crate) fn row_at(&self, index: usize) -> &ValueRow
         requires { index < length self.now.entrants }
-        ensures { (e : Entrant) → slice_get self.now.entrants index ≡ Some e → result.now ≡ e.values }
+        ensures { (e : Entrant) → slice_get self.now.entrants index ≡ Some e
+            → result.now ≡ e.values }
     {
         &self.standings[index].row
     }

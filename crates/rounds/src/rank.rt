@@ -1,6 +1,6 @@
 //! Keys as numbers, which are compared without a branch.
 
-ghost use Rattle.std.specs.Prelude.{◌≡◌, ◌≤◌};
+ghost use Rattle.std.specs.Prelude.{◌≡◌};
 ghost use Rattle.formats.specs.declared.results.RankKey.{RankKey as Key};
 ghost use Rattle.formats.specs.Results.{is_better};
 ghost use Rattle.rounds.specs.model.Ranks.{number_or, rank_of, IsBelow, HasRoom};

@@ -1,5 +1,6 @@
 -- The entrants of a round as the table sees them.
-use Rattle.std.specs.Prelude.{◌≡◌, ◌<◌, ◌≤◌, ℕ, zero, suc, Bool, false, if◌then◌else◌, List, [], ◌∷◌, ◌++◌, Some, find, length, map, slice_get, All}
+use Rattle.std.specs.Prelude.{◌≡◌, ◌<◌, ◌≤◌, ℕ, zero, suc, Bool, false, if◌then◌else◌, List, []}
+use Rattle.std.specs.Prelude.{◌∷◌, ◌++◌, Some, find, length, map, slice_get, All}
 use Rattle.attempts.specs.declared.Value.{Value}
 use Rattle.attempts.specs.Attempts.{IsInRangeOf}
 use Rattle.rounds.specs.declared.rules.Rules.{Rules}
