@@ -1,5 +1,7 @@
 -- What a competitor's values make: the best, the average, and the order by them.
-use Rattle.std.specs.Prelude.{◌≡◌, ℕ, ◌+◌, ◌-◌, ◌*◌, ◌/◌, Bool, true, false, ◌==◌, ◌||◌, ◌&&◌, nat_lt, nat_le, if◌then◌else◌, min, max, List, ◌++◌, ◌%◌, codes, decimal, length, sum, filter_map, Option, None, Some, unwrap_or}
+use Rattle.std.specs.Prelude.{◌≡◌, ℕ, ◌+◌, ◌-◌, ◌*◌, ◌/◌, Bool, true, false, ◌==◌, ◌||◌, ◌&&◌}
+use Rattle.std.specs.Prelude.{nat_lt, nat_le, if◌then◌else◌, min, max, List, ◌++◌, ◌%◌, codes}
+use Rattle.std.specs.Prelude.{decimal, length, sum, filter_map, Option, None, Some, unwrap_or}
 use Rattle.std.specs.List.{reduce, list_any}
 use Rattle.attempts.specs.declared.Value.{Value}
 use Rattle.attempts.specs.declared.Value.TheVariants as value

@@ -1,4 +1,4 @@
-use Rattle.std.proofs.Common.{◌≡◌, ◌≤◌, true, length, refl, subst, sym, arith}
+use Rattle.std.proofs.Common.{◌≡◌, true, length, refl, subst, sym, arith}
 use Rattle.std.proofs.lemmas.Bool.Decides.{nat_tests}
 use Rattle.formats.specs.Results.{has_average}
 use Rattle.formats.proofs.Sums.{sum-numbers}
