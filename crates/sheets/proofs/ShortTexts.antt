@@ -1,5 +1,5 @@
 -- What is printed of values and numbers is short, and no byte of it calls for quotes in a table.
-use Rattle.std.proofs.Common.{◌≡◌, ℕ, zero, suc, ◌+◌, ◌-◌, ◌*◌, ◌/◌, ◌%◌, ◌^◌, ◌<◌, ◌≤◌, Bool, true, false, ◌==◌, cond, min, nat_lt, nat_le, List, [], ◌∷◌, ◌++◌, length, fold, sum, unwrap_or, codes, decimal, Option, Some, None, IfSome, refl, sym, ap, ◌∙◌, arith, length-append, eqb-true}
+use Rattle.std.proofs.Common.{◌≡◌, ℕ, zero, suc, ◌+◌, ◌-◌, ◌*◌, ◌/◌, ◌%◌, ◌^◌, ◌<◌, ◌≤◌, Bool, true, false, ◌==◌, cond, min, nat_lt, nat_le, List, [], ◌∷◌, ◌++◌, length, fold, sum, unwrap_or, codes, decimal, Option, Some, None, IfSome, refl, arith, length-append, eqb-true}
 use Rattle.std.specs.Char.{is_ascii_digit}
 use Rattle.std.specs.List.{AllByRecursion, list_all, list_any}
 use Rattle.std.proofs.lemmas.Bool.Decides.{nat_tests}

@@ -1,5 +1,5 @@
 -- How long a sheet is as a table.
-use Rattle.std.proofs.Common.{◌≡◌, ℕ, zero, suc, ◌+◌, ◌*◌, ◌≤◌, Bool, true, false, ◌==◌, cond, List, [], ◌∷◌, ◌++◌, length, map, flat_map, codes, decimal, Option, Some, None, IfSome, option_map, unwrap_or, refl, ap, arith, length-append}
+use Rattle.std.proofs.Common.{◌≡◌, ℕ, zero, suc, ◌+◌, ◌*◌, ◌≤◌, Bool, true, false, ◌==◌, cond, List, [], ◌∷◌, ◌++◌, length, map, flat_map, codes, decimal, Option, Some, None, IfSome, option_map, unwrap_or, refl, arith, length-append}
 use Rattle.std.specs.List.{AllByRecursion, range_with_len}
 use Rattle.std.proofs.lemmas.List.FromFn.{length-range_with_len}
 use Rattle.csv.specs.Writing.{default_writer, needs_quotes, escaped, quoted, field_text, fields_text, is_blank, row_text}

@@ -1,5 +1,5 @@
 -- The law of the two editions: without the text `EDITION 2` nothing is printed otherwise.
-use Rattle.std.specs.Prelude.{◌≡◌, ℕ, List, None}
+use Rattle.std.specs.Prelude.{◌≡◌, ℕ, List}
 use Rattle.formats.specs.declared.events.Event.{Event}
 use Rattle.formats.specs.Events.{event_edition}
 use Rattle.commands.specs.History.{history}

@@ -1,6 +1,7 @@
 //! The sheet as a table of comma-separated values.
 
-ghost use Rattle.std.specs.Prelude.{◌≡◌, ◌++◌, ◌∷◌, [], IfOk, OnOk, IfErr, Some, map, decimal, flat_map};
+ghost use Rattle.std.specs.Prelude.{◌≡◌, ◌++◌, ◌∷◌, [], IfOk, OnOk, IfErr, Some, map, decimal};
+ghost use Rattle.std.specs.Prelude.{flat_map};
 ghost use Rattle.advancement.specs.Advancing.{IsBorder};
 ghost use Rattle.formats.specs.Results.{average_text};
 ghost use Rattle.std.specs.List.{range_with_len};
@@ -8,7 +9,8 @@ ghost use Rattle.csv.specs.Writing.{row_text, default_writer};
 ghost use Rattle.csv.specs.Records.{fields_of, partial_of};
 ghost use Rattle.formats.specs.Results.{best_of};
 ghost use Rattle.formats.specs.Events.{attempts_of, unit_of};
-ghost use Rattle.sheets.specs.Sheet.{name_text, attempt_text, best_text, yes_or_no, header, entrant_fields, record_of, table_of_round, table_sheet};
+ghost use Rattle.sheets.specs.Sheet.{name_text, attempt_text, best_text, yes_or_no, header};
+ghost use Rattle.sheets.specs.Sheet.{entrant_fields, record_of, table_of_round, table_sheet};
 ghost use Rattle.sheets.specs.Faults.{NoSheet};
 ghost use Rattle.sheets.specs.model.Output.{HasFields, IsReady, Adds, held};
 

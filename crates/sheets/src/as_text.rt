@@ -4,7 +4,9 @@ ghost use Rattle.std.specs.Prelude.{◌≡◌, ◌++◌, IfOk, OnOk, IfErr, flat
 ghost use Rattle.advancement.specs.Advancing.{IsBorder};
 ghost use Rattle.formats.specs.Results.{best_of};
 ghost use Rattle.formats.specs.Events.{attempts_of, unit_of};
-ghost use Rattle.sheets.specs.Sheet.{right, columns, mark, state_text, title, standing, first_line, second_line, results, attempts, person, line_of, text_of_round, text_sheet};
+ghost use Rattle.sheets.specs.Sheet.{right, columns, mark, state_text, title, standing, first_line};
+ghost use Rattle.sheets.specs.Sheet.{second_line, results, attempts, person, line_of};
+ghost use Rattle.sheets.specs.Sheet.{text_of_round, text_sheet};
 ghost use Rattle.sheets.specs.Faults.{NoSheet};
 
 use crate::SheetFault;
