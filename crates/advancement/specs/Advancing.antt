@@ -1,5 +1,6 @@
 -- How many rounds may follow, and who goes on to the next one.
-use Rattle.std.specs.Prelude.{◌≡◌, ℕ, ◌*◌, ◌/◌, ◌&&◌, Bool, false, nat_le, nat_lt, if◌then◌else◌, min, is_some, List, filter, Option, None, Some}
+use Rattle.std.specs.Prelude.{◌≡◌, ℕ, ◌*◌, ◌/◌, ◌&&◌, Bool, false, nat_le, nat_lt, if◌then◌else◌}
+use Rattle.std.specs.Prelude.{min, is_some, List, filter, Option, None, Some}
 use Rattle.formats.specs.Results.{best_of, number_of}
 use Rattle.rounds.specs.Tables.{Entrant, Table, entrant, place, started, not_worse, standings}
 use Rattle.formats.specs.declared.advance.Advance.{Advance}

@@ -2,11 +2,13 @@
 //! article 9).
 #![tactic(auto)]
 
-ghost use Rattle.std.specs.Prelude.{◌≡◌, ◌≤◌, ◌==◌, ◌&&◌, ℕ, IfOk, filter, is_some, length, nat_eq, nat_lt};
+ghost use Rattle.std.specs.Prelude.{◌≡◌, ◌≤◌, ◌==◌, ◌&&◌, ℕ, IfOk, filter, is_some, length, nat_eq};
+ghost use Rattle.std.specs.Prelude.{nat_lt};
 ghost use Rattle.std.specs.List.{IsDistinct, list_any};
 ghost use Rattle.formats.specs.Results.{number_of};
 ghost use Rattle.rounds.specs.Tables.{entrant};
-ghost use Rattle.advancement.specs.Advancing.{later_rounds, quota, goes_on, advancing, holds_of, is_before, IsBorder};
+ghost use Rattle.advancement.specs.Advancing.{later_rounds, quota, goes_on, advancing, holds_of};
+ghost use Rattle.advancement.specs.Advancing.{is_before, IsBorder};
 
 use attempts::{NoMemory, Value};
 pub use formats::Advance;

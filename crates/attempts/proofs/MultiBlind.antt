@@ -1,5 +1,5 @@
 -- Results of multi-blind: their numbers are ordered, and are read back from their texts.
-use Rattle.std.proofs.Common.{◌≡◌, ◌↔◌, refl, sym, ap, ◌∙◌, subst, ℕ, ◌+◌, ◌-◌, ◌*◌, ◌/◌, ◌%◌, ◌^◌, ◌<◌, ◌≤◌, Bool, true, false, cond, nat_lt, nat_le, ◌&&◌, ◌||◌, ◌==◌, List, [], ◌∷◌, ◌++◌, map, decimal, codes, All, None, arith, append_assoc}
+use Rattle.std.proofs.Common.{◌≡◌, ◌↔◌, refl, ap, ◌∙◌, ℕ, ◌+◌, ◌-◌, ◌*◌, ◌/◌, ◌%◌, ◌^◌, ◌<◌, ◌≤◌, Bool, true, false, cond, List, [], ◌∷◌, ◌++◌, map, decimal, codes, All, None, arith, append_assoc}
 use Rattle.std.specs.List.{slice_split, AllByRecursion}
 use Rattle.std.specs.Str.Parse.{digits_value, AllDigits}
 use Rattle.std.specs.Char.{digit_value}
@@ -10,12 +10,11 @@ use Rattle.std.proofs.lemmas.Str.{digit_value_digit}
 use Rattle.std.proofs.lemmas.List.Splits.{slice_split_at, slice_split_none}
 use Rattle.std.proofs.lemmas.List.Elements.{All-from_recursion}
 use Rattle.attempts.specs.declared.Outcome.TheVariants as outcome
-use Rattle.attempts.specs.declared.Unit.{Unit as Measure}
 use Rattle.attempts.specs.declared.Unit.TheVariants as measure
 use Rattle.attempts.specs.declared.Value.{Value}
 use Rattle.attempts.specs.declared.Value.TheVariants as value
-use Rattle.attempts.specs.Attempts.{points, unsolved, is_multi_finished, multi_number, multi_value, greatest_of, IsInRange, IsInRangeOf}
-use Rattle.attempts.specs.Texts.{two_digits, clock_text, multi_text, points_in, unsolved_in, solved_in, attempted_in, seconds_in}
+use Rattle.attempts.specs.Attempts.{is_multi_finished, multi_number}
+use Rattle.attempts.specs.Texts.{two_digits, multi_text, unsolved_in, solved_in, attempted_in, seconds_in}
 use Rattle.attempts.specs.MultiLaws.{Multi, points_of, unsolved_of, is_better, is_mark, numbers_in, CountsAs, IsOrdered, ReadsBack}
 
 -- The number of a result that counts

@@ -1,5 +1,6 @@
 -- What an attempt counts as.
-use Rattle.std.specs.Prelude.{◌≡◌, ℕ, ◌+◌, ◌-◌, ◌*◌, ◌/◌, ◌≤◌, Bool, false, ◌&&◌, nat_le, if◌then◌else◌, Option, None, Some}
+use Rattle.std.specs.Prelude.{◌≡◌, ℕ, ◌+◌, ◌-◌, ◌*◌, ◌/◌, ◌≤◌, Bool, false, ◌&&◌, nat_le}
+use Rattle.std.specs.Prelude.{if◌then◌else◌, Option, None, Some}
 use Rattle.fmc_check.specs.declared.Fm.{Fm}
 use Rattle.fmc_check.specs.declared.Fm.TheVariants as fm
 use Rattle.fmc_check.specs.Fewest.{IsResult}

@@ -1,10 +1,10 @@
 -- What holds of every result of multi-blind: how the numbers are ordered, and what is read back.
-use Rattle.std.specs.Prelude.{◌≡◌, ◌↔◌, ℕ, ◌/◌, ◌%◌, ◌<◌, Bool, true, ◌==◌, ◌||◌, ◌&&◌, nat_lt, List, [], ◌∷◌, map, Option, None}
+use Rattle.std.specs.Prelude.{◌≡◌, ◌↔◌, ℕ, ◌/◌, ◌%◌, ◌<◌, Bool, true, ◌==◌, ◌||◌, ◌&&◌, nat_lt}
+use Rattle.std.specs.Prelude.{List, [], ◌∷◌, map, Option}
 use Rattle.std.specs.List.{slice_split}
 use Rattle.std.specs.Str.Parse.{digits_value}
 use Rattle.attempts.specs.declared.Outcome.TheVariants as outcome
 use Rattle.attempts.specs.declared.Unit.TheVariants as measure
-use Rattle.attempts.specs.declared.Value.{Value}
 use Rattle.attempts.specs.declared.Value.TheVariants as value
 use Rattle.attempts.specs.Attempts.{points, unsolved, value_of, IsOutcome}
 use Rattle.attempts.specs.Texts.{value_text}
@@ -32,7 +32,8 @@ is_better r s =
 abbrev pub CountsAs : Multi → ℕ → Type 0
 CountsAs r n =
     IsOutcome (outcome.Multi r.solved r.attempted r.seconds)
-    × ((limit : Option ℕ) → value_of limit (outcome.Multi r.solved r.attempted r.seconds) ≡ value.Number n)
+    × ((limit : Option ℕ)
+    → value_of limit (outcome.Multi r.solved r.attempted r.seconds) ≡ value.Number n)
 
 -- of two results that count, the better one has the lesser number
 abbrev pub IsOrdered : Type 0

@@ -7,7 +7,8 @@
 #![tactic(auto)]
 
 ghost use Rattle.std.specs.Prelude.{◌≡◌, ◌≤◌, ◌↔◌, IsTrue};
-ghost use Rattle.attempts.specs.Attempts.{value_of, rounded, multi_value, IsOutcome, IsInRange, IsInRangeOf, IsOutcomeOf};
+ghost use Rattle.attempts.specs.Attempts.{value_of, rounded, multi_value, IsOutcome, IsInRange};
+ghost use Rattle.attempts.specs.Attempts.{IsInRangeOf, IsOutcomeOf};
 ghost use Rattle.attempts.specs.declared.Unit.{Unit as Measure};
 ghost use Rattle.attempts.specs.declared.Unit.TheVariants.{Multi};
 

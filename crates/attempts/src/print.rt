@@ -1,7 +1,9 @@
 //! Values as a sheet has them.
 
-ghost use Rattle.std.specs.Prelude.{◌≡◌, ◌+◌, ◌<◌, ◌++◌, IfOk, OnOk, OnErr, decimal, length, vec_len, vec_capacity};
-ghost use Rattle.attempts.specs.Texts.{time_text, two_digits, multi_text, solved_in, attempted_in, seconds_in, value_text};
+ghost use Rattle.std.specs.Prelude.{◌≡◌, ◌+◌, ◌<◌, ◌++◌, IfOk, OnOk, OnErr, decimal, length};
+ghost use Rattle.std.specs.Prelude.{vec_len, vec_capacity};
+ghost use Rattle.attempts.specs.Texts.{time_text, two_digits, multi_text, solved_in, attempted_in};
+ghost use Rattle.attempts.specs.Texts.{seconds_in, value_text};
 
 use crate::{NoMemory, Unit, Value};
 use itoa::Buffer;
@@ -46,7 +48,8 @@ fn push_time(out: &mut Vec<u8>, hundredths: u32) -> Result<(), NoMemory>
 /// Adds a result of multi-blind: solved of attempted cubes, and the time in minutes and seconds.
 fn push_multi(out: &mut Vec<u8>, number: u32) -> Result<(), NoMemory>
     ensures { OnOk result (out.new.items
-        ≡ out.old.items ++ multi_text (solved_in number) (attempted_in number) (seconds_in number)) }
+        ≡ out.old.items
+        ++ multi_text (solved_in number) (attempted_in number) (seconds_in number)) }
 {
     let points = 99_u32.saturating_sub(number / 10_000_000);
     let unsolved = number % 10_000_000 % 100;
