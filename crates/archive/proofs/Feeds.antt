@@ -178,10 +178,10 @@ entered-lacks Dns fits = refl
 words-lack : (c : Command) → IsFit c → list_all (lacks 10) (words_of c) ≡ true
 words-lack (Register n name) fits =
     rw (number-lacks n (omega arith), name-lacks name fits.1) refl
-words-lack (Open e r s) fits =
+words-lack (Open id s) fits =
     rw (
-      event-lacks e,
-      number-lacks r (omega arith),
+      event-lacks id.event,
+      number-lacks id.round (omega arith),
       format-lacks s.format,
       cutoff-lacks s.cutoff fits.1.0,
       limit-lacks s.limit fits.1.1,
@@ -189,37 +189,38 @@ words-lack (Open e r s) fits =
     )
     refl
 words-lack (Enter e n) fits = rw (event-lacks e, number-lacks n (omega arith)) refl
-words-lack (Scramble e r k moves) fits =
+words-lack (Scramble id k moves) fits =
     rw (
-      event-lacks e,
-      number-lacks r (omega arith),
+      event-lacks id.event,
+      number-lacks id.round (omega arith),
       number-lacks k (omega arith),
       moves-lack moves,
     )
     refl
-words-lack (Attempt e r k n x) fits =
+words-lack (Attempt entry) fits =
     rw (
-      event-lacks e,
-      number-lacks r (omega arith),
-      number-lacks k (omega arith),
-      number-lacks n (omega arith),
-      entered-lacks x fits.3,
+      event-lacks entry.id.event,
+      number-lacks entry.id.round (omega arith),
+      number-lacks entry.attempt (omega arith),
+      number-lacks entry.number (omega arith),
+      entered-lacks entry.outcome fits.3,
     )
     refl
-words-lack (Correct e r k n x) fits =
+words-lack (Correct entry) fits =
     rw (
-      event-lacks e,
-      number-lacks r (omega arith),
-      number-lacks k (omega arith),
-      number-lacks n (omega arith),
-      entered-lacks x fits.3,
+      event-lacks entry.id.event,
+      number-lacks entry.id.round (omega arith),
+      number-lacks entry.attempt (omega arith),
+      number-lacks entry.number (omega arith),
+      entered-lacks entry.outcome fits.3,
     )
     refl
-words-lack (Strike e r n) fits =
-    rw (event-lacks e, number-lacks r (omega arith), number-lacks n (omega arith)) refl
-words-lack (SetAdvance e r a) fits =
-    rw (event-lacks e, number-lacks r (omega arith), advance-lacks a fits.1) refl
-words-lack (Close e r) fits = rw (event-lacks e, number-lacks r (omega arith)) refl
+words-lack (Strike id n) fits =
+    rw (event-lacks id.event, number-lacks id.round (omega arith), number-lacks n (omega arith))
+    refl
+words-lack (SetAdvance id a) fits =
+    rw (event-lacks id.event, number-lacks id.round (omega arith), advance-lacks a fits.1) refl
+words-lack (Close id) fits = rw (event-lacks id.event, number-lacks id.round (omega arith)) refl
 words-lack (SetEdition e) fits = rw (number-lacks e (omega arith)) refl
 
 -- ---- lines

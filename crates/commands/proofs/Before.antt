@@ -21,13 +21,14 @@ use Rattle.texts.specs.declared.command.Command.TheVariants.{Register, Open, Ent
 use Rattle.texts.specs.declared.command.Entered.{Entered}
 use Rattle.texts.specs.declared.command.Entered.TheVariants as entered
 use Rattle.texts.specs.declared.command.Settings.{Settings}
+use Rattle.texts.specs.Fields.{round_id}
 use Rattle.texts.specs.declared.reading.CommandFault.{CommandFault}
 use Rattle.texts.specs.Editions.{entered_edition, edition_of}
 use Rattle.texts.specs.Reading.{command_of}
 use Rattle.texts.specs.FirstEdition.{command_of as first_command_of}
 use Rattle.texts.proofs.ReadBefore.{reads_as_before, edition_spelled}
 use Rattle.rounds.specs.Tables.{Entrant, Table, replaced, correct_fault, close_fault}
-use Rattle.commands.specs.Accepted.{is_registered, Opened, opened, opening, scrambling, scramble_of, first_of, settled, one_value, values_after, entering, entrant_after, entrants_after, closing, settings_now, table_of, round_at, who_advance, round_in, round_of, edition_set, edition_after, edition_in, enter_refusal, is_moves, is_multi, is_wrong, lacks_scramble, scramble_refusal, unfit_refusal, entered_refusal, put_refusal, correct_code, correct_refusal, strike_refusal, advance_refusal, is_final, leads_on, has_too_few, end_refusal, close_refusal, is_cutoff, is_limit, refusal}
+use Rattle.commands.specs.Accepted.{scramble_by, is_registered, Opened, opened, opening, scrambling, scramble_of, first_of, settled, one_value, values_after, entering, entrant_after, entrants_after, closing, settings_now, table_of, round_at, who_advance, round_in, round_of, edition_set, edition_after, edition_in, enter_refusal, is_moves, is_multi, is_wrong, lacks_scramble, scramble_refusal, unfit_refusal, entered_refusal, put_refusal, correct_code, correct_refusal, strike_refusal, advance_refusal, is_final, leads_on, has_too_few, end_refusal, close_refusal, is_cutoff, is_limit, refusal}
 use Rattle.commands.specs.History.{History, nothing, answer_of, is_seen, added, spelled_refusal, read_refusal, added_read, entry_refusal, answer_to, after, history}
 use Rattle.commands.specs.FirstEdition as first
 use Rattle.commands.specs.EditionLaws.{IsWithoutSecond, AnswersAsBefore}
@@ -103,20 +104,20 @@ entered_one e x h =
 
 edition_least : (c : Command) → 1 ≤ edition_of c
 edition_least (Register n name) = omega arith
-edition_least (Open e r settings) = event_least e
+edition_least (Open id settings) = event_least id.event
 edition_least (Enter e n) = event_least e
-edition_least (Scramble e r k moves) = event_least e
-edition_least (Attempt e r k n x) =
-    let below = le-max_left (event_edition e) (entered_edition x) in
-    let least = event_least e in
+edition_least (Scramble id k moves) = event_least id.event
+edition_least (Attempt entry) =
+    let below = le-max_left (event_edition entry.id.event) (entered_edition entry.outcome) in
+    let least = event_least entry.id.event in
     omega (arith, below, least)
-edition_least (Correct e r k n x) =
-    let below = le-max_left (event_edition e) (entered_edition x) in
-    let least = event_least e in
+edition_least (Correct entry) =
+    let below = le-max_left (event_edition entry.id.event) (entered_edition entry.outcome) in
+    let least = event_least entry.id.event in
     omega (arith, below, least)
-edition_least (Strike e r n) = event_least e
-edition_least (SetAdvance e r advance) = event_least e
-edition_least (Close e r) = event_least e
+edition_least (Strike id n) = event_least id.event
+edition_least (SetAdvance id advance) = event_least id.event
+edition_least (Close id) = event_least id.event
 edition_least (SetEdition edition) = omega arith
 
 -- Commands
@@ -176,18 +177,26 @@ value_alike : (e : Event) (r : ℕ) (settings : Settings) (n : ℕ) (earlier : L
     (vs : List Value) (c : Command) → IsFirst c
     → first.one_value e r settings n earlier vs c ≡ one_value e r settings n earlier vs c
 value_alike e r settings n earlier vs (Register m name) h = refl
-value_alike e r settings n earlier vs (Open f s given) h = refl
+value_alike e r settings n earlier vs (Open id given) h = refl
 value_alike e r settings n earlier vs (Enter f m) h = refl
-value_alike e r settings n earlier vs (Scramble f s k moves) h = refl
-value_alike e r settings n earlier vs (Attempt f s k m x) h =
-    ap (λ (v : Value). cond (same_event e f && r == s && m == n) (vs ++ v ∷ []) vs)
-    (settled_alike settings (first_of (scrambling e r k) earlier) x (entered_one f x h.edition))
-value_alike e r settings n earlier vs (Correct f s k m x) h =
-    ap (λ (v : Value). cond (same_event e f && r == s && m == n) (replaced k v vs) vs)
-    (settled_alike settings (first_of (scrambling e r k) earlier) x (entered_one f x h.edition))
-value_alike e r settings n earlier vs (Strike f s m) h = refl
-value_alike e r settings n earlier vs (SetAdvance f s advance) h = refl
-value_alike e r settings n earlier vs (Close f s) h = refl
+value_alike e r settings n earlier vs (Scramble id k moves) h = refl
+value_alike e r settings n earlier vs (Attempt entry) h =
+    ap
+    (λ (v : Value).
+    cond (same_event e entry.id.event && r == entry.id.round && entry.number == n)
+    (vs ++ v ∷ []) vs)
+    (settled_alike settings (first_of (scrambling e r entry.attempt) earlier) entry.outcome
+    (entered_one entry.id.event entry.outcome h.edition))
+value_alike e r settings n earlier vs (Correct entry) h =
+    ap
+    (λ (v : Value).
+    cond (same_event e entry.id.event && r == entry.id.round && entry.number == n)
+    (replaced entry.attempt v vs) vs)
+    (settled_alike settings (first_of (scrambling e r entry.attempt) earlier) entry.outcome
+    (entered_one entry.id.event entry.outcome h.edition))
+value_alike e r settings n earlier vs (Strike id m) h = refl
+value_alike e r settings n earlier vs (SetAdvance id advance) h = refl
+value_alike e r settings n earlier vs (Close id) h = refl
 value_alike e r settings n earlier vs (SetEdition edition) h = refl
 
 values_alike : (e : Event) (r : ℕ) (settings : Settings) (n : ℕ) (earlier : List Command)
@@ -381,7 +390,8 @@ limit_alike measure.Moves limit timed = refl
 limit_alike measure.Multi limit timed = absurd (false≢true (sym timed))
 
 open_alike : (cs : List Command) (e : Event) (r : ℕ) (settings : Settings) → IsFirstEvent e
-    → AreFirst cs → first.refusal cs (Open e r settings) ≡ refusal cs (Open e r settings)
+    → AreFirst cs
+    → first.refusal cs (Open (round_id e r) settings) ≡ refusal cs (Open (round_id e r) settings)
 open_alike cs e r settings event h =
     ap
     (λ (x : Option (Settings × Table)).
@@ -429,37 +439,43 @@ known registered further = cond (not registered) (Some code.UnknownCompetitor) f
 refusal_alike : (cs : List Command) (c : Command) → AreFirst cs → IsFirst c
     → first.refusal cs c ≡ refusal cs c
 refusal_alike cs (Register n name) h is = refl
-refusal_alike cs (Open e r settings) h is =
-    open_alike cs e r settings (first_event e is.edition) h
+refusal_alike cs (Open id settings) h is =
+    open_alike cs id.event id.round settings (first_event id.event is.edition) h
 refusal_alike cs (Enter e n) h is =
     ap (λ (x : Option (Settings × Table)). known (is_registered cs n) (enter_refusal n x))
     (round_alike e 1 cs (first_event e is.edition) h)
-refusal_alike cs (Scramble e r k moves) h is =
-    let event = first_event e is.edition in
-    scramble_alike e k (scramble_of cs e r k) _ _ event (round_alike e r cs event h)
-refusal_alike cs (Attempt e r k n x) h is =
-    let event = first_event e (event_one e x is.edition) in
-    ap (known (is_registered cs n))
-    (entered_alike e x (scramble_of cs e r k) (put_refusal n k) (put_refusal n k) _ _ event
-    (entered_one e x is.edition) (λ round. refl) (round_alike e r cs event h))
-refusal_alike cs (Correct e r k n x) h is =
-    let event = first_event e (event_one e x is.edition) in
-    let one = entered_one e x is.edition in
-    ap (known (is_registered cs n))
-    (entered_alike e x (scramble_of cs e r k) (first.correct_refusal n k (scramble_of cs e r k) x)
-    (correct_refusal n k (scramble_of cs e r k) x) _ _ event one
+refusal_alike cs (Scramble id k moves) h is =
+    let event = first_event id.event is.edition in
+    scramble_alike id.event k (scramble_of cs id.event id.round k) _ _ event
+    (round_alike id.event id.round cs event h)
+refusal_alike cs (Attempt entry) h is =
+    let event = first_event entry.id.event (event_one entry.id.event entry.outcome is.edition) in
+    let table_refusal = put_refusal entry.number entry.attempt in
+    ap (known (is_registered cs entry.number))
+    (entered_alike entry.id.event entry.outcome (scramble_by cs entry) table_refusal table_refusal
+    _ _ event (entered_one entry.id.event entry.outcome is.edition) (λ round. refl)
+    (round_alike entry.id.event entry.id.round cs event h))
+refusal_alike cs (Correct entry) h is =
+    let event = first_event entry.id.event (event_one entry.id.event entry.outcome is.edition) in
+    let one = entered_one entry.id.event entry.outcome is.edition in
+    let scramble = scramble_by cs entry in
+    ap (known (is_registered cs entry.number))
+    (entered_alike entry.id.event entry.outcome scramble
+    (first.correct_refusal entry.number entry.attempt scramble entry.outcome)
+    (correct_refusal entry.number entry.attempt scramble entry.outcome) _ _ event one
     (λ round.
-    ap (λ (v : Value). option_map correct_code (correct_fault round.1 n k v))
-    (settled_alike round.0 (scramble_of cs e r k) x one))
-    (round_alike e r cs event h))
-refusal_alike cs (Strike e r n) h is =
+    ap (λ (v : Value). option_map correct_code (correct_fault round.1 entry.number entry.attempt v))
+    (settled_alike round.0 scramble entry.outcome one))
+    (round_alike entry.id.event entry.id.round cs event h))
+refusal_alike cs (Strike id n) h is =
     ap (λ (x : Option (Settings × Table)). known (is_registered cs n) (strike_refusal n x))
-    (round_alike e r cs (first_event e is.edition) h)
-refusal_alike cs (SetAdvance e r advance) h is =
-    ap advance_refusal (round_alike e r cs (first_event e is.edition) h)
-refusal_alike cs (Close e r) h is =
-    let event = first_event e is.edition in
-    close_alike (first.round_of cs e) (round_of cs e) (λ j. round_alike e j cs event h) r
+    (round_alike id.event id.round cs (first_event id.event is.edition) h)
+refusal_alike cs (SetAdvance id advance) h is =
+    ap advance_refusal (round_alike id.event id.round cs (first_event id.event is.edition) h)
+refusal_alike cs (Close id) h is =
+    let event = first_event id.event is.edition in
+    close_alike (first.round_of cs id.event) (round_of cs id.event)
+    (λ j. round_alike id.event j cs event h) id.round
 refusal_alike cs (SetEdition edition) h is =
     absurd (let bad : Some edition ≡ None = is.unset in cc)
 
@@ -468,14 +484,14 @@ refusal_alike cs (SetEdition edition) h is =
 unset : (text : List ℕ) (c : Command) → ¬ (text ≡ codes "EDITION 2") → command_of text ≡ Ok c
     → edition_set c ≡ None
 unset text (Register n name) other is = refl
-unset text (Open e r settings) other is = refl
+unset text (Open id settings) other is = refl
 unset text (Enter e n) other is = refl
-unset text (Scramble e r k moves) other is = refl
-unset text (Attempt e r k n x) other is = refl
-unset text (Correct e r k n x) other is = refl
-unset text (Strike e r n) other is = refl
-unset text (SetAdvance e r advance) other is = refl
-unset text (Close e r) other is = refl
+unset text (Scramble id k moves) other is = refl
+unset text (Attempt entry) other is = refl
+unset text (Correct entry) other is = refl
+unset text (Strike id n) other is = refl
+unset text (SetAdvance id advance) other is = refl
+unset text (Close id) other is = refl
 unset text (SetEdition edition) other is = absurd (other (edition_spelled text edition is))
 
 -- what a text comes to behind these commands, in edition 1 and in both

@@ -11,6 +11,7 @@ use Rattle.texts.specs.declared.command.Command.{Command}
 use Rattle.texts.specs.declared.command.Command.TheVariants.{Register, Open, Enter, Scramble, Attempt, Correct, Strike, SetAdvance, Close, SetEdition}
 use Rattle.texts.specs.declared.command.Entered.{Entered}
 use Rattle.texts.specs.declared.command.Settings.{Settings}
+use Rattle.texts.specs.Fields.{round_id, attempt_entry}
 use Rattle.rounds.specs.Tables.{Entrant, Table, replaced, without_last}
 use Rattle.formats.specs.declared.advance.Advance.{Advance}
 use Rattle.commands.specs.model.Kept.{with_attempt, with_correction, with_strike, with_advance, with_end, with_entry, newcomer, with_newcomers}
@@ -97,19 +98,19 @@ under_scramble e f r s k first cs o change is false here = refl
 
 -- an attempt adds a value in its round, and changes no other
 pub round_attempt : (e f : Event) (r s k m : ℕ) (x : Entered) (cs : List Command)
-    → round_of (cs ++ Attempt f s k m x ∷ []) e r
+    → round_of (cs ++ Attempt (attempt_entry (round_id f s) k m x) ∷ []) e r
     ≡ cond (same_event e f && r == s)
     (option_map (with_attempt m (scramble_of cs f s k) x) (round_of cs e r)) (round_of cs e r)
 round_attempt e f r s k m x cs =
-    round_changed e r cs (Attempt f s k m x) (same_event e f && r == s)
+    round_changed e r cs (Attempt (attempt_entry (round_id f s) k m x)) (same_event e f && r == s)
     (with_attempt m (scramble_of cs f s k) x) refl changes
   where
     changes : (o : Opened) (first : List ℕ) → opened e r [] cs ≡ Some o
-        → round_at e r first (plus_command (Attempt f s k m x) o)
+        → round_at e r first (plus_command (Attempt (attempt_entry (round_id f s) k m x)) o)
         ≡ cond (same_event e f && r == s)
         (with_attempt m (scramble_of cs f s k) x (round_at e r first o)) (round_at e r first o)
     changes o first is =
-        values_changed e r first (Attempt f s k m x) o m
+        values_changed e r first (Attempt (attempt_entry (round_id f s) k m x)) o m
         (λ vs. vs ++ settled o.settings (scramble_since e r k o) x ∷ []) (same_event e f && r == s)
         refl refl refl (λ y. refl)
         ∙ under_scramble e f r s k first cs o (λ scramble. with_attempt m scramble x) is
@@ -117,19 +118,19 @@ round_attempt e f r s k m x cs =
 
 -- a correction replaces a value in its round, and changes no other
 pub round_correct : (e f : Event) (r s k m : ℕ) (x : Entered) (cs : List Command)
-    → round_of (cs ++ Correct f s k m x ∷ []) e r
+    → round_of (cs ++ Correct (attempt_entry (round_id f s) k m x) ∷ []) e r
     ≡ cond (same_event e f && r == s)
     (option_map (with_correction m k (scramble_of cs f s k) x) (round_of cs e r)) (round_of cs e r)
 round_correct e f r s k m x cs =
-    round_changed e r cs (Correct f s k m x) (same_event e f && r == s)
+    round_changed e r cs (Correct (attempt_entry (round_id f s) k m x)) (same_event e f && r == s)
     (with_correction m k (scramble_of cs f s k) x) refl changes
   where
     changes : (o : Opened) (first : List ℕ) → opened e r [] cs ≡ Some o
-        → round_at e r first (plus_command (Correct f s k m x) o)
+        → round_at e r first (plus_command (Correct (attempt_entry (round_id f s) k m x)) o)
         ≡ cond (same_event e f && r == s)
         (with_correction m k (scramble_of cs f s k) x (round_at e r first o)) (round_at e r first o)
     changes o first is =
-        values_changed e r first (Correct f s k m x) o m
+        values_changed e r first (Correct (attempt_entry (round_id f s) k m x)) o m
         (λ vs. replaced k (settled o.settings (scramble_since e r k o) x) vs)
         (same_event e f && r == s) refl refl refl (λ y. refl)
         ∙ under_scramble e f r s k first cs o (λ scramble. with_correction m k scramble x) is
@@ -137,18 +138,18 @@ round_correct e f r s k m x cs =
 
 -- a strike removes a value in its round, and changes no other
 pub round_strike : (e f : Event) (r s m : ℕ) (cs : List Command)
-    → round_of (cs ++ Strike f s m ∷ []) e r
+    → round_of (cs ++ Strike (round_id f s) m ∷ []) e r
     ≡ cond (same_event e f && r == s) (option_map (with_strike m) (round_of cs e r))
     (round_of cs e r)
 round_strike e f r s m cs =
-    round_changed e r cs (Strike f s m) (same_event e f && r == s) (with_strike m) refl
+    round_changed e r cs (Strike (round_id f s) m) (same_event e f && r == s) (with_strike m) refl
     (λ o first is.
-    values_changed e r first (Strike f s m) o m without_last (same_event e f && r == s) refl refl
-    refl (λ y. refl))
+    values_changed e r first (Strike (round_id f s) m) o m without_last (same_event e f && r == s)
+    refl refl refl (λ y. refl))
 
 -- an advance that is given stands in its round, and in no other
 pub round_advance : (e f : Event) (r s : ℕ) (advance : Advance) (cs : List Command)
-    → round_of (cs ++ SetAdvance f s advance ∷ []) e r
+    → round_of (cs ++ SetAdvance (round_id f s) advance ∷ []) e r
     ≡ cond (same_event e f && r == s) (option_map (with_advance advance) (round_of cs e r))
     (round_of cs e r)
 round_advance e f r s advance cs =
@@ -156,7 +157,7 @@ round_advance e f r s advance cs =
     (λ o first is. changes o first)
   where
     c : Command
-    c = SetAdvance f s advance
+    c = SetAdvance (round_id f s) advance
 
     step : (o : Opened) (first : List ℕ) (b : Bool)
         → with_parts e r first o (unwrap_or (cond b (Some advance) None) (advance_of e r o))
@@ -185,13 +186,13 @@ round_advance e f r s advance cs =
 
 -- a closing closes its round, and no other
 pub round_close : (e f : Event) (r s : ℕ) (cs : List Command)
-    → round_of (cs ++ Close f s ∷ []) e r
+    → round_of (cs ++ Close (round_id f s) ∷ []) e r
     ≡ cond (same_event e f && r == s) (option_map with_end (round_of cs e r)) (round_of cs e r)
 round_close e f r s cs =
     round_changed e r cs c (same_event e f && r == s) with_end refl (λ o first is. changes o first)
   where
     c : Command
-    c = Close f s
+    c = Close (round_id f s)
 
     step : (o : Opened) (first : List ℕ) (b : Bool)
         → with_parts e r first o (advance_of e r o) (is_ended e r o || b)
@@ -266,9 +267,10 @@ round_register e r n name cs =
     round_same e r cs (Register n name) refl refl refl refl (λ settings earlier x. refl)
 
 pub round_scramble : (e f : Event) (r s k : ℕ) (moves : List Move) (cs : List Command)
-    → round_of (cs ++ Scramble f s k moves ∷ []) e r ≡ round_of cs e r
+    → round_of (cs ++ Scramble (round_id f s) k moves ∷ []) e r ≡ round_of cs e r
 round_scramble e f r s k moves cs =
-    round_same e r cs (Scramble f s k moves) refl refl refl refl (λ settings earlier x. refl)
+    round_same e r cs (Scramble (round_id f s) k moves) refl refl refl refl
+    (λ settings earlier x. refl)
 
 pub round_edition : (e : Event) (r edition : ℕ) (cs : List Command)
     → round_of (cs ++ SetEdition edition ∷ []) e r ≡ round_of cs e r
@@ -283,7 +285,7 @@ opening_table e r settings cs =
 -- an opening adds a round with those in it who advance from the one before, and changes no round
 -- that is open
 pub round_open : (e f : Event) (r s : ℕ) (settings : Settings) (cs : List Command) → 1 ≤ s
-    → round_of (cs ++ Open f s settings ∷ []) e r
+    → round_of (cs ++ Open (round_id f s) settings ∷ []) e r
     ≡ option_or (round_of cs e r)
     (cond (same_event e f && r == s) (Some (with_table settings (opening_table f s settings cs)))
     None)
@@ -292,7 +294,7 @@ round_open e f zero s settings cs low =
     let other : (same_event e f && 0 == s) ≡ false = grind (arith, nat_tests) in
     rw other refl
 round_open e f (suc r) s settings cs low =
-    ap (option_map at) (opened_push e (suc r) [] cs (Open f s settings))
+    ap (option_map at) (opened_push e (suc r) [] cs (Open (round_id f s) settings))
     ∙ step (opened e (suc r) [] cs) (same_event e f && suc r == s) refl
   where
     at : Opened → Settings × Table
@@ -317,12 +319,12 @@ round_open e f (suc r) s settings cs low =
 
     step : (x : Option Opened) (b : Bool) → (same_event e f && suc r == s) ≡ b
         → option_map at
-        (option_or (option_map (plus_command (Open f s settings)) x)
+        (option_or (option_map (plus_command (Open (round_id f s) settings)) x)
         (option_map (just_opened cs) (cond b (Some settings) None)))
         ≡ option_or (option_map at x)
         (cond b (Some (with_table settings (opening_table f s settings cs))) None)
     step None b h = fresh b h
     step (Some o) b h =
         ap Some
-        (still e (suc r) (who_advance (round_in e r o.before)) (Open f s settings) o refl refl refl
-        (λ settings earlier x. refl))
+        (still e (suc r) (who_advance (round_in e r o.before)) (Open (round_id f s) settings) o refl
+        refl refl (λ settings earlier x. refl))

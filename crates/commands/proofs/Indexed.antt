@@ -16,6 +16,7 @@ use Rattle.texts.specs.declared.command.Command.{Command}
 use Rattle.texts.specs.declared.command.Command.TheVariants.{Register, Open, Enter, Scramble, Attempt, Correct, Strike, SetAdvance, Close, SetEdition}
 use Rattle.texts.specs.declared.command.Entered.{Entered}
 use Rattle.texts.specs.declared.command.Settings.{Settings}
+use Rattle.texts.specs.Fields.{round_id, attempt_entry}
 use Rattle.commands.specs.declared.kept_rounds.KeptRound.{KeptRound}
 use Rattle.commands.specs.declared.index.Index.{Index}
 use Rattle.rounds.specs.Tables.{Table, close_fault}
@@ -126,10 +127,11 @@ pub attempted : (cs : List Command) (e : Event) (r k n : ℕ) (x : Entered) (ref
     (ChangesRound e r (with_attempt n (scramble_of cs e r k) x) old.rounds.opened.items
     new.rounds.opened.items)
     → OnSome refused (new.rounds.opened.items ≡ old.rounds.opened.items)
-    → IsIndexOf (cs ++ added refused (Attempt e r k n x)) new
+    → IsIndexOf (cs ++ added refused (Attempt (attempt_entry (round_id e r) k n x))) new
 attempted cs e r k n x refused old new is same done unchanged =
-    changed_or cs (Attempt e r k n x) e r (with_attempt n (scramble_of cs e r k) x) refused old new
-    is (λ m. refl) (λ name. refl) (λ f s j. refl) (λ f s. round_attempt f e s r k n x cs) same done
+    changed_or cs (Attempt (attempt_entry (round_id e r) k n x)) e r
+    (with_attempt n (scramble_of cs e r k) x) refused old new is (λ m. refl) (λ name. refl)
+    (λ f s j. refl) (λ f s. round_attempt f e s r k n x cs) same done
     unchanged
 
 -- an entry, which the rounds note
@@ -153,10 +155,11 @@ pub corrected : (cs : List Command) (e : Event) (r k n : ℕ) (x : Entered) (ref
     (ChangesRound e r (with_correction n k (scramble_of cs e r k) x) old.rounds.opened.items
     new.rounds.opened.items)
     → OnSome refused (new.rounds.opened.items ≡ old.rounds.opened.items)
-    → IsIndexOf (cs ++ added refused (Correct e r k n x)) new
+    → IsIndexOf (cs ++ added refused (Correct (attempt_entry (round_id e r) k n x))) new
 corrected cs e r k n x refused old new is same done unchanged =
-    changed_or cs (Correct e r k n x) e r (with_correction n k (scramble_of cs e r k) x) refused old
-    new is (λ m. refl) (λ name. refl) (λ f s j. refl) (λ f s. round_correct f e s r k n x cs) same
+    changed_or cs (Correct (attempt_entry (round_id e r) k n x)) e r
+    (with_correction n k (scramble_of cs e r k) x) refused old new is (λ m. refl) (λ name. refl)
+    (λ f s j. refl) (λ f s. round_correct f e s r k n x cs) same
     done unchanged
 
 -- a strike, which the rounds note
@@ -166,9 +169,10 @@ pub stricken : (cs : List Command) (e : Event) (r n : ℕ) (refused : Option Cod
     → IfNone refused
     (ChangesRound e r (with_strike n) old.rounds.opened.items new.rounds.opened.items)
     → OnSome refused (new.rounds.opened.items ≡ old.rounds.opened.items)
-    → IsIndexOf (cs ++ added refused (Strike e r n)) new
+    → IsIndexOf (cs ++ added refused (Strike (round_id e r) n)) new
 stricken cs e r n refused old new is same done unchanged =
-    changed_or cs (Strike e r n) e r (with_strike n) refused old new is (λ m. refl) (λ name. refl)
+    changed_or cs (Strike (round_id e r) n) e r (with_strike n) refused old new is (λ m. refl)
+    (λ name. refl)
     (λ f s j. refl) (λ f s. round_strike f e s r n cs) same done unchanged
 
 -- another advance, which the rounds note
@@ -179,10 +183,11 @@ pub advanced : (cs : List Command) (e : Event) (r : ℕ) (advance : Advance) (re
     → IfNone refused
     (ChangesRound e r (with_advance advance) old.rounds.opened.items new.rounds.opened.items)
     → OnSome refused (new.rounds.opened.items ≡ old.rounds.opened.items)
-    → IsIndexOf (cs ++ added refused (SetAdvance e r advance)) new
+    → IsIndexOf (cs ++ added refused (SetAdvance (round_id e r) advance)) new
 advanced cs e r advance refused old new is same done unchanged =
-    changed_or cs (SetAdvance e r advance) e r (with_advance advance) refused old new is (λ m. refl)
-    (λ name. refl) (λ f s j. refl) (λ f s. round_advance f e s r advance cs) same done unchanged
+    changed_or cs (SetAdvance (round_id e r) advance) e r (with_advance advance) refused old new is
+    (λ m. refl) (λ name. refl) (λ f s j. refl) (λ f s. round_advance f e s r advance cs)
+    same done unchanged
 
 -- a closing, which the rounds note
 pub ended : (cs : List Command) (e : Event) (r : ℕ) (refused : Option Code) (old new : Index)
@@ -190,9 +195,9 @@ pub ended : (cs : List Command) (e : Event) (r : ℕ) (refused : Option Code) (o
     → new.competitors ≡ old.competitors
     → IfNone refused (ChangesRound e r with_end old.rounds.opened.items new.rounds.opened.items)
     → OnSome refused (new.rounds.opened.items ≡ old.rounds.opened.items)
-    → IsIndexOf (cs ++ added refused (Close e r)) new
+    → IsIndexOf (cs ++ added refused (Close (round_id e r))) new
 ended cs e r refused old new is same done unchanged =
-    changed_or cs (Close e r) e r with_end refused old new is (λ m. refl) (λ name. refl)
+    changed_or cs (Close (round_id e r)) e r with_end refused old new is (λ m. refl) (λ name. refl)
     (λ f s j. refl) (λ f s. round_close f e s r cs) same done unchanged
 
 any_alike : (p q : ℕ → Bool) → ((n : ℕ) → p n ≡ q n) → (ns : List ℕ) → list_any p ns ≡ list_any q ns
@@ -228,12 +233,12 @@ pub opened : (cs : List Command) (e : Event) (r : ℕ) (settings : Settings) (ol
     (with_newcomers (new_table e settings)
     (who_advance (kept_round e (r - 1) old.rounds.opened.items))))
     old.rounds.opened.items new.rounds.opened.items
-    → IsIndexOf (cs ++ Open e r settings ∷ []) new
+    → IsIndexOf (cs ++ Open (round_id e r) settings ∷ []) new
 opened cs e r settings old new is low same adds = record {
   competitors =
       rw same
-      (AreCompetitors-other cs (Open e r settings) old.competitors (λ m. refl) (λ name. refl)
-      is.competitors);
+      (AreCompetitors-other cs (Open (round_id e r) settings) old.competitors (λ m. refl)
+      (λ name. refl) is.competitors);
   rounds = record {
     rounds = λ f s.
         adds.rounds f s
@@ -255,8 +260,8 @@ opened cs e r settings old new is low same adds = record {
         (is.rounds.rounds e (r - 1))
         ∙ sym (round_open f e s r settings cs low);
     scrambles =
-        scrambles_kept cs (Open e r settings) old.rounds.opened.items new.rounds.opened.items
-        is.rounds (λ f s k. refl) adds.scrambles;
+        scrambles_kept cs (Open (round_id e r) settings) old.rounds.opened.items
+        new.rounds.opened.items is.rounds (λ f s k. refl) adds.scrambles;
   };
 }
 
@@ -285,14 +290,14 @@ scrambles_set : (cs : List Command) (e : Event) (r k : ℕ) (moves : List Move)
     (old new : List KeptRound)
     → AreRounds cs old → 1 ≤ k → scramble_of cs e r k ≡ None
     → AddsScramble e r k (length cs) old new → (f : Event) (s j : ℕ) → 1 ≤ j
-    → option_and_then (scramble_at (cs ++ Scramble e r k moves ∷ []) f s j)
+    → option_and_then (scramble_at (cs ++ Scramble (round_id e r) k moves ∷ []) f s j)
     (kept_scramble f s j new)
-    ≡ scramble_of (cs ++ Scramble e r k moves ∷ []) f s j
+    ≡ scramble_of (cs ++ Scramble (round_id e r) k moves ∷ []) f s j
 scrambles_set cs e r k moves old new are low absent adds f s j one =
     step (same_event f e && s == r && j == k) refl
   where
     c : Command
-    c = Scramble e r k moves
+    c = Scramble (round_id e r) k moves
 
     step : (b : Bool) → (same_event f e && s == r && j == k) ≡ b
         → option_and_then (scramble_at (cs ++ c ∷ []) f s j) (kept_scramble f s j new)
@@ -333,12 +338,12 @@ pub scrambled : (cs : List Command) (e : Event) (r k : ℕ) (moves : List Move)
     → IfNone refused
     (AddsScramble e r k (length cs) old.rounds.opened.items new.rounds.opened.items)
     → OnSome refused (new.rounds.opened.items ≡ old.rounds.opened.items)
-    → IsIndexOf (cs ++ added refused (Scramble e r k moves)) new
+    → IsIndexOf (cs ++ added refused (Scramble (round_id e r) k moves)) new
 scrambled cs e r k moves None old new is low allowed same done unchanged = record {
   competitors =
       rw same
-      (AreCompetitors-other cs (Scramble e r k moves) old.competitors (λ m. refl) (λ name. refl)
-      is.competitors);
+      (AreCompetitors-other cs (Scramble (round_id e r) k moves) old.competitors (λ m. refl)
+      (λ name. refl) is.competitors);
   rounds = record {
     rounds =
         λ f s. done.rounds f s ∙ is.rounds.rounds f s ∙ sym (round_scramble f e s r k moves cs);

@@ -39,7 +39,7 @@ find_same p q h (x ∷ xs) = rw (h x, find_same p q h xs) refl
 -- the changed round is the one of its event and number, and no other
 changed_round : (e f : Event) (r s : ℕ) (xs : List KeptRound) (i : ℕ) (old new : KeptRound)
     → i ≡ position_or_len (is_round e r) xs → i < length xs → slice_get xs i ≡ Some old
-    → is_round e r old ≡ true → new.event ≡ old.event → new.round ≡ old.round
+    → is_round e r old ≡ true → new.id.event ≡ old.id.event → new.id.round ≡ old.id.round
     → find (is_round f s) (set xs i new)
     ≡ cond (same_event f e && s == r) (Some new) (find (is_round f s) xs)
 changed_round e f r s xs i old new at within is here event round =
@@ -82,8 +82,8 @@ kept_at e r xs = tell (position p xs) (found_at p xs)
           changed =
               λ d x event round f s.
               changed_round e f r s xs i h.item x h.first within h.at h.passes
-              (event ∙ ap (λ (y : KeptRound). y.event) (same d))
-              (round ∙ ap (λ (y : KeptRound). y.round) (same d));
+              (event ∙ ap (λ (y : KeptRound). y.id.event) (same d))
+              (round ∙ ap (λ (y : KeptRound). y.id.round) (same d));
         }
 
 -- a round is kept alike for events of one number
@@ -107,7 +107,7 @@ slot k places = get_or places (k - 1) None
 pub round_changed_at : (xs : List KeptRound) (e : Event) (r i : ℕ) (d new : KeptRound)
     (change : Settings × Table → Settings × Table)
     → IsKeptAt xs e r i
-    → new.event ≡ (get_or xs i d).event → new.round ≡ (get_or xs i d).round
+    → new.id.event ≡ (get_or xs i d).id.event → new.id.round ≡ (get_or xs i d).id.round
     → new.scrambles ≡ (get_or xs i d).scrambles
     → (let round : Settings × Table = (new.settings, new.table) in round)
     ≡ change ((get_or xs i d).settings, (get_or xs i d).table)
@@ -137,7 +137,7 @@ round_changed_at xs e r i d new change at event round scrambles is = record {
 -- the scramble of an attempt of the round at a place is set
 pub scramble_set_at : (xs : List KeptRound) (e : Event) (r k place i : ℕ) (d new : KeptRound)
     → IsKeptAt xs e r i → 1 ≤ k → k - 1 < length (get_or xs i d).scrambles
-    → new.event ≡ (get_or xs i d).event → new.round ≡ (get_or xs i d).round
+    → new.id.event ≡ (get_or xs i d).id.event → new.id.round ≡ (get_or xs i d).id.round
     → new.scrambles ≡ set (get_or xs i d).scrambles (k - 1) (Some place)
     → (let round : Settings × Table = (new.settings, new.table) in round)
     ≡ ((get_or xs i d).settings, (get_or xs i d).table)
@@ -178,7 +178,7 @@ scramble_set_at xs e r k place i d new at low room event round scrambles is = re
 -- a round that is pushed is added
 pub round_pushed : (xs : List KeptRound) (new : KeptRound) (e : Event) (r : ℕ)
     (round : Settings × Table)
-    → new.event ≡ e → new.round ≡ r → kept_value new ≡ round
+    → new.id.event ≡ e → new.id.round ≡ r → kept_value new ≡ round
     → ((k : ℕ) → place_in k new ≡ None) → AddsRound e r round xs (xs ++ new ∷ [])
 round_pushed xs new e r round event number is empty = record {
   rounds =
@@ -232,14 +232,14 @@ all_free k = free (k - 1)
 pub round_changed_to : (xs : List KeptRound) (e : Event) (r i : ℕ) (old new : KeptRound)
     (change : Settings × Table → Settings × Table)
     → IsKeptAt xs e r i → old ≡ get_or xs i old
-    → new.event ≡ old.event → new.round ≡ old.round → new.scrambles ≡ old.scrambles
+    → new.id.event ≡ old.id.event → new.id.round ≡ old.id.round → new.scrambles ≡ old.scrambles
     → (let round : Settings × Table = (new.settings, new.table) in round)
     ≡ change (old.settings, old.table)
     → ChangesRound e r change xs (set xs i new)
 round_changed_to xs e r i old new change at there event round scrambles is =
     round_changed_at xs e r i old new change at
-    (event ∙ ap (λ (y : KeptRound). y.event) there)
-    (round ∙ ap (λ (y : KeptRound). y.round) there)
+    (event ∙ ap (λ (y : KeptRound). y.id.event) there)
+    (round ∙ ap (λ (y : KeptRound). y.id.round) there)
     (scrambles ∙ ap (λ (y : KeptRound). y.scrambles) there)
     (is ∙ ap (λ (y : KeptRound). change (y.settings, y.table)) there)
 

@@ -185,7 +185,8 @@ entrants_more e r first o c =
     last = option_to_list (option_map newcomer (entering e r c))
 
 -- a round with another advance, closed or not, and other entrants
-abbrev pub with_parts : Event → ℕ → List ℕ → Opened → Advance → Bool → List Entrant → Settings × Table
+abbrev pub with_parts : Event → ℕ → List ℕ → Opened → Advance → Bool → List Entrant
+    → Settings × Table
 with_parts e r first o advance closed es = (
   record o.settings { advance = advance },
   record (table_of e r first o) { is_closed = closed; entrants = es },
@@ -252,7 +253,8 @@ pub map_same : {X : Type 0} (f : X → X) → ((x : X) → f x ≡ x) → (xs : 
 map_same f h [] = refl
 map_same f h (x ∷ xs) = rw (h x, map_same f h xs) refl
 
-pub map_alike : {X : Type 0} (f g : X → X) → ((x : X) → f x ≡ g x) → (xs : List X) → map f xs ≡ map g xs
+pub map_alike : {X : Type 0} (f g : X → X) → ((x : X) → f x ≡ g x) → (xs : List X)
+    → map f xs ≡ map g xs
 map_alike f g h [] = refl
 map_alike f g h (x ∷ xs) = rw (h x, map_alike f g h xs) refl
 
@@ -272,7 +274,8 @@ same_entrants e r first o c nobody keeps =
     ∙ map_same (one_more e r o.settings o.since c) (keeps o.settings o.since)
     (table_of e r first o).entrants)
 
-pub still : (e : Event) (r : ℕ) (first : List ℕ) (c : Command) (o : Opened) → advance_given e r c ≡ None
+pub still : (e : Event) (r : ℕ) (first : List ℕ) (c : Command) (o : Opened)
+    → advance_given e r c ≡ None
     → closing e r c ≡ false → entering e r c ≡ None → KeepsValues e r c
     → round_at e r first (plus_command c o) ≡ round_at e r first o
 still e r first c o none stays nobody keeps =

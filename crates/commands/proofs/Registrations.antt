@@ -33,14 +33,14 @@ others_have (Register m given ∷ cs) n name none = step (m == n) none (λ h. ot
         ≡ (bytes_eq name given || list_any (has_name name) cs)
     step true h later = absurd (some≢none given h)
     step false h later = ap (λ (b : Bool). bytes_eq name given || b) (later h)
-others_have (Open e r settings ∷ cs) n name none = others_have cs n name none
+others_have (Open id settings ∷ cs) n name none = others_have cs n name none
 others_have (Enter e m ∷ cs) n name none = others_have cs n name none
-others_have (Scramble e r k moves ∷ cs) n name none = others_have cs n name none
-others_have (Attempt e r k m x ∷ cs) n name none = others_have cs n name none
-others_have (Correct e r k m x ∷ cs) n name none = others_have cs n name none
-others_have (Strike e r m ∷ cs) n name none = others_have cs n name none
-others_have (SetAdvance e r advance ∷ cs) n name none = others_have cs n name none
-others_have (Close e r ∷ cs) n name none = others_have cs n name none
+others_have (Scramble id k moves ∷ cs) n name none = others_have cs n name none
+others_have (Attempt entry ∷ cs) n name none = others_have cs n name none
+others_have (Correct entry ∷ cs) n name none = others_have cs n name none
+others_have (Strike id m ∷ cs) n name none = others_have cs n name none
+others_have (SetAdvance id advance ∷ cs) n name none = others_have cs n name none
+others_have (Close id ∷ cs) n name none = others_have cs n name none
 others_have (SetEdition e ∷ cs) n name none = others_have cs n name none
 
 -- a command that gives nobody a name leaves the competitors as they are

@@ -34,7 +34,7 @@ use Rattle.texts.specs.declared.reading.CommandFault.{CommandFault}
 use Rattle.texts.specs.Spelling.{IsFit, IsFitSettings, IsFitAdvance, IsEntered}
 use Rattle.texts.specs.Reading.{command_of}
 use Rattle.texts.specs.Editions.{edition_of}
-use Rattle.commands.specs.Accepted.{name_given, name_of, is_registered, settled, edition_in, who_advance, round_in, round_of, refusal, enter_code, enter_refusal, scramble_of}
+use Rattle.commands.specs.Accepted.{is_of, scramble_by, name_given, name_of, is_registered, settled, edition_in, who_advance, round_in, round_of, refusal, enter_code, enter_refusal}
 use Rattle.commands.specs.model.Kept.{with_attempt, with_correction, with_strike, with_advance, with_end, with_entry, newcomer}
 use Rattle.commands.specs.History.{History, nothing, is_seen, added_read, spelled_refusal, read_refusal, after, history}
 use Rattle.commands.proofs.Lookups.{first_push}
@@ -447,53 +447,59 @@ small_more : (cs : List Command) (c : Command) → IsFit c → refusal cs c ≡ 
 small_more cs (Register n name) fits allowed h =
     small_with cs (Register n name) (register_small n name (name_short name fits.1))
     (λ e r. round_is r _ _ (round_register e r n name cs) (h.rounds e r)) h
-small_more cs (Open f s settings) fits allowed h =
-    small_with cs (Open f s settings) (λ n. tt)
+small_more cs (Open id settings) fits allowed h =
+    small_with cs (Open id settings) (λ n. tt)
     (λ e r.
-    round_is r _ _ (round_open e f r s settings cs fits.0.0)
+    round_is r _ _ (round_open e id.event r id.round settings cs fits.0.0)
     (either (IsSmallRound r) _ _ (h.rounds e r)
-    (opened_small cs e f r s settings fits.0.1 fits.1 h)))
+    (opened_small cs e id.event r id.round settings fits.0.1 fits.1 h)))
     h
 small_more cs (Enter f n) fits allowed h =
     let free = enters n (is_registered cs n) (round_of cs f 1) allowed in
     small_with cs (Enter f n) (λ m. tt)
     (λ e r. round_is r _ _ (round_enter e f r n cs) (entered_small cs e f r n fits.1 free h)) h
-small_more cs (Scramble f s k moves) fits allowed h =
-    small_with cs (Scramble f s k moves) (λ n. tt)
-    (λ e r. round_is r _ _ (round_scramble e f r s k moves cs) (h.rounds e r)) h
-small_more cs (Attempt f s k m x) fits allowed h =
-    small_with cs (Attempt f s k m x) (λ n. tt)
+small_more cs (Scramble id k moves) fits allowed h =
+    small_with cs (Scramble id k moves) (λ n. tt)
+    (λ e r. round_is r _ _ (round_scramble e id.event r id.round k moves cs) (h.rounds e r)) h
+small_more cs (Attempt entry) fits allowed h =
+    let scramble = scramble_by cs entry in
+    small_with cs (Attempt entry) (λ n. tt)
     (λ e r.
-    round_is r _ _ (round_attempt e f r s k m x cs)
-    (changed r (same_event e f && r == s) (with_attempt m (scramble_of cs f s k) x)
-    (round_of cs e r) (h.rounds e r) (attempt_small r m (scramble_of cs f s k) x fits.3)))
+    round_is r _ _
+    (round_attempt e entry.id.event r entry.id.round entry.attempt entry.number entry.outcome cs)
+    (changed r (is_of e r entry.id) (with_attempt entry.number scramble entry.outcome)
+    (round_of cs e r) (h.rounds e r)
+    (attempt_small r entry.number scramble entry.outcome fits.3)))
     h
-small_more cs (Correct f s k m x) fits allowed h =
-    small_with cs (Correct f s k m x) (λ n. tt)
+small_more cs (Correct entry) fits allowed h =
+    let scramble = scramble_by cs entry in
+    small_with cs (Correct entry) (λ n. tt)
     (λ e r.
-    round_is r _ _ (round_correct e f r s k m x cs)
-    (changed r (same_event e f && r == s) (with_correction m k (scramble_of cs f s k) x)
-    (round_of cs e r) (h.rounds e r) (correction_small r m k (scramble_of cs f s k) x fits.3)))
+    round_is r _ _
+    (round_correct e entry.id.event r entry.id.round entry.attempt entry.number entry.outcome cs)
+    (changed r (is_of e r entry.id)
+    (with_correction entry.number entry.attempt scramble entry.outcome) (round_of cs e r)
+    (h.rounds e r) (correction_small r entry.number entry.attempt scramble entry.outcome fits.3)))
     h
-small_more cs (Strike f s m) fits allowed h =
-    small_with cs (Strike f s m) (λ n. tt)
+small_more cs (Strike id m) fits allowed h =
+    small_with cs (Strike id m) (λ n. tt)
     (λ e r.
-    round_is r _ _ (round_strike e f r s m cs)
-    (changed r (same_event e f && r == s) (with_strike m) (round_of cs e r) (h.rounds e r)
+    round_is r _ _ (round_strike e id.event r id.round m cs)
+    (changed r (is_of e r id) (with_strike m) (round_of cs e r) (h.rounds e r)
     (strike_small r m)))
     h
-small_more cs (SetAdvance f s advance) fits allowed h =
-    small_with cs (SetAdvance f s advance) (λ n. tt)
+small_more cs (SetAdvance id advance) fits allowed h =
+    small_with cs (SetAdvance id advance) (λ n. tt)
     (λ e r.
-    round_is r _ _ (round_advance e f r s advance cs)
-    (changed r (same_event e f && r == s) (with_advance advance) (round_of cs e r) (h.rounds e r)
+    round_is r _ _ (round_advance e id.event r id.round advance cs)
+    (changed r (is_of e r id) (with_advance advance) (round_of cs e r) (h.rounds e r)
     (advance_small r advance fits.1)))
     h
-small_more cs (Close f s) fits allowed h =
-    small_with cs (Close f s) (λ n. tt)
+small_more cs (Close id) fits allowed h =
+    small_with cs (Close id) (λ n. tt)
     (λ e r.
-    round_is r _ _ (round_close e f r s cs)
-    (changed r (same_event e f && r == s) with_end (round_of cs e r) (h.rounds e r) (end_small r)))
+    round_is r _ _ (round_close e id.event r id.round cs)
+    (changed r (is_of e r id) with_end (round_of cs e r) (h.rounds e r) (end_small r)))
     h
 small_more cs (SetEdition edition) fits allowed h =
     small_with cs (SetEdition edition) (λ n. tt)

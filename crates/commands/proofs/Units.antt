@@ -1,6 +1,5 @@
 -- What is entered in a round is of the unit of its event.
-use Rattle.std.proofs.Common.{◌≡◌, ℕ, zero, suc, Bool, true, false, not, cond, List, [], Option, Some, None, IfSome, option_map, is_some, refl, sym, ap, ◌∙◌, subst}
-use Rattle.std.specs.Option.{option_or}
+use Rattle.std.proofs.Common.{◌≡◌, ℕ, zero, suc, Bool, true, false, not, cond, List, [], Option, Some, None, option_map, is_some, refl, sym, ap, subst}
 use Rattle.std.proofs.lemmas.Bool.{false≢true}
 use Rattle.cube.specs.declared.moves.Move.{Move}
 use Rattle.attempts.specs.declared.Outcome.{Outcome}
@@ -9,7 +8,6 @@ use Rattle.attempts.specs.declared.Unit.TheVariants as measure
 use Rattle.attempts.specs.Attempts.{IsOutcomeOf}
 use Rattle.formats.specs.declared.events.Event.{Event}
 use Rattle.formats.specs.Events.{unit_of}
-use Rattle.texts.specs.declared.answer.Code.{Code}
 use Rattle.texts.specs.declared.answer.Code.TheVariants as code
 use Rattle.texts.specs.declared.command.Command.{Command}
 use Rattle.texts.specs.declared.command.Entered.{Entered}
@@ -17,7 +15,6 @@ use Rattle.texts.specs.declared.command.Settings.{Settings}
 use Rattle.rounds.specs.Tables.{Table}
 use Rattle.commands.specs.Accepted.{Opened, opened, round_at, who_advance, round_in, round_of, is_multi, is_wrong, lacks_scramble, unfit_refusal}
 use Rattle.commands.specs.declared.index.Index.{Index}
-use Rattle.commands.specs.declared.kept_rounds.KeptRound.{KeptRound}
 use Rattle.commands.specs.model.Kept.{kept_round, IsIndexOf, HasUnit}
 
 pub multi_unit : (unit : Measure) → not (is_multi unit) ≡ false → unit ≡ measure.Multi

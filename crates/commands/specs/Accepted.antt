@@ -16,6 +16,8 @@ use Rattle.formats.specs.declared.events.Format.{Format}
 use Rattle.formats.specs.Events.{same_event, unit_of, is_allowed, attempts_of}
 use Rattle.texts.specs.declared.command.Command.{Command}
 use Rattle.texts.specs.declared.command.Command.TheVariants.{Register, Open, Enter, Scramble, Attempt, Correct, Strike, SetAdvance, Close, SetEdition}
+use Rattle.texts.specs.declared.command.RoundId.{RoundId}
+use Rattle.texts.specs.declared.command.AttemptEntry.{AttemptEntry}
 use Rattle.texts.specs.declared.command.Entered.{Entered}
 use Rattle.texts.specs.declared.command.Entered.TheVariants as entered
 use Rattle.texts.specs.declared.command.Settings.{Settings}
@@ -62,6 +64,10 @@ names_other n name _ = false
 
 -- Rounds
 
+-- a round is that of an event and a number
+abbrev pub is_of : Event → ℕ → RoundId → Bool
+is_of e r id = same_event e id.event && r == id.round
+
 -- a round that was opened: the commands before its opening, the settings that it was opened with,
 -- and the commands since
 pub record Opened : Type 0 where
@@ -71,7 +77,7 @@ pub record Opened : Type 0 where
 
 -- the settings with which a command opens a round
 abbrev pub opening : Event → ℕ → Command → Option Settings
-opening e r (Open f s settings) = if same_event e f && r == s then Some settings else None
+opening e r (Open id settings) = if is_of e r id then Some settings else None
 opening e r _ = None
 
 -- a round as the first command to open it opened it; `earlier` are the commands in front of these
@@ -87,8 +93,7 @@ opened e r earlier (c ∷ cs) =
 
 -- the scramble that a command sets for an attempt
 abbrev pub scrambling : Event → ℕ → ℕ → Command → Option (List Move)
-scrambling e r k (Scramble f s j moves) =
-    if same_event e f && r == s && k == j then Some moves else None
+scrambling e r k (Scramble id j moves) = if is_of e r id && k == j then Some moves else None
 scrambling e r k _ = None
 
 -- the scramble of an attempt: the first that was set for it since its round was opened
@@ -97,6 +102,10 @@ scramble_since e r k o = first_of (scrambling e r k) o.since
 
 abbrev pub scramble_of : List Command → Event → ℕ → ℕ → Option (List Move)
 scramble_of cs e r k = option_and_then (scramble_since e r k) (opened e r [] cs)
+
+-- the scramble of the attempt for which something is entered
+abbrev pub scramble_by : List Command → AttemptEntry → Option (List Move)
+scramble_by cs entry = scramble_of cs entry.id.event entry.id.round entry.attempt
 
 -- the outcome of a solution under a scramble; without a scramble no solution is taken
 abbrev pub solved_under : Option (List Move) → List Move → Outcome
@@ -121,17 +130,22 @@ abbrev pub entering : Event → ℕ → Command → Option ℕ
 entering e r (Enter f n) = if same_event e f && r == 1 then Some n else None
 entering e r _ = None
 
+-- the value that is entered for an attempt, under the scramble that these commands set for it
+abbrev pub value_entered : Event → ℕ → Settings → List Command → AttemptEntry → Value
+value_entered e r settings earlier entry =
+    settled settings (first_of (scrambling e r entry.attempt) earlier) entry.outcome
+
 -- the values of a number after one more command; `earlier` are the commands between the opening and
 -- this one
 abbrev pub one_value : Event → ℕ → Settings → ℕ → List Command → List Value → Command → List Value
-one_value e r settings n earlier values (Attempt f s k m x) =
-    if same_event e f && r == s && m == n
-    then values ++ settled settings (first_of (scrambling e r k) earlier) x ∷ [] else values
-one_value e r settings n earlier values (Correct f s k m x) =
-    if same_event e f && r == s && m == n
-    then replaced k (settled settings (first_of (scrambling e r k) earlier) x) values else values
-one_value e r settings n earlier values (Strike f s m) =
-    if same_event e f && r == s && m == n then without_last values else values
+one_value e r settings n earlier values (Attempt entry) =
+    if is_of e r entry.id && entry.number == n
+    then values ++ value_entered e r settings earlier entry ∷ [] else values
+one_value e r settings n earlier values (Correct entry) =
+    if is_of e r entry.id && entry.number == n
+    then replaced entry.attempt (value_entered e r settings earlier entry) values else values
+one_value e r settings n earlier values (Strike id m) =
+    if is_of e r id && m == n then without_last values else values
 one_value e r settings n earlier values _ = values
 
 -- the values of a number after more commands, one after the other
@@ -156,12 +170,12 @@ entrants_after e r settings earlier (c ∷ cs) =
 
 -- a command closes a round
 abbrev pub closing : Event → ℕ → Command → Bool
-closing e r (Close f s) = same_event e f && r == s
+closing e r (Close id) = is_of e r id
 closing e r _ = false
 
 -- the advance that a command gives a round
 abbrev pub advance_given : Event → ℕ → Command → Option Advance
-advance_given e r (SetAdvance f s advance) = if same_event e f && r == s then Some advance else None
+advance_given e r (SetAdvance id advance) = if is_of e r id then Some advance else None
 advance_given e r _ = None
 
 -- the advance after more commands: the last that was given
@@ -205,6 +219,10 @@ round_in e (suc r) cs =
 
 abbrev pub round_of : List Command → Event → ℕ → Option (Settings × Table)
 round_of cs e r = round_in e r cs
+
+-- the same, of a round by its event and number together
+abbrev pub round_by : List Command → RoundId → Option (Settings × Table)
+round_by cs id = round_of cs id.event id.round
 
 -- Editions
 
@@ -388,29 +406,33 @@ refusal cs (Register n name) =
     if is_registered cs n then Some code.Already
     else if list_any (names_other n name) cs then Some code.NameTaken
     else None
-refusal cs (Open e r settings) =
-    if is_some (round_of cs e r) then Some code.RoundOpen
-    else if nat_lt 1 r && not (leads_on (round_of cs e (r - 1))) then Some code.RoundUnknown
-    else if not (is_allowed e settings.format) then Some code.FormatNotAllowed
-    else if not (is_cutoff (unit_of e) settings.format settings.cutoff)
+refusal cs (Open id settings) =
+    if is_some (round_by cs id) then Some code.RoundOpen
+    else if nat_lt 1 id.round && not (leads_on (round_of cs id.event (id.round - 1)))
+    then Some code.RoundUnknown
+    else if not (is_allowed id.event settings.format) then Some code.FormatNotAllowed
+    else if not (is_cutoff (unit_of id.event) settings.format settings.cutoff)
     then Some code.CutoffNotAllowed
-    else if not (is_limit (unit_of e) settings.limit) then Some code.LimitNotAllowed
+    else if not (is_limit (unit_of id.event) settings.limit) then Some code.LimitNotAllowed
     else None
 refusal cs (Enter e n) =
     if not (is_registered cs n) then Some code.UnknownCompetitor
     else enter_refusal n (round_of cs e 1)
-refusal cs (Scramble e r k moves) = scramble_refusal e k (scramble_of cs e r k) (round_of cs e r)
-refusal cs (Attempt e r k n x) =
+refusal cs (Scramble id k moves) =
+    scramble_refusal id.event k (scramble_of cs id.event id.round k) (round_by cs id)
+refusal cs (Attempt entry) =
+    if not (is_registered cs entry.number) then Some code.UnknownCompetitor
+    else entered_refusal entry.id.event entry.outcome (scramble_by cs entry)
+    (put_refusal entry.number entry.attempt) (round_by cs entry.id)
+refusal cs (Correct entry) =
+    if not (is_registered cs entry.number) then Some code.UnknownCompetitor
+    else entered_refusal entry.id.event entry.outcome (scramble_by cs entry)
+    (correct_refusal entry.number entry.attempt (scramble_by cs entry) entry.outcome)
+    (round_by cs entry.id)
+refusal cs (Strike id n) =
     if not (is_registered cs n) then Some code.UnknownCompetitor
-    else entered_refusal e x (scramble_of cs e r k) (put_refusal n k) (round_of cs e r)
-refusal cs (Correct e r k n x) =
-    if not (is_registered cs n) then Some code.UnknownCompetitor
-    else entered_refusal e x (scramble_of cs e r k) (correct_refusal n k (scramble_of cs e r k) x)
-    (round_of cs e r)
-refusal cs (Strike e r n) =
-    if not (is_registered cs n) then Some code.UnknownCompetitor
-    else strike_refusal n (round_of cs e r)
-refusal cs (SetAdvance e r advance) = advance_refusal (round_of cs e r)
-refusal cs (Close e r) = close_refusal (round_of cs e) r (round_of cs e r)
+    else strike_refusal n (round_by cs id)
+refusal cs (SetAdvance id advance) = advance_refusal (round_by cs id)
+refusal cs (Close id) = close_refusal (round_of cs id.event) id.round (round_by cs id)
 refusal cs (SetEdition edition) =
     if nat_le edition (edition_in cs) then Some code.Already else None

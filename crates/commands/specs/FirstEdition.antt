@@ -16,9 +16,11 @@ use Rattle.attempts.specs.declared.Unit.TheVariants as measure
 use Rattle.formats.specs.declared.events.Event.{Event}
 use Rattle.formats.specs.declared.events.Event.TheVariants.{Cube6, Cube7, FewestMoves, Blind3, Blind4, Blind5}
 use Rattle.formats.specs.declared.events.Format.{Format}
-use Rattle.formats.specs.Events.{same_event, attempts_of, is_average_format, is_mean_format, is_best_format}
+use Rattle.formats.specs.Events.{attempts_of, is_average_format, is_mean_format, is_best_format}
 use Rattle.texts.specs.declared.command.Command.{Command}
 use Rattle.texts.specs.declared.command.Command.TheVariants.{Register, Open, Enter, Scramble, Attempt, Correct, Strike, SetAdvance, Close, SetEdition}
+use Rattle.texts.specs.declared.command.RoundId.{RoundId}
+use Rattle.texts.specs.declared.command.AttemptEntry.{AttemptEntry}
 use Rattle.texts.specs.declared.command.Entered.{Entered}
 use Rattle.texts.specs.declared.command.Entered.TheVariants as entered
 use Rattle.texts.specs.declared.command.Settings.{Settings}
@@ -28,7 +30,7 @@ use Rattle.texts.specs.declared.answer.Code.TheVariants as code
 use Rattle.texts.specs.declared.reading.CommandFault.{CommandFault}
 use Rattle.texts.specs.FirstEdition.{command_of}
 use Rattle.rounds.specs.Tables.{Entrant, Table, replaced, without_last, correct_fault}
-use Rattle.commands.specs.Accepted.{is_registered, names_other, Opened, opened, scrambling, scramble_of, first_of, solved_under, entering, closing, settings_now, who_advance, enter_refusal, put_refusal, correct_code, strike_refusal, advance_refusal, leads_on, close_refusal}
+use Rattle.commands.specs.Accepted.{is_registered, names_other, Opened, opened, scrambling, scramble_of, scramble_by, is_of, first_of, solved_under, entering, closing, settings_now, who_advance, enter_refusal, put_refusal, correct_code, strike_refusal, advance_refusal, leads_on, close_refusal}
 use Rattle.commands.specs.History.{History, nothing, answer_of, is_seen, added}
 
 -- Events and values
@@ -68,15 +70,19 @@ settled settings scramble x = value_of settings.limit (outcome_of scramble x)
 
 -- Rounds
 
+abbrev pub value_entered : Event → ℕ → Settings → List Command → AttemptEntry → Value
+value_entered e r settings earlier entry =
+    settled settings (first_of (scrambling e r entry.attempt) earlier) entry.outcome
+
 abbrev pub one_value : Event → ℕ → Settings → ℕ → List Command → List Value → Command → List Value
-one_value e r settings n earlier values (Attempt f s k m x) =
-    if same_event e f && r == s && m == n
-    then values ++ settled settings (first_of (scrambling e r k) earlier) x ∷ [] else values
-one_value e r settings n earlier values (Correct f s k m x) =
-    if same_event e f && r == s && m == n
-    then replaced k (settled settings (first_of (scrambling e r k) earlier) x) values else values
-one_value e r settings n earlier values (Strike f s m) =
-    if same_event e f && r == s && m == n then without_last values else values
+one_value e r settings n earlier values (Attempt entry) =
+    if is_of e r entry.id && entry.number == n
+    then values ++ value_entered e r settings earlier entry ∷ [] else values
+one_value e r settings n earlier values (Correct entry) =
+    if is_of e r entry.id && entry.number == n
+    then replaced entry.attempt (value_entered e r settings earlier entry) values else values
+one_value e r settings n earlier values (Strike id m) =
+    if is_of e r id && m == n then without_last values else values
 one_value e r settings n earlier values _ = values
 
 abbrev pub values_after : Event → ℕ → Settings → ℕ → List Command → List Value → List Command
@@ -117,6 +123,9 @@ round_in e (suc r) cs =
 
 abbrev pub round_of : List Command → Event → ℕ → Option (Settings × Table)
 round_of cs e r = round_in e r cs
+
+abbrev pub round_by : List Command → RoundId → Option (Settings × Table)
+round_by cs id = round_of cs id.event id.round
 
 -- Checks
 
@@ -179,29 +188,33 @@ refusal cs (Register n name) =
     if is_registered cs n then Some code.Already
     else if list_any (names_other n name) cs then Some code.NameTaken
     else None
-refusal cs (Open e r settings) =
-    if is_some (round_of cs e r) then Some code.RoundOpen
-    else if nat_lt 1 r && not (leads_on (round_of cs e (r - 1))) then Some code.RoundUnknown
-    else if not (is_allowed e settings.format) then Some code.FormatNotAllowed
+refusal cs (Open id settings) =
+    if is_some (round_by cs id) then Some code.RoundOpen
+    else if nat_lt 1 id.round && not (leads_on (round_of cs id.event (id.round - 1)))
+    then Some code.RoundUnknown
+    else if not (is_allowed id.event settings.format) then Some code.FormatNotAllowed
     else if not (is_cutoff settings.format settings.cutoff) then Some code.CutoffNotAllowed
-    else if not (is_limit (unit_of e) settings.limit) then Some code.LimitNotAllowed
+    else if not (is_limit (unit_of id.event) settings.limit) then Some code.LimitNotAllowed
     else None
 refusal cs (Enter e n) =
     if not (is_registered cs n) then Some code.UnknownCompetitor
     else enter_refusal n (round_of cs e 1)
-refusal cs (Scramble e r k moves) = scramble_refusal e k (scramble_of cs e r k) (round_of cs e r)
-refusal cs (Attempt e r k n x) =
+refusal cs (Scramble id k moves) =
+    scramble_refusal id.event k (scramble_of cs id.event id.round k) (round_by cs id)
+refusal cs (Attempt entry) =
+    if not (is_registered cs entry.number) then Some code.UnknownCompetitor
+    else entered_refusal entry.id.event entry.outcome (scramble_by cs entry)
+    (put_refusal entry.number entry.attempt) (round_by cs entry.id)
+refusal cs (Correct entry) =
+    if not (is_registered cs entry.number) then Some code.UnknownCompetitor
+    else entered_refusal entry.id.event entry.outcome (scramble_by cs entry)
+    (correct_refusal entry.number entry.attempt (scramble_by cs entry) entry.outcome)
+    (round_by cs entry.id)
+refusal cs (Strike id n) =
     if not (is_registered cs n) then Some code.UnknownCompetitor
-    else entered_refusal e x (scramble_of cs e r k) (put_refusal n k) (round_of cs e r)
-refusal cs (Correct e r k n x) =
-    if not (is_registered cs n) then Some code.UnknownCompetitor
-    else entered_refusal e x (scramble_of cs e r k) (correct_refusal n k (scramble_of cs e r k) x)
-    (round_of cs e r)
-refusal cs (Strike e r n) =
-    if not (is_registered cs n) then Some code.UnknownCompetitor
-    else strike_refusal n (round_of cs e r)
-refusal cs (SetAdvance e r advance) = advance_refusal (round_of cs e r)
-refusal cs (Close e r) = close_refusal (round_of cs e) r (round_of cs e r)
+    else strike_refusal n (round_by cs id)
+refusal cs (SetAdvance id advance) = advance_refusal (round_by cs id)
+refusal cs (Close id) = close_refusal (round_of cs id.event) id.round (round_by cs id)
 refusal cs (SetEdition edition) = Some code.Unread
 
 -- Entries

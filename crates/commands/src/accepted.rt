@@ -7,11 +7,10 @@ ghost use Rattle.commands.specs.History.{answer_of, added, spelled_refusal};
 
 use crate::index::Index;
 use attempts::NoMemory;
-use formats::Event;
 use rounds::RoundTable;
 use std::alloc::Global;
 use std::marker::Model;
-use texts::{Answer, Code, Command, Settings, edition_of};
+use texts::{Answer, Code, Command, RoundId, Settings, edition_of};
 
 /// The accepted commands in order, with what is looked up of them, and the edition that holds.
 #[derive(Drop)]
@@ -109,17 +108,17 @@ impl AcceptedCommands {
     }
 
     /// The table of a round.
-    pub(crate) fn round(&self, event: Event, round: u8) -> Option<&RoundTable>
+    pub(crate) fn round(&self, id: RoundId) -> Option<&RoundTable>
         ensures { option_map (λ t. t.now) result
-            ≡ option_map (λ r. r.1) (round_of self.now event round) }
+            ≡ option_map (λ r. r.1) (round_of self.now id.event id.round) }
     {
-        self.index.rounds.table(event, round)
+        self.index.rounds.table(id)
     }
 
     /// The settings of a round.
-    pub(crate) fn settings(&self, event: Event, round: u8) -> Option<Settings>
-        ensures { result ≡ option_map (λ r. r.0) (round_of self.now event round) }
+    pub(crate) fn settings(&self, id: RoundId) -> Option<Settings>
+        ensures { result ≡ option_map (λ r. r.0) (round_of self.now id.event id.round) }
     {
-        self.index.rounds.settings(event, round)
+        self.index.rounds.settings(id)
     }
 }

@@ -10,14 +10,14 @@ ghost use Rattle.commands.specs.model.Kept.{IsIndexOf, scramble_at};
 ghost use Rattle.texts.specs.declared.command.Command.TheVariants as command;
 
 use crate::competitors::Competitors;
-use crate::kept_rounds::KeptRounds;
+use crate::kept_rounds::{KeptRounds, round_before};
 use crate::outcomes::is_multi;
 use advancement::Advance;
 use attempts::{NoMemory, Unit};
 use cube::Move;
 use formats::{Event, Format, allowed, attempts_of, unit_of};
 use std::alloc::Global;
-use texts::{Code, Command, Entered, Name, Settings};
+use texts::{AttemptEntry, Code, Command, Name, RoundId, Settings};
 
 /// Whether a cutoff counts fewer attempts than the format has. Multi-blind has none.
 fn is_cutoff(unit: Unit, format: Format, cutoff: Option<(u8, u32)>) -> bool
@@ -41,25 +41,18 @@ fn is_limit(unit: Unit, limit: Option<u32>) -> bool
 }
 
 /// The scramble that the command at a place sets for an attempt.
-fn scramble_at(
-    accepted: &[Command],
-    event: Event,
-    round: u8,
-    attempt: u8,
-    place: usize,
-) -> Option<&[Move]>
+fn scramble_at(accepted: &[Command], id: RoundId, attempt: u8, place: usize) -> Option<&[Move]>
     ensures { option_map (λ moves. moves.now) result
-        ≡ scramble_at accepted.now event round attempt place }
+        ≡ scramble_at accepted.now id.event id.round attempt place }
 {
     match accepted.get(place)? {
         Command::Scramble {
-            event: other,
-            round: number,
+            id: other,
             attempt: which,
             moves,
-        } if event.number() == other.number() && round == *number && attempt == *which => {
-            Some(moves.as_slice())
-        }
+        } if id.event.number() == other.event.number()
+            && id.round == other.round
+            && attempt == *which => { Some(moves.as_slice()) }
         _ => None,
     }
 }
@@ -106,36 +99,35 @@ impl Index {
         &mut self,
         alloc: Global,
         accepted: &[Command],
-        event: Event,
-        round: u8,
+        id: RoundId,
         settings: Settings,
     ) -> Result<Option<Code>, NoMemory>
         requires index { IsIndexOf accepted.now self.old }
         requires fit { IsFitCutoff settings.cutoff }
-        requires round { 1 ≤ round }
+        requires round { 1 ≤ id.round }
         ensures code { IfOk result
-            (λ code. code ≡ refusal accepted.now (command.Open event round settings)) }
+            (λ code. code ≡ refusal accepted.now (command.Open id settings)) }
         ensures index { IfOk result
             (λ code.
-            IsIndexOf (accepted.now ++ added code (command.Open event round settings)) self.new) }
+            IsIndexOf (accepted.now ++ added code (command.Open id settings)) self.new) }
         ensures err { OnErr result (IsIndexOf accepted.now self.new) }
     {
-        if self.rounds.is_open(event, round) {
+        if self.rounds.is_open(id) {
             return Ok(Some(Code::RoundOpen));
         }
-        if round > 1 && !self.rounds.leads_on(event, round - 1) {
+        if id.round > 1 && !self.rounds.leads_on(round_before(id)) {
             return Ok(Some(Code::RoundUnknown));
         }
-        if !allowed(event, settings.format) {
+        if !allowed(id.event, settings.format) {
             return Ok(Some(Code::FormatNotAllowed));
         }
-        if !is_cutoff(unit_of(event), settings.format, settings.cutoff) {
+        if !is_cutoff(unit_of(id.event), settings.format, settings.cutoff) {
             return Ok(Some(Code::CutoffNotAllowed));
         }
-        if !is_limit(unit_of(event), settings.limit) {
+        if !is_limit(unit_of(id.event), settings.limit) {
             return Ok(Some(Code::LimitNotAllowed));
         }
-        self.rounds.add(alloc, event, round, settings)?;
+        self.rounds.add(alloc, id, settings)?;
         Ok(None)
     }
 
@@ -163,135 +155,98 @@ impl Index {
     fn scramble_of<'a>(
         &self,
         accepted: &'a [Command],
-        event: Event,
-        round: u8,
+        id: RoundId,
         attempt: u8,
     ) -> Option<&'a [Move]>
         requires index { IsIndexOf accepted.now self.now }
         requires attempt { 1 ≤ attempt }
         ensures { option_map (λ moves. moves.now) result
-            ≡ scramble_of accepted.now event round attempt }
+            ≡ scramble_of accepted.now id.event id.round attempt }
     {
-        let place = self.rounds.scramble(event, round, attempt)?;
-        scramble_at(accepted, event, round, attempt, place)
+        let place = self.rounds.scramble(id, attempt)?;
+        scramble_at(accepted, id, attempt, place)
     }
 
     /// Sets the scramble of an attempt, or says why not. The command that sets it will stand behind
     /// the accepted ones.
-    fn scramble(
-        &mut self,
-        accepted: &[Command],
-        event: Event,
-        round: u8,
-        attempt: u8,
-    ) -> Option<Code>
+    fn scramble(&mut self, accepted: &[Command], id: RoundId, attempt: u8) -> Option<Code>
         requires index { IsIndexOf accepted.now self.old }
         requires attempt { 1 ≤ attempt }
         ensures code { (moves : List Move)
-            → result ≡ refusal accepted.now (command.Scramble event round attempt moves) }
+            → result ≡ refusal accepted.now (command.Scramble id attempt moves) }
         ensures index { (moves : List Move)
-            → IsIndexOf (accepted.now ++ added result (command.Scramble event round attempt moves))
+            → IsIndexOf (accepted.now ++ added result (command.Scramble id attempt moves))
             self.new }
     {
-        let there = self.scramble_of(accepted, event, round, attempt);
-        self.rounds
-            .add_scramble(event, round, attempt, there, accepted.len())
+        let there = self.scramble_of(accepted, id, attempt);
+        self.rounds.add_scramble(id, attempt, there, accepted.len())
     }
 
     /// Adds an attempt, or says why not.
     #[tactic(auto, using(crate::proofs::Units::units))]
-    fn attempt(
-        &mut self,
-        accepted: &[Command],
-        event: Event,
-        round: u8,
-        attempt: u8,
-        number: u16,
-        entered: &Entered,
-    ) -> Option<Code>
+    fn attempt(&mut self, accepted: &[Command], entry: &AttemptEntry) -> Option<Code>
         requires index { IsIndexOf accepted.now self.old }
-        requires attempt { 1 ≤ attempt }
-        requires entered { IsEntered entered.now }
-        ensures code { result
-            ≡ refusal accepted.now (command.Attempt event round attempt number entered.now) }
-        ensures index { IsIndexOf
-            (accepted.now ++ added result (command.Attempt event round attempt number entered.now))
+        requires attempt { 1 ≤ entry.now.attempt }
+        requires entered { IsEntered entry.now.outcome }
+        ensures code { result ≡ refusal accepted.now (command.Attempt entry.now) }
+        ensures index { IsIndexOf (accepted.now ++ added result (command.Attempt entry.now))
             self.new }
     {
-        if !self.competitors.is_registered(accepted, number) {
+        if !self.competitors.is_registered(accepted, entry.number) {
             return Some(Code::UnknownCompetitor);
         }
-        let scramble = self.scramble_of(accepted, event, round, attempt);
-        self.rounds
-            .put(event, round, attempt, number, entered, scramble)
+        let scramble = self.scramble_of(accepted, entry.id, entry.attempt);
+        self.rounds.put(entry, scramble)
     }
 
     /// Replaces an attempt, or says why not.
     #[tactic(auto, using(crate::proofs::Units::units))]
-    fn correct(
-        &mut self,
-        accepted: &[Command],
-        event: Event,
-        round: u8,
-        attempt: u8,
-        number: u16,
-        entered: &Entered,
-    ) -> Option<Code>
+    fn correct(&mut self, accepted: &[Command], entry: &AttemptEntry) -> Option<Code>
         requires index { IsIndexOf accepted.now self.old }
-        requires attempt { 1 ≤ attempt }
-        requires entered { IsEntered entered.now }
-        ensures code { result
-            ≡ refusal accepted.now (command.Correct event round attempt number entered.now) }
-        ensures index { IsIndexOf
-            (accepted.now ++ added result (command.Correct event round attempt number entered.now))
+        requires attempt { 1 ≤ entry.now.attempt }
+        requires entered { IsEntered entry.now.outcome }
+        ensures code { result ≡ refusal accepted.now (command.Correct entry.now) }
+        ensures index { IsIndexOf (accepted.now ++ added result (command.Correct entry.now))
             self.new }
     {
-        if !self.competitors.is_registered(accepted, number) {
+        if !self.competitors.is_registered(accepted, entry.number) {
             return Some(Code::UnknownCompetitor);
         }
-        let scramble = self.scramble_of(accepted, event, round, attempt);
-        self.rounds
-            .correct(event, round, attempt, number, entered, scramble)
+        let scramble = self.scramble_of(accepted, entry.id, entry.attempt);
+        self.rounds.correct(entry, scramble)
     }
 
     /// Removes a last attempt, or says why not.
-    fn strike(&mut self, accepted: &[Command], event: Event, round: u8, number: u16) -> Option<Code>
+    fn strike(&mut self, accepted: &[Command], id: RoundId, number: u16) -> Option<Code>
         requires { IsIndexOf accepted.now self.old }
-        ensures code { result ≡ refusal accepted.now (command.Strike event round number) }
-        ensures index { IsIndexOf (accepted.now ++ added result (command.Strike event round number))
+        ensures code { result ≡ refusal accepted.now (command.Strike id number) }
+        ensures index { IsIndexOf (accepted.now ++ added result (command.Strike id number))
             self.new }
     {
         if !self.competitors.is_registered(accepted, number) {
             return Some(Code::UnknownCompetitor);
         }
-        self.rounds.strike(event, round, number)
+        self.rounds.strike(id, number)
     }
 
     /// Changes who advances from a round, or says why not.
-    fn set_advance(
-        &mut self,
-        accepted: &[Command],
-        event: Event,
-        round: u8,
-        advance: Advance,
-    ) -> Option<Code>
+    fn set_advance(&mut self, accepted: &[Command], id: RoundId, advance: Advance) -> Option<Code>
         requires { IsIndexOf accepted.now self.old }
-        ensures code { result ≡ refusal accepted.now (command.SetAdvance event round advance) }
-        ensures index { IsIndexOf
-            (accepted.now ++ added result (command.SetAdvance event round advance)) self.new }
+        ensures code { result ≡ refusal accepted.now (command.SetAdvance id advance) }
+        ensures index { IsIndexOf (accepted.now ++ added result (command.SetAdvance id advance))
+            self.new }
     {
-        self.rounds.set_advance(event, round, advance)
+        self.rounds.set_advance(id, advance)
     }
 
     /// Closes a round, or says why not.
-    fn close(&mut self, accepted: &[Command], event: Event, round: u8) -> Option<Code>
+    fn close(&mut self, accepted: &[Command], id: RoundId) -> Option<Code>
         requires index { IsIndexOf accepted.now self.old }
-        requires round { round ≤ 4 }
-        ensures code { result ≡ refusal accepted.now (command.Close event round) }
-        ensures index { IsIndexOf (accepted.now ++ added result (command.Close event round))
-            self.new }
+        requires round { id.round ≤ 4 }
+        ensures code { result ≡ refusal accepted.now (command.Close id) }
+        ensures index { IsIndexOf (accepted.now ++ added result (command.Close id)) self.new }
     {
-        self.rounds.close(event, round)
+        self.rounds.close(id)
     }
 
     /// Sets the edition, or says why not, where edition `holds` does. Nothing here is looked up by
@@ -330,43 +285,14 @@ impl Index {
     {
         match command {
             Command::Register { number, name } => self.register(alloc, accepted, *number, name),
-            Command::Open {
-                event,
-                round,
-                settings,
-            } => self.open(alloc, accepted, *event, *round, *settings),
+            Command::Open { id, settings } => self.open(alloc, accepted, *id, *settings),
             Command::Enter { event, number } => self.enter(accepted, *event, *number),
-            Command::Scramble {
-                event,
-                round,
-                attempt,
-                ..
-            } => Ok(self.scramble(accepted, *event, *round, *attempt)),
-            Command::Attempt {
-                event,
-                round,
-                attempt,
-                number,
-                outcome,
-            } => Ok(self.attempt(accepted, *event, *round, *attempt, *number, outcome)),
-            Command::Correct {
-                event,
-                round,
-                attempt,
-                number,
-                outcome,
-            } => Ok(self.correct(accepted, *event, *round, *attempt, *number, outcome)),
-            Command::Strike {
-                event,
-                round,
-                number,
-            } => Ok(self.strike(accepted, *event, *round, *number)),
-            Command::SetAdvance {
-                event,
-                round,
-                advance,
-            } => Ok(self.set_advance(accepted, *event, *round, *advance)),
-            Command::Close { event, round } => Ok(self.close(accepted, *event, *round)),
+            Command::Scramble { id, attempt, .. } => Ok(self.scramble(accepted, *id, *attempt)),
+            Command::Attempt(entry) => Ok(self.attempt(accepted, entry)),
+            Command::Correct(entry) => Ok(self.correct(accepted, entry)),
+            Command::Strike { id, number } => Ok(self.strike(accepted, *id, *number)),
+            Command::SetAdvance { id, advance } => { Ok(self.set_advance(accepted, *id, *advance)) }
+            Command::Close { id } => Ok(self.close(accepted, *id)),
             Command::SetEdition { edition } => Ok(self.set_edition(accepted, holds, *edition)),
         }
     }

@@ -6,6 +6,7 @@ ghost use Rattle.formats.specs.Events.{unit_of};
 ghost use Rattle.formats.specs.Results.{IsFormatOf};
 ghost use Rattle.rounds.specs.Tables.{IsCutoff, empty_table, enter_fault, with_entrant};
 ghost use Rattle.commands.specs.Accepted.{enter_refusal, scramble_refusal, entered_refusal, put_refusal, correct_refusal, strike_refusal, advance_refusal, is_final, leads_on, competitors_of, has_too_few, breaks_rounds_rule, close_refusal, who_advance};
+ghost use Rattle.texts.specs.Fields.{round_id};
 ghost use Rattle.texts.specs.Spelling.{IsEntered};
 ghost use Rattle.commands.specs.model.Kept.{is_round, kept_round, kept_scramble, IsKeptAt, with_attempt, with_correction, with_strike, with_advance, with_end, with_entry, with_newcomers, HasUnit, ChangesRound, AddsRound, AddsScramble};
 
@@ -17,13 +18,12 @@ use cube::Move;
 use formats::{Event, attempts_of, unit_of};
 use rounds::{EnterFault, RoundTable};
 use std::alloc::{AllocError, Global};
-use texts::{Code, Entered, Settings};
+use texts::{AttemptEntry, Code, RoundId, Settings};
 
 /// A round that was opened.
 #[derive(Drop)]
 pub(crate) struct KeptRound {
-    event: Event,
-    round: u8,
+    id: RoundId,
     settings: Settings,
     table: RoundTable,
     /// Where the scramble of each attempt stands among the accepted commands.
@@ -36,19 +36,32 @@ pub(crate) struct KeptRounds {
     opened: Vec<KeptRound>,
 }
 
-/// The place of the first round of an event and a number.
-fn first_place(rounds: &[KeptRound], event: Event, round: u8) -> Option<usize>
-    ensures { result ≡ position (is_round event round) rounds.now }
+/// The round in front of a round. None is ever opened in front of the first.
+pub(crate) fn round_before(id: RoundId) -> RoundId
+    requires { 1 ≤ id.round }
+    ensures { result ≡ round_id id.event (id.round - 1) }
 {
-    rounds.iter().position(|kept| event.number() == kept.event.number() && round == kept.round)
+    RoundId {
+        event: id.event,
+        round: id.round - 1,
+    }
+}
+
+/// The place of the first round of an event and a number.
+fn first_place(rounds: &[KeptRound], id: RoundId) -> Option<usize>
+    ensures { result ≡ position (is_round id.event id.round) rounds.now }
+{
+    rounds.iter().position(|kept| {
+        id.event.number() == kept.id.event.number() && id.round == kept.id.round
+    })
 }
 
 /// The place of the kept round.
-fn kept_place(rounds: &[KeptRound], event: Event, round: u8) -> Option<usize>
-    ensures { MatchOption result (kept_round event round rounds.now ≡ None)
-        (λ i. IsKeptAt rounds.now event round i) }
+fn kept_place(rounds: &[KeptRound], id: RoundId) -> Option<usize>
+    ensures { MatchOption result (kept_round id.event id.round rounds.now ≡ None)
+        (λ i. IsKeptAt rounds.now id.event id.round i) }
 {
-    first_place(rounds, event, round)
+    first_place(rounds, id)
 }
 
 fn is_final(advance: Advance) -> bool
@@ -104,21 +117,21 @@ impl KeptRounds {
     }
 
     /// Whether a round was opened.
-    pub(crate) fn is_open(&self, event: Event, round: u8) -> bool
-        ensures { result ≡ is_some (kept_round event round self.now.opened.items) }
+    pub(crate) fn is_open(&self, id: RoundId) -> bool
+        ensures { result ≡ is_some (kept_round id.event id.round self.now.opened.items) }
     {
-        match kept_place(&self.opened, event, round) {
+        match kept_place(&self.opened, id) {
             Some(_) => true,
             None => false,
         }
     }
 
     /// The table of a round.
-    pub(crate) fn table(&self, event: Event, round: u8) -> Option<&RoundTable>
+    pub(crate) fn table(&self, id: RoundId) -> Option<&RoundTable>
         ensures { option_map (λ t. t.now) result
-            ≡ option_map (λ r. r.1) (kept_round event round self.now.opened.items) }
+            ≡ option_map (λ r. r.1) (kept_round id.event id.round self.now.opened.items) }
     {
-        match kept_place(&self.opened, event, round) {
+        match kept_place(&self.opened, id) {
             Some(place) => {
                 let kept = &self.opened[place];
                 Some(&kept.table)
@@ -128,10 +141,11 @@ impl KeptRounds {
     }
 
     /// The settings of a round.
-    pub(crate) fn settings(&self, event: Event, round: u8) -> Option<Settings>
-        ensures { result ≡ option_map (λ r. r.0) (kept_round event round self.now.opened.items) }
+    pub(crate) fn settings(&self, id: RoundId) -> Option<Settings>
+        ensures { result
+            ≡ option_map (λ r. r.0) (kept_round id.event id.round self.now.opened.items) }
     {
-        match kept_place(&self.opened, event, round) {
+        match kept_place(&self.opened, id) {
             Some(place) => {
                 let kept = &self.opened[place];
                 Some(kept.settings)
@@ -141,11 +155,11 @@ impl KeptRounds {
     }
 
     /// Where the scramble of an attempt stands among the accepted commands.
-    pub(crate) fn scramble(&self, event: Event, round: u8, attempt: u8) -> Option<usize>
+    pub(crate) fn scramble(&self, id: RoundId, attempt: u8) -> Option<usize>
         requires { 1 ≤ attempt }
-        ensures { result ≡ kept_scramble event round attempt self.now.opened.items }
+        ensures { result ≡ kept_scramble id.event id.round attempt self.now.opened.items }
     {
-        match kept_place(&self.opened, event, round) {
+        match kept_place(&self.opened, id) {
             Some(place) => {
                 let kept = &self.opened[place];
                 *kept.scrambles.get(usize::from(attempt) - 1)?
@@ -158,28 +172,28 @@ impl KeptRounds {
     /// scramble `there` already.
     pub(crate) fn add_scramble(
         &mut self,
-        event: Event,
-        round: u8,
+        id: RoundId,
         attempt: u8,
         there: Option<&[Move]>,
         place: usize,
     ) -> Option<Code>
         requires { 1 ≤ attempt }
         ensures code { result
-            ≡ scramble_refusal event attempt (option_map (λ moves. moves.now) there.entry)
-            (kept_round event round self.old.opened.items) }
+            ≡ scramble_refusal id.event attempt (option_map (λ moves. moves.now) there.entry)
+            (kept_round id.event id.round self.old.opened.items) }
         ensures done { IfNone result
-            (AddsScramble event round attempt place self.old.opened.items self.new.opened.items) }
+            (AddsScramble id.event id.round attempt place self.old.opened.items
+            self.new.opened.items) }
         ensures refused { OnSome result (self.new.opened.items ≡ self.old.opened.items) }
     {
-        let Some(index) = kept_place(&self.opened, event, round) else {
+        let Some(index) = kept_place(&self.opened, id) else {
             return Some(Code::RoundUnknown);
         };
         let kept = &mut self.opened[index];
         if kept.table.is_closed() {
             return Some(Code::Closed);
         }
-        if !is_moves(unit_of(event)) {
+        if !is_moves(unit_of(id.event)) {
             return Some(Code::WrongOutcome);
         }
         if attempt > attempts_of(kept.settings.format) {
@@ -194,35 +208,31 @@ impl KeptRounds {
 
     /// Adds an attempt of an entrant, or says why not. The attempt has this scramble, where it has
     /// one.
-    pub(crate) fn put(
-        &mut self,
-        event: Event,
-        round: u8,
-        attempt: u8,
-        number: u16,
-        entered: &Entered,
-        scramble: Option<&[Move]>,
-    ) -> Option<Code>
-        requires entered { IsEntered entered.now }
-        requires unit { HasUnit event (kept_round event round self.old.opened.items) }
+    pub(crate) fn put(&mut self, entry: &AttemptEntry, scramble: Option<&[Move]>) -> Option<Code>
+        requires entered { IsEntered entry.now.outcome }
+        requires unit { HasUnit entry.now.id.event
+            (kept_round entry.now.id.event entry.now.id.round self.old.opened.items) }
         ensures code { result
-            ≡ entered_refusal event entered.now (option_map (λ moves. moves.now) scramble.entry)
-            (put_refusal number attempt) (kept_round event round self.old.opened.items) }
+            ≡ entered_refusal entry.now.id.event entry.now.outcome
+            (option_map (λ moves. moves.now) scramble.entry)
+            (put_refusal entry.now.number entry.now.attempt)
+            (kept_round entry.now.id.event entry.now.id.round self.old.opened.items) }
         ensures done { IfNone result
-            (ChangesRound event round
-            (with_attempt number (option_map (λ moves. moves.now) scramble.entry) entered.now)
+            (ChangesRound entry.now.id.event entry.now.id.round
+            (with_attempt entry.now.number (option_map (λ moves. moves.now) scramble.entry)
+            entry.now.outcome)
             self.old.opened.items self.new.opened.items) }
         ensures refused { OnSome result (self.new.opened.items ≡ self.old.opened.items) }
     {
-        let Some(place) = kept_place(&self.opened, event, round) else {
+        let Some(place) = kept_place(&self.opened, entry.id) else {
             return Some(Code::RoundUnknown);
         };
-        if let Some(code) = refusal(event, entered, scramble) {
+        if let Some(code) = refusal(entry.id.event, &entry.outcome, scramble) {
             return Some(code);
         }
         let kept = &mut self.opened[place];
-        let value = settle(outcome_of(scramble, entered), kept.settings.limit);
-        match kept.table.put(number, attempt, value) {
+        let value = settle(outcome_of(scramble, &entry.outcome), kept.settings.limit);
+        match kept.table.put(entry.number, entry.attempt, value) {
             Ok(()) => None,
             Err(fault) => Some(put_code(fault)),
         }
@@ -232,51 +242,49 @@ impl KeptRounds {
     /// has one.
     pub(crate) fn correct(
         &mut self,
-        event: Event,
-        round: u8,
-        attempt: u8,
-        number: u16,
-        entered: &Entered,
+        entry: &AttemptEntry,
         scramble: Option<&[Move]>,
     ) -> Option<Code>
-        requires entered { IsEntered entered.now }
-        requires unit { HasUnit event (kept_round event round self.old.opened.items) }
+        requires entered { IsEntered entry.now.outcome }
+        requires unit { HasUnit entry.now.id.event
+            (kept_round entry.now.id.event entry.now.id.round self.old.opened.items) }
         ensures code { result
-            ≡ entered_refusal event entered.now (option_map (λ moves. moves.now) scramble.entry)
-            (correct_refusal number attempt (option_map (λ moves. moves.now) scramble.entry)
-            entered.now)
-            (kept_round event round self.old.opened.items) }
+            ≡ entered_refusal entry.now.id.event entry.now.outcome
+            (option_map (λ moves. moves.now) scramble.entry)
+            (correct_refusal entry.now.number entry.now.attempt
+            (option_map (λ moves. moves.now) scramble.entry) entry.now.outcome)
+            (kept_round entry.now.id.event entry.now.id.round self.old.opened.items) }
         ensures done { IfNone result
-            (ChangesRound event round
-            (with_correction number attempt (option_map (λ moves. moves.now) scramble.entry)
-            entered.now)
+            (ChangesRound entry.now.id.event entry.now.id.round
+            (with_correction entry.now.number entry.now.attempt
+            (option_map (λ moves. moves.now) scramble.entry) entry.now.outcome)
             self.old.opened.items self.new.opened.items) }
         ensures refused { OnSome result (self.new.opened.items ≡ self.old.opened.items) }
     {
-        let Some(place) = kept_place(&self.opened, event, round) else {
+        let Some(place) = kept_place(&self.opened, entry.id) else {
             return Some(Code::RoundUnknown);
         };
-        if let Some(code) = refusal(event, entered, scramble) {
+        if let Some(code) = refusal(entry.id.event, &entry.outcome, scramble) {
             return Some(code);
         }
         let kept = &mut self.opened[place];
-        let value = settle(outcome_of(scramble, entered), kept.settings.limit);
-        match kept.table.correct(number, attempt, value) {
+        let value = settle(outcome_of(scramble, &entry.outcome), kept.settings.limit);
+        match kept.table.correct(entry.number, entry.attempt, value) {
             Ok(()) => None,
             Err(fault) => Some(correct_code(fault)),
         }
     }
 
     /// Removes the last attempt of an entrant, or says why not.
-    pub(crate) fn strike(&mut self, event: Event, round: u8, number: u16) -> Option<Code>
+    pub(crate) fn strike(&mut self, id: RoundId, number: u16) -> Option<Code>
         ensures code { result
-            ≡ strike_refusal number (kept_round event round self.old.opened.items) }
+            ≡ strike_refusal number (kept_round id.event id.round self.old.opened.items) }
         ensures done { IfNone result
-            (ChangesRound event round (with_strike number) self.old.opened.items
+            (ChangesRound id.event id.round (with_strike number) self.old.opened.items
             self.new.opened.items) }
         ensures refused { OnSome result (self.new.opened.items ≡ self.old.opened.items) }
     {
-        let Some(place) = kept_place(&self.opened, event, round) else {
+        let Some(place) = kept_place(&self.opened, id) else {
             return Some(Code::RoundUnknown);
         };
         let kept = &mut self.opened[place];
@@ -287,14 +295,15 @@ impl KeptRounds {
     }
 
     /// Changes who advances from a round, or says why not.
-    pub(crate) fn set_advance(&mut self, event: Event, round: u8, advance: Advance) -> Option<Code>
-        ensures code { result ≡ advance_refusal (kept_round event round self.old.opened.items) }
+    pub(crate) fn set_advance(&mut self, id: RoundId, advance: Advance) -> Option<Code>
+        ensures code { result
+            ≡ advance_refusal (kept_round id.event id.round self.old.opened.items) }
         ensures done { IfNone result
-            (ChangesRound event round (with_advance advance) self.old.opened.items
+            (ChangesRound id.event id.round (with_advance advance) self.old.opened.items
             self.new.opened.items) }
         ensures refused { OnSome result (self.new.opened.items ≡ self.old.opened.items) }
     {
-        let Some(place) = kept_place(&self.opened, event, round) else {
+        let Some(place) = kept_place(&self.opened, id) else {
             return Some(Code::RoundUnknown);
         };
         if self.opened[place].table.is_closed() {
@@ -305,10 +314,10 @@ impl KeptRounds {
     }
 
     /// Whether a round is closed, and is not the event's last.
-    pub(crate) fn leads_on(&self, event: Event, round: u8) -> bool
-        ensures { result ≡ leads_on (kept_round event round self.now.opened.items) }
+    pub(crate) fn leads_on(&self, id: RoundId) -> bool
+        ensures { result ≡ leads_on (kept_round id.event id.round self.now.opened.items) }
     {
-        match kept_place(&self.opened, event, round) {
+        match kept_place(&self.opened, id) {
             Some(place) => {
                 let kept = &self.opened[place];
                 kept.table.is_closed() && !is_final(kept.settings.advance)
@@ -318,10 +327,10 @@ impl KeptRounds {
     }
 
     /// How many competitors a round has: entrants with an attempt that is not DNS.
-    fn competitors(&self, event: Event, round: u8) -> u16
-        ensures { result ≡ competitors_of (kept_round event round self.now.opened.items) }
+    fn competitors(&self, id: RoundId) -> u16
+        ensures { result ≡ competitors_of (kept_round id.event id.round self.now.opened.items) }
     {
-        match kept_place(&self.opened, event, round) {
+        match kept_place(&self.opened, id) {
             Some(place) => {
                 let kept = &self.opened[place];
                 kept.table.started()
@@ -332,23 +341,26 @@ impl KeptRounds {
 
     /// Whether a round has fewer competitors than the rounds behind it want, up to one behind
     /// `round` (WCA Regulations, article 9m).
-    fn has_too_few(&self, event: Event, round: u8, earlier: u8) -> bool
-        requires { round ≤ 4 }
+    fn has_too_few(&self, id: RoundId, earlier: u8) -> bool
+        requires { id.round ≤ 4 }
         ensures { result
-            ≡ has_too_few (λ j. kept_round event j self.now.opened.items) round earlier }
+            ≡ has_too_few (λ j. kept_round id.event j self.now.opened.items) id.round earlier }
     {
-        later_rounds(self.competitors(event, earlier)) < (round + 1).saturating_sub(earlier)
+        later_rounds(self.competitors(RoundId {
+            event: id.event,
+            round: earlier,
+        })) < (id.round + 1).saturating_sub(earlier)
     }
 
     /// Whether the competitors of a round, or of one before it, do not allow that one follows it.
-    fn allows_no_further(&self, event: Event, round: u8) -> bool
-        requires { round ≤ 4 }
+    fn allows_no_further(&self, id: RoundId) -> bool
+        requires { id.round ≤ 4 }
         ensures { result
-            ≡ list_any (has_too_few (λ j. kept_round event j self.now.opened.items) round)
-            (range_with_len 1 round) }
+            ≡ list_any (has_too_few (λ j. kept_round id.event j self.now.opened.items) id.round)
+            (range_with_len 1 id.round) }
     {
-        for earlier in 1..round + 1 {
-            if self.has_too_few(event, round, earlier) {
+        for earlier in 1..id.round + 1 {
+            if self.has_too_few(id, earlier) {
                 return true;
             }
         }
@@ -356,25 +368,26 @@ impl KeptRounds {
     }
 
     /// Whether another round shall follow this one, and the competitors do not allow it.
-    fn breaks_rounds_rule(&self, event: Event, round: u8, advance: Advance) -> bool
-        requires { round ≤ 4 }
+    fn breaks_rounds_rule(&self, id: RoundId, advance: Advance) -> bool
+        requires { id.round ≤ 4 }
         ensures { result
-            ≡ breaks_rounds_rule (λ j. kept_round event j self.now.opened.items) round advance }
+            ≡ breaks_rounds_rule (λ j. kept_round id.event j self.now.opened.items) id.round
+            advance }
     {
-        !is_final(advance) && self.allows_no_further(event, round)
+        !is_final(advance) && self.allows_no_further(id)
     }
 
     /// Closes a round, or says why not.
-    pub(crate) fn close(&mut self, event: Event, round: u8) -> Option<Code>
-        requires { round ≤ 4 }
+    pub(crate) fn close(&mut self, id: RoundId) -> Option<Code>
+        requires { id.round ≤ 4 }
         ensures code { result
-            ≡ close_refusal (λ j. kept_round event j self.old.opened.items) round
-            (kept_round event round self.old.opened.items) }
+            ≡ close_refusal (λ j. kept_round id.event j self.old.opened.items) id.round
+            (kept_round id.event id.round self.old.opened.items) }
         ensures done { IfNone result
-            (ChangesRound event round with_end self.old.opened.items self.new.opened.items) }
+            (ChangesRound id.event id.round with_end self.old.opened.items self.new.opened.items) }
         ensures refused { OnSome result (self.new.opened.items ≡ self.old.opened.items) }
     {
-        let Some(place) = kept_place(&self.opened, event, round) else {
+        let Some(place) = kept_place(&self.opened, id) else {
             return Some(Code::RoundUnknown);
         };
         let kept = &self.opened[place];
@@ -384,7 +397,7 @@ impl KeptRounds {
         if !kept.table.is_finished() {
             return Some(Code::Unfinished);
         }
-        if self.breaks_rounds_rule(event, round, kept.settings.advance) {
+        if self.breaks_rounds_rule(id, kept.settings.advance) {
             return Some(Code::RoundsRule);
         }
         let kept = &mut self.opened[place];
@@ -405,7 +418,7 @@ impl KeptRounds {
             (λ code. OnSome code (self.new.opened.items ≡ self.old.opened.items)) }
         ensures err { OnErr result (self.new.opened.items ≡ self.old.opened.items) }
     {
-        let Some(place) = kept_place(&self.opened, event, 1) else {
+        let Some(place) = kept_place(&self.opened, RoundId { event, round: 1 }) else {
             return Ok(Some(Code::RoundUnknown));
         };
         let kept = &mut self.opened[place];
@@ -419,13 +432,13 @@ impl KeptRounds {
     }
 
     /// Those who advance from a round, in order of its standings; nobody where it was not opened.
-    fn who_advance(&self, alloc: Global, event: Event, round: u8) -> Result<Vec<u16>, NoMemory>
+    fn who_advance(&self, alloc: Global, id: RoundId) -> Result<Vec<u16>, NoMemory>
         ensures order { IfOk result (λ numbers.
-            numbers.items ≡ who_advance (kept_round event round self.now.opened.items)) }
+            numbers.items ≡ who_advance (kept_round id.event id.round self.now.opened.items)) }
         ensures each_once { IfOk result (λ numbers. IsDistinct nat_eq numbers.items) }
         ensures few { IfOk result (λ numbers. length numbers.items ≤ 999) }
     {
-        match kept_place(&self.opened, event, round) {
+        match kept_place(&self.opened, id) {
             Some(place) => {
                 let kept = &self.opened[place];
                 advancing(alloc, &kept.table, kept.settings.advance)
@@ -438,27 +451,25 @@ impl KeptRounds {
     pub(crate) fn add(
         &mut self,
         alloc: Global,
-        event: Event,
-        round: u8,
+        id: RoundId,
         settings: Settings,
     ) -> Result<(), NoMemory>
         requires cutoff { IsCutoff settings.format settings.cutoff }
-        requires format { IsFormatOf (unit_of event) settings.format }
-        requires round { 1 ≤ round }
+        requires format { IsFormatOf (unit_of id.event) settings.format }
+        requires round { 1 ≤ id.round }
         ensures ok { OnOk result
-            (AddsRound event round (
+            (AddsRound id.event id.round (
               settings,
-              with_newcomers (empty_table settings.format (unit_of event) settings.cutoff)
-                  (who_advance (kept_round event (round - 1) self.old.opened.items)),
+              with_newcomers (empty_table settings.format (unit_of id.event) settings.cutoff)
+                  (who_advance (kept_round id.event (id.round - 1) self.old.opened.items)),
             )
             self.old.opened.items self.new.opened.items) }
         ensures err { OnErr result (self.new.opened.items ≡ self.old.opened.items) }
     {
-        let numbers = self.who_advance(alloc, event, round - 1)?;
-        let table = table_with(alloc, event, settings, &numbers)?;
+        let numbers = self.who_advance(alloc, round_before(id))?;
+        let table = table_with(alloc, id.event, settings, &numbers)?;
         self.opened.push(KeptRound {
-            event,
-            round,
+            id,
             settings,
             table,
             scrambles: [None; 5],

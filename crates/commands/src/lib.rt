@@ -12,6 +12,7 @@ mod outcomes;
 
 pub use meet::{Meet, every_id_is_seen, first_edition_answers};
 pub use texts::{
-    Advance, Answer, Code, Command, CommandFault, Entered, Name, Settings, edition_of,
-    first_edition_reads, one_spelling, print, print_advance, print_cutoff, print_limit, read,
+    Advance, Answer, AttemptEntry, Code, Command, CommandFault, Entered, Name, RoundId, Settings,
+    edition_of, first_edition_reads, one_spelling, print, print_advance, print_cutoff, print_limit,
+    read,
 };

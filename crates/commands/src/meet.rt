@@ -13,7 +13,7 @@ use indexmap::IndexSet;
 use rounds::RoundTable;
 use std::alloc::{AllocError, Global};
 use std::marker::Model;
-use texts::{Answer, Code, CommandFault, Settings, read};
+use texts::{Answer, Code, CommandFault, RoundId, Settings, read};
 
 /// What a list of entries comes to: the ids seen so far, and the accepted commands.
 ///
@@ -115,14 +115,14 @@ impl Meet {
         ensures { option_map (λ table. table.now) result
             ≡ option_map (λ r. r.1) (round_of self.now.accepted event round) }
     {
-        self.accepted.round(event, round)
+        self.accepted.round(RoundId { event, round })
     }
 
     /// The settings of a round as they stand now, where it was opened.
     pub fn settings(&self, event: Event, round: u8) -> Option<Settings>
         ensures { result ≡ option_map (λ r. r.0) (round_of self.now.accepted event round) }
     {
-        self.accepted.settings(event, round)
+        self.accepted.settings(RoundId { event, round })
     }
 }
 

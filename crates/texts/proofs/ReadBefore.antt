@@ -20,7 +20,7 @@ use Rattle.texts.specs.declared.reading.CommandFault.TheVariants as fault
 use Rattle.texts.specs.Spelling.{last_round}
 use Rattle.texts.specs.Editions.{edition_of, entered_edition}
 use Rattle.texts.specs.EditionLaws.{ReadsAsBefore}
-use Rattle.texts.specs.Fields.{cut, number_between, name_of, cutoff_of, limit_of, advance_of, two_numbers, moves_of, time_with, time_of, multi_with, attempted_of, multi_of, entered_of}
+use Rattle.texts.specs.Fields.{cut, number_between, name_of, cutoff_of, limit_of, advance_of, two_numbers, moves_of, time_with, time_of, multi_with, attempted_of, multi_of, entered_of, round_id, attempt_entry}
 use Rattle.texts.specs.Reading.{◌>>=◌, field, last_field, no_field, register_of, open_of, enter_of, scramble_of, attempt_of, correct_of, strike_of, set_advance_of, close_of, set_edition_of, by_word, command_of}
 use Rattle.texts.specs.FirstEdition as first
 use Rattle.texts.proofs.Cuts.{behind, cut_spelled, and-true}
@@ -306,13 +306,14 @@ attempt left =
     (λ e one. then_alike (field 2 (number_between 1 last_round) e.1) _ _
     (λ r. then_alike (field 3 (number_between 1 5) r.1) _ _
     (λ k. then_alike (field 4 (number_between 1 9999) k.1) _ _
-    (λ n. outcome_field 5 n.1 (λ x. Attempt e.0 r.0 k.0 n.0 x)
+    (λ n. outcome_field 5 n.1 (λ x. Attempt (attempt_entry (round_id e.0 r.0) k.0 n.0 x))
     (λ x. ap (λ (m : ℕ). max m (entered_edition x)) one)))))
     (λ rest. then_later (field 2 (number_between 1 last_round) rest) _
     (λ r. then_later (field 3 (number_between 1 5) r.1) _
     (λ k. then_later (field 4 (number_between 1 9999) k.1) _
     (λ n. then_later (last_field 5 entered_of n.1) _
-    (λ x. ok_later (Attempt MultiBlind r.0 k.0 n.0 x) (entered_edition x) refl)))))
+    (λ x.
+    ok_later (Attempt (attempt_entry (round_id MultiBlind r.0) k.0 n.0 x)) (entered_edition x) refl)))))
 
 correct : (left : Option (List ℕ)) → Alike (first.correct_of left) (correct_of left)
 unfolding correct_of first.correct_of
@@ -321,13 +322,14 @@ correct left =
     (λ e one. then_alike (field 2 (number_between 1 last_round) e.1) _ _
     (λ r. then_alike (field 3 (number_between 1 5) r.1) _ _
     (λ k. then_alike (field 4 (number_between 1 9999) k.1) _ _
-    (λ n. outcome_field 5 n.1 (λ x. Correct e.0 r.0 k.0 n.0 x)
+    (λ n. outcome_field 5 n.1 (λ x. Correct (attempt_entry (round_id e.0 r.0) k.0 n.0 x))
     (λ x. ap (λ (m : ℕ). max m (entered_edition x)) one)))))
     (λ rest. then_later (field 2 (number_between 1 last_round) rest) _
     (λ r. then_later (field 3 (number_between 1 5) r.1) _
     (λ k. then_later (field 4 (number_between 1 9999) k.1) _
     (λ n. then_later (last_field 5 entered_of n.1) _
-    (λ x. ok_later (Correct MultiBlind r.0 k.0 n.0 x) (entered_edition x) refl)))))
+    (λ x.
+    ok_later (Correct (attempt_entry (round_id MultiBlind r.0) k.0 n.0 x)) (entered_edition x) refl)))))
 
 register : (left : Option (List ℕ)) → Alike (register_of left) (register_of left)
 unfolding register_of

@@ -40,7 +40,8 @@ field_only {A = A} {of = of} {text = text} {Fits = Fits} s index (Some bytes) f 
           left' = (cut 32 bytes).1;
           fits = read.0;
           spelled =
-              ap (λ y. 32 ∷ y) (cut_spelled 32 bytes ∙ ap (λ y. y ++ behind 32 (cut 32 bytes).1) read.1);
+              ap (λ y. 32 ∷ y)
+              (cut_spelled 32 bytes ∙ ap (λ y. y ++ behind 32 (cut 32 bytes).1) read.1);
           next = e;
         }
 

@@ -16,7 +16,7 @@ use Rattle.texts.specs.declared.command.Settings.{Settings}
 use Rattle.texts.specs.declared.reading.CommandFault.{CommandFault}
 use Rattle.texts.specs.declared.reading.CommandFault.TheVariants as fault
 use Rattle.texts.specs.Spelling.{spelling, IsFit, IsWithin, last_round, last_edition, cutoff_text, limit_text, advance_text, entered_text}
-use Rattle.texts.specs.Fields.{cut, number_between}
+use Rattle.texts.specs.Fields.{cut, number_between, round_id, attempt_entry}
 use Rattle.texts.specs.Reading.{field, register_of, open_of, enter_of, scramble_of, attempt_of, correct_of, strike_of, set_advance_of, close_of, set_edition_of, moves_field, by_word, command_of, Gives, ReadsAs}
 use Rattle.texts.proofs.Cuts.{behind, cut_spelled, cut-behind, lacks}
 use Rattle.texts.proofs.Spelled.{IsSpelled, bytes_eq-equal}
@@ -70,7 +70,7 @@ open_only left c h =
       limit = limit.value;
       advance = advance.value;
     } in
-    let same : Open event.value r.value settings ≡ c = ok_equal _ c end.1 in
+    let same : Open (round_id event.value r.value) settings ≡ c = ok_equal _ c end.1 in
     subst (Spells (codes "OPEN" ++ behind 32 left)) same (
       (r.fits, (cutoff.fits, limit.fits, advance.fits)),
       rw (
@@ -106,9 +106,10 @@ scramble_only left c short h =
     let r = field_only round 2 event.left' _ c event.next in
     let k = field_only attempt 3 r.left' _ c r.next in
     let moves = last_only moves_spelled 4 k.left' _ c k.next in
-    let same : Scramble event.value r.value k.value moves.value ≡ c = ok_equal _ c moves.next in
+    let same : Scramble (round_id event.value r.value) k.value moves.value ≡ c =
+    ok_equal _ c moves.next in
     let spelled : codes "SCR" ++ behind 32 left
-    ≡ spelling (Scramble event.value r.value k.value moves.value) =
+    ≡ spelling (Scramble (round_id event.value r.value) k.value moves.value) =
     rw (event.spelled, r.spelled, k.spelled, moves.spelled) refl in
     subst (Spells (codes "SCR" ++ behind 32 left)) same
     ((r.fits, k.fits, moves.fits, subst (λ (x : List ℕ). length x ≤ 600) spelled short), spelled)
@@ -122,10 +123,9 @@ attempt_only left c short h =
     let k = field_only attempt 3 r.left' _ c r.next in
     let n = field_only number 4 k.left' _ c k.next in
     let outcome = last_only entered_spelled 5 n.left' _ c n.next in
-    let same : Attempt event.value r.value k.value n.value outcome.value ≡ c =
-    ok_equal _ c outcome.next in
-    let spelled : codes "ATT" ++ behind 32 left
-    ≡ spelling (Attempt event.value r.value k.value n.value outcome.value) =
+    let entry = attempt_entry (round_id event.value r.value) k.value n.value outcome.value in
+    let same : Attempt entry ≡ c = ok_equal _ c outcome.next in
+    let spelled : codes "ATT" ++ behind 32 left ≡ spelling (Attempt entry) =
     rw (event.spelled, r.spelled, k.spelled, n.spelled, outcome.spelled) refl in
     subst (Spells (codes "ATT" ++ behind 32 left)) same (
       (r.fits, k.fits, n.fits, outcome.fits, subst (λ (x : List ℕ). length x ≤ 600) spelled short),
@@ -141,10 +141,9 @@ correct_only left c short h =
     let k = field_only attempt 3 r.left' _ c r.next in
     let n = field_only number 4 k.left' _ c k.next in
     let outcome = last_only entered_spelled 5 n.left' _ c n.next in
-    let same : Correct event.value r.value k.value n.value outcome.value ≡ c =
-    ok_equal _ c outcome.next in
-    let spelled : codes "COR" ++ behind 32 left
-    ≡ spelling (Correct event.value r.value k.value n.value outcome.value) =
+    let entry = attempt_entry (round_id event.value r.value) k.value n.value outcome.value in
+    let same : Correct entry ≡ c = ok_equal _ c outcome.next in
+    let spelled : codes "COR" ++ behind 32 left ≡ spelling (Correct entry) =
     rw (event.spelled, r.spelled, k.spelled, n.spelled, outcome.spelled) refl in
     subst (Spells (codes "COR" ++ behind 32 left)) same (
       (r.fits, k.fits, n.fits, outcome.fits, subst (λ (x : List ℕ). length x ≤ 600) spelled short),
@@ -159,7 +158,7 @@ strike_only left c h =
     let r = field_only round 2 event.left' _ c event.next in
     let n = field_only number 3 r.left' _ c r.next in
     let end = none_only 4 n.left' _ c n.next in
-    let same : Strike event.value r.value n.value ≡ c = ok_equal _ c end.1 in
+    let same : Strike (round_id event.value r.value) n.value ≡ c = ok_equal _ c end.1 in
     subst (Spells (codes "STR" ++ behind 32 left)) same
     ((r.fits, n.fits), rw (event.spelled, r.spelled, n.spelled, end.0, append-nil) refl)
 
@@ -171,7 +170,7 @@ set_advance_only left c h =
     let r = field_only round 2 event.left' _ c event.next in
     let advance = field_only advance_spelled 3 r.left' _ c r.next in
     let end = none_only 4 advance.left' _ c advance.next in
-    let same : SetAdvance event.value r.value advance.value ≡ c = ok_equal _ c end.1 in
+    let same : SetAdvance (round_id event.value r.value) advance.value ≡ c = ok_equal _ c end.1 in
     subst (Spells (codes "ADV" ++ behind 32 left)) same
     ((r.fits, advance.fits), rw (event.spelled, r.spelled, advance.spelled, end.0, append-nil) refl)
 
@@ -182,7 +181,7 @@ close_only left c h =
     let event = field_only event_spelled 1 left _ c h in
     let r = field_only round 2 event.left' _ c event.next in
     let end = none_only 3 r.left' _ c r.next in
-    let same : Close event.value r.value ≡ c = ok_equal _ c end.1 in
+    let same : Close (round_id event.value r.value) ≡ c = ok_equal _ c end.1 in
     subst (Spells (codes "CLOSE" ++ behind 32 left)) same
     (r.fits, rw (event.spelled, r.spelled, end.0, append-nil) refl)
 
@@ -264,16 +263,16 @@ spelling_short (Register n name) fits =
     join_short (codes "REG") (decimal n ∷ name ∷ [])
     (omega arith, (number_short n (omega arith), (name_short name fits.1, tt))) in
     omega arith
-spelling_short (Open e r s) fits =
+spelling_short (Open id s) fits =
     let whole =
     join_short (codes "OPEN")
-    (event_name e ∷ decimal r ∷ format_name s.format ∷ cutoff_text s.cutoff ∷ limit_text s.limit ∷
-    advance_text s.advance ∷ []) (
+    (event_name id.event ∷ decimal id.round ∷ format_name s.format ∷ cutoff_text s.cutoff ∷
+    limit_text s.limit ∷ advance_text s.advance ∷ []) (
       omega arith,
       (
-        event_short e,
+        event_short id.event,
         (
-          number_short r (omega arith),
+          number_short id.round (omega arith),
           (
             format_short s.format,
             (
@@ -290,27 +289,33 @@ spelling_short (Enter e n) fits =
     join_short (codes "ENT") (event_name e ∷ decimal n ∷ [])
     (omega arith, (event_short e, (number_short n (omega arith), tt))) in
     omega arith
-spelling_short (Scramble e r k moves) fits = fits.3
-spelling_short (Attempt e r k n outcome) fits = fits.4
-spelling_short (Correct e r k n outcome) fits = fits.4
-spelling_short (Strike e r n) fits =
+spelling_short (Scramble id k moves) fits = fits.3
+spelling_short (Attempt entry) fits = fits.4
+spelling_short (Correct entry) fits = fits.4
+spelling_short (Strike id n) fits =
     let whole =
-    join_short (codes "STR") (event_name e ∷ decimal r ∷ decimal n ∷ []) (
+    join_short (codes "STR") (event_name id.event ∷ decimal id.round ∷ decimal n ∷ []) (
       omega arith,
-      (event_short e, (number_short r (omega arith), (number_short n (omega arith), tt))),
+      (
+        event_short id.event,
+        (number_short id.round (omega arith), (number_short n (omega arith), tt)),
+      ),
     ) in
     omega arith
-spelling_short (SetAdvance e r advance) fits =
+spelling_short (SetAdvance id advance) fits =
     let whole =
-    join_short (codes "ADV") (event_name e ∷ decimal r ∷ advance_text advance ∷ []) (
+    join_short (codes "ADV") (event_name id.event ∷ decimal id.round ∷ advance_text advance ∷ []) (
       omega arith,
-      (event_short e, (number_short r (omega arith), (advance_short advance fits.1, tt))),
+      (
+        event_short id.event,
+        (number_short id.round (omega arith), (advance_short advance fits.1, tt)),
+      ),
     ) in
     omega arith
-spelling_short (Close e r) fits =
+spelling_short (Close id) fits =
     let whole =
-    join_short (codes "CLOSE") (event_name e ∷ decimal r ∷ [])
-    (omega arith, (event_short e, (number_short r (omega arith), tt))) in
+    join_short (codes "CLOSE") (event_name id.event ∷ decimal id.round ∷ [])
+    (omega arith, (event_short id.event, (number_short id.round (omega arith), tt))) in
     omega arith
 spelling_short (SetEdition e) fits =
     let whole =
@@ -348,14 +353,14 @@ event_then : (e : Event) (left : List ℕ)
     → field 1 event_of_name (Some (event_name e ++ 32 ∷ left)) ≡ Ok (e, Some left)
 event_then e left = field_then event_spelled 1 e (Some left) tt (event_no_space e)
 
-open_found : (e : Event) (r : ℕ) (s : Settings) → IsFit (Open e r s)
+open_found : (e : Event) (r : ℕ) (s : Settings) → IsFit (Open (round_id e r) s)
     → open_of
     (Some
     (event_name e ++ 32 ∷
     (decimal r ++ 32 ∷
     (format_name s.format ++ 32 ∷
     (cutoff_text s.cutoff ++ 32 ∷ (limit_text s.limit ++ 32 ∷ advance_text s.advance))))))
-    ≡ Ok (Open e r s)
+    ≡ Ok (Open (round_id e r) s)
 unfolding open_of
 open_found e r s fits =
     rw (event_then e
@@ -381,10 +386,11 @@ open_found e r s fits =
     (rw (field_last advance_spelled 6 s.advance fits.1.2 (advance_no_space s.advance fits.1.2))
     refl)))))
 
-scramble_found : (e : Event) (r k : ℕ) (moves : List Move) → IsFit (Scramble e r k moves)
+scramble_found : (e : Event) (r k : ℕ) (moves : List Move)
+    → IsFit (Scramble (round_id e r) k moves)
     → scramble_of
     (Some (event_name e ++ 32 ∷ (decimal r ++ 32 ∷ (decimal k ++ 32 ∷ moves_text moves))))
-    ≡ Ok (Scramble e r k moves)
+    ≡ Ok (Scramble (round_id e r) k moves)
 unfolding scramble_of
 scramble_found e r k moves fits =
     rw (event_then e (decimal r ++ 32 ∷ (decimal k ++ 32 ∷ moves_text moves)))
@@ -394,12 +400,13 @@ scramble_found e r k moves fits =
     (rw (field_then attempt 3 k (Some (moves_text moves)) fits.1 (decimal_no_space k (omega arith)))
     (rw (moves_spelled.found moves fits.2) refl)))
 
-attempt_found : (e : Event) (r k n : ℕ) (outcome : Entered) → IsFit (Attempt e r k n outcome)
+attempt_found : (e : Event) (r k n : ℕ) (outcome : Entered)
+    → IsFit (Attempt (attempt_entry (round_id e r) k n outcome))
     → attempt_of
     (Some
     (event_name e ++ 32 ∷
     (decimal r ++ 32 ∷ (decimal k ++ 32 ∷ (decimal n ++ 32 ∷ entered_text outcome)))))
-    ≡ Ok (Attempt e r k n outcome)
+    ≡ Ok (Attempt (attempt_entry (round_id e r) k n outcome))
 unfolding attempt_of
 attempt_found e r k n outcome fits =
     rw (event_then e
@@ -414,12 +421,13 @@ attempt_found e r k n outcome fits =
     (field_then number 4 n (Some (entered_text outcome)) fits.2 (number_no_space n (omega arith)))
     (rw (entered_spelled.found outcome fits.3) refl))))
 
-correct_found : (e : Event) (r k n : ℕ) (outcome : Entered) → IsFit (Correct e r k n outcome)
+correct_found : (e : Event) (r k n : ℕ) (outcome : Entered)
+    → IsFit (Correct (attempt_entry (round_id e r) k n outcome))
     → correct_of
     (Some
     (event_name e ++ 32 ∷
     (decimal r ++ 32 ∷ (decimal k ++ 32 ∷ (decimal n ++ 32 ∷ entered_text outcome)))))
-    ≡ Ok (Correct e r k n outcome)
+    ≡ Ok (Correct (attempt_entry (round_id e r) k n outcome))
 unfolding correct_of
 correct_found e r k n outcome fits =
     rw (event_then e
@@ -434,17 +442,19 @@ correct_found e r k n outcome fits =
     (field_then number 4 n (Some (entered_text outcome)) fits.2 (number_no_space n (omega arith)))
     (rw (entered_spelled.found outcome fits.3) refl))))
 
-strike_found : (e : Event) (r n : ℕ) → IsFit (Strike e r n)
-    → strike_of (Some (event_name e ++ 32 ∷ (decimal r ++ 32 ∷ decimal n))) ≡ Ok (Strike e r n)
+strike_found : (e : Event) (r n : ℕ) → IsFit (Strike (round_id e r) n)
+    → strike_of (Some (event_name e ++ 32 ∷ (decimal r ++ 32 ∷ decimal n)))
+    ≡ Ok (Strike (round_id e r) n)
 unfolding strike_of
 strike_found e r n fits =
     rw (event_then e (decimal r ++ 32 ∷ decimal n))
     (rw (field_then round 2 r (Some (decimal n)) fits.0 (decimal_no_space r (omega arith)))
     (rw (field_last number 3 n fits.1 (number_no_space n (omega arith))) refl))
 
-set_advance_found : (e : Event) (r : ℕ) (advance : Advance) → IsFit (SetAdvance e r advance)
+set_advance_found : (e : Event) (r : ℕ) (advance : Advance)
+    → IsFit (SetAdvance (round_id e r) advance)
     → set_advance_of (Some (event_name e ++ 32 ∷ (decimal r ++ 32 ∷ advance_text advance)))
-    ≡ Ok (SetAdvance e r advance)
+    ≡ Ok (SetAdvance (round_id e r) advance)
 unfolding set_advance_of
 set_advance_found e r advance fits =
     rw (event_then e (decimal r ++ 32 ∷ advance_text advance))
@@ -452,8 +462,8 @@ set_advance_found e r advance fits =
     (field_then round 2 r (Some (advance_text advance)) fits.0 (decimal_no_space r (omega arith)))
     (rw (field_last advance_spelled 3 advance fits.1 (advance_no_space advance fits.1)) refl))
 
-close_found : (e : Event) (r : ℕ) → IsFit (Close e r)
-    → close_of (Some (event_name e ++ 32 ∷ decimal r)) ≡ Ok (Close e r)
+close_found : (e : Event) (r : ℕ) → IsFit (Close (round_id e r))
+    → close_of (Some (event_name e ++ 32 ∷ decimal r)) ≡ Ok (Close (round_id e r))
 unfolding close_of
 close_found e r fits =
     rw (event_then e (decimal r))
@@ -476,26 +486,29 @@ pub spelled_found : (c : Command) → IsFit c → command_of (spelling c) ≡ Ok
 spelled_found (Register n name) fits =
     word_found (codes "REG") _ refl (spelling_short (Register n name) fits)
     ∙ register_found n name fits
-spelled_found (Open e r s) fits =
-    word_found (codes "OPEN") _ refl (spelling_short (Open e r s) fits) ∙ open_found e r s fits
+spelled_found (Open id s) fits =
+    word_found (codes "OPEN") _ refl (spelling_short (Open id s) fits)
+    ∙ open_found id.event id.round s fits
 spelled_found (Enter e n) fits =
     word_found (codes "ENT") _ refl (spelling_short (Enter e n) fits) ∙ enter_found e n fits
-spelled_found (Scramble e r k moves) fits =
-    word_found (codes "SCR") _ refl (spelling_short (Scramble e r k moves) fits)
-    ∙ scramble_found e r k moves fits
-spelled_found (Attempt e r k n outcome) fits =
-    word_found (codes "ATT") _ refl (spelling_short (Attempt e r k n outcome) fits)
-    ∙ attempt_found e r k n outcome fits
-spelled_found (Correct e r k n outcome) fits =
-    word_found (codes "COR") _ refl (spelling_short (Correct e r k n outcome) fits)
-    ∙ correct_found e r k n outcome fits
-spelled_found (Strike e r n) fits =
-    word_found (codes "STR") _ refl (spelling_short (Strike e r n) fits) ∙ strike_found e r n fits
-spelled_found (SetAdvance e r advance) fits =
-    word_found (codes "ADV") _ refl (spelling_short (SetAdvance e r advance) fits)
-    ∙ set_advance_found e r advance fits
-spelled_found (Close e r) fits =
-    word_found (codes "CLOSE") _ refl (spelling_short (Close e r) fits) ∙ close_found e r fits
+spelled_found (Scramble id k moves) fits =
+    word_found (codes "SCR") _ refl (spelling_short (Scramble id k moves) fits)
+    ∙ scramble_found id.event id.round k moves fits
+spelled_found (Attempt entry) fits =
+    word_found (codes "ATT") _ refl (spelling_short (Attempt entry) fits)
+    ∙ attempt_found entry.id.event entry.id.round entry.attempt entry.number entry.outcome fits
+spelled_found (Correct entry) fits =
+    word_found (codes "COR") _ refl (spelling_short (Correct entry) fits)
+    ∙ correct_found entry.id.event entry.id.round entry.attempt entry.number entry.outcome fits
+spelled_found (Strike id n) fits =
+    word_found (codes "STR") _ refl (spelling_short (Strike id n) fits)
+    ∙ strike_found id.event id.round n fits
+spelled_found (SetAdvance id advance) fits =
+    word_found (codes "ADV") _ refl (spelling_short (SetAdvance id advance) fits)
+    ∙ set_advance_found id.event id.round advance fits
+spelled_found (Close id) fits =
+    word_found (codes "CLOSE") _ refl (spelling_short (Close id) fits)
+    ∙ close_found id.event id.round fits
 spelled_found (SetEdition e) fits =
     word_found (codes "EDITION") _ refl (spelling_short (SetEdition e) fits)
     ∙ set_edition_found e fits

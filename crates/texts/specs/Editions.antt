@@ -14,14 +14,12 @@ entered_edition _ = 1
 -- the first edition that has the spelling; `EDITION 2` is spelled in both
 abbrev pub edition_of : Command → ℕ
 edition_of (Register number name) = 1
-edition_of (Open event round settings) = event_edition event
+edition_of (Open id settings) = event_edition id.event
 edition_of (Enter event number) = event_edition event
-edition_of (Scramble event round attempt moves) = event_edition event
-edition_of (Attempt event round attempt number outcome) =
-    max (event_edition event) (entered_edition outcome)
-edition_of (Correct event round attempt number outcome) =
-    max (event_edition event) (entered_edition outcome)
-edition_of (Strike event round number) = event_edition event
-edition_of (SetAdvance event round advance) = event_edition event
-edition_of (Close event round) = event_edition event
+edition_of (Scramble id attempt moves) = event_edition id.event
+edition_of (Attempt entry) = max (event_edition entry.id.event) (entered_edition entry.outcome)
+edition_of (Correct entry) = max (event_edition entry.id.event) (entered_edition entry.outcome)
+edition_of (Strike id number) = event_edition id.event
+edition_of (SetAdvance id advance) = event_edition id.event
+edition_of (Close id) = event_edition id.event
 edition_of (SetEdition edition) = 1

@@ -12,6 +12,9 @@ use Rattle.cube.specs.declared.moves.Move.{Move}
 use Rattle.notation.specs.Tokens.{token}
 use Rattle.formats.specs.declared.advance.Advance.{Advance}
 use Rattle.formats.specs.declared.advance.Advance.TheVariants.{Final, Top, Percent}
+use Rattle.formats.specs.declared.events.Event.{Event}
+use Rattle.texts.specs.declared.command.RoundId.{RoundId}
+use Rattle.texts.specs.declared.command.AttemptEntry.{AttemptEntry}
 use Rattle.texts.specs.declared.command.Entered.{Entered}
 use Rattle.texts.specs.declared.command.Entered.TheVariants as entered
 use Rattle.texts.specs.Numerals.{digits_value, within}
@@ -136,6 +139,14 @@ entered_of bytes =
     else if bytes_eq (take 2 bytes) (codes "S:")
     then option_map entered.Solution (moves_of (drop 2 bytes))
     else cubes_of bytes
+
+-- a round of an event, and what was entered for an attempt of it
+abbrev pub round_id : Event → ℕ → RoundId
+round_id event round = record { event = event; round = round }
+
+abbrev pub attempt_entry : RoundId → ℕ → ℕ → Entered → AttemptEntry
+attempt_entry id attempt number outcome =
+    record { id = id; attempt = attempt; number = number; outcome = outcome }
 
 abbrev pub IsSolution : Entered → Type 0
 IsSolution (entered.Solution moves) = Unit {0}

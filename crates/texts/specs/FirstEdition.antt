@@ -10,7 +10,7 @@ use Rattle.texts.specs.declared.command.Entered.TheVariants as entered
 use Rattle.texts.specs.declared.reading.CommandFault.{CommandFault}
 use Rattle.texts.specs.declared.reading.CommandFault.TheVariants as fault
 use Rattle.texts.specs.Spelling.{last_round}
-use Rattle.texts.specs.Fields.{cut, number_between, cutoff_of, limit_of, advance_of, moves_of, time_of}
+use Rattle.texts.specs.Fields.{cut, number_between, cutoff_of, limit_of, advance_of, moves_of, time_of, round_id, attempt_entry}
 use Rattle.texts.specs.Reading.{◌>>=◌, field, last_field, no_field, register_of}
 
 unfoldable pub entered_of : List ℕ → Option Entered
@@ -31,7 +31,7 @@ open_of left = do
   limit ← field 5 limit_of cutoff.1
   advance ← field 6 advance_of limit.1
   end ← no_field 7 advance.1
-  Ok (Open event.0 round.0 (record {
+  Ok (Open (round_id event.0 round.0) (record {
     format =
         form.0;
     cutoff = cutoff.0;
@@ -52,7 +52,7 @@ scramble_of left = do
   round ← field 2 (number_between 1 last_round) event.1
   attempt ← field 3 (number_between 1 5) round.1
   moves ← last_field 4 moves_of attempt.1
-  Ok (Scramble event.0 round.0 attempt.0 moves)
+  Ok (Scramble (round_id event.0 round.0) attempt.0 moves)
 
 unfoldable pub attempt_of : Option (List ℕ) → Result Command CommandFault
 attempt_of left = do
@@ -61,7 +61,7 @@ attempt_of left = do
   attempt ← field 3 (number_between 1 5) round.1
   number ← field 4 (number_between 1 9999) attempt.1
   outcome ← last_field 5 entered_of number.1
-  Ok (Attempt event.0 round.0 attempt.0 number.0 outcome)
+  Ok (Attempt (attempt_entry (round_id event.0 round.0) attempt.0 number.0 outcome))
 
 unfoldable pub correct_of : Option (List ℕ) → Result Command CommandFault
 correct_of left = do
@@ -70,7 +70,7 @@ correct_of left = do
   attempt ← field 3 (number_between 1 5) round.1
   number ← field 4 (number_between 1 9999) attempt.1
   outcome ← last_field 5 entered_of number.1
-  Ok (Correct event.0 round.0 attempt.0 number.0 outcome)
+  Ok (Correct (attempt_entry (round_id event.0 round.0) attempt.0 number.0 outcome))
 
 unfoldable pub strike_of : Option (List ℕ) → Result Command CommandFault
 strike_of left = do
@@ -78,7 +78,7 @@ strike_of left = do
   round ← field 2 (number_between 1 last_round) event.1
   number ← field 3 (number_between 1 9999) round.1
   end ← no_field 4 number.1
-  Ok (Strike event.0 round.0 number.0)
+  Ok (Strike (round_id event.0 round.0) number.0)
 
 unfoldable pub set_advance_of : Option (List ℕ) → Result Command CommandFault
 set_advance_of left = do
@@ -86,14 +86,14 @@ set_advance_of left = do
   round ← field 2 (number_between 1 last_round) event.1
   advance ← field 3 advance_of round.1
   end ← no_field 4 advance.1
-  Ok (SetAdvance event.0 round.0 advance.0)
+  Ok (SetAdvance (round_id event.0 round.0) advance.0)
 
 unfoldable pub close_of : Option (List ℕ) → Result Command CommandFault
 close_of left = do
   event ← field 1 event_named left
   round ← field 2 (number_between 1 last_round) event.1
   end ← no_field 3 round.1
-  Ok (Close event.0 round.0)
+  Ok (Close (round_id event.0 round.0))
 
 abbrev pub by_word : List ℕ × Option (List ℕ) → Result Command CommandFault
 by_word text =

@@ -43,23 +43,23 @@ entered_text entered.Dns = codes "DNS"
 -- the words of a command: its own, and its fields
 abbrev pub words_of : Command → List (List ℕ)
 words_of (Register number name) = codes "REG" ∷ decimal number ∷ name ∷ []
-words_of (Open event round settings) =
-    codes "OPEN" ∷ event_name event ∷ decimal round ∷ format_name settings.format
+words_of (Open id settings) =
+    codes "OPEN" ∷ event_name id.event ∷ decimal id.round ∷ format_name settings.format
     ∷ cutoff_text settings.cutoff ∷ limit_text settings.limit ∷ advance_text settings.advance ∷ []
 words_of (Enter event number) = codes "ENT" ∷ event_name event ∷ decimal number ∷ []
-words_of (Scramble event round attempt moves) =
-    codes "SCR" ∷ event_name event ∷ decimal round ∷ decimal attempt ∷ moves_text moves ∷ []
-words_of (Attempt event round attempt number outcome) =
-    codes "ATT" ∷ event_name event ∷ decimal round ∷ decimal attempt ∷ decimal number
-    ∷ entered_text outcome ∷ []
-words_of (Correct event round attempt number outcome) =
-    codes "COR" ∷ event_name event ∷ decimal round ∷ decimal attempt ∷ decimal number
-    ∷ entered_text outcome ∷ []
-words_of (Strike event round number) =
-    codes "STR" ∷ event_name event ∷ decimal round ∷ decimal number ∷ []
-words_of (SetAdvance event round advance) =
-    codes "ADV" ∷ event_name event ∷ decimal round ∷ advance_text advance ∷ []
-words_of (Close event round) = codes "CLOSE" ∷ event_name event ∷ decimal round ∷ []
+words_of (Scramble id attempt moves) =
+    codes "SCR" ∷ event_name id.event ∷ decimal id.round ∷ decimal attempt ∷ moves_text moves ∷ []
+words_of (Attempt entry) =
+    codes "ATT" ∷ event_name entry.id.event ∷ decimal entry.id.round ∷ decimal entry.attempt
+    ∷ decimal entry.number ∷ entered_text entry.outcome ∷ []
+words_of (Correct entry) =
+    codes "COR" ∷ event_name entry.id.event ∷ decimal entry.id.round ∷ decimal entry.attempt
+    ∷ decimal entry.number ∷ entered_text entry.outcome ∷ []
+words_of (Strike id number) =
+    codes "STR" ∷ event_name id.event ∷ decimal id.round ∷ decimal number ∷ []
+words_of (SetAdvance id advance) =
+    codes "ADV" ∷ event_name id.event ∷ decimal id.round ∷ advance_text advance ∷ []
+words_of (Close id) = codes "CLOSE" ∷ event_name id.event ∷ decimal id.round ∷ []
 words_of (SetEdition edition) = codes "EDITION" ∷ decimal edition ∷ []
 
 -- the spelling of a command
@@ -126,18 +126,18 @@ IsShort c = length (spelling c) ≤ 600
 -- of the language
 abbrev pub IsFit : Command → Type 0
 IsFit (Register number name) = IsWithin 1 9999 number × IsTrue (is_name name)
-IsFit (Open event round settings) = IsWithin 1 last_round round × IsFitSettings settings
+IsFit (Open id settings) = IsWithin 1 last_round id.round × IsFitSettings settings
 IsFit (Enter event number) = IsWithin 1 9999 number
-IsFit (Scramble event round attempt moves) =
-    IsWithin 1 last_round round × IsWithin 1 5 attempt × AreMoves moves
-    × IsShort (Scramble event round attempt moves)
-IsFit (Attempt event round attempt number outcome) =
-    IsWithin 1 last_round round × IsWithin 1 5 attempt × IsWithin 1 9999 number × IsEntered outcome
-    × IsShort (Attempt event round attempt number outcome)
-IsFit (Correct event round attempt number outcome) =
-    IsWithin 1 last_round round × IsWithin 1 5 attempt × IsWithin 1 9999 number × IsEntered outcome
-    × IsShort (Correct event round attempt number outcome)
-IsFit (Strike event round number) = IsWithin 1 last_round round × IsWithin 1 9999 number
-IsFit (SetAdvance event round advance) = IsWithin 1 last_round round × IsFitAdvance advance
-IsFit (Close event round) = IsWithin 1 last_round round
+IsFit (Scramble id attempt moves) =
+    IsWithin 1 last_round id.round × IsWithin 1 5 attempt × AreMoves moves
+    × IsShort (Scramble id attempt moves)
+IsFit (Attempt entry) =
+    IsWithin 1 last_round entry.id.round × IsWithin 1 5 entry.attempt × IsWithin 1 9999 entry.number
+    × IsEntered entry.outcome × IsShort (Attempt entry)
+IsFit (Correct entry) =
+    IsWithin 1 last_round entry.id.round × IsWithin 1 5 entry.attempt × IsWithin 1 9999 entry.number
+    × IsEntered entry.outcome × IsShort (Correct entry)
+IsFit (Strike id number) = IsWithin 1 last_round id.round × IsWithin 1 9999 number
+IsFit (SetAdvance id advance) = IsWithin 1 last_round id.round × IsFitAdvance advance
+IsFit (Close id) = IsWithin 1 last_round id.round
 IsFit (SetEdition edition) = IsWithin 2 last_edition edition

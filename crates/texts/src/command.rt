@@ -83,6 +83,25 @@ pub enum Entered {
     Dns,
 }
 
+/// A round of an event.
+#[derive(Clone, Copy, Debug, PartialEq, Eq)]
+pub struct RoundId {
+    pub event: Event,
+    /// 1 to 4.
+    pub round: u8,
+}
+
+/// What a judge enters for an attempt of a competitor in a round.
+#[derive(Drop)]
+pub struct AttemptEntry {
+    pub id: RoundId,
+    /// 1 to 5.
+    pub attempt: u8,
+    /// The competitor's number, 1 to 9,999.
+    pub number: u16,
+    pub outcome: Entered,
+}
+
 /// What a text of the list asks for. Competitors' numbers are 1 to 9,999, rounds 1 to 4, attempts 1
 /// to 5.
 #[derive(Drop)]
@@ -94,8 +113,7 @@ pub enum Command {
     },
     /// `OPEN`: opens a round of an event.
     Open {
-        event: Event,
-        round: u8,
+        id: RoundId,
         settings: Settings,
     },
     /// `ENT`: enters a competitor for the first round of an event.
@@ -106,44 +124,28 @@ pub enum Command {
     /// `SCR`: sets the scramble of an attempt of a round, as many moves as its text of at most 600
     /// bytes holds.
     Scramble {
-        event: Event,
-        round: u8,
+        id: RoundId,
         attempt: u8,
         moves: Moves,
     },
     /// `ATT`: what a competitor did in the next attempt of a round.
-    Attempt {
-        event: Event,
-        round: u8,
-        attempt: u8,
-        number: u16,
-        outcome: Entered,
-    },
+    Attempt(AttemptEntry),
     /// `COR`: what a competitor did in an attempt of a round, in place of what was entered for it
     /// before.
-    Correct {
-        event: Event,
-        round: u8,
-        attempt: u8,
-        number: u16,
-        outcome: Entered,
-    },
+    Correct(AttemptEntry),
     /// `STR`: strikes out a competitor's last attempt of a round.
     Strike {
-        event: Event,
-        round: u8,
+        id: RoundId,
         number: u16,
     },
     /// `ADV`: changes who advances from a round.
     SetAdvance {
-        event: Event,
-        round: u8,
+        id: RoundId,
         advance: Advance,
     },
     /// `CLOSE`: closes a round.
     Close {
-        event: Event,
-        round: u8,
+        id: RoundId,
     },
     /// `EDITION`: the edition of the commands that holds from the next one on, which is 2.
     SetEdition {

@@ -23,14 +23,26 @@ pub fn edition_of(command: &Command) -> u8
 {
     match command {
         Command::Register { .. } | Command::SetEdition { .. } => 1,
-        Command::Open { event, .. } => event.edition(),
+        Command::Open { id, .. } => id.event.edition(),
         Command::Enter { event, .. } => event.edition(),
-        Command::Scramble { event, .. } => event.edition(),
-        Command::Attempt { event, outcome, .. } => event.edition().max(entered_edition(outcome)),
-        Command::Correct { event, outcome, .. } => event.edition().max(entered_edition(outcome)),
-        Command::Strike { event, .. } => event.edition(),
-        Command::SetAdvance { event, .. } => event.edition(),
-        Command::Close { event, .. } => event.edition(),
+        Command::Scramble { id, .. } => id.event.edition(),
+        Command::Attempt(entry) => {
+            entry
+                .id
+                .event
+                .edition()
+                .max(entered_edition(&entry.outcome))
+        }
+        Command::Correct(entry) => {
+            entry
+                .id
+                .event
+                .edition()
+                .max(entered_edition(&entry.outcome))
+        }
+        Command::Strike { id, .. } => id.event.edition(),
+        Command::SetAdvance { id, .. } => id.event.edition(),
+        Command::Close { id, .. } => id.event.edition(),
     }
 }
 

@@ -10,7 +10,7 @@ mod printing;
 mod reading;
 
 pub use answer::{Answer, Code};
-pub use command::{Command, Entered, Name, Settings};
+pub use command::{AttemptEntry, Command, Entered, Name, RoundId, Settings};
 pub use editions::{edition_of, first_edition_reads};
 pub use fields::cut;
 pub use formats::Advance;

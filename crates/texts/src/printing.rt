@@ -7,7 +7,7 @@ ghost use Rattle.texts.specs.Spelling.{cutoff_text, limit_text, advance_text, en
 ghost use Rattle.texts.specs.declared.command.Command.TheVariants.{Register as RegisterOf, Open as OpenOf, Enter as EnterOf, Scramble as ScrambleOf, Attempt as AttemptOf, Correct as CorrectOf, Strike as StrikeOf, SetAdvance as SetAdvanceOf, Close as CloseOf, SetEdition as SetEditionOf};
 ghost use Rattle.texts.specs.declared.command.Entered.TheVariants.{Time as TimeOf, Solution as SolutionOf, Multi as MultiOf};
 
-use crate::command::{Command, Entered, Settings};
+use crate::command::{AttemptEntry, Command, Entered, RoundId, Settings};
 use attempts::{NoMemory, push_decimal};
 use cube::Move;
 use formats::{Advance, Event};
@@ -148,12 +148,12 @@ fn push_field(out: &mut Vec<u8>, field: &[u8]) -> Result<(), NoMemory>
     out.extend_from_slice(field)
 }
 
-fn push_round(out: &mut Vec<u8>, event: Event, round: u8) -> Result<(), NoMemory>
+fn push_round(out: &mut Vec<u8>, id: RoundId) -> Result<(), NoMemory>
     ensures { OnOk result (out.new.items ≡ out.old.items
-        ++ codes " " ++ event_name event ++ codes " " ++ decimal round) }
+        ++ codes " " ++ event_name id.event ++ codes " " ++ decimal id.round) }
 {
-    push_field(out, event.name().as_bytes())?;
-    push_number(out, u32::from(round))
+    push_field(out, id.event.name().as_bytes())?;
+    push_number(out, u32::from(id.round))
 }
 
 fn push_settings(out: &mut Vec<u8>, settings: Settings) -> Result<(), NoMemory>
@@ -178,12 +178,11 @@ fn push_register(out: &mut Vec<u8>, number: u16, name: &[u8]) -> Result<(), NoMe
     push_field(out, name)
 }
 
-fn push_open(out: &mut Vec<u8>, event: Event, round: u8, settings: Settings) -> Result<(), NoMemory>
-    ensures { OnOk result
-        (out.new.items ≡ out.old.items ++ spelling (OpenOf event round settings)) }
+fn push_open(out: &mut Vec<u8>, id: RoundId, settings: Settings) -> Result<(), NoMemory>
+    ensures { OnOk result (out.new.items ≡ out.old.items ++ spelling (OpenOf id settings)) }
 {
     out.extend_from_slice(b"OPEN")?;
-    push_round(out, event, round)?;
+    push_round(out, id)?;
     push_settings(out, settings)
 }
 
@@ -198,106 +197,70 @@ fn push_enter(out: &mut Vec<u8>, event: Event, number: u16) -> Result<(), NoMemo
 fn push_scramble(
     alloc: Global,
     out: &mut Vec<u8>,
-    event: Event,
-    round: u8,
+    id: RoundId,
     attempt: u8,
     moves: &[Move],
 ) -> Result<(), NoMemory>
     ensures { OnOk result
-        (out.new.items ≡ out.old.items ++ spelling (ScrambleOf event round attempt moves.now)) }
+        (out.new.items ≡ out.old.items ++ spelling (ScrambleOf id attempt moves.now)) }
 {
     out.extend_from_slice(b"SCR")?;
-    push_round(out, event, round)?;
+    push_round(out, id)?;
     push_number(out, u32::from(attempt))?;
     out.extend_from_slice(b" ")?;
     push_moves(alloc, out, moves)
 }
 
 /// The fields of an attempt.
-fn push_done(
-    alloc: Global,
-    out: &mut Vec<u8>,
-    event: Event,
-    round: u8,
-    attempt: u8,
-    number: u16,
-    outcome: &Entered,
-) -> Result<(), NoMemory>
+fn push_entry(alloc: Global, out: &mut Vec<u8>, entry: &AttemptEntry) -> Result<(), NoMemory>
     ensures { OnOk result (out.new.items ≡ out.old.items
-        ++ codes " " ++ event_name event ++ codes " " ++ decimal round
-        ++ codes " " ++ decimal attempt ++ codes " " ++ decimal number
-        ++ codes " " ++ entered_text outcome.now) }
+        ++ codes " " ++ event_name entry.now.id.event ++ codes " " ++ decimal entry.now.id.round
+        ++ codes " " ++ decimal entry.now.attempt ++ codes " " ++ decimal entry.now.number
+        ++ codes " " ++ entered_text entry.now.outcome) }
 {
-    push_round(out, event, round)?;
-    push_number(out, u32::from(attempt))?;
-    push_number(out, u32::from(number))?;
+    push_round(out, entry.id)?;
+    push_number(out, u32::from(entry.attempt))?;
+    push_number(out, u32::from(entry.number))?;
     out.extend_from_slice(b" ")?;
-    push_entered(alloc, out, outcome)
+    push_entered(alloc, out, &entry.outcome)
 }
 
-fn push_attempt(
-    alloc: Global,
-    out: &mut Vec<u8>,
-    event: Event,
-    round: u8,
-    attempt: u8,
-    number: u16,
-    outcome: &Entered,
-) -> Result<(), NoMemory>
-    ensures { OnOk result
-        (out.new.items
-        ≡ out.old.items ++ spelling (AttemptOf event round attempt number outcome.now)) }
+fn push_attempt(alloc: Global, out: &mut Vec<u8>, entry: &AttemptEntry) -> Result<(), NoMemory>
+    ensures { OnOk result (out.new.items ≡ out.old.items ++ spelling (AttemptOf entry.now)) }
 {
     out.extend_from_slice(b"ATT")?;
-    push_done(alloc, out, event, round, attempt, number, outcome)
+    push_entry(alloc, out, entry)
 }
 
-fn push_correct(
-    alloc: Global,
-    out: &mut Vec<u8>,
-    event: Event,
-    round: u8,
-    attempt: u8,
-    number: u16,
-    outcome: &Entered,
-) -> Result<(), NoMemory>
-    ensures { OnOk result
-        (out.new.items
-        ≡ out.old.items ++ spelling (CorrectOf event round attempt number outcome.now)) }
+fn push_correct(alloc: Global, out: &mut Vec<u8>, entry: &AttemptEntry) -> Result<(), NoMemory>
+    ensures { OnOk result (out.new.items ≡ out.old.items ++ spelling (CorrectOf entry.now)) }
 {
     out.extend_from_slice(b"COR")?;
-    push_done(alloc, out, event, round, attempt, number, outcome)
+    push_entry(alloc, out, entry)
 }
 
-fn push_strike(out: &mut Vec<u8>, event: Event, round: u8, number: u16) -> Result<(), NoMemory>
-    ensures { OnOk result
-        (out.new.items ≡ out.old.items ++ spelling (StrikeOf event round number)) }
+fn push_strike(out: &mut Vec<u8>, id: RoundId, number: u16) -> Result<(), NoMemory>
+    ensures { OnOk result (out.new.items ≡ out.old.items ++ spelling (StrikeOf id number)) }
 {
     out.extend_from_slice(b"STR")?;
-    push_round(out, event, round)?;
+    push_round(out, id)?;
     push_number(out, u32::from(number))
 }
 
-fn push_set_advance(
-    out: &mut Vec<u8>,
-    event: Event,
-    round: u8,
-    advance: Advance,
-) -> Result<(), NoMemory>
-    ensures { OnOk result
-        (out.new.items ≡ out.old.items ++ spelling (SetAdvanceOf event round advance)) }
+fn push_set_advance(out: &mut Vec<u8>, id: RoundId, advance: Advance) -> Result<(), NoMemory>
+    ensures { OnOk result (out.new.items ≡ out.old.items ++ spelling (SetAdvanceOf id advance)) }
 {
     out.extend_from_slice(b"ADV")?;
-    push_round(out, event, round)?;
+    push_round(out, id)?;
     out.extend_from_slice(b" ")?;
     push_advance(out, advance)
 }
 
-fn push_close(out: &mut Vec<u8>, event: Event, round: u8) -> Result<(), NoMemory>
-    ensures { OnOk result (out.new.items ≡ out.old.items ++ spelling (CloseOf event round)) }
+fn push_close(out: &mut Vec<u8>, id: RoundId) -> Result<(), NoMemory>
+    ensures { OnOk result (out.new.items ≡ out.old.items ++ spelling (CloseOf id)) }
 {
     out.extend_from_slice(b"CLOSE")?;
-    push_round(out, event, round)
+    push_round(out, id)
 }
 
 fn push_set_edition(out: &mut Vec<u8>, edition: u8) -> Result<(), NoMemory>
@@ -315,43 +278,16 @@ pub fn print(alloc: Global, command: &Command) -> Result<Vec<u8>, NoMemory>
     let mut out = Vec::new(alloc);
     match command {
         Command::Register { number, name } => push_register(&mut out, *number, name.as_bytes())?,
-        Command::Open {
-            event,
-            round,
-            settings,
-        } => push_open(&mut out, *event, *round, *settings)?,
+        Command::Open { id, settings } => push_open(&mut out, *id, *settings)?,
         Command::Enter { event, number } => push_enter(&mut out, *event, *number)?,
-        Command::Scramble {
-            event,
-            round,
-            attempt,
-            moves,
-        } => push_scramble(alloc, &mut out, *event, *round, *attempt, moves.as_slice())?,
-        Command::Attempt {
-            event,
-            round,
-            attempt,
-            number,
-            outcome,
-        } => push_attempt(alloc, &mut out, *event, *round, *attempt, *number, outcome)?,
-        Command::Correct {
-            event,
-            round,
-            attempt,
-            number,
-            outcome,
-        } => push_correct(alloc, &mut out, *event, *round, *attempt, *number, outcome)?,
-        Command::Strike {
-            event,
-            round,
-            number,
-        } => push_strike(&mut out, *event, *round, *number)?,
-        Command::SetAdvance {
-            event,
-            round,
-            advance,
-        } => push_set_advance(&mut out, *event, *round, *advance)?,
-        Command::Close { event, round } => push_close(&mut out, *event, *round)?,
+        Command::Scramble { id, attempt, moves } => {
+            push_scramble(alloc, &mut out, *id, *attempt, moves.as_slice())?
+        }
+        Command::Attempt(entry) => push_attempt(alloc, &mut out, entry)?,
+        Command::Correct(entry) => push_correct(alloc, &mut out, entry)?,
+        Command::Strike { id, number } => push_strike(&mut out, *id, *number)?,
+        Command::SetAdvance { id, advance } => push_set_advance(&mut out, *id, *advance)?,
+        Command::Close { id } => push_close(&mut out, *id)?,
         Command::SetEdition { edition } => push_set_edition(&mut out, *edition)?,
     }
     Ok(out)

@@ -6,7 +6,7 @@ ghost use Rattle.texts.specs.Fields.{cut};
 ghost use Rattle.texts.specs.Reading.{Gives, moves_field, is_word, Reads, ReadsAs, front, no_field, register_of, open_of, enter_of, scramble_of, attempt_of, correct_of, strike_of, set_advance_of, close_of, set_edition_of, by_word, command_of, ReadsWhatIsSpelled, SpellsWhatIsRead, SpellsOneCommand, SpellsShort};
 ghost use Rattle.texts.specs.declared.reading.CommandFault.TheVariants.{NoMemory as OutOfMemory, BadField as BadFieldAt};
 
-use crate::command::{Command, Name, Settings};
+use crate::command::{AttemptEntry, Command, Name, RoundId, Settings};
 use crate::fields::{
     LAST_EDITION, LAST_ROUND, advance_of, cut, cutoff_of, entered_of, is_name, limit_of, moves_of,
 };
@@ -105,8 +105,10 @@ fn open_of(left: Option<&[u8]>) -> Result<Command, CommandFault>
     let advance = advance_of(bytes).ok_or(CommandFault::BadField { index: 6 })?;
     no_field(7, left)?;
     Ok(Command::Open {
-        event,
-        round: round as u8,
+        id: RoundId {
+            event,
+            round: round as u8,
+        },
         settings: Settings {
             format,
             cutoff,
@@ -146,8 +148,10 @@ fn scramble_of(alloc: Global, left: Option<&[u8]>) -> Result<Command, CommandFau
     let bytes = last_field(4, left)?;
     let moves = moves_of(alloc, bytes)?.ok_or(CommandFault::BadField { index: 4 })?;
     Ok(Command::Scramble {
-        event,
-        round: round as u8,
+        id: RoundId {
+            event,
+            round: round as u8,
+        },
         attempt: attempt as u8,
         moves,
     })
@@ -168,13 +172,15 @@ fn attempt_of(alloc: Global, left: Option<&[u8]>) -> Result<Command, CommandFaul
     let number = number_between(1, 9999, bytes).ok_or(CommandFault::BadField { index: 4 })?;
     let bytes = last_field(5, left)?;
     let outcome = entered_of(alloc, bytes)?.ok_or(CommandFault::BadField { index: 5 })?;
-    Ok(Command::Attempt {
-        event,
-        round: round as u8,
+    Ok(Command::Attempt(AttemptEntry {
+        id: RoundId {
+            event,
+            round: round as u8,
+        },
         attempt: attempt as u8,
         number: number as u16,
         outcome,
-    })
+    }))
 }
 
 /// `COR`: event, round, attempt, number, outcome.
@@ -192,13 +198,15 @@ fn correct_of(alloc: Global, left: Option<&[u8]>) -> Result<Command, CommandFaul
     let number = number_between(1, 9999, bytes).ok_or(CommandFault::BadField { index: 4 })?;
     let bytes = last_field(5, left)?;
     let outcome = entered_of(alloc, bytes)?.ok_or(CommandFault::BadField { index: 5 })?;
-    Ok(Command::Correct {
-        event,
-        round: round as u8,
+    Ok(Command::Correct(AttemptEntry {
+        id: RoundId {
+            event,
+            round: round as u8,
+        },
         attempt: attempt as u8,
         number: number as u16,
         outcome,
-    })
+    }))
 }
 
 /// `STR`: event, round, number.
@@ -214,8 +222,10 @@ fn strike_of(left: Option<&[u8]>) -> Result<Command, CommandFault>
     let number = number_between(1, 9999, bytes).ok_or(CommandFault::BadField { index: 3 })?;
     no_field(4, left)?;
     Ok(Command::Strike {
-        event,
-        round: round as u8,
+        id: RoundId {
+            event,
+            round: round as u8,
+        },
         number: number as u16,
     })
 }
@@ -233,8 +243,10 @@ fn set_advance_of(left: Option<&[u8]>) -> Result<Command, CommandFault>
     let advance = advance_of(bytes).ok_or(CommandFault::BadField { index: 3 })?;
     no_field(4, left)?;
     Ok(Command::SetAdvance {
-        event,
-        round: round as u8,
+        id: RoundId {
+            event,
+            round: round as u8,
+        },
         advance,
     })
 }
@@ -250,8 +262,10 @@ fn close_of(left: Option<&[u8]>) -> Result<Command, CommandFault>
     let round = number_between(1, LAST_ROUND, bytes).ok_or(CommandFault::BadField { index: 2 })?;
     no_field(3, left)?;
     Ok(Command::Close {
-        event,
-        round: round as u8,
+        id: RoundId {
+            event,
+            round: round as u8,
+        },
     })
 }
 

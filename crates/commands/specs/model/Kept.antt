@@ -36,7 +36,7 @@ pub record AreCompetitors (cs : List Command) (kept : Competitors) : Type 0 wher
   pub names : (name : List ℕ) → is_taken kept name ≡ list_any (has_name name) cs
 
 abbrev pub is_round : Event → ℕ → KeptRound → Bool
-is_round e r x = same_event e x.event && r == x.round
+is_round e r x = same_event e x.id.event && r == x.id.round
 
 abbrev pub kept_value : KeptRound → Settings × Table
 kept_value x = (x.settings, x.table)
@@ -78,8 +78,8 @@ pub record IsKeptAt (xs : List KeptRound) (e : Event) (r : ℕ) (i : ℕ) : Type
   pub kept : (d : KeptRound)
       → kept_round e r xs ≡ Some ((slice_index_or xs i d).settings, (slice_index_or xs i d).table)
   pub places : (d : KeptRound) (k : ℕ) → kept_scramble e r k xs ≡ place_in k (slice_index_or xs i d)
-  pub changed : (d x : KeptRound) → x.event ≡ (slice_index_or xs i d).event
-      → x.round ≡ (slice_index_or xs i d).round → (f : Event) (s : ℕ)
+  pub changed : (d x : KeptRound) → x.id.event ≡ (slice_index_or xs i d).id.event
+      → x.id.round ≡ (slice_index_or xs i d).id.round → (f : Event) (s : ℕ)
       → find (is_round f s) (slice_set xs i x)
       ≡ (if same_event f e && s == r then Some x else find (is_round f s) xs)
 

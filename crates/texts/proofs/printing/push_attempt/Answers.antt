@@ -4,5 +4,5 @@ use Rattle.texts.proofs.printing.push_attempt.Goals as goal
 
 pub returns : goal.returns
 returns c =
-    IfOk-equal _ _ _ _ c.push_done.ensures
+    IfOk-equal _ _ _ _ c.push_entry.ensures
     (rw c.in_ok-extend_from_slice.ensures.items (simp append_assoc))

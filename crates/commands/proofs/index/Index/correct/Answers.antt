@@ -9,13 +9,14 @@ registered_then registered unknown answer further known is = rw known is
 
 pub returns-clause-code : goal.returns-clause-code
 returns-clause-code c =
+    let id = c.args.entry.now.id in
     registered_then _ _ _ _ (sym c.if-not-is_registered.ensures)
-    (rw
-    (c.scramble_of-scramble.ensures, c.requires.index.rounds.rounds c.args.event c.args.round) at
+    (rw (c.scramble_of-scramble.ensures, c.requires.index.rounds.rounds id.event id.round) at
     c.correct.ensures.code)
 
 pub returns-clause-index : goal.returns-clause-index
 returns-clause-index c =
-    corrected c.args.accepted.now c.args.event c.args.round c.args.attempt c.args.number
-    c.args.entered.now c.correct.result c.args.self.now _ c.requires.index refl
+    let entry = c.args.entry.now in
+    corrected c.args.accepted.now entry.id.event entry.id.round entry.attempt entry.number
+    entry.outcome c.correct.result c.args.self.now _ c.requires.index refl
     (rw c.scramble_of-scramble.ensures at c.correct.ensures.done) c.correct.ensures.refused

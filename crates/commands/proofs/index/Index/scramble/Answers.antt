@@ -4,8 +4,9 @@ use Rattle.commands.proofs.index.Index.scramble.Goals as goal
 
 pub returns-clause-index : goal.returns-clause-index
 returns-clause-index c moves =
-    scrambled c.args.accepted.now c.args.event c.args.round c.args.attempt moves
+    scrambled c.args.accepted.now c.args.id.event c.args.id.round c.args.attempt moves
     c.add_scramble.result c.args.self.now _ c.requires.index c.requires.attempt
-    (rw (c.scramble_of-there.ensures, c.requires.index.rounds.rounds c.args.event c.args.round) at
+    (rw
+    (c.scramble_of-there.ensures, c.requires.index.rounds.rounds c.args.id.event c.args.id.round) at
     c.add_scramble.ensures.code)
     refl c.add_scramble.ensures.done c.add_scramble.ensures.refused

@@ -14,4 +14,4 @@ any_step p i n within fails =
 pub loop-earlier-preserved : goal.loop-earlier-preserved
 loop-earlier-preserved c =
     c.loop-earlier.invariant
-    ∙ any_step _ c.loop-earlier.earlier c.args.round (omega arith) (sym c.if-has_too_few.ensures)
+    ∙ any_step _ c.loop-earlier.earlier c.args.id.round (omega arith) (sym c.if-has_too_few.ensures)

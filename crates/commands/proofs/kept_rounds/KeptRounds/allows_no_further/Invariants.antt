@@ -6,7 +6,7 @@ use Rattle.commands.proofs.kept_rounds.KeptRounds.allows_no_further.Given as goa
 
 abbrev pub invariant-loop-earlier : goal.invariant-loop-earlier
 invariant-loop-earlier l =
-    list_any (has_too_few (λ j. kept_round l.event j l.self.opened.items) l.round)
-    (range_with_len 1 l.round)
-    ≡ list_any (has_too_few (λ j. kept_round l.event j l.self.opened.items) l.round)
-    (range_with_len l.earlier (l.round + 1 - l.earlier))
+    list_any (has_too_few (λ j. kept_round l.id.event j l.self.opened.items) l.id.round)
+    (range_with_len 1 l.id.round)
+    ≡ list_any (has_too_few (λ j. kept_round l.id.event j l.self.opened.items) l.id.round)
+    (range_with_len l.earlier (l.id.round + 1 - l.earlier))

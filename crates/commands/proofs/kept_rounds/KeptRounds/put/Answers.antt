@@ -10,16 +10,18 @@ returns-in-Some-refusal-clause-code c =
 
 pub returns-in-Ok-clause-done : goal.returns-in-Ok-clause-done
 returns-in-Ok-clause-done c =
-    round_changed_to c.args.self.now.opened.items c.args.event c.args.round c.in-Some.place
+    let id = c.args.entry.now.id in
+    round_changed_to c.args.self.now.opened.items id.event id.round c.in-Some.place
     c.index_mut-kept.result.now _ _ (rw c.deref.ensures.value at c.in-Some.ensures)
     c.index_mut-kept.ensures.value refl refl refl
     (rw (c.in-Ok.ensures.put, c.settle-value.ensures.value, c.outcome_of.ensures.value) refl)
 
 pub put-requires : goal.put-requires
 put-requires c =
+    let id = c.args.entry.now.id in
     c.settle-value.ensures.in_range c.index_mut-kept.result.now.table.unit
-    (outcome_fits c.args.event _ c.args.entered.now _ _ _ c.requires.unit
-    (kept_is c.args.self.now.opened.items c.args.event c.args.round c.in-Some.place
+    (outcome_fits id.event _ c.args.entry.now.outcome _ _ _ c.requires.unit
+    (kept_is c.args.self.now.opened.items id.event id.round c.in-Some.place
     c.index_mut-kept.result.now (rw c.deref.ensures.value at c.in-Some.ensures)
     c.index_mut-kept.ensures.value)
     c.in_default-refusal.ensures c.outcome_of.ensures.of_unit)
