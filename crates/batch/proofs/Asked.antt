@@ -1,15 +1,21 @@
 -- Lines that were entered, and what was asked for that.
-use Rattle.std.proofs.Common.{◌≡◌, ℕ, ◌+◌, List, [], ◌∷◌, ◌++◌, length, Option, Result, Ok, Err, OnErr, refl, sym, ap, ◌∙◌, append_assoc, append-nil, subst, arith}
+use Rattle.std.proofs.Common.{◌≡◌, ◌⊎◌, inl, inr, ℕ, ◌+◌, Bool, true, List, [], ◌∷◌, ◌++◌, length, Option, Result, Ok, Err, OnErr, IfErr, refl, sym, ap, ◌∙◌, append_assoc, append-nil, subst, arith}
 use Rattle.client.specs.Printing.{reply_text}
+use Rattle.std.proofs.KnownBytes.{Appends-nil}
 use Rattle.lines.specs.Lines.{lines_of}
 use Rattle.lines.specs.Reading.{Reading, GivesFault, GivesLine, GivesNone}
 use Rattle.lines.specs.Bytes.{AppendsPart}
 use Rattle.lines.specs.declared.fault.RunFault.{RunFault}
 use Rattle.wire.specs.declared.frame.What.{What}
-use Rattle.batch.specs.Asking.{Adds, AreOf, Asked, Asks}
-use Rattle.batch.specs.Entering.{AsksAll, AsksSome, EnteredBy, SaidBy}
+use Rattle.batch.specs.Asking.{Adds, AreOf, Asked, Asks, IsAnswer, submit_of}
+use Rattle.batch.specs.declared.asking.Receiver.{Receiver}
+use Rattle.batch.specs.declared.fault.BatchFault.TheVariants as fault
+use Rattle.batch.specs.model.Trying.{IsUndecided}
+use Rattle.batch.specs.Entering.{AsksAll, AsksSome, EndsReading, EnteredBy, Hinders, SaidBy}
+use Rattle.batch.specs.Entering.{EntersSome, Sides, StopsBy, StopsLine, Told}
+use Rattle.batch.specs.declared.fault.BatchFault.{BatchFault}
 use Rattle.batch.specs.declared.lines_entered.Batch.{Batch}
-use Rattle.batch.proofs.Entered.{Entered, enters_all, stops_at, stops_in}
+use Rattle.batch.proofs.Entered.{Entered, enters_all, next_of, stops_at, stops_in}
 use Rattle.batch.proofs.Trying.{adds_more, adds_none, entered_for}
 
 -- the lines that were given were entered by these requests
@@ -78,45 +84,65 @@ asks_all b p q given said asked start before now old new first last e none m = r
   each = m.each;
 }
 
--- a line was given and not entered
-pub asks_in : (b : Batch) (p q : Reading) (line text given said next : List ℕ) (asked : List Asked)
+-- a line was given and not entered, or not told
+pub asks_in : (Fails : BatchFault → Type 0) (f : BatchFault) (b : Batch) (p q : Reading)
+    (line text given said next : List ℕ) (asked : List Asked)
     (lines : ℕ) (start before now old new new' : Option (List ℕ))
     (first mid last : Option (List Asked))
     → Entered b p given said start before old new → (g : GivesLine q line given start now)
-    → AppendsPart new new' next → Made b given said asked first mid
-    → lines ≡ length (lines_of given)
+    → AppendsPart new new' next → StopsLine Fails f b (b.first_id + lines) text next
+    → Made b given said asked first mid
+    → lines ≡ length (lines_of given) → text ≡ line
     → Asks mid last (AreOf b.receiver (b.first_id + lines) text)
-    → AsksSome b (record { had = start; left = now; old = old; new = new' })
+    → AsksSome Fails f b (record { had = start; left = now; old = old; new = new' })
     (record { old = first; new = last })
 unfolding stops_in
-asks_in b p q line text given said next asked lines start before now old new new' first mid last e g
-    part m count k =
+asks_in Fails f b p q line text given said next asked lines start before now old new new' first mid
+    last e g part stops m count same k =
     record {
-      enters = stops_in b p q line given said next start before now old new new' e g part;
+      stops = record {
+        enters = stops_in b p q line given said next start before now old new new' e g part;
+        cause =
+            inr (
+              line,
+              next_of q line given start now g,
+              subst (λ n. StopsLine Fails f b (b.first_id + n) line next) count
+                  (subst (λ (t : List ℕ). StopsLine Fails f b (b.first_id + lines) t next) same stops),
+            );
+      };
       asked = asked;
       behind = k.0;
       told = adds_more first mid last asked k.0 m.told k.1;
       each = m.each;
-      line = text;
-      next = subst (λ n. AreOf b.receiver (b.first_id + n) text k.0) count k.2;
+      next =
+          inr (
+            line,
+            next_of q line given start now g,
+            subst (λ n. AreOf b.receiver (b.first_id + n) line k.0) count
+                (subst (λ (t : List ℕ). AreOf b.receiver (b.first_id + lines) t k.0) same k.2),
+          );
     }
 
 -- reading ended early, behind lines that were entered
-pub asks_at : (f : RunFault) (b : Batch) (p : Reading) (given said : List ℕ) (asked : List Asked)
+pub asks_at : (Fails : BatchFault → Type 0) (h : BatchFault) (f : RunFault) (b : Batch)
+    (p : Reading) (given said : List ℕ) (asked : List Asked)
     (start before now old new : Option (List ℕ)) (first last : Option (List Asked))
     → Entered b p given said start before old new → GivesFault f given start now
+    → EndsReading h given (record { had = start; left = now; old = old; new = new })
     → Made b given said asked first last
-    → AsksSome b (record { had = start; left = now; old = old; new = new })
+    → AsksSome Fails h b (record { had = start; left = now; old = old; new = new })
     (record { old = first; new = last })
 unfolding stops_at
-asks_at f b p given said asked start before now old new first last e g m = record {
-  enters = stops_at f b p given said start before now old new e g;
+asks_at Fails h f b p given said asked start before now old new first last e g ends m = record {
+  stops = record {
+    enters = stops_at f b p given said start before now old new e g;
+    cause = inl ends;
+  };
   asked = asked;
   behind = [];
   told = subst (Adds first last) (sym (append-nil asked)) m.told;
   each = m.each;
-  line = [];
-  next = tt;
+  next = inl refl;
 }
 
 -- what was asked for a line, where what it was answered couldn't be printed
@@ -127,3 +153,44 @@ pub if_unsaid : {E : Type 0} (b : Batch) (id : ℕ) (line : List ℕ) (last : Wh
 if_unsaid b id line last old new (Ok _) h = tt
 if_unsaid b id line last old new (Err e) h =
     (h.0, h.1, entered_for b.waits b.receiver id line last h.0 h.2)
+
+-- a command that was taken was not decided, where that was waited for
+pub undecided : (Fails : BatchFault → Type 0) (f : BatchFault) (waits : Bool) (r : Receiver) (id : ℕ)
+    (text : List ℕ) (taken : What)
+    → waits ≡ true → IsAnswer (submit_of r id text) taken → Fails f ⊎ IsUndecided f r id
+    → Fails f ⊎ Hinders f waits r id text
+undecided Fails f waits r id text taken is t (inl h) = inl h
+undecided Fails fault.Lost waits r id text taken is t (inr h) =
+    inr (is, taken, t, h.0, h.1, h.2)
+undecided Fails fault.StillPending waits r id text taken is t (inr h) = inr (is, taken, t)
+undecided Fails (fault.Lines e) waits r id text taken is t (inr h) = absurd h
+undecided Fails fault.TextTooLong waits r id text taken is t (inr h) = absurd h
+undecided Fails fault.NoMoreIds waits r id text taken is t (inr h) = absurd h
+undecided Fails fault.CannotConnect waits r id text taken is t (inr h) = absurd h
+undecided Fails (fault.Asking e) waits r id text taken is t (inr h) = absurd h
+undecided Fails fault.Write waits r id text taken is t (inr h) = absurd h
+undecided Fails fault.NoMemory waits r id text taken is t (inr h) = absurd h
+
+-- nothing was printed of a line that was not entered
+pub unprinted : (Fails : BatchFault → Type 0) (f : BatchFault) (b : Batch) (id n : ℕ)
+    (line : List ℕ) (old : Option (List ℕ))
+    → id ≡ n → Fails f ⊎ Hinders f b.waits b.receiver id line
+    → (said : List ℕ) × AppendsPart old old said × StopsLine Fails f b n line said
+unprinted Fails f b id n line old is h = (
+  [],
+  ([], [], record { parts = refl; written = Appends-nil old }),
+  inl (refl, subst (λ (m : ℕ). Fails f ⊎ Hinders f b.waits b.receiver m line) is h),
+)
+
+-- what is said of a fault, without the requests
+pub enters_some : (Fails : BatchFault → Type 0) (b : Batch) (s : Sides) (t : Told)
+    (r : Result (Unit {0}) BatchFault) → IfErr r (λ f. AsksSome Fails f b s t)
+    → OnErr r (EntersSome b s)
+enters_some Fails b s t (Ok _) h = tt
+enters_some Fails b s t (Err f) h = h.stops.enters
+
+pub stops_by : (Fails : BatchFault → Type 0) (b : Batch) (s : Sides) (t : Told)
+    (r : Result (Unit {0}) BatchFault) → IfErr r (λ f. AsksSome Fails f b s t)
+    → IfErr r (λ f. StopsBy Fails f b s)
+stops_by Fails b s t (Ok _) h = tt
+stops_by Fails b s t (Err f) h = h.stops

@@ -1,5 +1,5 @@
 -- Lines that were entered one after the other, in words on the whole input.
-use Rattle.std.proofs.Common.{◌≡◌, ℕ, ◌+◌, Bool, true, false, List, [], ◌∷◌, ◌++◌, length, Option, refl, sym, ap, ◌∙◌, append_assoc, append-nil, subst, arith}
+use Rattle.std.proofs.Common.{◌≡◌, inl, inr, ℕ, ◌+◌, Bool, true, false, List, [], ◌∷◌, ◌++◌, length, Option, refl, sym, ap, ◌∙◌, append_assoc, append-nil, subst, arith}
 use Rattle.std.specs.Prelude.{Ok}
 use Rattle.std.proofs.KnownBytes.{Appends-trans, Appends-nil}
 use Rattle.std.specs.Io.KnownBytes.{Appends, Consumes}
@@ -9,7 +9,7 @@ use Rattle.lines.specs.Reading.{Reading, nothing_read, HasGiven, GivesLine, Give
 use Rattle.lines.specs.declared.fault.RunFault.{RunFault}
 use Rattle.lines.specs.declared.fault.RunFault.TheVariants as fault
 use Rattle.lines.proofs.Inputs.{part_after, part_front, whole_written}
-use Rattle.batch.specs.Entering.{IsSaid, Says, EntersAll, EntersSome}
+use Rattle.batch.specs.Entering.{AreWhole, IsNext, IsSaid, Says, EntersAll, EntersSome}
 use Rattle.batch.specs.declared.lines_entered.Batch.{Batch}
 
 -- the lines that were given were entered, and what is said of them is written
@@ -84,6 +84,28 @@ enters_all b p q given said start before now old new e none =
       written = e.written;
     }
 
+-- the lines that were given are whole, or the input's end was met
+pub are_whole : (p : Reading) (given : List ℕ) (start now : Option (List ℕ)) (over : Bool)
+    → p.over ≡ over → HasGiven p given start now → AreWhole given start
+are_whole p given start now false is h = inl (h.whole is)
+are_whole p given start now true is h =
+    let ended = h.ended is in
+    inr (
+      now,
+      subst (Consumes start now) (ap (λ x. given ++ x) ended.0 ∙ append-nil given) h.consumed,
+      ended.1,
+    )
+
+pub next_of : (q : Reading) (line given : List ℕ) (start now : Option (List ℕ))
+    (g : GivesLine q line given start now) → IsNext given (g.more ++ q.held) line start
+next_of q line given start now g = record {
+  more = g.more;
+  others = q.held;
+  parts = refl;
+  whole = are_whole q (given ++ g.more) start now q.over refl g.read;
+  is = g.is;
+}
+
 -- a line was given and not entered
 unfoldable pub stops_in : (b : Batch) (p q : Reading) (line given said next : List ℕ)
     (start before now old new new' : Option (List ℕ))
@@ -94,6 +116,7 @@ stops_in b p q line given said next start before now old new new' e g part = rec
   front = given;
   rest = g.more ++ q.held;
   said = said;
+  whole = are_whole p given start before p.over refl e.read;
   read = subst (Consumes start now) (append_assoc given g.more q.held) g.read.consumed;
   entered = e.entered;
   next = next;
@@ -121,6 +144,7 @@ stops_at f b p given said start before now old new e g =
       front = given;
       rest = front.0;
       said = said;
+      whole = are_whole p given start before p.over refl e.read;
       read = front.1;
       entered = e.entered;
       next = [];

@@ -1,5 +1,6 @@
 -- Requests to a desk, and what came of each.
-use Rattle.std.specs.Prelude.{◌≡◌, ◌⊎◌, ◌++◌, ◌∷◌, [], ℕ, List, Option, None, Some, Result, Ok, Err, IsOk, IsOkAnd, ⊤}
+use Rattle.std.specs.Prelude.{◌≡◌, ◌⊎◌, ◌++◌, ◌∷◌, [], ℕ, List, Option, None, Some, Result, Ok, Err}
+use Rattle.std.specs.Prelude.{IsOk, IsOkAnd, ⊤}
 use Rattle.std.specs.List.{AllByRecursion}
 use Rattle.client.specs.Answers.{judged}
 use Rattle.client.specs.declared.fault.ClientFault.TheVariants.{Refused}
@@ -8,11 +9,11 @@ use Rattle.wire.specs.declared.frame.Frame.{Frame}
 use Rattle.wire.specs.declared.frame.What.{What}
 use Rattle.wire.specs.declared.frame.What.TheVariants as what
 use Rattle.wire.specs.declared.values.ClientRefusal.TheVariants.{Busy}
-use Rattle.wire.specs.declared.values.Standing.TheVariants.{Done}
+use Rattle.wire.specs.declared.values.Standing.TheVariants.{Done, Unknown}
 use Rattle.wire.specs.declared.values.Version.TheVariants.{One}
 use Rattle.batch.specs.declared.asking.Receiver.{Receiver}
 use Rattle.batch.specs.declared.fault.BatchFault.{BatchFault}
-use Rattle.batch.specs.declared.fault.BatchFault.TheVariants.{Asking}
+use Rattle.batch.specs.declared.fault.BatchFault.TheVariants.{Asking, CannotConnect, NoMemory}
 
 -- a request goes from a client, which is 0, to the desk, in version 1
 abbrev pub request_to : Receiver → What → Frame
@@ -38,6 +39,18 @@ IsAnswer asked answer = (given : Frame) × IsFrame given × (judged asked given 
 -- it says that the command stands in the log
 abbrev pub IsDecided : What → Type 0
 IsDecided answer = (id pos : ℕ) × (said : _) × (answer ≡ what.Told id (Done pos said))
+
+-- it says that the desk knows nothing of the command
+abbrev pub IsUnknown : What → Type 0
+IsUnknown answer = (id : ℕ) × (answer ≡ what.Told id Unknown)
+
+-- the faults of a request over a connection: nobody is reached, there is no answer or the desk
+-- refuses, or there is no memory
+abbrev pub IsOfAsking : BatchFault → Type 0
+IsOfAsking CannotConnect = Unit {0}
+IsOfAsking (Asking f) = Unit {0}
+IsOfAsking NoMemory = Unit {0}
+IsOfAsking _ = ⊥
 
 -- a request, and what came of it
 pub record Asked : Type 0 where

@@ -1,12 +1,19 @@
 -- What entering lines sends and prints.
-use Rattle.std.specs.Prelude.{◌≡◌, ◌+◌, ◌++◌, ◌∷◌, [], ℕ, Bool, true, false, List, length, Option}
+use Rattle.std.specs.Prelude.{◌≡◌, ◌⊎◌, ◌+◌, ◌++◌, ◌∷◌, [], ℕ, Bool, true, false, List, length}
+use Rattle.std.specs.Prelude.{Option}
 use Rattle.std.specs.Io.KnownBytes.{Appends, Consumes, IsAtEnd}
+use Rattle.acceptor.specs.Entries.{IsId, IsText}
 use Rattle.client.specs.Printing.{reply_text}
 use Rattle.lines.specs.Bytes.{AppendsPart}
-use Rattle.lines.specs.Lines.{is_within, lines_of}
+use Rattle.lines.specs.Lines.{is_within, lines_of, rest_of}
+use Rattle.lines.specs.Reading.{GivesFault}
+use Rattle.lines.specs.declared.fault.RunFault.TheVariants as run_fault
 use Rattle.wire.specs.declared.frame.What.{What}
-use Rattle.batch.specs.Asking.{Adds, AreOf, Asked, IsAnswer, IsAwaited, IsDecided, IsTaken, ask_of, submit_of}
+use Rattle.batch.specs.Asking.{Adds, AreOf, Asked, IsAnswer, IsAwaited, IsDecided, IsTaken}
+use Rattle.batch.specs.Asking.{IsUnknown, ask_of, submit_of}
 use Rattle.batch.specs.declared.asking.Receiver.{Receiver}
+use Rattle.batch.specs.declared.fault.BatchFault.{BatchFault}
+use Rattle.batch.specs.declared.fault.BatchFault.TheVariants as fault
 use Rattle.batch.specs.declared.lines_entered.Batch.{Batch}
 
 -- what is answered at last, where a command is waited for, and where it is not
@@ -47,16 +54,71 @@ pub record EntersAll (b : Batch) (s : Sides) : Type 0 where
   pub entered : Says b b.first_id (lines_of input) said
   pub written : Appends s.old s.new said
 
+-- what was read of the input are whole lines, or it is all of the input
+abbrev pub AreWhole : List ℕ → Option (List ℕ) → Type 0
+AreWhole read had =
+    (rest_of read ≡ []) ⊎ ((left : Option (List ℕ)) × Consumes had left read × IsAtEnd left)
+
 -- the lines of a front part of what was read were entered, and of what is printed of the next one
 -- a front part may be written
 pub record EntersSome (b : Batch) (s : Sides) : Type 0 where
   pub front : List ℕ
   pub rest : List ℕ
   pub said : List ℕ
+  pub whole : AreWhole front s.had
   pub read : Consumes s.had s.left (front ++ rest)
   pub entered : Says b b.first_id (lines_of front) said
   pub next : List ℕ
   pub written : AppendsPart s.old s.new (said ++ next)
+
+-- ---- why entering ended
+
+-- why the command with this id and text was not entered, where no request failed: its text is too
+-- long, or its id is none; or the desk took it, and then knew nothing of it, or did not decide it
+abbrev pub Hinders : BatchFault → Bool → Receiver → ℕ → List ℕ → Type 0
+Hinders fault.TextTooLong waits r id text = ¬ IsText text
+Hinders fault.NoMoreIds waits r id text = ¬ IsId id
+Hinders fault.Lost waits r id text =
+    (waits ≡ true) × (taken : What) × IsAnswer (submit_of r id text) taken
+    × (told : What) × IsAnswer (ask_of r id) told × IsUnknown told
+Hinders fault.StillPending waits r id text =
+    (waits ≡ true) × (taken : What) × IsAnswer (submit_of r id text) taken
+Hinders fault.NoMemory waits r id text = Unit {0}
+Hinders _ waits r id text = ⊥
+
+-- those of what is printed
+abbrev pub IsOfPrinting : BatchFault → Type 0
+IsOfPrinting f = (f ≡ fault.Write) ⊎ (f ≡ fault.NoMemory)
+
+-- The line was not entered with the id, since a request failed or it could not be, and nothing is
+-- printed of it; or it was, and this is printed of its last answer, as far as could be.
+abbrev pub StopsLine : (BatchFault → Type 0) → BatchFault → Batch → ℕ → List ℕ → List ℕ → Type 0
+StopsLine Fails f b id line said =
+    ((said ≡ []) × (Fails f ⊎ Hinders f b.waits b.receiver id line))
+    ⊎ (IsOfPrinting f × IsSaid b id line said)
+
+-- the line behind the front part, as the rest gives it
+pub record IsNext (front rest line : List ℕ) (had : Option (List ℕ)) : Type 0 where
+  pub more : List ℕ
+  pub others : List ℕ
+  pub parts : rest ≡ more ++ others
+  pub whole : AreWhole (front ++ more) had
+  pub is : lines_of (front ++ more) ≡ lines_of front ++ line ∷ []
+
+-- no further line could be read
+abbrev pub EndsReading : BatchFault → List ℕ → Sides → Type 0
+EndsReading (fault.Lines e) front s = GivesFault e front s.had s.left
+EndsReading fault.NoMemory front s = GivesFault run_fault.NoMemory front s.had s.left
+EndsReading _ front s = ⊥
+
+-- the lines of a front part were entered, and by this fault no further one was read, or the next
+-- one was not entered, or not told; of the requests that fail this is said
+pub record StopsBy (Fails : BatchFault → Type 0) (f : BatchFault) (b : Batch) (s : Sides)
+    : Type 0 where
+  pub enters : EntersSome b s
+  pub cause : EndsReading f enters.front s
+      ⊎ ((line : List ℕ) × IsNext enters.front enters.rest line s.had
+      × StopsLine Fails f b (b.first_id + length (lines_of enters.front)) line enters.next)
 
 -- ---- what was asked
 
@@ -89,13 +151,15 @@ pub record AsksAll (b : Batch) (s : Sides) (t : Told) : Type 0 where
   pub told : Adds t.old t.new asked
   pub each : SaidBy b b.first_id (lines_of enters.input) enters.said asked
 
--- So were the lines of the front part. What was asked behind them was for one line, with the next
--- id.
-pub record AsksSome (b : Batch) (s : Sides) (t : Told) : Type 0 where
-  pub enters : EntersSome b s
+-- So were the lines of the front part. What was asked behind them was for the next line, with the
+-- next id.
+pub record AsksSome (Fails : BatchFault → Type 0) (f : BatchFault) (b : Batch) (s : Sides)
+    (t : Told) : Type 0 where
+  pub stops : StopsBy Fails f b s
   pub asked : List Asked
   pub behind : List Asked
   pub told : Adds t.old t.new (asked ++ behind)
-  pub each : SaidBy b b.first_id (lines_of enters.front) enters.said asked
-  pub line : List ℕ
-  pub next : AreOf b.receiver (b.first_id + length (lines_of enters.front)) line behind
+  pub each : SaidBy b b.first_id (lines_of stops.enters.front) stops.enters.said asked
+  pub next : (behind ≡ []) ⊎ ((line : List ℕ)
+      × IsNext stops.enters.front stops.enters.rest line s.had
+      × AreOf b.receiver (b.first_id + length (lines_of stops.enters.front)) line behind)

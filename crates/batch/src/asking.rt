@@ -1,8 +1,9 @@
 //! Requests to a desk and what it answers, one after the other.
 
-ghost use Rattle.std.specs.Prelude.{◌≡◌, ◌∷◌, [], List, None, Option, IfOk};
+ghost use Rattle.std.specs.Prelude.{◌≡◌, ◌∷◌, [], List, None, Option, IfErr, IfOk};
 ghost use Rattle.wire.specs.Ranges.{IsFrame};
-ghost use Rattle.batch.specs.Asking.{Adds, Asked, IsAnswer, request_to};
+ghost use Rattle.batch.specs.Asking.{Adds, Asked, IsAnswer, IsOfAsking, request_to};
+ghost use Rattle.batch.specs.declared.fault.BatchFault.{BatchFault as Fault};
 
 use crate::dialing::Dial;
 use crate::fault::BatchFault;
@@ -39,12 +40,16 @@ pub trait Ask {
     /// The requests that were made, each with what came of it, in order, where that is told.
     ghost asked: { Self → Option (List Asked) };
 
+    /// The faults by which a request may fail.
+    ghost fails: { Fault → Type 0 };
+
     /// Makes a request, and gives the desk's answer to it.
     fn ask(&mut self, alloc: Global, request: &Frame) -> Result<What, BatchFault>
         requires { IsFrame request.now }
         ensures told { Adds (asked self.old) (asked self.new)
             (record { request = request.now; answer = result } ∷ []) }
-        ensures answered { IfOk result (λ answer. IsAnswer request.now answer) };
+        ensures answered { IfOk result (λ answer. IsAnswer request.now answer) }
+        ensures failed { IfErr result fails };
 }
 
 /// Requests over connections to a desk, each over one of its own.
@@ -56,13 +61,17 @@ pub(crate) struct Dialing<'a, D> {
 impl<D: Dial> Ask for Dialing<'_, D> {
     ghost asked = { λ _. None };
 
+    ghost fails = { IsOfAsking };
+
     fn ask(&mut self, alloc: Global, request: &Frame) -> Result<What, BatchFault> {
         asked(alloc, self.dial, request)
     }
 }
 
 /// Why nobody could be reached.
-fn no_connection(error: &io::Error) -> BatchFault {
+fn no_connection(error: &io::Error) -> BatchFault
+    ensures { IsOfAsking result }
+{
     if error.kind() == ErrorKind::OutOfMemory {
         return BatchFault::NoMemory;
     }
@@ -70,7 +79,9 @@ fn no_connection(error: &io::Error) -> BatchFault {
 }
 
 /// Why there is no answer.
-fn no_answer(fault: ClientFault) -> BatchFault {
+fn no_answer(fault: ClientFault) -> BatchFault
+    ensures { IsOfAsking result }
+{
     match fault {
         ClientFault::NoMemory => BatchFault::NoMemory,
         ClientFault::Refused { .. } | ClientFault::NoAnswer | ClientFault::Write => {
@@ -82,7 +93,8 @@ fn no_answer(fault: ClientFault) -> BatchFault {
 /// Opens a connection, writes a request, and reads the answer.
 fn asked<D: Dial>(alloc: Global, dial: &mut D, request: &Frame) -> Result<What, BatchFault>
     requires { IsFrame request.now }
-    ensures { IfOk result (λ answer. IsAnswer request.now answer) }
+    ensures answered { IfOk result (λ answer. IsAnswer request.now answer) }
+    ensures failed { IfErr result IsOfAsking }
 {
     let (mut reader, mut writer) = match dial.dial() {
         Ok(connection) => connection,

@@ -1,11 +1,14 @@
 //! One command entered at the desk, and waited for.
 
-ghost use Rattle.std.specs.Prelude.{◌≡◌, List, IfOk, OnErr, OnOk, IsTrue};
+ghost use Rattle.std.specs.Prelude.{◌≡◌, ◌⊎◌, Bool, List, IfErr, IfOk, OnErr, OnOk, IsTrue};
 ghost use Rattle.std.specs.List.{AllByRecursion};
 ghost use Rattle.wire.specs.Ranges.{IsDesk, IsEntry, IsFrame, IsId};
-ghost use Rattle.batch.specs.Asking.{AreOf, Asked, Asks, IsAnswer, IsAwaited, IsDecided, IsTaken, IsTicked, IsTurnedDown, Tries, ask_of, submit_of, tick_of};
-ghost use Rattle.batch.specs.Entering.{EnteredBy, IsEntered};
-ghost use Rattle.batch.specs.model.Trying.{AreFor};
+ghost use Rattle.batch.specs.Asking.{AreOf, Asked, Asks, IsAnswer, IsAwaited, IsDecided, IsTaken};
+ghost use Rattle.batch.specs.Asking.{IsTicked, IsTurnedDown, IsUnknown, Tries, ask_of, submit_of};
+ghost use Rattle.batch.specs.Asking.{tick_of};
+ghost use Rattle.batch.specs.Entering.{EnteredBy, Hinders, IsEntered};
+ghost use Rattle.batch.specs.declared.asking.Receiver.{Receiver as Desk};
+ghost use Rattle.batch.specs.model.Trying.{AreFor, IsUndecided};
 ghost use Rattle.batch.specs.declared.entering.Fate.TheVariants as fate;
 
 use crate::asking::{Ask, Receiver, request_to};
@@ -36,6 +39,7 @@ fn tick_behind<A: Ask>(
         (Asks (A.asked desk.old) (A.asked desk.new) (AllByRecursion (IsTicked receiver))) }
     ensures err { OnErr result (Asks (A.asked desk.old) (A.asked desk.new)
         (AllByRecursion (λ a. a.request ≡ tick_of receiver))) }
+    ensures fails { IfErr result A.fails }
 {
     if tries % TRIES_TO_TICK < TRIES_TO_TICK - 1 {
         return Ok(());
@@ -72,6 +76,7 @@ fn asked_until_taken<A: Ask>(
         (Tries (IsTurnedDown receiver submit.now) submit.now answer)) }
     ensures err { OnErr result
         (Asks (A.asked desk.old) (A.asked desk.new) (AreFor receiver submit.now)) }
+    ensures fails { IfErr result A.fails }
 {
     for tries in 0..MOST_TRIES {
         match desk.ask(alloc, submit) {
@@ -103,6 +108,8 @@ fn kept(entry: Entry) -> Entry
 fn entry_of(alloc: Global, id: u64, text: &[u8]) -> Result<Entry, BatchFault>
     ensures made { IfOk result (λ e. e ≡ record { id = id; text = text.now }) }
     ensures in_range { IfOk result IsEntry }
+    ensures err { IfErr result
+        (λ f. (waits : Bool) (r : Desk) → Hinders f waits r id text.now) }
 {
     match Entry::new(alloc, id, text) {
         Ok(entry) => Ok(kept(entry)),
@@ -126,6 +133,8 @@ fn submitted<A: Ask>(
         (IsTaken receiver id text.now answer)) }
     ensures err { OnErr result (Asks (A.asked desk.old) (A.asked desk.new)
         (AreFor receiver (submit_of receiver id text.now))) }
+    ensures cause { IfErr result
+        (λ f. A.fails f ⊎ ((waits : Bool) (r : Desk) → Hinders f waits r id text.now)) }
 {
     let entry = match entry_of(alloc, id, text) {
         Ok(entry) => entry,
@@ -147,6 +156,7 @@ enum Fate {
 fn fate_of(told: &What) -> Fate
     ensures decided { result ≡ fate.Decided → IsDecided told.now }
     ensures waits { result ≡ fate.Waits → ¬ IsDecided told.now }
+    ensures unknown { result ≡ fate.Unknown → IsUnknown told.now }
 {
     match told {
         What::Told { standing, .. } => match standing {
@@ -172,6 +182,7 @@ fn decided<A: Ask>(
         (IsAwaited receiver id told)) }
     ensures err { OnErr result (Asks (A.asked desk.old) (A.asked desk.new)
         (AreFor receiver (ask_of receiver id))) }
+    ensures cause { IfErr result (λ f. A.fails f ⊎ IsUndecided f receiver id) }
 {
     let ask = request_to(receiver, What::Ask { id });
     for tries in 0..MOST_TRIES {
@@ -207,6 +218,7 @@ pub(crate) fn entered<A: Ask>(
         (EnteredBy waits receiver id text.now last)) }
     ensures err { OnErr result
         (Asks (A.asked desk.old) (A.asked desk.new) (AreOf receiver id text.now)) }
+    ensures cause { IfErr result (λ f. A.fails f ⊎ Hinders f waits receiver id text.now) }
 {
     if id == 0 || id > GREATEST {
         return Err(BatchFault::NoMoreIds);

@@ -1,13 +1,14 @@
 //! The lines of an input as commands, each entered with an id of its own.
 
-ghost use Rattle.std.specs.Prelude.{◌+◌, List, ℕ, OnOk, OnErr};
+ghost use Rattle.std.specs.Prelude.{◌+◌, List, ℕ, IfErr, OnOk, OnErr};
 ghost use Rattle.wire.specs.Ranges.{IsDesk};
 ghost use Rattle.std.specs.Io.KnownBytes.{Appends};
 ghost use Rattle.lines.specs.Bytes.{AppendsPart};
 ghost use Rattle.client.specs.Printing.{reply_text};
 ghost use Rattle.wire.specs.declared.frame.What.{What as WhatValue};
-ghost use Rattle.batch.specs.Asking.{AreOf, Asks};
-ghost use Rattle.batch.specs.Entering.{AsksAll, AsksSome, EnteredBy, EntersAll, EntersSome, IsEntered};
+ghost use Rattle.batch.specs.Asking.{AreOf, Asks, IsOfAsking};
+ghost use Rattle.batch.specs.Entering.{AsksAll, AsksSome, EnteredBy, EntersAll, EntersSome};
+ghost use Rattle.batch.specs.Entering.{IsEntered, IsOfPrinting, StopsBy, StopsLine};
 
 use crate::asking::{Ask, Dialing, Receiver};
 use crate::dialing::Dial;
@@ -36,6 +37,7 @@ fn print_answer<W: Write>(alloc: Global, writer: &mut W, answer: What) -> Result
         (Appends (W.contents writer.old) (W.contents writer.new) (reply_text answer)) }
     ensures err { OnErr result
         (AppendsPart (W.contents writer.old) (W.contents writer.new) (reply_text answer)) }
+    ensures fault { IfErr result IsOfPrinting }
 {
     let Ok(text) = reply_text(alloc, answer) else {
         return Err(BatchFault::NoMemory);
@@ -61,8 +63,9 @@ fn enter_line<A: Ask, W: Write>(
         × Asks (A.asked desk.old) (A.asked desk.new)
         (EnteredBy batch.waits batch.receiver (batch.first_id + number) line.now last)
         × Appends (W.contents writer.old) (W.contents writer.new) (reply_text last)) }
-    ensures err { OnErr result ((said : List ℕ)
-        × AppendsPart (W.contents writer.old) (W.contents writer.new) said) }
+    ensures err { IfErr result (λ f. (said : List ℕ)
+        × AppendsPart (W.contents writer.old) (W.contents writer.new) said
+        × StopsLine A.fails f batch (batch.first_id + number) line.now said) }
     ensures asked { OnErr result (Asks (A.asked desk.old) (A.asked desk.new)
         (AreOf batch.receiver (batch.first_id + number) line.now)) }
 {
@@ -90,7 +93,7 @@ pub fn enter_lines_by<A: Ask, R: Read, W: Write>(
       old = W.contents writer.old;
       new = W.contents writer.new;
     }) (record { old = A.asked desk.old; new = A.asked desk.new })) }
-    ensures err { OnErr result (AsksSome batch (record {
+    ensures err { IfErr result (λ f. AsksSome A.fails f batch (record {
       had = R.remaining reader.old;
       left = R.remaining reader.new;
       old = W.contents writer.old;
@@ -142,6 +145,12 @@ pub fn enter_lines<D: Dial, R: Read, W: Write>(
       new = W.contents writer.new;
     })) }
     ensures err { OnErr result (EntersSome batch (record {
+      had = R.remaining reader.old;
+      left = R.remaining reader.new;
+      old = W.contents writer.old;
+      new = W.contents writer.new;
+    })) }
+    ensures cause { IfErr result (λ f. StopsBy IsOfAsking f batch (record {
       had = R.remaining reader.old;
       left = R.remaining reader.new;
       old = W.contents writer.old;

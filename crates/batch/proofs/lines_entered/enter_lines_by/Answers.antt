@@ -2,8 +2,9 @@ use Rattle.std.proofs.Common.{◌∙◌, subst, refl, ◌+◌, ◌++◌}
 use Rattle.client.specs.Printing.{reply_text}
 use Rattle.batch.specs.Asking.{Asks}
 use Rattle.batch.specs.Entering.{EnteredBy, IsEntered, IsSaid}
+use Rattle.batch.specs.declared.fault.BatchFault.TheVariants as fault
 use Rattle.batch.proofs.Asked.{asks_all, asks_at, asks_in, made_more}
-use Rattle.batch.proofs.Entered.{gives_false, gives_true, one_more}
+use Rattle.batch.proofs.Entered.{front_read, gives_false, gives_true, one_more}
 use Rattle.batch.proofs.lines_entered.enter_lines_by.Goals as goal
 
 pub returns-in-Err-enter_line-clause-err : goal.returns-in-Err-enter_line-clause-err
@@ -13,9 +14,11 @@ returns-in-Err-enter_line-clause-err g c =
     (g.R.Read.remaining c.args.reader.now) (g.R.Read.remaining c.read_line.new.reader)
     c.in-Ok-true.field-0-test (c.in-Ok-true.ensures i.0 _ i.3.read) in
     let part = c.in-Err-enter_line.ensures.err in
-    asks_in c.args.batch c.loop-desk.lines c.read_line.new.self c.read_line.new.line.items
-    c.deref.result.now i.0 i.1 part.0 i.2 c.count-number.result _ _ _ _ _ _ _ _ _ i.3 line part.1
-    i.4 (c.count-number.ensures ∙ i.3.read.lines) c.in-Err-enter_line.ensures.asked
+    asks_in g.A.Ask.fails c.in-Err-enter_line.fault c.args.batch c.loop-desk.lines
+    c.read_line.new.self c.read_line.new.line.items c.deref.result.now i.0 i.1 part.0 i.2
+    c.count-number.result _ _ _ _ _ _ _ _ _ i.3 line part.1 part.2 i.4
+    (c.count-number.ensures ∙ i.3.read.lines) c.deref.ensures.value
+    c.in-Err-enter_line.ensures.asked
 
 pub loop-desk-preserved : goal.loop-desk-preserved
 loop-desk-preserved g c =
@@ -61,8 +64,11 @@ returns-in-Ok-false-clause-ok g c =
 pub returns-in-Err-NoMemory-clause-err : goal.returns-in-Err-NoMemory-clause-err
 returns-in-Err-NoMemory-clause-err g c =
     let i = c.loop-desk.invariant in
-    asks_at c.in-Err-NoMemory.field-0 c.args.batch c.loop-desk.lines i.0 i.1 i.2 _ _ _ _ _ _ _ i.3
-    (c.in-Err-NoMemory.ensures i.0 _ i.3.read) i.4
+    let fails = c.in-Err-NoMemory.ensures i.0 _ i.3.read in
+    asks_at g.A.Ask.fails fault.NoMemory c.in-Err-NoMemory.field-0 c.args.batch c.loop-desk.lines
+    i.0 i.1 i.2 _ _ _ _ _ _ _ i.3 fails
+    (front_read c.in-Err-NoMemory.field-0 i.0 (g.R.Read.remaining c.args.reader.now)
+    (g.R.Read.remaining c.read_line.new.reader) fails) i.4
 
 pub returns-in-Err : goal.returns-in-Err
 returns-in-Err g c =
@@ -70,6 +76,7 @@ returns-in-Err g c =
     record {
       ok = tt;
       err =
-          asks_at c.in-Err.fault c.args.batch c.loop-desk.lines i.0 i.1 i.2 _ _ _ _ _ _ _ i.3
+          asks_at g.A.Ask.fails (fault.Lines c.in-Err.fault) c.in-Err.fault c.args.batch
+          c.loop-desk.lines i.0 i.1 i.2 _ _ _ _ _ _ _ i.3 (c.in-Err.ensures i.0 _ i.3.read)
           (c.in-Err.ensures i.0 _ i.3.read) i.4;
     }
