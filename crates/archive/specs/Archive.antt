@@ -1,5 +1,6 @@
 -- The archive of a log: the lines that `replay` reads in the log's place.
-use Rattle.std.specs.Prelude.{ℕ, ◌==◌, Bool, not, ◌&&◌, if◌then◌else◌, List, [], ◌∷◌, ◌++◌, flat_map}
+use Rattle.std.specs.Prelude.{ℕ, ◌==◌, Bool, not, ◌&&◌, if◌then◌else◌, List, [], ◌∷◌, ◌++◌}
+use Rattle.std.specs.Prelude.{flat_map}
 use Rattle.std.specs.List.{list_any}
 use Rattle.acceptor.specs.declared.entry.Entry.{Entry}
 use Rattle.lines.specs.Lines.{is_line}

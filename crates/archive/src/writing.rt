@@ -1,6 +1,7 @@
 //! A log, written as the lines that a replay reads.
 
-ghost use Rattle.std.specs.Prelude.{◌≡◌, ◌⊎◌, ◌&&◌, ◌∷◌, [], ◌++◌, not, Some, OnOk, OnErr, IfErr, slice_get, take};
+ghost use Rattle.std.specs.Prelude.{◌≡◌, ◌⊎◌, ◌&&◌, ◌∷◌, [], ◌++◌, not, Some, OnOk, OnErr, IfErr};
+ghost use Rattle.std.specs.Prelude.{slice_get, take};
 ghost use Rattle.std.specs.Io.KnownBytes.{Appends};
 ghost use Rattle.acceptor.specs.Entries.{IsText};
 ghost use Rattle.lines.specs.Bytes.{AppendsPart};

@@ -1,7 +1,8 @@
 //! Which frame answers a client's.
 
 ghost use Rattle.std.specs.Prelude.{◌≡◌};
-ghost use Rattle.client.specs.Answers.{answers, fits, is_fine, is_sheet_text, is_taken, is_told, judged};
+ghost use Rattle.client.specs.Answers.{answers, fits, is_fine, is_sheet_text, is_taken, is_told};
+ghost use Rattle.client.specs.Answers.{judged};
 
 use crate::fault::ClientFault;
 use wire::{Frame, What};

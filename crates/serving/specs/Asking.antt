@@ -1,5 +1,6 @@
 -- What a frame asks of this desk.
-use Rattle.std.specs.Prelude.{ℕ, ◌+◌, ◌^◌, ◌<◌, ◌≤◌, ◌==◌, ◌&&◌, if◌then◌else◌, Bool, length, Option, None, Some}
+use Rattle.std.specs.Prelude.{ℕ, ◌+◌, ◌^◌, ◌<◌, ◌≤◌, ◌==◌, ◌&&◌, if◌then◌else◌, Bool, length}
+use Rattle.std.specs.Prelude.{Option, None, Some}
 use Rattle.acceptor.specs.declared.message.Body.{Body}
 use Rattle.acceptor.specs.declared.message.Body.TheVariants as body
 use Rattle.wire.specs.Ranges.{IsEntry, IsId}
@@ -11,7 +12,9 @@ use Rattle.serving.specs.declared.ends.Close.TheVariants as close
 use Rattle.serving.specs.declared.request.Ending.{Ending}
 use Rattle.serving.specs.declared.request.Ending.TheVariants as ends
 use Rattle.serving.specs.declared.request.Request.{Request}
-use Rattle.serving.specs.declared.request.Request.TheVariants.{Heard, Lagging, Learned, Entered, Asked, Printed, Ticked, Stopped, Strange, Ignored}
+use Rattle.serving.specs.declared.request.Request.TheVariants.{Heard, Lagging, Learned, Entered}
+use Rattle.serving.specs.declared.request.Request.TheVariants.{Asked, Printed, Ticked, Stopped}
+use Rattle.serving.specs.declared.request.Request.TheVariants.{Strange, Ignored}
 use Rattle.serving.specs.Nodes.{Seen}
 use Rattle.store.specs.declared.home.Home.{Home}
 

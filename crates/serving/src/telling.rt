@@ -1,6 +1,7 @@
 //! A desk that is behind, and the run of entries that it is told.
 
-ghost use Rattle.std.specs.Prelude.{◌≡◌, ◌≤◌, ◌+◌, ◌∷◌, [], None, option_map, IfOk, IfSome, OnOk, OnErr, length};
+ghost use Rattle.std.specs.Prelude.{◌≡◌, ◌≤◌, ◌+◌, ◌∷◌, [], None, option_map, IfOk, IfSome, OnOk};
+ghost use Rattle.std.specs.Prelude.{OnErr, length};
 ghost use Rattle.learner.specs.Ranges.{AreInRange};
 ghost use Rattle.learner.specs.declared.event.Event.TheVariants.{Deliver};
 ghost use Rattle.serving.specs.Adding.{Hands};

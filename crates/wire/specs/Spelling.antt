@@ -10,7 +10,9 @@ use Rattle.wire.specs.declared.frame.Frame.{Frame}
 use Rattle.wire.specs.declared.values.Standing.{Standing}
 use Rattle.wire.specs.declared.values.Standing.TheVariants.{Unknown, Pending, Done}
 use Rattle.wire.specs.declared.frame.What.{What}
-use Rattle.wire.specs.declared.frame.What.TheVariants.{Prepare, Promise, Accept, Accepted, Nack, Behind, Decided, Submit, Ask, Sheet, Tick, Stop, Taken, Told, SheetText, Refused, Fine}
+use Rattle.wire.specs.declared.frame.What.TheVariants.{Prepare, Promise, Accept, Accepted, Nack}
+use Rattle.wire.specs.declared.frame.What.TheVariants.{Behind, Decided, Submit, Ask, Sheet, Tick}
+use Rattle.wire.specs.declared.frame.What.TheVariants.{Stop, Taken, Told, SheetText, Refused, Fine}
 use Rattle.wire.specs.declared.values.Version.{Version}
 use Rattle.wire.specs.declared.values.Version.TheVariants.{One, Two}
 use Rattle.wire.specs.Numbers.{answer_number, refusal_number, style_number, version_number}

@@ -6,8 +6,10 @@ ghost use Rattle.std.specs.Int.{w16, w32, w64};
 ghost use Rattle.acceptor.specs.Entries.{IsId, IsText};
 ghost use Rattle.formats.specs.Events.{all_events, event_number};
 ghost use Rattle.wire.specs.Fields.{number_at, byte_at, numbered, ended};
-ghost use Rattle.wire.specs.Numbers.{answers, answer_number, refusals, refusal_number, styles, style_number};
-ghost use Rattle.wire.specs.Reading.{ballot_at, limited_at, position_at, id_at, text_at, entry_at, report_at, member_at, event_at, standing_at};
+ghost use Rattle.wire.specs.Numbers.{answers, answer_number, refusals, refusal_number, styles};
+ghost use Rattle.wire.specs.Numbers.{style_number};
+ghost use Rattle.wire.specs.Reading.{ballot_at, limited_at, position_at, id_at, text_at, entry_at};
+ghost use Rattle.wire.specs.Reading.{report_at, member_at, event_at, standing_at};
 ghost use Rattle.wire.specs.declared.fault.WireFault.TheVariants.{NoMemory};
 ghost use Rattle.wire.specs.model.Gives.{GivesField};
 ghost use Rattle.wire.specs.model.Parts.{part_entry, part_report, IsPart};
@@ -211,7 +213,8 @@ fn there<A: Copy>(member: Option<A>) -> Result<A, WireFault>
 
 #[tactic(auto, unfolding(crate::specs::Reading::member_at, formats::specs::Events::event_of_number))]
 fn any_event_of(bytes: &[u8]) -> Result<(Event, &[u8]), WireFault>
-    ensures { GivesField (λ x. (x.0, x.1.now)) result (member_at event_number all_events bytes.now) }
+    ensures { GivesField (λ x. (x.0, x.1.now)) result
+        (member_at event_number all_events bytes.now) }
 {
     let (number, rest) = byte_of(bytes)?;
     let event = there(Event::from_number(number))?;

@@ -31,8 +31,9 @@ pub struct Frame {
 /// A frame has a spelling where each field is in its range. A ballot has a round of at least 1 and
 /// a desk of 1 to 5; a position is at most 65,535; an id is 1 to 2^63 - 1; an entry has an id and a
 /// text of at most 600 bytes. A Decided has one entry in version 1 and 1 to 16 in version 2, for
-/// consecutive positions, and a Sheet an event of 1 to 16 or 1 to 17. Prepare to Decided go from a desk to a desk, Submit to Stop from a
-/// client (0) to a desk, and Taken to Fine from a desk to a client.
+/// consecutive positions, and a Sheet an event of 1 to 16 or 1 to 17. Prepare to Decided go from a
+/// desk to a desk, Submit to Stop from a client (0) to a desk, and Taken to Fine from a desk to a
+/// client.
 #[derive(PartialEq, Eq, Debug, Drop)]
 pub enum What {
     /// A desk asks for promises.

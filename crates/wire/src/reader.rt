@@ -1,7 +1,8 @@
 //! Frames out of a stream that comes in pieces.
 
 ghost use Rattle.std.specs.Prelude.{◌≡◌, ◌≤◌, ◌++◌, [], IfOk, IfErr, OnErr, vec_capacity};
-ghost use Rattle.wire.specs.Stream.{Waits, front, IsBegun, Feeds, IsKept, IsHeld, Fed, Refuses, Splits, SplitsOnlySo, stream_of, holding};
+ghost use Rattle.wire.specs.Stream.{Waits, front, IsBegun, Feeds, IsKept, IsHeld, Fed, Refuses};
+ghost use Rattle.wire.specs.Stream.{Splits, SplitsOnlySo, stream_of, holding};
 ghost use Rattle.wire.specs.model.Steps.{ReadsOn, StandsInFront};
 
 use crate::NoMemory;

@@ -4,7 +4,10 @@ ghost use Rattle.std.specs.Prelude.{◌≡◌, IfOk, IfErr};
 ghost use Rattle.wire.specs.declared.fault.WireFault.TheVariants.{NoMemory};
 ghost use Rattle.wire.specs.declared.frame.What.TheVariants.{SheetText};
 ghost use Rattle.wire.specs.Ranges.{way_of_kind};
-ghost use Rattle.wire.specs.Reading.{prepare_of, promise_of, accept_of, accepted_of, nack_of, behind_of, submit_of, ask_of, sheet_of, taken_of, told_of, refused_of, empty_of, what_of, is_kind, is_desk, goes, frame_of};
+ghost use Rattle.wire.specs.Reading.{prepare_of, promise_of, accept_of, accepted_of, nack_of};
+ghost use Rattle.wire.specs.Reading.{behind_of, submit_of, ask_of, sheet_of, taken_of, told_of};
+ghost use Rattle.wire.specs.Reading.{refused_of, empty_of, what_of, is_kind, is_desk, goes};
+ghost use Rattle.wire.specs.Reading.{frame_of};
 ghost use Rattle.wire.specs.model.Gives.{GivesBody, GivesFrame};
 
 use crate::bytes::Bytes;

@@ -3,7 +3,8 @@
 
 ghost use Rattle.std.specs.Prelude.{◌≡◌, ◌≤◌, ◌++◌, IfOk, OnErr, length, vec_capacity, Option};
 ghost use Rattle.wire.specs.Stream.{Waits, front, IsBegun};
-ghost use Rattle.wire.specs.model.Steps.{GivesLength, GivesFront, IsTaken, IsToppedUp, Finishes, ReadsOn, StandsInFront};
+ghost use Rattle.wire.specs.model.Steps.{GivesLength, GivesFront, IsTaken, IsToppedUp, Finishes};
+ghost use Rattle.wire.specs.model.Steps.{ReadsOn, StandsInFront};
 
 use crate::NoMemory;
 use crate::fault::WireFault;

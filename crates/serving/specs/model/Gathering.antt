@@ -1,5 +1,6 @@
 -- How a run is gathered.
-use Rattle.std.specs.Prelude.{◌≡◌, ◌≤◌, ℕ, ◌+◌, Bool, true, false, List, ◌++◌, length, Option, None, Some}
+use Rattle.std.specs.Prelude.{◌≡◌, ◌≤◌, ℕ, ◌+◌, Bool, true, false, List, ◌++◌, length, Option, None}
+use Rattle.std.specs.Prelude.{Some}
 use Rattle.acceptor.specs.declared.entry.Entry.{Entry}
 use Rattle.learner.specs.Steps.{IsDesk}
 use Rattle.serving.specs.declared.request.Run.{Run}

@@ -1,5 +1,6 @@
 -- How the frames at hand, and a piece of the stream, are served.
-use Rattle.std.specs.Prelude.{◌≡◌, ◌⊎◌, ◌≤◌, ◌<◌, ℕ, ◌+◌, List, [], ◌++◌, length, Option, None, Some}
+use Rattle.std.specs.Prelude.{◌≡◌, ◌⊎◌, ◌≤◌, ◌<◌, ℕ, ◌+◌, List, [], ◌++◌, length, Option, None}
+use Rattle.std.specs.Prelude.{Some}
 use Rattle.wire.specs.declared.frame.Frame.{Frame}
 use Rattle.wire.specs.Stream.{Waits, Breaks, front, IsOfStream, Reader, holding}
 use Rattle.store.specs.declared.home.Home.{Home}

@@ -2,7 +2,8 @@
 use Rattle.acceptor.specs.declared.entry.Entry.{Entry}
 use Rattle.std.specs.Prelude.{List, ◌++◌, ℕ, ◌≡◌, Option, Some, None, IsSome, Result, Ok, Err, IsOk}
 use Rattle.wire.specs.declared.fault.WireFault.{WireFault}
-use Rattle.wire.specs.declared.fault.WireFault.TheVariants.{BadLength, BadVersion, BadKind, BadBody, NoMemory}
+use Rattle.wire.specs.declared.fault.WireFault.TheVariants.{BadLength, BadVersion, BadKind, BadBody}
+use Rattle.wire.specs.declared.fault.WireFault.TheVariants.{NoMemory}
 use Rattle.wire.specs.declared.frame.Frame.{Frame}
 use Rattle.wire.specs.declared.frame.What.{What}
 
@@ -41,7 +42,8 @@ LacksEntries NoMemory read = Unit {0}
 abbrev pub PushesEntries : {U : Type 0} → Result U WireFault → List Entry → List Entry
     → Option (List Entry × List ℕ) → Type 0
 PushesEntries (Ok done) old new read =
-    (entries : List Entry) × (rest : List ℕ) × (read ≡ Some (entries, rest)) × (new ≡ old ++ entries)
+    (entries : List Entry) × (rest : List ℕ) × (read ≡ Some (entries, rest))
+    × (new ≡ old ++ entries)
 PushesEntries (Err e) old new read = LacksEntries e read
 
 -- a frame, or the first fault; memory is wanted only where there is a frame
