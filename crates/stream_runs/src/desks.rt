@@ -1,6 +1,6 @@
 //! A desk in memory, what was written to its clients, and what was pushed to the other desks.
 
-ghost use Rattle.std.specs.Prelude.{None};
+ghost use Rattle.std.specs.Prelude.{◌≤◌, None};
 
 use node::Node;
 use serving::{Peers, Served, serve_connection};
@@ -8,16 +8,33 @@ use std::alloc::{AllocError, Global};
 use std::io;
 use std::io::{Error, ErrorKind, Read, Write};
 use store::memory::MemoryKeeper;
+use wire::Version;
 
-/// Gives bytes, so many at a time at most.
+/// Gives bytes, so many at a time at most, and then the end, or a failure.
 #[derive(Drop)]
 pub struct Pieces<'a> {
     pub rest: &'a [u8],
     pub size: usize,
+    /// A read behind the bytes fails.
+    pub fails: bool,
+}
+
+impl<'a> Pieces<'a> {
+    /// All these bytes, and then the end.
+    pub fn new(rest: &'a [u8]) -> Pieces<'a> {
+        Pieces {
+            rest,
+            size: 4096,
+            fails: false,
+        }
+    }
 }
 
 impl Read for Pieces<'_> {
     fn read(&mut self, buf: &mut [u8]) -> io::Result<usize> {
+        if self.fails && self.rest.is_empty() {
+            return Err(Error::from(ErrorKind::ConnectionReset));
+        }
         let count = buf.len().min(self.size).min(self.rest.len());
         let (now, rest) = self.rest.split_at(count);
         buf[..count].copy_from_slice(now);
@@ -70,23 +87,28 @@ impl Write for Narrow {
     }
 }
 
-/// Desk 1 of 3 in hall 7, and what came of its connections.
+/// A desk of hall 7 with three desks, the version of the wire in which it pushes, and what came of
+/// its connections.
 #[derive(Drop)]
 pub struct Side {
     pub node: Node<MemoryKeeper>,
+    wire: Version,
     pub written: Narrow,
     pub pushed: Pushed,
 }
 
 impl Side {
     /// A new desk, whose clients take so many bytes.
-    pub fn new(alloc: Global, room: usize) -> io::Result<Side> {
-        let keeper = MemoryKeeper::new(alloc, 7, 1, 3)?;
+    pub fn new(alloc: Global, desk: u8, wire: Version, room: usize) -> io::Result<Side>
+        requires { (1 ≤ desk) × (desk ≤ 3) }
+    {
+        let keeper = MemoryKeeper::new(alloc, 7, desk, 3)?;
         let Ok(node) = Node::open(alloc, keeper) else {
             return Err(Error::from(ErrorKind::OutOfMemory));
         };
         Ok(Side {
             node,
+            wire,
             written: Narrow {
                 room,
                 bytes: Vec::new(alloc),
@@ -97,16 +119,26 @@ impl Side {
         })
     }
 
+    /// The next client takes so many bytes. What was written and pushed so far is forgotten.
+    pub fn begin(&mut self, room: usize) {
+        self.written.room = room;
+        self.written.bytes.clear();
+        self.pushed.bytes.clear();
+    }
+
     /// Serves a connection.
-    pub fn serve(&mut self, alloc: Global, rest: &[u8], size: usize) -> Served {
-        let reader = Pieces { rest, size };
+    pub fn serve(&mut self, alloc: Global, reader: Pieces<'_>) -> Served {
+        let wire = match self.wire {
+            Version::One => 1,
+            Version::Two => 2,
+        };
         serve_connection(
             alloc,
             reader,
             &mut self.written,
             &mut self.node,
             &mut self.pushed,
-            1,
+            wire,
         )
     }
 

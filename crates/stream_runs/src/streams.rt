@@ -1,7 +1,7 @@
 //! Random streams, each served whole and frame by frame.
 
 use crate::damage::put_damage;
-use crate::desks::Side;
+use crate::desks::{Pieces, Side};
 use crate::frames::{Drawn, STOP, below, draw};
 use crate::tokens::misspelt;
 use rand_core::SeedableRng;
@@ -10,7 +10,7 @@ use serving::{End, Served};
 use std::alloc::{AllocError, Global};
 use std::io;
 use std::io::Write;
-use wire::WireFault;
+use wire::{Version, WireFault};
 
 /// What is asked of both desks in the end: Tick, Prepare of (9, 2) at positions 0, 1 and 2, Submit,
 /// and Behind of length 0. So their promise, vote, ballot, queue and log are told.
@@ -98,7 +98,7 @@ fn serve_alone(alloc: Global, side: &mut Side, frame: &Drawn) -> Result<bool, Al
     } else {
         End::End
     };
-    let served = side.serve(alloc, &frame.bytes, 4096);
+    let served = side.serve(alloc, Pieces::new(&frame.bytes));
     Ok(served == Served { frames: 1, end })
 }
 
@@ -130,8 +130,8 @@ fn serve_each(
 
 /// Whether two desks have written and pushed the same, and hold the same.
 fn are_same(alloc: Global, one: &mut Side, other: &mut Side) -> bool {
-    let first = one.serve(alloc, PROBE, 4096);
-    let second = other.serve(alloc, PROBE, 4096);
+    let first = one.serve(alloc, Pieces::new(PROBE));
+    let second = other.serve(alloc, Pieces::new(PROBE));
     first == second
         && first
             == Served {
@@ -153,6 +153,37 @@ fn stream_of(alloc: Global, drawn: &[Drawn]) -> Result<Vec<u8>, AllocError> {
     Ok(stream)
 }
 
+/// Serves a stream at one desk, and its whole frames alone at the other, and tells what became of
+/// its connection; none where the two differ.
+fn serve_both(
+    alloc: Global,
+    whole: &mut Side,
+    each: &mut Side,
+    pieces: Pieces<'_>,
+    drawn: &[Drawn],
+    end: End,
+) -> io::Result<Option<Served>> {
+    let served = whole.serve(alloc, pieces);
+    let wanted = serve_each(alloc, each, drawn, end)?;
+    if wanted == Some(served) && are_same(alloc, whole, each) {
+        Ok(Some(served))
+    } else {
+        Ok(None)
+    }
+}
+
+/// Serves a stream at two new desks, as above.
+fn serve_new(
+    alloc: Global,
+    pieces: Pieces<'_>,
+    drawn: &[Drawn],
+    end: End,
+) -> io::Result<Option<Served>> {
+    let mut whole = Side::new(alloc, 1, Version::One, 10_000_000)?;
+    let mut each = Side::new(alloc, 1, Version::One, 10_000_000)?;
+    serve_both(alloc, &mut whole, &mut each, pieces, drawn, end)
+}
+
 /// Serves the stream of a seed, and tells what became of its connection; none where it is not as
 /// the whole frames alone.
 fn serve_seed(alloc: Global, seed: u64) -> io::Result<Option<Served>> {
@@ -161,15 +192,9 @@ fn serve_seed(alloc: Global, seed: u64) -> io::Result<Option<Served>> {
     let mut stream = stream_of(alloc, &drawn)?;
     let end = put_damage(alloc, &mut rng, &mut stream)?;
     let size = below(&mut rng, 60).saturating_add(1).min(60) as usize;
-    let mut whole = Side::new(alloc, 10_000_000)?;
-    let mut each = Side::new(alloc, 10_000_000)?;
-    let served = whole.serve(alloc, &stream, size);
-    let wanted = serve_each(alloc, &mut each, &drawn, end)?;
-    if wanted == Some(served) && are_same(alloc, &mut whole, &mut each) {
-        Ok(Some(served))
-    } else {
-        Ok(None)
-    }
+    let mut pieces = Pieces::new(&stream);
+    pieces.size = size;
+    serve_new(alloc, pieces, &drawn, end)
 }
 
 fn show_counts(out: &mut Vec<u8>, counts: &Counts) -> io::Result<()> {
