@@ -32,10 +32,12 @@ told_first a b h home n len here long =
 
 -- the first line was cut off
 pub first_cut : {V : Type 0} {way : Way V} (t : Turn) (a : Standing way) (f : ServeFault)
-    → IsOfLine f → AppendsPart t.out.old t.out.new (first_line t.home t.len)
-    → FailsServing f t a a
-first_cut t a f (inl is) h = subst (λ (f : ServeFault). FailsServing f t a a) (sym is) (inl (refl, h))
-first_cut t a f (inr is) h = subst (λ (f : ServeFault). FailsServing f t a a) (sym is) (inl (refl, h))
+    → IsOfLine f → t.heard.old ≡ t.heard.new
+    → AppendsPart t.out.old t.out.new (first_line t.home t.len) → FailsServing f t a a
+first_cut t a f (inl is) same h =
+    subst (λ (f : ServeFault). FailsServing f t a a) (sym is) (inl (refl, same, h))
+first_cut t a f (inr is) same h =
+    subst (λ (f : ServeFault). FailsServing f t a a) (sym is) (inl (refl, same, h))
 
 -- the last line was
 pub last_cut : {V : Type 0} {way : Way V} (t : Turn) (a b : Standing way) (f : ServeFault)

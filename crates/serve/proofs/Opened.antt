@@ -26,7 +26,7 @@ use Rattle.store.specs.Ranges.{IsHome}
 use Rattle.serve.proofs.Over.{allowed_of, by_listener}
 use Rattle.serve.specs.Files.{HasNoTable, HeldBy, IsFirst, IsOpenedOn}
 use Rattle.serve.specs.Printing.{IsOfListener, Output, home_of}
-use Rattle.serve.specs.Serves.{FailsServing, IsHindered, IsRun, Serves, Turn, standing, turn}
+use Rattle.serve.specs.Serves.{FailsServing, IsHindered, IsRun, Serves, Turn, standing, turn, unheard}
 use Rattle.serve.specs.declared.fault.ServeFault.{ServeFault}
 use Rattle.serve.specs.declared.service.Service.{Service}
 
@@ -91,7 +91,7 @@ run_of : {K : Type 0} (k : KeeperWords K) (files : Image) (s : Service) (home : 
     (Does : Turn → Standing (speaking (Handles k) (spoken s.wire))
     → Standing (speaking (Handles k) (spoken s.wire)) → Type 0)
     → IsOpenedOn k files home first → home ≡ home_of s
-    → Does (turn (k.home_of first.keeper) s.connections (length first.desk.log) o)
+    → Does (turn (k.home_of first.keeper) s.connections (length first.desk.log) o unheard)
     (standing k s.wire first) (standing k s.wire last)
     → IsRun k files s o Does
 run_of k files s home o first last Does opened is does = record {
@@ -100,7 +100,7 @@ run_of k files s home o first last Does opened is does = record {
   opened = subst (λ h. IsOpenedOn k files h first) is opened;
   served =
       subst
-      (λ h. Does (turn h s.connections (length first.desk.log) o) (standing k s.wire first)
+      (λ h. Does (turn h s.connections (length first.desk.log) o unheard) (standing k s.wire first)
       (standing k s.wire last))
       (opened.place ∙ is) does;
 }
@@ -108,7 +108,7 @@ run_of k files s home o first last Does opened is does = record {
 pub runs : {K : Type 0} (k : KeeperWords K) (files : Image) (s : Service) (home : Home)
     (o : Output) (first last : NodeValue K) (r : Result (Unit {0}) ServeFault)
     → IsOpenedOn k files home first → home ≡ home_of s
-    → OnOk r (Serves (turn (k.home_of first.keeper) s.connections (length first.desk.log) o)
+    → OnOk r (Serves (turn (k.home_of first.keeper) s.connections (length first.desk.log) o unheard)
     (standing k s.wire first) (standing k s.wire last))
     → OnOk r (IsRun k files s o Serves)
 runs k files s home o first last r opened is h =
@@ -118,7 +118,7 @@ pub runs_ill : {K : Type 0} (k : KeeperWords K) (files : Image) (s : Service) (h
     (o : Output) (first last : NodeValue K) (r : Result (Unit {0}) ServeFault)
     → IsOpenedOn k files home first → home ≡ home_of s → IsHome home
     → IfErr r (λ f. (IsOfListener f × KeepsBytes o.old o.new)
-    ⊎ FailsServing f (turn (k.home_of first.keeper) s.connections (length first.desk.log) o)
+    ⊎ FailsServing f (turn (k.home_of first.keeper) s.connections (length first.desk.log) o unheard)
     (standing k s.wire first) (standing k s.wire last))
     → IfErr r (λ f. IsHindered f s o ⊎ IsRun k files s o (FailsServing f))
 runs_ill k files s home o first last r opened is allowed h =
@@ -126,7 +126,8 @@ runs_ill k files s home o first last r opened is allowed h =
   where
     how : (f : ServeFault)
         → (IsOfListener f × KeepsBytes o.old o.new)
-        ⊎ FailsServing f (turn (k.home_of first.keeper) s.connections (length first.desk.log) o)
+        ⊎ FailsServing f
+        (turn (k.home_of first.keeper) s.connections (length first.desk.log) o unheard)
         (standing k s.wire first) (standing k s.wire last)
         → IsHindered f s o ⊎ IsRun k files s o (FailsServing f)
     how f (inl e) =

@@ -10,7 +10,7 @@ use Rattle.sockets.specs.declared.serving_all.ServedAll.{ServedAll}
 use Rattle.store.specs.Ranges.{IsHome}
 use Rattle.store.specs.declared.home.Home.{Home}
 use Rattle.serve.specs.Printing.{Hinders, IsAllowed, IsOfListener, IsOfStore, IsRefused, Output, Prints, PrintsAt, PrintsPart, both_lines, first_line, home_of, last_line}
-use Rattle.serve.specs.Serves.{FailsServing, HasServed, IsCutOff, Serves, ServesTo, Turn, turn}
+use Rattle.serve.specs.Serves.{FailsServing, HasServed, IsCutOff, Serves, ServesTo, Turn, turn, unheard}
 use Rattle.serve.specs.declared.fault.ServeFault.{ServeFault}
 use Rattle.serve.specs.declared.fault.ServeFault.TheVariants as fault
 use Rattle.serve.specs.declared.service.Service.{Service}
@@ -21,17 +21,17 @@ few_served t a b served h = omega (arith, h.1.counted, h.1.few)
 
 prints_to : {V : Type 0} {way : Way V} (s : Service) (len : ℕ) (o : Output) (a b : Standing way)
     (end : AllEnd)
-    → IsAllowed s → ServesTo end (turn (home_of s) s.connections len o) a b → Prints s o
+    → IsAllowed s → ServesTo end (turn (home_of s) s.connections len o unheard) a b → Prints s o
 prints_to s len o a b end allowed h = record {
   allowed = allowed;
   len = len;
   count = h.0;
-  few = few_served (turn (home_of s) s.connections len o) a b _ h.1;
+  few = few_served (turn (home_of s) s.connections len o unheard) a b _ h.1;
   written = h.2;
 }
 
 pub prints : {V : Type 0} {way : Way V} (s : Service) (len : ℕ) (o : Output) (a b : Standing way)
-    → IsAllowed s → Serves (turn (home_of s) s.connections len o) a b → Prints s o
+    → IsAllowed s → Serves (turn (home_of s) s.connections len o unheard) a b → Prints s o
 prints s len o a b allowed (inl h) = prints_to s len o a b _ allowed h
 prints s len o a b allowed (inr h) = prints_to s len o a b _ allowed h
 
@@ -46,25 +46,26 @@ more_of a c xs ys p = (
 )
 
 prints_part : {V : Type 0} {way : Way V} (s : Service) (len : ℕ) (o : Output) (a b : Standing way)
-    → IsAllowed s → IsCutOff (turn (home_of s) s.connections len o) a b → PrintsPart s o
+    → IsAllowed s → IsCutOff (turn (home_of s) s.connections len o unheard) a b → PrintsPart s o
 prints_part s len o a b allowed (inl h) = record {
   allowed = allowed;
   len = len;
   count = 0;
   few = omega arith;
-  written = more_of o.old o.new (first_line (home_of s) len) (last_line 0) h.1;
+  written = more_of o.old o.new (first_line (home_of s) len) (last_line 0) h.2;
 }
 prints_part s len o a b allowed (inr h) = record {
   allowed = allowed;
   len = len;
   count = h.0.connections;
-  few = few_served (turn (home_of s) s.connections len o) a b h.0 h.1;
+  few = few_served (turn (home_of s) s.connections len o unheard) a b h.0 h.1;
   written = h.2;
 }
 
 pub prints_at : {V : Type 0} {way : Way V} (f : ServeFault) (s : Service) (len : ℕ) (o : Output)
     (a b : Standing way)
-    → IsAllowed s → FailsServing f (turn (home_of s) s.connections len o) a b → PrintsAt f s o
+    → IsAllowed s → FailsServing f (turn (home_of s) s.connections len o unheard) a b
+    → PrintsAt f s o
 prints_at fault.Down s len o a b allowed h = prints_to s len o a b _ allowed h
 prints_at fault.CannotListen s len o a b allowed h = inr (prints_to s len o a b _ allowed h)
 prints_at fault.Write s len o a b allowed h = prints_part s len o a b allowed h
@@ -122,14 +123,15 @@ allowed_of s home is h = subst (λ (h : Home). IsHome h) is h
 pub printed : {V : Type 0} {way : Way V} (s : Service) (place home : Home) (len : ℕ) (o : Output)
     (a b : Standing way) (r : Result (Unit {0}) ServeFault)
     → place ≡ home → home ≡ home_of s → IsHome home
-    → OnOk r (Serves (turn place s.connections len o) a b) → OnOk r (Prints s o)
+    → OnOk r (Serves (turn place s.connections len o unheard) a b) → OnOk r (Prints s o)
 printed s place home len o a b r there is h =
     on_ok_weaker r (λ served. prints s len o a b (allowed_of s home is h)
-    (subst (λ (p : Home). Serves (turn p s.connections len o) a b) (there ∙ is) served))
+    (subst (λ (p : Home). Serves (turn p s.connections len o unheard) a b) (there ∙ is) served))
 
 ends_printed : {V : Type 0} {way : Way V} (s : Service) (len : ℕ) (o : Output) (a b : Standing way)
     (f : ServeFault) → IsAllowed s
-    → (IsOfListener f × Keeps o.old o.new) ⊎ FailsServing f (turn (home_of s) s.connections len o) a b
+    → (IsOfListener f × Keeps o.old o.new)
+    ⊎ FailsServing f (turn (home_of s) s.connections len o unheard) a b
     → PrintsAt f s o
 ends_printed s len o a b f allowed (inl e) = hindered f s o (by_listener f s e.0 allowed) e.1
 ends_printed s len o a b f allowed (inr e) = prints_at f s len o a b allowed e
@@ -138,9 +140,9 @@ pub printed_fault : {V : Type 0} {way : Way V} (s : Service) (place home : Home)
     (o : Output) (a b : Standing way) (r : Result (Unit {0}) ServeFault)
     → place ≡ home → home ≡ home_of s → IsHome home
     → IfErr r (λ f. (IsOfListener f × Keeps o.old o.new)
-    ⊎ FailsServing f (turn place s.connections len o) a b)
+    ⊎ FailsServing f (turn place s.connections len o unheard) a b)
     → IfErr r (λ f. PrintsAt f s o)
 printed_fault s place home len o a b r there is h =
     IfErr-weaker r _ _ (λ f ends. ends_printed s len o a b f (allowed_of s home is h)
     (subst (λ (p : Home). (IsOfListener f × Keeps o.old o.new)
-    ⊎ FailsServing f (turn p s.connections len o) a b) (there ∙ is) ends))
+    ⊎ FailsServing f (turn p s.connections len o unheard) a b) (there ∙ is) ends))

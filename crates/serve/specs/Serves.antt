@@ -1,13 +1,13 @@
 -- What a desk does that serves: the clients that it serves, and the file that it stands on.
-use Rattle.std.specs.Prelude.{◌≡◌, ◌⊎◌, ℕ, List, length, None, Result, Ok, Err}
+use Rattle.std.specs.Prelude.{◌≡◌, ◌⊎◌, ℕ, List, length, Option, None, Result, Ok, Err}
 use Rattle.std.specs.Io.KnownBytes.{Appends, Keeps}
 use Rattle.sqlite.specs.Recovery.{Image}
 use Rattle.lines.specs.Bytes.{AppendsPart}
 use Rattle.node.specs.Handles.{Handles}
 use Rattle.node.specs.Nodes.{NodeValue, KeeperWords}
 use Rattle.serving.specs.Making.{Way, speaking, spoken}
-use Rattle.serving.specs.declared.ends.Served.{Served}
-use Rattle.sockets.specs.Visits.{Standing, IsServedAll, standing_of}
+use Rattle.sockets.specs.Listening.{Listened}
+use Rattle.sockets.specs.Visits.{Standing, Visit, IsServedAll, standing_of}
 use Rattle.sockets.specs.declared.serving_all.AllEnd.{AllEnd}
 use Rattle.sockets.specs.declared.serving_all.AllEnd.TheVariants as all
 use Rattle.sockets.specs.declared.serving_all.ServedAll.{ServedAll}
@@ -18,21 +18,32 @@ use Rattle.serve.specs.declared.fault.ServeFault.{ServeFault}
 use Rattle.serve.specs.declared.fault.ServeFault.TheVariants as fault
 use Rattle.serve.specs.declared.service.Service.{Service}
 
--- a desk that is to serve: whose it is, at most how many clients, how long its log is, and the
--- writer
+-- what came of listening before and afterwards, where it is told
+pub record Heard : Type 0 where
+  pub old : Option (List Listened)
+  pub new : Option (List Listened)
+
+abbrev pub heard : Option (List Listened) → Option (List Listened) → Heard
+heard old new = record { old = old; new = new }
+
+-- a desk that is to serve: whose it is, at most how many clients, how long its log is, the writer,
+-- and what came of listening
 pub record Turn : Type 0 where
   pub home : Home
   pub most : ℕ
   pub len : ℕ
   pub out : Output
+  pub heard : Heard
 
-abbrev pub turn : Home → ℕ → ℕ → Output → Turn
-turn home most len o = record { home = home; most = most; len = len; out = o }
+abbrev pub turn : Home → ℕ → ℕ → Output → Heard → Turn
+turn home most len o h =
+    record { home = home; most = most; len = len; out = o; heard = h }
 
 -- these clients were served, one after the other, to this end
 abbrev pub HasServed : {V : Type 0} → {way : Way V} → ServedAll → Turn → Standing way → Standing way
     → Type 0
-HasServed served t a b = (each : List Served) × IsServedAll served t.home t.most a b each
+HasServed served t a b =
+    (each : List Visit) × IsServedAll served t.home t.most a b t.heard.old t.heard.new each
 
 -- clients were served to this end, and both lines were written
 abbrev pub ServesTo : {V : Type 0} → {way : Way V} → AllEnd → Turn → Standing way → Standing way
@@ -44,7 +55,8 @@ ServesTo end t a b =
 -- the first line was cut off, and nobody was served; or the last one was
 abbrev pub IsCutOff : {V : Type 0} → {way : Way V} → Turn → Standing way → Standing way → Type 0
 IsCutOff t a b =
-    ((a ≡ b) × AppendsPart t.out.old t.out.new (first_line t.home t.len))
+    ((a ≡ b) × (t.heard.old ≡ t.heard.new)
+    × AppendsPart t.out.old t.out.new (first_line t.home t.len))
     ⊎ ((served : ServedAll) × HasServed served t a b
     × AppendsPart t.out.old t.out.new (both_lines t.home t.len served.connections))
 
@@ -68,6 +80,10 @@ FailsServing fault.Write t a b = IsCutOff t a b
 FailsServing fault.NoMemory t a b = IsCutOff t a b
 FailsServing _ t a b = ⊥
 
+-- of a socket nothing is told of what comes of listening
+abbrev pub unheard : Heard
+unheard = heard None None
+
 -- a node between two connections, where nothing is told of what the other desks were handed
 abbrev pub standing : {K : Type 0} → (k : KeeperWords K) → (wire : ℕ) → NodeValue K
     → Standing (speaking (Handles k) (spoken wire))
@@ -81,7 +97,7 @@ pub record IsRun {K : Type 0} (k : KeeperWords K) (files : Image) (s : Service) 
   pub first : NodeValue K
   pub last : NodeValue K
   pub opened : IsOpenedOn k files (home_of s) first
-  pub served : Does (turn (home_of s) s.connections (length first.desk.log) o)
+  pub served : Does (turn (home_of s) s.connections (length first.desk.log) o unheard)
       (standing k s.wire first) (standing k s.wire last)
 
 -- nothing was printed and nobody served, by this cause

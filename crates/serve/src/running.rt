@@ -8,7 +8,8 @@ ghost use Rattle.serving.specs.Making.{speaking, spoken};
 ghost use Rattle.sockets.specs.Visits.{standing_of};
 ghost use Rattle.wire.specs.Laws.{IsVersion};
 ghost use Rattle.serve.specs.Printing.{IsOfListener, Prints, PrintsAt, output};
-ghost use Rattle.serve.specs.Serves.{FailsServing, IsHindered, IsRun, Serves, ends_by, standing, turn};
+ghost use Rattle.serve.specs.Serves.{FailsServing, IsHindered, IsRun, Serves, ends_by, heard};
+ghost use Rattle.serve.specs.Serves.{standing, turn, unheard};
 ghost use Rattle.sqlite.specs.WalFiles.{image_at};
 
 use crate::fault::ServeFault;
@@ -62,7 +63,8 @@ pub fn serve_node<K: Keeper + Drop, A: Accept, P: Peers, W: Write>(
         (spoken wire) in
         OnOk result (Serves
         (turn (K.home_of node.old.keeper) most (length node.old.desk.log)
-        (output (W.contents writer.old) (W.contents writer.new)))
+        (output (W.contents writer.old) (W.contents writer.new))
+        (heard (A.listened listener.old) (A.listened listener.new)))
         (standing_of way node.old (P.handed peers.old))
         (standing_of way node.new (P.handed peers.new))) }
     ensures err { let way = speaking (Handles
@@ -70,7 +72,8 @@ pub fn serve_node<K: Keeper + Drop, A: Accept, P: Peers, W: Write>(
         (spoken wire) in
         IfErr result (λ f. FailsServing f
         (turn (K.home_of node.old.keeper) most (length node.old.desk.log)
-        (output (W.contents writer.old) (W.contents writer.new)))
+        (output (W.contents writer.old) (W.contents writer.new))
+        (heard (A.listened listener.old) (A.listened listener.new)))
         (standing_of way node.old (P.handed peers.old))
         (standing_of way node.new (P.handed peers.new))) }
 {
@@ -141,14 +144,14 @@ fn serve_there<K: Keeper + Drop, W: Write>(
         words K.home_of K.failures_of K.is_down K.is_honest K.keeps K.may_hold K.may_break in
         OnOk result (Serves
         (turn (K.home_of node.old.keeper) service.entry.connections (length node.old.desk.log)
-        (output (W.contents writer.old) (W.contents writer.new)))
+        (output (W.contents writer.old) (W.contents writer.new)) unheard)
         (standing k service.entry.wire node.old) (standing k service.entry.wire node.new)) }
     ensures err { let k =
         words K.home_of K.failures_of K.is_down K.is_honest K.keeps K.may_hold K.may_break in
         IfErr result (λ f. (IsOfListener f × Keeps (W.contents writer.old) (W.contents writer.new))
         ⊎ FailsServing f
         (turn (K.home_of node.old.keeper) service.entry.connections (length node.old.desk.log)
-        (output (W.contents writer.old) (W.contents writer.new)))
+        (output (W.contents writer.old) (W.contents writer.new)) unheard)
         (standing k service.entry.wire node.old) (standing k service.entry.wire node.new)) }
 {
     let mut listener = match listen(rt, service) {

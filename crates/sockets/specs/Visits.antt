@@ -9,6 +9,7 @@ use Rattle.serving.specs.declared.ends.End.TheVariants as end
 use Rattle.serving.specs.declared.ends.Served.{Served}
 use Rattle.store.specs.declared.home.Home.{Home}
 use Rattle.node.specs.Nodes.{NodeValue}
+use Rattle.sockets.specs.Listening.{Listened, Came, Failed, Ended, Tells}
 use Rattle.sockets.specs.declared.serving_all.AllEnd.{AllEnd}
 use Rattle.sockets.specs.declared.serving_all.AllEnd.TheVariants as all
 use Rattle.sockets.specs.declared.serving_all.ServedAll.{ServedAll}
@@ -27,26 +28,40 @@ standing_of way node handed =
       outside = outside_of way node handed;
     }
 
+-- a connection: how it was served, what its client had to send, and what the client had been sent
+-- before it and behind it
+pub record Visit : Type 0 where
+  pub served : Served
+  pub sends : Option (List ℕ)
+  pub before : Option (List ℕ)
+  pub behind : Option (List ℕ)
+
+abbrev pub visit : Served → Option (List ℕ) → Option (List ℕ) → Option (List ℕ) → Visit
+visit served sends before behind =
+    record { served = served; sends = sends; before = before; behind = behind }
+
 -- a connection that was served so, from the one to the other
-pub record IsVisit {V : Type 0} {way : Way V} (home : Home) (served : Served)
+pub record IsVisit {V : Type 0} {way : Way V} (home : Home) (v : Visit)
     (a b : Standing way) : Type 0 where
-  pub written : Option (List ℕ)
-  pub wrote : Option (List ℕ)
-  pub read : Option (List ℕ)
   pub left : Option (List ℕ)
   pub reads : ℕ
   pub bytes : List ℕ
   pub begun : List Begun
   pub rest : List ℕ
-  pub is : IsConnection served home (sides a.seen written a.outside) (sides b.seen wrote b.outside)
-      bytes begun rest read left reads
+  pub is : IsConnection v.served home (sides a.seen v.before a.outside)
+      (sides b.seen v.behind b.outside) bytes begun rest v.sends left reads
 
 -- these connections, one after the other
-abbrev pub AreVisits : {V : Type 0} → {way : Way V} → Home → Standing way → List Served
+abbrev pub AreVisits : {V : Type 0} → {way : Way V} → Home → Standing way → List Visit
     → Standing way → Type 0
 AreVisits {V} {way} home a [] b = a ≡ b
-AreVisits {V} {way} home a (s ∷ ss) b =
-    (m : Standing way) × IsVisit home s a m × AreVisits home m ss b
+AreVisits {V} {way} home a (v ∷ vs) b =
+    (m : Standing way) × IsVisit home v a m × AreVisits home m vs b
+
+-- what comes of listening for these clients, each of which came and was served to its end
+abbrev pub listened_of : List Visit → List Listened
+listened_of [] = []
+listened_of (v ∷ vs) = Came v.sends v.before ∷ Ended v.behind ∷ listened_of vs
 
 -- why no client is served behind a connection that ended so, if none is
 abbrev pub end_behind : End → Option AllEnd
@@ -60,31 +75,41 @@ end_behind end.Read = None
 end_behind end.Write = None
 end_behind end.NoMemory = None
 
+-- what comes of listening behind the last client: that none could be accepted, or nothing
+abbrev pub listened_at : AllEnd → List Listened
+listened_at all.All = []
+listened_at all.CannotListen = Failed ∷ []
+listened_at all.Stopped = []
+listened_at all.Down = []
+
 -- behind each of these the next client has its turn
-abbrev pub GoOn : List Served → Type 0
+abbrev pub GoOn : List Visit → Type 0
 GoOn [] = Unit {0}
-GoOn (s ∷ ss) = (end_behind s.end ≡ None) × GoOn ss
+GoOn (v ∷ vs) = (end_behind v.served.end ≡ None) × GoOn vs
 
 -- the last of these connections is why no further one is served, and those before it are not
-pub record EndsBehind (why : AllEnd) (each front : List Served) (last : Served) : Type 0 where
+pub record EndsBehind (why : AllEnd) (each front : List Visit) (last : Visit) : Type 0 where
   pub parts : each ≡ front ++ last ∷ []
   pub before : GoOn front
-  pub behind : end_behind last.end ≡ Some why
+  pub behind : end_behind last.served.end ≡ Some why
 
-abbrev pub EndsBehindLast : AllEnd → List Served → Type 0
-EndsBehindLast why each = (front : List Served) × (last : Served) × EndsBehind why each front last
+abbrev pub EndsBehindLast : AllEnd → List Visit → Type 0
+EndsBehindLast why each = (front : List Visit) × (last : Visit) × EndsBehind why each front last
 
 -- the cause of each end, where so many were asked for
-abbrev pub EndsAll : AllEnd → ℕ → List Served → Type 0
+abbrev pub EndsAll : AllEnd → ℕ → List Visit → Type 0
 EndsAll all.All most each = GoOn each × (length each ≡ most)
 EndsAll all.CannotListen most each = GoOn each × (length each < most)
 EndsAll all.Stopped most each = EndsBehindLast all.Stopped each
 EndsAll all.Down most each = EndsBehindLast all.Down each
 
--- these connections were served, one after the other, and the end came by its cause
+-- These connections were served, one after the other, and the end came by its cause. Each is that
+-- of a client that came, in the order in which they came, and no other client came.
 pub record IsServedAll {V : Type 0} {way : Way V} (result : ServedAll) (home : Home) (most : ℕ)
-    (a b : Standing way) (each : List Served) : Type 0 where
+    (a b : Standing way) (before behind : Option (List Listened))
+    (each : List Visit) : Type 0 where
   pub visits : AreVisits home a each b
   pub counted : result.connections ≡ length each
   pub few : length each ≤ most
   pub ends : EndsAll result.end most each
+  pub listened : Tells before behind (listened_of each ++ listened_at result.end)

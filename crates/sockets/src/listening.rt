@@ -33,9 +33,13 @@ impl Listener {
 }
 
 impl Accept for Listener {
+    ghost use Rattle.std.specs.Prelude.{None};
+
     type Reader = TcpStream;
 
     type Writer = TcpStream;
+
+    ghost listened = { λ _. None };
 
     fn accept(&mut self) -> io::Result<(TcpStream, TcpStream)> {
         let (stream, _) = self.listener.accept()?;

@@ -1,12 +1,12 @@
 //! Clients that are served one after the other.
 
-ghost use Rattle.std.specs.Prelude.{◌≡◌, List};
+ghost use Rattle.std.specs.Prelude.{◌≡◌, ◌∷◌, [], ℕ, List, Option};
 ghost use Rattle.node.specs.Handles.{Handles};
 ghost use Rattle.node.specs.Nodes.{words};
 ghost use Rattle.serving.specs.Making.{speaking, spoken};
 ghost use Rattle.wire.specs.Laws.{IsVersion};
-ghost use Rattle.serving.specs.declared.ends.Served.{Served as ServedValue};
-ghost use Rattle.sockets.specs.Visits.{IsVisit, IsServedAll, end_behind, standing_of};
+ghost use Rattle.sockets.specs.Listening.{Ended, Tells};
+ghost use Rattle.sockets.specs.Visits.{Visit, IsVisit, IsServedAll, end_behind, standing_of, visit};
 
 use crate::accepting::Accept;
 use node::Node;
@@ -46,7 +46,8 @@ fn serve_client<K: Keeper + Drop, A: Accept, P: Peers>(
     wire: u8,
 ) -> Served
     requires version { IsVersion wire }
-    ensures visit { IsVisit (K.home_of node.old.keeper) result
+    ensures visit { (behind : Option (List ℕ)) × IsVisit (K.home_of node.old.keeper)
+        (visit result (A.Reader.remaining reader) (A.Writer.contents writer) behind)
         (standing_of (speaking (Handles
         (words K.home_of K.failures_of K.is_down K.is_honest K.keeps K.may_hold K.may_break))
         (spoken wire))
@@ -54,7 +55,8 @@ fn serve_client<K: Keeper + Drop, A: Accept, P: Peers>(
         (standing_of (speaking (Handles
         (words K.home_of K.failures_of K.is_down K.is_honest K.keeps K.may_hold K.may_break))
         (spoken wire))
-        node.new (P.handed peers.new)) }
+        node.new (P.handed peers.new))
+        × Tells (A.listened listener.old) (A.listened listener.new) (Ended behind ∷ []) }
     ensures home { K.home_of node.new.keeper ≡ K.home_of node.old.keeper }
 {
     let mut writer = writer;
@@ -76,7 +78,7 @@ pub fn serve_all<K: Keeper + Drop, A: Accept, P: Peers>(
     wire: u8,
 ) -> ServedAll
     requires version { IsVersion wire }
-    ensures served { (each : List ServedValue) × IsServedAll result (K.home_of node.old.keeper) most
+    ensures served { (each : List Visit) × IsServedAll result (K.home_of node.old.keeper) most
         (standing_of (speaking (Handles
         (words K.home_of K.failures_of K.is_down K.is_honest K.keeps K.may_hold K.may_break))
         (spoken wire))
@@ -85,6 +87,7 @@ pub fn serve_all<K: Keeper + Drop, A: Accept, P: Peers>(
         (words K.home_of K.failures_of K.is_down K.is_honest K.keeps K.may_hold K.may_break))
         (spoken wire))
         node.new (P.handed peers.new))
+        (A.listened listener.old) (A.listened listener.new)
         each }
     ensures home { K.home_of node.new.keeper ≡ K.home_of node.old.keeper }
 {

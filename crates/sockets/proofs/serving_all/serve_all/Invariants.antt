@@ -2,8 +2,7 @@ use Rattle.std.proofs.Common.{◌≡◌, List, ◌-◌}
 use Rattle.node.specs.Handles.{Handles}
 use Rattle.node.specs.Nodes.{words}
 use Rattle.serving.specs.Making.{speaking, spoken}
-use Rattle.serving.specs.declared.ends.Served.{Served}
-use Rattle.sockets.specs.Visits.{standing_of}
+use Rattle.sockets.specs.Visits.{Visit, standing_of}
 use Rattle.sockets.proofs.Visiting.{SoFar}
 use Rattle.sockets.proofs.serving_all.serve_all.Given as goal
 
@@ -17,10 +16,11 @@ invariant-loop-connections g l =
     (spoken l.wire) in
     record {
       home : k.home_of l.node.keeper ≡ k.home_of l.initial.node.keeper;
-      so_far : (each : List Served)
+      so_far : (each : List Visit)
           × SoFar (k.home_of l.initial.node.keeper) l.most l.connections
           (standing_of way l.initial.node (g.P.Peers.handed l.initial.peers))
-          (standing_of way l.node (g.P.Peers.handed l.peers)) each;
+          (standing_of way l.node (g.P.Peers.handed l.peers))
+          (g.A.Accept.listened l.initial.listener) (g.A.Accept.listened l.listener) each;
     }
 
 abbrev pub decreases-loop-connections : goal.decreases-loop-connections
