@@ -3,23 +3,38 @@
 
 ghost use Rattle.std.specs.Prelude.{None};
 
-use crate::sockets_of_one::send;
-use acceptor::entry::Entry;
+use crate::sockets_of_one::{expect, send};
+use crate::stores::{Stores, open};
 use node::Node;
 use serving::Peers;
 use sockets::{AllEnd, Listener, SocketPeers, serve_all};
 use sqlite::{Alter, Connection, Error, File, FileStore};
 use std::alloc::Global;
 use std::fs;
-use std::net::SocketAddr;
-use std::process::Abort;
+use std::net::{SocketAddr, TcpStream};
 use std::test::Fail;
 use store::keeper::Keeper;
 use store::sql::SqlKeeper;
-use wire::{Frame, Version, What, encode};
 
-/// How many commands one client hands in at once.
-const BURST: u64 = 20;
+/// Stores in files. What uses them is written over any stores, since a function in which the type
+/// of a file's store stands takes the prover half a minute and more.
+#[derive(Drop)]
+struct InFiles<'a> {
+    rt: &'a HostRuntime,
+}
+
+impl Stores for InFiles<'_> {
+    type Store = FileStore<File>;
+
+    fn find(&self, desk: u8) -> Result<Connection<FileStore<File>>, Error> {
+        let path = match desk {
+            1 => "desk_hall_files/1",
+            2 => "desk_hall_files/2",
+            _ => "desk_hall_files/3",
+        };
+        Connection::open(self.rt, path)
+    }
+}
 
 /// Pushes frames over TCP, and counts the connections that wait for each desk.
 #[derive(Drop)]
@@ -41,28 +56,6 @@ impl Peers for Counting<'_> {
     }
 }
 
-/// The desk serves the connections that wait for it, and there were some. Desk 1 pushes in version
-/// 1 of the wire, and the others in version 2.
-fn serve_waiting<K: Keeper + Drop>(
-    alloc: Global,
-    desk: usize,
-    listener: &mut Listener,
-    node: &mut Node<K>,
-    hall: &mut Counting<'_>,
-) -> Result<bool, Fail> {
-    let Some(waiting) = hall.waiting.get_mut(desk) else {
-        return Ok(false);
-    };
-    let count = *waiting;
-    *waiting = 0;
-    let wire = if desk == 1 { 1 } else { 2 };
-    let served = serve_all(alloc, listener, count, node, hall, wire);
-    if served.end != AllEnd::All {
-        return Err(Fail::from("not all were served"));
-    }
-    Ok(count > 0)
-}
-
 /// A desk, and where it listens.
 #[derive(Drop)]
 struct Place<K: Keeper> {
@@ -71,18 +64,44 @@ struct Place<K: Keeper> {
     node: Node<K>,
 }
 
+/// The desk serves the connections that wait for it, and there were some. Desk 1 pushes in version
+/// 1 of the wire, and the others in version 2.
+fn serve_waiting<K: Keeper + Drop>(
+    alloc: Global,
+    place: &mut Place<K>,
+    hall: &mut Counting<'_>,
+) -> Result<bool, Fail> {
+    let Some(waiting) = hall.waiting.get_mut(usize::from(place.number)) else {
+        return Ok(false);
+    };
+    let count = *waiting;
+    *waiting = 0;
+    let wire = if place.number == 1 { 1 } else { 2 };
+    let served = serve_all(
+        alloc,
+        &mut place.listener,
+        count,
+        &mut place.node,
+        hall,
+        wire,
+    );
+    if served.end != AllEnd::All {
+        return Err(Fail::from("not all were served"));
+    }
+    Ok(count > 0)
+}
+
 /// Each desk in turn serves what waits for it, so often or until nothing waits.
 fn serve_rounds<K: Keeper + Drop>(
     alloc: Global,
-    places: &mut Vec<Place<K>>,
+    places: &mut [Place<K>],
     hall: &mut Counting<'_>,
     most: u32,
 ) -> Result<(), Fail> {
     for _ in 0..most {
         let mut is_quiet = true;
         for place in places.iter_mut() {
-            let desk = usize::from(place.number);
-            if serve_waiting(alloc, desk, &mut place.listener, &mut place.node, hall)? {
+            if serve_waiting(alloc, place, hall)? {
                 is_quiet = false;
             }
         }
@@ -93,158 +112,135 @@ fn serve_rounds<K: Keeper + Drop>(
     Ok(())
 }
 
-/// A burst of Submits from a client to desk 1.
-fn burst(alloc: Global) -> Result<Vec<u8>, Fail> {
+/// Submits of the text `CLOSE 333 1` under these ids, from a client to desk 1 of hall 7.
+fn submits(alloc: Global, first: u64, behind: u64) -> Result<Vec<u8>, Fail> {
     let mut frames = Vec::new(alloc);
-    for id in 1..BURST + 1 {
-        let frame = Frame {
-            version: Version::One,
-            hall: 7,
-            from: 0,
-            to: 1,
-            what: What::Submit {
-                entry: Entry::new(alloc, id, b"CLOSE 333 1")?,
-            },
-        };
-        frames.extend_from_slice(&encode(alloc, &frame)?)?;
+    for id in first..behind {
+        frames.extend_from_slice(b"\0\0\0\x1d\x01\0\0\0\x07\0\x01\x10")?;
+        frames.extend_from_slice(&id.to_be_bytes())?;
+        frames.extend_from_slice(b"\0\x0bCLOSE 333 1")?;
     }
     Ok(frames)
 }
 
-/// The desk's file.
-fn file(rt: &HostRuntime, desk: u8) -> Result<Connection<FileStore<File>>, Error> {
-    let path = match desk {
-        1 => "desk_hall_files/1",
-        2 => "desk_hall_files/2",
-        _ => "desk_hall_files/3",
+/// A client that hands in commands with these ids at once. It has to stay until it is answered.
+fn hand_in(
+    rt: &HostRuntime,
+    hall: &mut Counting<'_>,
+    addresses: &[Option<SocketAddr>],
+    first: u64,
+    behind: u64,
+) -> Result<TcpStream, Fail> {
+    let Some(Some(address)) = addresses.first() else {
+        return Err(Fail::from("no address"));
     };
-    Connection::open(rt, path)
+    hall.waiting = [0, 1, 0, 0];
+    send(rt, address, &submits(rt.alloc(), first, behind)?)
 }
 
-/// The desk over its file.
-fn open<S: Alter + Drop>(
-    alloc: Global,
-    conn: Connection<S>,
-    desk: u8,
-) -> Result<Node<SqlKeeper<S>>, Fail> {
-    if desk < 1 || desk > 3 || !conn.is_autocommit() {
-        return Err(Fail::from("no such desk"));
+/// Each desk's log has the ids from 1 on, in their order, and is so long.
+fn have_all<K: Keeper + Drop>(places: &[Place<K>], length: u32) -> Result<(), Fail> {
+    expect(places.len() == 3, "three desks")?;
+    for place in places {
+        let log = place.node.log();
+        expect(log.len() == length, "a log of this length")?;
+        for position in 0..length {
+            let found = log.position_of(u64::from(position) + 1);
+            expect(found == Some(position), "an id at its position")?;
+        }
     }
-    let Ok(keeper) = SqlKeeper::open(alloc, conn, 7, desk, 3) else {
-        return Err(Fail::from("not opened"));
-    };
-    match Node::open(alloc, keeper) {
-        Ok(node) => Ok(node),
-        Err(_) => Err(Fail::from("not loaded")),
-    }
-}
-
-/// Desk 2 is closed, and opened again on its file.
-fn reopen<S: Alter + Drop>(
-    alloc: Global,
-    places: &mut Vec<Place<SqlKeeper<S>>>,
-    file: Result<Connection<S>, Error>,
-    listener: Listener,
-) -> Result<(), Fail> {
-    let place = Place {
-        number: 2,
-        listener,
-        node: open(alloc, file?, 2)?,
-    };
-    places.push(place)?;
     Ok(())
 }
 
-/// Closes a desk; its listener stays.
-fn close<K: Keeper + Drop>(places: &mut Vec<Place<K>>, index: usize) -> Result<Listener, Fail> {
+/// Closes the desk at this place, in the middle of what it has to learn; its listener stays.
+fn close<K: Keeper + Drop>(
+    places: &mut Vec<Place<K>>,
+    index: usize,
+    learned: (u32, u32),
+) -> Result<Listener, Fail> {
     if index >= places.len() {
         return Err(Fail::from("no such desk"));
     }
     let Place {
         number: _,
         listener,
-        node: _,
+        node,
     } = places.swap_remove(index);
+    if node.log().len() <= learned.0 || learned.1 <= node.log().len() {
+        return Err(Fail::from("not in the middle"));
+    }
     Ok(listener)
 }
 
-/// A listener for each desk, and how the others reach it.
-fn listen(
+/// Opens a desk over its store.
+fn join<S: Alter + Drop>(
+    alloc: Global,
+    places: &mut Vec<Place<SqlKeeper<S>>>,
+    found: Result<Connection<S>, Error>,
+    number: u8,
+    listener: Listener,
+) -> Result<(), Fail> {
+    let place = Place {
+        number,
+        listener,
+        node: open(alloc, found, number)?,
+    };
+    places.push(place)?;
+    Ok(())
+}
+
+/// Opens three desks, and tells where they listen.
+fn join_all<D: Stores>(
     rt: &HostRuntime,
-    listeners: &mut Vec<Listener>,
+    stores: &D,
+    places: &mut Vec<Place<SqlKeeper<D::Store>>>,
     addresses: &mut Vec<Option<SocketAddr>>,
 ) -> Result<(), Fail> {
-    for _ in 0..3 {
+    for number in 1..4 {
         let listener = Listener::bind(rt, "127.0.0.1:0", None)?;
         addresses.push(Some(listener.address()?))?;
-        listeners.push(listener)?;
+        join(rt.alloc(), places, stores.find(number), number, listener)?;
     }
     Ok(())
 }
 
-/// Each desk has the whole burst, in one order.
-fn have_all<K: Keeper + Drop>(rt: &impl Abort, places: &[Place<K>]) {
-    for place in places {
-        let log = place.node.log();
-        assert_eq!(rt; u64::from(log.len()), BURST);
-        for id in 1..BURST + 1 {
-            assert!(rt; log.position_of(id) == u32::try_from(id - 1).ok());
-        }
-    }
-}
-
-/// The hall over its files takes the burst; desk 2 is closed and opened again while the entries are
-/// decided.
-fn decide(
+/// The hall decides 20 commands. Then it takes a burst of 30, and desk 2 is closed and opened again
+/// on its file while they are decided.
+fn decide<D: Stores>(
     rt: &HostRuntime,
-    places: &mut Vec<Place<SqlKeeper<FileStore<File>>>>,
+    stores: &D,
+    places: &mut Vec<Place<SqlKeeper<D::Store>>>,
     addresses: &[Option<SocketAddr>],
 ) -> Result<(), Fail> {
     let alloc = rt.alloc();
     let mut hall = Counting {
         peers: SocketPeers::new(rt, addresses),
-        waiting: [0, 1, 0, 0],
+        waiting: [0; 4],
     };
-    let Some(Some(first)) = addresses.first() else {
-        return Err(Fail::from("no address"));
-    };
-    let _client = send(rt, first, &burst(alloc)?)?;
+    let _first = hand_in(rt, &mut hall, addresses, 1, 21)?;
+    serve_rounds(alloc, places, &mut hall, 1000)?;
+    have_all(places, 20)?;
+    let _second = hand_in(rt, &mut hall, addresses, 21, 51)?;
     serve_rounds(alloc, places, &mut hall, 5)?;
-    let listener = close(places, 1)?;
-    reopen(alloc, places, file(rt, 2), listener)?;
-    serve_rounds(alloc, places, &mut hall, 1000)
+    let listener = close(places, 1, (20, 50))?;
+    join(alloc, places, stores.find(2), 2, listener)?;
+    serve_rounds(alloc, places, &mut hall, 1000)?;
+    have_all(places, 50)
 }
 
-/// The three desks, each over its file.
-fn open_all(
-    rt: &HostRuntime,
-    listeners: Vec<Listener>,
-) -> Result<Vec<Place<SqlKeeper<FileStore<File>>>>, Fail> {
+/// Three desks over these stores decide what clients hand in.
+fn decide_over<D: Stores>(rt: &HostRuntime, stores: &D) -> Result<(), Fail> {
     let mut places = Vec::new(rt.alloc());
-    let mut number = 0_u8;
-    for listener in listeners {
-        number = number.saturating_add(1);
-        let place = Place {
-            number,
-            listener,
-            node: open(rt.alloc(), file(rt, number)?, number)?,
-        };
-        places.push(place)?;
-    }
-    Ok(places)
+    let mut addresses = Vec::new(rt.alloc());
+    join_all(rt, stores, &mut places, &mut addresses)?;
+    decide(rt, stores, &mut places, &addresses)
 }
 
 #[test]
 fn three_desks_decide_a_burst(rt: HostRuntime) -> Result<(), Fail> {
-    let alloc = rt.alloc();
     let _ = fs::remove_dir_all(&rt, "desk_hall_files");
     fs::create_dir(&rt, "desk_hall_files")?;
-    let mut listeners = Vec::new(alloc);
-    let mut addresses = Vec::new(alloc);
-    listen(&rt, &mut listeners, &mut addresses)?;
-    let mut places = open_all(&rt, listeners)?;
-    decide(&rt, &mut places, &addresses)?;
-    have_all(&rt, &places);
+    decide_over(&rt, &InFiles { rt: &rt })?;
     fs::remove_dir_all(&rt, "desk_hall_files")?;
     Ok(())
 }

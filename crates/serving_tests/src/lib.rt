@@ -1,12 +1,13 @@
-//! Tests by public calls: one desk over a store, and halls of such desks over stores in memory and
-//! over databases (`desks`, `stores`); connections of one desk, byte for byte, and desks over TCP.
-//! What desks say to one another stands in the histories of `checks/stored`.
+//! Tests by public calls: one desk over a store in memory, and halls of three desks over stores of
+//! SQL, in memory and in files (`desks`, `stores`, `halls`); one desk and its clients over TCP
+//! (`sockets_of_one`), and pushes to a desk that nobody can reach (`absent`).
+//!
+//! What desks say to one another stands in the histories of `checks/stored`, and connections of one
+//! desk, byte for byte, in the stored run of `stream_runs`.
 #![tactic(auto)]
 
 #[cfg(test)]
 mod absent;
-#[cfg(test)]
-mod connections;
 #[cfg(test)]
 mod desks;
 #[cfg(test)]

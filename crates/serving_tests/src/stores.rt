@@ -1,23 +1,48 @@
-//! Desks over SQL stores: one command is decided while desk 3 is not reached, and desk 3 catches
-//! up.
+//! Three desks over stores of SQL: one command is decided while desk 3 is not reached, and desk 3
+//! catches up.
 
-use crate::desks::{CATCH_UP, Hall, ann, deliver, hear, nth, spelled, take};
-use acceptor::message::Message;
+use crate::desks::ann;
+use acceptor::message::{Body, Message};
 use node::{Event, Node};
-use sqlite::{Alter, Connection, Error, File, FileStore};
-use std::alloc::{AllocError, Global};
-use std::fs;
+use sqlite::{Alter, Connection, Error, MemStore};
+use std::alloc::Global;
 use std::process::Abort;
 use std::test::Fail;
 use store::keeper::Keeper;
 use store::sql::SqlKeeper;
 
-/// A desk of 3, over a database.
-fn open<S: Alter + Drop>(
+/// What the desks send, in order: from, to and kind of each message.
+const CATCH_UP: &[u8] = b"11P12P13P11p21p11A12A13A11a21a12D13D21B31B32B13D31B";
+
+/// Where the stores of desks are.
+pub(crate) trait Stores {
+    type Store: Alter + Drop;
+
+    /// The store of a desk.
+    fn find(&self, desk: u8) -> Result<Connection<Self::Store>, Error>;
+}
+
+/// New stores in memory.
+#[derive(Drop)]
+struct InMemory {
     alloc: Global,
-    conn: Connection<S>,
+}
+
+impl Stores for InMemory {
+    type Store = MemStore;
+
+    fn find(&self, _desk: u8) -> Result<Connection<MemStore>, Error> {
+        Ok(Connection::open_in_memory(self.alloc)?)
+    }
+}
+
+/// Opens a desk of 3 over its store.
+pub(crate) fn open<S: Alter + Drop>(
+    alloc: Global,
+    found: Result<Connection<S>, Error>,
     desk: u8,
 ) -> Result<Node<SqlKeeper<S>>, Fail> {
+    let conn = found?;
     if desk < 1 || desk > 3 || !conn.is_autocommit() {
         return Err(Fail::from("no such desk"));
     }
@@ -30,192 +55,116 @@ fn open<S: Alter + Drop>(
     }
 }
 
-/// The desk's log holds the entry alone.
-fn has_entry<K: Keeper + Drop>(rt: &impl Abort, alloc: Global, node: &Node<K>) -> Result<(), Fail> {
-    let log = node.log();
-    assert_eq!(rt; log.len(), 1);
-    assert!(rt; log.entry(0) == Some(&ann(alloc)?));
-    Ok(())
-}
-
-/// These messages are delivered, one after the other.
-fn deliver_all<K: Keeper + Drop>(hall: &mut Hall<K>, numbers: &[usize]) -> Result<(), Fail> {
-    for number in numbers {
-        deliver(hall, *number)?;
-    }
-    Ok(())
-}
-
-fn catch_up<K: Keeper + Drop>(alloc: Global, hall: &mut Hall<K>) -> Result<(), Fail> {
-    take(hall, 1, Event::Submit(ann(alloc)?))?;
-    take(hall, 1, Event::Start)?;
-    deliver_all(hall, &[1, 2, 4, 5, 6, 7, 9, 10, 11])?;
-    take(hall, 3, Event::Tick)?;
-    deliver_all(hall, &[14, 16])
-}
-
-/// Another desk, over a database.
-fn join<S: Alter + Drop>(
-    alloc: Global,
-    hall: &mut Hall<SqlKeeper<S>>,
-    conn: Connection<S>,
+/// A desk takes an event, and what it hands out is sent.
+fn take<K: Keeper + Drop>(
+    nodes: &mut [Node<K>],
     desk: u8,
+    event: Event,
+    sent: &mut Vec<Message>,
 ) -> Result<(), Fail> {
-    hall.nodes.push(open(alloc, conn, desk)?)?;
-    Ok(())
-}
-
-fn nobody<K: Keeper + Drop>(alloc: Global) -> Hall<K> {
-    Hall {
-        nodes: Vec::new(alloc),
-        sent: Vec::new(alloc),
-    }
-}
-
-fn has_sent(alloc: Global, sent: &[Message]) -> Result<bool, Fail> {
-    Ok(spelled(alloc, sent)?.as_slice() == CATCH_UP)
-}
-
-fn agree<K: Keeper + Drop>(rt: &impl Abort, alloc: Global, hall: &mut Hall<K>) -> Result<(), Fail> {
-    catch_up(alloc, hall)?;
-    assert!(rt; has_sent(alloc, &hall.sent)?);
-    for node in &hall.nodes {
-        has_entry(rt, alloc, node)?;
+    let Some(node) = nodes.get_mut(usize::from(desk).wrapping_sub(1)) else {
+        return Err(Fail::from("no such desk"));
+    };
+    for message in node.handle(event)?.into_vec() {
+        sent.push(message)?;
     }
     Ok(())
 }
 
-/// Three desks over these databases decide an entry, and agree.
-fn agree_over<S: Alter + Drop>(
+/// Delivers the messages of these numbers, counted from 1, one after the other.
+fn deliver<K: Keeper + Drop>(
+    nodes: &mut [Node<K>],
+    sent: &mut Vec<Message>,
+    numbers: &[usize],
+) -> Result<(), Fail> {
+    for number in numbers {
+        let Some(message) = sent.get(number.wrapping_sub(1)) else {
+            return Err(Fail::from("not sent"));
+        };
+        let message = Message {
+            from: message.from,
+            to: message.to,
+            body: message.body.copy()?,
+        };
+        take(nodes, message.to, Event::Deliver(message), sent)?;
+    }
+    Ok(())
+}
+
+/// Desk 1 has its entry decided with desk 2, and desk 3 catches up once it ticks.
+fn catch_up<K: Keeper + Drop>(
+    alloc: Global,
+    nodes: &mut [Node<K>],
+    sent: &mut Vec<Message>,
+) -> Result<(), Fail> {
+    take(nodes, 1, Event::Submit(ann(alloc)?), sent)?;
+    take(nodes, 1, Event::Start, sent)?;
+    deliver(nodes, sent, &[1, 2, 4, 5, 6, 7, 9, 10, 11])?;
+    take(nodes, 3, Event::Tick, sent)?;
+    deliver(nodes, sent, &[14, 16])
+}
+
+fn letter(body: &Body) -> u8 {
+    match body {
+        Body::Prepare { .. } => b'P',
+        Body::Promise { .. } => b'p',
+        Body::Accept { .. } => b'A',
+        Body::Accepted { .. } => b'a',
+        Body::Nack { .. } => b'N',
+        Body::Behind { .. } => b'B',
+        Body::Decided { .. } => b'D',
+    }
+}
+
+/// From, to and kind of each message.
+fn spelled(alloc: Global, sent: &[Message]) -> Result<Vec<u8>, Fail> {
+    let mut text = Vec::new(alloc);
+    for message in sent {
+        text.push(message.from.wrapping_add(b'0'))?;
+        text.push(message.to.wrapping_add(b'0'))?;
+        text.push(letter(&message.body))?;
+    }
+    Ok(text)
+}
+
+/// Each desk's log holds the entry alone.
+fn have_entry<K: Keeper + Drop>(
     rt: &impl Abort,
     alloc: Global,
-    first: Result<Connection<S>, AllocError>,
-    second: Result<Connection<S>, AllocError>,
-    third: Result<Connection<S>, AllocError>,
+    nodes: &[Node<K>],
 ) -> Result<(), Fail> {
-    let mut hall = nobody(alloc);
-    join(alloc, &mut hall, first?, 1)?;
-    join(alloc, &mut hall, second?, 2)?;
-    join(alloc, &mut hall, third?, 3)?;
-    agree(rt, alloc, &mut hall)
+    let entry = ann(alloc)?;
+    assert!(rt; nodes.len() == 3);
+    for node in nodes {
+        assert!(rt; node.log().len() == 1);
+        assert!(rt; node.log().entry(0) == Some(&entry));
+    }
+    Ok(())
+}
+
+/// Three desks decide an entry, and agree.
+fn agree<K: Keeper + Drop>(
+    rt: &impl Abort,
+    alloc: Global,
+    nodes: &mut [Node<K>],
+) -> Result<(), Fail> {
+    let mut sent = Vec::new(alloc);
+    catch_up(alloc, nodes, &mut sent)?;
+    assert!(rt; spelled(alloc, &sent)?.as_slice() == CATCH_UP);
+    have_entry(rt, alloc, nodes)
+}
+
+/// Three desks over these stores decide an entry, and agree.
+fn agree_over<D: Stores>(rt: &impl Abort, alloc: Global, stores: &D) -> Result<(), Fail> {
+    let mut nodes = Vec::new(alloc);
+    for desk in 1..4 {
+        nodes.push(open(alloc, stores.find(desk), desk)?)?;
+    }
+    agree(rt, alloc, &mut nodes)
 }
 
 #[test]
 fn three_desks_over_databases_agree(rt: HostRuntime) -> Result<(), Fail> {
     let alloc = rt.alloc();
-    agree_over(
-        &rt,
-        alloc,
-        Connection::open_in_memory(alloc),
-        Connection::open_in_memory(alloc),
-        Connection::open_in_memory(alloc),
-    )
-}
-
-/// The desk's file.
-fn file(rt: &HostRuntime, desk: u8) -> Result<Connection<FileStore<File>>, Error> {
-    let path = match desk {
-        1 => "desk_node_files/1",
-        2 => "desk_node_files/2",
-        _ => "desk_node_files/3",
-    };
-    Connection::open(rt, path)
-}
-
-/// Opens the desk, which takes the event, and closes it.
-fn visit<S: Alter + Drop>(
-    alloc: Global,
-    file: Result<Connection<S>, Error>,
-    desk: u8,
-    event: Event,
-    sent: &mut Vec<Message>,
-) -> Result<(), Fail> {
-    let mut node = open(alloc, file?, desk)?;
-    hear(&mut node, event, sent)
-}
-
-/// Delivers this message to its desk, which is opened for it, and closed.
-fn bring(rt: &HostRuntime, sent: &mut Vec<Message>, number: usize) -> Result<(), Fail> {
-    let message = nth(sent, number)?;
-    let desk = message.to;
-    visit(
-        rt.alloc(),
-        file(rt, desk),
-        desk,
-        Event::Deliver(message),
-        sent,
-    )
-}
-
-/// Delivers these messages to an open desk, one after the other.
-fn tell<K: Keeper + Drop>(
-    node: &mut Node<K>,
-    sent: &mut Vec<Message>,
-    numbers: &[usize],
-) -> Result<(), Fail> {
-    for number in numbers {
-        let message = nth(sent, *number)?;
-        hear(node, Event::Deliver(message), sent)?;
-    }
-    Ok(())
-}
-
-/// Desk 1 has the entry decided. It stays open till then, since a desk that is closed loses its
-/// queue and its ballot; desk 2 is opened for each message, and closed.
-fn decide<K: Keeper + Drop>(
-    rt: &HostRuntime,
-    first: &mut Node<K>,
-    sent: &mut Vec<Message>,
-) -> Result<(), Fail> {
-    hear(first, Event::Submit(ann(rt.alloc())?), sent)?;
-    hear(first, Event::Start, sent)?;
-    tell(first, sent, &[1])?;
-    bring(rt, sent, 2)?;
-    tell(first, sent, &[4, 5, 6])?;
-    bring(rt, sent, 7)?;
-    tell(first, sent, &[9, 10])
-}
-
-fn decide_in_files<S: Alter + Drop>(
-    rt: &HostRuntime,
-    first: Result<Connection<S>, Error>,
-    sent: &mut Vec<Message>,
-) -> Result<(), Fail> {
-    let mut first = open(rt.alloc(), first?, 1)?;
-    decide(rt, &mut first, sent)
-}
-
-/// The same events over three files, with each desk opened for each of its events and closed after
-/// it.
-fn catch_up_in_files(rt: &HostRuntime, sent: &mut Vec<Message>) -> Result<(), Fail> {
-    decide_in_files(rt, file(rt, 1), sent)?;
-    bring(rt, sent, 11)?;
-    visit(rt.alloc(), file(rt, 3), 3, Event::Tick, sent)?;
-    bring(rt, sent, 14)?;
-    bring(rt, sent, 16)
-}
-
-/// The desk is opened once more, and has the entry.
-fn finds_entry<S: Alter + Drop>(
-    rt: &impl Abort,
-    alloc: Global,
-    file: Result<Connection<S>, Error>,
-    desk: u8,
-) -> Result<(), Fail> {
-    has_entry(rt, alloc, &open(alloc, file?, desk)?)
-}
-
-#[test]
-fn three_desks_over_files_agree(rt: HostRuntime) -> Result<(), Fail> {
-    let alloc = rt.alloc();
-    let _ = fs::remove_dir_all(&rt, "desk_node_files");
-    fs::create_dir(&rt, "desk_node_files")?;
-    let mut sent = Vec::new(alloc);
-    catch_up_in_files(&rt, &mut sent)?;
-    assert!(rt; has_sent(alloc, &sent)?);
-    for desk in 1..4 {
-        finds_entry(&rt, alloc, file(&rt, desk), desk)?;
-    }
-    fs::remove_dir_all(&rt, "desk_node_files")?;
-    Ok(())
+    agree_over(&rt, alloc, &InMemory { alloc })
 }
