@@ -50,6 +50,11 @@ pub trait Ask {
             (record { request = request.now; answer = result } ∷ []) }
         ensures answered { IfOk result (λ answer. IsAnswer request.now answer) }
         ensures failed { IfErr result fails };
+
+    /// Rests, before the same is asked once more, behind so many tries, counted from 0. Nothing is
+    /// asked.
+    fn rest(&mut self, tries: u32)
+        ensures { Adds (asked self.old) (asked self.new) [] };
 }
 
 /// Requests over connections to a desk, each over one of its own.
@@ -65,6 +70,10 @@ impl<D: Dial> Ask for Dialing<'_, D> {
 
     fn ask(&mut self, alloc: Global, request: &Frame) -> Result<What, BatchFault> {
         asked(alloc, self.dial, request)
+    }
+
+    fn rest(&mut self, tries: u32) {
+        self.dial.rest(tries);
     }
 }
 

@@ -22,12 +22,12 @@ use wire::{ClientRefusal, Frame, Standing, What};
 const MOST_TRIES: u32 = 10_000;
 
 /// Behind so many of them the desk is ticked.
-const TRIES_TO_TICK: u32 = 256;
+const TRIES_TO_TICK: u32 = 32;
 
 /// The greatest id.
 const GREATEST: u64 = 9_223_372_036_854_775_807;
 
-/// Gives the desk a tick behind so many tries, and behind no others.
+/// Gives the desk a tick behind every 32nd try, and behind no others.
 fn tick_behind<A: Ask>(
     alloc: Global,
     desk: &mut A,
@@ -49,6 +49,24 @@ fn tick_behind<A: Ask>(
         Ok(_) => Ok(()),
         Err(fault) => Err(fault),
     }
+}
+
+/// Rests behind a try, counted from 0, and gives the desk a tick behind every 32nd one.
+fn rest_behind<A: Ask>(
+    alloc: Global,
+    desk: &mut A,
+    receiver: Receiver,
+    tries: u32,
+) -> Result<(), BatchFault>
+    requires { IsDesk receiver.desk }
+    ensures ok { OnOk result
+        (Asks (A.asked desk.old) (A.asked desk.new) (AllByRecursion (IsTicked receiver))) }
+    ensures err { OnErr result (Asks (A.asked desk.old) (A.asked desk.new)
+        (AllByRecursion (λ a. a.request ≡ tick_of receiver))) }
+    ensures fails { IfErr result A.fails }
+{
+    desk.rest(tries);
+    tick_behind(alloc, desk, receiver, tries)
 }
 
 /// Whether a request is to be made again, since the desk's queue was full.
@@ -87,7 +105,7 @@ fn asked_until_taken<A: Ask>(
                 }
             }
         }
-        if let Err(fault) = tick_behind(alloc, desk, receiver, tries) {
+        if let Err(fault) = rest_behind(alloc, desk, receiver, tries) {
             return Err(fault);
         }
     }
@@ -195,7 +213,7 @@ fn decided<A: Ask>(
             Fate::Unknown => return Err(BatchFault::Lost),
             Fate::Waits => {}
         }
-        if let Err(fault) = tick_behind(alloc, desk, receiver, tries) {
+        if let Err(fault) = rest_behind(alloc, desk, receiver, tries) {
             return Err(fault);
         }
     }

@@ -7,9 +7,16 @@ ghost use Rattle.desk.specs.Statuses.{FailsLines};
 
 use crate::faults::DeskFault;
 use batch::{Batch, Dial, enter_lines};
-use std::io;
 use std::io::{Read, Write};
 use std::net::TcpStream;
+use std::time::Duration;
+use std::{io, thread};
+
+/// How long a client rests behind so many tries: 250 microseconds at first, twice as long behind
+/// every third try, and at most 32 milliseconds.
+fn rest_behind(tries: u32) -> Duration {
+    Duration::from_micros(250 << (tries / 3).min(7))
+}
 
 /// Connections to an address.
 #[derive(Drop)]
@@ -29,6 +36,10 @@ impl Dial for Dialer<'_> {
         let _ = stream.set_nodelay(true);
         let writer = stream.try_clone()?;
         Ok((stream, writer))
+    }
+
+    fn rest(&mut self, tries: u32) {
+        thread::sleep(self.rt, rest_behind(tries));
     }
 }
 

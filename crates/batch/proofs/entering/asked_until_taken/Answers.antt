@@ -20,14 +20,14 @@ returns-then-not-is_busy-clause-err g c =
     (turned_down_for c.args.receiver c.args.submit.now) c.loop-tries.invariant
     c.in-Err.ensures.told (inl refl)
 
-pub returns-in-Err-tick_behind-clause-err : goal.returns-in-Err-tick_behind-clause-err
-returns-in-Err-tick_behind-clause-err g c =
+pub returns-in-Err-rest_behind-clause-err : goal.returns-in-Err-rest_behind-clause-err
+returns-in-Err-rest_behind-clause-err g c =
     then_ticks (IsTurnedDown c.args.receiver c.args.submit.now)
     (IsFor c.args.receiver c.args.submit.now) (λ a. a.request ≡ tick_of c.args.receiver) _ _ _ _
     (asked_so c.args.submit.now (Err c.in-Err.fault))
     (turned_down_for c.args.receiver c.args.submit.now)
     (tick_for c.args.receiver c.args.submit.now) c.loop-tries.invariant c.in-Err.ensures.told
-    (inl refl) c.in-Err-tick_behind.ensures.err
+    (inl refl) c.in-Err-rest_behind.ensures.err
 
 pub loop-tries-preserved : goal.loop-tries-preserved
 loop-tries-preserved g c =

@@ -27,14 +27,14 @@ returns-in-Unknown-clause-err g c =
     (told_of _ _ _ ask (Ok c.in-Ok.told) c.request_to-ask.ensures c.in-Ok.ensures.told)
     (inl refl)
 
-pub returns-in-Err-tick_behind-clause-err : goal.returns-in-Err-tick_behind-clause-err
-returns-in-Err-tick_behind-clause-err g c =
+pub returns-in-Err-rest_behind-clause-err : goal.returns-in-Err-rest_behind-clause-err
+returns-in-Err-rest_behind-clause-err g c =
     let ask = ask_of c.args.receiver c.args.id in
     then_ticks (IsPutOff c.args.receiver ask) (IsFor c.args.receiver ask)
     (λ a. a.request ≡ tick_of c.args.receiver) _ _ _ _ (asked_so ask (Ok c.in-Ok.told))
     (put_off_for c.args.receiver ask) (tick_for c.args.receiver ask) c.loop-tries.invariant
     (told_of _ _ _ ask (Ok c.in-Ok.told) c.request_to-ask.ensures c.in-Ok.ensures.told)
-    (inl refl) c.in-Err-tick_behind.ensures.err
+    (inl refl) c.in-Err-rest_behind.ensures.err
 
 pub loop-tries-preserved : goal.loop-tries-preserved
 loop-tries-preserved g c =
