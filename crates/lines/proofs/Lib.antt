@@ -6,4 +6,5 @@ pub mod Longest
 pub mod Parted
 pub mod More
 pub mod Given
+pub mod Runs
 pub mod Inputs

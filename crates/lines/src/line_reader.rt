@@ -1,12 +1,13 @@
 //! A reader of lines: an input in pieces, its lines one after the other.
 
-ghost use Rattle.std.specs.Prelude.{◌≡◌, ◌<◌, ◌+◌, true, false, List, [], ℕ, Option, IfOk, IfErr, MatchOption, length};
+ghost use Rattle.std.specs.Prelude.{◌≡◌, ◌≢◌, ◌<◌, ◌≤◌, ◌+◌, true, false, List, [], ℕ, Option, OnOk, OnErr, IfOk, IfErr, MatchOption, length, slice_index};
 ghost use Rattle.std.specs.Io.KnownBytes.{Keeps};
 ghost use Rattle.lines.specs.declared.fault.RunFault.TheVariants as run_fault;
 ghost use Rattle.lines.specs.Reading.{nothing_read, has_room, HasGiven, Gives};
-ghost use Rattle.lines.specs.model.Stepping.{TakesHeld, TakesNone, Fills, TakesByte, MeetsEnd};
+ghost use Rattle.lines.specs.model.Stepping.{TakesHeld, TakesNone, Fills, TakesByte, MeetsEnd, IsRoomFor, TakesRun};
 
 use crate::fault::RunFault;
+use memchr::memchr;
 use std::io::Read;
 use std::marker::Model;
 
@@ -120,6 +121,36 @@ impl LineReader {
         }
     }
 
+    /// How many of the bytes that were read go on a line of so many: up to its line feed, and as
+    /// far as the limits have room.
+    fn run_length(&self, in_line: usize) -> usize
+        ensures held { result ≤ length self.now.held }
+        ensures unended { (k : ℕ) → k < result → slice_index self.now.held k ≢ 10 }
+        ensures room { 0 < result → IsRoomFor self.now in_line result }
+    {
+        if self.lines >= MOST_LINES {
+            return 0;
+        }
+        let in_input = MOST_BYTES.saturating_sub(self.bytes) as usize;
+        let in_line = MOST_IN_LINE.saturating_sub(in_line);
+        let most = (self.end - self.next).min(in_input).min(in_line);
+        memchr(b'\n', &self.piece[self.next..self.next + most]).unwrap_or(most)
+    }
+
+    /// Takes the bytes that go on the line out of those that were read, puts them behind it, and
+    /// counts them.
+    fn take_run(&mut self, line: &mut Vec<u8>) -> Result<(), RunFault>
+        ensures ok { OnOk result (TakesRun self.old self.new line.old.items line.new.items) }
+        ensures err { IfErr result (λ fault. fault ≡ run_fault.NoMemory) }
+        ensures kept { OnErr result (self.new ≡ self.old) }
+    {
+        let count = self.run_length(line.len());
+        line.extend_from_slice(&self.piece[self.next..self.next + count])?;
+        self.next += count;
+        self.bytes += count as u32;
+        Ok(())
+    }
+
     /// Counts one more byte, behind so many of its line, where it is within the limits.
     fn count_byte(&mut self, in_line: usize, byte: u8) -> bool
         ensures room { result ≡ has_room self.old.bytes self.old.lines in_line byte }
@@ -175,6 +206,7 @@ impl LineReader {
             return Ok(false);
         }
         loop {
+            self.take_run(line)?;
             let Some(byte) = self.next_byte(reader)? else {
                 break;
             };

@@ -1,5 +1,5 @@
--- How a reader of lines goes from byte to byte.
-use Rattle.std.specs.Prelude.{◌≡◌, ℕ, Bool, true, false, not, nat_lt, List, [], ◌∷◌, ◌++◌, length, Option}
+-- How a reader of lines goes on, byte by byte and by runs of bytes.
+use Rattle.std.specs.Prelude.{◌≡◌, ◌≢◌, ◌<◌, ◌≤◌, ◌+◌, ℕ, slice_index, Bool, true, false, not, nat_lt, List, [], ◌∷◌, ◌++◌, length, Option}
 use Rattle.std.specs.Io.KnownBytes.{Consumes, IsAtEnd}
 use Rattle.lines.specs.Reading.{Reading}
 
@@ -32,3 +32,19 @@ pub record MeetsEnd (old new : Reading) (before now : Option (List ℕ)) : Type 
   pub consumed : Consumes before now []
   pub end : IsAtEnd now
   pub same : new ≡ record old { over = true }
+
+-- behind so many bytes of a line, so many more are within the limits
+pub record IsRoomFor (p : Reading) (in_line count : ℕ) : Type 0 where
+  pub bytes : p.bytes + count ≤ 39387136
+  pub lines : p.lines < 65536
+  pub line : in_line + count ≤ 10000
+
+-- bytes of a line, with no line feed, were taken out of what was read, put behind the line, and
+-- counted
+pub record TakesRun (old new : Reading) (before now : List ℕ) : Type 0 where
+  pub run : List ℕ
+  pub line : now ≡ before ++ run
+  pub bytes : old.held ≡ run ++ new.held
+  pub same : new ≡ record old { held = new.held; bytes = old.bytes + length run }
+  pub unended : (k : ℕ) → k < length run → slice_index run k ≢ 10
+  pub room : 0 < length run → IsRoomFor old (length before) (length run)

@@ -1,64 +1,105 @@
-use Rattle.std.proofs.Common.{rules, ◌≡◌, ◌<◌, ◌∙◌, ap, sym, true, false, length, List, ℕ, Bool, ◌==◌, ◌++◌, ◌∷◌, [], arith}
+use Rattle.std.proofs.Common.{rules, ◌≡◌, ◌∙◌, ap, sym, true, false, length, ◌==◌, ◌++◌, ◌∷◌, [], Err, subst, arith}
 use Rattle.std.proofs.lemmas.Bool.Decides.{nat_tests}
-use Rattle.std.proofs.lemmas.Grind.{common_steps}
-use Rattle.lines.specs.Reading.{Reading, has_room}
-use Rattle.lines.proofs.Given.{Midway, byte_is, is_above, ends_line, goes_on, starves, room_lines}
+use Rattle.lines.specs.declared.fault.RunFault.TheVariants as run_fault
+use Rattle.lines.specs.Reading.{Reading, has_room, Gives, IsBroken}
+use Rattle.lines.proofs.Given.{Midway, byte_is, is_above, ends_line, goes_on, starves, room_lines, is_broken, ends_within}
+use Rattle.lines.proofs.Runs.{run_on, still_going}
 use Rattle.lines.proofs.line_reader.LineReader.read_line.Goals as goal
 
 pub returns-then-not-count_byte : goal.returns-then-not-count_byte
 returns-then-not-count_byte g c = λ given start h.
-    let t = byte_is c.loop-byte.self c.next_byte.new.self c.in_ok-byte.field-0 c.in-Some.byte _ _
+    let m = run_on _ _ _ _ given start _ c.in_ok-take_run.ensures.ok
+    (c.loop-self.invariant.midway given start h) in
+    let t = byte_is c.take_run.new.self c.next_byte.new.self c.in_ok-byte.field-0 c.in-Some.byte _ _
     c.in-Some.is c.in_ok-byte.ensures.ok in
     let room : has_room c.next_byte.new.self.bytes c.next_byte.new.self.lines
-    (length c.loop-byte.line.items) c.in-Some.byte
+    (length c.take_run.new.line.items) c.in-Some.byte
     ≡ false = search rules in (
-      c.loop-byte.line.items ++ c.in-Some.byte ∷ c.next_byte.new.self.held,
-      is_above c.loop-byte.self c.next_byte.new.self c.loop-byte.line.items given c.in-Some.byte
-          start _ _ (c.loop-byte.invariant.midway given start h) t room,
+      c.take_run.new.line.items ++ c.in-Some.byte ∷ c.next_byte.new.self.held,
+      is_above c.take_run.new.self c.next_byte.new.self c.take_run.new.line.items given
+          c.in-Some.byte start _ _ m t room,
     )
 
 pub returns-then-byte-eq10 : goal.returns-then-byte-eq10
 returns-then-byte-eq10 g c = λ given start h.
-    let t = byte_is c.loop-byte.self c.next_byte.new.self c.in_ok-byte.field-0 c.in-Some.byte _ _
+    let m = run_on _ _ _ _ given start _ c.in_ok-take_run.ensures.ok
+    (c.loop-self.invariant.midway given start h) in
+    let t = byte_is c.take_run.new.self c.next_byte.new.self c.in_ok-byte.field-0 c.in-Some.byte _ _
     c.in-Some.is c.in_ok-byte.ensures.ok in
     let room : has_room c.next_byte.new.self.bytes c.next_byte.new.self.lines
-    (length c.loop-byte.line.items) c.in-Some.byte
+    (length c.take_run.new.line.items) c.in-Some.byte
     ≡ true = search rules in
     let feed : (c.in-Some.byte == 10) ≡ true = grind (arith, nat_tests) in
     rw (c.count_line.ensures, c.count_byte.ensures.counted c.if-not-count_byte.false)
-    (ends_line c.loop-byte.self c.next_byte.new.self c.loop-byte.line.items given c.in-Some.byte
-    start _ _ (c.loop-byte.invariant.midway given start h) t room feed)
+    (ends_line c.take_run.new.self c.next_byte.new.self c.take_run.new.line.items given
+    c.in-Some.byte start _ _ m t room feed)
 
-pub loop-byte-preserved : goal.loop-byte-preserved
-loop-byte-preserved g c =
-    let t = byte_is c.loop-byte.self c.next_byte.new.self c.in_ok-byte.field-0 c.in-Some.byte _ _
+pub loop-self-preserved : goal.loop-self-preserved
+loop-self-preserved g c =
+    let t = byte_is c.take_run.new.self c.next_byte.new.self c.in_ok-byte.field-0 c.in-Some.byte _ _
     c.in-Some.is c.in_ok-byte.ensures.ok in
     let room : has_room c.next_byte.new.self.bytes c.next_byte.new.self.lines
-    (length c.loop-byte.line.items) c.in-Some.byte
+    (length c.take_run.new.line.items) c.in-Some.byte
     ≡ true = search rules in
     let feed : (c.in-Some.byte == 10) ≡ false = grind (arith, nat_tests) in
-    let pushed : c.push.new.self.items ≡ c.loop-byte.line.items ++ c.in-Some.byte ∷ [] =
+    let pushed : c.push.new.self.items ≡ c.take_run.new.line.items ++ c.in-Some.byte ∷ [] =
     search rules in
     let counted = c.count_byte.ensures.counted c.if-not-count_byte.false in
     record {
       midway =
           λ given start h.
           rw (counted, pushed)
-          (goes_on c.loop-byte.self c.next_byte.new.self c.loop-byte.line.items given c.in-Some.byte
-          start _ _ (c.loop-byte.invariant.midway given start h) t room feed);
+          (goes_on c.take_run.new.self c.next_byte.new.self c.take_run.new.line.items given
+          c.in-Some.byte start _ _
+          (run_on _ _ _ _ given start _ c.in_ok-take_run.ensures.ok
+          (c.loop-self.invariant.midway given start h))
+          t room feed);
       going =
-          ap (λ (p : Reading). p.over) counted ∙ ap (λ (p : Reading). p.over) t.same
-          ∙ c.loop-byte.invariant.going;
+          rw counted
+          (still_going c.loop-self.self c.take_run.new.self c.next_byte.new.self
+          c.loop-self.line.items c.take_run.new.line.items c.in-Some.byte _ _
+          c.in_ok-take_run.ensures.ok t c.loop-self.invariant.going);
       few =
           λ _.
           rw counted
           (room_lines c.next_byte.new.self.bytes c.next_byte.new.self.lines
-          (length c.loop-byte.line.items) c.in-Some.byte room);
+          (length c.take_run.new.line.items) c.in-Some.byte room);
     }
 
 pub returns-then-is_err : goal.returns-then-is_err
 returns-then-is_err g c = λ given start h.
-    let t = byte_is c.loop-byte.self c.next_byte.new.self c.in_ok-byte.field-0 c.in-Some.byte _ _
+    let m = run_on _ _ _ _ given start _ c.in_ok-take_run.ensures.ok
+    (c.loop-self.invariant.midway given start h) in
+    let t = byte_is c.take_run.new.self c.next_byte.new.self c.in_ok-byte.field-0 c.in-Some.byte _ _
     c.in-Some.is c.in_ok-byte.ensures.ok in
-    starves c.loop-byte.self c.next_byte.new.self c.loop-byte.line.items given c.in-Some.byte start
-    _ _ (c.loop-byte.invariant.midway given start h) t
+    starves c.take_run.new.self c.next_byte.new.self c.take_run.new.line.items given c.in-Some.byte
+    start _ _ m t
+
+pub returns-in_err-byte : goal.returns-in_err-byte
+returns-in_err-byte g c = λ given start h.
+    let m : Midway c.take_run.new.self c.take_run.new.line.items given start
+    (g.R.Read.remaining c.loop-self.reader) =
+    run_on c.loop-self.self c.take_run.new.self c.loop-self.line.items c.take_run.new.line.items
+    given start _ c.in_ok-take_run.ensures.ok (c.loop-self.invariant.midway given start h) in
+    let broken : IsBroken given c.take_run.new.line.items start
+    (g.R.Read.remaining c.next_byte.new.reader) =
+    is_broken c.take_run.new.self c.take_run.new.line.items given start
+    (g.R.Read.remaining c.loop-self.reader) (g.R.Read.remaining c.next_byte.new.reader) m
+    c.in_err-byte.ensures.err.1 c.in_err-byte.ensures.err.2 in
+    let is : c.from_residual-in_err-byte.result ≡ Err run_fault.Read = search rules in
+    subst
+    (λ r. Gives r c.next_byte.new.self c.take_run.new.line.items given start
+    (g.R.Read.remaining c.next_byte.new.reader))
+    (sym is) (c.take_run.new.line.items, broken)
+
+pub returns : goal.returns
+returns g c = λ given start h.
+    let m : Midway c.take_run.new.self c.take_run.new.line.items given start
+    (g.R.Read.remaining c.loop-self.reader) =
+    run_on c.loop-self.self c.take_run.new.self c.loop-self.line.items c.take_run.new.line.items
+    given start _ c.in_ok-take_run.ensures.ok (c.loop-self.invariant.midway given start h) in
+    let some : (length c.take_run.new.line.items == 0) ≡ false = search rules in
+    rw c.count_line-2.ensures
+    (ends_within c.take_run.new.self c.next_byte.new.self c.take_run.new.line.items given start
+    (g.R.Read.remaining c.loop-self.reader) (g.R.Read.remaining c.next_byte.new.reader) m
+    (rw c.in_default.is at c.in_ok-byte.ensures.ok) some)

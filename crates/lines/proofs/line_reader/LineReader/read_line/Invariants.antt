@@ -4,8 +4,8 @@ use Rattle.lines.proofs.Given.{Midway}
 use Rattle.lines.proofs.line_reader.LineReader.read_line.Given as goal
 
 -- the bytes behind the lines that were given are those of the line so far
-abbrev pub invariant-loop-byte : goal.invariant-loop-byte
-invariant-loop-byte g l = record {
+abbrev pub invariant-loop-self : goal.invariant-loop-self
+invariant-loop-self g l = record {
   midway : (given : List ℕ) (start : Option (List ℕ))
       → HasGiven l.initial.self given start (g.R.Read.remaining l.initial.reader)
       → Midway l.self l.line.items given start (g.R.Read.remaining l.reader);
@@ -13,5 +13,5 @@ invariant-loop-byte g l = record {
   few : 0 < length l.line.items → l.self.lines < 65536;
 }
 
-abbrev pub decreases-loop-byte : goal.decreases-loop-byte
-decreases-loop-byte g l = 39387137 - l.self.bytes
+abbrev pub decreases-loop-self : goal.decreases-loop-self
+decreases-loop-self g l = 39387137 - l.self.bytes
