@@ -1,5 +1,5 @@
 -- Bytes of a line that are taken at once.
-use Rattle.std.proofs.Common.{◌≡◌, ◌≢◌, ℕ, ◌+◌, ◌<◌, ◌≤◌, true, false, ◌==◌, List, [], ◌∷◌, ◌++◌, length, take, drop, slice_index, get_or-take, min, Option, refl, sym, ap, ◌∙◌, suc, append_assoc, append-nil, take-append-drop, length-take, length-append, subst, arith}
+use Rattle.std.proofs.Common.{◌≡◌, ◌≢◌, ℕ, ◌+◌, ◌<◌, ◌≤◌, true, false, ◌==◌, List, [], ◌∷◌, ◌++◌, length, take, drop, slice_index, get_or-take, get_or-drop, length-drop, add-zero, min, Option, refl, sym, ap, ◌∙◌, suc, append_assoc, append-nil, take-append-drop, length-take, length-append, subst, arith}
 use Rattle.std.proofs.lemmas.Bool.Decides.{nat_tests}
 use Rattle.std.proofs.lemmas.List.{take-append-le, drop-append-le}
 use Rattle.std.proofs.KnownBytes.{Consumes-nil}
@@ -23,8 +23,11 @@ held_front xs next end n m same low high few =
 pub takes : (p q : Reading) (before now : List ℕ) (count : ℕ) → now ≡ before ++ take count p.held
     → q ≡ record p { held = drop count p.held; bytes = p.bytes + count }
     → count ≤ length p.held → ((k : ℕ) → k < count → slice_index p.held k ≢ 10)
-    → (0 < count → IsRoomFor p (length before) count) → TakesRun p q before now
-takes p q before now count line is few unended room =
+    → (0 < count → IsRoomFor p (length before) count)
+    → (count < length p.held → IsRoomFor p (length before) (count + 1)
+    → slice_index p.held count ≡ 10)
+    → TakesRun p q before now
+takes p q before now count line is few unended room whole =
     let held : q.held ≡ drop count p.held = ap (λ (r : Reading). r.held) is in
     let counts : length (take count p.held) ≡ count =
     omega (arith, length-take count p.held) in
@@ -39,6 +42,12 @@ takes p q before now count line is few unended room =
           let less : k < count = omega (arith, counts) in λ e.
           unended k less (sym (get_or-take count p.held k 0 less) ∙ e);
       room = λ some. subst (λ n. IsRoomFor p (length before) n) (sym counts) (room (omega arith));
+      whole = λ some more.
+          let less : count < length p.held =
+          omega (arith, some, ap length held, length-drop count p.held) in
+          ap (λ x. slice_index x 0) held ∙ get_or-drop count p.held 0 0
+          ∙ ap (slice_index p.held) (add-zero count)
+          ∙ whole less (subst (λ n. IsRoomFor p (length before) (n + 1)) counts more);
     }
 
 room_of_run : (p : Reading) (in_line count b : ℕ) → 0 < count → IsRoomFor p in_line count

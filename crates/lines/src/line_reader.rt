@@ -121,12 +121,14 @@ impl LineReader {
         }
     }
 
-    /// How many of the bytes that were read go on a line of so many: up to its line feed, and as
-    /// far as the limits have room.
+    /// How many of the bytes that were read stand in a line behind so many: those up to its line
+    /// feed, as far as the limits have room.
     fn run_length(&self, in_line: usize) -> usize
         ensures held { result ≤ length self.now.held }
         ensures unended { (k : ℕ) → k < result → slice_index self.now.held k ≢ 10 }
         ensures room { 0 < result → IsRoomFor self.now in_line result }
+        ensures whole { result < length self.now.held → IsRoomFor self.now in_line (result + 1)
+            → slice_index self.now.held result ≡ 10 }
     {
         if self.lines >= MOST_LINES {
             return 0;
@@ -137,7 +139,7 @@ impl LineReader {
         memchr(b'\n', &self.piece[self.next..self.next + most]).unwrap_or(most)
     }
 
-    /// Takes the bytes that go on the line out of those that were read, puts them behind it, and
+    /// Takes those that stand in the line out of the bytes that were read, puts them behind it, and
     /// counts them.
     fn take_run(&mut self, line: &mut Vec<u8>) -> Result<(), RunFault>
         ensures ok { OnOk result (TakesRun self.old self.new line.old.items line.new.items) }

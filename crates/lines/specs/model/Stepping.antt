@@ -39,8 +39,8 @@ pub record IsRoomFor (p : Reading) (in_line count : ℕ) : Type 0 where
   pub lines : p.lines < 65536
   pub line : in_line + count ≤ 10000
 
--- bytes of a line, with no line feed, were taken out of what was read, put behind the line, and
--- counted
+-- the bytes up to a line feed, as far as the limits have room, were taken out of what was read, put
+-- behind the line, and counted
 pub record TakesRun (old new : Reading) (before now : List ℕ) : Type 0 where
   pub run : List ℕ
   pub line : now ≡ before ++ run
@@ -48,3 +48,5 @@ pub record TakesRun (old new : Reading) (before now : List ℕ) : Type 0 where
   pub same : new ≡ record old { held = new.held; bytes = old.bytes + length run }
   pub unended : (k : ℕ) → k < length run → slice_index run k ≢ 10
   pub room : 0 < length run → IsRoomFor old (length before) (length run)
+  pub whole : 0 < length new.held → IsRoomFor old (length before) (length run + 1)
+      → slice_index new.held 0 ≡ 10
