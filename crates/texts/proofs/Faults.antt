@@ -7,7 +7,7 @@ use Rattle.texts.specs.declared.command.Command.{Command}
 use Rattle.texts.specs.declared.reading.CommandFault.{CommandFault}
 use Rattle.texts.specs.declared.reading.CommandFault.TheVariants as fault
 use Rattle.texts.specs.Fields.{cut}
-use Rattle.texts.specs.Reading.{◌>>=◌, field, last_field, no_field, register_of, open_of, enter_of, scramble_of, attempt_of, correct_of, strike_of, set_advance_of, close_of, set_edition_of, is_word, by_word, command_of, Gives}
+use Rattle.texts.specs.Reading.{◌>>=◌, field, last_field, no_field, register_of, round_of, open_of, enter_of, scramble_of, entry_of, attempt_of, correct_of, strike_of, set_advance_of, close_of, set_edition_of, is_word, by_word, command_of, Gives}
 
 -- what is read of fields: a value, or a field at fault
 abbrev IsOfFields : {A : Type 0} → Result A CommandFault → Type 0
@@ -49,16 +49,19 @@ unfolding register_of
 register left =
     then _ _ (field-IsOfFields _ _ left) (λ n. then _ _ (last-IsOfFields _ _ n.1) (λ name. tt))
 
+round : (left : Option (List ℕ)) → IsOfFields (round_of left)
+unfolding round_of
+round left =
+    then _ _ (field-IsOfFields _ _ left) (λ e. then _ _ (field-IsOfFields _ _ e.1) (λ r. tt))
+
 opening : (left : Option (List ℕ)) → IsOfFields (open_of left)
 unfolding open_of
 opening left =
-    then _ _ (field-IsOfFields _ _ left)
-    (λ e.
-    then _ _ (field-IsOfFields _ _ e.1)
-    (λ r. then _ _ (field-IsOfFields _ _ r.1) (λ f. then _ _ (field-IsOfFields _ _ f.1)
+    then _ _ (round left)
+    (λ id. then _ _ (field-IsOfFields _ _ id.1) (λ f. then _ _ (field-IsOfFields _ _ f.1)
     (λ c.
     then _ _ (field-IsOfFields _ _ c.1)
-    (λ l. then _ _ (field-IsOfFields _ _ l.1) (λ a. then _ _ (none-IsOfFields _ a.1) (λ u. tt)))))))
+    (λ l. then _ _ (field-IsOfFields _ _ l.1) (λ a. then _ _ (none-IsOfFields _ a.1) (λ u. tt))))))
 
 enter : (left : Option (List ℕ)) → IsOfFields (enter_of left)
 unfolding enter_of
@@ -69,43 +72,39 @@ enter left =
 scramble : (left : Option (List ℕ)) → IsOfFields (scramble_of left)
 unfolding scramble_of
 scramble left =
-    then _ _ (field-IsOfFields _ _ left)
-    (λ e. then _ _ (field-IsOfFields _ _ e.1) (λ r. then _ _ (field-IsOfFields _ _ r.1)
-    (λ k. then _ _ (last-IsOfFields _ _ k.1) (λ m. tt))))
+    then _ _ (round left)
+    (λ id. then _ _ (field-IsOfFields _ _ id.1) (λ k. then _ _ (last-IsOfFields _ _ k.1) (λ m. tt)))
+
+entry : (left : Option (List ℕ)) → IsOfFields (entry_of left)
+unfolding entry_of
+entry left =
+    then _ _ (round left)
+    (λ id. then _ _ (field-IsOfFields _ _ id.1)
+    (λ k. then _ _ (field-IsOfFields _ _ k.1) (λ n. then _ _ (last-IsOfFields _ _ n.1) (λ o. tt))))
 
 attempt : (left : Option (List ℕ)) → IsOfFields (attempt_of left)
 unfolding attempt_of
-attempt left =
-    then _ _ (field-IsOfFields _ _ left)
-    (λ e. then _ _ (field-IsOfFields _ _ e.1) (λ r. then _ _ (field-IsOfFields _ _ r.1)
-    (λ k. then _ _ (field-IsOfFields _ _ k.1) (λ n. then _ _ (last-IsOfFields _ _ n.1) (λ o. tt)))))
+attempt left = then _ _ (entry left) (λ e. tt)
 
 correct : (left : Option (List ℕ)) → IsOfFields (correct_of left)
 unfolding correct_of
-correct left =
-    then _ _ (field-IsOfFields _ _ left)
-    (λ e. then _ _ (field-IsOfFields _ _ e.1) (λ r. then _ _ (field-IsOfFields _ _ r.1)
-    (λ k. then _ _ (field-IsOfFields _ _ k.1) (λ n. then _ _ (last-IsOfFields _ _ n.1) (λ o. tt)))))
+correct left = then _ _ (entry left) (λ e. tt)
 
 strike : (left : Option (List ℕ)) → IsOfFields (strike_of left)
 unfolding strike_of
 strike left =
-    then _ _ (field-IsOfFields _ _ left)
-    (λ e. then _ _ (field-IsOfFields _ _ e.1) (λ r. then _ _ (field-IsOfFields _ _ r.1)
-    (λ n. then _ _ (none-IsOfFields _ n.1) (λ u. tt))))
+    then _ _ (round left)
+    (λ id. then _ _ (field-IsOfFields _ _ id.1) (λ n. then _ _ (none-IsOfFields _ n.1) (λ u. tt)))
 
 set_advance : (left : Option (List ℕ)) → IsOfFields (set_advance_of left)
 unfolding set_advance_of
 set_advance left =
-    then _ _ (field-IsOfFields _ _ left)
-    (λ e. then _ _ (field-IsOfFields _ _ e.1) (λ r. then _ _ (field-IsOfFields _ _ r.1)
-    (λ a. then _ _ (none-IsOfFields _ a.1) (λ u. tt))))
+    then _ _ (round left)
+    (λ id. then _ _ (field-IsOfFields _ _ id.1) (λ a. then _ _ (none-IsOfFields _ a.1) (λ u. tt)))
 
 close : (left : Option (List ℕ)) → IsOfFields (close_of left)
 unfolding close_of
-close left =
-    then _ _ (field-IsOfFields _ _ left)
-    (λ e. then _ _ (field-IsOfFields _ _ e.1) (λ r. then _ _ (none-IsOfFields _ r.1) (λ u. tt)))
+close left = then _ _ (round left) (λ id. then _ _ (none-IsOfFields _ id.1) (λ u. tt))
 
 set_edition : (left : Option (List ℕ)) → IsOfFields (set_edition_of left)
 unfolding set_edition_of

@@ -1,6 +1,7 @@
 pub mod Cuts
 pub mod Faults
 pub mod FieldSpellings
+pub mod Flat
 pub mod MoveSpellings
 pub mod Numerals
 pub mod OutcomeSpellings

@@ -13,6 +13,8 @@ use Rattle.formats.specs.declared.events.Event.TheVariants.{MultiBlind}
 use Rattle.formats.specs.Events.{events, event_name, event_named, event_of_name, event_edition, format_named}
 use Rattle.texts.specs.declared.command.Command.{Command}
 use Rattle.texts.specs.declared.command.Command.TheVariants.{Attempt, Correct, SetEdition}
+use Rattle.texts.specs.declared.command.RoundId.{RoundId}
+use Rattle.texts.specs.declared.command.AttemptEntry.{AttemptEntry}
 use Rattle.texts.specs.declared.command.Entered.{Entered}
 use Rattle.texts.specs.declared.command.Entered.TheVariants.{Solution, Multi, Dnf, Dns}
 use Rattle.texts.specs.declared.reading.CommandFault.{CommandFault}
@@ -21,10 +23,11 @@ use Rattle.texts.specs.Spelling.{last_round}
 use Rattle.texts.specs.Editions.{edition_of, entered_edition}
 use Rattle.texts.specs.EditionLaws.{ReadsAsBefore}
 use Rattle.texts.specs.Fields.{cut, number_between, name_of, cutoff_of, limit_of, advance_of, two_numbers, moves_of, time_with, time_of, multi_with, attempted_of, multi_of, entered_of, round_id, attempt_entry}
-use Rattle.texts.specs.Reading.{◌>>=◌, field, last_field, no_field, register_of, open_of, enter_of, scramble_of, attempt_of, correct_of, strike_of, set_advance_of, close_of, set_edition_of, by_word, command_of}
+use Rattle.texts.specs.Reading.{◌>>=◌, field, last_field, no_field, register_of, round_of, open_of, enter_of, scramble_of, entry_of, attempt_of, correct_of, strike_of, set_advance_of, close_of, set_edition_of, by_word, command_of}
 use Rattle.texts.specs.FirstEdition as first
 use Rattle.texts.proofs.Cuts.{behind, cut_spelled, and-true}
 use Rattle.texts.proofs.Spelled.{bytes_eq-equal}
+use Rattle.texts.proofs.Flat.{round_flat, entry_flat}
 use Rattle.texts.proofs.TakenFields.{field_only, none_only, ok_equal}
 use Rattle.texts.proofs.Words.{edition, spelled_only}
 
@@ -234,16 +237,28 @@ outcome_field index (Some bytes) make of =
 
 -- Words.
 
+-- a word with a round in front, whose edition is that of the round's event
+by_round : (left : Option (List ℕ)) (f : RoundId × Option (List ℕ) → Result Command CommandFault)
+    → ((id : RoundId × Option (List ℕ)) → IsOfEdition (event_edition id.0.event) (f id))
+    → Alike
+    (field 1 event_named left >>= (λ e. field 2 (number_between 1 last_round) e.1
+    >>= (λ r. f (round_id e.0 r.0, r.1))))
+    (round_of left >>= f)
+by_round left f each =
+    subst (Alike _) (sym (round_flat left f))
+    (by_event left _
+    (λ e. then_edition _ (field 2 (number_between 1 last_round) e.1) _
+    (λ r. each (round_id e.0 r.0, r.1))))
+
 opening : (left : Option (List ℕ)) → Alike (first.open_of left) (open_of left)
 unfolding open_of first.open_of
 opening left =
-    by_event left _
-    (λ e. then_edition _ (field 2 (number_between 1 last_round) e.1) _
-    (λ r. then_edition _ (field 3 format_named r.1) _
+    by_round left _
+    (λ id. then_edition _ (field 3 format_named id.1) _
     (λ f. then_edition _ (field 4 cutoff_of f.1) _
     (λ k. then_edition _ (field 5 limit_of k.1) _
     (λ l. then_edition _ (field 6 advance_of l.1) _
-    (λ a. then_edition _ (no_field 7 a.1) _ (λ end. ok_edition _ _ refl)))))))
+    (λ a. then_edition _ (no_field 7 a.1) _ (λ end. ok_edition _ _ refl))))))
 
 enter : (left : Option (List ℕ)) → Alike (first.enter_of left) (enter_of left)
 unfolding enter_of first.enter_of
@@ -255,33 +270,28 @@ enter left =
 scramble : (left : Option (List ℕ)) → Alike (first.scramble_of left) (scramble_of left)
 unfolding scramble_of first.scramble_of
 scramble left =
-    by_event left _
-    (λ e. then_edition _ (field 2 (number_between 1 last_round) e.1) _
-    (λ r. then_edition _ (field 3 (number_between 1 5) r.1) _
-    (λ k. then_edition _ (last_field 4 moves_of k.1) _ (λ moves. ok_edition _ _ refl))))
+    by_round left _
+    (λ id. then_edition _ (field 3 (number_between 1 5) id.1) _
+    (λ k. then_edition _ (last_field 4 moves_of k.1) _ (λ moves. ok_edition _ _ refl)))
 
 strike : (left : Option (List ℕ)) → Alike (first.strike_of left) (strike_of left)
 unfolding strike_of first.strike_of
 strike left =
-    by_event left _
-    (λ e. then_edition _ (field 2 (number_between 1 last_round) e.1) _
-    (λ r. then_edition _ (field 3 (number_between 1 9999) r.1) _
-    (λ n. then_edition _ (no_field 4 n.1) _ (λ end. ok_edition _ _ refl))))
+    by_round left _
+    (λ id. then_edition _ (field 3 (number_between 1 9999) id.1) _
+    (λ n. then_edition _ (no_field 4 n.1) _ (λ end. ok_edition _ _ refl)))
 
 set_advance : (left : Option (List ℕ)) → Alike (first.set_advance_of left) (set_advance_of left)
 unfolding set_advance_of first.set_advance_of
 set_advance left =
-    by_event left _
-    (λ e. then_edition _ (field 2 (number_between 1 last_round) e.1) _
-    (λ r. then_edition _ (field 3 advance_of r.1) _
-    (λ a. then_edition _ (no_field 4 a.1) _ (λ end. ok_edition _ _ refl))))
+    by_round left _
+    (λ id. then_edition _ (field 3 advance_of id.1) _
+    (λ a. then_edition _ (no_field 4 a.1) _ (λ end. ok_edition _ _ refl)))
 
 close : (left : Option (List ℕ)) → Alike (first.close_of left) (close_of left)
 unfolding close_of first.close_of
 close left =
-    by_event left _
-    (λ e. then_edition _ (field 2 (number_between 1 last_round) e.1) _
-    (λ r. then_edition _ (no_field 3 r.1) _ (λ end. ok_edition _ _ refl)))
+    by_round left _ (λ id. then_edition _ (no_field 3 id.1) _ (λ end. ok_edition _ _ refl))
 
 two_or_more : (n : ℕ) → max 2 n ≡ 1 → ⊥
 two_or_more n h = let least = le-max_left 2 n in omega (arith, least, h)
@@ -299,37 +309,43 @@ ok_later : (c : Command) (n : ℕ) → edition_of c ≡ max 2 n
     → (let r : Result Command CommandFault = Ok c in IsLater r)
 ok_later c n is d h one = two_or_more n (sym is ∙ ap edition_of (ok_equal c d h) ∙ one)
 
-attempt : (left : Option (List ℕ)) → Alike (first.attempt_of left) (attempt_of left)
-unfolding attempt_of first.attempt_of
-attempt left =
-    event_field left _ _
+-- a word with the fields of an attempt, whose edition is that of its event or of its outcome
+by_entry : (make : AttemptEntry → Command)
+    → ((entry : AttemptEntry)
+    → edition_of (make entry)
+    ≡ max (event_edition entry.id.event) (entered_edition entry.outcome))
+    → (left : Option (List ℕ))
+    → Alike
+    (field 1 event_named left >>= (λ e. field 2 (number_between 1 last_round) e.1
+    >>= (λ r. field 3 (number_between 1 5) r.1 >>= (λ k. field 4 (number_between 1 9999) k.1
+    >>= (λ n. last_field 5 first.entered_of n.1
+    >>= (λ x. Ok (make (attempt_entry (round_id e.0 r.0) k.0 n.0 x))))))))
+    (entry_of left >>= (λ entry. Ok (make entry)))
+by_entry make of left =
+    subst (Alike _) (sym (entry_flat left _ ∙ round_flat left _))
+    (event_field left _ _
     (λ e one. then_alike (field 2 (number_between 1 last_round) e.1) _ _
     (λ r. then_alike (field 3 (number_between 1 5) r.1) _ _
     (λ k. then_alike (field 4 (number_between 1 9999) k.1) _ _
-    (λ n. outcome_field 5 n.1 (λ x. Attempt (attempt_entry (round_id e.0 r.0) k.0 n.0 x))
-    (λ x. ap (λ (m : ℕ). max m (entered_edition x)) one)))))
+    (λ n.
+    let entry = attempt_entry (round_id e.0 r.0) k.0 n.0 in
+    outcome_field 5 n.1 (λ x. make (entry x))
+    (λ x. of (entry x) ∙ ap (λ (m : ℕ). max m (entered_edition x)) one)))))
     (λ rest. then_later (field 2 (number_between 1 last_round) rest) _
     (λ r. then_later (field 3 (number_between 1 5) r.1) _
     (λ k. then_later (field 4 (number_between 1 9999) k.1) _
     (λ n. then_later (last_field 5 entered_of n.1) _
     (λ x.
-    ok_later (Attempt (attempt_entry (round_id MultiBlind r.0) k.0 n.0 x)) (entered_edition x) refl)))))
+    let entry = attempt_entry (round_id MultiBlind r.0) k.0 n.0 x in
+    ok_later (make entry) (entered_edition x) (of entry)))))))
+
+attempt : (left : Option (List ℕ)) → Alike (first.attempt_of left) (attempt_of left)
+unfolding attempt_of first.attempt_of
+attempt left = by_entry Attempt (λ entry. refl) left
 
 correct : (left : Option (List ℕ)) → Alike (first.correct_of left) (correct_of left)
 unfolding correct_of first.correct_of
-correct left =
-    event_field left _ _
-    (λ e one. then_alike (field 2 (number_between 1 last_round) e.1) _ _
-    (λ r. then_alike (field 3 (number_between 1 5) r.1) _ _
-    (λ k. then_alike (field 4 (number_between 1 9999) k.1) _ _
-    (λ n. outcome_field 5 n.1 (λ x. Correct (attempt_entry (round_id e.0 r.0) k.0 n.0 x))
-    (λ x. ap (λ (m : ℕ). max m (entered_edition x)) one)))))
-    (λ rest. then_later (field 2 (number_between 1 last_round) rest) _
-    (λ r. then_later (field 3 (number_between 1 5) r.1) _
-    (λ k. then_later (field 4 (number_between 1 9999) k.1) _
-    (λ n. then_later (last_field 5 entered_of n.1) _
-    (λ x.
-    ok_later (Correct (attempt_entry (round_id MultiBlind r.0) k.0 n.0 x)) (entered_edition x) refl)))))
+correct left = by_entry Correct (λ entry. refl) left
 
 register : (left : Option (List ℕ)) → Alike (register_of left) (register_of left)
 unfolding register_of

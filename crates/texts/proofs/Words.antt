@@ -11,18 +11,20 @@ use Rattle.cube.specs.declared.moves.Move.{Move}
 use Rattle.notation.specs.Notation.{spelling as moves_text}
 use Rattle.texts.specs.declared.command.Command.{Command}
 use Rattle.texts.specs.declared.command.Command.TheVariants.{Register, Open, Enter, Scramble, Attempt, Correct, Strike, SetAdvance, Close, SetEdition}
-use Rattle.texts.specs.declared.command.Entered.{Entered}
+use Rattle.texts.specs.declared.command.RoundId.{RoundId}
+use Rattle.texts.specs.declared.command.AttemptEntry.{AttemptEntry}
 use Rattle.texts.specs.declared.command.Settings.{Settings}
 use Rattle.texts.specs.declared.reading.CommandFault.{CommandFault}
 use Rattle.texts.specs.declared.reading.CommandFault.TheVariants as fault
-use Rattle.texts.specs.Spelling.{spelling, IsFit, IsWithin, last_round, last_edition, cutoff_text, limit_text, advance_text, entered_text}
+use Rattle.texts.specs.Spelling.{entry_words, spelling, IsFit, IsWithin, IsEntered, last_round, last_edition, cutoff_text, limit_text, advance_text, entered_text}
 use Rattle.texts.specs.Fields.{cut, number_between, round_id, attempt_entry}
-use Rattle.texts.specs.Reading.{field, register_of, open_of, enter_of, scramble_of, attempt_of, correct_of, strike_of, set_advance_of, close_of, set_edition_of, moves_field, by_word, command_of, Gives, ReadsAs}
+use Rattle.texts.specs.Reading.{◌>>=◌, field, register_of, round_of, open_of, enter_of, scramble_of, entry_of, attempt_of, correct_of, strike_of, set_advance_of, close_of, set_edition_of, moves_field, by_word, command_of, Gives, ReadsAs}
 use Rattle.texts.proofs.Cuts.{behind, cut_spelled, cut-behind, lacks}
 use Rattle.texts.proofs.Spelled.{IsSpelled, bytes_eq-equal}
 use Rattle.texts.proofs.MoveSpellings.{moves_spelled}
 use Rattle.texts.proofs.FieldSpellings.{number_spelled, number_short, decimal_no_space, name_spelled, name_short, event_spelled, event_short, event_no_space, format_spelled, format_short, format_no_space, cutoff_spelled, cutoff_short, cutoff_no_space, limit_spelled, limit_short, limit_no_space, advance_spelled, advance_short, advance_no_space}
 use Rattle.texts.proofs.OutcomeSpellings.{entered_spelled}
+use Rattle.texts.proofs.Flat.{round_flat, entry_flat}
 use Rattle.texts.proofs.TakenFields.{field_only, last_only, none_only, field_then, field_last, ok_equal}
 
 -- What the words take.
@@ -42,6 +44,63 @@ attempt = number_spelled 1 5 (omega arith)
 pub edition : IsSpelled (number_between 2 last_edition) decimal (IsWithin 2 last_edition)
 edition = number_spelled 2 last_edition (omega arith)
 
+-- a round, the first two fields of what is left
+record TakesRound (left : Option (List ℕ))
+    (f : RoundId × Option (List ℕ) → Result Command CommandFault) (c : Command) : Type 0 where
+  pub id : RoundId
+  pub left' : Option (List ℕ)
+  pub fits : IsWithin 1 last_round id.round
+  pub spelled : behind 32 left
+      ≡ 32 ∷ (event_name id.event ++ 32 ∷ (decimal id.round ++ behind 32 left'))
+  pub next : f (id, left') ≡ Ok c
+
+round_only : (left : Option (List ℕ))
+    (f : RoundId × Option (List ℕ) → Result Command CommandFault) (c : Command)
+    → (round_of left >>= f) ≡ Ok c → TakesRound left f c
+round_only left f c h =
+    let event = field_only event_spelled 1 left _ c (sym (round_flat left f) ∙ h) in
+    let r = field_only round 2 event.left' _ c event.next in
+    record {
+      id = round_id event.value r.value;
+      left' = r.left';
+      fits = r.fits;
+      spelled =
+          event.spelled ∙ ap (λ (x : List ℕ). 32 ∷ (event_name event.value ++ x)) r.spelled;
+      next = r.next;
+    }
+
+-- the fields of an attempt, all that is left
+abbrev entry_text : AttemptEntry → List ℕ
+entry_text entry = join_with_byte 32 (entry_words entry)
+
+record TakesEntry (left : Option (List ℕ)) (f : AttemptEntry → Result Command CommandFault)
+    (c : Command) : Type 0 where
+  pub entry : AttemptEntry
+  pub round : IsWithin 1 last_round entry.id.round
+  pub attempt : IsWithin 1 5 entry.attempt
+  pub number : IsWithin 1 9999 entry.number
+  pub outcome : IsEntered entry.outcome
+  pub spelled : behind 32 left ≡ 32 ∷ entry_text entry
+  pub next : f entry ≡ Ok c
+
+entry_only : (left : Option (List ℕ)) (f : AttemptEntry → Result Command CommandFault)
+    (c : Command)
+    → (entry_of left >>= f) ≡ Ok c → TakesEntry left f c
+entry_only left f c h =
+    let r = round_only left _ c (sym (entry_flat left f) ∙ h) in
+    let k = field_only attempt 3 r.left' _ c r.next in
+    let n = field_only number 4 k.left' _ c k.next in
+    let outcome = last_only entered_spelled 5 n.left' _ c n.next in
+    record {
+      entry = attempt_entry r.id k.value n.value outcome.value;
+      round = r.fits;
+      attempt = k.fits;
+      number = n.fits;
+      outcome = outcome.fits;
+      spelled = rw (r.spelled, k.spelled, n.spelled, outcome.spelled) refl;
+      next = outcome.next;
+    }
+
 register_only : (left : Option (List ℕ)) (c : Command) → register_of left ≡ Ok c
     → Spells (codes "REG" ++ behind 32 left) c
 unfolding register_of
@@ -56,8 +115,7 @@ open_only : (left : Option (List ℕ)) (c : Command) → open_of left ≡ Ok c
     → Spells (codes "OPEN" ++ behind 32 left) c
 unfolding open_of
 open_only left c h =
-    let event = field_only event_spelled 1 left _ c h in
-    let r = field_only round 2 event.left' _ c event.next in
+    let r = round_only left _ c h in
     let form = field_only format_spelled 3 r.left' _ c r.next in
     let cutoff = field_only cutoff_spelled 4 form.left' _ c form.next in
     let limit = field_only limit_spelled 5 cutoff.left' _ c cutoff.next in
@@ -70,11 +128,10 @@ open_only left c h =
       limit = limit.value;
       advance = advance.value;
     } in
-    let same : Open (round_id event.value r.value) settings ≡ c = ok_equal _ c end.1 in
+    let same : Open r.id settings ≡ c = ok_equal _ c end.1 in
     subst (Spells (codes "OPEN" ++ behind 32 left)) same (
       (r.fits, (cutoff.fits, limit.fits, advance.fits)),
       rw (
-        event.spelled,
         r.spelled,
         form.spelled,
         cutoff.spelled,
@@ -102,15 +159,14 @@ scramble_only : (left : Option (List ℕ)) (c : Command)
     → Spells (codes "SCR" ++ behind 32 left) c
 unfolding scramble_of
 scramble_only left c short h =
-    let event = field_only event_spelled 1 left _ c h in
-    let r = field_only round 2 event.left' _ c event.next in
+    let r = round_only left _ c h in
     let k = field_only attempt 3 r.left' _ c r.next in
     let moves = last_only moves_spelled 4 k.left' _ c k.next in
-    let same : Scramble (round_id event.value r.value) k.value moves.value ≡ c =
+    let same : Scramble r.id k.value moves.value ≡ c =
     ok_equal _ c moves.next in
     let spelled : codes "SCR" ++ behind 32 left
-    ≡ spelling (Scramble (round_id event.value r.value) k.value moves.value) =
-    rw (event.spelled, r.spelled, k.spelled, moves.spelled) refl in
+    ≡ spelling (Scramble r.id k.value moves.value) =
+    rw (r.spelled, k.spelled, moves.spelled) refl in
     subst (Spells (codes "SCR" ++ behind 32 left)) same
     ((r.fits, k.fits, moves.fits, subst (λ (x : List ℕ). length x ≤ 600) spelled short), spelled)
 
@@ -118,72 +174,57 @@ attempt_only : (left : Option (List ℕ)) (c : Command) → length (codes "ATT" 
     → attempt_of left ≡ Ok c → Spells (codes "ATT" ++ behind 32 left) c
 unfolding attempt_of
 attempt_only left c short h =
-    let event = field_only event_spelled 1 left _ c h in
-    let r = field_only round 2 event.left' _ c event.next in
-    let k = field_only attempt 3 r.left' _ c r.next in
-    let n = field_only number 4 k.left' _ c k.next in
-    let outcome = last_only entered_spelled 5 n.left' _ c n.next in
-    let entry = attempt_entry (round_id event.value r.value) k.value n.value outcome.value in
-    let same : Attempt entry ≡ c = ok_equal _ c outcome.next in
-    let spelled : codes "ATT" ++ behind 32 left ≡ spelling (Attempt entry) =
-    rw (event.spelled, r.spelled, k.spelled, n.spelled, outcome.spelled) refl in
-    subst (Spells (codes "ATT" ++ behind 32 left)) same (
-      (r.fits, k.fits, n.fits, outcome.fits, subst (λ (x : List ℕ). length x ≤ 600) spelled short),
-      spelled,
-    )
+    let taken = entry_only left _ c h in
+    let same : Attempt taken.entry ≡ c = ok_equal _ c taken.next in
+    let spelled : codes "ATT" ++ behind 32 left ≡ spelling (Attempt taken.entry) =
+    rw taken.spelled refl in
+    let fits = subst (λ (x : List ℕ). length x ≤ 600) spelled short in
+    subst (Spells (codes "ATT" ++ behind 32 left)) same
+    ((taken.round, taken.attempt, taken.number, taken.outcome, fits), spelled)
 
 correct_only : (left : Option (List ℕ)) (c : Command) → length (codes "COR" ++ behind 32 left) ≤ 600
     → correct_of left ≡ Ok c → Spells (codes "COR" ++ behind 32 left) c
 unfolding correct_of
 correct_only left c short h =
-    let event = field_only event_spelled 1 left _ c h in
-    let r = field_only round 2 event.left' _ c event.next in
-    let k = field_only attempt 3 r.left' _ c r.next in
-    let n = field_only number 4 k.left' _ c k.next in
-    let outcome = last_only entered_spelled 5 n.left' _ c n.next in
-    let entry = attempt_entry (round_id event.value r.value) k.value n.value outcome.value in
-    let same : Correct entry ≡ c = ok_equal _ c outcome.next in
-    let spelled : codes "COR" ++ behind 32 left ≡ spelling (Correct entry) =
-    rw (event.spelled, r.spelled, k.spelled, n.spelled, outcome.spelled) refl in
-    subst (Spells (codes "COR" ++ behind 32 left)) same (
-      (r.fits, k.fits, n.fits, outcome.fits, subst (λ (x : List ℕ). length x ≤ 600) spelled short),
-      spelled,
-    )
+    let taken = entry_only left _ c h in
+    let same : Correct taken.entry ≡ c = ok_equal _ c taken.next in
+    let spelled : codes "COR" ++ behind 32 left ≡ spelling (Correct taken.entry) =
+    rw taken.spelled refl in
+    let fits = subst (λ (x : List ℕ). length x ≤ 600) spelled short in
+    subst (Spells (codes "COR" ++ behind 32 left)) same
+    ((taken.round, taken.attempt, taken.number, taken.outcome, fits), spelled)
 
 strike_only : (left : Option (List ℕ)) (c : Command) → strike_of left ≡ Ok c
     → Spells (codes "STR" ++ behind 32 left) c
 unfolding strike_of
 strike_only left c h =
-    let event = field_only event_spelled 1 left _ c h in
-    let r = field_only round 2 event.left' _ c event.next in
+    let r = round_only left _ c h in
     let n = field_only number 3 r.left' _ c r.next in
     let end = none_only 4 n.left' _ c n.next in
-    let same : Strike (round_id event.value r.value) n.value ≡ c = ok_equal _ c end.1 in
+    let same : Strike r.id n.value ≡ c = ok_equal _ c end.1 in
     subst (Spells (codes "STR" ++ behind 32 left)) same
-    ((r.fits, n.fits), rw (event.spelled, r.spelled, n.spelled, end.0, append-nil) refl)
+    ((r.fits, n.fits), rw (r.spelled, n.spelled, end.0, append-nil) refl)
 
 set_advance_only : (left : Option (List ℕ)) (c : Command) → set_advance_of left ≡ Ok c
     → Spells (codes "ADV" ++ behind 32 left) c
 unfolding set_advance_of
 set_advance_only left c h =
-    let event = field_only event_spelled 1 left _ c h in
-    let r = field_only round 2 event.left' _ c event.next in
+    let r = round_only left _ c h in
     let advance = field_only advance_spelled 3 r.left' _ c r.next in
     let end = none_only 4 advance.left' _ c advance.next in
-    let same : SetAdvance (round_id event.value r.value) advance.value ≡ c = ok_equal _ c end.1 in
+    let same : SetAdvance r.id advance.value ≡ c = ok_equal _ c end.1 in
     subst (Spells (codes "ADV" ++ behind 32 left)) same
-    ((r.fits, advance.fits), rw (event.spelled, r.spelled, advance.spelled, end.0, append-nil) refl)
+    ((r.fits, advance.fits), rw (r.spelled, advance.spelled, end.0, append-nil) refl)
 
 close_only : (left : Option (List ℕ)) (c : Command) → close_of left ≡ Ok c
     → Spells (codes "CLOSE" ++ behind 32 left) c
 unfolding close_of
 close_only left c h =
-    let event = field_only event_spelled 1 left _ c h in
-    let r = field_only round 2 event.left' _ c event.next in
+    let r = round_only left _ c h in
     let end = none_only 3 r.left' _ c r.next in
-    let same : Close (round_id event.value r.value) ≡ c = ok_equal _ c end.1 in
+    let same : Close r.id ≡ c = ok_equal _ c end.1 in
     subst (Spells (codes "CLOSE" ++ behind 32 left)) same
-    (r.fits, rw (event.spelled, r.spelled, end.0, append-nil) refl)
+    (r.fits, rw (r.spelled, end.0, append-nil) refl)
 
 set_edition_only : (left : Option (List ℕ)) (c : Command) → set_edition_of left ≡ Ok c
     → Spells (codes "EDITION" ++ behind 32 left) c
@@ -353,6 +394,15 @@ event_then : (e : Event) (left : List ℕ)
     → field 1 event_of_name (Some (event_name e ++ 32 ∷ left)) ≡ Ok (e, Some left)
 event_then e left = field_then event_spelled 1 e (Some left) tt (event_no_space e)
 
+-- the first two, a round, with more behind them
+round_then : (e : Event) (r : ℕ) (left : List ℕ) → IsWithin 1 last_round r
+    → round_of (Some (event_name e ++ 32 ∷ (decimal r ++ 32 ∷ left)))
+    ≡ Ok (round_id e r, Some left)
+unfolding round_of
+round_then e r left fits =
+    rw (event_then e (decimal r ++ 32 ∷ left))
+    (rw (field_then round 2 r (Some left) fits (decimal_no_space r (omega arith))) refl)
+
 open_found : (e : Event) (r : ℕ) (s : Settings) → IsFit (Open (round_id e r) s)
     → open_of
     (Some
@@ -363,16 +413,9 @@ open_found : (e : Event) (r : ℕ) (s : Settings) → IsFit (Open (round_id e r)
     ≡ Ok (Open (round_id e r) s)
 unfolding open_of
 open_found e r s fits =
-    rw (event_then e
-    (decimal r ++ 32 ∷
+    rw (round_then e r
     (format_name s.format ++ 32 ∷
-    (cutoff_text s.cutoff ++ 32 ∷ (limit_text s.limit ++ 32 ∷ advance_text s.advance)))))
-    (rw
-    (field_then round 2 r
-    (Some
-    (format_name s.format ++ 32 ∷
-    (cutoff_text s.cutoff ++ 32 ∷ (limit_text s.limit ++ 32 ∷ advance_text s.advance))))
-    fits.0 (decimal_no_space r (omega arith)))
+    (cutoff_text s.cutoff ++ 32 ∷ (limit_text s.limit ++ 32 ∷ advance_text s.advance))) fits.0)
     (rw
     (field_then format_spelled 3 s.format
     (Some (cutoff_text s.cutoff ++ 32 ∷ (limit_text s.limit ++ 32 ∷ advance_text s.advance))) tt
@@ -384,7 +427,7 @@ open_found e r s fits =
     (field_then limit_spelled 5 s.limit (Some (advance_text s.advance)) fits.1.1
     (limit_no_space s.limit fits.1.1))
     (rw (field_last advance_spelled 6 s.advance fits.1.2 (advance_no_space s.advance fits.1.2))
-    refl)))))
+    refl))))
 
 scramble_found : (e : Event) (r k : ℕ) (moves : List Move)
     → IsFit (Scramble (round_id e r) k moves)
@@ -393,63 +436,43 @@ scramble_found : (e : Event) (r k : ℕ) (moves : List Move)
     ≡ Ok (Scramble (round_id e r) k moves)
 unfolding scramble_of
 scramble_found e r k moves fits =
-    rw (event_then e (decimal r ++ 32 ∷ (decimal k ++ 32 ∷ moves_text moves)))
-    (rw
-    (field_then round 2 r (Some (decimal k ++ 32 ∷ moves_text moves)) fits.0
-    (decimal_no_space r (omega arith)))
+    rw (round_then e r (decimal k ++ 32 ∷ moves_text moves) fits.0)
     (rw (field_then attempt 3 k (Some (moves_text moves)) fits.1 (decimal_no_space k (omega arith)))
-    (rw (moves_spelled.found moves fits.2) refl)))
+    (rw (moves_spelled.found moves fits.2) refl))
 
-attempt_found : (e : Event) (r k n : ℕ) (outcome : Entered)
-    → IsFit (Attempt (attempt_entry (round_id e r) k n outcome))
-    → attempt_of
-    (Some
-    (event_name e ++ 32 ∷
-    (decimal r ++ 32 ∷ (decimal k ++ 32 ∷ (decimal n ++ 32 ∷ entered_text outcome)))))
-    ≡ Ok (Attempt (attempt_entry (round_id e r) k n outcome))
+entry_found : (entry : AttemptEntry)
+    → IsWithin 1 last_round entry.id.round → IsWithin 1 5 entry.attempt
+    → IsWithin 1 9999 entry.number → IsEntered entry.outcome
+    → entry_of (Some (entry_text entry)) ≡ Ok entry
+unfolding entry_of
+entry_found entry r k n outcome =
+    let last = entered_text entry.outcome in
+    rw (round_then entry.id.event entry.id.round
+    (decimal entry.attempt ++ 32 ∷ (decimal entry.number ++ 32 ∷ last)) r)
+    (rw
+    (field_then attempt 3 entry.attempt (Some (decimal entry.number ++ 32 ∷ last)) k
+    (decimal_no_space entry.attempt (omega arith)))
+    (rw
+    (field_then number 4 entry.number (Some last) n (number_no_space entry.number (omega arith)))
+    (rw (entered_spelled.found entry.outcome outcome) refl)))
+
+attempt_found : (entry : AttemptEntry) → IsFit (Attempt entry)
+    → attempt_of (Some (entry_text entry)) ≡ Ok (Attempt entry)
 unfolding attempt_of
-attempt_found e r k n outcome fits =
-    rw (event_then e
-    (decimal r ++ 32 ∷ (decimal k ++ 32 ∷ (decimal n ++ 32 ∷ entered_text outcome))))
-    (rw
-    (field_then round 2 r (Some (decimal k ++ 32 ∷ (decimal n ++ 32 ∷ entered_text outcome))) fits.0
-    (decimal_no_space r (omega arith)))
-    (rw
-    (field_then attempt 3 k (Some (decimal n ++ 32 ∷ entered_text outcome)) fits.1
-    (decimal_no_space k (omega arith)))
-    (rw
-    (field_then number 4 n (Some (entered_text outcome)) fits.2 (number_no_space n (omega arith)))
-    (rw (entered_spelled.found outcome fits.3) refl))))
+attempt_found entry fits = rw (entry_found entry fits.0 fits.1 fits.2 fits.3) refl
 
-correct_found : (e : Event) (r k n : ℕ) (outcome : Entered)
-    → IsFit (Correct (attempt_entry (round_id e r) k n outcome))
-    → correct_of
-    (Some
-    (event_name e ++ 32 ∷
-    (decimal r ++ 32 ∷ (decimal k ++ 32 ∷ (decimal n ++ 32 ∷ entered_text outcome)))))
-    ≡ Ok (Correct (attempt_entry (round_id e r) k n outcome))
+correct_found : (entry : AttemptEntry) → IsFit (Correct entry)
+    → correct_of (Some (entry_text entry)) ≡ Ok (Correct entry)
 unfolding correct_of
-correct_found e r k n outcome fits =
-    rw (event_then e
-    (decimal r ++ 32 ∷ (decimal k ++ 32 ∷ (decimal n ++ 32 ∷ entered_text outcome))))
-    (rw
-    (field_then round 2 r (Some (decimal k ++ 32 ∷ (decimal n ++ 32 ∷ entered_text outcome))) fits.0
-    (decimal_no_space r (omega arith)))
-    (rw
-    (field_then attempt 3 k (Some (decimal n ++ 32 ∷ entered_text outcome)) fits.1
-    (decimal_no_space k (omega arith)))
-    (rw
-    (field_then number 4 n (Some (entered_text outcome)) fits.2 (number_no_space n (omega arith)))
-    (rw (entered_spelled.found outcome fits.3) refl))))
+correct_found entry fits = rw (entry_found entry fits.0 fits.1 fits.2 fits.3) refl
 
 strike_found : (e : Event) (r n : ℕ) → IsFit (Strike (round_id e r) n)
     → strike_of (Some (event_name e ++ 32 ∷ (decimal r ++ 32 ∷ decimal n)))
     ≡ Ok (Strike (round_id e r) n)
 unfolding strike_of
 strike_found e r n fits =
-    rw (event_then e (decimal r ++ 32 ∷ decimal n))
-    (rw (field_then round 2 r (Some (decimal n)) fits.0 (decimal_no_space r (omega arith)))
-    (rw (field_last number 3 n fits.1 (number_no_space n (omega arith))) refl))
+    rw (round_then e r (decimal n) fits.0)
+    (rw (field_last number 3 n fits.1 (number_no_space n (omega arith))) refl)
 
 set_advance_found : (e : Event) (r : ℕ) (advance : Advance)
     → IsFit (SetAdvance (round_id e r) advance)
@@ -457,14 +480,12 @@ set_advance_found : (e : Event) (r : ℕ) (advance : Advance)
     ≡ Ok (SetAdvance (round_id e r) advance)
 unfolding set_advance_of
 set_advance_found e r advance fits =
-    rw (event_then e (decimal r ++ 32 ∷ advance_text advance))
-    (rw
-    (field_then round 2 r (Some (advance_text advance)) fits.0 (decimal_no_space r (omega arith)))
-    (rw (field_last advance_spelled 3 advance fits.1 (advance_no_space advance fits.1)) refl))
+    rw (round_then e r (advance_text advance) fits.0)
+    (rw (field_last advance_spelled 3 advance fits.1 (advance_no_space advance fits.1)) refl)
 
 close_found : (e : Event) (r : ℕ) → IsFit (Close (round_id e r))
     → close_of (Some (event_name e ++ 32 ∷ decimal r)) ≡ Ok (Close (round_id e r))
-unfolding close_of
+unfolding close_of round_of
 close_found e r fits =
     rw (event_then e (decimal r))
     (rw (field_last round 2 r fits (decimal_no_space r (omega arith))) refl)
@@ -496,10 +517,10 @@ spelled_found (Scramble id k moves) fits =
     ∙ scramble_found id.event id.round k moves fits
 spelled_found (Attempt entry) fits =
     word_found (codes "ATT") _ refl (spelling_short (Attempt entry) fits)
-    ∙ attempt_found entry.id.event entry.id.round entry.attempt entry.number entry.outcome fits
+    ∙ attempt_found entry fits
 spelled_found (Correct entry) fits =
     word_found (codes "COR") _ refl (spelling_short (Correct entry) fits)
-    ∙ correct_found entry.id.event entry.id.round entry.attempt entry.number entry.outcome fits
+    ∙ correct_found entry fits
 spelled_found (Strike id n) fits =
     word_found (codes "STR") _ refl (spelling_short (Strike id n) fits)
     ∙ strike_found id.event id.round n fits

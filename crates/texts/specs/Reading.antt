@@ -4,6 +4,8 @@ use Rattle.std.specs.List.{list_any}
 use Rattle.std.specs.Option.{ok_or}
 use Rattle.texts.specs.declared.command.Command.{Command}
 use Rattle.texts.specs.declared.command.Command.TheVariants.{Register, Open, Enter, Scramble, Attempt, Correct, Strike, SetAdvance, Close, SetEdition}
+use Rattle.texts.specs.declared.command.RoundId.{RoundId}
+use Rattle.texts.specs.declared.command.AttemptEntry.{AttemptEntry}
 use Rattle.texts.specs.declared.reading.CommandFault.{CommandFault}
 use Rattle.texts.specs.declared.reading.CommandFault.TheVariants as fault
 use Rattle.texts.specs.Spelling.{last_round, last_edition, IsFit, spelling}
@@ -51,16 +53,22 @@ register_of left = do
   name ← last_field 2 name_of number.1
   Ok (Register number.0 name)
 
-unfoldable pub open_of : Option (List ℕ) → Result Command CommandFault
-open_of left = do
+-- the event and the round that stand in front, and what is left behind them
+unfoldable pub round_of : Option (List ℕ) → Result (RoundId × Option (List ℕ)) CommandFault
+round_of left = do
   event ← field 1 event_of_name left
   round ← field 2 (number_between 1 last_round) event.1
-  form ← field 3 format_named round.1
+  Ok (round_id event.0 round.0, round.1)
+
+unfoldable pub open_of : Option (List ℕ) → Result Command CommandFault
+open_of left = do
+  id ← round_of left
+  form ← field 3 format_named id.1
   cutoff ← field 4 cutoff_of form.1
   limit ← field 5 limit_of cutoff.1
   advance ← field 6 advance_of limit.1
   end ← no_field 7 advance.1
-  Ok (Open (round_id event.0 round.0) (record {
+  Ok (Open id.0 (record {
     format =
         form.0;
     cutoff = cutoff.0;
@@ -77,52 +85,49 @@ enter_of left = do
 
 unfoldable pub scramble_of : Option (List ℕ) → Result Command CommandFault
 scramble_of left = do
-  event ← field 1 event_of_name left
-  round ← field 2 (number_between 1 last_round) event.1
-  attempt ← field 3 (number_between 1 5) round.1
+  id ← round_of left
+  attempt ← field 3 (number_between 1 5) id.1
   moves ← last_field 4 moves_of attempt.1
-  Ok (Scramble (round_id event.0 round.0) attempt.0 moves)
+  Ok (Scramble id.0 attempt.0 moves)
+
+-- the fields of an attempt
+unfoldable pub entry_of : Option (List ℕ) → Result AttemptEntry CommandFault
+entry_of left = do
+  id ← round_of left
+  attempt ← field 3 (number_between 1 5) id.1
+  number ← field 4 (number_between 1 9999) attempt.1
+  outcome ← last_field 5 entered_of number.1
+  Ok (attempt_entry id.0 attempt.0 number.0 outcome)
 
 unfoldable pub attempt_of : Option (List ℕ) → Result Command CommandFault
 attempt_of left = do
-  event ← field 1 event_of_name left
-  round ← field 2 (number_between 1 last_round) event.1
-  attempt ← field 3 (number_between 1 5) round.1
-  number ← field 4 (number_between 1 9999) attempt.1
-  outcome ← last_field 5 entered_of number.1
-  Ok (Attempt (attempt_entry (round_id event.0 round.0) attempt.0 number.0 outcome))
+  entry ← entry_of left
+  Ok (Attempt entry)
 
 unfoldable pub correct_of : Option (List ℕ) → Result Command CommandFault
 correct_of left = do
-  event ← field 1 event_of_name left
-  round ← field 2 (number_between 1 last_round) event.1
-  attempt ← field 3 (number_between 1 5) round.1
-  number ← field 4 (number_between 1 9999) attempt.1
-  outcome ← last_field 5 entered_of number.1
-  Ok (Correct (attempt_entry (round_id event.0 round.0) attempt.0 number.0 outcome))
+  entry ← entry_of left
+  Ok (Correct entry)
 
 unfoldable pub strike_of : Option (List ℕ) → Result Command CommandFault
 strike_of left = do
-  event ← field 1 event_of_name left
-  round ← field 2 (number_between 1 last_round) event.1
-  number ← field 3 (number_between 1 9999) round.1
+  id ← round_of left
+  number ← field 3 (number_between 1 9999) id.1
   end ← no_field 4 number.1
-  Ok (Strike (round_id event.0 round.0) number.0)
+  Ok (Strike id.0 number.0)
 
 unfoldable pub set_advance_of : Option (List ℕ) → Result Command CommandFault
 set_advance_of left = do
-  event ← field 1 event_of_name left
-  round ← field 2 (number_between 1 last_round) event.1
-  advance ← field 3 advance_of round.1
+  id ← round_of left
+  advance ← field 3 advance_of id.1
   end ← no_field 4 advance.1
-  Ok (SetAdvance (round_id event.0 round.0) advance.0)
+  Ok (SetAdvance id.0 advance.0)
 
 unfoldable pub close_of : Option (List ℕ) → Result Command CommandFault
 close_of left = do
-  event ← field 1 event_of_name left
-  round ← field 2 (number_between 1 last_round) event.1
-  end ← no_field 3 round.1
-  Ok (Close (round_id event.0 round.0))
+  id ← round_of left
+  end ← no_field 3 id.1
+  Ok (Close id.0)
 
 unfoldable pub set_edition_of : Option (List ℕ) → Result Command CommandFault
 set_edition_of left = do
@@ -162,6 +167,13 @@ abbrev pub Reads : {X Y : Type 0} → (X → Y) → Result X CommandFault → Re
 Reads view (Ok x) said = said ≡ Ok (view x)
 Reads view (Err e) said = said ≡ Err e
 
+-- the same, where nothing but a field is at fault
+abbrev pub ReadsFields : {X Y : Type 0} → (X → Y) → Result X CommandFault → Result Y CommandFault
+    → Type 0
+ReadsFields view (Ok x) said = said ≡ Ok (view x)
+ReadsFields view (Err (fault.BadField index)) said = said ≡ Err (fault.BadField index)
+ReadsFields _ _ _ = ⊥
+
 -- Memory is taken for a name and for moves. The moves' field is the 4th of SCR and the 5th of ATT
 -- and COR; where they are misspelt, memory may run out first.
 
@@ -187,6 +199,18 @@ Gives moves (Err fault.NoMemory) said = TakesMemory moves said
 Gives _ (Err fault.TooLong) said = said ≡ Err fault.TooLong
 Gives _ (Err fault.NotACommand) said = said ≡ Err fault.NotACommand
 Gives _ (Err (fault.BadField index)) said = said ≡ Err (fault.BadField index)
+
+-- the same of the fields of an attempt
+abbrev pub EntryTakesMemory : Result AttemptEntry CommandFault → Type 0
+EntryTakesMemory (Ok entry) = IsSolution entry.outcome
+EntryTakesMemory (Err (fault.BadField index)) = index ≡ 5
+EntryTakesMemory _ = ⊥
+
+abbrev pub GivesEntry : Result AttemptEntry CommandFault → Result AttemptEntry CommandFault → Type 0
+GivesEntry (Ok entry) said = said ≡ Ok entry
+GivesEntry (Err fault.NoMemory) said = EntryTakesMemory said
+GivesEntry (Err (fault.BadField index)) said = said ≡ Err (fault.BadField index)
+GivesEntry _ _ = ⊥
 
 -- a command was read, unless memory ran out
 abbrev pub ReadsAs : Result Command CommandFault → Command → Type 0

@@ -10,6 +10,7 @@ use Rattle.formats.specs.declared.advance.Advance.{Advance}
 use Rattle.formats.specs.declared.advance.Advance.TheVariants.{Final, Top, Percent}
 use Rattle.texts.specs.declared.command.Command.{Command}
 use Rattle.texts.specs.declared.command.Command.TheVariants.{Register, Open, Enter, Scramble, Attempt, Correct, Strike, SetAdvance, Close, SetEdition}
+use Rattle.texts.specs.declared.command.AttemptEntry.{AttemptEntry}
 use Rattle.texts.specs.declared.command.Entered.{Entered}
 use Rattle.texts.specs.declared.command.Entered.TheVariants as entered
 use Rattle.texts.specs.declared.command.Settings.{Settings}
@@ -40,6 +41,12 @@ entered_text (entered.Multi solved attempted seconds) =
 entered_text entered.Dnf = codes "DNF"
 entered_text entered.Dns = codes "DNS"
 
+-- the fields of an attempt
+abbrev pub entry_words : AttemptEntry → List (List ℕ)
+entry_words entry =
+    event_name entry.id.event ∷ decimal entry.id.round ∷ decimal entry.attempt
+    ∷ decimal entry.number ∷ entered_text entry.outcome ∷ []
+
 -- the words of a command: its own, and its fields
 abbrev pub words_of : Command → List (List ℕ)
 words_of (Register number name) = codes "REG" ∷ decimal number ∷ name ∷ []
@@ -49,12 +56,8 @@ words_of (Open id settings) =
 words_of (Enter event number) = codes "ENT" ∷ event_name event ∷ decimal number ∷ []
 words_of (Scramble id attempt moves) =
     codes "SCR" ∷ event_name id.event ∷ decimal id.round ∷ decimal attempt ∷ moves_text moves ∷ []
-words_of (Attempt entry) =
-    codes "ATT" ∷ event_name entry.id.event ∷ decimal entry.id.round ∷ decimal entry.attempt
-    ∷ decimal entry.number ∷ entered_text entry.outcome ∷ []
-words_of (Correct entry) =
-    codes "COR" ∷ event_name entry.id.event ∷ decimal entry.id.round ∷ decimal entry.attempt
-    ∷ decimal entry.number ∷ entered_text entry.outcome ∷ []
+words_of (Attempt entry) = codes "ATT" ∷ entry_words entry
+words_of (Correct entry) = codes "COR" ∷ entry_words entry
 words_of (Strike id number) =
     codes "STR" ∷ event_name id.event ∷ decimal id.round ∷ decimal number ∷ []
 words_of (SetAdvance id advance) =

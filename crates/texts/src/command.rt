@@ -35,13 +35,6 @@ impl Name {
     {
         &self.bytes
     }
-
-    /// Gives the bytes back.
-    pub fn into_bytes(self) -> Vec<u8>
-        ensures { result.items ≡ self }
-    {
-        self.bytes
-    }
 }
 
 /// How a round is run.
@@ -49,8 +42,8 @@ impl Name {
 pub struct Settings {
     /// How many attempts there are, and what counts of them.
     pub format: Format,
-    /// After so many attempts (1 to 4) only those do the others who have one below so many
-    /// hundredths of a second, or moves in fewest moves (1 to 360,000).
+    /// The number of attempts (1 to 4) behind which only those go on who have one below the second
+    /// number (1 to 360,000): of hundredths of a second, or of moves in fewest moves.
     pub cutoff: Option<(u8, u32)>,
     /// The hundredths of a second (1 to 360,000) at which an attempt is too long.
     pub limit: Option<u32>,

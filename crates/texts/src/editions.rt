@@ -23,26 +23,19 @@ pub fn edition_of(command: &Command) -> u8
 {
     match command {
         Command::Register { .. } | Command::SetEdition { .. } => 1,
-        Command::Open { id, .. } => id.event.edition(),
         Command::Enter { event, .. } => event.edition(),
-        Command::Scramble { id, .. } => id.event.edition(),
-        Command::Attempt(entry) => {
+        Command::Open { id, .. }
+        | Command::Scramble { id, .. }
+        | Command::Strike { id, .. }
+        | Command::SetAdvance { id, .. }
+        | Command::Close { id } => id.event.edition(),
+        Command::Attempt(entry) | Command::Correct(entry) => {
             entry
                 .id
                 .event
                 .edition()
                 .max(entered_edition(&entry.outcome))
         }
-        Command::Correct(entry) => {
-            entry
-                .id
-                .event
-                .edition()
-                .max(entered_edition(&entry.outcome))
-        }
-        Command::Strike { id, .. } => id.event.edition(),
-        Command::SetAdvance { id, .. } => id.event.edition(),
-        Command::Close { id, .. } => id.event.edition(),
     }
 }
 

@@ -1,6 +1,6 @@
 //! The fields of commands, each from its bytes.
 
-ghost use Rattle.std.specs.Prelude.{◌≡◌, ◌≤◌, ◌==◌, ◌<◌, length, option_map, IfOk, IfSome, OnErr, position, true};
+ghost use Rattle.std.specs.Prelude.{◌≡◌, ◌==◌, ◌<◌, length, option_map, IfOk, IfSome, OnErr, position};
 ghost use Rattle.std.specs.List.{list_all};
 ghost use Rattle.std.specs.Str.{is_utf8};
 ghost use Rattle.texts.specs.Spelling.{is_name, is_name_byte, has_single_spaces};
@@ -18,6 +18,7 @@ pub const LAST_ROUND: u64 = 4;
 /// The last edition that commands name.
 pub const LAST_EDITION: u64 = 2;
 
+/// Where the first of a byte stands.
 fn place_of(bytes: &[u8], by: u8) -> Option<usize>
     ensures value { result ≡ position (λ b. b == by) bytes.now }
     ensures within { IfSome result (λ place. place < length bytes.now) }
@@ -25,7 +26,7 @@ fn place_of(bytes: &[u8], by: u8) -> Option<usize>
     bytes.iter().position(|byte| *byte == by)
 }
 
-/// Parts a text at the first of a byte.
+/// What stands in front of the first of a byte, and what stands behind it, where it is there.
 #[tactic(auto, unfolding(crate::specs::Fields::cut))]
 pub fn cut(bytes: &[u8], by: u8) -> (&[u8], Option<&[u8]>)
     ensures { (result.0.now, option_map (λ s. s.now) result.1) ≡ cut by bytes.now }
@@ -36,21 +37,21 @@ pub fn cut(bytes: &[u8], by: u8) -> (&[u8], Option<&[u8]>)
     }
 }
 
-/// UTF-8.
+/// Whether the bytes are UTF-8.
 fn is_text(bytes: &[u8]) -> bool
     ensures { result ≡ is_utf8 bytes.now }
 {
     str::from_utf8(bytes).is_ok()
 }
 
-/// No control characters.
+/// Whether there is no control character.
 fn is_printable(bytes: &[u8]) -> bool
     ensures { result ≡ list_all is_name_byte bytes.now }
 {
     bytes.iter().all(|byte| b' ' <= *byte && *byte != 127)
 }
 
-/// No space at an end, and no two in a row.
+/// Whether no space is at an end, and no two are in a row.
 fn has_single_spaces(bytes: &[u8]) -> bool
     ensures { result ≡ has_single_spaces bytes.now }
 {
@@ -59,8 +60,8 @@ fn has_single_spaces(bytes: &[u8]) -> bool
         .all(|part| !part.is_empty())
 }
 
-/// A name: 1 to 80 bytes of UTF-8 without control characters, whose words are parted by one space
-/// each.
+/// Whether it is a name: 1 to 80 bytes of UTF-8 without control characters, whose words are parted
+/// by one space each.
 pub fn is_name(bytes: &[u8]) -> bool
     ensures { result ≡ is_name bytes.now }
 {
@@ -83,7 +84,7 @@ fn below_of(bytes: &[u8]) -> Option<(u8, u32)>
     Some((attempts as u8, below as u32))
 }
 
-/// A cutoff, or none.
+/// A cutoff, or `-` for none.
 pub fn cutoff_of(bytes: &[u8]) -> Option<Option<(u8, u32)>>
     ensures { result ≡ cutoff_of bytes.now }
 {
@@ -97,7 +98,7 @@ pub fn cutoff_of(bytes: &[u8]) -> Option<Option<(u8, u32)>>
     }
 }
 
-/// A time limit of 1 to 360,000 hundredths of a second, or none.
+/// A time limit of 1 to 360,000 hundredths of a second, or `-` for none.
 pub fn limit_of(bytes: &[u8]) -> Option<Option<u32>>
     ensures { result ≡ limit_of bytes.now }
 {
@@ -123,7 +124,7 @@ fn percent_of(bytes: &[u8]) -> Option<Advance>
     }
 }
 
-/// Who advances.
+/// Who advances: `final`, `top:` and a number of 1 to 999, or `pct:` and a percentage of 1 to 75.
 pub fn advance_of(bytes: &[u8]) -> Option<Advance>
     ensures { result ≡ advance_of bytes.now }
 {

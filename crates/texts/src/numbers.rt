@@ -6,13 +6,14 @@ ghost use Rattle.std.specs.List.{list_all};
 ghost use Rattle.texts.specs.Numerals.{is_numeral, digits_value};
 ghost use Rattle.texts.specs.Fields.{number_between};
 
+/// Whether all bytes are decimal digits.
 fn is_digits(bytes: &[u8]) -> bool
     ensures { result ≡ list_all is_ascii_digit bytes.now }
 {
     bytes.iter().all(|byte| byte.is_ascii_digit())
 }
 
-/// One to nineteen decimal digits, with no zero in front of another.
+/// Whether there are one to nineteen decimal digits, with no zero in front of another.
 fn is_numeral(bytes: &[u8]) -> bool
     ensures { result ≡ is_numeral bytes.now }
 {
@@ -30,7 +31,7 @@ fn digits_value(bytes: &[u8]) -> u64
 {
     let mut value: u64 = 0;
     for byte in bytes {
-        value = 10 * value + u64::from(*byte - 48);
+        value = 10 * value + u64::from(*byte - b'0');
     }
     value
 }

@@ -270,25 +270,31 @@ fn push_set_edition(out: &mut Vec<u8>, edition: u8) -> Result<(), NoMemory>
     push_number(out, u32::from(edition))
 }
 
+fn push_command(alloc: Global, out: &mut Vec<u8>, command: &Command) -> Result<(), NoMemory>
+    ensures { OnOk result (out.new.items ≡ out.old.items ++ spelling command.now) }
+{
+    match command {
+        Command::Register { number, name } => push_register(out, *number, name.as_bytes()),
+        Command::Open { id, settings } => push_open(out, *id, *settings),
+        Command::Enter { event, number } => push_enter(out, *event, *number),
+        Command::Scramble { id, attempt, moves } => {
+            push_scramble(alloc, out, *id, *attempt, moves.as_slice())
+        }
+        Command::Attempt(entry) => push_attempt(alloc, out, entry),
+        Command::Correct(entry) => push_correct(alloc, out, entry),
+        Command::Strike { id, number } => push_strike(out, *id, *number),
+        Command::SetAdvance { id, advance } => push_set_advance(out, *id, *advance),
+        Command::Close { id } => push_close(out, *id),
+        Command::SetEdition { edition } => push_set_edition(out, *edition),
+    }
+}
+
 /// The spelling of a command. `read` takes it where the fields are in their ranges and it has at
 /// most 600 bytes, which only moves can exceed. It is `NoMemory` only where a growth was refused.
 pub fn print(alloc: Global, command: &Command) -> Result<Vec<u8>, NoMemory>
     ensures { IfOk result (λ text. text.items ≡ spelling command.now) }
 {
-    let mut out = Vec::new(alloc);
-    match command {
-        Command::Register { number, name } => push_register(&mut out, *number, name.as_bytes())?,
-        Command::Open { id, settings } => push_open(&mut out, *id, *settings)?,
-        Command::Enter { event, number } => push_enter(&mut out, *event, *number)?,
-        Command::Scramble { id, attempt, moves } => {
-            push_scramble(alloc, &mut out, *id, *attempt, moves.as_slice())?
-        }
-        Command::Attempt(entry) => push_attempt(alloc, &mut out, entry)?,
-        Command::Correct(entry) => push_correct(alloc, &mut out, entry)?,
-        Command::Strike { id, number } => push_strike(&mut out, *id, *number)?,
-        Command::SetAdvance { id, advance } => push_set_advance(&mut out, *id, *advance)?,
-        Command::Close { id } => push_close(&mut out, *id)?,
-        Command::SetEdition { edition } => push_set_edition(&mut out, *edition)?,
-    }
-    Ok(out)
+    let mut text = Vec::new(alloc);
+    push_command(alloc, &mut text, command)?;
+    Ok(text)
 }

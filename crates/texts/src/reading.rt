@@ -3,7 +3,7 @@
 ghost use Rattle.std.specs.Prelude.{◌≡◌, ◌<◌, ◌≤◌, ◌↔◌, false, nat_lt, length, option_map, ok_or, Option, Some, None, IfOk};
 ghost use Rattle.texts.specs.Spelling.{IsFit, spelling};
 ghost use Rattle.texts.specs.Fields.{cut};
-ghost use Rattle.texts.specs.Reading.{Gives, moves_field, is_word, Reads, ReadsAs, front, no_field, register_of, open_of, enter_of, scramble_of, attempt_of, correct_of, strike_of, set_advance_of, close_of, set_edition_of, by_word, command_of, ReadsWhatIsSpelled, SpellsWhatIsRead, SpellsOneCommand, SpellsShort};
+ghost use Rattle.texts.specs.Reading.{Gives, moves_field, is_word, Reads, ReadsFields, ReadsAs, GivesEntry, front, no_field, register_of, round_of, open_of, enter_of, scramble_of, entry_of, attempt_of, correct_of, strike_of, set_advance_of, close_of, set_edition_of, by_word, command_of, ReadsWhatIsSpelled, SpellsWhatIsRead, SpellsOneCommand, SpellsShort};
 ghost use Rattle.texts.specs.declared.reading.CommandFault.TheVariants.{NoMemory as OutOfMemory, BadField as BadFieldAt};
 
 use crate::command::{AttemptEntry, Command, Name, RoundId, Settings};
@@ -17,7 +17,7 @@ use std::alloc::{AllocError, Global};
 /// Why a text is no command.
 #[derive(Clone, Copy, Debug, PartialEq, Eq)]
 pub enum CommandFault {
-    /// Above 600 bytes.
+    /// The text has more than 600 bytes.
     TooLong,
     /// What stands before the first space is no word of a command.
     NotACommand,
@@ -86,15 +86,29 @@ fn register_of(alloc: Global, left: Option<&[u8]>) -> Result<Command, CommandFau
     })
 }
 
-/// `OPEN`: event, round, format, cutoff, limit, advance.
-#[tactic(auto, unfolding(crate::specs::Reading::open_of))]
-fn open_of(left: Option<&[u8]>) -> Result<Command, CommandFault>
-    ensures { Gives 0 result (open_of (option_map (λ s. s.now) left.entry)) }
+/// The event and the round that stand in front, and what is left behind them.
+#[tactic(auto, unfolding(crate::specs::Reading::round_of))]
+fn round_of(left: Option<&[u8]>) -> Result<(RoundId, Option<&[u8]>), CommandFault>
+    ensures { ReadsFields (λ x. (x.0, option_map (λ s. s.now) x.1)) result
+        (round_of (option_map (λ s. s.now) left.entry)) }
 {
     let (bytes, left) = field(1, left)?;
     let event = Event::from_name(bytes).ok_or(CommandFault::BadField { index: 1 })?;
     let (bytes, left) = field(2, left)?;
     let round = number_between(1, LAST_ROUND, bytes).ok_or(CommandFault::BadField { index: 2 })?;
+    let id = RoundId {
+        event,
+        round: round as u8,
+    };
+    Ok((id, left))
+}
+
+/// `OPEN`: event, round, format, cutoff, limit, advance.
+#[tactic(auto, unfolding(crate::specs::Reading::open_of))]
+fn open_of(left: Option<&[u8]>) -> Result<Command, CommandFault>
+    ensures { Gives 0 result (open_of (option_map (λ s. s.now) left.entry)) }
+{
+    let (id, left) = round_of(left)?;
     let (bytes, left) = field(3, left)?;
     let format = Format::from_name(bytes).ok_or(CommandFault::BadField { index: 3 })?;
     let (bytes, left) = field(4, left)?;
@@ -105,10 +119,7 @@ fn open_of(left: Option<&[u8]>) -> Result<Command, CommandFault>
     let advance = advance_of(bytes).ok_or(CommandFault::BadField { index: 6 })?;
     no_field(7, left)?;
     Ok(Command::Open {
-        id: RoundId {
-            event,
-            round: round as u8,
-        },
+        id,
         settings: Settings {
             format,
             cutoff,
@@ -139,74 +150,52 @@ fn enter_of(left: Option<&[u8]>) -> Result<Command, CommandFault>
 fn scramble_of(alloc: Global, left: Option<&[u8]>) -> Result<Command, CommandFault>
     ensures { Gives 4 result (scramble_of (option_map (λ s. s.now) left.entry)) }
 {
-    let (bytes, left) = field(1, left)?;
-    let event = Event::from_name(bytes).ok_or(CommandFault::BadField { index: 1 })?;
-    let (bytes, left) = field(2, left)?;
-    let round = number_between(1, LAST_ROUND, bytes).ok_or(CommandFault::BadField { index: 2 })?;
+    let (id, left) = round_of(left)?;
     let (bytes, left) = field(3, left)?;
     let attempt = number_between(1, 5, bytes).ok_or(CommandFault::BadField { index: 3 })?;
     let bytes = last_field(4, left)?;
     let moves = moves_of(alloc, bytes)?.ok_or(CommandFault::BadField { index: 4 })?;
     Ok(Command::Scramble {
-        id: RoundId {
-            event,
-            round: round as u8,
-        },
+        id,
         attempt: attempt as u8,
         moves,
     })
 }
 
-/// `ATT`: event, round, attempt, number, outcome.
+/// The fields of an attempt: event, round, attempt, number, outcome.
+#[tactic(auto, unfolding(crate::specs::Reading::entry_of))]
+fn entry_of(alloc: Global, left: Option<&[u8]>) -> Result<AttemptEntry, CommandFault>
+    ensures { GivesEntry result (entry_of (option_map (λ s. s.now) left.entry)) }
+{
+    let (id, left) = round_of(left)?;
+    let (bytes, left) = field(3, left)?;
+    let attempt = number_between(1, 5, bytes).ok_or(CommandFault::BadField { index: 3 })?;
+    let (bytes, left) = field(4, left)?;
+    let number = number_between(1, 9999, bytes).ok_or(CommandFault::BadField { index: 4 })?;
+    let bytes = last_field(5, left)?;
+    let outcome = entered_of(alloc, bytes)?.ok_or(CommandFault::BadField { index: 5 })?;
+    Ok(AttemptEntry {
+        id,
+        attempt: attempt as u8,
+        number: number as u16,
+        outcome,
+    })
+}
+
+/// `ATT`: the fields of an attempt.
 #[tactic(auto, unfolding(crate::specs::Reading::attempt_of))]
 fn attempt_of(alloc: Global, left: Option<&[u8]>) -> Result<Command, CommandFault>
     ensures { Gives 5 result (attempt_of (option_map (λ s. s.now) left.entry)) }
 {
-    let (bytes, left) = field(1, left)?;
-    let event = Event::from_name(bytes).ok_or(CommandFault::BadField { index: 1 })?;
-    let (bytes, left) = field(2, left)?;
-    let round = number_between(1, LAST_ROUND, bytes).ok_or(CommandFault::BadField { index: 2 })?;
-    let (bytes, left) = field(3, left)?;
-    let attempt = number_between(1, 5, bytes).ok_or(CommandFault::BadField { index: 3 })?;
-    let (bytes, left) = field(4, left)?;
-    let number = number_between(1, 9999, bytes).ok_or(CommandFault::BadField { index: 4 })?;
-    let bytes = last_field(5, left)?;
-    let outcome = entered_of(alloc, bytes)?.ok_or(CommandFault::BadField { index: 5 })?;
-    Ok(Command::Attempt(AttemptEntry {
-        id: RoundId {
-            event,
-            round: round as u8,
-        },
-        attempt: attempt as u8,
-        number: number as u16,
-        outcome,
-    }))
+    Ok(Command::Attempt(entry_of(alloc, left)?))
 }
 
-/// `COR`: event, round, attempt, number, outcome.
+/// `COR`: the fields of an attempt.
 #[tactic(auto, unfolding(crate::specs::Reading::correct_of))]
 fn correct_of(alloc: Global, left: Option<&[u8]>) -> Result<Command, CommandFault>
     ensures { Gives 5 result (correct_of (option_map (λ s. s.now) left.entry)) }
 {
-    let (bytes, left) = field(1, left)?;
-    let event = Event::from_name(bytes).ok_or(CommandFault::BadField { index: 1 })?;
-    let (bytes, left) = field(2, left)?;
-    let round = number_between(1, LAST_ROUND, bytes).ok_or(CommandFault::BadField { index: 2 })?;
-    let (bytes, left) = field(3, left)?;
-    let attempt = number_between(1, 5, bytes).ok_or(CommandFault::BadField { index: 3 })?;
-    let (bytes, left) = field(4, left)?;
-    let number = number_between(1, 9999, bytes).ok_or(CommandFault::BadField { index: 4 })?;
-    let bytes = last_field(5, left)?;
-    let outcome = entered_of(alloc, bytes)?.ok_or(CommandFault::BadField { index: 5 })?;
-    Ok(Command::Correct(AttemptEntry {
-        id: RoundId {
-            event,
-            round: round as u8,
-        },
-        attempt: attempt as u8,
-        number: number as u16,
-        outcome,
-    }))
+    Ok(Command::Correct(entry_of(alloc, left)?))
 }
 
 /// `STR`: event, round, number.
@@ -214,18 +203,12 @@ fn correct_of(alloc: Global, left: Option<&[u8]>) -> Result<Command, CommandFaul
 fn strike_of(left: Option<&[u8]>) -> Result<Command, CommandFault>
     ensures { Gives 0 result (strike_of (option_map (λ s. s.now) left.entry)) }
 {
-    let (bytes, left) = field(1, left)?;
-    let event = Event::from_name(bytes).ok_or(CommandFault::BadField { index: 1 })?;
-    let (bytes, left) = field(2, left)?;
-    let round = number_between(1, LAST_ROUND, bytes).ok_or(CommandFault::BadField { index: 2 })?;
+    let (id, left) = round_of(left)?;
     let (bytes, left) = field(3, left)?;
     let number = number_between(1, 9999, bytes).ok_or(CommandFault::BadField { index: 3 })?;
     no_field(4, left)?;
     Ok(Command::Strike {
-        id: RoundId {
-            event,
-            round: round as u8,
-        },
+        id,
         number: number as u16,
     })
 }
@@ -235,20 +218,11 @@ fn strike_of(left: Option<&[u8]>) -> Result<Command, CommandFault>
 fn set_advance_of(left: Option<&[u8]>) -> Result<Command, CommandFault>
     ensures { Gives 0 result (set_advance_of (option_map (λ s. s.now) left.entry)) }
 {
-    let (bytes, left) = field(1, left)?;
-    let event = Event::from_name(bytes).ok_or(CommandFault::BadField { index: 1 })?;
-    let (bytes, left) = field(2, left)?;
-    let round = number_between(1, LAST_ROUND, bytes).ok_or(CommandFault::BadField { index: 2 })?;
+    let (id, left) = round_of(left)?;
     let (bytes, left) = field(3, left)?;
     let advance = advance_of(bytes).ok_or(CommandFault::BadField { index: 3 })?;
     no_field(4, left)?;
-    Ok(Command::SetAdvance {
-        id: RoundId {
-            event,
-            round: round as u8,
-        },
-        advance,
-    })
+    Ok(Command::SetAdvance { id, advance })
 }
 
 /// `CLOSE`: event, round.
@@ -256,17 +230,9 @@ fn set_advance_of(left: Option<&[u8]>) -> Result<Command, CommandFault>
 fn close_of(left: Option<&[u8]>) -> Result<Command, CommandFault>
     ensures { Gives 0 result (close_of (option_map (λ s. s.now) left.entry)) }
 {
-    let (bytes, left) = field(1, left)?;
-    let event = Event::from_name(bytes).ok_or(CommandFault::BadField { index: 1 })?;
-    let (bytes, left) = field(2, left)?;
-    let round = number_between(1, LAST_ROUND, bytes).ok_or(CommandFault::BadField { index: 2 })?;
+    let (id, left) = round_of(left)?;
     no_field(3, left)?;
-    Ok(Command::Close {
-        id: RoundId {
-            event,
-            round: round as u8,
-        },
-    })
+    Ok(Command::Close { id })
 }
 
 /// `EDITION`: the edition.
@@ -314,7 +280,7 @@ fn command_of_word(alloc: Global, word: &[u8], left: Option<&[u8]>) -> Result<Co
     }
 }
 
-/// Above 600 bytes.
+/// Whether a text has more than 600 bytes.
 fn is_too_long(text: &[u8]) -> bool
     ensures { result ≡ nat_lt 600 (length text.now) }
 {
