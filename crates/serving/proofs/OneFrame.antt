@@ -1,5 +1,5 @@
 -- A frame: its request, the answer, and how it ends the connection.
-use Rattle.std.proofs.Common.{◌≡◌, refl, sym, ap, subst, ◌∙◌, arith, ℕ, ◌^◌, ◌<◌, ◌≤◌, List, [], ◌∷◌, ◌++◌, Option, None, Some}
+use Rattle.std.proofs.Common.{◌≡◌, ◌≢◌, refl, sym, ap, subst, ◌∙◌, arith, ℕ, ◌^◌, ◌<◌, ◌≤◌, List, [], ◌∷◌, ◌++◌, Option, None, Some}
 use Rattle.std.proofs.lemmas.List.{append-nil}
 use Rattle.std.specs.Io.KnownBytes.{Appends}
 use Rattle.store.specs.declared.home.Home.{Home}
@@ -17,7 +17,7 @@ use Rattle.serving.specs.model.Writing.{WriteEnds}
 use Rattle.serving.specs.Connection.{FailsIn, serve_frame, close_of, answer_frame, framed_answer, answer_bytes, sides}
 use Rattle.serving.specs.model.Requests.{Answers, AnswersSome, AnswersPart, FailsToAnswer, ServesOne}
 use Rattle.serving.specs.Nodes.{Seen, Fate}
-use Rattle.serving.specs.Serving.{Act, served}
+use Rattle.serving.specs.Serving.{Act, served, answer}
 use Rattle.serving.specs.declared.ends.Close.{Close}
 use Rattle.serving.specs.declared.ends.FrameFault.{FrameFault}
 use Rattle.serving.specs.declared.ends.FrameFault.TheVariants as fault
@@ -68,25 +68,32 @@ pub one_frame_fails : (v : Version) (home : Home) (w : What) (why : FrameFault) 
 one_frame_fails v home w why o n h =
     subst (λ z. WriteEnds why o n z) (sym (append-nil (spelling (answer_frame v home w)))) h
 
+answer_is_due : (v : Version) (home : Home) (w : Option What) → w ≢ None → framed_answer v home w ≢ []
+answer_is_due v home None some none = some refl
+answer_is_due v home (Some w) some none = absurd cc
+
 -- the answer could not be written whole
 pub answer_fails : {V : Type 0} {way : Way V} (home : Home) (f : Frame) (r : Request) (x y : Seen) (w : Option What)
     (why : FrameFault) (o n : Option (List ℕ)) (a b : Outside way)
-    → r ≡ request home f → AnswersSome home x y r w a b
+    → r ≡ request home f → AnswersSome home x y r w a b → w ≢ None
     → WriteEnds why o n (answer_bytes (framed_answer f.version home w))
     → (fates : List Fate)
     × FailsIn why home (sides x o a) (sides y n b) (record { frame = f; fates = fates })
 unfolding serve_frame
-answer_fails home f r x y w fault.Write o n a b is h part =
+answer_fails home f r x y w fault.Write o n a b is h some part =
     let g = subst (λ z. Answers home x y h.0 z w a b) is h.1 in (
       h.0,
       record {
+        due =
+            answer_is_due f.version home (answer home x h.0 (request home f))
+            (λ none. some (g.answer_is ∙ none));
         answered =
             subst (λ z. AppendsPart o n (answer_bytes (framed_answer f.version home z))) g.answer_is part;
         made = g.made;
         node = g.node;
       },
     )
-answer_fails home f r x y w fault.NoMemory o n a b is h none =
+answer_fails home f r x y w fault.NoMemory o n a b is h some none =
     let g = subst (λ z. Answers home x y h.0 z w a b) is h.1 in (
       h.0,
       (

@@ -1,5 +1,5 @@
 -- One frame after the other, and how a connection ends.
-use Rattle.std.specs.Prelude.{◌≡◌, ◌⊎◌, ◌≤◌, ◌<◌, ℕ, List, [], ◌∷◌, ◌++◌, length, Option, None}
+use Rattle.std.specs.Prelude.{◌≡◌, ◌≢◌, ◌⊎◌, ◌≤◌, ◌<◌, ℕ, List, [], ◌∷◌, ◌++◌, length, Option, None}
 use Rattle.std.specs.Prelude.{Some}
 use Rattle.std.specs.List.{flat_map, AllByRecursion}
 use Rattle.std.specs.Io.KnownBytes.{Appends, Consumes, IsAtEnd}
@@ -104,9 +104,10 @@ sides x written outside = record { seen = x; written = written; outside = outsid
 
 -- ---- one frame
 
--- all was done for it but that its answer was not written whole
+-- it has an answer, and all was done for it but that this was not written whole
 pub record BreaksOff {V : Type 0} {way : Way V} (home : Home) (a b : Sides way)
     (one : Begun) : Type 0 where
+  pub due : (serve_frame home a.seen one).answers ≢ []
   pub answered : AppendsPart a.written b.written
       (answer_bytes (serve_frame home a.seen one).answers)
   pub made : Makes home.hall a.outside b.outside (serve_frame home a.seen one).acts

@@ -1,7 +1,7 @@
 //! Writing answers.
 
 ghost use Rattle.std.specs.Option.{ForSome};
-ghost use Rattle.std.specs.Prelude.{◌≤◌, OnOk, OnErr, IfErr};
+ghost use Rattle.std.specs.Prelude.{◌≤◌, ◌≢◌, None, OnOk, OnErr, IfErr};
 ghost use Rattle.learner.specs.Steps.{IsDesk};
 ghost use Rattle.serving.specs.Answering.{IsAnswer};
 ghost use Rattle.serving.specs.Connection.{answer_frame, answer_bytes, framed_answer};
@@ -64,8 +64,8 @@ fn write_what<W: Write>(
     write_frame(alloc, &answer, writer)
 }
 
-/// Writes the answer, where there is one. Where a write fails, a front part of it is written, and
-/// where memory is refused nothing is.
+/// Writes the answer. Where a write fails, a front part of it is written, and where memory is
+/// refused nothing is. Where there is no answer, nothing fails.
 pub fn write_answer<W: Write>(
     alloc: Global,
     version: Version,
@@ -83,6 +83,7 @@ pub fn write_answer<W: Write>(
         (λ e.
         WriteEnds e (W.contents writer.old) (W.contents writer.new)
         (answer_bytes (framed_answer version home answer))) }
+    ensures due { OnErr result (answer ≢ None) }
 {
     match answer {
         Some(what) => write_what(alloc, version, home, what, writer),

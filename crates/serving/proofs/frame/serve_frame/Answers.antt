@@ -21,4 +21,4 @@ pub returns-in-Err-clause-err : goal.returns-in-Err-clause-err
 returns-in-Err-clause-err g c =
     answer_fails c.args.home c.args.frame c.request_of-request.result _ _ c.in-Ok.answer
     c.in-Err.fault _ _ _ _ c.request_of-request.ensures.request c.in-Ok.ensures.ok
-    c.in-Err.ensures.err
+    c.in-Err.ensures.due c.in-Err.ensures.err
