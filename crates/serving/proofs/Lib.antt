@@ -11,6 +11,7 @@ pub mod Parts
 pub mod Started
 pub mod Answered
 pub mod Entering
+pub mod Said
 pub mod Delivered
 pub mod Told
 pub mod OneFrame

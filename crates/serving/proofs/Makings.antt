@@ -1,5 +1,6 @@
 -- Calls and pushes that are made, one after the other.
 use Rattle.std.proofs.Common.{◌≡◌, refl, sym, ap, subst, ◌∙◌, ℕ, List, [], ◌∷◌, ◌++◌, map, Option}
+use Rattle.std.proofs.lemmas.List.{append-nil}
 use Rattle.acceptor.specs.declared.message.Message.{Message}
 use Rattle.learner.specs.declared.event.Event.{Event}
 use Rattle.store.specs.declared.home.Home.{Home}
@@ -58,6 +59,11 @@ Makes-trans {V} {way} hall a b c xs ys h k = record {
       (pushes_of way.wire hall ys) h.pushes
       k.pushes);
 }
+
+pub makes_then : {V : Type 0} {way : Way V} (hall : ℕ) (xs ys : List Act) (a b c : Outside way)
+    → Makes hall a b xs → Makes hall b c ys → Makes hall a c ((xs ++ []) ++ ys)
+makes_then hall xs ys a b c h k =
+    subst (λ z. Makes hall a c (z ++ ys)) (sym (append-nil xs)) (Makes-trans hall a b c xs ys h k)
 
 -- pushes leave the node as it is
 pub Makes-pushes : {V : Type 0} {way : Way V} (hall : ℕ) (a : Outside way) (u : V)

@@ -11,7 +11,7 @@ use Rattle.serving.specs.declared.calling.Answer.{Answer}
 use Rattle.store.specs.declared.home.Home.{Home}
 use Rattle.serving.specs.Nodes.{Seen, Fate, reply}
 use Rattle.serving.specs.model.Pushing.{PushesPart}
-use Rattle.serving.specs.model.Reaching.{Place, at, service, Reaches, did_call, OnlyAdds, DoesPart}
+use Rattle.serving.specs.model.Reaching.{Place, at, service, Reaches, did_call, OnlyAdds, Did, DoesPart}
 use Rattle.serving.specs.Serving.{Act, Called, Pushed, Service, pushes_of, call, settle_by, deliver, push_all, in_front, from_own, to_others, waiting_after}
 use Rattle.serving.proofs.Additions.{adds_both, adds_deliver, adds_settle}
 use Rattle.serving.proofs.Makings.{Makes-nil, Makes-trans, Makes-pushes, Makes-call}
@@ -83,6 +83,39 @@ part_of home all g rest first mid second xs ys past more shown a c h k adds is m
     made = made;
   },
 )
+
+-- a front part of the first thing is one of both
+pub part_first : {V : Type 0} {way : Way V} (home : Home) (f g : Service → Service)
+    (first : Place) (shown : Seen) (a b : Outside way)
+    → OnlyAdds g → DoesPart home f first shown a b → DoesPart home (λ s. g (f s)) first shown a b
+part_first home f g first shown a b adds d = (
+  d.0,
+  d.1,
+  λ s. g (d.2 s),
+  d.3,
+  record {
+    reaches = record {
+      steps = λ done later. ap g (d.4.reaches.steps done later);
+      calls = d.4.reaches.calls;
+    };
+    adds = adds_both d.2 g d.4.adds adds;
+    last = d.4.last;
+    made = d.4.made;
+  },
+)
+
+-- all of the first thing was done, and a front part of the second
+pub part_both : {V : Type 0} {way : Way V} (home : Home) (f g : Service → Service)
+    (first second : Place) (xs : List Act) (past : List Fate) (shown : Seen) (a b c : Outside way)
+    → Did home f first second xs past a b → DoesPart home g second shown b c
+    → DoesPart home (λ s. g (f s)) first shown a c
+part_both home f g first second xs past shown a b c d e =
+    part_of home (λ s. g (f s)) g e.2 first second e.3 xs e.0 past e.1 shown a c
+    (record {
+      steps = λ done later. ap g (d.reaches.steps done later);
+      calls = d.reaches.calls;
+    })
+    e.4.reaches e.4.adds e.4.last (Makes-trans home.hall a b c xs e.0 d.made e.4.made)
 
 pub part_front : {V : Type 0} {way : Way V} (home : Home) (all : Service → Service) (first : Place) (left k : ℕ) (x : Seen)
     (ms : List Message) (xs : List Act) (past : List Fate) (a : Outside way) (u : V)

@@ -36,6 +36,32 @@ goes_on home f g h a b c xs ys past more r s = record {
       ∙ r.calls (ys ++ acts) (more ++ later) ∙ s.calls acts later;
 }
 
+-- one thing was done, and then the other
+pub did_both : {V : Type 0} {way : Way V} (home : Home) (f g : Service → Service)
+    (first second third : Place) (xs ys : List Act) (past more : List Fate) (a b c : Outside way)
+    → Did home f first second xs past a b → Did home g second third ys more b c
+    → Did home (λ s. g (f s)) first third (xs ++ ys) (past ++ more) a c
+did_both home f g first second third xs ys past more a b c d e = record {
+  reaches =
+      goes_on home (λ s. g (f s)) g (λ s. s) first second third xs ys past more
+      (record {
+        steps = λ done later. ap g (d.reaches.steps done later);
+        calls = d.reaches.calls;
+      })
+      e.reaches;
+  made = Makes-trans home.hall a b c xs ys d.made e.made;
+}
+
+pub does_both : {V : Type 0} {way : Way V} (home : Home) (f g : Service → Service)
+    (first second third : Place) (a b c : Outside way)
+    → Does home f first second a b → Does home g second third b c
+    → Does home (λ s. g (f s)) first third a c
+does_both home f g first second third a b c d e = (
+  d.0 ++ e.0,
+  d.1 ++ e.1,
+  did_both home f g first second third d.0 e.0 d.1 e.1 a b c d.2 e.2,
+)
+
 -- a call
 pub calls_once : (home : Home) (g : Service → Service) (event : Event) (fate : Fate) (x y : Seen)
     (ms more : List Message) (left : ℕ) (answer : Answer)

@@ -1,19 +1,20 @@
 -- Start where the log grew.
-use Rattle.std.proofs.Common.{◌≡◌, refl, sym, ap, subst, ◌∙◌, ℕ, Bool, true, false, cond, List, [], ◌++◌, Option}
+use Rattle.std.proofs.Common.{◌≡◌, refl, sym, ap, subst, ◌∙◌, ℕ, Bool, true, false, cond, List, [], ◌++◌, length}
 use Rattle.std.proofs.lemmas.List.{append-nil}
-use Rattle.acceptor.specs.declared.entry.Entry.{Entry}
 use Rattle.learner.specs.declared.event.Event.{Event}
 use Rattle.learner.specs.declared.event.Event.TheVariants.{Start}
-use Rattle.serving.specs.Making.{Way, Outside, outside_of, Makes}
+use Rattle.serving.specs.Making.{Way, Outside}
 use Rattle.serving.specs.declared.calling.Answer.{Answer}
 use Rattle.store.specs.declared.home.Home.{Home}
 use Rattle.serving.specs.Nodes.{Seen, Fate}
-use Rattle.serving.specs.model.Reaching.{Place, at, service, Reaches, OnlyAdds, DoesPart, DoesCall, DoesTake}
-use Rattle.serving.specs.Serving.{Act, Service, pushes_of, call, settle_by, settle, wants_start, start_if_grown, take}
+use Rattle.serving.specs.model.Reaching.{Place, at, service, Reaches, OnlyAdds, Did, Does, DoesPart, DoesCall, DoesTake}
+use Rattle.serving.specs.Serving.{Act, Service, call, settle_by, settle, grew, start_if_grown, take}
 use Rattle.serving.proofs.Additions.{adds_both, adds_call, adds_settle}
-use Rattle.serving.proofs.Makings.{Makes-trans}
-use Rattle.serving.proofs.Reached.{goes_on}
-use Rattle.serving.proofs.Parts.{part_of}
+use Rattle.serving.proofs.Makings.{Makes-nil}
+use Rattle.serving.proofs.Reached.{goes_on, did_both}
+use Rattle.serving.proofs.Parts.{part_first, part_both}
+
+-- ---- Start, where it is due
 
 adds_if : (home : Home) (b : Bool) (s : Service)
     → (more : List Act) × ((cond b (settle home (call home Start s)) s).done ≡ s.done ++ more)
@@ -24,27 +25,15 @@ adds_if home true s =
     (adds_settle home (call home Start s).left) s
 adds_if home false s = ([], sym (append-nil s.done))
 
-pub adds_start : (home : Home) (before : List Entry) → OnlyAdds (start_if_grown home before)
+adds_start : (home : Home) (before : ℕ) → OnlyAdds (start_if_grown home before)
 unfolding start_if_grown
-adds_start home before s = adds_if home (wants_start before s.seen) s
+adds_start home before s = adds_if home (grew before s.seen) s
 
--- after an event and all that comes of it Start may be due
-take_first : (home : Home) (event : Event) (x : Seen) (rest : Service → Service) (second : Place)
-    (xs : List Act) (past : List Fate)
-    → Reaches home (λ s. settle_by home 16 (call home event s)) (at x [] 16) rest second xs past
-    → Reaches home (take home event) (at x [] 16) (λ s. start_if_grown home x.desk.log (rest s))
-    second xs past
-unfolding take call
-take_first home event x rest second xs past r = record {
-  steps = λ done later. ap (start_if_grown home x.desk.log) (r.steps done later);
-  calls = r.calls;
-}
-
-pub start_due : (home : Home) (before : List Entry) (y : Seen) (left : ℕ) → wants_start before y ≡ true
+due : (home : Home) (before : ℕ) (y : Seen) (left : ℕ) → grew before y ≡ true
     → Reaches home (start_if_grown home before) (at y [] left)
     (λ s. settle_by home left (call home Start s)) (at y [] left) [] []
 unfolding start_if_grown call
-start_due home before y left h = record {
+due home before y left h = record {
   steps =
       λ done later.
       ap
@@ -57,11 +46,10 @@ start_due home before y left h = record {
   calls = λ more later. refl;
 }
 
-pub start_not_due : (home : Home) (before : List Entry) (y : Seen) (left : ℕ)
-    → wants_start before y ≡ false
+not_due : (home : Home) (before : ℕ) (y : Seen) (left : ℕ) → grew before y ≡ false
     → Reaches home (start_if_grown home before) (at y [] left) (λ s. s) (at y [] left) [] []
 unfolding start_if_grown call
-start_not_due home before y left h = record {
+not_due home before y left h = record {
   steps =
       λ done later.
       ap
@@ -73,88 +61,204 @@ start_not_due home before y left h = record {
   calls = λ more later. refl;
 }
 
--- memory was refused in the event
-pub take_part : {V : Type 0} {way : Way V} (home : Home) (event : Event) (x shown : Seen) (a b : Outside way)
-    → DoesPart home (λ s. settle_by home 16 (call home event s)) (at x [] 16) shown a b
-    → DoesPart home (take home event) (at x [] 16) shown a b
-take_part home event x shown a b d = (
+-- it was given, with all that comes of it
+pub starts : {V : Type 0} {way : Way V} (home : Home) (before : ℕ) (answer : Answer) (y z : Seen)
+    (left last : ℕ) (acts : List Act) (past : List Fate) (a b : Outside way)
+    → grew before y ≡ true → DoesCall home left last Start answer y z acts past a b
+    → Does home (start_if_grown home before) (at y [] left) (at z [] last) a b
+starts home before answer y z left last acts past a b h k = (
+  acts,
+  past,
+  record {
+    reaches =
+        goes_on home (start_if_grown home before) (λ s. settle_by home left (call home Start s))
+        (λ s. s) (at y [] left) (at y [] left) (at z [] last) [] acts [] past
+        (due home before y left h) k.did.reaches;
+    made = k.did.made;
+  },
+)
+
+-- it was not
+pub starts_not : {V : Type 0} {way : Way V} (home : Home) (before : ℕ) (y : Seen) (left : ℕ)
+    (a : Outside way)
+    → grew before y ≡ false
+    → Does home (start_if_grown home before) (at y [] left) (at y [] left) a a
+starts_not home before y left a h = (
+  [],
+  [],
+  record { reaches = not_due home before y left h; made = Makes-nil home.hall a },
+)
+
+-- memory was refused in it
+pub starts_part : {V : Type 0} {way : Way V} (home : Home) (before : ℕ) (y shown : Seen)
+    (left : ℕ) (a b : Outside way)
+    → grew before y ≡ true
+    → DoesPart home (λ s. settle_by home left (call home Start s)) (at y [] left) shown a b
+    → DoesPart home (start_if_grown home before) (at y [] left) shown a b
+starts_part home before y shown left a b h d = (
   d.0,
   d.1,
-  λ s. start_if_grown home x.desk.log (d.2 s),
+  d.2,
   d.3,
   record {
-    reaches = take_first home event x d.2 d.3 d.0 d.1 d.4.reaches;
-    adds = adds_both d.2 (start_if_grown home x.desk.log) d.4.adds (adds_start home x.desk.log);
+    reaches =
+        goes_on home (start_if_grown home before) (λ s. settle_by home left (call home Start s))
+        d.2 (at y [] left) (at y [] left) d.3 [] d.0 [] d.1 (due home before y left h)
+        d.4.reaches;
+    adds = d.4.adds;
     last = d.4.last;
     made = d.4.made;
   },
 )
 
-take_then : (home : Home) (event : Event) (x y : Seen) (left : ℕ) (xs : List Act) (past : List Fate)
-    → wants_start x.desk.log y ≡ true
-    → Reaches home (λ s. settle_by home 16 (call home event s)) (at x [] 16) (λ s. s) (at y [] left)
-    xs past
-    → Reaches home (take home event) (at x [] 16) (λ s. settle_by home left (call home Start s))
-    (at y [] left) (xs ++ []) (past ++ [])
-take_then home event x y left xs past h r =
-    goes_on home (take home event) (start_if_grown home x.desk.log)
-    (λ s. settle_by home left (call home Start s)) (at x [] 16) (at y [] left) (at y [] left) xs []
-    past []
-    (take_first home event x (λ s. s) (at y [] left) xs past r) (start_due home x.desk.log y left h)
+-- ---- behind what is done for a frame
 
-pub makes_then : {V : Type 0} {way : Way V} (hall : ℕ) (xs ys : List Act) (a b c : Outside way)
-    → Makes hall a b xs → Makes hall b c ys → Makes hall a c ((xs ++ []) ++ ys)
-makes_then hall xs ys a b c h k =
-    subst (λ z. Makes hall a c (z ++ ys)) (sym (append-nil xs)) (Makes-trans hall a b c xs ys h k)
+abbrev pub then_start : Home → (Service → Service) → Service → Service
+then_start home f s = start_if_grown home (length s.seen.desk.log) (f s)
+
+-- from its beginning on the log is known
+from_here : (home : Home) (f rest : Service → Service) (x : Seen) (second : Place)
+    (acts : List Act) (past : List Fate)
+    → Reaches home (λ s. start_if_grown home (length x.desk.log) (f s)) (at x [] 16) rest second
+    acts past
+    → Reaches home (then_start home f) (at x [] 16) rest second acts past
+from_here home f rest x second acts past r = record {
+  steps = λ done later. r.steps done later;
+  calls = r.calls;
+}
+
+part_from_here : {V : Type 0} {way : Way V} (home : Home) (f : Service → Service)
+    (x shown : Seen) (a b : Outside way)
+    → DoesPart home (λ s. start_if_grown home (length x.desk.log) (f s)) (at x [] 16) shown a b
+    → DoesPart home (then_start home f) (at x [] 16) shown a b
+part_from_here home f x shown a b d = (
+  d.0,
+  d.1,
+  d.2,
+  d.3,
+  record {
+    reaches = from_here home f d.2 x d.3 d.0 d.1 d.4.reaches;
+    adds = d.4.adds;
+    last = d.4.last;
+    made = d.4.made;
+  },
+)
+
+-- both were done
+pub then_did : {V : Type 0} {way : Way V} (home : Home) (f : Service → Service) (before : ℕ)
+    (x : Seen) (second third : Place) (xs ys : List Act) (past more : List Fate)
+    (a b c : Outside way)
+    → before ≡ length x.desk.log → Did home f (at x [] 16) second xs past a b
+    → Did home (start_if_grown home before) second third ys more b c
+    → Did home (then_start home f) (at x [] 16) third (xs ++ ys) (past ++ more) a c
+then_did home f before x second third xs ys past more a b c is d e =
+    let both =
+    did_both home f (start_if_grown home (length x.desk.log)) (at x [] 16) second third xs ys past
+    more a b c d
+    (subst (λ k. Did home (start_if_grown home k) second third ys more b c) is e) in
+    record {
+      reaches =
+          from_here home f (λ s. s) x third (xs ++ ys) (past ++ more) both.reaches;
+      made = both.made;
+    }
+
+-- memory was refused in the first
+pub then_not : {V : Type 0} {way : Way V} (home : Home) (f : Service → Service) (x shown : Seen)
+    (a b : Outside way)
+    → DoesPart home f (at x [] 16) shown a b
+    → DoesPart home (then_start home f) (at x [] 16) shown a b
+then_not home f x shown a b d =
+    part_from_here home f x shown a b
+    (part_first home f (start_if_grown home (length x.desk.log)) (at x [] 16) shown a b
+    (adds_start home (length x.desk.log)) d)
+
+-- memory was refused in the second
+pub then_part : {V : Type 0} {way : Way V} (home : Home) (f : Service → Service) (before : ℕ)
+    (x shown : Seen) (second : Place) (xs : List Act) (past : List Fate) (a b c : Outside way)
+    → before ≡ length x.desk.log → Did home f (at x [] 16) second xs past a b
+    → DoesPart home (start_if_grown home before) second shown b c
+    → DoesPart home (then_start home f) (at x [] 16) shown a c
+then_part home f before x shown second xs past a b c is d e =
+    part_from_here home f x shown a c
+    (part_both home f (start_if_grown home (length x.desk.log)) (at x [] 16) second xs past shown
+    a b c d (subst (λ k. DoesPart home (start_if_grown home k) second shown b c) is e))
+
+-- ---- behind an event and all that comes of it
+
+abbrev pub settled_call : Home → Event → Service → Service
+settled_call home event s = settle_by home 16 (call home event s)
+
+take_so : (home : Home) (event : Event) (x : Seen) (rest : Service → Service) (second : Place)
+    (acts : List Act) (past : List Fate)
+    → Reaches home (then_start home (settled_call home event)) (at x [] 16) rest second acts past
+    → Reaches home (take home event) (at x [] 16) rest second acts past
+unfolding take call
+take_so home event x rest second acts past r = record {
+  steps = λ done later. r.steps done later;
+  calls = r.calls;
+}
+
+take_part_so : {V : Type 0} {way : Way V} (home : Home) (event : Event) (x shown : Seen)
+    (a b : Outside way)
+    → DoesPart home (then_start home (settled_call home event)) (at x [] 16) shown a b
+    → DoesPart home (take home event) (at x [] 16) shown a b
+take_part_so home event x shown a b d = (
+  d.0,
+  d.1,
+  d.2,
+  d.3,
+  record {
+    reaches = take_so home event x d.2 d.3 d.0 d.1 d.4.reaches;
+    adds = d.4.adds;
+    last = d.4.last;
+    made = d.4.made;
+  },
+)
+
+-- memory was refused in the event
+pub take_not : {V : Type 0} {way : Way V} (home : Home) (event : Event) (x shown : Seen)
+    (a b : Outside way)
+    → DoesPart home (settled_call home event) (at x [] 16) shown a b
+    → DoesPart home (take home event) (at x [] 16) shown a b
+take_not home event x shown a b d =
+    take_part_so home event x shown a b (then_not home (settled_call home event) x shown a b d)
 
 -- memory was refused in Start
-pub take_later_part : {V : Type 0} {way : Way V} (home : Home) (event : Event) (answer : Answer) (x y shown : Seen) (left : ℕ)
-    (xs : List Act) (past : List Fate) (a b c : Outside way)
-    → DoesCall home 16 left event answer x y xs past a b → wants_start x.desk.log y ≡ true
-    → DoesPart home (λ s. settle_by home left (call home Start s)) (at y [] left) shown b c
+pub take_part : {V : Type 0} {way : Way V} (home : Home) (event : Event) (answer : Answer)
+    (before : ℕ) (x y shown : Seen) (left : ℕ) (xs : List Act) (past : List Fate)
+    (a b c : Outside way)
+    → before ≡ length x.desk.log → DoesCall home 16 left event answer x y xs past a b
+    → DoesPart home (start_if_grown home before) (at y [] left) shown b c
     → DoesPart home (take home event) (at x [] 16) shown a c
-take_later_part home event answer x y shown left xs past a b c h due d =
-    part_of home (take home event) (λ s. settle_by home left (call home Start s)) d.2 (at x [] 16)
-    (at y [] left) d.3 (xs ++ []) d.0 (past ++ []) d.1 shown a c
-    (take_then home event x y left xs past due h.did.reaches) d.4.reaches d.4.adds d.4.last
-    (makes_then home.hall xs d.0 a b c h.did.made d.4.made)
+take_part home event answer before x y shown left xs past a b c is h d =
+    take_part_so home event x shown a c
+    (then_part home (settled_call home event) before x shown (at y [] left) xs past a b c is h.did
+    d)
 
--- the event, and then Start
-pub takes_started : {V : Type 0} {way : Way V} (home : Home) (event : Event) (answer second : Answer) (x y z : Seen)
-    (left last : ℕ) (xs ys : List Act) (past more : List Fate) (a b c : Outside way)
-    → DoesCall home 16 left event answer x y xs past a b → wants_start x.desk.log y ≡ true
-    → DoesCall home left last Start second y z ys more b c
-    → DoesTake home last event answer x z ((xs ++ []) ++ ys) ((past ++ []) ++ more) a c
-takes_started home event answer second x y z left last xs ys past more a b c h due k = record {
-  did = record {
-    reaches =
-        goes_on home (take home event) (λ s. settle_by home left (call home Start s)) (λ s. s)
-        (at x [] 16) (at y [] left) (at z [] last) (xs ++ []) ys (past ++ []) more
-        (take_then home event x y left xs past due h.did.reaches) k.did.reaches;
-    made = makes_then home.hall xs ys a b c h.did.made k.did.made;
-  };
-  fate = h.fate;
-  others = (h.others ++ []) ++ more;
-  first = ap (λ z. (z ++ []) ++ more) h.first;
-  answer_is = h.answer_is;
-}
-
--- the event alone
-pub takes_alone : {V : Type 0} {way : Way V} (home : Home) (event : Event) (answer : Answer) (x y : Seen) (left : ℕ)
-    (xs : List Act) (past : List Fate) (a b : Outside way)
-    → DoesCall home 16 left event answer x y xs past a b → wants_start x.desk.log y ≡ false
-    → DoesTake home left event answer x y (xs ++ []) (past ++ []) a b
-takes_alone home event answer x y left xs past a b h due = record {
-  did = record {
-    reaches =
-        goes_on home (take home event) (start_if_grown home x.desk.log) (λ s. s) (at x [] 16)
-        (at y [] left) (at y [] left) xs [] past []
-        (take_first home event x (λ s. s) (at y [] left) xs past h.did.reaches)
-        (start_not_due home x.desk.log y left due);
-    made = subst (λ z. Makes home.hall a b z) (sym (append-nil xs)) h.did.made;
-  };
-  fate = h.fate;
-  others = h.others ++ [];
-  first = ap (λ z. z ++ []) h.first;
-  answer_is = h.answer_is;
-}
+-- both were done
+pub takes : {V : Type 0} {way : Way V} (home : Home) (event : Event) (answer : Answer)
+    (before : ℕ) (x y z : Seen) (left last : ℕ) (xs : List Act) (past : List Fate)
+    (a b c : Outside way)
+    → before ≡ length x.desk.log → DoesCall home 16 left event answer x y xs past a b
+    → Does home (start_if_grown home before) (at y [] left) (at z [] last) b c
+    → (acts : List Act) × (fates : List Fate)
+    × DoesTake home last event answer x z acts fates a c
+takes home event answer before x y z left last xs past a b c is h d =
+    let both =
+    then_did home (settled_call home event) before x (at y [] left) (at z [] last) xs d.0 past d.1
+    a b c is h.did d.2 in (
+      xs ++ d.0,
+      past ++ d.1,
+      record {
+        did = record {
+          reaches =
+              take_so home event x (λ s. s) (at z [] last) (xs ++ d.0) (past ++ d.1)
+              both.reaches;
+          made = both.made;
+        };
+        fate = h.fate;
+        others = h.others ++ d.1;
+        first = ap (λ fates. fates ++ d.1) h.first;
+        answer_is = h.answer_is;
+      },
+    )

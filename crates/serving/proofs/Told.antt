@@ -29,10 +29,10 @@ use Rattle.serving.specs.model.Calling.{Calls, IsCall, LosesMessages}
 use Rattle.serving.specs.model.Gathering.{Gathers, IsRun}
 use Rattle.serving.specs.model.Reaching.{Place, at, service, Reaches, did_call, OnlyAdds, Did, Does, DoesPart}
 use Rattle.serving.proofs.Additions.{adds_settle}
-use Rattle.serving.proofs.Delivered.{IsSaid}
 use Rattle.serving.proofs.Makings.{Makes-nil, Makes-trans, Makes-call}
 use Rattle.serving.proofs.Parts.{part_of, lost}
 use Rattle.serving.proofs.Reached.{stays, goes_on, calls_once}
+use Rattle.serving.proofs.Said.{IsSaid}
 
 -- ---- what is gathered
 

@@ -170,18 +170,15 @@ seen_after home x (Answered run ∷ acts) fates = seen_after home x acts fates
 abbrev pub grew : ℕ → Seen → Bool
 grew before x = not x.is_down && nat_lt before (length x.desk.log) && nat_lt 0 (length x.desk.queue)
 
--- Where the log grew in this frame, and entries wait in the queue, Start is given, unless the node
--- is down.
-abbrev pub wants_start : List Entry → Seen → Bool
-wants_start before x = grew (length before) x
-
-unfoldable pub start_if_grown : Home → List Entry → Service → Service
-start_if_grown home before s =
-    if wants_start before s.seen then settle home (call home Start s) else s
+-- Where the log has more than so many entries now, and entries wait in the queue, Start is given,
+-- unless the node is down.
+unfoldable pub start_if_grown : Home → ℕ → Service → Service
+start_if_grown home before s = if grew before s.seen then settle home (call home Start s) else s
 
 -- an event, all that comes of it, and Start where the log grew
 unfoldable pub take : Home → Event → Service → Service
-take home event s = start_if_grown home s.seen.desk.log (settle home (call home event s))
+take home event s =
+    start_if_grown home (length s.seen.desk.log) (settle home (call home event s))
 
 -- a desk says what was decided at a position
 abbrev pub decided : ℕ → ℕ → ℕ → Entry → Event
@@ -204,7 +201,7 @@ learn home from to pos (e ∷ es) s =
 -- entries, all that comes of the last one, and Start where the log grew
 unfoldable pub learn_all : Home → Run → Service → Service
 learn_all home run s =
-    start_if_grown home s.seen.desk.log
+    start_if_grown home (length s.seen.desk.log)
     (settle_by home s.left (learn home run.from run.to run.pos run.entries s))
 
 -- The answer to a desk that is behind: a run of entries goes out as one, and anything else as what
@@ -226,7 +223,7 @@ answer_out home s = hand_out home (run_of home.desk s.waiting) s
 -- a desk says how long its log is, all that comes of it, and Start where the log grew
 unfoldable pub tell : Home → Message → Service → Service
 tell home m s =
-    start_if_grown home s.seen.desk.log (answer_out home (call home (Deliver m) s))
+    start_if_grown home (length s.seen.desk.log) (answer_out home (call home (Deliver m) s))
 
 -- an entry that was taken is followed by Start
 abbrev pub entered_by : Home → Result (List Message) NodeFault → Service → Service

@@ -14,7 +14,7 @@ use crate::desk::Desk;
 use crate::peers::Peers;
 use crate::request::{Request, Run};
 use crate::settling::settle;
-use crate::taking::{MOST_OWN, call_and_settle, grew};
+use crate::taking::{MOST_OWN, start_if_grown};
 use acceptor::NoMemory;
 use acceptor::message::{Body, Message};
 use learner::event::Event;
@@ -123,8 +123,5 @@ pub fn learn<D: Desk, P: Peers>(
     let before = node.log().len();
     let mut left = MOST_OWN;
     learn_and_settle(alloc, home, wire, node, &mut left, peers, run)?;
-    if grew(before, node) {
-        call_and_settle(alloc, home, wire, node, &mut left, peers, Event::Start)?;
-    }
-    Ok(())
+    start_if_grown(alloc, home, wire, node, &mut left, peers, before)
 }

@@ -1,10 +1,10 @@
 //! An event, all that comes of it, and Start where the log grew.
 
-ghost use Rattle.std.specs.Prelude.{◌≡◌, ◌≤◌, ℕ, [], List, IfOk, OnErr};
+ghost use Rattle.std.specs.Prelude.{◌≡◌, ◌≤◌, ℕ, [], List, IfOk, OnOk, OnErr};
 ghost use Rattle.serving.specs.Making.{outside_of, speaking};
 ghost use Rattle.serving.specs.Nodes.{Fate};
-ghost use Rattle.serving.specs.model.Reaching.{DoesCall, DoesTake, DoesPart, at};
-ghost use Rattle.serving.specs.Serving.{Act, call, settle_by, take, grew};
+ghost use Rattle.serving.specs.model.Reaching.{Does, DoesCall, DoesTake, DoesPart, at};
+ghost use Rattle.serving.specs.Serving.{Act, call, settle_by, start_if_grown, take, grew};
 
 use crate::calling::{Answer, call};
 use crate::desk::Desk;
@@ -51,10 +51,39 @@ pub fn call_and_settle<D: Desk, P: Peers>(
 }
 
 /// Whether Start is due behind a frame that began with so many entries in the log.
-pub fn grew<D: Desk>(before: u32, node: &D) -> bool
+fn grew<D: Desk>(before: u32, node: &D) -> bool
     ensures { result ≡ grew before (D.seen node.now) }
 {
     !node.is_down() && before < node.log().len() && node.queued() > 0
+}
+
+/// Gives the node Start and takes all that comes of it, where it is due behind a frame that began
+/// with so many entries in the log.
+pub fn start_if_grown<D: Desk, P: Peers>(
+    alloc: Global,
+    home: Home,
+    wire: Version,
+    node: &mut D,
+    left: &mut u8,
+    peers: &mut P,
+    before: u32,
+) -> Result<(), NoMemory>
+    requires few { home.desks ≤ 5 }
+    requires home { D.home_of node.old ≡ home }
+    ensures ok { OnOk result (Does home (start_if_grown home before)
+        (at (D.seen node.old) [] left.old) (at (D.seen node.new) [] left.new)
+        (outside_of (speaking D.handles wire) node.old (P.handed peers.old))
+        (outside_of (speaking D.handles wire) node.new (P.handed peers.new))) }
+    ensures err { OnErr result (DoesPart home (start_if_grown home before)
+        (at (D.seen node.old) [] left.old)
+        (D.seen node.new) (outside_of (speaking D.handles wire) node.old (P.handed peers.old))
+        (outside_of (speaking D.handles wire) node.new (P.handed peers.new))) }
+    ensures home { D.home_of node.new ≡ D.home_of node.old }
+{
+    if grew(before, node) {
+        call_and_settle(alloc, home, wire, node, left, peers, Event::Start)?;
+    }
+    Ok(())
 }
 
 /// Gives the node an event and takes all that comes of it, and then Start where the log grew and
@@ -83,8 +112,6 @@ pub fn take<D: Desk, P: Peers>(
     let before = node.log().len();
     let mut left = MOST_OWN;
     let answer = call_and_settle(alloc, home, wire, node, &mut left, peers, event)?;
-    if grew(before, node) {
-        call_and_settle(alloc, home, wire, node, &mut left, peers, Event::Start)?;
-    }
+    start_if_grown(alloc, home, wire, node, &mut left, peers, before)?;
     Ok(answer)
 }

@@ -17,7 +17,7 @@ use crate::desk::Desk;
 use crate::peers::Peers;
 use crate::request::{Request, Run};
 use crate::settling::settle;
-use crate::taking::{MOST_OWN, call_and_settle, grew};
+use crate::taking::{MOST_OWN, start_if_grown};
 use acceptor::NoMemory;
 use acceptor::entry::Entry;
 use acceptor::message::{Body, Message};
@@ -217,8 +217,5 @@ pub fn tell<D: Desk, P: Peers>(
     let before = node.log().len();
     let mut left = MOST_OWN;
     call_and_answer(alloc, home, wire, node, &mut left, peers, message)?;
-    if grew(before, node) {
-        call_and_settle(alloc, home, wire, node, &mut left, peers, Event::Start)?;
-    }
-    Ok(())
+    start_if_grown(alloc, home, wire, node, &mut left, peers, before)
 }
