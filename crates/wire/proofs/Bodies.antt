@@ -156,11 +156,11 @@ answer_found (answer.Refused code.CutoffLost) = refl
 answer_found (answer.Refused code.Unfinished) = refl
 
 -- a refusal has the number of its code
-pub answer_numbered : (cs : List Code) (n : ℕ) → find (λ (x : Answer). eqb (answer_number x) n)
+pub coded : (cs : List Code) (n : ℕ) → find (λ (x : Answer). eqb (answer_number x) n)
     (map (λ c. answer.Refused c) cs) ≡ option_map (λ c. answer.Refused c)
     (find (λ c. eqb (code_number c) n) cs)
-answer_numbered [] n = refl
-answer_numbered (c ∷ cs) n = go (eqb (code_number c) n) (answer_numbered cs n) where
+coded [] n = refl
+coded (c ∷ cs) n = go (eqb (code_number c) n) (coded cs n) where
   go : (b : Bool) → find (λ (x : Answer). eqb (answer_number x) n) (map (λ c. answer.Refused c) cs)
       ≡ option_map (λ c. answer.Refused c) (find (λ c. eqb (code_number c) n) cs)
       → cond b (Some (answer.Refused c))

@@ -9,7 +9,7 @@ use Rattle.wire.specs.declared.fault.WireFault.TheVariants.{BadLength, BadVersio
 use Rattle.wire.specs.declared.frame.Frame.{Frame}
 use Rattle.wire.specs.Ranges.{IsFrame}
 use Rattle.wire.specs.Spelling.{spelling}
-use Rattle.wire.specs.Stream.{Front, Begins, front, IsBegun, Ends, IsOfStream, IsKept, Reader, holding, broken, keeps, Feeds, RefusesFault, Refuses}
+use Rattle.wire.specs.Stream.{Front, Begins, front, IsBegun, Ends, IsOfStream, IsKept, Reader, holding, broken, keeps, RefusesFault, Refuses}
 use Rattle.wire.specs.model.Steps.{AreFirst, IsTaken, ReadsOn}
 use Rattle.wire.proofs.Taking.{IsBytes, IsBytes-drop}
 use Rattle.wire.proofs.Streams.{front_takes, front_again}

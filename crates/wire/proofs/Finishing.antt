@@ -1,18 +1,17 @@
 -- A held beginning of a frame, with bytes of a piece put behind it.
-use Rattle.std.proofs.Common.{◌≡◌, ◌⊎◌, ℕ, ◌+◌, ◌<◌, ◌≤◌, Bool, true, false, cond, ltb, not, List, [], ◌++◌, length, take, drop, Option, Some, None, Result, Ok, Err, refl, sym, ap, subst, ◌∙◌, append_assoc, arith, inl, inr}
+use Rattle.std.proofs.Common.{◌≡◌, ◌⊎◌, ℕ, ◌+◌, ◌<◌, ◌≤◌, Bool, true, false, ltb, List, [], ◌++◌, length, take, drop, Some, Result, Ok, Err, refl, sym, ap, subst, ◌∙◌, append_assoc, arith, inl, inr}
 use Rattle.std.specs.Prelude.{IsOk}
 use Rattle.std.specs.Int.{w32, from_be_bytes}
 use Rattle.std.proofs.lemmas.Bool.{ltb-true, ltb-false, lt-ltb, le-ltb}
-use Rattle.std.proofs.lemmas.List.{take_at, drop_at, take_all, drop_all, take-append-le, drop-append-le, take-append-drop, drop-drop, append-nil, length-append, length-take, length-drop}
+use Rattle.std.proofs.lemmas.List.{take_at, drop_at, drop_all, take-append-le, drop-append-le, take-append-drop, drop-drop, append-nil, length-append, length-drop}
 use Rattle.wire.specs.declared.fault.WireFault.{WireFault}
 use Rattle.wire.specs.declared.fault.WireFault.TheVariants.{BadLength, BadVersion, BadKind, BadBody, NoMemory}
 use Rattle.wire.specs.declared.frame.Frame.{Frame}
 use Rattle.wire.specs.Laws.{length_at, IsLength}
 use Rattle.wire.specs.Reading.{between, frame_of}
-use Rattle.wire.specs.Stream.{Front, Waits, Begins, Breaks, by_frame, by_length, front, IsBegun}
+use Rattle.wire.specs.Stream.{Front, Waits, Begins, Breaks, by_frame, front, IsBegun}
 use Rattle.wire.specs.model.Gives.{GivesFrame}
 use Rattle.wire.specs.model.Steps.{GivesLength, GivesFront, IsToppedUp, Finishes, StandsInFront}
-use Rattle.wire.proofs.FieldLaws.{between_is}
 use Rattle.wire.proofs.Faults.{Tells, tells}
 use Rattle.wire.proofs.Pieces.{breaks_more}
 

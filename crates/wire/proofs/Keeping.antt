@@ -1,18 +1,16 @@
 -- What a reader keeps of a stream.
-use Rattle.std.proofs.Common.{◌≡◌, ℕ, zero, suc, get_or, ◌+◌, ◌<◌, ◌≤◌, List, [], ◌∷◌, ◌++◌, length, take, drop, Option, Some, None, Result, Ok, Err, refl, sym, ap, subst, ◌∙◌, append_assoc, arith, inl, inr}
+use Rattle.std.proofs.Common.{◌≡◌, ℕ, zero, suc, get_or, ◌<◌, ◌≤◌, List, [], ◌∷◌, ◌++◌, length, drop, Option, Some, None, Result, Ok, Err, refl, sym, ap, subst, ◌∙◌, append_assoc, arith, inr}
 use Rattle.std.specs.Prelude.{IsSome, OnErr}
-use Rattle.std.specs.List.{flat_map, AllByRecursion}
-use Rattle.std.proofs.lemmas.List.{append-nil, drop_all}
+use Rattle.std.specs.List.{flat_map}
 use Rattle.std.proofs.lemmas.List.Concat.{flat_map-cons}
 use Rattle.wire.specs.declared.fault.WireFault.{WireFault}
 use Rattle.wire.specs.declared.fault.WireFault.TheVariants.{BadLength, BadVersion, BadKind, BadBody, NoMemory}
 use Rattle.wire.specs.declared.frame.Frame.{Frame}
-use Rattle.wire.specs.Ranges.{IsFrame}
 use Rattle.wire.specs.Spelling.{spelling}
-use Rattle.wire.specs.Stream.{Front, Waits, Begins, Breaks, front, IsBegun, Ends, IsOfStream, IsKept, Reader, holding, broken, keeps, Feeds, Fed, RefusesFault, Refuses}
-use Rattle.wire.specs.model.Steps.{AreFirst, IsTaken, ReadsOn, Finishes}
+use Rattle.wire.specs.Stream.{Front, Waits, Begins, Breaks, front, IsBegun, Ends, IsOfStream, IsKept, Reader, holding, broken, keeps, Feeds, RefusesFault, Refuses}
+use Rattle.wire.specs.model.Steps.{IsTaken, ReadsOn}
 use Rattle.wire.proofs.Taking.{IsBytes}
-use Rattle.wire.proofs.Streams.{front_takes, front_again}
+use Rattle.wire.proofs.Streams.{front_takes}
 use Rattle.wire.proofs.Faults.{Tells, tells}
 use Rattle.wire.proofs.Finishing.{waits_short}
 

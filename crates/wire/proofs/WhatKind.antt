@@ -1,5 +1,5 @@
 -- The kind of what was read.
-use Rattle.std.proofs.Common.{◌≡◌, ℕ, ◌+◌, ◌≤◌, Bool, true, false, cond, eqb, leb, not, List, [], ◌∷◌, length, get_or, drop, Option, Some, None, Result, Ok, Err, refl, sym, ap, subst, ◌∙◌, arith}
+use Rattle.std.proofs.Common.{◌≡◌, ℕ, ◌+◌, ◌≤◌, Bool, true, false, cond, eqb, leb, List, [], ◌∷◌, length, get_or, drop, Option, Some, None, Result, Ok, Err, refl, sym, ap, subst, ◌∙◌, arith}
 use Rattle.std.specs.Prelude.{IsOk}
 use Rattle.std.specs.Int.{w32, from_be_bytes}
 use Rattle.std.proofs.lemmas.Bool.{eqb-true}
@@ -11,7 +11,7 @@ use Rattle.wire.specs.Fields.{◌>>=◌, all_of}
 use Rattle.wire.specs.Ranges.{way_of_kind, way_of}
 use Rattle.wire.specs.declared.frame.What.TheVariants.{Decided}
 use Rattle.wire.specs.declared.values.Version.{Version}
-use Rattle.wire.specs.Reading.{position_at, count_at, entries_at, decided_of, empty_of, what_of, is_kind, goes, frame_from, frame_in, version_of, frame_of}
+use Rattle.wire.specs.Reading.{position_at, count_at, entries_at, decided_of, what_of, is_kind, goes, frame_from, frame_in, version_of, frame_of}
 use Rattle.wire.specs.Spelling.{kind_of}
 use Rattle.wire.proofs.Taking.{bind_some, some_is}
 use Rattle.wire.specs.model.Gives.{LacksBody, GivesFrame}

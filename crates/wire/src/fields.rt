@@ -211,13 +211,21 @@ fn there<A: Copy>(member: Option<A>) -> Result<A, WireFault>
     }
 }
 
-#[tactic(auto, unfolding(crate::specs::Reading::member_at, formats::specs::Events::event_of_number))]
+/// The event with this number.
+#[tactic(auto, unfolding(formats::specs::Events::event_of_number))]
+fn event_numbered(number: u8) -> Option<Event>
+    ensures { result ≡ numbered event_number all_events number }
+{
+    Event::from_number(number)
+}
+
+#[tactic(auto, unfolding(crate::specs::Reading::member_at))]
 fn any_event_of(bytes: &[u8]) -> Result<(Event, &[u8]), WireFault>
     ensures { GivesField (λ x. (x.0, x.1.now)) result
         (member_at event_number all_events bytes.now) }
 {
     let (number, rest) = byte_of(bytes)?;
-    let event = there(Event::from_number(number))?;
+    let event = there(event_numbered(number))?;
     Ok((event, rest))
 }
 
@@ -254,7 +262,7 @@ pub(crate) fn refusal_of(bytes: &[u8]) -> Result<(ClientRefusal, &[u8]), WireFau
 }
 
 /// Done is 0, and a refusal the number of its code.
-#[tactic(auto, unfolding(texts::specs::Codes::code_numbered), using(crate::proofs::Bodies::answer_numbered))]
+#[tactic(auto, unfolding(texts::specs::Codes::code_numbered), using(crate::proofs::Bodies::coded))]
 fn answer_numbered(number: u8) -> Option<Answer>
     ensures { result ≡ numbered answer_number answers number }
 {

@@ -1,10 +1,10 @@
 //! The frames at the front of a stream, where a part of the stream is held and a piece comes behind
 //! it.
 
-ghost use Rattle.std.specs.Prelude.{◌≡◌, ◌≤◌, ◌++◌, IfOk, OnErr, length, vec_capacity, Option};
+ghost use Rattle.std.specs.Prelude.{◌≡◌, ◌≤◌, IfOk, OnErr, length, vec_capacity, Option};
 ghost use Rattle.wire.specs.Stream.{Waits, front, IsBegun};
 ghost use Rattle.wire.specs.model.Steps.{GivesLength, GivesFront, IsTaken, IsToppedUp, Finishes};
-ghost use Rattle.wire.specs.model.Steps.{ReadsOn, StandsInFront};
+ghost use Rattle.wire.specs.model.Steps.{StandsInFront};
 
 use crate::NoMemory;
 use crate::fault::WireFault;

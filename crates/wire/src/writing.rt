@@ -1,12 +1,12 @@
 //! Frames as bytes.
 
-ghost use Rattle.std.specs.Prelude.{◌≡◌, ◌≤◌, ◌<◌, ◌++◌, IfOk, OnOk, length, drop};
-ghost use Rattle.std.specs.Int.{w16, w32, w64, to_be_bytes};
+ghost use Rattle.std.specs.Prelude.{◌≡◌, ◌≤◌, ◌<◌, ◌++◌, IfOk, OnOk, length};
+ghost use Rattle.std.specs.Int.{w32, w64, to_be_bytes};
 ghost use Rattle.wire.specs.Numbers.{answer_number};
 ghost use Rattle.wire.specs.Ranges.{IsFrame, IsBody};
 ghost use Rattle.std.specs.List.{flat_map};
 ghost use Rattle.wire.specs.Spelling.{ballot_bytes, text_bytes, entry_bytes, count_bytes};
-ghost use Rattle.wire.specs.Spelling.{report_bytes, standing_bytes, kind_of, body, inside};
+ghost use Rattle.wire.specs.Spelling.{report_bytes, standing_bytes, body, inside};
 ghost use Rattle.wire.specs.Spelling.{spelling};
 
 use crate::NoMemory;

@@ -1,8 +1,6 @@
-use Rattle.std.proofs.Common.{◌≡◌, rules, true, get_or, arith}
+use Rattle.std.proofs.Common.{rules, arith}
 use Rattle.std.proofs.lemmas.List.{take_rest}
 use Rattle.std.proofs.lemmas.Result.{err_from_is_err_and}
-use Rattle.wire.specs.Ranges.{way_of_kind}
-use Rattle.wire.specs.Reading.{is_kind, goes}
 use Rattle.wire.proofs.WhatKind.{IsGood, good_read, good_lacks}
 use Rattle.wire.proofs.reading.frame_of.Goals as goal
 

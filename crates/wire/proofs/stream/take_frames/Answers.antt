@@ -1,7 +1,6 @@
-use Rattle.std.proofs.Common.{◌≡◌, ◌∷◌, [], ◌++◌, drop, sym, ap, subst, ◌∙◌, append_assoc, arith}
-use Rattle.std.specs.List.{AllByRecursion}
+use Rattle.std.proofs.Common.{◌≡◌, ◌∷◌, [], ◌++◌, sym, ap, subst, ◌∙◌, append_assoc, arith}
 use Rattle.std.proofs.lemmas.List.{take_rest}
-use Rattle.wire.specs.Stream.{Front, IsBegun, front}
+use Rattle.wire.specs.Stream.{Front, IsBegun}
 use Rattle.wire.proofs.Feeding.{first_more, first_begun}
 use Rattle.wire.proofs.Keeping.{on_err}
 use Rattle.wire.proofs.stream.take_frames.Goals as goal

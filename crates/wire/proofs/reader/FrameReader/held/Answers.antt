@@ -1,4 +1,4 @@
-use Rattle.std.proofs.Common.{◌≡◌, ◌≤◌, length, ap, arith, rules}
+use Rattle.std.proofs.Common.{◌≤◌, length, ap, arith, rules}
 use Rattle.wire.proofs.Finishing.{waits_short}
 use Rattle.wire.proofs.reader.FrameReader.held.Goals as goal
 
