@@ -6,6 +6,7 @@ ghost use Rattle.commands.specs.Accepted.{put_code, correct_code, strike_code, c
 use rounds::{CloseFault, CorrectFault, PutFault, StrikeFault};
 use texts::Code;
 
+/// The code for a table's refusal of an attempt.
 pub(crate) fn put_code(fault: PutFault) -> Code
     ensures { result ≡ put_code fault }
 {
@@ -17,6 +18,7 @@ pub(crate) fn put_code(fault: PutFault) -> Code
     }
 }
 
+/// The code for a table's refusal of a correction.
 pub(crate) fn correct_code(fault: CorrectFault) -> Code
     ensures { result ≡ correct_code fault }
 {
@@ -28,6 +30,7 @@ pub(crate) fn correct_code(fault: CorrectFault) -> Code
     }
 }
 
+/// The code for a table's refusal to strike an attempt.
 pub(crate) fn strike_code(fault: StrikeFault) -> Code
     ensures { result ≡ strike_code fault }
 {
@@ -38,6 +41,7 @@ pub(crate) fn strike_code(fault: StrikeFault) -> Code
     }
 }
 
+/// The code for a table's refusal to be closed.
 pub(crate) fn close_code(fault: CloseFault) -> Code
     ensures { result ≡ close_code fault }
 {

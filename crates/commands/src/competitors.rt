@@ -1,10 +1,9 @@
 //! Who is registered, found by number and by name.
 
-ghost use Rattle.std.specs.Prelude.{◌≡◌, ◌++◌, ◌∷◌, [], None, OnOk, OnErr, IfOk, option_map, length, is_some, if◌then◌else◌};
-ghost use Rattle.std.specs.List.{list_any};
-ghost use Rattle.commands.specs.Accepted.{name_of, is_registered, names_other, refusal};
+ghost use Rattle.std.specs.Prelude.{◌≡◌, ◌++◌, ◌∷◌, [], None, OnOk, OnErr, IfOk, option_map};
+ghost use Rattle.commands.specs.Accepted.{name_of, is_registered, refusal};
 ghost use Rattle.commands.specs.History.{added};
-ghost use Rattle.commands.specs.model.Kept.{name_at, is_taken, AreCompetitors};
+ghost use Rattle.commands.specs.model.Kept.{name_at, AreCompetitors};
 ghost use Rattle.texts.specs.declared.command.Command.TheVariants as command;
 
 use attempts::NoMemory;
@@ -52,6 +51,7 @@ impl Competitors {
         name_at(accepted, number, *place)
     }
 
+    /// Whether a number is registered.
     pub(crate) fn is_registered(&self, accepted: &[Command], number: u16) -> bool
         requires { AreCompetitors accepted.now self.now }
         ensures { result ≡ is_registered accepted.now number }
@@ -59,7 +59,7 @@ impl Competitors {
         self.name(accepted, number).is_some()
     }
 
-    /// Why a registration is refused.
+    /// Why a registration is refused, where it is.
     fn refusal(&self, accepted: &[Command], number: u16, name: &Name) -> Option<Code>
         requires { AreCompetitors accepted.now self.now }
         ensures { result ≡ refusal accepted.now (command.Register number name.now) }

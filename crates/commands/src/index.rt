@@ -1,6 +1,6 @@
 //! What is looked up of the accepted commands: the competitors and the rounds that they make.
 
-ghost use Rattle.std.specs.Prelude.{◌≡◌, ◌≤◌, IsTrue, ◌++◌, ◌∷◌, [], List, IfOk, OnOk, OnErr, option_map};
+ghost use Rattle.std.specs.Prelude.{◌≡◌, ◌≤◌, IsTrue, ◌++◌, [], List, IfOk, OnErr, option_map};
 ghost use Rattle.cube.specs.declared.moves.Move.{Move};
 ghost use Rattle.commands.specs.Accepted.{scramble_of, refusal, is_cutoff, is_limit, edition_in};
 ghost use Rattle.texts.specs.Spelling.{IsFit, IsEntered, IsFitCutoff};
@@ -291,7 +291,7 @@ impl Index {
             Command::Attempt(entry) => Ok(self.attempt(accepted, entry)),
             Command::Correct(entry) => Ok(self.correct(accepted, entry)),
             Command::Strike { id, number } => Ok(self.strike(accepted, *id, *number)),
-            Command::SetAdvance { id, advance } => { Ok(self.set_advance(accepted, *id, *advance)) }
+            Command::SetAdvance { id, advance } => Ok(self.set_advance(accepted, *id, *advance)),
             Command::Close { id } => Ok(self.close(accepted, *id)),
             Command::SetEdition { edition } => Ok(self.set_edition(accepted, holds, *edition)),
         }

@@ -1,6 +1,6 @@
 //! The rounds that were opened, each with its table and the places of its scrambles.
 
-ghost use Rattle.std.specs.Prelude.{◌≡◌, ◌≤◌, ◌-◌, [], is_some, IfOk, IfNone, OnOk, OnErr, OnSome, MatchOption, option_map, option_and_then, position, None, length, nat_eq};
+ghost use Rattle.std.specs.Prelude.{◌≡◌, ◌≤◌, ◌-◌, [], is_some, IfOk, IfNone, OnOk, OnErr, OnSome, MatchOption, option_map, position, find, None, length, nat_eq};
 ghost use Rattle.std.specs.List.{list_any, range_with_len, IsDistinct};
 ghost use Rattle.formats.specs.Events.{unit_of};
 ghost use Rattle.formats.specs.Results.{IsFormatOf};
@@ -116,14 +116,21 @@ impl KeptRounds {
         }
     }
 
+    /// A round, where it was opened.
+    fn kept(&self, id: RoundId) -> Option<&KeptRound>
+        ensures { option_map (λ kept. kept.now) result
+            ≡ find (is_round id.event id.round) self.now.opened.items }
+    {
+        self.opened.iter().find(|kept| {
+            id.event.number() == kept.id.event.number() && id.round == kept.id.round
+        })
+    }
+
     /// Whether a round was opened.
     pub(crate) fn is_open(&self, id: RoundId) -> bool
         ensures { result ≡ is_some (kept_round id.event id.round self.now.opened.items) }
     {
-        match kept_place(&self.opened, id) {
-            Some(_) => true,
-            None => false,
-        }
+        self.kept(id).is_some()
     }
 
     /// The table of a round.
@@ -131,13 +138,7 @@ impl KeptRounds {
         ensures { option_map (λ t. t.now) result
             ≡ option_map (λ r. r.1) (kept_round id.event id.round self.now.opened.items) }
     {
-        match kept_place(&self.opened, id) {
-            Some(place) => {
-                let kept = &self.opened[place];
-                Some(&kept.table)
-            }
-            None => None,
-        }
+        Some(&self.kept(id)?.table)
     }
 
     /// The settings of a round.
@@ -145,13 +146,7 @@ impl KeptRounds {
         ensures { result
             ≡ option_map (λ r. r.0) (kept_round id.event id.round self.now.opened.items) }
     {
-        match kept_place(&self.opened, id) {
-            Some(place) => {
-                let kept = &self.opened[place];
-                Some(kept.settings)
-            }
-            None => None,
-        }
+        Some(self.kept(id)?.settings)
     }
 
     /// Where the scramble of an attempt stands among the accepted commands.
@@ -159,13 +154,7 @@ impl KeptRounds {
         requires { 1 ≤ attempt }
         ensures { result ≡ kept_scramble id.event id.round attempt self.now.opened.items }
     {
-        match kept_place(&self.opened, id) {
-            Some(place) => {
-                let kept = &self.opened[place];
-                *kept.scrambles.get(usize::from(attempt) - 1)?
-            }
-            None => None,
-        }
+        *self.kept(id)?.scrambles.get(usize::from(attempt) - 1)?
     }
 
     /// Notes where the scramble of an attempt will stand, or says why not. The attempt has the
@@ -317,11 +306,8 @@ impl KeptRounds {
     pub(crate) fn leads_on(&self, id: RoundId) -> bool
         ensures { result ≡ leads_on (kept_round id.event id.round self.now.opened.items) }
     {
-        match kept_place(&self.opened, id) {
-            Some(place) => {
-                let kept = &self.opened[place];
-                kept.table.is_closed() && !is_final(kept.settings.advance)
-            }
+        match self.kept(id) {
+            Some(kept) => kept.table.is_closed() && !is_final(kept.settings.advance),
             None => false,
         }
     }
@@ -330,17 +316,14 @@ impl KeptRounds {
     fn competitors(&self, id: RoundId) -> u16
         ensures { result ≡ competitors_of (kept_round id.event id.round self.now.opened.items) }
     {
-        match kept_place(&self.opened, id) {
-            Some(place) => {
-                let kept = &self.opened[place];
-                kept.table.started()
-            }
+        match self.kept(id) {
+            Some(kept) => kept.table.started(),
             None => 0,
         }
     }
 
-    /// Whether a round has fewer competitors than the rounds behind it want, up to one behind
-    /// `round` (WCA Regulations, article 9m).
+    /// Whether the round numbered `earlier` has fewer competitors than the rounds behind it want,
+    /// up to one behind this round (WCA Regulations, article 9m).
     fn has_too_few(&self, id: RoundId, earlier: u8) -> bool
         requires { id.round ≤ 4 }
         ensures { result
@@ -438,11 +421,8 @@ impl KeptRounds {
         ensures each_once { IfOk result (λ numbers. IsDistinct nat_eq numbers.items) }
         ensures few { IfOk result (λ numbers. length numbers.items ≤ 999) }
     {
-        match kept_place(&self.opened, id) {
-            Some(place) => {
-                let kept = &self.opened[place];
-                advancing(alloc, &kept.table, kept.settings.advance)
-            }
+        match self.kept(id) {
+            Some(kept) => advancing(alloc, &kept.table, kept.settings.advance),
             None => Ok(Vec::new(alloc)),
         }
     }

@@ -47,9 +47,8 @@ fn do_text(accepted: &mut AcceptedCommands, alloc: Global, text: &[u8]) -> Resul
     match read(alloc, text) {
         Ok(command) => accepted.apply(alloc, command),
         Err(CommandFault::NoMemory) => Err(AllocError),
-        Err(CommandFault::TooLong) => Ok(Answer::Refused(Code::Unread)),
-        Err(CommandFault::NotACommand) => Ok(Answer::Refused(Code::Unread)),
-        Err(CommandFault::BadField { .. }) => Ok(Answer::Refused(Code::Unread)),
+        Err(CommandFault::TooLong | CommandFault::NotACommand | CommandFault::BadField { .. }) =>
+            Ok(Answer::Refused(Code::Unread)),
     }
 }
 
