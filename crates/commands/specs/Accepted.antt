@@ -1,6 +1,8 @@
 -- What a list of accepted commands says: who is registered, which rounds were opened, and what was
 -- done in them.
-use Rattle.std.specs.Prelude.{ℕ, zero, suc, ◌+◌, ◌-◌, Bool, true, false, not, ◌==◌, ◌&&◌, nat_lt, nat_le, if◌then◌else◌, List, [], ◌∷◌, ◌++◌, map, unwrap_or, bytes_eq, option_to_list, is_some, Option, None, Some}
+use Rattle.std.specs.Prelude.{ℕ, zero, suc, ◌+◌, ◌-◌, Bool, true, false, not, ◌==◌, ◌&&◌, nat_lt}
+use Rattle.std.specs.Prelude.{nat_le, if◌then◌else◌, List, [], ◌∷◌, ◌++◌, map, unwrap_or, bytes_eq}
+use Rattle.std.specs.Prelude.{option_to_list, is_some, Option, None, Some}
 use Rattle.std.specs.List.{list_any, range_with_len}
 use Rattle.std.specs.Option.{option_or, option_map, option_and_then}
 use Rattle.cube.specs.declared.moves.Move.{Move}
@@ -15,7 +17,9 @@ use Rattle.formats.specs.declared.events.Event.{Event}
 use Rattle.formats.specs.declared.events.Format.{Format}
 use Rattle.formats.specs.Events.{same_event, unit_of, is_allowed, attempts_of}
 use Rattle.texts.specs.declared.command.Command.{Command}
-use Rattle.texts.specs.declared.command.Command.TheVariants.{Register, Open, Enter, Scramble, Attempt, Correct, Strike, SetAdvance, Close, SetEdition}
+use Rattle.texts.specs.declared.command.Command.TheVariants.{Register, Open, Enter, Scramble}
+use Rattle.texts.specs.declared.command.Command.TheVariants.{Attempt, Correct, Strike, SetAdvance}
+use Rattle.texts.specs.declared.command.Command.TheVariants.{Close, SetEdition}
 use Rattle.texts.specs.declared.command.RoundId.{RoundId}
 use Rattle.texts.specs.declared.command.AttemptEntry.{AttemptEntry}
 use Rattle.texts.specs.declared.command.Entered.{Entered}
@@ -33,7 +37,8 @@ use Rattle.rounds.specs.declared.faults.StrikeFault.{StrikeFault}
 use Rattle.rounds.specs.declared.faults.StrikeFault.TheVariants as strike
 use Rattle.rounds.specs.declared.faults.CloseFault.{CloseFault}
 use Rattle.rounds.specs.declared.faults.CloseFault.TheVariants as close
-use Rattle.rounds.specs.Tables.{Entrant, Table, enter_fault, put_fault, replaced, correct_fault, without_last, strike_fault, started, close_fault}
+use Rattle.rounds.specs.Tables.{Entrant, Table, enter_fault, put_fault, replaced, correct_fault}
+use Rattle.rounds.specs.Tables.{without_last, strike_fault, started, close_fault}
 use Rattle.formats.specs.declared.advance.Advance.{Advance}
 use Rattle.formats.specs.declared.advance.Advance.TheVariants.{Final, Top, Percent}
 use Rattle.advancement.specs.Advancing.{later_rounds, advancing}

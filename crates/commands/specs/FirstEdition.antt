@@ -2,7 +2,9 @@
 -- not share with `Accepted` and `History` is kept here in its own words; the laws of editions
 -- compare the two. What edition 1 has no words for, multi-blind, comes to nothing in it: no text of
 -- edition 1 asks for it.
-use Rattle.std.specs.Prelude.{ℕ, zero, suc, ◌+◌, ◌-◌, ◌*◌, Bool, true, false, not, ◌==◌, ◌&&◌, nat_lt, if◌then◌else◌, List, [], ◌∷◌, ◌++◌, map, fold, option_to_list, is_some, Option, None, Some, Result, Ok, Err}
+use Rattle.std.specs.Prelude.{ℕ, zero, suc, ◌+◌, ◌-◌, ◌*◌, Bool, true, false, not, ◌==◌, ◌&&◌}
+use Rattle.std.specs.Prelude.{nat_lt, if◌then◌else◌, List, [], ◌∷◌, ◌++◌, map, fold, option_to_list}
+use Rattle.std.specs.Prelude.{is_some, Option, None, Some, Result, Ok, Err}
 use Rattle.std.specs.List.{list_any}
 use Rattle.std.specs.Option.{option_or, option_map}
 use Rattle.cube.specs.declared.moves.Move.{Move}
@@ -14,11 +16,14 @@ use Rattle.attempts.specs.declared.Value.TheVariants as value
 use Rattle.attempts.specs.declared.Unit.{Unit as Measure}
 use Rattle.attempts.specs.declared.Unit.TheVariants as measure
 use Rattle.formats.specs.declared.events.Event.{Event}
-use Rattle.formats.specs.declared.events.Event.TheVariants.{Cube6, Cube7, FewestMoves, Blind3, Blind4, Blind5}
+use Rattle.formats.specs.declared.events.Event.TheVariants.{Cube6, Cube7, FewestMoves, Blind3}
+use Rattle.formats.specs.declared.events.Event.TheVariants.{Blind4, Blind5}
 use Rattle.formats.specs.declared.events.Format.{Format}
 use Rattle.formats.specs.Events.{attempts_of, is_average_format, is_mean_format, is_best_format}
 use Rattle.texts.specs.declared.command.Command.{Command}
-use Rattle.texts.specs.declared.command.Command.TheVariants.{Register, Open, Enter, Scramble, Attempt, Correct, Strike, SetAdvance, Close, SetEdition}
+use Rattle.texts.specs.declared.command.Command.TheVariants.{Register, Open, Enter, Scramble}
+use Rattle.texts.specs.declared.command.Command.TheVariants.{Attempt, Correct, Strike, SetAdvance}
+use Rattle.texts.specs.declared.command.Command.TheVariants.{Close, SetEdition}
 use Rattle.texts.specs.declared.command.RoundId.{RoundId}
 use Rattle.texts.specs.declared.command.AttemptEntry.{AttemptEntry}
 use Rattle.texts.specs.declared.command.Entered.{Entered}
@@ -30,7 +35,11 @@ use Rattle.texts.specs.declared.answer.Code.TheVariants as code
 use Rattle.texts.specs.declared.reading.CommandFault.{CommandFault}
 use Rattle.texts.specs.FirstEdition.{command_of}
 use Rattle.rounds.specs.Tables.{Entrant, Table, replaced, without_last, correct_fault}
-use Rattle.commands.specs.Accepted.{is_registered, names_other, Opened, opened, scrambling, scramble_of, scramble_by, is_of, first_of, solved_under, entering, closing, settings_now, who_advance, enter_refusal, put_refusal, correct_code, strike_refusal, advance_refusal, leads_on, close_refusal}
+use Rattle.commands.specs.Accepted.{is_registered, names_other, Opened, opened, scrambling}
+use Rattle.commands.specs.Accepted.{scramble_of, scramble_by, is_of, first_of, solved_under}
+use Rattle.commands.specs.Accepted.{entering, closing, settings_now, who_advance, enter_refusal}
+use Rattle.commands.specs.Accepted.{put_refusal, correct_code, strike_refusal, advance_refusal}
+use Rattle.commands.specs.Accepted.{leads_on, close_refusal}
 use Rattle.commands.specs.History.{History, nothing, answer_of, is_seen, added}
 
 -- Events and values

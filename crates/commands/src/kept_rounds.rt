@@ -1,14 +1,22 @@
 //! The rounds that were opened, each with its table and the places of its scrambles.
 
-ghost use Rattle.std.specs.Prelude.{◌≡◌, ◌≤◌, ◌-◌, [], is_some, IfOk, IfNone, OnOk, OnErr, OnSome, MatchOption, option_map, position, find, None, length, nat_eq};
+ghost use Rattle.std.specs.Prelude.{◌≡◌, ◌≤◌, ◌-◌, [], is_some, IfOk, IfNone, OnOk, OnErr, OnSome};
+ghost use Rattle.std.specs.Prelude.{MatchOption, option_map, position, find, None, length, nat_eq};
 ghost use Rattle.std.specs.List.{list_any, range_with_len, IsDistinct};
 ghost use Rattle.formats.specs.Events.{unit_of};
 ghost use Rattle.formats.specs.Results.{IsFormatOf};
 ghost use Rattle.rounds.specs.Tables.{IsCutoff, empty_table, enter_fault, with_entrant};
-ghost use Rattle.commands.specs.Accepted.{enter_refusal, scramble_refusal, entered_refusal, put_refusal, correct_refusal, strike_refusal, advance_refusal, is_final, leads_on, competitors_of, has_too_few, breaks_rounds_rule, close_refusal, who_advance};
+ghost use Rattle.commands.specs.Accepted.{enter_refusal, scramble_refusal, entered_refusal};
+ghost use Rattle.commands.specs.Accepted.{put_refusal, correct_refusal, strike_refusal};
+ghost use Rattle.commands.specs.Accepted.{advance_refusal, is_final, leads_on, competitors_of};
+ghost use Rattle.commands.specs.Accepted.{has_too_few, breaks_rounds_rule, close_refusal};
+ghost use Rattle.commands.specs.Accepted.{who_advance};
 ghost use Rattle.texts.specs.Fields.{round_id};
 ghost use Rattle.texts.specs.Spelling.{IsEntered};
-ghost use Rattle.commands.specs.model.Kept.{is_round, kept_round, kept_scramble, IsKeptAt, with_attempt, with_correction, with_strike, with_advance, with_end, with_entry, with_newcomers, HasUnit, ChangesRound, AddsRound, AddsScramble};
+ghost use Rattle.commands.specs.model.Kept.{is_round, kept_round, kept_scramble, IsKeptAt};
+ghost use Rattle.commands.specs.model.Kept.{with_attempt, with_correction, with_strike};
+ghost use Rattle.commands.specs.model.Kept.{with_advance, with_end, with_entry, with_newcomers};
+ghost use Rattle.commands.specs.model.Kept.{HasUnit, ChangesRound, AddsRound, AddsScramble};
 
 use crate::codes::{close_code, correct_code, put_code, strike_code};
 use crate::outcomes::{is_moves, outcome_of, refusal};

@@ -1,7 +1,9 @@
 //! A competition, as the list of its entries makes it.
 
-ghost use Rattle.std.specs.Prelude.{◌≡◌, ◌++◌, ◌∷◌, [], List, ℕ, true, Ok, IfOk, OnOk, OnErr, option_map};
-ghost use Rattle.commands.specs.History.{is_seen, answer_to, answer_of, added_read, read_refusal, after, nothing, StandsFor, SeesEachId};
+ghost use Rattle.std.specs.Prelude.{◌≡◌, ◌++◌, ◌∷◌, [], List, ℕ, true, Ok, IfOk, OnOk, OnErr};
+ghost use Rattle.std.specs.Prelude.{option_map};
+ghost use Rattle.commands.specs.History.{is_seen, answer_to, answer_of, added_read, read_refusal};
+ghost use Rattle.commands.specs.History.{after, nothing, StandsFor, SeesEachId};
 ghost use Rattle.texts.specs.Reading.{command_of};
 ghost use Rattle.commands.specs.EditionLaws.{AnswersAsBefore};
 ghost use Rattle.commands.specs.Accepted.{name_of, round_of, edition_in};

@@ -3,7 +3,8 @@
 ghost use Rattle.std.specs.Prelude.{◌≡◌, false, option_map};
 ghost use Rattle.attempts.specs.Attempts.{IsOutcome, IsOutcomeOf};
 ghost use Rattle.attempts.specs.declared.Unit.{Unit as Measure};
-ghost use Rattle.commands.specs.Accepted.{outcome_of, is_time, is_wrong, is_moves, is_multi, lacks_scramble, unfit_refusal};
+ghost use Rattle.commands.specs.Accepted.{outcome_of, is_time, is_wrong, is_moves, is_multi};
+ghost use Rattle.commands.specs.Accepted.{lacks_scramble, unfit_refusal};
 ghost use Rattle.texts.specs.Spelling.{IsEntered};
 
 use attempts::{Outcome, Unit};

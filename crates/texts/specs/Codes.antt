@@ -1,7 +1,14 @@
 -- The numbers and the names of the codes.
 use Rattle.std.specs.Prelude.{ℕ, ◌==◌, List, [], ◌∷◌, codes, find, Option}
 use Rattle.texts.specs.declared.answer.Code.{Code}
-use Rattle.texts.specs.declared.answer.Code.TheVariants.{Unread, Repeat, UnknownCompetitor, NameTaken, RoundUnknown, RoundOpen, RoundsRule, FormatNotAllowed, CutoffNotAllowed, LimitNotAllowed, NoScramble, ScrambleThere, WrongOutcome, Closed, Already, Full, NotEntered, OutOfOrder, NoMoreAttempts, NoSuchAttempt, CutoffLost, Unfinished}
+use Rattle.texts.specs.declared.answer.Code.TheVariants.{Unread, Repeat, UnknownCompetitor}
+use Rattle.texts.specs.declared.answer.Code.TheVariants.{NameTaken, RoundUnknown, RoundOpen}
+use Rattle.texts.specs.declared.answer.Code.TheVariants.{RoundsRule, FormatNotAllowed}
+use Rattle.texts.specs.declared.answer.Code.TheVariants.{CutoffNotAllowed, LimitNotAllowed}
+use Rattle.texts.specs.declared.answer.Code.TheVariants.{NoScramble, ScrambleThere, WrongOutcome}
+use Rattle.texts.specs.declared.answer.Code.TheVariants.{Closed, Already, Full, NotEntered}
+use Rattle.texts.specs.declared.answer.Code.TheVariants.{OutOfOrder, NoMoreAttempts, NoSuchAttempt}
+use Rattle.texts.specs.declared.answer.Code.TheVariants.{CutoffLost, Unfinished}
 
 abbrev pub code_number : Code → ℕ
 code_number Unread = 1

@@ -1,5 +1,7 @@
 -- The fields of commands. Each is read from its bytes, or is misspelt.
-use Rattle.std.specs.Prelude.{ℕ, ◌+◌, ◌==◌, if◌then◌else◌, List, [], ◌∷◌, map, flat_map, find, length, nat_le, take, drop, position, bytes_eq, codes, decimal, Option, Some, None}
+use Rattle.std.specs.Prelude.{ℕ, ◌+◌, ◌==◌, if◌then◌else◌, List, [], ◌∷◌, map, flat_map, find}
+use Rattle.std.specs.Prelude.{length, nat_le, take, drop, position, bytes_eq, codes, decimal}
+use Rattle.std.specs.Prelude.{Option, Some, None}
 use Rattle.std.specs.List.{slice_split}
 use Rattle.std.specs.Option.{option_and_then, option_map}
 use Rattle.cube.specs.declared.moves.Side.TheVariants.{U, R, F, D, L, B}

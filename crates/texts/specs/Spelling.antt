@@ -1,6 +1,7 @@
 -- How a command is spelled: a word and its fields, parted by one space each. And the ranges of the
 -- fields.
-use Rattle.std.specs.Prelude.{◌≤◌, ℕ, Bool, ◌==◌, ◌&&◌, not, nat_lt, nat_le, IsTrue, List, [], ◌∷◌, ◌++◌, length, codes, decimal, Option, None, Some}
+use Rattle.std.specs.Prelude.{◌≤◌, ℕ, Bool, ◌==◌, ◌&&◌, not, nat_lt, nat_le, IsTrue, List, [], ◌∷◌}
+use Rattle.std.specs.Prelude.{◌++◌, length, codes, decimal, Option, None, Some}
 use Rattle.std.specs.List.{list_all, slice_split, join_with_byte}
 use Rattle.std.specs.Str.{is_utf8}
 use Rattle.formats.specs.Events.{event_name, format_name}
@@ -9,7 +10,9 @@ use Rattle.notation.specs.Notation.{spelling as moves_text}
 use Rattle.formats.specs.declared.advance.Advance.{Advance}
 use Rattle.formats.specs.declared.advance.Advance.TheVariants.{Final, Top, Percent}
 use Rattle.texts.specs.declared.command.Command.{Command}
-use Rattle.texts.specs.declared.command.Command.TheVariants.{Register, Open, Enter, Scramble, Attempt, Correct, Strike, SetAdvance, Close, SetEdition}
+use Rattle.texts.specs.declared.command.Command.TheVariants.{Register, Open, Enter, Scramble}
+use Rattle.texts.specs.declared.command.Command.TheVariants.{Attempt, Correct, Strike, SetAdvance}
+use Rattle.texts.specs.declared.command.Command.TheVariants.{Close, SetEdition}
 use Rattle.texts.specs.declared.command.AttemptEntry.{AttemptEntry}
 use Rattle.texts.specs.declared.command.Entered.{Entered}
 use Rattle.texts.specs.declared.command.Entered.TheVariants as entered

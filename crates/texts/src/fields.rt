@@ -1,10 +1,13 @@
 //! The fields of commands, each from its bytes.
 
-ghost use Rattle.std.specs.Prelude.{◌≡◌, ◌==◌, ◌<◌, length, option_map, IfOk, IfSome, OnErr, position};
+ghost use Rattle.std.specs.Prelude.{◌≡◌, ◌==◌, ◌<◌, length, option_map, IfOk, IfSome, OnErr};
+ghost use Rattle.std.specs.Prelude.{position};
 ghost use Rattle.std.specs.List.{list_all};
 ghost use Rattle.std.specs.Str.{is_utf8};
 ghost use Rattle.texts.specs.Spelling.{is_name, is_name_byte, has_single_spaces};
-ghost use Rattle.texts.specs.Fields.{cut, number_between, cutoff_of, two_numbers, limit_of, percent_of, advance_of, moves_of, time_of, multi_of, cubes_of, entered_of, MayBeSolution};
+ghost use Rattle.texts.specs.Fields.{cut, number_between, cutoff_of, two_numbers, limit_of};
+ghost use Rattle.texts.specs.Fields.{percent_of, advance_of, moves_of, time_of, multi_of, cubes_of};
+ghost use Rattle.texts.specs.Fields.{entered_of, MayBeSolution};
 
 use crate::command::Entered;
 use crate::numbers::number_between;

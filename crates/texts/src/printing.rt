@@ -3,9 +3,21 @@
 ghost use Rattle.std.specs.Prelude.{◌≡◌, ◌++◌, IfOk, OnOk, codes, decimal};
 ghost use Rattle.formats.specs.Events.{event_name, format_name};
 ghost use Rattle.notation.specs.Notation.{spelling as moves_text};
-ghost use Rattle.texts.specs.Spelling.{cutoff_text, limit_text, advance_text, entered_text, spelling};
-ghost use Rattle.texts.specs.declared.command.Command.TheVariants.{Register as RegisterOf, Open as OpenOf, Enter as EnterOf, Scramble as ScrambleOf, Attempt as AttemptOf, Correct as CorrectOf, Strike as StrikeOf, SetAdvance as SetAdvanceOf, Close as CloseOf, SetEdition as SetEditionOf};
-ghost use Rattle.texts.specs.declared.command.Entered.TheVariants.{Time as TimeOf, Solution as SolutionOf, Multi as MultiOf};
+ghost use Rattle.texts.specs.Spelling.{cutoff_text, limit_text, advance_text, entered_text};
+ghost use Rattle.texts.specs.Spelling.{spelling};
+ghost use Rattle.texts.specs.declared.command.Command.TheVariants.{Register as RegisterOf};
+ghost use Rattle.texts.specs.declared.command.Command.TheVariants.{Open as OpenOf};
+ghost use Rattle.texts.specs.declared.command.Command.TheVariants.{Enter as EnterOf};
+ghost use Rattle.texts.specs.declared.command.Command.TheVariants.{Scramble as ScrambleOf};
+ghost use Rattle.texts.specs.declared.command.Command.TheVariants.{Attempt as AttemptOf};
+ghost use Rattle.texts.specs.declared.command.Command.TheVariants.{Correct as CorrectOf};
+ghost use Rattle.texts.specs.declared.command.Command.TheVariants.{Strike as StrikeOf};
+ghost use Rattle.texts.specs.declared.command.Command.TheVariants.{SetAdvance as SetAdvanceOf};
+ghost use Rattle.texts.specs.declared.command.Command.TheVariants.{Close as CloseOf};
+ghost use Rattle.texts.specs.declared.command.Command.TheVariants.{SetEdition as SetEditionOf};
+ghost use Rattle.texts.specs.declared.command.Entered.TheVariants.{Time as TimeOf};
+ghost use Rattle.texts.specs.declared.command.Entered.TheVariants.{Solution as SolutionOf};
+ghost use Rattle.texts.specs.declared.command.Entered.TheVariants.{Multi as MultiOf};
 
 use crate::command::{AttemptEntry, Command, Entered, RoundId, Settings};
 use attempts::{NoMemory, push_decimal};

@@ -1,10 +1,17 @@
 //! Commands from their texts.
 
-ghost use Rattle.std.specs.Prelude.{◌≡◌, ◌<◌, ◌≤◌, ◌↔◌, false, nat_lt, length, option_map, ok_or, Option, Some, None, IfOk};
+ghost use Rattle.std.specs.Prelude.{◌≡◌, ◌<◌, ◌≤◌, ◌↔◌, false, nat_lt, length, option_map, ok_or};
+ghost use Rattle.std.specs.Prelude.{Option, Some, None, IfOk};
 ghost use Rattle.texts.specs.Spelling.{IsFit, spelling};
 ghost use Rattle.texts.specs.Fields.{cut};
-ghost use Rattle.texts.specs.Reading.{Gives, moves_field, is_word, Reads, ReadsFields, ReadsAs, GivesEntry, front, no_field, register_of, round_of, open_of, enter_of, scramble_of, entry_of, attempt_of, correct_of, strike_of, set_advance_of, close_of, set_edition_of, by_word, command_of, ReadsWhatIsSpelled, SpellsWhatIsRead, SpellsOneCommand, SpellsShort};
-ghost use Rattle.texts.specs.declared.reading.CommandFault.TheVariants.{NoMemory as OutOfMemory, BadField as BadFieldAt};
+ghost use Rattle.texts.specs.Reading.{Gives, moves_field, is_word, Reads, ReadsFields, ReadsAs};
+ghost use Rattle.texts.specs.Reading.{GivesEntry, front, no_field, register_of, round_of, open_of};
+ghost use Rattle.texts.specs.Reading.{enter_of, scramble_of, entry_of, attempt_of, correct_of};
+ghost use Rattle.texts.specs.Reading.{strike_of, set_advance_of, close_of, set_edition_of, by_word};
+ghost use Rattle.texts.specs.Reading.{command_of, ReadsWhatIsSpelled, SpellsWhatIsRead};
+ghost use Rattle.texts.specs.Reading.{SpellsOneCommand, SpellsShort};
+ghost use Rattle.texts.specs.declared.reading.CommandFault.TheVariants.{NoMemory as OutOfMemory};
+ghost use Rattle.texts.specs.declared.reading.CommandFault.TheVariants.{BadField as BadFieldAt};
 
 use crate::command::{AttemptEntry, Command, Name, RoundId, Settings};
 use crate::fields::{

@@ -1,5 +1,7 @@
 -- A model of the code: what is kept beside the accepted commands, and how a command changes it.
-use Rattle.std.specs.Prelude.{is_some, IfSome, true, false, ◌-◌, ◌<◌, ◌≤◌, length, slice_get, slice_index_or, slice_set, [], ◌++◌, map, if◌then◌else◌, ◌≡◌, ℕ, Bool, ◌==◌, ◌&&◌, List, find, bytes_eq, nat_eq, Option, None, Some}
+use Rattle.std.specs.Prelude.{is_some, IfSome, true, false, ◌-◌, ◌<◌, ◌≤◌, length, slice_get}
+use Rattle.std.specs.Prelude.{slice_index_or, slice_set, [], ◌++◌, map, if◌then◌else◌, ◌≡◌, ℕ, Bool}
+use Rattle.std.specs.Prelude.{◌==◌, ◌&&◌, List, find, bytes_eq, nat_eq, Option, None, Some}
 use Rattle.std.specs.List.{list_any}
 use Rattle.std.specs.Option.{option_or, option_map, option_and_then}
 use Rattle.std.specs.HashMap.{get}
@@ -16,7 +18,8 @@ use Rattle.commands.specs.declared.competitors.Competitors.{Competitors}
 use Rattle.commands.specs.declared.index.Index.{Index}
 use Rattle.rounds.specs.Tables.{Entrant, Table, with_value, corrected, struck, closed, with_entrant}
 use Rattle.formats.specs.declared.advance.Advance.{Advance}
-use Rattle.commands.specs.Accepted.{name_given, name_of, scrambling, scramble_of, settled, round_of, edition_in}
+use Rattle.commands.specs.Accepted.{name_given, name_of, scrambling, scramble_of, settled, round_of}
+use Rattle.commands.specs.Accepted.{edition_in}
 
 -- the name that the command at a place gives a number
 abbrev pub name_at : List Command → ℕ → ℕ → Option (List ℕ)
