@@ -1,7 +1,7 @@
-use Rattle.std.proofs.Common.{rules, ◌≡◌, ◌∙◌, ap, sym, true, false, length, ◌==◌, ◌++◌, ◌∷◌, [], Err, subst, arith}
+use Rattle.std.proofs.Common.{rules, ◌≡◌, sym, true, false, length, ◌==◌, ◌++◌, ◌∷◌, [], Err, subst, arith}
 use Rattle.std.proofs.lemmas.Bool.Decides.{nat_tests}
 use Rattle.lines.specs.declared.fault.RunFault.TheVariants as run_fault
-use Rattle.lines.specs.Reading.{Reading, has_room, Gives, IsBroken}
+use Rattle.lines.specs.Reading.{has_room, Gives, IsBroken}
 use Rattle.lines.proofs.Given.{Midway, byte_is, is_above, ends_line, goes_on, starves, room_lines, is_broken, ends_within}
 use Rattle.lines.proofs.Runs.{run_on, still_going}
 use Rattle.lines.proofs.line_reader.LineReader.read_line.Goals as goal
