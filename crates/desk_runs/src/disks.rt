@@ -1,9 +1,13 @@
-//! Two files in memory, of which one fails from some call on.
+//! Two files in memory, of which one may fail from some call on, and how they are opened.
 
-use sqlite::{FileStore, Files, Leftover, Options};
+use sqlite::{Alter, Connection, Error, FileStore, Files, Leftover, Options};
 use sqlite_disk::{Crash, Disk, Fuse, Memory};
 use std::alloc::Global;
 use std::io;
+use std::io::ErrorKind;
+
+/// The log of a line's files stays shorter than so many frames: it is not copied into the database.
+pub const LONG: usize = 1000;
 
 pub type Disks = Files<Fuse<Memory>>;
 
@@ -23,6 +27,16 @@ impl IntoDisks for Leftover<Fuse<Memory>> {
     fn into_disks(self) -> Disks {
         self.into_files()
     }
+}
+
+/// What is done over two files.
+pub trait Visit {
+    /// Does it over what the files were opened as, and gives back those that are wanted behind it.
+    fn visit<S: Alter + IntoDisks, L: IntoDisks>(
+        &mut self,
+        alloc: Global,
+        found: Result<Connection<S>, (Error, L)>,
+    ) -> io::Result<Option<Disks>>;
 }
 
 /// Which file fails.
@@ -53,6 +67,11 @@ pub fn new_disks(alloc: Global, which: Which, calls: u64) -> Disks {
     }
 }
 
+/// Two new files that do not fail.
+pub fn whole_disks(alloc: Global) -> Disks {
+    new_disks(alloc, Which::Log, u64::MAX)
+}
+
 /// A file that has these bytes.
 fn copied(alloc: Global, bytes: &[u8]) -> io::Result<Fuse<Memory>> {
     let mut copy = Memory::new(alloc);
@@ -61,6 +80,13 @@ fn copied(alloc: Global, bytes: &[u8]) -> io::Result<Fuse<Memory>> {
         copy.sync()?;
     }
     Ok(Fuse::new(copy, u64::MAX))
+}
+
+/// Two files, of which the database has these bytes.
+pub fn filled_disks(alloc: Global, bytes: &[u8]) -> io::Result<Disks> {
+    let db = copied(alloc, bytes)?;
+    let log = Fuse::new(Memory::new(alloc), u64::MAX);
+    Ok(Files { log, db })
 }
 
 /// The files as they are found after the stop. They do not fail.
@@ -78,8 +104,23 @@ pub fn after_stop(alloc: Global, mut disks: Disks, stop: Stop) -> io::Result<Dis
 
 /// How the files are opened: the log is copied into the database once it has more than so many
 /// frames.
-pub fn copied_behind(frames: usize) -> Options {
+fn copied_behind(frames: usize) -> Options {
     let mut options = Options::new(7);
     options.checkpoint_frames = frames;
     options
+}
+
+/// Opens the files, and does this over them. This function alone opens files: each one in which the
+/// type of a store stands takes the prover half a minute, and each such type LLVM a minute.
+pub fn open_for<V: Visit>(
+    alloc: Global,
+    disks: Disks,
+    frames: usize,
+    visit: &mut V,
+) -> io::Result<Option<Disks>> {
+    if !disks.may_be_used() {
+        return Err(io::Error::from(ErrorKind::Other));
+    }
+    let found = Connection::open_files(alloc, disks, copied_behind(frames));
+    visit.visit(alloc, found)
 }

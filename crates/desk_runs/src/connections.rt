@@ -1,7 +1,8 @@
 //! The streams of a line, which a desk serves one after the other, a connection each.
 
-use crate::desks::{Pieces, Side};
-use crate::tokens::{bytes_of, misspelt};
+use crate::side::{Pieces, Side};
+use crate::steps::misspelt;
+use crate::tokens::bytes_of;
 use std::alloc::Global;
 use std::io;
 use std::io::Write;

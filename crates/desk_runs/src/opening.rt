@@ -1,4 +1,4 @@
-//! Keepers in memory, and over databases in memory.
+//! Keepers in memory, and over databases.
 //!
 //! What drops a connection is written over any kind of it, so that no proof takes one apart.
 
@@ -6,7 +6,7 @@ use crate::steps::{cut, misspelt, number, show_steps, small};
 use acceptor::stored::{Change, Stored};
 use learner::log::Log;
 use sqlite::{Alter, Connection};
-use std::alloc::{AllocError, Global};
+use std::alloc::Global;
 use std::io;
 use std::io::Write;
 use store::faults::OpenFault;
@@ -80,37 +80,43 @@ fn open<S: Alter + Drop>(
     SqlKeeper::open_or_give_back(alloc, conn, home.hall, home.desk, home.desks)
 }
 
-/// Opens a store for a desk, and does its steps.
-pub fn show_opened<S: Alter + Drop>(
+/// Opens a store for a desk, does its steps, and gives the connection back.
+fn show_opened<S: Alter + Drop>(
     alloc: Global,
     out: &mut Vec<u8>,
     conn: Connection<S>,
-    home: &str,
-    steps: &str,
-) -> io::Result<()> {
+    rest: &str,
+) -> io::Result<Connection<S>> {
+    let (home, steps) = cut(rest, '|');
     match open(alloc, conn, home_of(home)) {
-        Ok(mut keeper) => show_steps(alloc, out, &mut keeper, steps),
-        Err((fault, _conn)) => writeln!(out, "{fault:?}"),
+        Ok(mut keeper) => {
+            show_steps(alloc, out, &mut keeper, steps)?;
+            Ok(keeper.into_connection())
+        }
+        Err((fault, conn)) => {
+            writeln!(out, "{fault:?}")?;
+            Ok(conn)
+        }
     }
 }
 
-/// Does SQL to a database first.
+/// Does SQL to a database, and then the same.
 fn show_changed<S: Alter + Drop>(
     alloc: Global,
     out: &mut Vec<u8>,
     mut conn: Connection<S>,
-    sql: &str,
     rest: &str,
-) -> io::Result<()> {
+) -> io::Result<Connection<S>> {
+    let (sql, rest) = cut(rest, '|');
     if conn.execute_batch(sql).is_err() {
-        return writeln!(out, "not done");
+        writeln!(out, "not done")?;
+        return Ok(conn);
     }
-    let (home, steps) = cut(rest, '|');
-    show_opened(alloc, out, conn, home, steps)
+    show_opened(alloc, out, conn, rest)
 }
 
 /// Makes a store with the five changes, and gives its connection.
-fn made<S: Alter + Drop>(alloc: Global, conn: Connection<S>) -> Result<Connection<S>, io::Error> {
+fn made<S: Alter + Drop>(alloc: Global, conn: Connection<S>) -> io::Result<Connection<S>> {
     let mut said = Vec::new(alloc);
     match open(alloc, conn, home_of("7 1 3")) {
         Ok(mut keeper) => {
@@ -121,22 +127,32 @@ fn made<S: Alter + Drop>(alloc: Global, conn: Connection<S>) -> Result<Connectio
     }
 }
 
-/// Does SQL to a database, in which desk 1 of hall 7 made five changes first where it is spoilt.
-fn show_over<S: Alter + Drop>(
-    alloc: Global,
+/// Does SQL to a database.
+fn change<S: Alter + Drop>(
     out: &mut Vec<u8>,
-    opened: Result<Connection<S>, AllocError>,
-    word: &str,
-    rest: &str,
-) -> io::Result<()> {
-    let (sql, rest) = cut(rest, '|');
-    if word == "spoilt" {
-        return show_changed(alloc, out, made(alloc, opened?)?, sql, rest);
-    }
-    show_changed(alloc, out, opened?, sql, rest)
+    mut conn: Connection<S>,
+    sql: &str,
+) -> io::Result<Connection<S>> {
+    let told = match conn.execute_batch(sql) {
+        Ok(()) => "done",
+        Err(_) => "not done",
+    };
+    writeln!(out, "{told}")?;
+    Ok(conn)
 }
 
-/// Does what a line with this word asks of a database in memory.
-pub fn show_database(alloc: Global, out: &mut Vec<u8>, word: &str, rest: &str) -> io::Result<()> {
-    show_over(alloc, out, Connection::open_in_memory(alloc), word, rest)
+/// Does what a line with this word asks of a database, and gives the connection back.
+pub fn show_over<S: Alter + Drop>(
+    alloc: Global,
+    out: &mut Vec<u8>,
+    conn: Connection<S>,
+    word: &str,
+    rest: &str,
+) -> io::Result<Connection<S>> {
+    match word {
+        "file" => show_opened(alloc, out, conn, rest),
+        "change" => change(out, conn, rest),
+        "spoilt" => show_changed(alloc, out, made(alloc, conn)?, rest),
+        _ => show_changed(alloc, out, conn, rest),
+    }
 }

@@ -1,7 +1,7 @@
 //! Runs that are stopped at one call after the other.
 
 use crate::desks::{Others, astray, enter_again, have_agreed, run_from};
-use crate::disks::{Disks, IntoDisks, Stop, Which, after_stop, copied_behind, new_disks};
+use crate::disks::{Disks, IntoDisks, Stop, Visit, Which, after_stop, new_disks, open_for};
 use crate::events::EVENTS;
 use crate::stored::{changes_in, is_after};
 use node::{Event, Node, NodeFault};
@@ -230,49 +230,49 @@ fn live_second<S: Alter + IntoDisks, L: IntoDisks>(
     }
 }
 
-/// The desk's first life, and the files behind it, or its second one, up to which it came so far.
-fn live_over<S: Alter + IntoDisks, L: IntoDisks>(
-    alloc: Global,
-    found: Result<Connection<S>, (Error, L)>,
-    others: &mut Others,
+/// A life of desk 1 among the others: its first one, or its second, up to which it came so far.
+#[derive(Drop)]
+struct Life {
+    others: Others,
     so_far: Option<Reached>,
-) -> (io::Result<Reached>, Option<Disks>) {
-    match so_far {
-        Some(reached) => (live_second(alloc, found, others, reached), None),
-        None => {
-            let (reached, disks) = live_first(alloc, found, others);
-            (reached, Some(disks))
+}
+
+impl Visit for Life {
+    fn visit<S: Alter + IntoDisks, L: IntoDisks>(
+        &mut self,
+        alloc: Global,
+        found: Result<Connection<S>, (Error, L)>,
+    ) -> io::Result<Option<Disks>> {
+        match self.so_far {
+            Some(reached) => {
+                self.so_far = Some(live_second(alloc, found, &mut self.others, reached)?);
+                Ok(None)
+            }
+            None => {
+                let (reached, disks) = live_first(alloc, found, &mut self.others);
+                self.so_far = Some(reached?);
+                Ok(Some(disks))
+            }
         }
     }
 }
 
-/// A life of the desk over its files, as above. This function alone opens them: each in which the
-/// type of a store stands takes the prover half a minute.
-fn run_over(
-    alloc: Global,
-    disks: Disks,
-    frames: usize,
-    others: &mut Others,
-    so_far: Option<Reached>,
-) -> (io::Result<Reached>, Option<Disks>) {
-    if !disks.may_be_used() {
-        return (Ok(Reached::Otherwise("the files may not be used")), None);
-    }
-    let found = Connection::open_files(alloc, disks, copied_behind(frames));
-    live_over(alloc, found, others, so_far)
-}
-
 /// One run, in which a file fails from this call on.
 fn run_once(alloc: Global, trial: Trial, calls: u64) -> io::Result<Reached> {
-    let mut others = Others::new(alloc)?;
+    let others = Others::new(alloc)?;
+    let so_far = None;
+    let mut life = Life { others, so_far };
     let disks = new_disks(alloc, trial.which, calls);
-    let (reached, left) = run_over(alloc, disks, trial.frames, &mut others, None);
-    let reached = reached?;
-    let (Some(disks), false) = (left, matches!(reached, Reached::Otherwise(_))) else {
-        return Ok(reached);
+    let left = open_for(alloc, disks, trial.frames, &mut life)?;
+    let (Some(disks), Some(reached)) = (left, life.so_far) else {
+        return Err(astray());
     };
+    if matches!(reached, Reached::Otherwise(_)) {
+        return Ok(reached);
+    }
     let disks = after_stop(alloc, disks, trial.stop)?;
-    run_over(alloc, disks, trial.frames, &mut others, Some(reached)).0
+    let _ = open_for(alloc, disks, trial.frames, &mut life)?;
+    Ok(life.so_far.unwrap_or(reached))
 }
 
 /// Runs with the file failing from its first call on, then from its second on, until no run is

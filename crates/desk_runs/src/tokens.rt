@@ -1,22 +1,17 @@
 //! Bytes that are written as hexadecimal digits.
 
+use crate::steps::misspelt;
 use std::alloc::Global;
 use std::io;
-use std::io::{Error, ErrorKind};
-
-/// A line that asks for nothing.
-pub fn misspelt() -> Error {
-    Error::from(ErrorKind::InvalidInput)
-}
 
 /// Puts the bytes of a token behind others.
 fn push_token(alloc: Global, bytes: &mut Vec<u8>, token: &str) -> io::Result<()> {
     let (digits, times) = token.split_once('*').unwrap_or((token, "1"));
     let Ok(times) = times.parse::<u32>() else {
-        return Err(Error::from(ErrorKind::InvalidInput));
+        return Err(misspelt());
     };
     let Ok(part) = hex::decode(alloc, digits) else {
-        return Err(Error::from(ErrorKind::InvalidInput));
+        return Err(misspelt());
     };
     for _ in 0..times {
         bytes.extend_from_slice(&part)?;

@@ -1,9 +1,9 @@
 //! Random streams, each served whole and frame by frame.
 
 use crate::damage::put_damage;
-use crate::desks::{Pieces, Side};
 use crate::frames::{Drawn, STOP, below, draw};
-use crate::tokens::misspelt;
+use crate::side::{Pieces, Side};
+use crate::steps::misspelt;
 use rand_core::SeedableRng;
 use rand_xoshiro::SplitMix64;
 use serving::{End, Served};
