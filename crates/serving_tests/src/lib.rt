@@ -3,7 +3,7 @@
 //! (`sockets_of_one`), and pushes to a desk that nobody can reach (`absent`).
 //!
 //! What desks say to one another stands in the histories of `checks/stored`, and connections of one
-//! desk, byte for byte, in the stored run of `stream_runs`.
+//! desk, byte for byte, in the stored run of `desk_runs`.
 #![tactic(auto)]
 
 #[cfg(test)]
