@@ -1,5 +1,5 @@
 -- When a text is too long, and when it is no command: no field is at fault then.
-use Rattle.std.proofs.Common.{◌≡◌, ℕ, ◌<◌, ◌≤◌, Bool, true, false, ◌||◌, cond, nat_lt, List, length, codes, bytes_eq, Option, Some, None, Result, Ok, Err, refl, sym, ◌∙◌, subst, arith, ◌↔◌}
+use Rattle.std.proofs.Common.{◌≡◌, ℕ, ◌<◌, ◌≤◌, ◌⊎◌, inl, inr, Bool, true, false, ◌||◌, cond, nat_lt, List, length, codes, bytes_eq, Option, Some, None, Result, Ok, Err, refl, sym, ◌∙◌, subst, arith, ◌↔◌}
 use Rattle.std.specs.Option.{ok_or}
 use Rattle.std.proofs.lemmas.Bool.{false≢true}
 use Rattle.std.proofs.lemmas.Bool.Decides.{nat_tests}
@@ -7,7 +7,7 @@ use Rattle.texts.specs.declared.command.Command.{Command}
 use Rattle.texts.specs.declared.reading.CommandFault.{CommandFault}
 use Rattle.texts.specs.declared.reading.CommandFault.TheVariants as fault
 use Rattle.texts.specs.Fields.{cut}
-use Rattle.texts.specs.Reading.{◌>>=◌, field, last_field, no_field, register_of, round_of, open_of, enter_of, scramble_of, entry_of, attempt_of, correct_of, strike_of, set_advance_of, close_of, set_edition_of, is_word, by_word, command_of, Gives}
+use Rattle.texts.specs.Reading.{◌>>=◌, field, last_field, no_field, register_of, round_of, open_of, enter_of, scramble_of, entry_of, attempt_of, correct_of, strike_of, set_advance_of, close_of, set_edition_of, is_word, by_word, command_of, TakesMemory, Gives}
 
 -- what is read of fields: a value, or a field at fault
 abbrev IsOfFields : {A : Type 0} → Result A CommandFault → Type 0
@@ -196,58 +196,36 @@ not_a_command bytes = (
     step true is e = absurd (let bad : Err fault.TooLong ≡ Err fault.NotACommand = e in cc)
     step false is e = (grind (arith, nat_tests), (by_word-none (cut 32 bytes)).0 e)
 
-answers_too_long : (moves : ℕ) (r said : Result Command CommandFault) → Gives moves r said
-    → (r ≡ Err fault.TooLong) ↔ (said ≡ Err fault.TooLong)
-answers_too_long moves (Ok c) said h = (
-  λ e. absurd (let bad : Ok c ≡ Err fault.TooLong = e in cc),
-  λ e.
-      absurd (let bad : Ok c ≡ Err fault.TooLong = sym h ∙ e in cc),
-)
-answers_too_long moves (Err fault.TooLong) said h = (λ e. h, λ e. refl)
-answers_too_long moves (Err fault.NotACommand) said h = (
-  λ e. absurd (let bad : Err fault.NotACommand ≡ Err fault.TooLong = e in cc),
-  λ e.
-      absurd (let bad : Err fault.NotACommand ≡ Err fault.TooLong = sym h ∙ e in cc),
-)
-answers_too_long moves (Err (fault.BadField index)) said h = (
-  λ e. absurd (let bad : Err (fault.BadField index) ≡ Err fault.TooLong = e in cc),
-  λ e.
-      absurd (let bad : Err (fault.BadField index) ≡ Err fault.TooLong = sym h ∙ e in cc),
-)
-answers_too_long moves (Err fault.NoMemory) said h = (
-  λ e. absurd (let bad : Err fault.NoMemory ≡ Err fault.TooLong = e in cc),
-  λ e.
-      absurd (subst (λ (r : Result Command CommandFault). Gives moves (Err fault.NoMemory) r) e h),
-)
+-- what is answered is what is said, unless memory ran out
+answered : (moves : ℕ) (r said : Result Command CommandFault) → Gives moves r said
+    → (r ≡ said) ⊎ ((r ≡ Err fault.NoMemory) × TakesMemory moves said)
+answered moves (Ok c) said h = inl (sym h)
+answered moves (Err fault.TooLong) said h = inl (sym h)
+answered moves (Err fault.NotACommand) said h = inl (sym h)
+answered moves (Err (fault.BadField index)) said h = inl (sym h)
+answered moves (Err fault.NoMemory) said h = inr (refl, h)
 
-answers_not_a_command : (moves : ℕ) (r said : Result Command CommandFault) → Gives moves r said
-    → (r ≡ Err fault.NotACommand) ↔ (said ≡ Err fault.NotACommand)
-answers_not_a_command moves (Ok c) said h = (
-  λ e. absurd (let bad : Ok c ≡ Err fault.NotACommand = e in cc),
-  λ e.
-      absurd (let bad : Ok c ≡ Err fault.NotACommand = sym h ∙ e in cc),
-)
-answers_not_a_command moves (Err fault.NotACommand) said h = (λ e. h, λ e. refl)
-answers_not_a_command moves (Err fault.TooLong) said h = (
-  λ e. absurd (let bad : Err fault.TooLong ≡ Err fault.NotACommand = e in cc),
-  λ e.
-      absurd (let bad : Err fault.TooLong ≡ Err fault.NotACommand = sym h ∙ e in cc),
-)
-answers_not_a_command moves (Err (fault.BadField index)) said h = (
-  λ e. absurd (let bad : Err (fault.BadField index) ≡ Err fault.NotACommand = e in cc),
-  λ e.
-      absurd (let bad : Err (fault.BadField index) ≡ Err fault.NotACommand = sym h ∙ e in cc),
-)
-answers_not_a_command moves (Err fault.NoMemory) said h = (
-  λ e. absurd (let bad : Err fault.NoMemory ≡ Err fault.NotACommand = e in cc),
-  λ e.
-      absurd (subst (λ (r : Result Command CommandFault). Gives moves (Err fault.NoMemory) r) e h),
-)
+-- a fault in whose place memory does not run out is answered just where it is said
+alike : (e : CommandFault) (moves : ℕ) (r said : Result Command CommandFault)
+    → (Err fault.NoMemory ≡ (let of : Result Command CommandFault = Err e in of) → ⊥)
+    → (TakesMemory moves (Err e) → ⊥)
+    → Gives moves r said → (r ≡ Err e) ↔ (said ≡ Err e)
+alike e moves r said other takes h = step (answered moves r said h)
+  where
+    step : (r ≡ said) ⊎ ((r ≡ Err fault.NoMemory) × TakesMemory moves said)
+        → (r ≡ Err e) ↔ (said ≡ Err e)
+    step (inl same) = (λ is. sym same ∙ is, λ is. same ∙ is)
+    step (inr none) = (
+      λ is. absurd (other (sym none.0 ∙ is)),
+      λ is. absurd (takes (subst (TakesMemory moves) is none.1)),
+    )
 
 pub gives_too_long_alone : (moves : ℕ) (r : Result Command CommandFault) (bytes : List ℕ)
     → Gives moves r (command_of bytes) → (r ≡ Err fault.TooLong) ↔ (600 < length bytes)
 gives_too_long_alone moves r bytes h =
-    let answer = answers_too_long moves r (command_of bytes) h in
+    let answer =
+    alike fault.TooLong moves r (command_of bytes)
+    (λ e. let bad : Err fault.NoMemory ≡ Err fault.TooLong = e in cc) (λ t. t) h in
     let text = too_long bytes in
     (λ e. text.0 (answer.0 e), λ long. answer.1 (text.1 long))
 
@@ -255,6 +233,8 @@ pub gives_not_a_command : (moves : ℕ) (r : Result Command CommandFault) (bytes
     → Gives moves r (command_of bytes)
     → (r ≡ Err fault.NotACommand) ↔ ((length bytes ≤ 600) × (is_word (cut 32 bytes).0 ≡ false))
 gives_not_a_command moves r bytes h =
-    let answer = answers_not_a_command moves r (command_of bytes) h in
+    let answer =
+    alike fault.NotACommand moves r (command_of bytes)
+    (λ e. let bad : Err fault.NoMemory ≡ Err fault.NotACommand = e in cc) (λ t. t) h in
     let text = not_a_command bytes in
     (λ e. text.0 (answer.0 e), λ no. answer.1 (text.1 no))
