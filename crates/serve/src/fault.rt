@@ -1,7 +1,7 @@
 //! Why a desk does not serve, or ends early.
 
 ghost use Rattle.std.specs.Prelude.{◌≡◌};
-ghost use Rattle.serve.specs.Printing.{IsOfStore};
+ghost use Rattle.serve.specs.Printing.{IsOfStore, loading_fault, opening_fault};
 
 use store::faults::{LoadFault, OpenFault};
 
@@ -30,7 +30,8 @@ pub enum ServeFault {
 
 /// The fault of a store that was not opened.
 pub fn fault_of_open(fault: OpenFault) -> ServeFault
-    ensures { IsOfStore result }
+    ensures same { result ≡ opening_fault fault }
+    ensures of_store { IsOfStore result }
 {
     match fault {
         OpenFault::WrongDesk => ServeFault::WrongDesk,
@@ -42,7 +43,8 @@ pub fn fault_of_open(fault: OpenFault) -> ServeFault
 
 /// The fault of a store that was not loaded.
 pub fn fault_of_load(fault: LoadFault) -> ServeFault
-    ensures { IsOfStore result }
+    ensures same { result ≡ loading_fault fault }
+    ensures of_store { IsOfStore result }
 {
     match fault {
         LoadFault::Damaged => ServeFault::Damaged,
