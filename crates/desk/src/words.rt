@@ -138,7 +138,7 @@ fn run_task<R: Read, W: Write, F: Write>(
             Ok(()) => 0,
             Err(fault) => tell(faults, fault),
         },
-        Task::Log { store } => match write_stored_log(rt, store, writer) {
+        Task::Log { store } => match write_stored_log(rt, store, Unknown, writer) {
             Ok(()) => 0,
             Err(fault) => tell(faults, DeskFault::from(fault)),
         },

@@ -1,1 +1,2 @@
 pub mod StoredLogs
+pub mod model

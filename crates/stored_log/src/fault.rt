@@ -1,5 +1,9 @@
 //! Why a stored log is not written.
 
+ghost use Rattle.std.specs.Prelude.{◌≡◌};
+ghost use Rattle.lines.specs.declared.fault.RunFault.TheVariants as run_fault;
+ghost use Rattle.stored_log.specs.StoredLogs.{IsOfFile, loading_fault, opening_fault};
+
 use lines::RunFault;
 use store::faults::{LoadFault, OpenFault};
 
@@ -17,7 +21,10 @@ pub enum LogFault {
 }
 
 /// The fault of a store that was not opened.
-pub fn fault_of_open(fault: OpenFault) -> LogFault {
+pub fn fault_of_open(fault: OpenFault) -> LogFault
+    ensures same { result ≡ opening_fault fault }
+    ensures of_file { IsOfFile result }
+{
     match fault {
         OpenFault::WrongDesk | OpenFault::Damaged => LogFault::Damaged,
         OpenFault::Device => LogFault::Device,
@@ -26,7 +33,10 @@ pub fn fault_of_open(fault: OpenFault) -> LogFault {
 }
 
 /// The fault of a store that was not loaded.
-pub fn fault_of_load(fault: LoadFault) -> LogFault {
+pub fn fault_of_load(fault: LoadFault) -> LogFault
+    ensures same { result ≡ loading_fault fault }
+    ensures of_file { IsOfFile result }
+{
     match fault {
         LoadFault::Damaged => LogFault::Damaged,
         LoadFault::Device => LogFault::Device,
@@ -35,7 +45,10 @@ pub fn fault_of_load(fault: LoadFault) -> LogFault {
 }
 
 /// The fault of lines that were not written.
-pub fn fault_of_run(fault: RunFault) -> LogFault {
+pub fn fault_of_run(fault: RunFault) -> LogFault
+    ensures write { fault ≡ run_fault.Write → result ≡ LogFault.Write }
+    ensures memory { fault ≡ run_fault.NoMemory → result ≡ LogFault.NoMemory }
+{
     match fault {
         RunFault::NoMemory => LogFault::NoMemory,
         _ => LogFault::Write,
