@@ -6,7 +6,8 @@ use Rattle.acceptor.specs.declared.ballot.Ballot.{Ballot}
 use Rattle.acceptor.specs.declared.entry.Entry.{Entry}
 use Rattle.acceptor.specs.declared.message.Report.{Report}
 use Rattle.acceptor.specs.declared.message.Body.{Body}
-use Rattle.acceptor.specs.declared.message.Body.TheVariants.{Promise, Accepted, Nack, Decided, Behind}
+use Rattle.acceptor.specs.declared.message.Body.TheVariants.{Promise, Accepted, Nack, Decided}
+use Rattle.acceptor.specs.declared.message.Body.TheVariants.{Behind}
 use Rattle.acceptor.specs.declared.stored.Vote.{Vote}
 use Rattle.acceptor.specs.declared.stored.Stored.{Stored}
 use Rattle.acceptor.specs.declared.stored.Change.{Change}

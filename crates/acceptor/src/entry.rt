@@ -1,6 +1,6 @@
 //! Entries, which stand in the log.
 
-ghost use Rattle.std.specs.Prelude.{◌≡◌, ◌≤◌, ◌<◌, ◌^◌, ◌↔◌, IfOk, IsErrOf, length};
+ghost use Rattle.std.specs.Prelude.{◌≡◌, ◌<◌, ◌↔◌, IfOk, IsErrOf};
 ghost use Rattle.acceptor.specs.Entries.{IsId, IsText};
 
 use crate::NoMemory;

@@ -1,6 +1,6 @@
 //! Messages from one desk to one or several.
 
-ghost use Rattle.std.specs.Prelude.{ℕ, ◌≡◌, ◌∷◌, [], ◌<◌, IfOk};
+ghost use Rattle.std.specs.Prelude.{◌≡◌, ◌∷◌, [], ◌<◌, IfOk};
 ghost use Rattle.acceptor.specs.Messages.{message, to_each, without, desks_from, to_all, to_others};
 
 use crate::NoMemory;

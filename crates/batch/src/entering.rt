@@ -1,9 +1,9 @@
 //! One command entered at the desk, and waited for.
 
-ghost use Rattle.std.specs.Prelude.{◌≡◌, ◌⊎◌, Bool, List, IfErr, IfOk, OnErr, OnOk, IsTrue};
+ghost use Rattle.std.specs.Prelude.{◌≡◌, ◌⊎◌, Bool, IfErr, IfOk, OnErr, OnOk, IsTrue};
 ghost use Rattle.std.specs.List.{AllByRecursion};
 ghost use Rattle.wire.specs.Ranges.{IsDesk, IsEntry, IsFrame, IsId};
-ghost use Rattle.batch.specs.Asking.{AreOf, Asked, Asks, IsAnswer, IsAwaited, IsDecided, IsTaken};
+ghost use Rattle.batch.specs.Asking.{AreOf, Asks, IsAnswer, IsAwaited, IsDecided, IsTaken};
 ghost use Rattle.batch.specs.Asking.{IsTicked, IsTurnedDown, IsUnknown, Tries, ask_of, submit_of};
 ghost use Rattle.batch.specs.Asking.{tick_of};
 ghost use Rattle.batch.specs.Entering.{EnteredBy, Hinders, IsEntered};

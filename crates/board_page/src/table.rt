@@ -4,7 +4,8 @@ ghost use Rattle.std.specs.Prelude.{◌≡◌, ◌++◌, [], List, ℕ, get_or, 
 ghost use Rattle.csv.specs.Reading.{AreRecords, default_config, strip_bom};
 ghost use Rattle.csv.specs.Records.{fields_of};
 ghost use Rattle.csv.specs.declared.parser.State.TheVariants as st;
-ghost use Rattle.board_page.specs.Table.{cell, heading, headings, line, line_start, position_of, section_start, table, title_of, IsSheetOf};
+ghost use Rattle.board_page.specs.Table.{cell, heading, headings, line, line_start, position_of};
+ghost use Rattle.board_page.specs.Table.{section_start, table, title_of, IsSheetOf};
 
 use crate::escaping::push_escaped;
 use csv::{ByteRecord, ReaderBuilder};

@@ -1,6 +1,5 @@
 //! One request and its answer.
 
-ghost use Rattle.std.specs.Prelude.{◌≡◌};
 ghost use Rattle.wire.specs.Ranges.{IsFrame};
 ghost use Rattle.client.specs.Exchange.{Exchanges};
 

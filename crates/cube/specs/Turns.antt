@@ -1,5 +1,6 @@
 -- Turns as maps of space, applied to the stickers of their layers.
-use Rattle.std.specs.Prelude.{◌≡◌, ◌==◌, ℕ, List, [], ◌∷◌, length, map, slice_index_or, Bool, true, false, if◌then◌else◌, count_by}
+use Rattle.std.specs.Prelude.{◌≡◌, ◌==◌, ℕ, List, [], ◌∷◌, length, map, slice_index_or, Bool, true}
+use Rattle.std.specs.Prelude.{false, if◌then◌else◌, count_by}
 use Rattle.cube.specs.declared.moves.Side.{Side}
 use Rattle.cube.specs.declared.moves.Side.TheVariants.{U, R, F, D, L, B}
 use Rattle.cube.specs.declared.moves.Axis.{Axis}
@@ -11,7 +12,8 @@ use Rattle.cube.specs.declared.moves.Quarter.TheVariants.{Clockwise, Half, Antic
 use Rattle.cube.specs.declared.moves.Move.{Move}
 use Rattle.cube.specs.declared.moves.Colour.{Colour}
 use Rattle.cube.specs.declared.moves.Colour.TheVariants as colours
-use Rattle.cube.specs.Stickers.{Coordinate, Minus, Zero, Plus, negative, Vector, Sticker, along, stickers, number, IsSticker, side_of}
+use Rattle.cube.specs.Stickers.{Coordinate, Minus, Zero, Plus, negative, Vector, Sticker, along}
+use Rattle.cube.specs.Stickers.{stickers, number, IsSticker, side_of}
 
 -- the quarter turn of space in the direction of a side, clockwise as seen from outside
 abbrev pub rotated : Side → Vector → Vector

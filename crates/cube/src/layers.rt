@@ -3,7 +3,8 @@
 
 ghost use Rattle.std.specs.Prelude.{◌≡◌};
 ghost use Rattle.cube.specs.model.Pieces.{colours_of};
-ghost use Rattle.cube.specs.Turns.{turned as turned_by, quarter_turned as quarter_turned_by, rotation};
+ghost use Rattle.cube.specs.Turns.{turned as turned_by, quarter_turned as quarter_turned_by};
+ghost use Rattle.cube.specs.Turns.{rotation};
 
 use crate::moves::{Axis, Kind, Move, Quarter, Side};
 use crate::pieces::{Facing, Pieces};

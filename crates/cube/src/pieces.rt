@@ -2,7 +2,8 @@
 //! edge stands at each edge's place and whether it is flipped, and how the centres face.
 
 ghost use Rattle.std.specs.Prelude.{◌≡◌};
-ghost use Rattle.cube.specs.model.Pieces.{corner_piece_colours, edge_piece_colours, corner_colours, edge_colours, colours_of};
+ghost use Rattle.cube.specs.model.Pieces.{corner_piece_colours, edge_piece_colours, corner_colours};
+ghost use Rattle.cube.specs.model.Pieces.{edge_colours, colours_of};
 
 use crate::moves::Colour;
 

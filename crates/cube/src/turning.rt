@@ -1,7 +1,8 @@
 //! The cube: turned, looked at, and found solved or not.
 
 ghost use Rattle.std.specs.Prelude.{◌≡◌, ◌<◌, ◌↔◌, List, IsTrue, Some, slice_get};
-ghost use Rattle.cube.specs.Turns.{turned, first_arrangement, IsSolved, CarriesStickers, HasNineOfEach};
+ghost use Rattle.cube.specs.Turns.{turned, first_arrangement, IsSolved, CarriesStickers};
+ghost use Rattle.cube.specs.Turns.{HasNineOfEach};
 
 use crate::moves::{Colour, Move};
 use crate::pieces::{Pieces, SOLVED};

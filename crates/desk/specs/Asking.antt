@@ -1,7 +1,9 @@
 -- What the words of the program ask for, as its parser reads words: `clap` says which word is whose
 -- value.
-use Rattle.std.specs.Prelude.{◌≡◌, ◌⊎◌, true, false, ℕ, List, codes, decimal, map, Option, None, Some, option_and_then}
-use Rattle.clap.specs.Words.{App, Row, Text, all_of, first_of, new_app, one_of, subcommand_of, with_rule, with_subcommand}
+use Rattle.std.specs.Prelude.{◌≡◌, ◌⊎◌, true, false, ℕ, List, codes, decimal, map, Option, None}
+use Rattle.std.specs.Prelude.{Some, option_and_then}
+use Rattle.clap.specs.Words.{App, Row, Text, all_of, first_of, new_app, one_of, subcommand_of}
+use Rattle.clap.specs.Words.{with_rule, with_subcommand}
 use Rattle.clap.specs.declared.builder.value_parser.ValueParser.{ValueParser}
 use Rattle.formats.specs.declared.events.Event.{Event}
 use Rattle.formats.specs.Events.{all_events, event_name, event_of_name}
@@ -11,7 +13,8 @@ use Rattle.wire.specs.declared.values.SheetStyle.{SheetStyle}
 use Rattle.wire.specs.declared.values.SheetStyle.TheVariants as asked
 use Rattle.wire.specs.Laws.{IsVersion}
 use Rattle.wire.specs.Ranges.{IsId}
-use Rattle.desk.specs.Arguments.{IsNumberAt, IsOneOf, any_text, csv_rule, errand_words, numbers, option_rule, round_numbers, value_rule, values_rule, wait_rule}
+use Rattle.desk.specs.Arguments.{IsNumberAt, IsOneOf, any_text, csv_rule, errand_words, numbers}
+use Rattle.desk.specs.Arguments.{option_rule, round_numbers, value_rule, values_rule, wait_rule}
 use Rattle.batch.specs.declared.lines_entered.Batch.{Batch}
 use Rattle.serve.specs.declared.service.Service.{Service}
 use Rattle.desk.specs.Errands.{HasId}

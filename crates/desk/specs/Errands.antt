@@ -1,5 +1,6 @@
 -- The frame of an errand, and how an errand ends.
-use Rattle.std.specs.Prelude.{◌≡◌, ◌⊎◌, ◌≤◌, ℕ, nat_le, if◌then◌else◌, List, length, Option, Ok, Err}
+use Rattle.std.specs.Prelude.{◌≡◌, ◌⊎◌, ◌≤◌, ℕ, nat_le, if◌then◌else◌, List, length, Option, Ok}
+use Rattle.std.specs.Prelude.{Err}
 use Rattle.std.specs.Io.KnownBytes.{Keeps, Appends}
 use Rattle.client.specs.Answers.{judged}
 use Rattle.client.specs.Printing.{reply_text}

@@ -1,9 +1,11 @@
 //! The arguments that subcommands take, and how their values are read.
 
 ghost use Rattle.std.specs.Prelude.{◌≡◌, false, codes, IfOk, IfSome, Some};
-ghost use Rattle.clap.specs.Words.{app_of, first_of, found_of, new_app, rows_of, rule_of, with_rule};
+ghost use Rattle.clap.specs.Words.{app_of, first_of, found_of, new_app, rows_of, rule_of};
+ghost use Rattle.clap.specs.Words.{with_rule};
 ghost use Rattle.clap.specs.declared.builder.command.Command.TheViews.{out-Command as fields_of};
-ghost use Rattle.desk.specs.Arguments.{IsCommand, IsNumberAt, csv_rule, errand_words, numbers, option_rule, value_rule};
+ghost use Rattle.desk.specs.Arguments.{IsCommand, IsNumberAt, csv_rule, errand_words, numbers};
+ghost use Rattle.desk.specs.Arguments.{option_rule, value_rule};
 ghost use Rattle.wire.specs.Ranges.{IsId};
 
 use clap::builder::ValueParser;

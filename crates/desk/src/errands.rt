@@ -5,7 +5,9 @@ ghost use Rattle.client.specs.Answers.{judged};
 ghost use Rattle.wire.specs.Ranges.{IsBody, IsEntry, IsFrame};
 ghost use Rattle.wire.specs.declared.frame.Frame.{Frame};
 ghost use Rattle.wire.specs.declared.frame.What.TheVariants as what;
-ghost use Rattle.desk.specs.Errands.{Answers, DoesErrand, FailsErrand, FailsTalk, FailsToConnect, HasId, Hinders, IsAllowed, IsShort, frame_of, version_of, what_of};
+ghost use Rattle.desk.specs.Errands.{Answers, DoesErrand, FailsErrand, FailsTalk, FailsToConnect};
+ghost use Rattle.desk.specs.Errands.{HasId, Hinders, IsAllowed, IsShort, frame_of, version_of};
+ghost use Rattle.desk.specs.Errands.{what_of};
 ghost use Rattle.wire.specs.declared.values.Version.TheVariants as version;
 ghost use Rattle.desk.specs.declared.faults.DeskFault.TheVariants as desk_fault;
 

@@ -2,7 +2,8 @@
 
 ghost use Rattle.std.specs.Prelude.{◌≡◌, false, codes, IfOk, IfSome};
 ghost use Rattle.clap.specs.Words.{found_of, rows_of, rule_of};
-ghost use Rattle.desk.specs.Arguments.{IsCommand, IsNumberAt, any_text, numbers, option_rule, values_rule};
+ghost use Rattle.desk.specs.Arguments.{IsCommand, IsNumberAt, any_text, numbers, option_rule};
+ghost use Rattle.desk.specs.Arguments.{values_rule};
 ghost use Rattle.desk.specs.Asking.{serve_words, IsPatience, IsTask, IsWire};
 ghost use Rattle.wire.specs.Laws.{IsVersion};
 

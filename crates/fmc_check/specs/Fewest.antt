@@ -1,5 +1,6 @@
 -- What a solution of fewest moves counts (WCA Regulations, article E).
-use Rattle.std.specs.Prelude.{◌==◌, ◌&&◌, ◌≤◌, ◌↔◌, ◌++◌, Bool, nat_le, if◌then◌else◌, IsTrue, List, length}
+use Rattle.std.specs.Prelude.{◌==◌, ◌&&◌, ◌≤◌, ◌↔◌, ◌++◌, Bool, nat_le, if◌then◌else◌, IsTrue, List}
+use Rattle.std.specs.Prelude.{length}
 use Rattle.std.specs.List.{list_all}
 use Rattle.cube.specs.declared.moves.Side.{Side}
 use Rattle.cube.specs.declared.moves.Colour.{Colour}

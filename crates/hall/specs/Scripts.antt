@@ -1,8 +1,10 @@
 -- The lines of a script: how the events of a hall are spelled, and which lines spell one.
-use Rattle.std.specs.Prelude.{◌≡◌, ◌≤◌, ℕ, List, ◌∷◌, [], ◌++◌, map, codes, decimal, Option, None, Some}
+use Rattle.std.specs.Prelude.{◌≡◌, ◌≤◌, ℕ, List, ◌∷◌, [], ◌++◌, map, codes, decimal, Option, None}
+use Rattle.std.specs.Prelude.{Some}
 use Rattle.acceptor.specs.Entries.{EntryValue, IsId, IsText}
 use Rattle.learner.specs.declared.event.WorldEvent.{WorldEvent}
-use Rattle.learner.specs.declared.event.WorldEvent.TheVariants.{Submit, Start, Tick, Deliver, Restart}
+use Rattle.learner.specs.declared.event.WorldEvent.TheVariants.{Submit, Start, Tick, Deliver}
+use Rattle.learner.specs.declared.event.WorldEvent.TheVariants.{Restart}
 use Rattle.learner.specs.Steps.{IsDesk}
 
 -- an event: its word, and its fields in decimal, parted by one space each; a text is all that

@@ -1,15 +1,18 @@
 -- What is printed of a hall: a line for each message, for each refusal, and for each entry of a
 -- log.
-use Rattle.std.specs.Prelude.{ℕ, ◌+◌, List, [], ◌++◌, drop, flat_map, codes, decimal, Option, None, Some}
+use Rattle.std.specs.Prelude.{ℕ, ◌+◌, List, [], ◌++◌, drop, flat_map, codes, decimal, Option, None}
+use Rattle.std.specs.Prelude.{Some}
 use Rattle.std.specs.List.{enumerate_from}
 use Rattle.acceptor.specs.declared.ballot.Ballot.{Ballot}
 use Rattle.acceptor.specs.declared.entry.Entry.{Entry}
 use Rattle.acceptor.specs.declared.message.Report.{Report}
 use Rattle.acceptor.specs.declared.message.Body.{Body}
-use Rattle.acceptor.specs.declared.message.Body.TheVariants.{Prepare, Promise, Accept, Accepted, Nack, Behind, Decided}
+use Rattle.acceptor.specs.declared.message.Body.TheVariants.{Prepare, Promise, Accept, Accepted}
+use Rattle.acceptor.specs.declared.message.Body.TheVariants.{Nack, Behind, Decided}
 use Rattle.acceptor.specs.declared.message.Message.{Message}
 use Rattle.world.specs.declared.faults.NodeFault.{NodeFault}
-use Rattle.world.specs.declared.faults.NodeFault.TheVariants.{Busy, LogFull, BallotsSpent, NoMemory, Down}
+use Rattle.world.specs.declared.faults.NodeFault.TheVariants.{Busy, LogFull, BallotsSpent, NoMemory}
+use Rattle.world.specs.declared.faults.NodeFault.TheVariants.{Down}
 
 -- a number as a field: a space and the number in decimal
 abbrev pub number_field : ℕ → List ℕ

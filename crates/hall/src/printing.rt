@@ -1,7 +1,8 @@
 //! What is printed of a hall.
 
-ghost use Rattle.std.specs.Prelude.{◌≡◌, ◌++◌, ◌<◌, OnOk, codes, decimal, length};
-ghost use Rattle.hall.specs.Texts.{number_field, ballot_field, vote_field, body_text, message_text, messages_text, fault_name, refusal_text, entry_text};
+ghost use Rattle.std.specs.Prelude.{◌≡◌, ◌++◌, ◌<◌, OnOk, codes, decimal};
+ghost use Rattle.hall.specs.Texts.{number_field, ballot_field, vote_field, body_text, message_text};
+ghost use Rattle.hall.specs.Texts.{messages_text, fault_name, refusal_text, entry_text};
 
 use acceptor::NoMemory;
 use acceptor::ballot::Ballot;

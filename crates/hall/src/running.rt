@@ -1,8 +1,8 @@
 //! A script run from line to line, and the logs behind it.
 
-ghost use Rattle.std.specs.Prelude.{◌≡◌, ◌⊎◌, ◌↔◌, ◌+◌, ◌++◌, ◌∷◌, [], List, ℕ, Some, None, IfOk, OnOk, OnErr, IfErr, IsErrOf, length, flat_map};
+ghost use Rattle.std.specs.Prelude.{◌≡◌, ◌⊎◌, ◌↔◌, ◌+◌, ◌++◌, ◌∷◌, [], List, ℕ, Some, IfOk, OnOk};
+ghost use Rattle.std.specs.Prelude.{OnErr, IfErr, IsErrOf};
 ghost use Rattle.learner.specs.declared.event.WorldEvent.{WorldEvent};
-ghost use Rattle.learner.specs.Steps.{IsDesk};
 ghost use Rattle.lines.specs.Bytes.{HasLeft, AppendsPart};
 ghost use Rattle.std.specs.Io.KnownBytes.{Appends};
 ghost use Rattle.world.specs.WorldValues.{extended};

@@ -1,6 +1,7 @@
 //! The events of a script, each from its line.
 
-ghost use Rattle.std.specs.Prelude.{◌≡◌, ◌≤◌, ◌<◌, Some, option_map, option_and_then, IfOk, OnErr, IfSome, length};
+ghost use Rattle.std.specs.Prelude.{◌≡◌, ◌≤◌, ◌<◌, Some, option_map, option_and_then, IfOk, OnErr};
+ghost use Rattle.std.specs.Prelude.{IfSome, length};
 ghost use Rattle.texts.specs.Fields.{number_between};
 ghost use Rattle.hall.specs.Scripts.{IsRead, SpellsSubmit, SpellsOneEvent, HasOneScript};
 ghost use Rattle.hall.specs.model.Events.{by_word, entry_of, submit_of, IsSubmit};

@@ -1,5 +1,6 @@
 -- What holds of the desks and of all that they sent, after every list of events.
-use Rattle.std.proofs.Common.{◌≡◌, ℕ, ◌<◌, ◌≤◌, List, [], ◌∷◌, ◌⊎◌, Option, Some, None, slice_get, length}
+use Rattle.std.proofs.Common.{◌≡◌, ℕ, ◌<◌, ◌≤◌, List, [], ◌∷◌, ◌⊎◌, Option, Some, None, slice_get}
+use Rattle.std.proofs.Common.{length}
 use Rattle.learner.specs.Order.{IsAtMost, IsBelow}
 use Rattle.acceptor.specs.declared.ballot.Ballot.{Ballot}
 use Rattle.acceptor.specs.declared.entry.Entry.{Entry}
@@ -7,7 +8,8 @@ use Rattle.acceptor.specs.declared.message.Report.{Report}
 use Rattle.acceptor.specs.declared.message.Body.{Body}
 use Rattle.acceptor.specs.declared.message.Message.{Message}
 use Rattle.acceptor.specs.Messages.{Sent}
-use Rattle.acceptor.specs.declared.message.Body.TheVariants.{Prepare, Promise, Accept, Accepted, Nack, Behind, Decided}
+use Rattle.acceptor.specs.declared.message.Body.TheVariants.{Prepare, Promise, Accept, Accepted}
+use Rattle.acceptor.specs.declared.message.Body.TheVariants.{Nack, Behind, Decided}
 use Rattle.acceptor.specs.declared.stored.Vote.{Vote}
 use Rattle.proposer.specs.declared.role.Heard.{Heard}
 use Rattle.proposer.specs.declared.role.Role.{Role}

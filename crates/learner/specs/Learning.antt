@@ -1,10 +1,12 @@
 -- How a desk learns what was decided, and catches up ('Paxos Made Simple', section 2.3). Own rule:
 -- a desk takes only the entry for its next position, and asks for what it lacks.
-use Rattle.std.specs.Prelude.{ℕ, suc, ◌+◌, if◌then◌else◌, List, [], ◌∷◌, ◌==◌, nat_lt, length, take, drop}
+use Rattle.std.specs.Prelude.{ℕ, suc, ◌+◌, if◌then◌else◌, List, [], ◌∷◌, ◌==◌, nat_lt, length, take}
+use Rattle.std.specs.Prelude.{drop}
 use Rattle.acceptor.specs.declared.entry.Entry.{Entry}
 use Rattle.acceptor.specs.declared.message.Message.{Message}
 use Rattle.acceptor.specs.declared.message.Body.{Body}
-use Rattle.acceptor.specs.declared.message.Body.TheVariants.{Prepare, Promise, Accept, Accepted, Nack, Behind, Decided}
+use Rattle.acceptor.specs.declared.message.Body.TheVariants.{Prepare, Promise, Accept, Accepted}
+use Rattle.acceptor.specs.declared.message.Body.TheVariants.{Nack, Behind, Decided}
 use Rattle.acceptor.specs.Messages.{message}
 use Rattle.proposer.specs.declared.plan.Plan.{Plan}
 use Rattle.proposer.specs.declared.role.Role.TheVariants.{Idle}

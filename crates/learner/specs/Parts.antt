@@ -11,7 +11,8 @@ use Rattle.acceptor.specs.Messages.{Sent}
 use Rattle.learner.specs.Order.{IsAtMost, IsBelow}
 use Rattle.learner.specs.Worlds.{World}
 use Rattle.learner.specs.Chosen.{IsChosen}
-use Rattle.learner.specs.Invariant.{Asked, IsBacked, CoversReport, AcceptedStands, RoleAllows, RoleStands, OneEntry}
+use Rattle.learner.specs.Invariant.{Asked, IsBacked, CoversReport, AcceptedStands, RoleAllows}
+use Rattle.learner.specs.Invariant.{RoleStands, OneEntry}
 
 -- for one ballot and position votes were asked for one entry at most
 abbrev pub HasOneEntry : World → Type 0

@@ -1,11 +1,13 @@
 -- What one event changes at a desk, and what the desk sends. The message steps are those of 'Paxos
 -- Made Simple', sections 2.2 and 2.3.
-use Rattle.std.specs.Prelude.{ℕ, ◌≤◌, Bool, false, if◌then◌else◌, List, [], ◌∷◌, Some, None, Result, Ok, Err, ◌==◌, ◌&&◌, nat_lt, nat_le, length, slice_get}
+use Rattle.std.specs.Prelude.{ℕ, ◌≤◌, Bool, false, if◌then◌else◌, List, [], ◌∷◌, Some, None, Result}
+use Rattle.std.specs.Prelude.{Ok, Err, ◌==◌, ◌&&◌, nat_lt, nat_le, length, slice_get}
 use Rattle.acceptor.specs.declared.ballot.Ballot.{Ballot}
 use Rattle.acceptor.specs.declared.message.Message.{Message}
 use Rattle.acceptor.specs.Messages.{message}
 use Rattle.acceptor.specs.declared.message.Body.{Body}
-use Rattle.acceptor.specs.declared.message.Body.TheVariants.{Prepare, Promise, Accept, Accepted, Nack, Behind, Decided}
+use Rattle.acceptor.specs.declared.message.Body.TheVariants.{Prepare, Promise, Accept, Accepted}
+use Rattle.acceptor.specs.declared.message.Body.TheVariants.{Nack, Behind, Decided}
 use Rattle.acceptor.specs.Answers.{Reply, prepare_reply, accept_reply}
 use Rattle.proposer.specs.Plans.{Passing}
 use Rattle.proposer.specs.declared.plan.Plan.{Plan}

@@ -1,14 +1,18 @@
 -- n desks and all that they ever sent, under a list of events: the model of 'Paxos Made Simple',
 -- section 2.1. Desks stop and restart. Messages take any time, and may be lost (no event names
 -- one), repeated (events name one twice) and overtaken; none is altered.
-use Rattle.std.specs.Prelude.{ℕ, zero, suc, if◌then◌else◌, List, [], ◌∷◌, ◌++◌, Option, Some, None, Result, Ok, Err, ◌==◌, slice_get}
+use Rattle.std.specs.Prelude.{ℕ, zero, suc, if◌then◌else◌, List, [], ◌∷◌, ◌++◌, Option, Some, None}
+use Rattle.std.specs.Prelude.{Result, Ok, Err, ◌==◌, slice_get}
 use Rattle.acceptor.specs.declared.entry.Entry.{Entry}
 use Rattle.acceptor.specs.declared.message.Message.{Message}
 use Rattle.proposer.specs.declared.faults.Refusal.{Refusal}
 use Rattle.learner.specs.declared.event.Event.{Event}
 use Rattle.learner.specs.declared.event.Event.TheVariants.{Submit, Start, Tick, Deliver}
 use Rattle.learner.specs.declared.event.WorldEvent.{WorldEvent}
-use Rattle.learner.specs.declared.event.WorldEvent.TheVariants.{Submit as SubmitAt, Start as StartAt, Tick as TickAt, Deliver as DeliverNth, Restart as RestartAt}
+use Rattle.learner.specs.declared.event.WorldEvent.TheVariants.{Submit as SubmitAt}
+use Rattle.learner.specs.declared.event.WorldEvent.TheVariants.{Start as StartAt, Tick as TickAt}
+use Rattle.learner.specs.declared.event.WorldEvent.TheVariants.{Deliver as DeliverNth}
+use Rattle.learner.specs.declared.event.WorldEvent.TheVariants.{Restart as RestartAt}
 use Rattle.learner.specs.Desks.{Desk, first_desk, restarted}
 use Rattle.learner.specs.Steps.{Done, is_desk, step}
 

@@ -2,9 +2,12 @@
 //! nothing: it holds after every list of submissions, starts, ticks, deliveries (also lost,
 //! repeated and late ones) and restarts, for every number of desks.
 
-ghost use Rattle.learner.specs.Laws.{LogsAreChosen, OneIsChosen, LogsAreSubmitted, LogsAgree, LogsGrow, EntriesStay, Always, ContentsStand, MessagesAreInRange, DesksAreInRange, StepsStayInRange};
+ghost use Rattle.learner.specs.Laws.{LogsAreChosen, OneIsChosen, LogsAreSubmitted, LogsAgree};
+ghost use Rattle.learner.specs.Laws.{LogsGrow, EntriesStay, Always, ContentsStand};
+ghost use Rattle.learner.specs.Laws.{MessagesAreInRange, DesksAreInRange, StepsStayInRange};
 ghost use Rattle.learner.specs.Invariant.{IsSound};
-ghost use Rattle.learner.specs.Parts.{HasOneEntry, VotesStand, PromisesStand, AcceptsAreBacked, DecisionsAreChosen, RolesStand};
+ghost use Rattle.learner.specs.Parts.{HasOneEntry, VotesStand, PromisesStand, AcceptsAreBacked};
+ghost use Rattle.learner.specs.Parts.{DecisionsAreChosen, RolesStand};
 
 /// Every log entry is chosen at its position ('Paxos Made Simple', section 2.2).
 pub fn logs_are_chosen()

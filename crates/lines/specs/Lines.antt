@@ -1,5 +1,6 @@
 -- The lines of an input, and the limits of what is read.
-use Rattle.std.specs.Prelude.{◌≡◌, true, not, flat_map, ℕ, Bool, ◌==◌, ◌&&◌, nat_le, if◌then◌else◌, List, [], ◌∷◌, ◌++◌, length, take, zero, suc}
+use Rattle.std.specs.Prelude.{◌≡◌, true, not, flat_map, ℕ, Bool, ◌==◌, ◌&&◌, nat_le, if◌then◌else◌}
+use Rattle.std.specs.Prelude.{List, [], ◌∷◌, ◌++◌, length, take, zero, suc}
 use Rattle.std.specs.List.{list_all, list_any}
 
 -- a text goes in front of the first line

@@ -1,10 +1,12 @@
 //! A reader of lines: an input in pieces, its lines one after the other.
 
-ghost use Rattle.std.specs.Prelude.{◌≡◌, ◌≢◌, ◌<◌, ◌≤◌, ◌+◌, true, false, List, [], ℕ, Option, OnOk, OnErr, IfOk, IfErr, MatchOption, length, slice_index};
+ghost use Rattle.std.specs.Prelude.{◌≡◌, ◌≢◌, ◌<◌, ◌≤◌, ◌+◌, true, false, List, [], ℕ, Option};
+ghost use Rattle.std.specs.Prelude.{OnOk, OnErr, IfOk, IfErr, MatchOption, length, slice_index};
 ghost use Rattle.std.specs.Io.KnownBytes.{Keeps};
 ghost use Rattle.lines.specs.declared.fault.RunFault.TheVariants as run_fault;
 ghost use Rattle.lines.specs.Reading.{nothing_read, has_room, HasGiven, Gives};
-ghost use Rattle.lines.specs.model.Stepping.{TakesHeld, TakesNone, Fills, TakesByte, MeetsEnd, IsRoomFor, TakesRun};
+ghost use Rattle.lines.specs.model.Stepping.{TakesHeld, TakesNone, Fills, TakesByte, MeetsEnd};
+ghost use Rattle.lines.specs.model.Stepping.{IsRoomFor, TakesRun};
 
 use crate::fault::RunFault;
 use memchr::memchr;

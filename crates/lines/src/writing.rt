@@ -1,6 +1,6 @@
 //! Writing a whole text, at once or as it grows.
 
-ghost use Rattle.std.specs.Prelude.{◌≡◌, ◌++◌, [], List, ℕ, OnOk, OnErr, IfErr};
+ghost use Rattle.std.specs.Prelude.{◌≡◌, [], List, ℕ, OnOk, OnErr, IfErr};
 ghost use Rattle.std.specs.Io.KnownBytes.{Appends};
 ghost use Rattle.lines.specs.Bytes.{Writes, AppendsPart};
 ghost use Rattle.lines.specs.declared.fault.RunFault.TheVariants as run_fault;

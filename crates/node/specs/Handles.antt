@@ -1,5 +1,6 @@
 -- What a call of `Node::handle` answers, and what it leaves.
-use Rattle.std.specs.Prelude.{ℕ, ◌≡◌, ◌↔◌, ◌<◌, ⊤, Bool, true, false, if◌then◌else◌, List, [], Result, Ok, Err, IsOk, IfOk, IsOkAnd, OnErr, IsErrOf}
+use Rattle.std.specs.Prelude.{ℕ, ◌≡◌, ◌↔◌, ◌<◌, ⊤, true, false, if◌then◌else◌, List, [], Result, Ok}
+use Rattle.std.specs.Prelude.{Err, IsOk, IfOk, IsOkAnd, OnErr, IsErrOf}
 use Rattle.std.specs.List.{All}
 use Rattle.acceptor.specs.Entries.{IsId, IsText}
 use Rattle.acceptor.specs.declared.entry.Entry.{Entry}

@@ -1,5 +1,5 @@
 -- What opening a node gives, and what a refusal leaves of its keeper.
-use Rattle.std.specs.Prelude.{ℕ, ◌≡◌, ◌≢◌, ◌<◌, false, IsTrue, List}
+use Rattle.std.specs.Prelude.{◌≡◌, ◌≢◌, ◌<◌, false, IsTrue, List}
 use Rattle.acceptor.specs.declared.entry.Entry.{Entry}
 use Rattle.acceptor.specs.declared.stored.Stored.{Stored}
 use Rattle.store.specs.Keeping.{HoldsOnly}

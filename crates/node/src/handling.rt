@@ -1,7 +1,8 @@
 //! What one event does at a desk: its plan is worked out, room is made for it, its one change is
 //! saved, then it is adopted, and only then are its messages handed out.
 
-ghost use Rattle.std.specs.Prelude.{◌≡◌, ◌≢◌, ◌⊎◌, ◌<◌, List, Ok, Err, Result, None, false, IsOk, IfOk, OnOk, OnErr, IfErr};
+ghost use Rattle.std.specs.Prelude.{◌≡◌, ◌≢◌, ◌⊎◌, ◌<◌, List, Ok, Err, Result, None, false, IsOk};
+ghost use Rattle.std.specs.Prelude.{IfOk, OnOk, IfErr};
 ghost use Rattle.acceptor.specs.declared.entry.Entry.{Entry as EntryValue};
 ghost use Rattle.acceptor.specs.declared.stored.Stored.{Stored as State};
 ghost use Rattle.acceptor.specs.Storing.{stored_after, log_after};

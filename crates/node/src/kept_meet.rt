@@ -1,6 +1,7 @@
 //! What the first entries of a log have come to, kept beside it.
 
-ghost use Rattle.std.specs.Prelude.{◌≡◌, ◌≤◌, ◌+◌, IfOk, IfErr, OnOk, OnErr, List, Some, length, slice_get};
+ghost use Rattle.std.specs.Prelude.{◌≡◌, ◌≤◌, ◌+◌, IfOk, IfErr, OnOk, OnErr, List, Some, length};
+ghost use Rattle.std.specs.Prelude.{slice_get};
 ghost use Rattle.acceptor.specs.declared.entry.Entry.{Entry as EntryValue};
 ghost use Rattle.world.specs.Answers.{told, sheet_at, NoSheetAt};
 ghost use Rattle.node.specs.model.KeptMeets.{IsKeptOf};

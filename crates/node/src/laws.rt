@@ -1,6 +1,7 @@
 //! What holds of every hall of desks. Each is the contract of a function that does nothing.
 
-ghost use Rattle.node.specs.Stops.{StopsMakeARun, RealLogsAgree, RealEntriesAreSubmitted, AnswerIsEvent, OpeningsAreRestarts, CallsAreHappenings};
+ghost use Rattle.node.specs.Stops.{StopsMakeARun, RealLogsAgree, RealEntriesAreSubmitted};
+ghost use Rattle.node.specs.Stops.{AnswerIsEvent, OpeningsAreRestarts, CallsAreHappenings};
 ghost use Rattle.node.specs.Nodes.{words};
 
 use learner::laws::{logs_agree, logs_are_submitted};

@@ -1,6 +1,7 @@
 //! One desk of a hall, over the store that keeps its state.
 
-ghost use Rattle.std.specs.Prelude.{◌≡◌, ◌≢◌, ◌⊎◌, ◌↔◌, ◌≤◌, ◌<◌, List, Err, Result, Some, true, false, IsOk, IfOk, OnOk, OnErr, IfErr, IsTrue, length};
+ghost use Rattle.std.specs.Prelude.{◌≡◌, ◌≢◌, ◌⊎◌, ◌↔◌, ◌≤◌, ◌<◌, List, Err, Result, Some, true};
+ghost use Rattle.std.specs.Prelude.{false, IsOk, IfOk, OnOk, IfErr, IsTrue, length};
 ghost use Rattle.acceptor.specs.declared.entry.Entry.{Entry as EntryValue};
 ghost use Rattle.acceptor.specs.declared.stored.Stored.{Stored as State};
 ghost use Rattle.store.specs.Keeping.{HoldsOnly};
@@ -8,7 +9,8 @@ ghost use Rattle.store.specs.Ranges.{IsHome};
 ghost use Rattle.world.specs.Answers.{told, sheet_at, NoSheetAt};
 ghost use Rattle.world.specs.Opening.{opened};
 ghost use Rattle.node.specs.Nodes.{words};
-ghost use Rattle.node.specs.Handles.{Handles, Takes, HoldsBeforeOrAfter, IsIgnored, FitInFrames, step_at};
+ghost use Rattle.node.specs.Handles.{Handles, Takes, HoldsBeforeOrAfter, IsIgnored, FitInFrames};
+ghost use Rattle.node.specs.Handles.{step_at};
 ghost use Rattle.node.specs.Opens.{Opens, GivesBack};
 
 use crate::entries::look_at_all;

@@ -1,5 +1,6 @@
 -- Notation: which text spells which moves, and what is wrong with the others.
-use Rattle.std.specs.Prelude.{◌≡◌, ◌≢◌, ◌⊎◌, ℕ, ◌+◌, ◌<◌, ◌≤◌, Bool, true, false, List, [], ◌∷◌, ◌++◌, length, map, replicate, count_by, Result, Err}
+use Rattle.std.specs.Prelude.{◌≡◌, ◌≢◌, ◌⊎◌, ℕ, ◌+◌, ◌<◌, ◌≤◌, Bool, true, false, List, [], ◌∷◌}
+use Rattle.std.specs.Prelude.{◌++◌, length, map, replicate, count_by, Result, Err}
 use Rattle.std.specs.List.{join_with_byte}
 use Rattle.cube.specs.declared.moves.Kind.{Kind}
 use Rattle.cube.specs.declared.moves.Kind.TheVariants.{Face, Block, Turn}

@@ -1,9 +1,10 @@
 //! Reading moves in notation.
 
-ghost use Rattle.std.specs.Prelude.{◌≡◌, ◌≤◌, ◌↔◌, ◌⊎◌, ℕ, List, [], length, IfOk, Ok, Err};
+ghost use Rattle.std.specs.Prelude.{◌≡◌, ◌≤◌, ◌↔◌, ℕ, List, [], length, Ok, Err};
 ghost use Rattle.cube.specs.declared.moves.Move.{Move};
 ghost use Rattle.notation.specs.Notation.{Spells, IsBadTokenAt, IsTooMany, IsUnlessNoMemory};
-ghost use Rattle.notation.specs.model.Scan.{word_len as length_of_word, space_len as length_of_spaces, behind_spaces, scan};
+ghost use Rattle.notation.specs.model.Scan.{word_len as length_of_word};
+ghost use Rattle.notation.specs.model.Scan.{space_len as length_of_spaces, behind_spaces, scan};
 
 use crate::moves::Moves;
 use crate::tokens::move_of;

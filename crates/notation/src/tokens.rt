@@ -2,7 +2,8 @@
 
 ghost use Rattle.std.specs.Prelude.{◌≡◌, [], ◌∷◌, ◌++◌, OnOk};
 ghost use Rattle.notation.specs.Tokens.{side_letter, axis_letter, stem, token};
-ghost use Rattle.notation.specs.model.Scan.{side_named, kind_named, block_of as block_at, quarter_named, move_named};
+ghost use Rattle.notation.specs.model.Scan.{side_named, kind_named, block_of as block_at};
+ghost use Rattle.notation.specs.model.Scan.{quarter_named, move_named};
 
 use cube::{Axis, Kind, Move, Quarter, Side};
 use std::alloc::AllocError;

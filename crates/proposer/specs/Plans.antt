@@ -1,5 +1,6 @@
 -- What a desk loses at a restart, and what a step plans to change and to send.
-use Rattle.std.specs.Prelude.{ℕ, max, Bool, false, if◌then◌else◌, ◌≡◌, List, [], ◌∷◌, Option, Some, None}
+use Rattle.std.specs.Prelude.{ℕ, max, Bool, false, if◌then◌else◌, ◌≡◌, List, [], ◌∷◌, Option, Some}
+use Rattle.std.specs.Prelude.{None}
 use Rattle.acceptor.specs.declared.entry.Entry.{Entry}
 use Rattle.acceptor.specs.Entries.{is_same_entry}
 use Rattle.acceptor.specs.declared.message.Message.{Message}

@@ -2,7 +2,9 @@
 -- the count of votes of section 2.3. A ballot that a majority has promised serves later positions
 -- too, as phase 1 does in section 3. In these, desk d of n has s in store, a log of length len, and
 -- p as long as it runs.
-use Rattle.std.specs.Prelude.{ℕ, ◌*◌, ◌+◌, max, Bool, false, not, if◌then◌else◌, List, [], ◌∷◌, ◌++◌, Option, Some, None, Result, Ok, Err, ◌==◌, nat_lt, nat_le, length}
+use Rattle.std.specs.Prelude.{ℕ, ◌*◌, ◌+◌, max, Bool, false, not, if◌then◌else◌, List, [], ◌∷◌}
+use Rattle.std.specs.Prelude.{◌++◌, Option, Some, None, Result, Ok, Err, ◌==◌, nat_lt, nat_le}
+use Rattle.std.specs.Prelude.{length}
 use Rattle.std.specs.List.{list_any}
 use Rattle.acceptor.specs.declared.ballot.Ballot.{Ballot}
 use Rattle.acceptor.specs.declared.entry.Entry.{Entry}

@@ -12,7 +12,7 @@ impl Proposer {
     ghost use Rattle.std.specs.Prelude.{◌≡◌, [], IfOk, IsOk, IsOkAnd};
     ghost use Rattle.proposer.specs.Plans.{IsNothing};
     ghost use Rattle.proposer.specs.Refusals.{PlansAs, RefusesAs};
-    ghost use Rattle.proposer.specs.Proposing.{start_leading, tick_leading, lead, ask_next};
+    ghost use Rattle.proposer.specs.Proposing.{start_leading, tick_leading, ask_next};
 
     /// The plan of a desk that leads by this ballot and is told to start.
     pub(crate) fn start_leading(

@@ -1,5 +1,5 @@
 -- What the calls of served frames are in the world, and what a sheet that was written is.
-use Rattle.std.specs.Prelude.{◌≡◌, ◌≤◌, ℕ, List, [], ◌∷◌, ◌++◌, length, Option, Some, Result, Ok}
+use Rattle.std.specs.Prelude.{◌≡◌, ◌≤◌, ℕ, List, [], ◌∷◌, ◌++◌, length, Some, Result, Ok}
 use Rattle.std.specs.Prelude.{Err}
 use Rattle.acceptor.specs.declared.message.Message.{Message}
 use Rattle.formats.specs.declared.events.Event.{Event as EventOf}

@@ -1,6 +1,6 @@
 //! Answers to clients.
 
-ghost use Rattle.std.specs.Prelude.{◌≡◌, ◌^◌, ◌<◌};
+ghost use Rattle.std.specs.Prelude.{◌≡◌, ◌<◌};
 ghost use Rattle.wire.specs.Ranges.{IsId};
 ghost use Rattle.serving.specs.Answering.{IsAnswer, answer_first, refusal_of, standing_of};
 ghost use Rattle.serving.specs.Answering.{standing, told_what, style_of, printed};

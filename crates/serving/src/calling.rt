@@ -1,6 +1,6 @@
 //! Calls of the node.
 
-ghost use Rattle.std.specs.Prelude.{◌≡◌, List, Result, Err, IfOk, OnErr};
+ghost use Rattle.std.specs.Prelude.{◌≡◌, Result, Err, IfOk, OnErr};
 ghost use Rattle.learner.specs.Ranges.{AreInRange};
 ghost use Rattle.serving.specs.Nodes.{Fate};
 ghost use Rattle.serving.specs.model.Calling.{Calls, IsCall, LosesMessages};

@@ -1,6 +1,6 @@
 //! What serving needs of a desk.
 
-ghost use Rattle.std.specs.Prelude.{◌≡◌, ◌↔◌, ◌≤◌, ℕ, List, Result, Err, Some, IfOk, OnOk, IfErr};
+ghost use Rattle.std.specs.Prelude.{◌≡◌, ◌↔◌, ◌≤◌, List, Result, Err, Some, IfOk, OnOk, IfErr};
 ghost use Rattle.std.specs.Prelude.{true, false, length};
 ghost use Rattle.acceptor.specs.declared.message.Message.{Message as MessageValue};
 ghost use Rattle.learner.specs.declared.event.Event.{Event as EventValue};

@@ -4,7 +4,7 @@ ghost use Rattle.std.specs.Prelude.{◌≡◌, ◌≤◌, List, IfOk, IfErr};
 ghost use Rattle.serving.specs.Making.{outside_of, speaking};
 ghost use Rattle.wire.specs.Ranges.{IsFrame};
 ghost use Rattle.learner.specs.Steps.{IsDesk};
-ghost use Rattle.serving.specs.Connection.{Begun, FailsIn, sides};
+ghost use Rattle.serving.specs.Connection.{FailsIn, sides};
 ghost use Rattle.serving.specs.model.Requests.{ServesOne};
 ghost use Rattle.serving.specs.Asking.{close_by};
 ghost use Rattle.serving.specs.Nodes.{Fate};

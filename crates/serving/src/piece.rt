@@ -2,7 +2,6 @@
 
 ghost use Rattle.std.specs.Prelude.{◌≡◌, ◌≤◌, ◌<◌, ◌++◌, List, ℕ, None};
 ghost use Rattle.serving.specs.Making.{outside_of, speaking};
-ghost use Rattle.wire.specs.Stream.{Waits, front};
 ghost use Rattle.learner.specs.Steps.{IsDesk};
 ghost use Rattle.serving.specs.Connection.{Begun, sides};
 ghost use Rattle.serving.specs.model.Pieces.{IsPiece};

@@ -1,7 +1,6 @@
 //! Messages that wait: those for other desks are pushed.
 
-ghost use Rattle.std.specs.Prelude.{◌≡◌, ◌≤◌, [], ◌∷◌, map, List, OnOk, IfOk, OnErr};
-ghost use Rattle.acceptor.specs.declared.message.Message.{Message as MessageValue};
+ghost use Rattle.std.specs.Prelude.{◌≡◌, ◌≤◌, [], ◌∷◌, map, OnOk, IfOk, OnErr};
 ghost use Rattle.learner.specs.Ranges.{IsInRange, AreInRange};
 ghost use Rattle.serving.specs.Adding.{Hands};
 ghost use Rattle.serving.specs.model.Pushing.{Leads, PushesPart};

@@ -1,6 +1,6 @@
 //! A request: its calls, its pushes and its answer.
 
-ghost use Rattle.std.specs.Prelude.{◌≡◌, ◌≤◌, ℕ, [], None, Some, List, IfOk, OnOk, OnErr, IfSome};
+ghost use Rattle.std.specs.Prelude.{◌≡◌, ◌≤◌, ℕ, [], None, Some, IfOk, OnOk, OnErr, IfSome};
 ghost use Rattle.serving.specs.Making.{outside_of, speaking};
 ghost use Rattle.learner.specs.Ranges.{AreInRange};
 ghost use Rattle.learner.specs.declared.event.Event.TheVariants.{Start};

@@ -1,12 +1,10 @@
 //! The messages of a frame, one after the other.
 
-ghost use Rattle.std.specs.Prelude.{◌≡◌, ◌≤◌, [], map, List, OnOk, OnErr};
+ghost use Rattle.std.specs.Prelude.{◌≡◌, ◌≤◌, [], OnOk, OnErr};
 ghost use Rattle.serving.specs.Making.{outside_of, speaking};
 ghost use Rattle.learner.specs.Ranges.{AreInRange};
-ghost use Rattle.serving.specs.Adding.{Hands};
-ghost use Rattle.serving.specs.model.Pushing.{PushesPart};
 ghost use Rattle.serving.specs.model.Reaching.{Does, DoesPart, at};
-ghost use Rattle.serving.specs.Serving.{pushed, to_others, settle_by};
+ghost use Rattle.serving.specs.Serving.{settle_by};
 
 use crate::calling::call;
 use crate::desk::Desk;

@@ -6,7 +6,6 @@ ghost use Rattle.learner.specs.Steps.{IsDesk};
 ghost use Rattle.serving.specs.Answering.{IsAnswer};
 ghost use Rattle.serving.specs.Connection.{answer_frame, answer_bytes, framed_answer};
 ghost use Rattle.std.specs.Io.KnownBytes.{Appends};
-ghost use Rattle.lines.specs.Bytes.{AppendsPart};
 ghost use Rattle.wire.specs.Ranges.{IsFrame};
 ghost use Rattle.wire.specs.Spelling.{spelling};
 ghost use Rattle.serving.specs.model.Writing.{WriteEnds};

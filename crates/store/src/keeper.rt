@@ -1,6 +1,7 @@
 //! What a desk needs of a store: the trait that everything above is written over.
 
-ghost use Rattle.std.specs.Prelude.{◌≡◌, ◌≢◌, ◌↔◌, ℕ, Bool, List, Result, IsTrue, IfOk, OnErr, false};
+ghost use Rattle.std.specs.Prelude.{◌≡◌, ◌≢◌, ◌↔◌, ℕ, Bool, List, Result, IsTrue, IfOk, OnErr};
+ghost use Rattle.std.specs.Prelude.{false};
 ghost use Rattle.acceptor.specs.declared.entry.Entry.{Entry};
 ghost use Rattle.acceptor.specs.declared.stored.Stored.{Stored as State};
 ghost use Rattle.acceptor.specs.declared.stored.Change.{Change as Step};
@@ -10,7 +11,8 @@ ghost use Rattle.store.specs.declared.faults.SaveFault.{SaveFault as Refusal};
 ghost use Rattle.store.specs.declared.faults.LoadFault.{LoadFault as Unloaded};
 ghost use Rattle.store.specs.Ranges.{IsHome, IsFit};
 ghost use Rattle.store.specs.Whole.{IsSound};
-ghost use Rattle.store.specs.Keeping.{most_failures, HoldsOnly, Leaves, IsFitAfter, Counts, IsLoaded, FindsNoMore, IsDamaged};
+ghost use Rattle.store.specs.Keeping.{most_failures, HoldsOnly, Leaves, IsFitAfter, Counts};
+ghost use Rattle.store.specs.Keeping.{IsLoaded, FindsNoMore, IsDamaged};
 
 use crate::faults::{LoadFault, SaveFault};
 use crate::home::Home;

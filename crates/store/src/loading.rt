@@ -1,6 +1,7 @@
 //! What the two tables have: the row of the desk, and then the log.
 
-ghost use Rattle.std.specs.Prelude.{◌≡◌, ◌≢◌, List, [], ◌∷◌, map, IsPermutation, IfOk, IfSome, OnOk, None, length};
+ghost use Rattle.std.specs.Prelude.{◌≡◌, ◌≢◌, List, [], ◌∷◌, map, IsPermutation, IfOk, IfSome};
+ghost use Rattle.std.specs.Prelude.{OnOk, None, length};
 ghost use Rattle.sqlite.specs.State.{HasCleanDisk, IsUnchanged};
 ghost use Rattle.sqlite.specs.Held.{state};
 ghost use Rattle.acceptor.specs.Entries.{EntryValue};

@@ -1,11 +1,11 @@
 //! The keeper in memory, for tests, which fails where it was told to.
 
-ghost use Rattle.std.specs.Prelude.{◌≡◌, ◌≤◌, ◌||◌, ◌==◌, [], List, Option, Some, None, Bool, true, false, IfOk, OnOk, OnErr, IfSome};
+ghost use Rattle.std.specs.Prelude.{◌≡◌, ◌≤◌, ◌||◌, ◌==◌, [], Option, Some, None, Bool, true};
+ghost use Rattle.std.specs.Prelude.{false, IfOk, OnOk, OnErr, IfSome};
 ghost use Rattle.std.proofs.Common.{sym, ◌∙◌};
-ghost use Rattle.acceptor.specs.Entries.{EntryValue};
 ghost use Rattle.acceptor.specs.Storing.{stored_after, log_after, first_stored};
 ghost use Rattle.store.specs.Ranges.{IsHome, IsFit};
-ghost use Rattle.store.specs.Memory.{MemoryState, is_stopped, nearer, FailsNow, MemorySaves, MemoryLoads};
+ghost use Rattle.store.specs.Memory.{MemoryState, is_stopped, nearer, MemorySaves, MemoryLoads};
 
 use crate::NoMemory;
 use crate::copying::{copy_log, copy_stored, copy_vote};

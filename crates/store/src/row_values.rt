@@ -1,10 +1,12 @@
 //! The values of a row that a query gives, decoded: a desk with its state, and the log.
 
-ghost use Rattle.std.specs.Prelude.{◌≡◌, ◌≢◌, ◌+◌, ◌<◌, ◌^◌, ℕ, pos, List, [], ◌∷◌, map, true, length, Option, Some, None, IfOk, IfSome, MatchOption};
+ghost use Rattle.std.specs.Prelude.{◌≡◌, ◌≢◌, ◌+◌, ◌<◌, ◌^◌, ℕ, pos, List, [], map, true, Option};
+ghost use Rattle.std.specs.Prelude.{Some, None, IfOk, IfSome};
 ghost use Rattle.sqlite.specs.declared.types.Value.TheVariants.{Null, Int, Blob};
 ghost use Rattle.sqlite.specs.Order.{column};
 ghost use Rattle.sqlite.specs.Value.{owned};
-ghost use Rattle.store.specs.Holding.{desk_values, vote_values, log_values, desk_columns, vote_columns, entry_columns};
+ghost use Rattle.store.specs.Holding.{desk_values, vote_values, log_values, desk_columns};
+ghost use Rattle.store.specs.Holding.{vote_columns, entry_columns};
 ghost use Rattle.acceptor.specs.Entries.{EntryValue, IsId, IsText};
 ghost use Rattle.acceptor.specs.declared.ballot.Ballot.{Ballot as Round};
 ghost use Rattle.acceptor.specs.declared.stored.Vote.{Vote as Given};

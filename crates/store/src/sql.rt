@@ -1,18 +1,15 @@
 //! The keeper over two tables of a database.
 
-ghost use Rattle.std.specs.Prelude.{◌≡◌, ◌≢◌, ◌==◌, ◌||◌, ◌⊎◌, ◌^◌, ◌-◌, ◌<◌, ◌≤◌, false, true, [], ℕ, List, Some, Result, Err, IsTrue, IfOk, IfErr, OnOk, length};
+ghost use Rattle.std.specs.Prelude.{◌≡◌, ◌≢◌, ◌==◌, ◌||◌, ◌⊎◌, ◌-◌, ◌<◌, ◌≤◌, false, true, []};
+ghost use Rattle.std.specs.Prelude.{List, Some, Result, Err, IsTrue, IfOk, IfErr, length};
 ghost use Rattle.sqlite.specs.State.{HasCleanDisk};
-ghost use Rattle.sqlite.specs.Tree.{Trees};
 ghost use Rattle.sqlite.specs.Held.{state};
 ghost use Rattle.acceptor.specs.Entries.{EntryValue};
-ghost use Rattle.acceptor.specs.Storing.{stored_after, log_after, first_stored};
+ghost use Rattle.acceptor.specs.Storing.{stored_after, log_after};
 ghost use Rattle.acceptor.specs.declared.stored.Stored.{Stored as State};
 ghost use Rattle.store.specs.declared.home.Home.{Home as Place};
-ghost use Rattle.store.specs.declared.faults.LoadFault.{LoadFault as Unloaded};
 ghost use Rattle.store.specs.Ranges.{IsHome, IsFit, is_housed, home_at};
 ghost use Rattle.store.specs.Whole.{IsSound};
-ghost use Rattle.store.specs.Layout.{no_schema};
-ghost use Rattle.store.specs.Holding.{Holds};
 ghost use Rattle.store.specs.Keeping.{most_failures, CountsOne};
 ghost use Rattle.store.specs.model.Unique.{alone};
 ghost use Rattle.store.specs.Kept.{Keeps, Saved, MayLeave, MayBreak};

@@ -1,5 +1,6 @@
 -- What a desk answers from its log: what has become of an id, and the sheets.
-use Rattle.std.specs.Prelude.{◌≡◌, ℕ, ◌≤◌, ◌<◌, ◌==◌, Bool, if◌then◌else◌, List, map, length, take, slice_get, Option, None, Some}
+use Rattle.std.specs.Prelude.{◌≡◌, ℕ, ◌≤◌, ◌<◌, ◌==◌, Bool, if◌then◌else◌, List, map, length, take}
+use Rattle.std.specs.Prelude.{slice_get, Option, None, Some}
 use Rattle.std.specs.List.{list_any}
 use Rattle.acceptor.specs.declared.entry.Entry.{Entry}
 use Rattle.learner.specs.Logs.{position_of}

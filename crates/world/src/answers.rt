@@ -1,9 +1,10 @@
 //! What the entries of a log come to: what each was answered, and the sheets.
 
 ghost use Rattle.std.specs.Prelude.{◌≡◌, ◌≤◌, IfOk, OnOk, IfErr, Some, length, take};
-ghost use Rattle.commands.specs.History.{StandsFor, history};
+ghost use Rattle.commands.specs.History.{history};
 ghost use Rattle.sheets.specs.Sheet.{sheet};
-ghost use Rattle.world.specs.Answers.{texts, is_queued, told_by_queue, told, sheet_at, NoSheetAt, NoSheetIn};
+ghost use Rattle.world.specs.Answers.{texts, is_queued, told_by_queue, told, sheet_at, NoSheetAt};
+ghost use Rattle.world.specs.Answers.{NoSheetIn};
 
 use crate::faults::SheetFault;
 use acceptor::NoMemory;

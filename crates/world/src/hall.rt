@@ -1,6 +1,7 @@
 //! The desks of a hall as they run, side by side: an event at one of them, and what it sends.
 
-ghost use Rattle.std.specs.Prelude.{◌≡◌, ◌<◌, List, IfOk, OnErr, Some, Ok, length, option_map, slice_get};
+ghost use Rattle.std.specs.Prelude.{◌≡◌, ◌<◌, List, IfOk, OnErr, Some, Ok, length, option_map};
+ghost use Rattle.std.specs.Prelude.{slice_get};
 ghost use Rattle.acceptor.specs.declared.message.Message.{Message};
 ghost use Rattle.learner.specs.declared.event.Event.TheVariants.{Submit, Start, Tick, Deliver};
 ghost use Rattle.learner.specs.Steps.{done, step};

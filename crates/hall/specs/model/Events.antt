@@ -1,9 +1,11 @@
 -- A model of the code: which event is read of a line.
-use Rattle.std.specs.Prelude.{◌≤◌, ℕ, nat_le, if◌then◌else◌, List, [], ◌∷◌, ◌==◌, Bool, length, bytes_eq, codes, Option, None, Some}
+use Rattle.std.specs.Prelude.{ℕ, nat_le, if◌then◌else◌, List, [], ◌∷◌, ◌==◌, Bool, length, bytes_eq}
+use Rattle.std.specs.Prelude.{codes, Option, None, Some}
 use Rattle.std.specs.Option.{option_map, option_and_then}
 use Rattle.acceptor.specs.Entries.{EntryValue}
 use Rattle.learner.specs.declared.event.WorldEvent.{WorldEvent}
-use Rattle.learner.specs.declared.event.WorldEvent.TheVariants.{Submit, Start, Tick, Deliver, Restart}
+use Rattle.learner.specs.declared.event.WorldEvent.TheVariants.{Submit, Start, Tick, Deliver}
+use Rattle.learner.specs.declared.event.WorldEvent.TheVariants.{Restart}
 use Rattle.texts.specs.Fields.{cut, number_between}
 use Rattle.hall.specs.Scripts.{most_delivered}
 

@@ -1,5 +1,6 @@
 -- A model of the code: what one line comes to, and all lines, before there are logs.
-use Rattle.std.specs.Prelude.{◌≡◌, ◌⊎◌, ℕ, Bool, true, false, ◌&&◌, if◌then◌else◌, List, ◌∷◌, [], ◌++◌, Option, None, Some}
+use Rattle.std.specs.Prelude.{◌≡◌, ◌⊎◌, ℕ, Bool, true, false, ◌&&◌, if◌then◌else◌, List, ◌∷◌, []}
+use Rattle.std.specs.Prelude.{◌++◌, Option}
 use Rattle.std.specs.Io.KnownBytes.{Appends, IsAtEnd}
 use Rattle.learner.specs.declared.event.WorldEvent.{WorldEvent}
 use Rattle.world.specs.WorldValues.{WorldValue, extended}

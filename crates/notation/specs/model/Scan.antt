@@ -1,5 +1,6 @@
 -- A model of the code: reading from the left, as one function, unless memory runs out.
-use Rattle.std.specs.Prelude.{ℕ, zero, suc, ◌-◌, ◌==◌, if◌then◌else◌, List, [], ◌∷◌, length, take, drop, Option, Some, None, Result, Ok, Err}
+use Rattle.std.specs.Prelude.{ℕ, zero, suc, ◌-◌, ◌==◌, if◌then◌else◌, List, [], ◌∷◌, length, take}
+use Rattle.std.specs.Prelude.{drop, Option, Some, None, Result, Ok, Err}
 use Rattle.std.specs.List.{position_or_len, prefix_len}
 use Rattle.cube.specs.declared.moves.Side.{Side}
 use Rattle.cube.specs.declared.moves.Side.TheVariants.{U, R, F, D, L, B}

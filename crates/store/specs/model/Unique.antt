@@ -1,5 +1,7 @@
 -- The two tables have one state.
-use Rattle.std.proofs.Common.{◌≡◌, ℕ, zero, suc, pos, drop, get_or, ap₂, ◌+◌, ◌<◌, List, [], ◌∷◌, length, Option, Some, None, false, refl, sym, ap, subst, ◌∙◌, arith, IsPermutation, Less, IsSorted, IsTrue}
+use Rattle.std.proofs.Common.{◌≡◌, ℕ, zero, suc, pos, drop, get_or, ap₂, ◌+◌, ◌<◌, List, [], ◌∷◌}
+use Rattle.std.proofs.Common.{length, Option, Some, None, false, refl, sym, ap, subst, ◌∙◌, arith}
+use Rattle.std.proofs.Common.{IsPermutation, Less, IsSorted, IsTrue}
 use Rattle.std.specs.List.{AllByRecursion}
 use Rattle.std.specs.Ordering.{nat_cmp, on, is_lt}
 use Rattle.std.specs.Cmp.{on_total, nat_cmp_total}
