@@ -1,8 +1,10 @@
 -- One step of a loop that writes a text for each item of a list.
-use Rattle.std.proofs.Common.{◌≡◌, ◌∙◌, ℕ, zero, suc, ◌+◌, ◌-◌, ◌<◌, ◌≤◌, List, [], ◌∷◌, ◌++◌, length, get_or, drop, take, map, flat_map, None, Result, Ok, Err, OnOk, if◌then◌else◌, refl, ap, arith, append_assoc, add-one, drop-cons}
+use Rattle.std.proofs.Common.{◌≡◌, ◌∙◌, ℕ, zero, suc, ◌+◌, ◌-◌, ◌<◌, ◌≤◌, List, [], ◌∷◌, ◌++◌, length, get_or, drop, take, map, flat_map, None, Result, Ok, Err, OnOk, if◌then◌else◌, refl, ap, sym, subst, arith, append_assoc, add-one, drop-cons}
 use Rattle.std.specs.Result.{is_ok}
-use Rattle.std.proofs.lemmas.List.{take_all}
+use Rattle.std.proofs.lemmas.List.{append-nil, drop_all, take_all}
 use Rattle.csv.specs.Records.{field_at}
+use Rattle.board_page.specs.Page.{AreSheetsOf, IsShown}
+use Rattle.board_page.specs.declared.sheet.Sheet.{Sheet}
 
 -- a place with no field
 pub no_field : (fields : List (List ℕ)) (i : ℕ) → field_at fields i ≡ None
@@ -70,3 +72,51 @@ pub three_parts : (out a b c x y z : List ℕ) → x ≡ out ++ a → y ≡ x ++
 three_parts out a b c x y z p q r =
     r ∙ ap (λ w. w ++ c) (q ∙ ap (λ w. w ++ b) p)
     ∙ rw (append_assoc out a b, append_assoc out (a ++ b) c) refl
+
+-- a text of five parts, each behind the one before
+pub five_parts : (out a b c d e v w x y z : List ℕ) → v ≡ out ++ a → w ≡ v ++ b → x ≡ w ++ c
+    → y ≡ x ++ d → z ≡ y ++ e → z ≡ out ++ (a ++ b ++ c ++ d ++ e)
+five_parts out a b c d e v w x y z p q r s t =
+    two_parts out (a ++ b ++ c ++ d) e y z
+    (two_parts out (a ++ b ++ c) d x y (three_parts out a b c v w x p q r) s) t
+
+-- a text of six parts, each behind the one before
+pub six_parts : (out a b c d e f u v w x y z : List ℕ) → u ≡ out ++ a → v ≡ u ++ b
+    → w ≡ v ++ c → x ≡ w ++ d → y ≡ x ++ e → z ≡ y ++ f
+    → z ≡ out ++ (a ++ b ++ c ++ d ++ e ++ f)
+six_parts out a b c d e f u v w x y z p q r s t k =
+    two_parts out (a ++ b ++ c ++ d ++ e) f y z
+    (five_parts out a b c d e u v w x y p q r s t) k
+
+-- Whatever text shows the sheets that are left, what was written and that text are a text that
+-- shows them all behind what was there first.
+abbrev pub Completes : List Sheet → ℕ → List ℕ → List ℕ → Type 0
+Completes sheets i first out = (back : List ℕ) → AreSheetsOf (drop i sheets) back
+    → (whole : List ℕ) × AreSheetsOf sheets whole × (out ++ back ≡ first ++ whole)
+
+-- so it is once one more sheet was written
+pub one_sheet_more : (sheets : List Sheet) (i : ℕ) (d : Sheet) (first before after front : List ℕ)
+    → i < length sheets → Completes sheets i first before → IsShown (get_or sheets i d) front
+    → after ≡ before ++ front → Completes sheets (i + 1) first after
+unfolding AreSheetsOf
+one_sheet_more sheets i d first before after front low so shown is back rest =
+    let there = drop-cons sheets i d low in
+    let left = subst (λ k. AreSheetsOf (drop k sheets) back) (add-one i) rest in
+    let all = subst (λ (l : List Sheet). AreSheetsOf l (front ++ back)) (sym there)
+    (front, back, shown, left, refl) in
+    let made = so (front ++ back) all in
+    (made.0, made.1, ap (λ x. x ++ back) is ∙ append_assoc before front back ∙ made.2)
+
+-- once all were written
+pub all_sheets : (sheets : List Sheet) (i : ℕ) (first out : List ℕ)
+    → length sheets ≤ i → Completes sheets i first out
+    → (text : List ℕ) × AreSheetsOf sheets text × (out ≡ first ++ text)
+unfolding AreSheetsOf
+all_sheets sheets i first out end so =
+    let none = drop_all i sheets end in
+    let made = so [] (subst (λ (l : List Sheet). AreSheetsOf l []) (sym none) refl) in
+    (made.0, made.1, sym (append-nil out) ∙ made.2)
+
+-- before any was written
+pub no_sheet_yet : (sheets : List Sheet) (first : List ℕ) → Completes sheets 0 first first
+no_sheet_yet sheets first back rest = (back, rest, refl)

@@ -4,7 +4,7 @@ ghost use Rattle.std.specs.Prelude.{List, ℕ, OnOk};
 ghost use Rattle.std.specs.Io.KnownBytes.{Appends, Consumes};
 ghost use Rattle.board_page.specs.Table.{IsSheetOf};
 
-use crate::table::push_sheet;
+use board_page::push_sheet;
 use std::alloc::Global;
 use std::io;
 use std::io::{Read, Write};

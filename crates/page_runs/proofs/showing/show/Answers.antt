@@ -2,7 +2,7 @@ use Rattle.std.proofs.Common.{◌≡◌, ◌++◌, ◌∙◌, ℕ, List, ap, sub
 use Rattle.std.specs.Io.KnownBytes.{Appends, Consumes}
 use Rattle.std.specs.Io.{appended_bytes}
 use Rattle.board_page.specs.Table.{IsSheetOf}
-use Rattle.board_page.proofs.showing.show.Goals as goal
+use Rattle.page_runs.proofs.showing.show.Goals as goal
 
 pub returns : goal.returns
 returns g c =

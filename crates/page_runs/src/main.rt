@@ -1,16 +1,14 @@
 //! A sheet in HTML: a program that reads a sheet's table, as a desk writes it, from its standard
 //! input, and writes it as a table of HTML.
 //!
-//!     board_page ANCHOR TITLE POSITION < TABLE
+//!     page_runs ANCHOR TITLE POSITION < TABLE
 //!
 //! TITLE stands above the table and POSITION below it; other pages refer to the sheet by ANCHOR.
 //! Status 0: the sheet was written; 2: there aren't three words; 4: a read or a write failed, or
 //! memory ran out. A line on standard error says why it isn't 0.
 #![tactic(auto)]
 
-mod escaping;
 mod showing;
-mod table;
 
 use showing::show;
 use std::io::Write;
@@ -25,7 +23,7 @@ fn words_of(rt: &HostRuntime) -> io::Result<Vec<String>> {
 
 /// Says that a device failed or memory ran out.
 fn tell_failure(rt: &HostRuntime) -> ExitCode {
-    let text = b"board_page: a read or a write failed, or memory ran out\n";
+    let text = b"page_runs: a read or a write failed, or memory ran out\n";
     let _ = rt.stderr().write_all(text);
     ExitCode::from(4)
 }
@@ -35,7 +33,7 @@ fn run(rt: &HostRuntime, words: &[String]) -> ExitCode {
     let [anchor, title, position] = words else {
         let _ = rt
             .stderr()
-            .write_all(b"board_page ANCHOR TITLE POSITION < TABLE\n");
+            .write_all(b"page_runs ANCHOR TITLE POSITION < TABLE\n");
         return ExitCode::from(2);
     };
     let shown = show(
