@@ -1,0 +1,151 @@
+//! A question to a desk, over a connection of its own.
+
+ghost use Rattle.std.specs.Prelude.{IfSome};
+ghost use Rattle.wire.specs.Ranges.{IsFrame};
+
+use crate::survey::{Heard, Question, what_came};
+use bytes::Bytes;
+use client::judged;
+use mio::net::TcpStream;
+use std::alloc::Global;
+use std::io;
+use std::io::{ErrorKind, Read, Write};
+use std::net::{Net, SocketAddr};
+use wire::{Frame, FrameReader, SheetStyle, Version, What, encode};
+
+/// A desk.
+#[derive(Clone, Copy)]
+pub struct Desk {
+    pub hall: u32,
+    pub number: u8,
+    pub address: SocketAddr,
+}
+
+/// A connection on which a question is asked.
+#[derive(Drop)]
+pub struct Inquiry {
+    pub stream: TcpStream,
+    desk: Desk,
+    question: Question,
+    /// What of the question is still to be written.
+    unsent: Bytes,
+    reader: FrameReader,
+    /// When it began, in seconds.
+    pub began: u64,
+}
+
+/// Whether a call of a socket is to be made again, once the socket is ready.
+pub fn is_waiting(error: &io::Error) -> bool {
+    matches!(error.kind(), ErrorKind::WouldBlock | ErrorKind::Interrupted)
+}
+
+/// The frame of a question. None where the desk's number is not 1 to 5.
+fn frame_of(desk: Desk, question: Question) -> Option<Frame>
+    ensures { IfSome result IsFrame }
+{
+    if desk.number == 0 || desk.number > 5 {
+        return None;
+    }
+    let Question {
+        event,
+        round,
+        position,
+    } = question;
+    let version = if event.number() <= Version::One.last_event() {
+        Version::One
+    } else {
+        Version::Two
+    };
+    Some(Frame {
+        version,
+        hall: desk.hall,
+        from: 0,
+        to: desk.number,
+        what: What::Sheet {
+            event,
+            round,
+            position,
+            style: SheetStyle::Table,
+        },
+    })
+}
+
+/// The bytes of a question.
+fn request_of(alloc: Global, desk: Desk, question: Question) -> Option<Bytes> {
+    let asked = frame_of(desk, question)?;
+    let Ok(bytes) = encode(alloc, &asked) else {
+        return None;
+    };
+    Bytes::from_vec(bytes).ok()
+}
+
+impl Inquiry {
+    /// Begins to ask. None where the system gives no socket, or memory is wanting.
+    pub fn begin<R: Net>(
+        net: &R,
+        alloc: Global,
+        desk: Desk,
+        question: Question,
+        now: u64,
+    ) -> Option<Inquiry> {
+        let unsent = request_of(alloc, desk, question)?;
+        let Ok(reader) = FrameReader::new(alloc) else {
+            return None;
+        };
+        let Ok(stream) = TcpStream::connect(net, desk.address) else {
+            return None;
+        };
+        Some(Inquiry {
+            stream,
+            desk,
+            question,
+            unsent,
+            reader,
+            began: now,
+        })
+    }
+
+    /// Whether it waits for leave to write, and not for bytes to read.
+    pub fn is_writing(&self) -> bool {
+        !self.unsent.is_empty()
+    }
+
+    /// Writes or reads once, and gives what came of the question, once that is known.
+    pub fn turn(&mut self) -> Option<Heard> {
+        let done = if self.is_writing() {
+            self.write()
+        } else {
+            self.read()
+        };
+        match done {
+            Ok(found) => found,
+            Err(error) if is_waiting(&error) => None,
+            Err(_) => Some(Heard::Silent("no answer")),
+        }
+    }
+
+    fn write(&mut self) -> io::Result<Option<Heard>> {
+        let count = self.stream.write(self.unsent.as_slice())?;
+        self.unsent.advance(count);
+        Ok(None)
+    }
+
+    fn read(&mut self) -> io::Result<Option<Heard>> {
+        let mut piece = [0; 4096];
+        let count = self.stream.read(&mut piece)?;
+        if count == 0 {
+            return Ok(Some(Heard::Silent("no answer")));
+        }
+        Ok(self.feed(&piece[..count]))
+    }
+
+    /// Takes a piece of the answer.
+    fn feed(&mut self, piece: &[u8]) -> Option<Heard> {
+        let Ok(frames) = self.reader.feed(piece) else {
+            return Some(Heard::Silent("no answer"));
+        };
+        let given = frames.into_iter().next()?;
+        let asked = frame_of(self.desk, self.question)?;
+        Some(what_came(judged(&asked, given)))
+    }
+}

@@ -1,0 +1,195 @@
+//! The board: browsers are answered, and the desk is asked, as sockets become ready.
+
+use crate::browsers::Browsers;
+use crate::inquiry::{Desk, Inquiry, is_waiting};
+use crate::pages::{Page, pages_of};
+use crate::survey::{Heard, Survey};
+use mio::net::TcpListener;
+use mio::{Events, Interest, Poll, Registry, Token};
+use std::alloc::{AllocError, Global};
+use std::io;
+use std::io::Write;
+use std::net::SocketAddr;
+use std::time::{Duration, Instant};
+
+/// Seconds between two surveys.
+const REST: u64 = 3;
+
+/// Seconds that the desk is waited for; it serves one connection at a time.
+const DESK_PATIENCE: u64 = 8;
+
+/// Milliseconds that sockets are waited for at most.
+const LONGEST_WAIT: u64 = 250;
+
+/// How many sockets that are ready are told of at once.
+const MOST_READY: usize = 1024;
+
+const LISTENER: usize = 0;
+
+const DESK: usize = 1;
+
+/// What the board is to do.
+#[derive(Clone, Copy)]
+pub struct Order {
+    pub desk: Desk,
+    pub listen: SocketAddr,
+    /// How long a browser is waited for, in seconds.
+    pub patience: u64,
+}
+
+/// The browsers, the survey of the desk, and what is shown.
+#[derive(Drop)]
+struct Board {
+    alloc: Global,
+    desk: Desk,
+    listener: TcpListener,
+    browsers: Browsers,
+    survey: Survey,
+    inquiry: Option<Inquiry>,
+    /// When the next survey is due, in seconds.
+    due: u64,
+    pages: Vec<Page>,
+}
+
+impl Board {
+    fn new(alloc: Global, order: Order, listener: TcpListener) -> Result<Board, AllocError> {
+        let survey = Survey::new(alloc);
+        let pages = pages_of(alloc, &survey)?;
+        Ok(Board {
+            alloc,
+            desk: order.desk,
+            listener,
+            browsers: Browsers::new(alloc, order.patience)?,
+            survey,
+            inquiry: None,
+            due: 0,
+            pages,
+        })
+    }
+
+    /// Takes one browser that waits, and asks to be told of the next one.
+    fn accept(&mut self, registry: &Registry, now: u64) -> io::Result<()> {
+        match self.listener.accept() {
+            Ok((stream, _)) => self.browsers.admit(self.alloc, stream, registry, now),
+            Err(error) if is_waiting(&error) => {}
+            // the system has no more sockets
+            Err(_) => self.browsers.end_first(),
+        }
+        registry.reregister(&mut self.listener, Token(LISTENER), Interest::READABLE)
+    }
+
+    /// Asks the survey's next question.
+    fn ask(&mut self, rt: &HostRuntime, registry: &Registry, now: u64) {
+        let question = self.survey.question();
+        self.inquiry = Inquiry::begin(rt, self.alloc, self.desk, question, now);
+        if !self.watch(registry, true) {
+            self.hear(Heard::Silent("no connection"), now);
+        }
+    }
+
+    /// Asks to be told when the desk's connection is ready. False where there is none.
+    fn watch(&mut self, registry: &Registry, is_new: bool) -> bool {
+        let Some(inquiry) = &mut self.inquiry else {
+            return false;
+        };
+        let interest = if inquiry.is_writing() {
+            Interest::WRITABLE
+        } else {
+            Interest::READABLE
+        };
+        let stream = &mut inquiry.stream;
+        let watched = if is_new {
+            registry.register(stream, Token(DESK), interest)
+        } else {
+            registry.reregister(stream, Token(DESK), interest)
+        };
+        watched.is_ok()
+    }
+
+    /// Takes what came of the question, and closes its connection. At the end of a survey the pages
+    /// are made; where memory is wanting for them, the old ones stay.
+    fn hear(&mut self, heard: Heard, now: u64) {
+        self.inquiry = None;
+        if self.survey.hear(heard) {
+            self.due = now.saturating_add(REST);
+            if let Ok(pages) = pages_of(self.alloc, &self.survey) {
+                self.pages = pages;
+            }
+        }
+    }
+
+    /// Lets the question have its turn.
+    fn turn_desk(&mut self, registry: &Registry, now: u64) {
+        let Some(inquiry) = &mut self.inquiry else {
+            return;
+        };
+        match inquiry.turn() {
+            Some(heard) => self.hear(heard, now),
+            None => {
+                if !self.watch(registry, false) {
+                    self.hear(Heard::Silent("no connection"), now);
+                }
+            }
+        }
+    }
+
+    /// Lets the socket of a token have its turn.
+    fn turn(&mut self, token: usize, registry: &Registry, now: u64) -> io::Result<()> {
+        match token {
+            LISTENER => self.accept(registry, now)?,
+            DESK => self.turn_desk(registry, now),
+            other => self.browsers.turn(other, registry, &self.pages),
+        }
+        Ok(())
+    }
+
+    /// Ends what took too long, and asks what is due.
+    fn keep_time(&mut self, rt: &HostRuntime, registry: &Registry, now: u64) {
+        self.browsers.end_late(now);
+        match &self.inquiry {
+            Some(inquiry) => {
+                if now.saturating_sub(inquiry.began) > DESK_PATIENCE {
+                    self.hear(Heard::Silent("no answer"), now);
+                }
+            }
+            None => {
+                if now >= self.due {
+                    self.ask(rt, registry, now);
+                }
+            }
+        }
+    }
+}
+
+/// Serves until the system fails.
+fn serve_on(rt: &HostRuntime, poll: &mut Poll, board: &mut Board) -> io::Result<()> {
+    let mut events = Events::with_capacity(rt.alloc(), MOST_READY)?;
+    let start = Instant::now(rt)?;
+    for _turn in 0..u64::MAX {
+        let now = start.elapsed(rt)?.as_secs();
+        board.keep_time(rt, poll.registry(), now);
+        poll.poll(&mut events, Some(Duration::from_millis(LONGEST_WAIT)))?;
+        for event in events.iter() {
+            board.turn(event.token().0, poll.registry(), now)?;
+        }
+    }
+    Ok(())
+}
+
+/// Says where it listens, and serves until the system fails.
+pub fn serve<W: Write>(
+    rt: &HostRuntime,
+    order: Order,
+    listener: TcpListener,
+    writer: &mut W,
+) -> io::Result<()> {
+    let mut listener = listener;
+    let mut poll = Poll::new(rt)?;
+    poll.registry()
+        .register(&mut listener, Token(LISTENER), Interest::READABLE)?;
+    let address = listener.local_addr()?;
+    writeln!(writer, "board at {address}")?;
+    writer.flush()?;
+    let mut board = Board::new(rt.alloc(), order, listener)?;
+    serve_on(rt, &mut poll, &mut board)
+}
