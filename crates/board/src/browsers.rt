@@ -27,6 +27,8 @@ struct Browser {
     unsent: Option<Bytes>,
     /// When it came, in seconds.
     began: u64,
+    /// Which one it is of all that came.
+    number: u64,
 }
 
 impl Browser {
@@ -92,6 +94,8 @@ impl Browser {
 #[derive(Drop)]
 pub struct Browsers {
     places: Vec<Option<Browser>>,
+    /// How many have come.
+    count: u64,
     /// How long a browser may take, in seconds.
     patience: u64,
 }
@@ -102,7 +106,11 @@ impl Browsers {
         for _place in 0..MOST {
             places.push(None)?;
         }
-        Ok(Browsers { places, patience })
+        Ok(Browsers {
+            places,
+            count: 0,
+            patience,
+        })
     }
 
     /// The first free place, or where there is none that of the connection that came first.
@@ -119,9 +127,9 @@ impl Browsers {
         let mut earliest = u64::MAX;
         for (place, browser) in self.places.iter().enumerate() {
             if let Some(browser) = browser
-                && browser.began < earliest
+                && browser.number < earliest
             {
-                earliest = browser.began;
+                earliest = browser.number;
                 found = place;
             }
         }
@@ -142,6 +150,7 @@ impl Browsers {
         let place = self.next_place();
         let token = Token(place.saturating_add(FIRST));
         let registered = registry.register(&mut stream, token, Interest::READABLE);
+        self.count = self.count.saturating_add(1);
         if let Some(free) = self.places.get_mut(place)
             && registered.is_ok()
         {
@@ -150,6 +159,7 @@ impl Browsers {
                 head: Vec::new(alloc),
                 unsent: None,
                 began: now,
+                number: self.count,
             });
         }
     }

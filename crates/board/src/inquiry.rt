@@ -1,7 +1,7 @@
 //! A question to a desk, over a connection of its own.
 
 ghost use Rattle.std.specs.Prelude.{IfSome};
-ghost use Rattle.wire.specs.Ranges.{IsFrame};
+ghost use Rattle.board.specs.Asking.{AsksForSheet, IsQuestion};
 
 use crate::survey::{Heard, Question, what_came};
 use bytes::Bytes;
@@ -41,7 +41,8 @@ pub fn is_waiting(error: &io::Error) -> bool {
 
 /// The frame of a question. None where the desk's number is not 1 to 5.
 fn frame_of(desk: Desk, question: Question) -> Option<Frame>
-    ensures { IfSome result IsFrame }
+    ensures { IfSome result
+        (λ f. IsQuestion question.event question.round question.position f) }
 {
     if desk.number == 0 || desk.number > 5 {
         return None;
@@ -71,12 +72,18 @@ fn frame_of(desk: Desk, question: Question) -> Option<Frame>
 }
 
 /// The bytes of a question.
-fn request_of(alloc: Global, desk: Desk, question: Question) -> Option<Bytes> {
+fn request_of(alloc: Global, desk: Desk, question: Question) -> Option<Bytes>
+    ensures { IfSome result
+        (λ bytes. AsksForSheet question.event question.round question.position bytes) }
+{
     let asked = frame_of(desk, question)?;
     let Ok(bytes) = encode(alloc, &asked) else {
         return None;
     };
-    Bytes::from_vec(bytes).ok()
+    match Bytes::from_vec(bytes) {
+        Ok(bytes) => Some(bytes),
+        Err(_) => None,
+    }
 }
 
 impl Inquiry {
