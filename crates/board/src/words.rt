@@ -1,6 +1,6 @@
 //! The words of the program, and how it ends.
 
-ghost use Rattle.std.specs.Prelude.{◌≡◌, false};
+ghost use Rattle.std.specs.Prelude.{false};
 
 use crate::inquiry::Desk;
 use crate::serving::{Order, serve};
