@@ -127,10 +127,6 @@ event_number Blind4 = 15
 event_number Blind5 = 16
 event_number MultiBlind = 17
 
--- the event of edition 1 that a number is of, if it is of one
-unfoldable pub event_numbered : ℕ → Option Event
-event_numbered number = find (λ event. event_number event == number) events
-
 -- the event that a number is of, if it is of one
 unfoldable pub event_of_number : ℕ → Option Event
 event_of_number number = find (λ event. event_number event == number) all_events
