@@ -31,6 +31,7 @@ pub trait Desk {
     /// All that is said of a call: the desk before it, the event, the answer, the desk behind it.
     ghost handles: { Self → EventValue → Result (List MessageValue) Refusal → Self → Type 0 };
 
+    /// The hall, its number, and the number of desks.
     fn home(&self) -> Home
         ensures home { result ≡ home_of self.now }
         ensures ours { IsDesk result.desks result.desk }

@@ -26,6 +26,8 @@ mod taking;
 mod telling;
 mod writing;
 
-pub use connection::serve_connection;
+pub use connection::{serve_connection, serve_source};
+pub use desk::Desk;
 pub use ends::{End, Served};
 pub use peers::Peers;
+pub use source::Source;
