@@ -111,7 +111,7 @@ fn copied_behind(frames: usize) -> Options {
 }
 
 /// Opens the files, and does this over them. This function alone opens files: each one in which the
-/// type of a store stands takes the prover half a minute, and each such type LLVM a minute.
+/// type of a store stands takes the prover half a minute.
 pub fn open_for<V: Visit>(
     alloc: Global,
     disks: Disks,
