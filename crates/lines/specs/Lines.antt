@@ -1,4 +1,4 @@
--- The lines of an input, and the limits of what is read.
+-- The lines of an input, and the limits of what is read. Both are this project's own.
 use Rattle.std.specs.Prelude.{◌≡◌, true, not, flat_map, ℕ, Bool, ◌==◌, ◌&&◌, nat_le, if◌then◌else◌}
 use Rattle.std.specs.Prelude.{List, [], ◌∷◌, ◌++◌, length, take, zero, suc}
 use Rattle.std.specs.List.{list_all, list_any}
@@ -28,7 +28,8 @@ closed parts = parts.0 ++ (if length parts.1 == 0 then [] else parts.1 ∷ [])
 abbrev pub lines_of : List ℕ → List (List ℕ)
 lines_of bs = closed (lines_and_rest bs)
 
--- at most 39,387,136 bytes, 65,536 lines, and 10,000 bytes a line
+-- at most 65,536 lines, 10,000 bytes a line, and 39,387,136 bytes in all: as many as 65,536 lines
+-- have of the longest command, 600 bytes, and a line feed
 abbrev pub is_within : List ℕ → Bool
 is_within bs =
     nat_le (length bs) 39387136

@@ -13,11 +13,14 @@ use memchr::memchr;
 use std::io::Read;
 use std::marker::Model;
 
-/// The most bytes of an input, lines of an input, and bytes of a line.
+/// The most bytes of an input: as many as the most lines have of the longest command, 600 bytes,
+/// and a line feed.
 const MOST_BYTES: u32 = 39_387_136;
 
+/// The most lines of an input.
 const MOST_LINES: u32 = 65_536;
 
+/// The most bytes of a line, without its line feed.
 const MOST_IN_LINE: usize = 10_000;
 
 /// Reads the lines of an input one after the other, within its limits: 65,536 lines, 10,000 bytes a

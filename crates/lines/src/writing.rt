@@ -1,6 +1,6 @@
 //! Writing a whole text, at once or as it grows.
 
-ghost use Rattle.std.specs.Prelude.{◌≡◌, [], List, ℕ, OnOk, OnErr, IfErr};
+ghost use Rattle.std.specs.Prelude.{◌≡◌, ◌<◌, [], List, ℕ, OnOk, OnErr, IfErr, length};
 ghost use Rattle.std.specs.Io.KnownBytes.{Appends};
 ghost use Rattle.lines.specs.Bytes.{Writes, AppendsPart};
 ghost use Rattle.lines.specs.declared.fault.RunFault.TheVariants as run_fault;
@@ -67,12 +67,14 @@ pub fn write_out<W: Write>(writer: &mut W, text: &mut Vec<u8>) -> Result<(), Run
     }
 }
 
-/// Writes a text that waits where it is long. What is left of it waits on.
+/// Writes a text that waits, all of it, where it has 4,096 bytes or more. What is left of it waits
+/// on: at most 4,095 bytes. Where a write fails, a front part of the text is written.
 pub fn write_long<W: Write>(writer: &mut W, text: &mut Vec<u8>) -> Result<(), RunFault>
     ensures ok { OnOk result
         ((front : List ℕ)
         × Writes (W.contents writer.old) (W.contents writer.new) text.old.items front
         text.new.items) }
+    ensures short { OnOk result (length text.new.items < 4096) }
     ensures err { OnErr result
         (AppendsPart (W.contents writer.old) (W.contents writer.new) text.old.items) }
     ensures fault { IfErr result (λ e. e ≡ run_fault.Write) }
