@@ -8,7 +8,8 @@ use Rattle.std.proofs.lemmas.Bool.Decides.{nat_tests}
 use Rattle.std.proofs.lemmas.Fmt.{decimal-digits_value, digits_decimal, digits_value-decimal, length-decimal-le, decimal_nonempty, first_decimal}
 use Rattle.std.proofs.lemmas.Str.Parse.{IsNumeralModel, numerals_by_fold, digits_value_short}
 use Rattle.std.proofs.lemmas.Slice.Eq.{bytes_eq-Decides}
-use Rattle.texts.specs.Numerals.{is_numeral, digits_value, within}
+use Rattle.texts.specs.Numerals.{digits_value, within}
+use Rattle.texts.specs.model.Numeral.{is_numeral}
 use Rattle.texts.specs.Fields.{number_between}
 
 -- digits stand for their value

@@ -1,4 +1,4 @@
--- The numbers and the names of the codes.
+-- The numbers and the names of the codes: this project's own.
 use Rattle.std.specs.Prelude.{ℕ, ◌==◌, List, [], ◌∷◌, codes, find, Option}
 use Rattle.texts.specs.declared.answer.Code.{Code}
 use Rattle.texts.specs.declared.answer.Code.TheVariants.{Unread, Repeat, UnknownCompetitor}

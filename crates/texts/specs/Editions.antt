@@ -1,4 +1,5 @@
--- The editions of the commands. Edition 2 adds multi-blind: its event and its outcome.
+-- The editions of the commands, which are this project's own. Edition 2 adds multi-blind: its event
+-- and its outcome.
 use Rattle.std.specs.Prelude.{ℕ, max}
 use Rattle.formats.specs.Events.{event_edition}
 use Rattle.texts.specs.declared.command.Command.{Command}

@@ -1,4 +1,4 @@
--- The fields of commands. Each is read from its bytes, or is misspelt.
+-- The fields of commands, as `Spelling` spells them. Each is read from its bytes, or is misspelt.
 use Rattle.std.specs.Prelude.{ℕ, ◌+◌, ◌==◌, if◌then◌else◌, List, [], ◌∷◌, map, flat_map, find}
 use Rattle.std.specs.Prelude.{length, nat_le, take, drop, position, bytes_eq, codes, decimal}
 use Rattle.std.specs.Prelude.{Option, Some, None}
@@ -153,8 +153,3 @@ attempt_entry id attempt number outcome =
 abbrev pub IsSolution : Entered → Type 0
 IsSolution (entered.Solution moves) = Unit {0}
 IsSolution _ = ⊥
-
--- a solution, or misspelt
-abbrev pub MayBeSolution : Option Entered → Type 0
-MayBeSolution None = Unit {0}
-MayBeSolution (Some outcome) = IsSolution outcome

@@ -6,3 +6,4 @@ pub mod FirstEdition
 pub mod Numerals
 pub mod Reading
 pub mod Spelling
+pub mod model

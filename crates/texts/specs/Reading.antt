@@ -165,19 +165,6 @@ by_word text =
 unfoldable pub command_of : List ℕ → Result Command CommandFault
 command_of bytes = if nat_lt 600 (length bytes) then Err fault.TooLong else by_word (cut 32 bytes)
 
--- What a function of the program returned is what these say.
-
-abbrev pub Reads : {X Y : Type 0} → (X → Y) → Result X CommandFault → Result Y CommandFault → Type 0
-Reads view (Ok x) said = said ≡ Ok (view x)
-Reads view (Err e) said = said ≡ Err e
-
--- the same, where nothing but a field is at fault
-abbrev pub ReadsFields : {X Y : Type 0} → (X → Y) → Result X CommandFault → Result Y CommandFault
-    → Type 0
-ReadsFields view (Ok x) said = said ≡ Ok (view x)
-ReadsFields view (Err (fault.BadField index)) said = said ≡ Err (fault.BadField index)
-ReadsFields _ _ _ = ⊥
-
 -- Memory is taken for a name and for moves. The moves' field is the 4th of SCR and the 5th of ATT
 -- and COR; where they are misspelt, memory may run out first.
 
@@ -203,18 +190,6 @@ Gives moves (Err fault.NoMemory) said = TakesMemory moves said
 Gives _ (Err fault.TooLong) said = said ≡ Err fault.TooLong
 Gives _ (Err fault.NotACommand) said = said ≡ Err fault.NotACommand
 Gives _ (Err (fault.BadField index)) said = said ≡ Err (fault.BadField index)
-
--- the same of the fields of an attempt
-abbrev pub EntryTakesMemory : Result AttemptEntry CommandFault → Type 0
-EntryTakesMemory (Ok entry) = IsSolution entry.outcome
-EntryTakesMemory (Err (fault.BadField index)) = index ≡ 5
-EntryTakesMemory _ = ⊥
-
-abbrev pub GivesEntry : Result AttemptEntry CommandFault → Result AttemptEntry CommandFault → Type 0
-GivesEntry (Ok entry) said = said ≡ Ok entry
-GivesEntry (Err fault.NoMemory) said = EntryTakesMemory said
-GivesEntry (Err (fault.BadField index)) said = said ≡ Err (fault.BadField index)
-GivesEntry _ _ = ⊥
 
 -- a command was read, unless memory ran out
 abbrev pub ReadsAs : Result Command CommandFault → Command → Type 0

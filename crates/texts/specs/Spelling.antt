@@ -1,5 +1,5 @@
 -- How a command is spelled: a word and its fields, parted by one space each. And the ranges of the
--- fields.
+-- fields. The list of commands and its ranges are this project's own.
 use Rattle.std.specs.Prelude.{◌≤◌, ℕ, Bool, ◌==◌, ◌&&◌, not, nat_lt, nat_le, IsTrue, List, [], ◌∷◌}
 use Rattle.std.specs.Prelude.{◌++◌, length, codes, decimal, Option, None, Some}
 use Rattle.std.specs.List.{list_all, slice_split, join_with_byte}

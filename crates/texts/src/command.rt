@@ -21,12 +21,20 @@ impl Model for Name {
 }
 
 impl Name {
-    /// A name of these bytes. Whether they are a name that a command may give is for its reader to
-    /// say.
+    /// A name of these bytes, without taking memory. Whether they are a name that a command may
+    /// give is for its reader to say.
     pub fn new(bytes: Vec<u8>) -> Self
         ensures { result ≡ bytes.items }
     {
         Name { bytes }
+    }
+
+    /// The bytes, given back without taking memory.
+    pub fn into_vec(self) -> Vec<u8>
+        ensures { result.items ≡ self }
+    {
+        let Name { bytes } = self;
+        bytes
     }
 
     /// The bytes of the name.

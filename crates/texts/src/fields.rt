@@ -7,7 +7,8 @@ ghost use Rattle.std.specs.Str.{is_utf8};
 ghost use Rattle.texts.specs.Spelling.{is_name, is_name_byte, has_single_spaces};
 ghost use Rattle.texts.specs.Fields.{cut, number_between, cutoff_of, two_numbers, limit_of};
 ghost use Rattle.texts.specs.Fields.{percent_of, advance_of, moves_of, time_of, multi_of, cubes_of};
-ghost use Rattle.texts.specs.Fields.{entered_of, MayBeSolution};
+ghost use Rattle.texts.specs.Fields.{entered_of};
+ghost use Rattle.texts.specs.model.Returned.{MayBeSolution};
 
 use crate::command::Entered;
 use crate::numbers::number_between;
@@ -119,12 +120,9 @@ pub fn limit_of(bytes: &[u8]) -> Option<Option<u32>>
 fn percent_of(bytes: &[u8]) -> Option<Advance>
     ensures { result ≡ percent_of bytes.now }
 {
-    if bytes.len() >= 4 && &bytes[..4] == b"pct:".as_slice() {
-        let percent = number_between(1, 75, &bytes[4..])?;
-        Some(Advance::Percent(percent as u8))
-    } else {
-        None
-    }
+    let digits = bytes.strip_prefix(b"pct:".as_slice())?;
+    let percent = number_between(1, 75, digits)?;
+    Some(Advance::Percent(percent as u8))
 }
 
 /// Who advances: `final`, `top:` and a number of 1 to 999, or `pct:` and a percentage of 1 to 75.
@@ -133,8 +131,8 @@ pub fn advance_of(bytes: &[u8]) -> Option<Advance>
 {
     if bytes == b"final".as_slice() {
         Some(Advance::Final)
-    } else if bytes.len() >= 4 && &bytes[..4] == b"top:".as_slice() {
-        let number = number_between(1, 999, &bytes[4..])?;
+    } else if let Some(digits) = bytes.strip_prefix(b"top:".as_slice()) {
+        let number = number_between(1, 999, digits)?;
         Some(Advance::Top(number as u16))
     } else {
         percent_of(bytes)
@@ -208,11 +206,7 @@ fn multi_of(bytes: &[u8]) -> Option<Entered>
 fn cubes_of(bytes: &[u8]) -> Option<Entered>
     ensures { result ≡ cubes_of bytes.now }
 {
-    if bytes.len() >= 2 && &bytes[..2] == b"M:".as_slice() {
-        multi_of(&bytes[2..])
-    } else {
-        None
-    }
+    multi_of(bytes.strip_prefix(b"M:".as_slice())?)
 }
 
 /// What a judge enters: a time, a solution, cubes of multi-blind, or no result.
@@ -225,10 +219,10 @@ pub fn entered_of(alloc: Global, bytes: &[u8]) -> Result<Option<Entered>, NoMemo
         Ok(Some(Entered::Dnf))
     } else if bytes == b"DNS".as_slice() {
         Ok(Some(Entered::Dns))
-    } else if bytes.len() >= 2 && &bytes[..2] == b"T:".as_slice() {
-        Ok(time_of(&bytes[2..]))
-    } else if bytes.len() >= 2 && &bytes[..2] == b"S:".as_slice() {
-        let moves = moves_of(alloc, &bytes[2..])?;
+    } else if let Some(time) = bytes.strip_prefix(b"T:".as_slice()) {
+        Ok(time_of(time))
+    } else if let Some(solution) = bytes.strip_prefix(b"S:".as_slice()) {
+        let moves = moves_of(alloc, solution)?;
         Ok(moves.map(|moves| Entered::Solution { moves }))
     } else {
         Ok(cubes_of(bytes))

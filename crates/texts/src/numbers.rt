@@ -3,7 +3,8 @@
 ghost use Rattle.std.specs.Prelude.{◌≡◌, ◌≤◌, ◌<◌, ◌↔◌, ℕ, Some, IfSome, decimal, length, true};
 ghost use Rattle.std.specs.Char.{is_ascii_digit};
 ghost use Rattle.std.specs.List.{list_all};
-ghost use Rattle.texts.specs.Numerals.{is_numeral, digits_value};
+ghost use Rattle.texts.specs.Numerals.{digits_value};
+ghost use Rattle.texts.specs.model.Numeral.{is_numeral};
 ghost use Rattle.texts.specs.Fields.{number_between};
 
 /// Whether all bytes are decimal digits.

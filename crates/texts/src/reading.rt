@@ -4,12 +4,13 @@ ghost use Rattle.std.specs.Prelude.{◌≡◌, ◌<◌, ◌≤◌, ◌↔◌, fa
 ghost use Rattle.std.specs.Prelude.{Option, Some, None, IfOk};
 ghost use Rattle.texts.specs.Spelling.{IsFit, spelling};
 ghost use Rattle.texts.specs.Fields.{cut};
-ghost use Rattle.texts.specs.Reading.{Gives, moves_field, is_word, Reads, ReadsFields, ReadsAs};
-ghost use Rattle.texts.specs.Reading.{GivesEntry, front, no_field, register_of, round_of, open_of};
+ghost use Rattle.texts.specs.Reading.{Gives, moves_field, is_word, ReadsAs};
+ghost use Rattle.texts.specs.Reading.{front, no_field, register_of, round_of, open_of};
 ghost use Rattle.texts.specs.Reading.{enter_of, scramble_of, entry_of, attempt_of, correct_of};
 ghost use Rattle.texts.specs.Reading.{strike_of, set_advance_of, close_of, set_edition_of, by_word};
 ghost use Rattle.texts.specs.Reading.{command_of, ReadsWhatIsSpelled, SpellsWhatIsRead};
 ghost use Rattle.texts.specs.Reading.{SpellsOneCommand, SpellsShort};
+ghost use Rattle.texts.specs.model.Returned.{Reads, ReadsFields, GivesEntry};
 ghost use Rattle.texts.specs.declared.reading.CommandFault.TheVariants.{NoMemory as OutOfMemory};
 ghost use Rattle.texts.specs.declared.reading.CommandFault.TheVariants.{BadField as BadFieldAt};
 
