@@ -1,6 +1,6 @@
 -- A replay from line to line, and how it ends, in words on the whole input.
 use Rattle.std.proofs.Common.{◌≡◌, ℕ, ◌+◌, Bool, true, false, List, [], ◌∷◌, ◌++◌, length, fold, unwrap_or, is_some, Option, None, Some, refl, sym, ap, ◌∙◌, append_assoc, append-nil, length-append, subst, add_comm, arith}
-use Rattle.std.specs.Prelude.{Ok}
+use Rattle.std.specs.Prelude.{Result, Ok, Err, IfErr}
 use Rattle.std.proofs.KnownBytes.{Appends-trans, Appends-nil}
 use Rattle.std.specs.Io.KnownBytes.{Appends}
 use Rattle.std.specs.List.{enumerate_from}
@@ -140,6 +140,11 @@ gives_true true p line given start now is h = h
 gives_true false p line given start now is h = cc
 
 -- ---- the end
+
+-- what holds of its error holds of a result that is one
+pub fails_by : {T E : Type 0} (P : E → Type 0) (r : Result T E) (e : E) → r ≡ Err e → P e
+    → IfErr r P
+fails_by P r e is p = subst (λ x. IfErr x P) (sym is) p
 
 -- a part of what is written for the lines that were given is a part of the whole
 pub part_of_whole : (p : Reading) (given : List ℕ) (start now old new : Option (List ℕ))

@@ -1,4 +1,4 @@
--- What a replay writes for its input, and how it ends.
+-- What a replay writes for its input, and how it ends: rules of this project's own.
 use Rattle.std.specs.Prelude.{◌≡◌, ℕ, true, false, if◌then◌else◌, List, [], ◌∷◌, ◌++◌, length}
 use Rattle.std.specs.Prelude.{codes, decimal, is_some, unwrap_or, Option, None}
 use Rattle.std.specs.List.{enumerate_from}

@@ -2,10 +2,8 @@
 //! they come to.
 #![tactic(auto)]
 
-ghost use Rattle.std.specs.Prelude.{◌≡◌, ◌++◌, List, ℕ, Some, IfOk, OnOk, IfErr};
+ghost use Rattle.std.specs.Prelude.{◌≡◌, ◌++◌, List, ℕ, IfOk, OnOk, IfErr};
 ghost use Rattle.commands.specs.History.{nothing, after, answer_to};
-ghost use Rattle.sheets.specs.Sheet.{sheet};
-ghost use Rattle.sheets.specs.Faults.{NoSheet};
 ghost use Rattle.lines.specs.Bytes.{HasLeft};
 ghost use Rattle.replay.specs.Replay.{refusal_text, Replays, ReplayFails};
 ghost use Rattle.replay.specs.model.Applying.{Applies, StopsAmong};
@@ -15,7 +13,7 @@ use commands::{Answer, Meet};
 use formats::Event;
 use lines::{LineReader, write_long, write_out, write_text};
 pub use lines::{RunFault, lines_are_parted};
-use sheets::{SheetFault, Style, table, text};
+use sheets::{SheetFault, Style, sheet};
 use std::alloc::{AllocError, Global};
 use std::io::{Read, Write};
 
@@ -70,46 +68,18 @@ fn apply_lines<R: Read, W: Write>(
     loop {
         match lines.read_line(reader, &mut line) {
             Ok(true) => {
-                let Ok(()) = apply_line(meet, lines.count(), &line, &mut out) else {
-                    return Err(RunFault::NoMemory);
-                };
-                let Ok(()) = write_long(writer, &mut out) else {
-                    return Err(RunFault::Write);
-                };
+                apply_line(meet, lines.count(), &line, &mut out)?;
+                write_long(writer, &mut out)?;
             }
             Ok(false) => break,
             Err(fault) => {
-                let Ok(()) = write_out(writer, &mut out) else {
-                    return Err(RunFault::Write);
-                };
+                write_out(writer, &mut out)?;
                 return Err(fault);
             }
         }
     }
-    match write_out(writer, &mut out) {
-        Ok(()) => Ok(lines.count()),
-        Err(_) => Err(RunFault::Write),
-    }
-}
-
-/// The sheet behind so many lines.
-fn sheet_of(
-    alloc: Global,
-    meet: &Meet,
-    event: Event,
-    round: u8,
-    style: Style,
-    position: u32,
-) -> Result<Vec<u8>, SheetFault>
-    ensures sheet { IfOk result
-        (λ text. sheet style meet.now.accepted event round position ≡ Some text.items) }
-    ensures none { IfErr result
-        (λ e. NoSheet e (sheet style meet.now.accepted event round position)) }
-{
-    match style {
-        Style::Text => text(alloc, meet, event, round, position),
-        Style::Table => table(alloc, meet, event, round, position),
-    }
+    write_out(writer, &mut out)?;
+    Ok(lines.count())
 }
 
 /// Reads commands, one a line, and writes a line for each that is refused, and then the sheet of a
@@ -159,14 +129,9 @@ pub fn replay<R: Read, W: Write>(
           new = W.contents writer.new;
         })) }
 {
-    let Ok(mut meet) = Meet::new(alloc) else {
-        return Err(RunFault::NoMemory);
-    };
-    let position = match apply_lines(alloc, &mut meet, reader, writer) {
-        Ok(position) => position,
-        Err(fault) => return Err(fault),
-    };
-    let sheet = match sheet_of(alloc, &meet, event, round, style, position) {
+    let mut meet = Meet::new(alloc)?;
+    let position = apply_lines(alloc, &mut meet, reader, writer)?;
+    let sheet = match sheet(alloc, &meet, event, round, position, style) {
         Ok(sheet) => sheet,
         Err(SheetFault::NoSuchRound) => return Err(RunFault::NoSuchRound),
         Err(SheetFault::NoMemory) => return Err(RunFault::NoMemory),

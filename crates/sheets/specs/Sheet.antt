@@ -1,5 +1,5 @@
 -- The result sheet of a round, as a function of the accepted commands, the event, the round and the
--- position.
+-- position. Its two forms are this project's own.
 use Rattle.std.specs.Prelude.{ℕ, ◌-◌, Bool, true, false, ◌&&◌, List, [], ◌∷◌, ◌++◌, length}
 use Rattle.std.specs.Prelude.{replicate, map, flat_map, slice_get, unwrap_or, codes, decimal}
 use Rattle.std.specs.Prelude.{Option}

@@ -6,11 +6,13 @@ mod as_text;
 mod laws;
 mod reading_back;
 mod shown;
+mod styled;
 
 pub use as_table::table;
 pub use as_text::text;
 pub use laws::{first_edition_sheets, fits_in_a_frame};
 pub use reading_back::table_reads_back;
+pub use styled::sheet;
 
 /// How a sheet is printed.
 #[derive(Clone, Copy, Debug, PartialEq, Eq)]
