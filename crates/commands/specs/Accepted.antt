@@ -1,5 +1,6 @@
--- What a list of accepted commands says: who is registered, which rounds were opened, and what was
--- done in them.
+-- What a list of accepted commands says: who is registered, which rounds were opened, what was done
+-- in them, and why a further command is refused. The checks and their order are this project's own;
+-- a rule of the WCA Regulations is named with its article.
 use Rattle.std.specs.Prelude.{ℕ, zero, suc, ◌+◌, ◌-◌, Bool, true, false, not, ◌==◌, ◌&&◌, nat_lt}
 use Rattle.std.specs.Prelude.{nat_le, if◌then◌else◌, List, [], ◌∷◌, ◌++◌, map, unwrap_or, bytes_eq}
 use Rattle.std.specs.Prelude.{option_to_list, is_some, Option, None, Some}
@@ -373,12 +374,12 @@ abbrev pub competitors_of : Option (Settings × Table) → ℕ
 competitors_of None = 0
 competitors_of (Some round) = started round.1
 
--- round j has fewer competitors than the rounds behind it want, up to one behind round r
+-- the competitors of round j do not allow the r + 1 - j later rounds up to round r + 1 (WCA
+-- Regulations, article 9m)
 abbrev pub has_too_few : (ℕ → Option (Settings × Table)) → ℕ → ℕ → Bool
 has_too_few rounds r j = nat_lt (later_rounds (competitors_of (rounds j))) (r + 1 - j)
 
--- the number of later rounds that competitors allow: round r is not the last, and one of those up
--- to it has too few
+-- round r is to be followed by another, and some round from 1 to r has too few competitors for it
 abbrev pub breaks_rounds_rule : (ℕ → Option (Settings × Table)) → ℕ → Advance → Bool
 breaks_rounds_rule rounds r advance =
     not (is_final advance) && list_any (has_too_few rounds r) (range_with_len 1 r)

@@ -1,4 +1,5 @@
--- What a list of entries, each an id and a text, comes to.
+-- What a list of entries, each an id and a text, comes to. That each id is done once, and what each
+-- is answered, are rules of this project's own.
 use Rattle.std.specs.Prelude.{◌≡◌, ℕ, Bool, ◌==◌, nat_lt, if◌then◌else◌, List, [], ◌∷◌, ◌++◌, fold}
 use Rattle.std.specs.Prelude.{Option, None, Some, Result, Ok, Err}
 use Rattle.std.specs.List.{list_any}

@@ -330,8 +330,8 @@ impl KeptRounds {
         }
     }
 
-    /// Whether the round numbered `earlier` has fewer competitors than the rounds behind it want,
-    /// up to one behind this round (WCA Regulations, article 9m).
+    /// Whether the competitors of the round numbered `earlier` do not allow the later rounds up to
+    /// the one behind this round (WCA Regulations, article 9m).
     fn has_too_few(&self, id: RoundId, earlier: u8) -> bool
         requires { id.round ≤ 4 }
         ensures { result
