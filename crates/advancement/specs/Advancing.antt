@@ -1,4 +1,4 @@
--- How many rounds may follow, and who goes on to the next one.
+-- How many rounds may follow, and who goes on to the next one (WCA Regulations, article 9).
 use Rattle.std.specs.Prelude.{◌≡◌, ℕ, ◌*◌, ◌/◌, ◌&&◌, Bool, false, nat_le, nat_lt, if◌then◌else◌}
 use Rattle.std.specs.Prelude.{min, is_some, List, filter, Option, None, Some}
 use Rattle.formats.specs.Results.{best_of, number_of}
@@ -17,7 +17,7 @@ wanted (Top number) n = number
 wanted (Percent percent) n = n * percent / 100
 
 -- how many may advance: as many as are wanted, and at most three quarters (WCA Regulations, article
--- 9p1)
+-- 9p)
 abbrev pub quota : Advance → ℕ → ℕ
 quota advance n = min (wanted advance n) (3 * n / 4)
 
@@ -34,7 +34,7 @@ is_among t most e = has_result e && is_reached_by_few t most e
 
 -- an entrant advances whose best attempt is a number, and for whom no more than the quota of the
 -- round's competitors, who are those that have started, are not worse, this one included; so those
--- who are tied over the border stay out together
+-- who are tied over the border stay out together (the project's own)
 abbrev pub advances : Table → Advance → Entrant → Bool
 advances t advance e = is_among t (quota advance (started t)) e
 

@@ -29,7 +29,7 @@ pub fn later_rounds(competitors: u16) -> u8
 }
 
 /// How many of a round's competitors may advance: as many as are wanted, a percentage rounded down,
-/// and at most three quarters, rounded down (WCA Regulations, article 9p1). From a final it is 0.
+/// and at most three quarters, rounded down (WCA Regulations, article 9p). From a final it is 0.
 pub fn quota(advance: Advance, competitors: u16) -> u16
     ensures { result ≡ quota advance competitors }
 {
@@ -43,7 +43,8 @@ pub fn quota(advance: Advance, competitors: u16) -> u16
 }
 
 /// The place at which nobody advances any more: those advance whose best attempt is a number and
-/// whose place is before it. Who asks for many entrants of a round finds it once.
+/// whose place is before it. It goes over the entrants once and takes no memory, so whoever asks
+/// for many entrants of a round finds it once and asks `is_through` of each.
 pub fn border(table: &RoundTable, advance: Advance) -> u16
     ensures { IsBorder table.now advance result }
 {
@@ -58,20 +59,12 @@ pub fn is_through(best: Value, place: u16, border: u16) -> bool
     is_number(best) && place < border
 }
 
-/// Whether an entrant advances; nobody else does.
+/// The numbers of those who advance, in order of standings, each once; at most 999. It is
+/// `NoMemory` only where a growth was refused.
 ///
 /// The competitors of the round are the entrants with an attempt that is not DNS. An entrant
 /// advances whose best attempt is a number and for whom no more competitors than the quota are not
-/// worse, the entrant included. So those who are tied over the border stay out together. Takes no
-/// memory.
-pub fn advances(table: &RoundTable, advance: Advance, number: u16) -> bool
-    ensures { result ≡ goes_on table.now advance number }
-{
-    is_before(table, border(table, advance), number)
-}
-
-/// The numbers of those who advance, in order of standings, each once; at most 999. It is
-/// `NoMemory` only where a growth was refused.
+/// worse, the entrant included. So those who are tied over the border stay out together.
 pub fn advancing(alloc: Global, table: &RoundTable, advance: Advance) -> Result<Vec<u16>, NoMemory>
     ensures order { IfOk result (λ numbers. numbers.items ≡ advancing table.now advance) }
     // These and no others advance.

@@ -1,4 +1,6 @@
--- What an attempt counts as.
+-- What an attempt counts as: results as in the WCA Regulations, article 9f, penalties of two
+-- seconds as in article 10e and time limits as in article A1a. The ranges of what may be entered are
+-- the project's own.
 use Rattle.std.specs.Prelude.{◌≡◌, ℕ, ◌+◌, ◌-◌, ◌*◌, ◌/◌, ◌≤◌, Bool, false, ◌&&◌, nat_le}
 use Rattle.std.specs.Prelude.{if◌then◌else◌, Option, None, Some}
 use Rattle.fmc_check.specs.declared.Fm.{Fm}
@@ -12,6 +14,7 @@ use Rattle.attempts.specs.declared.Value.{Value}
 use Rattle.attempts.specs.declared.Value.TheVariants as value
 
 -- hundredths up to ten minutes as they are, and longer ones to the nearest second, a half up
+-- (border and rounding are the project's own)
 abbrev pub rounded : ℕ → ℕ
 rounded v = if nat_le v 60000 then v else (v + 50) / 100 * 100
 
@@ -25,7 +28,8 @@ abbrev pub solution_value : Fm → Value
 solution_value (fm.Moves n) = value.Number n
 solution_value fm.Dnf = value.Dnf
 
--- Multi-blind: so many cubes solved of those attempted, in so many seconds
+-- Multi-blind: so many cubes solved of those attempted, in so many seconds (WCA Regulations,
+-- article 9f)
 
 abbrev pub unsolved : ℕ → ℕ → ℕ
 unsolved solved attempted = attempted - solved
@@ -39,7 +43,7 @@ abbrev pub is_multi_finished : ℕ → ℕ → Bool
 is_multi_finished solved attempted = nat_le 2 solved && nat_le (unsolved solved attempted) solved
 
 -- a result as a number, which is less where there are more points, then where the time is shorter,
--- then where fewer are unsolved
+-- then where fewer are unsolved (that order is article 9f's, the number is the project's own)
 abbrev pub multi_number : ℕ → ℕ → ℕ → ℕ
 multi_number solved attempted seconds =
     (99 - points solved attempted) * 10000000 + 100 * seconds + unsolved solved attempted

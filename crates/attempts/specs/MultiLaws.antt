@@ -21,7 +21,8 @@ points_of r = points r.solved r.attempted
 abbrev pub unsolved_of : Multi → ℕ
 unsolved_of r = unsolved r.solved r.attempted
 
--- more points; or as many, in a shorter time; or as many in the same time, and fewer unsolved
+-- more points; or as many, in a shorter time; or as many in the same time, and fewer unsolved (WCA
+-- Regulations, article 9f)
 abbrev pub is_better : Multi → Multi → Bool
 is_better r s =
     nat_lt (points_of s) (points_of r)

@@ -1,4 +1,4 @@
--- How values are printed.
+-- How values are printed (the project's own).
 use Rattle.std.specs.Prelude.{ℕ, ◌+◌, ◌-◌, ◌*◌, ◌/◌, ◌%◌, nat_lt, if◌then◌else◌, List, [], ◌∷◌}
 use Rattle.std.specs.Prelude.{◌++◌, codes, decimal}
 use Rattle.attempts.specs.declared.Value.{Value}

@@ -104,7 +104,7 @@ pub fn in_range_of(value: Value, unit: Unit) -> bool
 ///
 /// In multi-blind a solved cube is a point, and an unsolved one takes a point away; fewer than two
 /// solved, or less than no point, is DNF. Otherwise the value is less for more points, then for a
-/// shorter time, then for fewer unsolved cubes (WCA Regulations, article 9f12). No limit applies to
+/// shorter time, then for fewer unsolved cubes (WCA Regulations, article 9f). No limit applies to
 /// it, nor to a solution.
 pub fn settle(outcome: Outcome, limit: Option<u32>) -> Value
     requires { IsOutcome outcome }

@@ -1,4 +1,6 @@
--- Stickers in space: x points to the right side, y to the upper and z to the front one.
+-- Stickers in space: x points to the right side, y to the upper and z to the front one. The puzzle
+-- and its sides are those of the WCA Regulations, article 12; coordinates and numbers are the
+-- project's own.
 use Rattle.std.specs.Prelude.{◌≡◌, ℕ, ◌+◌, ◌*◌, List, [], ◌∷◌, map, flat_map}
 use Rattle.cube.specs.declared.moves.Side.{Side}
 use Rattle.cube.specs.declared.moves.Side.TheVariants.{U, R, F, D, L, B}

@@ -1,4 +1,6 @@
--- Turns as maps of space, applied to the stickers of their layers.
+-- Turns as maps of space, applied to the stickers of their layers (WCA Regulations, article 12). A
+-- cube is solved where each side shows one colour (article 10), however it is held (the project's
+-- own).
 use Rattle.std.specs.Prelude.{◌≡◌, ◌==◌, ℕ, List, [], ◌∷◌, length, map, slice_index_or, Bool, true}
 use Rattle.std.specs.Prelude.{false, if◌then◌else◌, count_by}
 use Rattle.cube.specs.declared.moves.Side.{Side}
@@ -161,10 +163,11 @@ Undoes first second =
     (arrangement : List Colour) → length arrangement ≡ 54
     → turned second (turned first arrangement) ≡ arrangement
 
--- a quarter turn, made four times, leaves every arrangement of the 54 stickers
+-- an arrangement after a clockwise quarter turn
 abbrev pub quarter_turned : Kind → List Colour → List Colour
 quarter_turned kind = turned (record { kind = kind; quarter = Clockwise })
 
+-- a quarter turn, made four times, leaves every arrangement of the 54 stickers
 abbrev pub IsNoneFourTimes : Kind → Type 0
 IsNoneFourTimes kind = (arrangement : List Colour) → length arrangement ≡ 54 →
     quarter_turned kind

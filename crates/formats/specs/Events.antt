@@ -1,4 +1,6 @@
--- Events and formats: their names and numbers, and which format an event may have.
+-- Events and formats: their names and numbers, and which format an event may have. The events and
+-- the kinds of formats are those of the WCA Regulations, article 9b; the numbers, and the table of
+-- the formats of each event, are the project's own.
 use Rattle.std.specs.Prelude.{ℕ, Bool, true, false, ◌==◌, List, [], ◌∷◌, ◌++◌, codes, bytes_eq}
 use Rattle.std.specs.Prelude.{find, Option}
 use Rattle.attempts.specs.declared.Unit.{Unit as Measure}

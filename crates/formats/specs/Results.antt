@@ -1,4 +1,5 @@
--- What a competitor's values make: the best, the average, and the order by them.
+-- What a competitor's values make: the best, the average, and the order by them (WCA Regulations,
+-- article 9f). How averages are rounded and printed is the project's own.
 use Rattle.std.specs.Prelude.{◌≡◌, ℕ, ◌+◌, ◌-◌, ◌*◌, ◌/◌, Bool, true, false, ◌==◌, ◌||◌, ◌&&◌}
 use Rattle.std.specs.Prelude.{nat_lt, nat_le, if◌then◌else◌, min, max, List, ◌++◌, ◌%◌, codes}
 use Rattle.std.specs.Prelude.{decimal, length, sum, filter_map, Option, None, Some, unwrap_or}

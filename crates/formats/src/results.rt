@@ -25,9 +25,10 @@ pub enum Averaged {
 /// What a competitor is ranked by. None is worse than any number.
 #[derive(Clone, Copy, Debug, PartialEq, Eq)]
 pub struct RankKey {
-    /// The average in the formats that have one, otherwise the best.
+    /// The average in the formats that have one, in hundredths of a second or of a move; otherwise
+    /// the best, in what the event's `Unit` counts.
     pub main: Option<u32>,
-    /// The best in the formats with an average, otherwise None.
+    /// The best in the formats with an average, in what the event's `Unit` counts; otherwise None.
     pub tie: Option<u32>,
 }
 
@@ -165,7 +166,8 @@ pub fn is_format_of(unit: Unit, format: Format) -> bool
 ///
 /// It is Missing until all attempts of the format are there, and in the best-of formats, which are
 /// those of multi-blind. Times are in hundredths of a second, above ten minutes in whole seconds;
-/// moves are in hundredths of a move.
+/// moves are in hundredths of a move. The format has to be one of the unit (`is_format_of`), and
+/// each value in the range of the unit (`attempts::in_range_of`).
 pub fn average(format: Format, unit: Unit, values: &[Value]) -> Averaged
     requires format { IsFormatOf unit format }
     requires in_range { All (IsInRangeOf unit) values.now }
@@ -179,7 +181,8 @@ pub fn average(format: Format, unit: Unit, values: &[Value]) -> Averaged
 }
 
 /// What a competitor with these values is ranked by: in ao5 and mo3 the average and then the best,
-/// otherwise the best alone.
+/// otherwise the best alone. The format has to be one of the unit (`is_format_of`), and each value
+/// in the range of the unit (`attempts::in_range_of`).
 pub fn key(format: Format, unit: Unit, values: &[Value]) -> RankKey
     requires format { IsFormatOf unit format }
     requires in_range { All (IsInRangeOf unit) values.now }

@@ -1,4 +1,6 @@
--- Notation: which text spells which moves, and what is wrong with the others.
+-- Notation: which text spells which moves, and what is wrong with the others. The tokens and their
+-- count are those of the WCA Regulations, article 12; the spaces between them, the most moves and
+-- the faults are the project's own.
 use Rattle.std.specs.Prelude.{◌≡◌, ◌≢◌, ◌⊎◌, ℕ, ◌+◌, ◌<◌, ◌≤◌, Bool, true, false, List, [], ◌∷◌}
 use Rattle.std.specs.Prelude.{◌++◌, length, map, replicate, count_by, Result, Err}
 use Rattle.std.specs.List.{join_with_byte}

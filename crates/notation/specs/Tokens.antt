@@ -1,4 +1,4 @@
--- How a move is written.
+-- How a move is written (WCA Regulations, article 12).
 use Rattle.std.specs.Prelude.{ℕ, List, [], ◌++◌, codes}
 use Rattle.cube.specs.declared.moves.Side.{Side}
 use Rattle.cube.specs.declared.moves.Side.TheVariants.{U, R, F, D, L, B}

@@ -28,7 +28,7 @@ fn put(
     value: Value,
 ) -> Result<(), Fail> {
     let next = plain.done(number).saturating_add(1);
-    if in_range_of(value, Unit::Time) && running.put(number, next, value).is_ok() {
+    if in_range_of(value, running.unit()) && running.put(number, next, value).is_ok() {
         plain.put(number, value)?;
     }
     Ok(())
@@ -36,7 +36,7 @@ fn put(
 
 /// Replaces the first value in both.
 fn correct(running: &mut RoundTable, plain: &mut PlainTable, number: u16, value: Value) {
-    if in_range_of(value, Unit::Time) && running.correct(number, 1, value).is_ok() {
+    if in_range_of(value, running.unit()) && running.correct(number, 1, value).is_ok() {
         plain.correct_first(number, value);
     }
 }

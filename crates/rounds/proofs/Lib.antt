@@ -6,7 +6,6 @@ pub mod EntrantLines
 pub mod Finished
 pub mod InOrder
 pub mod KeyOrder
-pub mod NotWorse
 pub mod Passing
 pub mod Ranked
 pub mod Refusals

@@ -1,4 +1,4 @@
--- Who met the cutoff has a better place than who did not.
+-- Who met the cutoff (WCA Regulations, article 9g) has a better place than who did not.
 use Rattle.std.specs.Prelude.{◌≡◌, ◌<◌, ℕ, true, false, length, All, Some}
 use Rattle.rounds.specs.Tables.{Entrant, Table, IsCutoff, entrant, meets, place}
 

@@ -1,4 +1,6 @@
--- What a round is: its entrants in order of entry, each with the values so far, and what they make.
+-- What a round is: its entrants in order of entry, each with the values so far, and what they make
+-- (WCA Regulations, article 9: cutoffs in 9g, the order in 9f). The most entrants, and when a call
+-- is refused, are the project's own.
 use Rattle.std.specs.Prelude.{◌≡◌, ◌<◌, ◌≤◌, ℕ, ◌+◌, ◌-◌, Bool, true, false, not, ◌==◌, ◌&&◌}
 use Rattle.std.specs.Prelude.{nat_lt, nat_le, if◌then◌else◌, List, [], ◌∷◌, ◌++◌, length, take}
 use Rattle.std.specs.Prelude.{slice_set, map, filter, find, flat_map, count_by, All, Option, None}
@@ -40,7 +42,7 @@ abbrev pub empty_table : Format → Measure → Option (ℕ × ℕ) → Table
 empty_table format unit cutoff =
     record { format = format; unit = unit; cutoff = cutoff; is_closed = false; entrants = [] }
 
--- a cutoff is after 1 attempt at least, and before the last one of the format
+-- a cutoff is after 1 attempt at least, and before the last one of the format (the project's own)
 abbrev pub IsCutoff : Format → Option (ℕ × ℕ) → Type 0
 IsCutoff format None = Unit {0}
 IsCutoff format (Some cutoff) = (1 ≤ cutoff.0) × (cutoff.0 < attempts_of format)
@@ -64,7 +66,8 @@ is_below border value.Dns = false
 abbrev pub meets : ℕ × ℕ → List Value → Bool
 meets cutoff vs = list_any (is_below cutoff.1) (take cutoff.0 vs)
 
--- under a cutoff of k attempts, k where it is not met; otherwise all of the format
+-- under a cutoff of k attempts, k where it is not met; otherwise all of the format (WCA
+-- Regulations, article 9g)
 abbrev pub allotted : Format → Option (ℕ × ℕ) → List Value → ℕ
 allotted format None vs = attempts_of format
 allotted format (Some cutoff) vs = if meets cutoff vs then attempts_of format else cutoff.0
@@ -172,7 +175,8 @@ struck t n = record t { entrants = map (less_last n) t.entrants }
 abbrev pub key : Table → Entrant → RankKey
 key t e = key_of t.format t.unit e.values
 
--- 1 plus the number of entrants who are better
+-- 1 plus the number of entrants who are better (the project's own words for the places of the WCA
+-- Regulations, article 9f)
 abbrev pub place : Table → Entrant → ℕ
 place t e = 1 + count_by (λ other. is_better (key t other) (key t e)) t.entrants
 
@@ -199,7 +203,8 @@ is_started_attempt value.Dns = false
 abbrev pub has_started : Entrant → Bool
 has_started e = list_any is_started_attempt e.values
 
--- how many entrants have an attempt that is not DNS
+-- how many entrants have an attempt that is not DNS: the competitors of the round (the project's
+-- own)
 abbrev pub started : Table → ℕ
 started t = count_by has_started t.entrants
 

@@ -2,13 +2,13 @@
 
 ghost use Rattle.std.specs.Prelude.{◌≡◌, ◌<◌, ◌≤◌, [], None, Some, All, IfOk, IfSome};
 ghost use Rattle.std.specs.Prelude.{OnOk, OnErr, MatchOption, false, find, length, map};
-ghost use Rattle.std.specs.Prelude.{nat_eq, option_map, slice_get};
+ghost use Rattle.std.specs.Prelude.{nat_eq, slice_get};
 ghost use Rattle.std.specs.List.{list_any, IsDistinct};
 ghost use Rattle.std.specs.List.Sorted.{IsPermutation};
 ghost use Rattle.attempts.specs.Attempts.{IsInRangeOf};
 ghost use Rattle.formats.specs.Results.{IsFormatOf};
 ghost use Rattle.rounds.specs.Tables.{Entrant, IsCutoff, KeepsAllotted, allotted, has_number};
-ghost use Rattle.rounds.specs.Tables.{has_started, is_finished, not_worse, number_of_entrant};
+ghost use Rattle.rounds.specs.Tables.{has_started, is_finished, number_of_entrant};
 ghost use Rattle.rounds.specs.Tables.{standings, started};
 ghost use Rattle.rounds.specs.CutoffLaw.{MetIsBetterIn};
 ghost use Rattle.rounds.specs.Positions.{place_at};
@@ -19,7 +19,7 @@ ghost use Rattle.rounds.specs.model.Standings.{is_unfinished};
 use crate::cutoff::{allotted, has_started};
 use crate::kept::Kept;
 use crate::rank::rank_of;
-use crate::ranking::{not_worse_among, order_of, place_at};
+use crate::ranking::{order_of, place_at};
 use crate::rules::Rules;
 use crate::running::{pass_all, recounted};
 use crate::standing::Standing;
@@ -194,17 +194,7 @@ impl Entrants {
         order_of(&self.standings)
     }
 
-    /// How many of those who have started are not worse than an entrant.
-    pub(crate) fn not_worse(&self, number: u16) -> Option<u16>
-        ensures { result
-            ≡ option_map (not_worse (as_table false self.now))
-            (find (has_number number) self.now.entrants) }
-    {
-        let key = self.standings.get(&number)?.kept.key;
-        Some(not_worse_among(&self.standings, key))
-    }
-
-    /// The place at a position of the standings.
+    /// The greatest place that is not above a position; 0 where there is none.
     pub(crate) fn place_at(&self, position: u16) -> u16
         ensures { result ≡ place_at (as_table false self.now) position }
     {

@@ -14,6 +14,8 @@ use formats::{Averaged, RankKey, average, best, key};
 pub struct Kept {
     /// The least number; without one DNF where a DNF is there, else DNS.
     pub best: Value,
+    /// The average of an ao5 or the mean of an mo3; Missing in the best-of formats, and until all
+    /// attempts are done.
     pub average: Averaged,
     /// What the entrant is ranked by.
     pub key: RankKey,

@@ -1,5 +1,4 @@
 use Rattle.std.proofs.Common.{◌+◌, ap, subst, sym, ◌∙◌}
-use Rattle.rounds.specs.Tables.{started}
 use Rattle.rounds.specs.Positions.{place_at}
 use Rattle.advancement.specs.Advancing.{IsBorder, quota}
 use Rattle.advancement.proofs.Through.{border_is}
