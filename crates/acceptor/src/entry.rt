@@ -106,14 +106,15 @@ impl Entry {
         self.text.as_slice()
     }
 
-    /// An equal entry, made with the allocator of this one.
+    /// An equal entry, made with the allocator of this one. Where memory is refused, the answer is
+    /// NoMemory.
     pub fn copy(&self) -> Result<Entry, NoMemory>
         ensures { IfOk result (λ e. e ≡ self.now) }
     {
         self.copy_in(*self.text.allocator())
     }
 
-    /// An equal entry, made with this allocator.
+    /// An equal entry, made with this allocator. Where memory is refused, the answer is NoMemory.
     pub fn copy_in(&self, alloc: Global) -> Result<Entry, NoMemory>
         ensures { IfOk result (λ e. e ≡ self.now) }
     {

@@ -1,9 +1,10 @@
 //! What the desks say to one another.
 
+ghost use Rattle.std.specs.Prelude.{◌≡◌, IfOk};
+
 use crate::NoMemory;
 use crate::ballot::Ballot;
 use crate::entry::Entry;
-use crate::sending::copy_vote;
 use std::alloc::Global;
 use std::marker::Model;
 
@@ -85,7 +86,7 @@ impl Model for Messages {
 }
 
 impl Messages {
-    ghost use Rattle.std.specs.Prelude.{◌≡◌, []};
+    ghost use Rattle.std.specs.Prelude.{[]};
 
     /// No message. It takes no memory.
     pub fn none(alloc: Global) -> Messages
@@ -120,9 +121,7 @@ impl Messages {
 }
 
 impl Report {
-    ghost use Rattle.std.specs.Prelude.{◌≡◌, IfOk};
-
-    /// An equal report.
+    /// An equal report. Where memory is refused, the answer is NoMemory.
     pub fn copy(&self) -> Result<Report, NoMemory>
         ensures { IfOk result (λ r. r ≡ self.now) }
     {
@@ -133,10 +132,18 @@ impl Report {
     }
 }
 
-impl Body {
-    ghost use Rattle.std.specs.Prelude.{◌≡◌, IfOk};
+/// A copy of the report, where there is one. Where memory is refused, the answer is NoMemory.
+pub fn copy_report(report: &Option<Report>) -> Result<Option<Report>, NoMemory>
+    ensures { IfOk result (λ r. r ≡ report.now) }
+{
+    match report {
+        None => Ok(None),
+        Some(report) => Ok(Some(report.copy()?)),
+    }
+}
 
-    /// An equal body.
+impl Body {
+    /// An equal body. Where memory is refused, the answer is NoMemory.
     pub fn copy(&self) -> Result<Body, NoMemory>
         ensures { IfOk result (λ b. b ≡ self.now) }
     {
@@ -148,7 +155,7 @@ impl Body {
             Body::Promise { ballot, pos, vote } => Ok(Body::Promise {
                 ballot: *ballot,
                 pos: *pos,
-                vote: copy_vote(vote)?,
+                vote: copy_report(vote)?,
             }),
             Body::Accept { ballot, pos, entry } => Ok(Body::Accept {
                 ballot: *ballot,

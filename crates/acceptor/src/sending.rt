@@ -4,20 +4,10 @@ ghost use Rattle.std.specs.Prelude.{◌≡◌, ◌∷◌, [], ◌<◌, IfOk};
 ghost use Rattle.acceptor.specs.Messages.{message, to_each, without, desks_from, to_all, to_others};
 
 use crate::NoMemory;
-use crate::message::{Body, Message, Messages, Report};
+use crate::message::{Body, Message, Messages};
 use std::alloc::Global;
 
-/// A copy of the report, where there is one.
-pub fn copy_vote(vote: &Option<Report>) -> Result<Option<Report>, NoMemory>
-    ensures { IfOk result (λ v. v ≡ vote.now) }
-{
-    match vote {
-        None => Ok(None),
-        Some(report) => Ok(Some(report.copy()?)),
-    }
-}
-
-/// The body to one desk.
+/// The body to one desk. Where memory is refused, the answer is NoMemory.
 pub fn to_one(alloc: Global, from: u8, to: u8, body: Body) -> Result<Messages, NoMemory>
     ensures { IfOk result (λ ms. ms ≡ message from to body ∷ []) }
 {
@@ -28,6 +18,7 @@ pub fn to_one(alloc: Global, from: u8, to: u8, body: Body) -> Result<Messages, N
 }
 
 /// The body to each of the desks 1 to `desks` that is not among `heard`, in order of desk number.
+/// Where memory is refused, the answer is NoMemory.
 pub fn to_unheard(
     alloc: Global,
     desks: u8,
@@ -49,7 +40,8 @@ pub fn to_unheard(
     Ok(Messages::from_vec(messages))
 }
 
-/// The body to every desk of 1 to `desks`, the sender too, in order of desk number.
+/// The body to every desk of 1 to `desks`, the sender too, in order of desk number. Where memory is
+/// refused, the answer is NoMemory.
 #[tactic(auto, using(crate::proofs::Sends::without_nobody))]
 pub fn to_all(alloc: Global, desks: u8, from: u8, body: &Body) -> Result<Messages, NoMemory>
     requires { desks < 255 }
@@ -58,7 +50,8 @@ pub fn to_all(alloc: Global, desks: u8, from: u8, body: &Body) -> Result<Message
     to_unheard(alloc, desks, from, &[], body)
 }
 
-/// The body to every other desk of 1 to `desks`, in order of desk number.
+/// The body to every other desk of 1 to `desks`, in order of desk number. Where memory is refused,
+/// the answer is NoMemory.
 pub fn to_others(alloc: Global, desks: u8, from: u8, body: &Body) -> Result<Messages, NoMemory>
     requires { desks < 255 }
     ensures { IfOk result (λ ms. ms ≡ to_others desks from body.now) }

@@ -24,7 +24,7 @@ pub struct Here<'a> {
 /// At its log's length it promises a ballot above the one that it has promised, and reports its
 /// vote where that was given at this very position; any other ballot is answered by a Nack. At a
 /// position of its log it answers with the decided entry, and past its log's end with the log's
-/// length.
+/// length. Where memory is refused, the answer is NoMemory.
 pub fn on_prepare(
     alloc: Global,
     stored: &Stored,
@@ -64,7 +64,8 @@ pub fn on_prepare(
 /// this position for this entry ('Paxos Made Simple', section 2.2, phase 2b).
 ///
 /// At its log's length it votes, unless it has promised a higher ballot: then it answers with a
-/// Nack. At any other position it answers as to a Prepare.
+/// Nack. At any other position it answers as to a Prepare. Where memory is refused, the answer is
+/// NoMemory.
 pub fn on_accept(
     alloc: Global,
     stored: &Stored,

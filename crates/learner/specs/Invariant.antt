@@ -1,6 +1,6 @@
 -- What holds of the desks and of all that they sent, after every list of events.
-use Rattle.std.proofs.Common.{◌≡◌, ℕ, ◌<◌, ◌≤◌, List, [], ◌∷◌, ◌⊎◌, Option, Some, None, slice_get}
-use Rattle.std.proofs.Common.{length}
+use Rattle.std.specs.Prelude.{◌≡◌, ℕ, ◌<◌, ◌≤◌, List, [], ◌∷◌, ◌⊎◌, Option, Some, None, slice_get}
+use Rattle.std.specs.Prelude.{length}
 use Rattle.learner.specs.Order.{IsAtMost, IsBelow}
 use Rattle.acceptor.specs.declared.ballot.Ballot.{Ballot}
 use Rattle.acceptor.specs.declared.entry.Entry.{Entry}

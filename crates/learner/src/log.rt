@@ -2,14 +2,11 @@
 
 ghost use Rattle.std.specs.Prelude.{◌≡◌};
 
-use acceptor::NoMemory;
 use acceptor::entry::Entry;
+use acceptor::{MOST_ENTRIES, NoMemory};
 use std::alloc::{AllocError, Global};
 use std::collections::HashMap;
 use std::marker::Model;
-
-/// The most entries in a log: their positions are 0 to 65,535.
-const MOST_ENTRIES: usize = 65_536;
 
 /// The entries that a new log has memory for.
 const FIRST_CAPACITY: usize = 16;
@@ -81,7 +78,7 @@ impl Log {
         ensures full { (result ≡ Err ReserveFault.LogFull) ↔ (length self.old.entries ≡ 65536) }
         ensures err { OnErr result (self.new ≡ self.old) }
     {
-        if self.entries.len() == MOST_ENTRIES {
+        if self.entries.len() == MOST_ENTRIES as usize {
             return Err(ReserveFault::LogFull);
         }
         self.first.reserve(1)?;

@@ -1,6 +1,6 @@
 -- That no desk is stuck: from every world that any events have led to, every majority of the desks
--- can decide what a desk of it has queued, by Ticks of that desk and messages that are sent from
--- then on among that majority.
+-- whose logs have room, and that has enough rounds left, can decide what a desk of it has queued,
+-- by Ticks of that desk and messages that are sent from then on among that majority.
 use Rattle.std.specs.Prelude.{ℕ, suc, ◌≡◌, ◌≤◌, ◌<◌, ◌+◌, ◌-◌, ◌*◌, max, List, [], ◌∷◌, ◌++◌}
 use Rattle.std.specs.Prelude.{Option, Some, None, length, slice_get}
 use Rattle.acceptor.specs.declared.entry.Entry.{Entry}

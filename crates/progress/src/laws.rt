@@ -9,8 +9,9 @@ ghost use Rattle.progress.specs.Progress.{NoDeskIsStuck, NoQueueIsStuck};
 /// entry that a desk of the majority lacks of the longest log among them, and for each entry to be
 /// decided 19 for each desk of the majority and 10.
 ///
-/// The logs of the majority need room for two entries more, and no desk of it may have promised,
-/// tried or seen one of the last two rounds; for so many entries, so many times two.
+/// The logs of the majority need room for two entries more, no desk of it may have promised one of
+/// the last two rounds, and the desk that ticks may neither have tried nor have seen one of them;
+/// for so many entries, so many times two.
 pub fn no_desk_is_stuck()
     ensures first { NoDeskIsStuck }
     ensures queue { NoQueueIsStuck }

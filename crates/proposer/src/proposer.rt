@@ -49,7 +49,7 @@ impl Proposer {
     ghost use Rattle.proposer.specs.Proposing.{submit, is_majority};
 
     /// The proposing side of this desk, of 3 or 5 desks, as it is when the desk starts: idle, with
-    /// an empty queue.
+    /// an empty queue. Where memory is refused, the answer is NoMemory.
     pub fn new(alloc: Global, desk: u8, desks: u8) -> Result<Proposer, NoMemory>
         requires desks { (desks ≡ 3) ⊎ (desks ≡ 5) }
         requires desk { (1 ≤ desk) × (desk ≤ desks) }
@@ -108,7 +108,8 @@ impl Proposer {
     /// Puts the entry last in the queue, where `len` is the length of the log.
     ///
     /// With 64 entries in the queue the desk is Busy. Else, with 65,536 in the log, it is LogFull.
-    /// A refused entry is dropped, and nothing changes.
+    /// Else, where memory is refused, the answer is NoMemory. A refused entry is dropped, and
+    /// nothing changes.
     pub fn submit(&mut self, entry: Entry, len: u32) -> Result<(), StepFault>
         ensures taken { OnOk result (submit len self.old.passing entry ≡ Ok self.new.passing) }
         ensures same { (self.new.desk ≡ self.old.desk) × (self.new.desks ≡ self.old.desks) }

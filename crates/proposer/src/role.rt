@@ -4,8 +4,7 @@ use crate::votes::Votes;
 use acceptor::NoMemory;
 use acceptor::ballot::Ballot;
 use acceptor::entry::Entry;
-use acceptor::message::Report;
-use acceptor::sending::copy_vote;
+use acceptor::message::{Report, copy_report};
 use std::alloc::Global;
 use std::marker::Model;
 
@@ -73,15 +72,15 @@ impl Promises {
         self.heard.iter().any(|h| h.desk == desk)
     }
 
-    /// These and one more.
+    /// These and one more. Where memory is refused, the answer is NoMemory.
     pub fn with(&self, desk: u8, vote: &Option<Report>) -> Result<Promises, NoMemory>
         ensures { IfOk result (λ p. p ≡ record { desk = desk; vote = vote.now } ∷ self.now) }
     {
         let mut heard = Vec::new(*self.heard.allocator());
-        let vote = copy_vote(vote)?;
+        let vote = copy_report(vote)?;
         heard.push(Heard { desk, vote })?;
         for h in &self.heard {
-            let vote = copy_vote(&h.vote)?;
+            let vote = copy_report(&h.vote)?;
             heard.push(Heard { desk: h.desk, vote })?;
         }
         Ok(Promises { heard })

@@ -24,7 +24,8 @@ impl Proposer {
     ///
     /// A desk that is idle or leads, with 65,536 entries in the log, is LogFull. Else, where a new
     /// ballot is due and the greatest round that the desk knows of is 2^32 - 1, the answer is
-    /// BallotsSpent.
+    /// BallotsSpent. Else, where memory is refused, it is NoMemory; a desk that does nothing takes
+    /// none.
     pub fn start(&self, stored: &Stored, len: u32) -> Result<Plan, StepFault>
         ensures plan { PlansAs result (start_plan self.now stored.now len) }
         ensures refused { RefusesAs result (start_plan self.now stored.now len) }
@@ -43,7 +44,8 @@ impl Proposer {
     /// others how long its log is. One that leads does likewise, but proposes by its own ballot
     /// unless it has promised a higher one. A desk that gathers promises makes a new ballot. One
     /// that proposes asks again those that it has not heard. Where a new ballot is due and the
-    /// greatest round that the desk knows of is 2^32 - 1, the answer is BallotsSpent.
+    /// greatest round that the desk knows of is 2^32 - 1, the answer is BallotsSpent. Else, where
+    /// memory is refused, it is NoMemory.
     pub fn tick(&self, stored: &Stored, len: u32) -> Result<Plan, StepFault>
         ensures plan { PlansAs result (tick_plan self.now stored.now len) }
         ensures refused { RefusesAs result (tick_plan self.now stored.now len) }
@@ -65,7 +67,8 @@ impl Proposer {
     ///
     /// A Promise of the ballot and position that the desk gathers for, from a desk not yet heard,
     /// is recorded. At a majority the desk proposes the entry of the highest vote that was
-    /// reported, else the first of the queue, and with neither becomes idle.
+    /// reported, else the first of the queue, and with neither becomes idle. A message that plans
+    /// nothing takes no memory. Where memory is refused, the answer is NoMemory.
     pub fn on_promise(&self, message: &Message) -> Result<Plan, NoMemory>
         ensures plan { IfOk result (λ plan. plan ≡ promise_plan self.now message.now) }
         ensures quiet { IsNothing (promise_plan self.now message.now) → IsOk result }
@@ -91,7 +94,8 @@ impl Proposer {
     ///
     /// An Accepted of the ballot and position that the desk proposes for, from a desk not yet
     /// heard, is recorded. At a majority the log grows by the entry, all other desks are told, and
-    /// the desk leads by its ballot.
+    /// the desk leads by its ballot. A message that plans nothing takes no memory. Where memory is
+    /// refused, the answer is NoMemory.
     pub fn on_accepted(&self, message: &Message) -> Result<Plan, NoMemory>
         ensures plan { IfOk result (λ plan. plan ≡ accepted_plan self.now message.now) }
         ensures quiet { IsNothing (accepted_plan self.now message.now) → IsOk result }
@@ -117,7 +121,7 @@ impl Proposer {
     /// What the desk plans at a Nack. Another message plans nothing here.
     ///
     /// Where the Nack is of the role's ballot and shows a higher one, the desk gives its ballot up,
-    /// and its next one will be above the one shown.
+    /// and its next one will be above the one shown. It takes no memory: the answer is always Ok.
     pub fn on_nack(&self, message: &Message) -> Result<Plan, NoMemory>
         ensures { result ≡ Ok (nack_plan self.now message.now) }
     {

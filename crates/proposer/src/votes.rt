@@ -60,7 +60,7 @@ impl Votes {
         self.heard.contains(&desk)
     }
 
-    /// These and one more.
+    /// These and one more. Where memory is refused, the answer is NoMemory.
     pub fn with(&self, desk: u8) -> Result<Votes, NoMemory>
         ensures { IfOk result (λ v. v ≡ desk ∷ self.now) }
     {
