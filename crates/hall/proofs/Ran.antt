@@ -1,6 +1,6 @@
 -- A hall from line to line, and how it ends, in words on the whole input.
 use Rattle.std.proofs.Common.{◌≡◌, ℕ, ◌+◌, Bool, true, false, ◌≤◌, List, [], ◌∷◌, ◌++◌, length, map, eqb-true, append-nil, Option, None, inl, inr, refl, sym, ap, ◌∙◌, append_assoc, length-append, subst}
-use Rattle.std.specs.Prelude.{Ok}
+use Rattle.std.specs.Prelude.{Result, Ok, Err, OnOk, OnErr, IfErr}
 use Rattle.std.proofs.KnownBytes.{Appends-trans, Appends-nil}
 use Rattle.std.specs.Io.KnownBytes.{Appends}
 use Rattle.world.specs.WorldValues.{WorldValue, extended}
@@ -319,6 +319,16 @@ fails_behind e n world input left old mid new small (inl is) d part =
 fails_behind e n world input left old mid new small (inr is) d part =
     subst (λ x. RunFails x (run_of n input left old new)) (sym is)
     (writes_part n input left old new small (cut_off n world input left old mid new d part))
+
+-- what follows where the logs are written, and where they are not
+pub if_written : {A E P Q : Type 0} (r : Result A E) → (P → Q) → OnOk r P → OnOk r Q
+if_written (Ok a) f h = f h
+if_written (Err e) f h = h
+
+pub if_unwritten : {A E P : Type 0} {S Q : E → Type 0} (r : Result A E)
+    → ((e : E) → S e → P → Q e) → IfErr r S → OnErr r P → IfErr r Q
+if_unwritten (Ok a) f s h = h
+if_unwritten (Err e) f s h = f e s h
 
 -- nothing was done
 pub fails_at_once : (n : ℕ) (start old : Option (List ℕ)) → n ≤ 255

@@ -60,7 +60,7 @@ fn push_asked(out: &mut Vec<u8>, kind: &[u8], ballot: Ballot, pos: u32) -> Resul
     push_field(out, u64::from(pos))
 }
 
-/// Adds a word and two numbers.
+/// Adds `Decided`, a position and an id.
 fn push_decided(out: &mut Vec<u8>, pos: u32, id: u64) -> Result<(), NoMemory>
     ensures { OnOk result
         (out.new.items ≡ out.old.items ++ codes "Decided" ++ number_field pos ++ number_field id) }

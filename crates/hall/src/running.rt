@@ -158,9 +158,7 @@ fn write_logs<W: Write>(
     ensures fault { IfErr result IsStopped }
 {
     for desk in 1..desks + 1 {
-        if let Err(fault) = write_log(alloc, writer, desk, world.log(desk)) {
-            return Err(fault);
-        }
+        write_log(alloc, writer, desk, world.log(desk))?;
     }
     Ok(())
 }
@@ -219,11 +217,6 @@ pub fn hall<R: Read, W: Write>(
         Err(WorldFault::BadCount) => return Err(RunFault::BadCount),
         Err(WorldFault::NoMemory) => return Err(RunFault::NoMemory),
     };
-    if let Err(fault) = do_lines(alloc, &mut world, desks, reader, writer) {
-        return Err(fault);
-    }
-    match write_logs(alloc, writer, desks, &world) {
-        Ok(()) => Ok(()),
-        Err(fault) => Err(fault),
-    }
+    do_lines(alloc, &mut world, desks, reader, writer)?;
+    write_logs(alloc, writer, desks, &world)
 }

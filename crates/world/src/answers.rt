@@ -12,7 +12,7 @@ use acceptor::entry::Entry;
 use commands::{Answer, Meet};
 use formats::Event;
 use learner::log::Log;
-use sheets::{Style, table, text};
+use sheets::{Style, sheet};
 use std::alloc::Global;
 
 /// What has become of a submitted id, as a desk knows it.
@@ -87,11 +87,7 @@ pub fn sheet_in(
     ensures none { IfErr result
         (λ fault. NoSheetIn fault (sheet style meet.now.accepted event round position)) }
 {
-    let printed = match style {
-        Style::Text => text(alloc, meet, event, round, position),
-        Style::Table => table(alloc, meet, event, round, position),
-    };
-    match printed {
+    match sheet(alloc, meet, event, round, position, style) {
         Ok(text) => Ok(text),
         Err(sheets::SheetFault::NoSuchRound) => Err(SheetFault::NoSuchRound),
         Err(sheets::SheetFault::NoMemory) => Err(SheetFault::NoMemory),

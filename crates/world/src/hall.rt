@@ -49,7 +49,8 @@ impl Hall {
     ghost use Rattle.world.specs.model.Halls.{world_of};
     ghost use Rattle.world.specs.WorldValues.{refusal, refusal_at};
 
-    /// Three or five desks before their first event.
+    /// Three or five desks before their first event. Where memory is refused, the answer is
+    /// NoMemory.
     pub fn new(alloc: Global, count: u8) -> Result<Hall, NoMemory>
         requires { (count ≡ 3) ⊎ (count ≡ 5) }
         ensures desks { IfOk result (λ h. h.desks ≡ count) }
@@ -85,7 +86,7 @@ impl Hall {
     }
 
     /// Does one event, and gives the refusal of the desk, where it refuses. Where memory is
-    /// refused, nothing of the event is done.
+    /// refused, the answer is NoMemory, and nothing of the event is done.
     pub fn happen(&mut self, event: &WorldEvent) -> Result<Option<Refusal>, NoMemory>
         ensures world { OnOk result
             (world_of self.new ≡ happens self.old.desks (world_of self.old) event.now) }

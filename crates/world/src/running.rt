@@ -45,18 +45,19 @@ impl Model for Running {
 }
 
 impl Running {
-    ghost use Rattle.std.specs.Prelude.{◌≤◌, ◌⊎◌, [], None, Ok, IsOk, OnOk, OnErr, length};
+    ghost use Rattle.std.specs.Prelude.{◌≤◌, ◌⊎◌, [], None, Ok, IsOk, IsOkAnd, OnOk, OnErr, length};
     ghost use Rattle.acceptor.specs.declared.message.Body.TheVariants.{Prepare, Accept};
     ghost use Rattle.learner.specs.declared.event.Event.TheVariants.{Submit, Start, Tick, Deliver};
     ghost use Rattle.learner.specs.Desks.{adopt, restarted};
     ghost use Rattle.learner.specs.Ranges.{DeskIsInRange};
     ghost use Rattle.learner.specs.Steps.{IsDesk, answered, done, on_body, step};
     ghost use Rattle.proposer.specs.Plans.{IsNothing};
-    ghost use Rattle.proposer.specs.Refusals.{RefusesAs};
+    ghost use Rattle.proposer.specs.Refusals.{PlansAs, RefusesAs};
     ghost use Rattle.world.specs.Opening.{opened};
-    ghost use Rattle.world.specs.model.RunningDesks.{Fits, IsStep, delivery};
+    ghost use Rattle.world.specs.model.RunningDesks.{Fits, IsStep, start_of, tick_of, delivery};
 
-    /// Desk `number` of 3 or 5 desks, as it starts with this in store.
+    /// Desk `number` of 3 or 5 desks, as it starts with this in store. Where memory is refused, the
+    /// answer is NoMemory.
     pub fn new(
         alloc: Global,
         number: u8,
@@ -118,7 +119,7 @@ impl Running {
     }
 
     /// Loses what is not stored: the role, the queue, and the greatest round that the desk has
-    /// seen. Where memory is refused, nothing changes.
+    /// seen. Where memory is refused, the answer is NoMemory, and nothing changes.
     pub fn restart(&mut self) -> Result<(), NoMemory>
         ensures ok { OnOk result (self.new ≡ record self.old { desk = restarted self.old.desk }) }
         ensures err { OnErr result (self.new ≡ self.old) }
@@ -131,7 +132,8 @@ impl Running {
     /// Takes an entry into the queue. Nothing is to be stored or sent.
     ///
     /// With 64 entries in the queue the desk is Busy. Else, with 65,536 in the log, it is LogFull.
-    /// A refused entry is dropped, and nothing changes.
+    /// Else, where memory is refused, the answer is NoMemory. A refused entry is dropped, and
+    /// nothing changes.
     pub fn submit(&mut self, entry: Entry) -> Result<(), StepFault>
         ensures step { let x = self.old in
             OnOk result (step x.desks x.number x.desk (Submit entry)
@@ -153,7 +155,8 @@ impl Running {
     /// queue, by the ballot that it has; where it has promised a higher one it makes a new ballot.
     /// Any other desk plans nothing. With 65,536 entries in the log an idle or leading desk is
     /// LogFull. Else, where a new ballot is due and no round is left for one, the answer is
-    /// BallotsSpent.
+    /// BallotsSpent. Else, where memory is refused, it is NoMemory; a desk that plans nothing takes
+    /// none.
     pub fn start(&mut self) -> Result<Plan, StepFault>
         ensures plan { let x = self.old in
             IfOk result (λ p. step x.desks x.number x.desk Start ≡ Ok (done x.desk p)) }
@@ -161,33 +164,34 @@ impl Running {
             RefusesAs result (step x.desks x.number x.desk Start) }
         ensures fits { IfOk result (Fits self.new) }
         ensures same { self.new ≡ record self.old { room = self.new.room } }
+        ensures start { PlansAs result (start_of self.old) }
+        ensures quiet { IsOkAnd (start_of self.old) IsNothing → IsOk result }
     {
         let len = self.log.len();
-        match self.proposer.start(&self.stored, len) {
-            Ok(plan) => Ok(self.ready(plan)?),
-            Err(fault) => Err(fault),
-        }
+        let plan = self.proposer.start(&self.stored, len)?;
+        Ok(self.ready(plan)?)
     }
 
     /// What the desk plans from time to time. It makes room for the plan, and changes nothing else.
-    /// Where a new ballot is due and no round is left for one, the answer is BallotsSpent.
+    /// Where a new ballot is due and no round is left for one, the answer is BallotsSpent. Else,
+    /// where memory is refused, it is NoMemory.
     pub fn tick(&mut self) -> Result<Plan, StepFault>
         ensures plan { let x = self.old in
             IfOk result (λ p. step x.desks x.number x.desk Tick ≡ Ok (done x.desk p)) }
         ensures refused { let x = self.old in RefusesAs result (step x.desks x.number x.desk Tick) }
         ensures fits { IfOk result (Fits self.new) }
         ensures same { self.new ≡ record self.old { room = self.new.room } }
+        ensures tick { PlansAs result (tick_of self.old) }
     {
         let len = self.log.len();
-        match self.proposer.tick(&self.stored, len) {
-            Ok(plan) => Ok(self.ready(plan)?),
-            Err(fault) => Err(fault),
-        }
+        let plan = self.proposer.tick(&self.stored, len)?;
+        Ok(self.ready(plan)?)
     }
 
     /// What the desk plans at a message. It makes room for the plan, and changes nothing else. A
     /// message to another desk, from a desk that is not of the hall, or with a field out of its
-    /// range plans nothing. Where the desk plans nothing, the answer is Ok.
+    /// range plans nothing. Where the desk plans nothing, the answer is Ok. Else, where memory is
+    /// refused, it is NoMemory.
     pub fn deliver(&mut self, message: &Message) -> Result<Plan, NoMemory>
         ensures plan { let x = self.old in
             IfOk result

@@ -1,11 +1,14 @@
 -- A model of the code: a desk as it runs, and when a plan fits it.
-use Rattle.std.specs.Prelude.{ℕ, ◌≡◌, ◌⊎◌, ◌<◌, if◌then◌else◌, [], Option, Some, None, Ok}
+use Rattle.std.specs.Prelude.{ℕ, ◌≡◌, ◌⊎◌, ◌<◌, if◌then◌else◌, [], length, Option, Some, None}
+use Rattle.std.specs.Prelude.{Result, Ok}
 use Rattle.acceptor.specs.declared.message.Message.{Message}
 use Rattle.acceptor.specs.declared.stored.Change.{Change}
 use Rattle.acceptor.specs.declared.stored.Change.TheVariants.{Promised, Voted, Tried, Appended}
 use Rattle.acceptor.specs.declared.stored.Stored.{Stored}
+use Rattle.proposer.specs.declared.faults.Refusal.{Refusal}
 use Rattle.proposer.specs.declared.plan.Plan.{Plan}
 use Rattle.proposer.specs.Plans.{only_say}
+use Rattle.proposer.specs.Proposing.{start, tick}
 use Rattle.proposer.specs.Sides.{Side}
 use Rattle.learner.specs.Desks.{Desk, adopt, passing}
 use Rattle.learner.specs.Logs.{LogValue}
@@ -61,6 +64,14 @@ pub record Fits (x : RunningDesk) (plan : Plan) : Type 0 where
   pub room : HasRoom x.room plan.change
   pub desk : DeskIsInRange x.desks (adopt x.desk plan)
   pub messages : AreInRange x.desks x.number plan.messages
+
+-- what the desk plans when it is told to start
+abbrev pub start_of : RunningDesk → Result Plan Refusal
+start_of x = start x.desks x.number x.desk.stored (length x.desk.log) (passing x.desk)
+
+-- what the desk plans from time to time
+abbrev pub tick_of : RunningDesk → Result Plan Refusal
+tick_of x = tick x.desks x.number x.desk.stored (length x.desk.log) (passing x.desk)
 
 -- what the desk plans at a message
 abbrev pub delivery : RunningDesk → Message → Plan
