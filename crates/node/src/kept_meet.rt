@@ -17,8 +17,8 @@ use world::faults::SheetFault;
 
 /// The meet that the first entries of a log come to, and what each of them was answered.
 ///
-/// They are all entries of the log, but where memory was refused: then the next call that finds
-/// memory takes those that lack.
+/// They are all entries of the log, but where memory was refused: then the next event that the desk
+/// takes makes up for those that lack, as far as there is memory.
 pub(crate) struct KeptMeet {
     meet: Meet,
     answers: Vec<Answer>,

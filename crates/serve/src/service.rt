@@ -20,7 +20,8 @@ pub struct Service<'a> {
     pub connections: u32,
     /// The version of the wire in which frames for other desks are pushed, 1 or 2.
     pub wire: u8,
-    /// How many seconds a read waits; without it a read waits as long as the connection stands.
+    /// How many seconds a read waits for bytes of the client, and a write for the client to take
+    /// bytes; without it both wait as long as the connection stands.
     pub patience: Option<u32>,
     /// Where the desks of the hall listen, in the order of their numbers.
     pub addresses: &'a [&'a str],

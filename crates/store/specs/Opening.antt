@@ -62,6 +62,8 @@ pub record Remains (home : Home) (old new : State) : Type 0 where
 
 -- Why an opening was refused, and what it leaves.
 pub record Refuses (home : Home) (old new : State) (fault : OpenFault) : Type 0 where
+  -- the connection had been given back what was written
+  pub honest : HasCleanDisk old
   pub tells : Tells home old (fault ≡ Damaged) (fault ≡ WrongDesk)
   -- nothing at all is not damaged
   pub fresh : fault ≡ Damaged → old.now.schema ≢ no_schema

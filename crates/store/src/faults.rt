@@ -1,7 +1,10 @@
 //! Why an opening, a load or a save is refused.
 
-/// Why a store was not opened. The refusals stand in the order in which their causes are looked
-/// for.
+/// Why a store was not opened.
+///
+/// The tables and the row of the desk are looked at first: Damaged. A row that is whole and in its
+/// ranges may be another desk's: WrongDesk, whatever the log is. Then the log is looked at: Damaged
+/// again. Device and NoMemory come where they happen.
 #[derive(Clone, Copy, PartialEq, Eq, Debug)]
 pub enum OpenFault {
     /// The store belongs to another desk or hall, or to a hall of another number of desks.
@@ -20,7 +23,7 @@ pub enum LoadFault {
     /// What the store holds is not a desk's state in its ranges, or the count of failures is at its
     /// end.
     Damaged,
-    /// The device refused.
+    /// The device refused, in this call or in an earlier one.
     Device,
     /// Memory was refused, and the store is as it was.
     NoMemory,

@@ -56,7 +56,7 @@ pub trait Keeper {
         ensures home { result ≡ home_of self.now }
         ensures in_range { IsHome result };
 
-    /// How many saves and loads the device has refused.
+    /// How many saves and loads have answered Device.
     fn failures(&self) -> u64
         ensures { result ≡ failures_of self.now };
 
@@ -91,9 +91,10 @@ pub trait Keeper {
     ///
     /// At Ok the keeper is not Down, and its store holds what was given alone. Damaged: what the
     /// store holds is not a state in its ranges, or the failures are 2^64 - 1. Device: the device
-    /// refused, a failure is counted, and the keeper is Down. NoMemory leaves it as it was. A
-    /// keeper that is Down stays so until a load is Ok. Whatever the answer, an opening finds
-    /// nothing that it could not find before.
+    /// refused, now or in an earlier call, a failure is counted, and the keeper is Down. NoMemory
+    /// leaves it as it was. A keeper that is Down stays so until a load is Ok, which a kind of
+    /// keeper may rule out, as `SqlKeeper` does. Whatever the answer, an opening finds nothing that
+    /// it could not find before.
     fn load(&mut self, alloc: Global) -> Result<(Stored, Log), LoadFault>
         ensures store { (is_honest self.new → is_honest self.old)
             × (home_of self.new ≡ home_of self.old) }

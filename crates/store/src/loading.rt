@@ -177,6 +177,7 @@ pub fn read_all<S: Alter>(
     };
     match read_log(conn, alloc) {
         Ok(log) => {
+            // This call says that a log has at most 65,536 entries, as its range asks.
             let _len = log.len();
             Ok((stored, log))
         }

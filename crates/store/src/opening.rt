@@ -154,6 +154,8 @@ pub(crate) fn prepare<S: Alter>(
     ensures remains { HasCleanDisk (state S.Store conn.new)
         → Remains home (state S.Store conn.old) (state S.Store conn.new) }
 {
+    // The empty statement takes its memory here, so that a refusal behind it, which runs it again,
+    // is not taken for the device's for want of that memory. A connection that is shut ends here.
     if let Err(error) = run_nothing(conn) {
         return Err(fault_of(conn, error));
     }

@@ -3,13 +3,12 @@
 
 ghost use Rattle.std.specs.Prelude.{◌≡◌, ◌↔◌, ◌⊎◌, [], ◌∷◌, take, drop, true, false, Some, IsTrue};
 ghost use Rattle.std.specs.Prelude.{OnOk};
-ghost use Rattle.sqlite.specs.declared.types.Value.TheVariants.{Null};
-ghost use Rattle.sqlite.specs.Collation.TheVariants.{Binary};
 ghost use Rattle.sqlite.specs.State.{HasCleanDisk};
 ghost use Rattle.sqlite.specs.Tree.{Trees};
 ghost use Rattle.sqlite.specs.Held.{state};
 ghost use Rattle.acceptor.specs.Storing.{first_stored};
-ghost use Rattle.store.specs.Layout.{desk_table, entries_table, IsOurs, HasNoKey, no_schema};
+ghost use Rattle.store.specs.Layout.{strict_column, keyed_table, desk_table, entries_table};
+ghost use Rattle.store.specs.Layout.{IsOurs, HasNoKey, no_schema};
 ghost use Rattle.store.specs.Holding.{Holds};
 ghost use Rattle.store.specs.Kept.{Keeps};
 
@@ -55,26 +54,8 @@ pub fn make_tables<S: Alter>(conn: &mut Connection<S>, home: Home) -> Result<(),
 }
 
 fn is_column(column: &Column, name: &[u8], kind: Kind, not_null: bool) -> bool
-    ensures is { result ≡ true
-        → column.now
-        ≡ record {
-          name = name.now;
-          kind = kind;
-          is_strict = true;
-          not_null = not_null;
-          default = Null;
-          collation = Binary;
-        } }
-    ensures only { column.now
-        ≡ record {
-          name = name.now;
-          kind = kind;
-          is_strict = true;
-          not_null = not_null;
-          default = Null;
-          collation = Binary;
-        }
-        → result ≡ true }
+    ensures is { result ≡ true → column.now ≡ strict_column name.now kind not_null }
+    ensures only { column.now ≡ strict_column name.now kind not_null → result ≡ true }
 {
     column.name.as_slice() == name
         && column.kind == kind
@@ -140,34 +121,8 @@ fn is_keyed(table: &Table) -> bool
 }
 
 fn is_bare(table: &Table, name: &[u8], tree: u32) -> bool
-    ensures is { result ≡ true → table.now ≡ record {
-      name = name.now;
-      tree = tree;
-      columns = table.now.columns;
-      key = Some 0;
-      primary = 0 ∷ [];
-      uniques = [];
-      orders = [];
-      checks = [];
-      references = [];
-      computed = [];
-      stamps = record { places = []; terms = []; formats = [] };
-      is_counted = false;
-    } }
-    ensures only { table.now ≡ record {
-      name = name.now;
-      tree = tree;
-      columns = table.now.columns;
-      key = Some 0;
-      primary = 0 ∷ [];
-      uniques = [];
-      orders = [];
-      checks = [];
-      references = [];
-      computed = [];
-      stamps = record { places = []; terms = []; formats = [] };
-      is_counted = false;
-    } → result ≡ true }
+    ensures is { result ≡ true → table.now ≡ keyed_table name.now tree table.now.columns }
+    ensures only { table.now ≡ keyed_table name.now tree table.now.columns → result ≡ true }
 {
     table.name.as_slice() == name && table.tree == tree && is_keyed(table) && has_no_rule(table)
 }

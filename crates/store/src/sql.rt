@@ -28,6 +28,11 @@ use sqlite::{Alter, Connection, Error};
 use std::alloc::Global;
 
 /// A keeper over the two tables of a database, `desk` and `entries`.
+///
+/// Once a save or a load has answered Device, the keeper is Down for good: each save is Down, and
+/// each load counts a failure and is Device, without asking the device, until the failures are
+/// 2^64 - 1. Only a store that is opened anew helps. Want of memory that has shut the connection is
+/// Device too.
 pub struct SqlKeeper<S: Alter> {
     conn: Connection<S>,
     home: Home,
@@ -253,6 +258,8 @@ impl<S: Alter + Drop> SqlKeeper<S> {
 impl<S: Alter> SqlKeeper<S> {
     /// The connection, with what the keeper has kept.
     pub fn into_connection(self) -> Connection<S>
+        ensures honest { HasCleanDisk (state S.Store result)
+            → ⟦<SqlKeeper<S> as Keeper>⟧.is_honest self }
         ensures kept { (s : State) (log : List EntryValue)
             → ⟦<SqlKeeper<S> as Keeper>⟧.keeps self s log
             → Keeps (⟦<SqlKeeper<S> as Keeper>⟧.home_of self) s log (state S.Store result) }

@@ -15,6 +15,7 @@ returns-in-Ok-clause-opened g c clean = record {
 
 pub returns-in-Err-clause-told : goal.returns-in-Err-clause-told
 returns-in-Err-clause-told g c clean = record {
+  honest = c.prepare.ensures.clean clean;
   tells = record {
     damaged =
         λ is away s log sound k.
