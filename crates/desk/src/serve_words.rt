@@ -55,7 +55,7 @@ fn patience_option<'a>(alloc: Global) -> Arg<'a>
         alloc,
         "patience",
         "SECONDS",
-        "How long a silent connection is waited for, 1 to 86400; for ever without it",
+        "How long a client may send nothing or read nothing, 1 to 86400; for ever without it",
         ValueParser::unsigned(1, 86400),
     )
     .required(false)

@@ -7,8 +7,8 @@ use std::time::Duration;
 
 /// A listener for clients over TCP.
 ///
-/// Answers are sent at once (`TCP_NODELAY`). Where there is a patience, a read that waits longer
-/// fails.
+/// Answers are sent at once (`TCP_NODELAY`). Where there is a patience, a read that waits longer for
+/// bytes of the client fails, and so does a write that waits longer for the client to take bytes.
 #[derive(Drop)]
 pub struct Listener {
     listener: TcpListener,
@@ -45,7 +45,9 @@ impl Accept for Listener {
         let (stream, _) = self.listener.accept()?;
         // It only makes answers slower where it is refused.
         let _ = stream.set_nodelay(true);
+        // Both handles are of one socket, so that these hold for each.
         stream.set_read_timeout(self.patience)?;
+        stream.set_write_timeout(self.patience)?;
         let writer = stream.try_clone()?;
         Ok((stream, writer))
     }
