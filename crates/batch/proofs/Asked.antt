@@ -7,12 +7,12 @@ use Rattle.lines.specs.Reading.{Reading, GivesFault, GivesLine, GivesNone}
 use Rattle.lines.specs.Bytes.{AppendsPart}
 use Rattle.lines.specs.declared.fault.RunFault.{RunFault}
 use Rattle.wire.specs.declared.frame.What.{What}
-use Rattle.batch.specs.Asking.{Adds, AreOf, Asked, Asks, IsAnswer, submit_of}
+use Rattle.batch.specs.Asking.{Adds, Asked, Asks, IsAnswer, submit_of}
 use Rattle.batch.specs.declared.asking.Receiver.{Receiver}
 use Rattle.batch.specs.declared.fault.BatchFault.TheVariants as fault
 use Rattle.batch.specs.model.Trying.{IsUndecided}
 use Rattle.batch.specs.Entering.{AsksAll, AsksSome, EndsReading, EnteredBy, Hinders, SaidBy}
-use Rattle.batch.specs.Entering.{EntersSome, Sides, StopsBy, StopsLine, Told}
+use Rattle.batch.specs.Entering.{EntersSome, IsOfPrinting, IsOther, Sides, StopsAsking, StopsBy, StopsLine, Told}
 use Rattle.batch.specs.declared.fault.BatchFault.{BatchFault}
 use Rattle.batch.specs.declared.lines_entered.Batch.{Batch}
 use Rattle.batch.proofs.Entered.{Entered, enters_all, next_of, stops_at, stops_in}
@@ -93,7 +93,7 @@ pub asks_in : (Fails : BatchFault → Type 0) (f : BatchFault) (b : Batch) (p q 
     → AppendsPart new new' next → StopsLine Fails f b (b.first_id + lines) text next
     → Made b given said asked first mid
     → lines ≡ length (lines_of given) → text ≡ line
-    → Asks mid last (AreOf b.receiver (b.first_id + lines) text)
+    → Asks mid last (StopsAsking f b.receiver (b.first_id + lines) text)
     → AsksSome Fails f b (record { had = start; left = now; old = old; new = new' })
     (record { old = first; new = last })
 unfolding stops_in
@@ -118,8 +118,9 @@ asks_in Fails f b p q line text given said next asked lines start before now old
           inr (
             line,
             next_of q line given start now g,
-            subst (λ n. AreOf b.receiver (b.first_id + n) line k.0) count
-                (subst (λ (t : List ℕ). AreOf b.receiver (b.first_id + lines) t k.0) same k.2),
+            subst (λ n. StopsAsking f b.receiver (b.first_id + n) line k.0) count
+                (subst (λ (t : List ℕ). StopsAsking f b.receiver (b.first_id + lines) t k.0) same
+                k.2),
           );
     }
 
@@ -142,17 +143,24 @@ asks_at Fails h f b p given said asked start before now old new first last e g e
   behind = [];
   told = subst (Adds first last) (sym (append-nil asked)) m.told;
   each = m.each;
-  next = inl refl;
+  next = inl (refl, ends);
 }
 
+printing_other : (f : BatchFault) → IsOfPrinting f → IsOther f
+printing_other f (inl write) = subst IsOther (sym write) tt
+printing_other f (inr memory) = subst IsOther (sym memory) tt
+
 -- what was asked for a line, where what it was answered couldn't be printed
-pub if_unsaid : {E : Type 0} (b : Batch) (id : ℕ) (line : List ℕ) (last : What)
-    (old new : Option (List Asked)) (result : Result (Unit {0}) E)
-    → Asks old new (EnteredBy b.waits b.receiver id line last)
-    → OnErr result (Asks old new (AreOf b.receiver id line))
-if_unsaid b id line last old new (Ok _) h = tt
-if_unsaid b id line last old new (Err e) h =
-    (h.0, h.1, entered_for b.waits b.receiver id line last h.0 h.2)
+pub if_unsaid : (b : Batch) (id : ℕ) (line : List ℕ) (last : What)
+    (old new : Option (List Asked)) (result : Result (Unit {0}) BatchFault)
+    → Asks old new (EnteredBy b.waits b.receiver id line last) → IfErr result IsOfPrinting
+    → IfErr result (λ f. Asks old new (StopsAsking f b.receiver id line))
+if_unsaid b id line last old new (Ok _) h is = tt
+if_unsaid b id line last old new (Err f) h is = (
+  h.0,
+  h.1,
+  (entered_for b.waits b.receiver id line last h.0 h.2, inr (inr (printing_other f is))),
+)
 
 -- a command that was taken was not decided, where that was waited for
 pub undecided : (Fails : BatchFault → Type 0) (f : BatchFault) (waits : Bool) (r : Receiver) (id : ℕ)
@@ -162,7 +170,8 @@ pub undecided : (Fails : BatchFault → Type 0) (f : BatchFault) (waits : Bool) 
 undecided Fails f waits r id text taken is t (inl h) = inl h
 undecided Fails fault.Lost waits r id text taken is t (inr h) =
     inr (is, taken, t, h.0, h.1, h.2)
-undecided Fails fault.StillPending waits r id text taken is t (inr h) = inr (is, taken, t)
+undecided Fails fault.StillPending waits r id text taken is t (inr h) =
+    inr (is, taken, t, h.0, h.1, h.2)
 undecided Fails (fault.Lines e) waits r id text taken is t (inr h) = absurd h
 undecided Fails fault.TextTooLong waits r id text taken is t (inr h) = absurd h
 undecided Fails fault.NoMoreIds waits r id text taken is t (inr h) = absurd h

@@ -1,6 +1,6 @@
 -- Requests to a desk, and what came of each.
-use Rattle.std.specs.Prelude.{◌≡◌, ◌⊎◌, ◌++◌, ◌∷◌, [], ℕ, List, Option, None, Some, Result, Ok, Err}
-use Rattle.std.specs.Prelude.{IsOk, IsOkAnd, ⊤}
+use Rattle.std.specs.Prelude.{◌≡◌, ◌⊎◌, ◌+◌, ◌++◌, ◌∷◌, [], ℕ, List, Option, None, Some, Result}
+use Rattle.std.specs.Prelude.{Ok, Err, IsOk, IsOkAnd, ⊤}
 use Rattle.std.specs.List.{AllByRecursion}
 use Rattle.client.specs.Answers.{judged}
 use Rattle.client.specs.declared.fault.ClientFault.TheVariants.{Refused}
@@ -72,15 +72,33 @@ Asks old new Is = (more : List Asked) × Adds old new more × Is more
 abbrev pub IsTicked : Receiver → Asked → Type 0
 IsTicked r a = (a.request ≡ tick_of r) × IsOk a.answer
 
+-- the request was made, and the desk's queue was full
+abbrev pub IsFull : Frame → Asked → Type 0
+IsFull submit a = (a.request ≡ submit) × (a.answer ≡ Err (Asking (Refused Busy)))
+
 -- the desk's queue was full, or it was ticked
 abbrev pub IsTurnedDown : Receiver → Frame → Asked → Type 0
-IsTurnedDown r submit a =
-    ((a.request ≡ submit) × (a.answer ≡ Err (Asking (Refused Busy)))) ⊎ IsTicked r a
+IsTurnedDown r submit a = IsFull submit a ⊎ IsTicked r a
+
+-- the desk was asked, and answered that the command isn't decided yet
+abbrev pub IsWaiting : Frame → Asked → Type 0
+IsWaiting ask a =
+    (a.request ≡ ask) × IsOkAnd a.answer (λ told. IsAnswer ask told × ¬ IsDecided told)
 
 -- it answered that the command isn't decided yet, or was ticked
 abbrev pub IsPutOff : Receiver → Frame → Asked → Type 0
-IsPutOff r ask a =
-    ((a.request ≡ ask) × IsOkAnd a.answer (λ told. ¬ IsDecided told)) ⊎ IsTicked r a
+IsPutOff r ask a = IsWaiting ask a ⊎ IsTicked r a
+
+-- of so many of the requests the one is said, and of so many, all that are left, the other
+abbrev pub Counts : (Asked → Type 0) → (Asked → Type 0) → ℕ → ℕ → List Asked → Type 0
+Counts Is IsElse m n [] = (m ≡ 0) × (n ≡ 0)
+Counts Is IsElse m n (a ∷ asked) =
+    (Is a × (k : ℕ) × (m ≡ k + 1) × Counts Is IsElse k n asked)
+    ⊎ (IsElse a × (k : ℕ) × (n ≡ k + 1) × Counts Is IsElse m k asked)
+
+-- of 10,000 requests this is said, and the others are ticks, one for each 32 of them
+abbrev pub AreAllTries : (Asked → Type 0) → Receiver → List Asked → Type 0
+AreAllTries Is r = Counts Is (IsTicked r) 10000 312
 
 -- one of these two was asked, or for a tick
 abbrev pub IsOneOf : Receiver → Frame → Frame → Asked → Type 0

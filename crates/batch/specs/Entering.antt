@@ -1,16 +1,18 @@
 -- What entering lines sends and prints.
 use Rattle.std.specs.Prelude.{◌≡◌, ◌⊎◌, ◌+◌, ◌++◌, ◌∷◌, [], ℕ, Bool, true, false, List, length}
-use Rattle.std.specs.Prelude.{Option}
+use Rattle.std.specs.Prelude.{Option, Err}
 use Rattle.std.specs.Io.KnownBytes.{Appends, Consumes, IsAtEnd}
 use Rattle.acceptor.specs.Entries.{IsId, IsText}
 use Rattle.client.specs.Printing.{reply_text}
+use Rattle.client.specs.declared.fault.ClientFault.TheVariants.{Refused}
 use Rattle.lines.specs.Bytes.{AppendsPart}
 use Rattle.lines.specs.Lines.{is_within, lines_of, rest_of}
 use Rattle.lines.specs.Reading.{GivesFault}
 use Rattle.lines.specs.declared.fault.RunFault.TheVariants as run_fault
 use Rattle.wire.specs.declared.frame.What.{What}
-use Rattle.batch.specs.Asking.{Adds, AreOf, Asked, IsAnswer, IsAwaited, IsDecided, IsTaken}
-use Rattle.batch.specs.Asking.{IsUnknown, ask_of, submit_of}
+use Rattle.wire.specs.declared.values.ClientRefusal.TheVariants.{Busy}
+use Rattle.batch.specs.Asking.{Adds, AreAllTries, AreOf, Asked, IsAnswer, IsAwaited, IsDecided}
+use Rattle.batch.specs.Asking.{IsFull, IsTaken, IsUnknown, IsWaiting, ask_of, submit_of, tick_of}
 use Rattle.batch.specs.declared.asking.Receiver.{Receiver}
 use Rattle.batch.specs.declared.fault.BatchFault.{BatchFault}
 use Rattle.batch.specs.declared.fault.BatchFault.TheVariants as fault
@@ -83,6 +85,7 @@ Hinders fault.Lost waits r id text =
     × (told : What) × IsAnswer (ask_of r id) told × IsUnknown told
 Hinders fault.StillPending waits r id text =
     (waits ≡ true) × (taken : What) × IsAnswer (submit_of r id text) taken
+    × (told : What) × IsAnswer (ask_of r id) told × ¬ IsDecided told
 Hinders fault.NoMemory waits r id text = Unit {0}
 Hinders _ waits r id text = ⊥
 
@@ -139,6 +142,35 @@ SaidBy b id (line ∷ lines) said asked =
     × EnteredBy b.waits b.receiver id line last first × SaidBy b (id + 1) lines more rest
     × (said ≡ reply_text last ++ more) × (asked ≡ first ++ rest)
 
+-- The last request failed by this fault. It asked for the id, or was a tick; or it was to enter the
+-- text, and where the desk's queue was full, that was so 10,000 times before.
+abbrev pub IsCutOff : BatchFault → Receiver → ℕ → List ℕ → List Asked → Type 0
+IsCutOff f r id text asked =
+    (front : List Asked) × (last : Asked) × (asked ≡ front ++ last ∷ []) × (last.answer ≡ Err f)
+    × (((last.request ≡ ask_of r id) ⊎ (last.request ≡ tick_of r))
+    ⊎ ((f ≡ fault.Asking (Refused Busy)) → AreAllTries (IsFull (submit_of r id text)) r front))
+
+-- the text was entered, and behind that the desk answered 10,000 times that it isn't decided
+abbrev pub IsGivenUp : Receiver → ℕ → List ℕ → List Asked → Type 0
+IsGivenUp r id text asked =
+    (taken : What) × (first rest : List Asked) × IsTaken r id text taken first
+    × AreAllTries (IsWaiting (ask_of r id)) r rest × (asked ≡ first ++ rest)
+
+-- the faults that are not said to come of the requests that were made
+abbrev pub IsOther : BatchFault → Type 0
+IsOther fault.CannotConnect = ⊥
+IsOther (fault.Asking e) = ⊥
+IsOther fault.StillPending = ⊥
+IsOther _ = Unit {0}
+
+-- Each request is for this text and id, or a tick. There were no more of them since the last one
+-- failed, or the text was entered and given up, or a fault came that is none of a request.
+abbrev pub StopsAsking : BatchFault → Receiver → ℕ → List ℕ → List Asked → Type 0
+StopsAsking f r id text asked =
+    AreOf r id text asked
+    × (IsCutOff f r id text asked
+    ⊎ (((f ≡ fault.StillPending) × IsGivenUp r id text asked) ⊎ IsOther f))
+
 -- what was asked before and afterwards, where it is told
 pub record Told : Type 0 where
   pub old : Option (List Asked)
@@ -152,7 +184,7 @@ pub record AsksAll (b : Batch) (s : Sides) (t : Told) : Type 0 where
   pub each : SaidBy b b.first_id (lines_of enters.input) enters.said asked
 
 -- So were the lines of the front part. What was asked behind them was for the next line, with the
--- next id.
+-- next id, where there was one.
 pub record AsksSome (Fails : BatchFault → Type 0) (f : BatchFault) (b : Batch) (s : Sides)
     (t : Told) : Type 0 where
   pub stops : StopsBy Fails f b s
@@ -160,6 +192,6 @@ pub record AsksSome (Fails : BatchFault → Type 0) (f : BatchFault) (b : Batch)
   pub behind : List Asked
   pub told : Adds t.old t.new (asked ++ behind)
   pub each : SaidBy b b.first_id (lines_of stops.enters.front) stops.enters.said asked
-  pub next : (behind ≡ []) ⊎ ((line : List ℕ)
+  pub next : ((behind ≡ []) × EndsReading f stops.enters.front s) ⊎ ((line : List ℕ)
       × IsNext stops.enters.front stops.enters.rest line s.had
-      × AreOf b.receiver (b.first_id + length (lines_of stops.enters.front)) line behind)
+      × StopsAsking f b.receiver (b.first_id + length (lines_of stops.enters.front)) line behind)

@@ -1,14 +1,13 @@
 //! One command entered at the desk, and waited for.
 
-ghost use Rattle.std.specs.Prelude.{◌≡◌, ◌⊎◌, Bool, IfErr, IfOk, OnErr, OnOk, IsTrue};
-ghost use Rattle.std.specs.List.{AllByRecursion};
+ghost use Rattle.std.specs.Prelude.{◌≡◌, ◌≢◌, ◌⊎◌, ◌∷◌, [], Bool, Err, false, IfErr, IfOk};
+ghost use Rattle.std.specs.Prelude.{OnOk, IsTrue};
 ghost use Rattle.wire.specs.Ranges.{IsDesk, IsEntry, IsFrame, IsId};
-ghost use Rattle.batch.specs.Asking.{AreOf, Asks, IsAnswer, IsAwaited, IsDecided, IsTaken};
-ghost use Rattle.batch.specs.Asking.{IsTicked, IsTurnedDown, IsUnknown, Tries, ask_of, submit_of};
-ghost use Rattle.batch.specs.Asking.{tick_of};
-ghost use Rattle.batch.specs.Entering.{EnteredBy, Hinders, IsEntered};
+ghost use Rattle.batch.specs.Asking.{Adds, Asks, IsAnswer, IsAwaited, IsDecided, IsTaken};
+ghost use Rattle.batch.specs.Asking.{IsTurnedDown, IsUnknown, Tries, ask_of, submit_of, tick_of};
+ghost use Rattle.batch.specs.Entering.{EnteredBy, Hinders, IsEntered, IsOther, StopsAsking};
 ghost use Rattle.batch.specs.declared.asking.Receiver.{Receiver as Desk};
-ghost use Rattle.batch.specs.model.Trying.{AreFor, IsUndecided};
+ghost use Rattle.batch.specs.model.Trying.{AreFor, AreTicks, EndsWaiting, IsLastTry, IsUndecided};
 ghost use Rattle.batch.specs.declared.entering.Fate.TheVariants as fate;
 
 use crate::asking::{Ask, Receiver, request_to};
@@ -27,8 +26,8 @@ const TRIES_TO_TICK: u32 = 32;
 /// The greatest id.
 const GREATEST: u64 = 9_223_372_036_854_775_807;
 
-/// Gives the desk a tick behind every 32nd try, and behind no others.
-fn tick_behind<A: Ask>(
+/// Rests behind a try, counted from 0, and gives the desk a tick behind every 32nd one.
+fn rest_behind<A: Ask>(
     alloc: Global,
     desk: &mut A,
     receiver: Receiver,
@@ -36,11 +35,12 @@ fn tick_behind<A: Ask>(
 ) -> Result<(), BatchFault>
     requires { IsDesk receiver.desk }
     ensures ok { OnOk result
-        (Asks (A.asked desk.old) (A.asked desk.new) (AllByRecursion (IsTicked receiver))) }
-    ensures err { OnErr result (Asks (A.asked desk.old) (A.asked desk.new)
-        (AllByRecursion (λ a. a.request ≡ tick_of receiver))) }
+        (Asks (A.asked desk.old) (A.asked desk.new) (AreTicks receiver tries)) }
+    ensures err { IfErr result (λ f. Adds (A.asked desk.old) (A.asked desk.new)
+        (record { request = tick_of receiver; answer = Err f } ∷ [])) }
     ensures fails { IfErr result A.fails }
 {
+    desk.rest(tries);
     if tries % TRIES_TO_TICK < TRIES_TO_TICK - 1 {
         return Ok(());
     }
@@ -51,28 +51,12 @@ fn tick_behind<A: Ask>(
     }
 }
 
-/// Rests behind a try, counted from 0, and gives the desk a tick behind every 32nd one.
-fn rest_behind<A: Ask>(
-    alloc: Global,
-    desk: &mut A,
-    receiver: Receiver,
-    tries: u32,
-) -> Result<(), BatchFault>
-    requires { IsDesk receiver.desk }
-    ensures ok { OnOk result
-        (Asks (A.asked desk.old) (A.asked desk.new) (AllByRecursion (IsTicked receiver))) }
-    ensures err { OnErr result (Asks (A.asked desk.old) (A.asked desk.new)
-        (AllByRecursion (λ a. a.request ≡ tick_of receiver))) }
-    ensures fails { IfErr result A.fails }
-{
-    desk.rest(tries);
-    tick_behind(alloc, desk, receiver, tries)
-}
-
 /// Whether a request is to be made again, since the desk's queue was full.
 fn is_busy(fault: BatchFault) -> bool
-    ensures { IsTrue result
+    ensures yes { IsTrue result
         → fault ≡ BatchFault.Asking (ClientFault.Refused ClientRefusal.Busy) }
+    ensures no { result ≡ false
+        → fault ≢ BatchFault.Asking (ClientFault.Refused ClientRefusal.Busy) }
 {
     match fault {
         BatchFault::Asking(ClientFault::Refused { refusal }) => refusal == ClientRefusal::Busy,
@@ -92,8 +76,8 @@ fn asked_until_taken<A: Ask>(
     ensures answer { IfOk result (λ answer. IsAnswer submit.now answer) }
     ensures ok { IfOk result (λ answer. Asks (A.asked desk.old) (A.asked desk.new)
         (Tries (IsTurnedDown receiver submit.now) submit.now answer)) }
-    ensures err { OnErr result
-        (Asks (A.asked desk.old) (A.asked desk.new) (AreFor receiver submit.now)) }
+    ensures err { IfErr result (λ f. Asks (A.asked desk.old) (A.asked desk.new)
+        (λ asked. AreFor receiver submit.now asked × IsLastTry f receiver submit.now asked)) }
     ensures fails { IfErr result A.fails }
 {
     for tries in 0..MOST_TRIES {
@@ -128,6 +112,7 @@ fn entry_of(alloc: Global, id: u64, text: &[u8]) -> Result<Entry, BatchFault>
     ensures in_range { IfOk result IsEntry }
     ensures err { IfErr result
         (λ f. (waits : Bool) (r : Desk) → Hinders f waits r id text.now) }
+    ensures other { IfErr result IsOther }
 {
     match Entry::new(alloc, id, text) {
         Ok(entry) => Ok(kept(entry)),
@@ -149,8 +134,9 @@ fn submitted<A: Ask>(
     ensures answer { IfOk result (λ answer. IsAnswer (submit_of receiver id text.now) answer) }
     ensures ok { IfOk result (λ answer. Asks (A.asked desk.old) (A.asked desk.new)
         (IsTaken receiver id text.now answer)) }
-    ensures err { OnErr result (Asks (A.asked desk.old) (A.asked desk.new)
-        (AreFor receiver (submit_of receiver id text.now))) }
+    ensures err { IfErr result (λ f. Asks (A.asked desk.old) (A.asked desk.new)
+        (λ asked. AreFor receiver (submit_of receiver id text.now) asked
+        × (IsLastTry f receiver (submit_of receiver id text.now) asked ⊎ IsOther f))) }
     ensures cause { IfErr result
         (λ f. A.fails f ⊎ ((waits : Bool) (r : Desk) → Hinders f waits r id text.now)) }
 {
@@ -198,8 +184,9 @@ fn decided<A: Ask>(
     ensures answer { IfOk result (λ told. IsAnswer (ask_of receiver id) told × IsDecided told) }
     ensures ok { IfOk result (λ told. Asks (A.asked desk.old) (A.asked desk.new)
         (IsAwaited receiver id told)) }
-    ensures err { OnErr result (Asks (A.asked desk.old) (A.asked desk.new)
-        (AreFor receiver (ask_of receiver id))) }
+    ensures err { IfErr result (λ f. Asks (A.asked desk.old) (A.asked desk.new)
+        (λ asked. AreFor receiver (ask_of receiver id) asked
+        × EndsWaiting f receiver id asked)) }
     ensures cause { IfErr result (λ f. A.fails f ⊎ IsUndecided f receiver id) }
 {
     let ask = request_to(receiver, What::Ask { id });
@@ -234,8 +221,8 @@ pub(crate) fn entered<A: Ask>(
     ensures answer { IfOk result (λ last. IsEntered waits receiver id text.now last) }
     ensures ok { IfOk result (λ last. Asks (A.asked desk.old) (A.asked desk.new)
         (EnteredBy waits receiver id text.now last)) }
-    ensures err { OnErr result
-        (Asks (A.asked desk.old) (A.asked desk.new) (AreOf receiver id text.now)) }
+    ensures err { IfErr result (λ f. Asks (A.asked desk.old) (A.asked desk.new)
+        (StopsAsking f receiver id text.now)) }
     ensures cause { IfErr result (λ f. A.fails f ⊎ Hinders f waits receiver id text.now) }
 {
     if id == 0 || id > GREATEST {

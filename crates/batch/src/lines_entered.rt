@@ -6,9 +6,9 @@ ghost use Rattle.std.specs.Io.KnownBytes.{Appends};
 ghost use Rattle.lines.specs.Bytes.{AppendsPart};
 ghost use Rattle.client.specs.Printing.{reply_text};
 ghost use Rattle.wire.specs.declared.frame.What.{What as WhatValue};
-ghost use Rattle.batch.specs.Asking.{AreOf, Asks, IsOfAsking};
+ghost use Rattle.batch.specs.Asking.{Asks, IsOfAsking};
 ghost use Rattle.batch.specs.Entering.{AsksAll, AsksSome, EnteredBy, EntersAll, EntersSome};
-ghost use Rattle.batch.specs.Entering.{IsEntered, IsOfPrinting, StopsBy, StopsLine};
+ghost use Rattle.batch.specs.Entering.{IsEntered, IsOfPrinting, StopsAsking, StopsBy, StopsLine};
 
 use crate::asking::{Ask, Dialing, Receiver};
 use crate::dialing::Dial;
@@ -66,8 +66,8 @@ fn enter_line<A: Ask, W: Write>(
     ensures err { IfErr result (λ f. (said : List ℕ)
         × AppendsPart (W.contents writer.old) (W.contents writer.new) said
         × StopsLine A.fails f batch (batch.first_id + number) line.now said) }
-    ensures asked { OnErr result (Asks (A.asked desk.old) (A.asked desk.new)
-        (AreOf batch.receiver (batch.first_id + number) line.now)) }
+    ensures asked { IfErr result (λ f. Asks (A.asked desk.old) (A.asked desk.new)
+        (StopsAsking f batch.receiver (batch.first_id + number) line.now)) }
 {
     let Some(id) = batch.first_id.checked_add(u64::from(number)) else {
         return Err(BatchFault::NoMoreIds);

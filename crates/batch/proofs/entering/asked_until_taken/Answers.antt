@@ -1,49 +1,54 @@
-use Rattle.std.proofs.Common.{◌≡◌, inl, refl, ap, Err, []}
-use Rattle.batch.specs.Asking.{IsTicked, IsTurnedDown, tick_of}
-use Rattle.batch.specs.model.Trying.{IsFor}
-use Rattle.batch.proofs.Trying.{adds_none, asked_so, goes_on, if_failed, if_tried, then_one, then_ticks, tick_for, ticked_down, tried, turned_down_for}
+use Rattle.std.proofs.Common.{◌≡◌, ◌/◌, refl, ap, Err, [], arith}
+use Rattle.batch.specs.Asking.{IsFull, IsTicked, IsTurnedDown}
+use Rattle.batch.specs.model.Trying.{IsLastTry}
+use Rattle.batch.proofs.Trying.{adds_none, asked_so, goes_on, if_tried, if_turned_off, tick_last, tick_last_try, tried, tries_of, turned_down_for, turned_off}
 use Rattle.batch.proofs.entering.asked_until_taken.Goals as goal
 
 pub loop-tries-init : goal.loop-tries-init
-loop-tries-init g c = ([], adds_none _, tt)
+loop-tries-init g c = ([], adds_none _, (refl, refl))
 
 pub returns-in-Ok-clause-ok : goal.returns-in-Ok-clause-ok
 returns-in-Ok-clause-ok g c =
-    tried (IsTurnedDown c.args.receiver c.args.submit.now) _ _ _ c.args.submit.now c.in-Ok.answer
-    c.loop-tries.invariant c.in-Ok.ensures.told
+    let r = c.args.receiver in
+    let submit = c.args.submit.now in
+    tried (IsTurnedDown r submit) _ _ _ submit c.in-Ok.answer
+    (tries_of (IsFull submit) (IsTicked r) c.loop-tries.tries (c.loop-tries.tries / 32) _ _
+    c.loop-tries.invariant) c.in-Ok.ensures.told
 
 pub returns-then-not-is_busy-clause-err : goal.returns-then-not-is_busy-clause-err
 returns-then-not-is_busy-clause-err g c =
-    then_one (IsTurnedDown c.args.receiver c.args.submit.now)
-    (IsFor c.args.receiver c.args.submit.now) _ _ _
-    (asked_so c.args.submit.now (Err c.in-Err.fault))
-    (turned_down_for c.args.receiver c.args.submit.now) c.loop-tries.invariant
-    c.in-Err.ensures.told (inl refl)
+    turned_off c.args.receiver c.args.submit.now c.in-Err.fault c.loop-tries.tries
+    (c.loop-tries.tries / 32) _ _ _
+    (λ busy. absurd (c.is_busy.ensures.no c.if-not-is_busy.true busy)) c.loop-tries.invariant
+    c.in-Err.ensures.told
 
 pub returns-in-Err-rest_behind-clause-err : goal.returns-in-Err-rest_behind-clause-err
 returns-in-Err-rest_behind-clause-err g c =
-    then_ticks (IsTurnedDown c.args.receiver c.args.submit.now)
-    (IsFor c.args.receiver c.args.submit.now) (λ a. a.request ≡ tick_of c.args.receiver) _ _ _ _
-    (asked_so c.args.submit.now (Err c.in-Err.fault))
-    (turned_down_for c.args.receiver c.args.submit.now)
-    (tick_for c.args.receiver c.args.submit.now) c.loop-tries.invariant c.in-Err.ensures.told
-    (inl refl) c.in-Err-rest_behind.ensures.err
+    let r = c.args.receiver in
+    let submit = c.args.submit.now in
+    let f = c.in-Err-rest_behind.fault in
+    tick_last (IsFull submit) r submit c.loop-tries.tries (c.loop-tries.tries / 32) _ _ _ _
+    (asked_so submit (Err c.in-Err.fault)) f (IsLastTry f r submit) (turned_down_for r submit)
+    (tick_last_try r submit f) c.loop-tries.invariant c.in-Err.ensures.told
+    (refl, ap Err (c.is_busy.ensures.yes c.if-not-is_busy.false)) c.in-Err-rest_behind.ensures.err
 
 pub loop-tries-preserved : goal.loop-tries-preserved
 loop-tries-preserved g c =
-    goes_on (IsTurnedDown c.args.receiver c.args.submit.now) (IsTicked c.args.receiver) _ _ _ _
-    (asked_so c.args.submit.now (Err c.in-Err.fault))
-    (ticked_down c.args.receiver c.args.submit.now) c.loop-tries.invariant c.in-Err.ensures.told
-    (inl (refl, ap Err (c.is_busy.ensures c.if-not-is_busy.false))) c.in_default.ensures.ok
+    goes_on (IsFull c.args.submit.now) c.args.receiver c.loop-tries.tries _ _ _ _
+    (asked_so c.args.submit.now (Err c.in-Err.fault)) c.loop-tries.invariant c.in-Err.ensures.told
+    (refl, ap Err (c.is_busy.ensures.yes c.if-not-is_busy.false)) c.in_default.ensures.ok
 
 pub returns-clause-ok : goal.returns-clause-ok
 returns-clause-ok g c =
-    if_tried (IsTurnedDown c.args.receiver c.args.submit.now) _ _ _ c.args.submit.now c.ask-2.result
-    c.loop-tries.invariant c.ask-2.ensures.told
+    let r = c.args.receiver in
+    let submit = c.args.submit.now in
+    if_tried (IsTurnedDown r submit) _ _ _ submit c.ask-2.result
+    (tries_of (IsFull submit) (IsTicked r) c.loop-tries.tries (c.loop-tries.tries / 32) _ _
+    c.loop-tries.invariant) c.ask-2.ensures.told
 
 pub returns-clause-err : goal.returns-clause-err
 returns-clause-err g c =
-    if_failed (IsTurnedDown c.args.receiver c.args.submit.now)
-    (IsFor c.args.receiver c.args.submit.now) _ _ _ c.args.submit.now c.ask-2.result
-    (turned_down_for c.args.receiver c.args.submit.now) c.loop-tries.invariant c.ask-2.ensures.told
-    (inl refl)
+    let all : c.loop-tries.tries ≡ 10000 = omega arith in
+    let ticks : c.loop-tries.tries / 32 ≡ 312 = omega (arith, all) in
+    if_turned_off c.args.receiver c.args.submit.now c.loop-tries.tries (c.loop-tries.tries / 32) _
+    _ _ c.ask-2.result all ticks c.loop-tries.invariant c.ask-2.ensures.told

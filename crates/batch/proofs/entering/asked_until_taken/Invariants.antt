@@ -1,9 +1,9 @@
-use Rattle.std.specs.List.{AllByRecursion}
-use Rattle.batch.specs.Asking.{Asks, IsTurnedDown}
+use Rattle.std.proofs.Common.{◌/◌}
+use Rattle.batch.specs.Asking.{Asks, Counts, IsFull, IsTicked}
 use Rattle.batch.proofs.entering.asked_until_taken.Given as goal
 
--- the desk's queue was full each time
+-- the desk's queue was full each time, and it was ticked behind every 32nd
 abbrev pub invariant-loop-tries : goal.invariant-loop-tries
 invariant-loop-tries g l =
     Asks (g.A.Ask.asked l.initial.desk) (g.A.Ask.asked l.desk)
-    (AllByRecursion (IsTurnedDown l.receiver l.submit))
+    (Counts (IsFull l.submit) (IsTicked l.receiver) l.tries (l.tries / 32))

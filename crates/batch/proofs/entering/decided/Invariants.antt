@@ -1,9 +1,9 @@
-use Rattle.std.specs.List.{AllByRecursion}
-use Rattle.batch.specs.Asking.{Asks, IsPutOff, ask_of}
+use Rattle.std.proofs.Common.{◌/◌}
+use Rattle.batch.specs.Asking.{Asks, Counts, IsTicked, IsWaiting, ask_of}
 use Rattle.batch.proofs.entering.decided.Given as goal
 
--- the command wasn't decided each time
+-- the command wasn't decided each time, and the desk was ticked behind every 32nd
 abbrev pub invariant-loop-tries : goal.invariant-loop-tries
 invariant-loop-tries g l =
     Asks (g.A.Ask.asked l.initial.desk) (g.A.Ask.asked l.desk)
-    (AllByRecursion (IsPutOff l.receiver (ask_of l.receiver l.id)))
+    (Counts (IsWaiting (ask_of l.receiver l.id)) (IsTicked l.receiver) l.tries (l.tries / 32))

@@ -1,7 +1,11 @@
 use Rattle.std.proofs.lemmas.Result.{IfErr-weaker}
 use Rattle.batch.proofs.Asked.{undecided}
-use Rattle.batch.proofs.Trying.{if_awaited, if_not_awaited}
+use Rattle.batch.proofs.Trying.{asks_text, if_awaited, if_not_awaited}
 use Rattle.batch.proofs.entering.entered.Goals as goal
+
+pub returns-in-Err-clause-err : goal.returns-in-Err-clause-err
+returns-in-Err-clause-err g c =
+    asks_text c.in-Err.fault c.args.receiver c.args.id c.args.text.now _ _ c.in-Err.ensures.err
 
 pub returns-clause-ok : goal.returns-clause-ok
 returns-clause-ok g c =
