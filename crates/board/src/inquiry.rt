@@ -1,11 +1,14 @@
 //! A question to a desk, over a connection of its own.
 
-ghost use Rattle.std.specs.Prelude.{IfSome};
-ghost use Rattle.board.specs.Asking.{AsksForSheet, IsQuestion};
+ghost use Rattle.std.specs.Prelude.{◌≡◌, IfSome, OnSome, OnOk, OnErr, SomeIff};
+ghost use Rattle.std.specs.Io.KnownBytes.{Keeps};
+ghost use Rattle.wire.specs.Ranges.{IsDesk, IsFrame};
+ghost use Rattle.board.specs.Asking.{Begins, GoesOn, Sends, frame_of, request, version_of};
 
 use crate::survey::{Heard, Question, what_came};
 use bytes::Bytes;
 use client::judged;
+use formats::Event;
 use mio::net::TcpStream;
 use std::alloc::Global;
 use std::io;
@@ -39,10 +42,21 @@ pub fn is_waiting(error: &io::Error) -> bool {
     matches!(error.kind(), ErrorKind::WouldBlock | ErrorKind::Interrupted)
 }
 
-/// The frame of a question. None where the desk's number is not 1 to 5.
+/// The first version of the wire that has a frame for the sheets of an event.
+fn version_of(event: Event) -> Version
+    ensures { result ≡ version_of event }
+{
+    if event.number() <= Version::One.last_event() {
+        Version::One
+    } else {
+        Version::Two
+    }
+}
+
+/// The frame of a question, from a client, which is 0. None where the desk's number is not 1 to 5.
 fn frame_of(desk: Desk, question: Question) -> Option<Frame>
-    ensures { IfSome result
-        (λ f. IsQuestion question.event question.round question.position f) }
+    ensures frame { SomeIff result (IsDesk desk.number) (frame_of desk question) }
+    ensures spelled { IfSome result IsFrame }
 {
     if desk.number == 0 || desk.number > 5 {
         return None;
@@ -52,13 +66,8 @@ fn frame_of(desk: Desk, question: Question) -> Option<Frame>
         round,
         position,
     } = question;
-    let version = if event.number() <= Version::One.last_event() {
-        Version::One
-    } else {
-        Version::Two
-    };
     Some(Frame {
-        version,
+        version: version_of(event),
         hall: desk.hall,
         from: 0,
         to: desk.number,
@@ -71,10 +80,10 @@ fn frame_of(desk: Desk, question: Question) -> Option<Frame>
     })
 }
 
-/// The bytes of a question.
+/// The bytes of a question. None where the desk's number is not 1 to 5, or memory is wanting.
 fn request_of(alloc: Global, desk: Desk, question: Question) -> Option<Bytes>
-    ensures { IfSome result
-        (λ bytes. AsksForSheet question.event question.round question.position bytes) }
+    ensures request { IfSome result (λ bytes. bytes ≡ request desk question) }
+    ensures known { OnSome result (IsDesk desk.number) }
 {
     let asked = frame_of(desk, question)?;
     let Ok(bytes) = encode(alloc, &asked) else {
@@ -86,15 +95,31 @@ fn request_of(alloc: Global, desk: Desk, question: Question) -> Option<Bytes>
     }
 }
 
+/// Writes once of what is to be sent, and leaves the rest.
+fn send<W: Write>(writer: &mut W, unsent: &mut Bytes) -> io::Result<()>
+    ensures ok { OnOk result
+        (Sends (W.contents writer.old) (W.contents writer.new) unsent.old unsent.new) }
+    ensures kept { OnErr result (unsent.new ≡ unsent.old) }
+    ensures unwritten { OnErr result (Keeps (W.contents writer.old) (W.contents writer.new)) }
+{
+    let count = writer.write(unsent.as_slice())?;
+    unsent.advance(count);
+    Ok(())
+}
+
 impl Inquiry {
-    /// Begins to ask. None where the system gives no socket, or memory is wanting.
+    /// Begins to ask. None where the desk's number is not 1 to 5, the system gives no socket, or
+    /// memory is wanting.
     pub fn begin<R: Net>(
         net: &R,
         alloc: Global,
         desk: Desk,
         question: Question,
         now: u64,
-    ) -> Option<Inquiry> {
+    ) -> Option<Inquiry>
+        ensures begins { IfSome result (Begins desk question) }
+        ensures known { OnSome result (IsDesk desk.number) }
+    {
         let unsent = request_of(alloc, desk, question)?;
         let Ok(reader) = FrameReader::new(alloc) else {
             return None;
@@ -118,7 +143,9 @@ impl Inquiry {
     }
 
     /// Writes or reads once, and gives what came of the question, once that is known.
-    pub fn turn(&mut self) -> Option<Heard> {
+    pub fn turn(&mut self) -> Option<Heard>
+        ensures { GoesOn self.old self.new }
+    {
         let done = if self.is_writing() {
             self.write()
         } else {
@@ -131,13 +158,17 @@ impl Inquiry {
         }
     }
 
-    fn write(&mut self) -> io::Result<Option<Heard>> {
-        let count = self.stream.write(self.unsent.as_slice())?;
-        self.unsent.advance(count);
+    fn write(&mut self) -> io::Result<Option<Heard>>
+        ensures { GoesOn self.old self.new }
+    {
+        send(&mut self.stream, &mut self.unsent)?;
         Ok(None)
     }
 
-    fn read(&mut self) -> io::Result<Option<Heard>> {
+    fn read(&mut self) -> io::Result<Option<Heard>>
+        ensures { self.new ≡
+            record self.old { stream = self.new.stream; reader = self.new.reader } }
+    {
         let mut piece = [0; 4096];
         let count = self.stream.read(&mut piece)?;
         if count == 0 {
@@ -147,7 +178,9 @@ impl Inquiry {
     }
 
     /// Takes a piece of the answer.
-    fn feed(&mut self, piece: &[u8]) -> Option<Heard> {
+    fn feed(&mut self, piece: &[u8]) -> Option<Heard>
+        ensures { self.new ≡ record self.old { reader = self.new.reader } }
+    {
         let Ok(frames) = self.reader.feed(piece) else {
             return Some(Heard::Silent("no answer"));
         };

@@ -10,18 +10,24 @@ mod style;
 mod survey;
 mod words;
 
-use std::env;
 use std::process::ExitCode;
-use words::run_given;
+use std::{env, io};
+use words::{run_given, tell_no_words};
 
 fn main(rt: HostRuntime) -> ExitCode {
+    let alloc = rt.alloc();
     let mut output = rt.stdout();
     let mut faults = rt.stderr();
-    let Ok(words) = env::args(&rt) else {
-        return ExitCode::from(2);
+    let given = match env::args(&rt) {
+        Ok(words) => match words.collect::<Vec<String>>(alloc) {
+            Ok(words) => Ok(words),
+            Err(_) => Err(io::Error::from(io::ErrorKind::OutOfMemory)),
+        },
+        Err(error) => Err(error),
     };
-    let Ok(words) = words.collect::<Vec<String>>(rt.alloc()) else {
-        return ExitCode::from(2);
+    let status = match given {
+        Ok(words) => run_given(&rt, &words, &mut output, &mut faults),
+        Err(error) => tell_no_words(&error, &mut faults),
     };
-    ExitCode::from(run_given(&rt, &words, &mut output, &mut faults))
+    ExitCode::from(status)
 }

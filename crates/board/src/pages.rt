@@ -13,8 +13,6 @@ pub struct Page {
     pub path: Vec<u8>,
     /// The whole answer to a GET.
     pub answer: Bytes,
-    /// How many bytes of it are the head.
-    pub head: usize,
 }
 
 /// What is said of the desk: a class of the style, and a text.
@@ -37,10 +35,9 @@ fn put(pages: &mut Vec<Page>, path: Vec<u8>, kind: &str, body: &[u8]) -> Result<
     answer.extend_from_slice(b"\r\nContent-Length: ")?;
     answer.extend_from_slice(buffer.format(body.len()).as_bytes())?;
     answer.extend_from_slice(SAFETY.as_bytes())?;
-    let head = answer.len();
     answer.extend_from_slice(body)?;
     let answer = Bytes::from_vec(answer)?;
-    pages.push(Page { path, answer, head })?;
+    pages.push(Page { path, answer })?;
     Ok(())
 }
 

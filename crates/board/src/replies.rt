@@ -34,11 +34,22 @@ fn has_host(headers: &[Header<'_>]) -> bool {
         .any(|header| header.name.eq_ignore_ascii_case("host"))
 }
 
-/// The part of a target in front of its query.
+/// The path of a target: without its query, and where it is a whole URL, as for a proxy, without
+/// the scheme and the host.
 fn path_of(target: &[u8]) -> &[u8] {
-    match target.iter().position(|byte| *byte == b'?') {
+    let target = match target.iter().position(|byte| *byte == b'?') {
         Some(end) => &target[..end],
         None => target,
+    };
+    let Some((scheme, rest)) = target.split_at_checked(7) else {
+        return target;
+    };
+    if !scheme.eq_ignore_ascii_case(b"http://") {
+        return target;
+    }
+    match rest.iter().position(|byte| *byte == b'/') {
+        Some(start) => &rest[start..],
+        None => b"/",
     }
 }
 
@@ -51,31 +62,48 @@ fn reply(method: &str, target: &str, pages: &[Page]) -> Bytes {
     let Some(page) = pages.iter().find(|page| page.path.as_slice() == path) else {
         return Bytes::from_static(NOT_FOUND);
     };
-    let Ok(mut answer) = page.answer.clone() else {
-        return Bytes::from_static(NO_MEMORY);
-    };
-    if method == "HEAD" {
-        answer.truncate(page.head);
+    match page.answer.clone() {
+        Ok(answer) => answer,
+        Err(_) => Bytes::from_static(NO_MEMORY),
+    }
+}
+
+/// An answer without its body: what stands behind the empty line is gone.
+fn without_body(answer: Bytes) -> Bytes {
+    let mut answer = answer;
+    let end = answer
+        .as_slice()
+        .windows(4)
+        .position(|bytes| bytes == b"\r\n\r\n".as_slice());
+    if let Some(end) = end {
+        answer.truncate(end.saturating_add(4));
     }
     answer
 }
 
-/// The answer to what came of a request, once its head is whole, or can't be any more.
+/// The answer to a request whose head is whole, which may lack its host.
+fn answer_of(request: &Request<'_, '_>, pages: &[Page]) -> Bytes {
+    match (request.method, request.path) {
+        (Some(method), Some(target)) if request.version == Some(0) || has_host(request.headers) => {
+            reply(method, target, pages)
+        }
+        _ => Bytes::from_static(BAD_REQUEST),
+    }
+}
+
+/// The answer to what came of a request, once its head is whole, or can't be any more. To a HEAD it
+/// has no body.
 pub fn answer_to(came: &[u8], pages: &[Page]) -> Option<Bytes> {
     let mut headers = [EMPTY_HEADER; 64];
     let mut request = Request::new(&mut headers);
-    match request.parse(came) {
-        Ok(Status::Complete(_)) => {}
+    let answer = match request.parse(came) {
+        Ok(Status::Complete(_)) => answer_of(&request, pages),
         Ok(Status::Partial) if came.len() <= LONGEST_HEAD => return None,
-        Ok(Status::Partial) | Err(Error::TooManyHeaders) => {
-            return Some(Bytes::from_static(TOO_LARGE));
-        }
-        Err(_) => return Some(Bytes::from_static(BAD_REQUEST)),
+        Ok(Status::Partial) | Err(Error::TooManyHeaders) => Bytes::from_static(TOO_LARGE),
+        Err(_) => Bytes::from_static(BAD_REQUEST),
+    };
+    if request.method == Some("HEAD") {
+        return Some(without_body(answer));
     }
-    match (request.method, request.path) {
-        (Some(method), Some(target)) if request.version == Some(0) || has_host(request.headers) => {
-            Some(reply(method, target, pages))
-        }
-        _ => Some(Bytes::from_static(BAD_REQUEST)),
-    }
+    Some(answer)
 }

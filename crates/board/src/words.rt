@@ -5,10 +5,13 @@ ghost use Rattle.std.specs.Prelude.{false};
 use crate::inquiry::Desk;
 use crate::serving::{Order, serve};
 use clap::builder::ValueParser;
+use clap::error::ErrorKind as ParseErrorKind;
 use clap::{Arg, ArgAction, ArgMatches, Command, Error};
+use itoa::Buffer;
 use mio::net::TcpListener;
 use std::alloc::{AllocError, Global};
-use std::io::Write;
+use std::io;
+use std::io::{ErrorKind, Write};
 use std::net::{SocketAddr, ToSocketAddrs};
 
 const ABOUT: &str = "Serves the sheets of a desk as pages for browsers.";
@@ -18,8 +21,8 @@ Asks the desk for the sheets of all rounds that were opened, and shows them at h
 after another for a projector at http://ADDR/hall. Prints `board at ADDR` once it listens, and runs
 until it is ended.
 
-Exit status: 2 the words are not understood, or ask for help; 4 it cannot listen, an address is
-none, or the system fails; 5 no memory.";
+Exit status: 2 the words are not understood, or ask for help; 4 an address is none, it cannot
+listen, or the system fails; 5 no memory. Standard error gets a line that says why.";
 
 /// An option with a value.
 fn option<'a>(
@@ -58,32 +61,74 @@ fn patience_option<'a>(alloc: Global) -> Arg<'a> {
     option(alloc, "patience", "SECONDS", help, parser).required(false)
 }
 
-/// A number among the words.
-fn number_at(found: &ArgMatches<'_>, id: &str) -> Option<u64> {
-    found.get_str(id)?.parse::<u64>().ok()
+/// Why the words give no order.
+#[derive(Clone, Copy)]
+enum Mistake {
+    /// The number of this option has a sign or leading zeros.
+    Number(&'static str),
+    /// The text of this option names no address.
+    Address(&'static str),
+    NoMemory,
 }
 
-/// The first address that a text names, an IP address or a host's name and a port.
-fn address_at(rt: &HostRuntime, found: &ArgMatches<'_>, id: &str) -> Option<SocketAddr> {
-    let Ok(mut addresses) = found.get_str(id)?.to_socket_addrs(rt) else {
-        return None;
+/// The number of an option. The parser lets a sign and leading zeros through.
+fn number_at(found: &ArgMatches<'_>, id: &'static str) -> Result<u64, Mistake> {
+    let Some(text) = found.get_str(id) else {
+        return Err(Mistake::Number(id));
     };
-    addresses.next()
+    let Ok(number) = text.parse::<u64>() else {
+        return Err(Mistake::Number(id));
+    };
+    let mut buffer = Buffer::new();
+    if buffer.format(number) != text {
+        return Err(Mistake::Number(id));
+    }
+    Ok(number)
 }
 
-/// What the words ask for. None where an address is none.
-fn order_of(rt: &HostRuntime, found: &ArgMatches<'_>) -> Option<Order> {
-    let hall = u32::try_from(number_at(found, "hall")?).ok()?;
-    let number = u8::try_from(number_at(found, "desk")?).ok()?;
+/// The first address that the text of an option names, an IP address or a host's name and a port.
+fn address_at(
+    rt: &HostRuntime,
+    found: &ArgMatches<'_>,
+    id: &'static str,
+) -> Result<SocketAddr, Mistake> {
+    let Some(text) = found.get_str(id) else {
+        return Err(Mistake::Address(id));
+    };
+    let mut addresses = match text.to_socket_addrs(rt) {
+        Ok(addresses) => addresses,
+        Err(error) if error.kind() == ErrorKind::OutOfMemory => return Err(Mistake::NoMemory),
+        Err(_) => return Err(Mistake::Address(id)),
+    };
+    addresses.next().ok_or(Mistake::Address(id))
+}
+
+/// The hall and the number of the desk, and how long a browser is waited for.
+fn numbers_of(found: &ArgMatches<'_>) -> Result<(u32, u8, u64), Mistake> {
+    let Ok(hall) = u32::try_from(number_at(found, "hall")?) else {
+        return Err(Mistake::Number("hall"));
+    };
+    let Ok(number) = u8::try_from(number_at(found, "desk")?) else {
+        return Err(Mistake::Number("desk"));
+    };
+    let patience = match found.get_str("patience") {
+        Some(_) => number_at(found, "patience")?,
+        None => 10,
+    };
+    Ok((hall, number, patience))
+}
+
+/// What the words ask for.
+fn order_of(rt: &HostRuntime, found: &ArgMatches<'_>) -> Result<Order, Mistake> {
+    let (hall, number, patience) = numbers_of(found)?;
     let address = address_at(rt, found, "to")?;
     let listen = address_at(rt, found, "listen")?;
-    let patience = number_at(found, "patience").unwrap_or(10);
     let desk = Desk {
         hall,
         number,
         address,
     };
-    Some(Order {
+    Ok(Order {
         desk,
         listen,
         patience,
@@ -96,6 +141,33 @@ fn tell<F: Write>(faults: &mut F, why: &str, status: u8) -> u8 {
     status
 }
 
+/// Says why the system did not do something, and gives the status.
+fn tell_system<F: Write>(faults: &mut F, error: &io::Error, why: &str) -> u8 {
+    if error.kind() == ErrorKind::OutOfMemory {
+        return tell(faults, "no memory", 5);
+    }
+    tell(faults, why, 4)
+}
+
+/// Says why the words give no order, and gives the status.
+fn tell_mistake<F: Write>(faults: &mut F, mistake: Mistake) -> u8 {
+    match mistake {
+        Mistake::Number(id) => {
+            let rule = "is a number without a sign and without leading zeros";
+            let _ = writeln!(
+                faults,
+                "error: --{id} {rule}\n\nFor more information, try '--help'."
+            );
+            2
+        }
+        Mistake::Address(id) => {
+            let _ = writeln!(faults, "board: --{id} is no address");
+            4
+        }
+        Mistake::NoMemory => tell(faults, "no memory", 5),
+    }
+}
+
 /// Says what is wrong with the words, or helps, and gives the status.
 fn tell_words<W: Write, F: Write>(
     alloc: Global,
@@ -103,15 +175,37 @@ fn tell_words<W: Write, F: Write>(
     writer: &mut W,
     faults: &mut F,
 ) -> u8 {
+    if error.kind() == ParseErrorKind::OutOfMemory {
+        return tell(faults, "no memory", 5);
+    }
     let Ok(text) = format!(in alloc; "{error}") else {
         return tell(faults, "no memory", 5);
     };
-    let _ = if error.use_stderr() {
-        faults.write_all(text.as_bytes())
-    } else {
-        writer.write_all(text.as_bytes())
+    if error.use_stderr() {
+        let _ = faults.write_all(text.as_bytes());
+        return 2;
+    }
+    match writer.write_all(text.as_bytes()) {
+        Ok(()) => 2,
+        Err(_) => tell(faults, "cannot write", 4),
+    }
+}
+
+/// Listens and serves, until the system fails, and gives the status.
+fn run_order<W: Write, F: Write>(
+    rt: &HostRuntime,
+    order: Order,
+    writer: &mut W,
+    faults: &mut F,
+) -> u8 {
+    let listener = match TcpListener::bind(rt, order.listen) {
+        Ok(listener) => listener,
+        Err(error) => return tell_system(faults, &error, "cannot listen"),
     };
-    2
+    match serve(rt, order, listener, writer) {
+        Ok(()) => tell(faults, "cannot go on", 4),
+        Err(error) => tell_system(faults, &error, "cannot go on"),
+    }
 }
 
 /// Does what the words ask for, the program's own name first, and gives the exit status.
@@ -125,18 +219,13 @@ fn run_words<W: Write, F: Write>(
         Ok(command) => command.try_get_matches_from(words),
         Err(_) => Err(Error::from(AllocError)),
     };
-    let found = match parsed {
-        Ok(found) => found,
-        Err(error) => return tell_words(rt.alloc(), &error, writer, faults),
-    };
-    let Some(order) = order_of(rt, &found) else {
-        return tell(faults, "an address is none", 4);
-    };
-    let Ok(listener) = TcpListener::bind(rt, order.listen) else {
-        return tell(faults, "cannot listen", 4);
-    };
-    let _ = serve(rt, order, listener, writer);
-    tell(faults, "cannot go on", 4)
+    match parsed {
+        Ok(found) => match order_of(rt, &found) {
+            Ok(order) => run_order(rt, order, writer, faults),
+            Err(mistake) => tell_mistake(faults, mistake),
+        },
+        Err(error) => tell_words(rt.alloc(), &error, writer, faults),
+    }
 }
 
 /// Runs the words that the program was given, and gives the exit status.
@@ -153,4 +242,13 @@ pub fn run_given<W: Write, F: Write>(
         };
     }
     run_words(rt, &words, writer, faults)
+}
+
+/// Answers words that could not be had: memory ran out, or they are not text.
+pub fn tell_no_words<F: Write>(error: &io::Error, faults: &mut F) -> u8 {
+    if error.kind() == ErrorKind::OutOfMemory {
+        return tell(faults, "no memory", 5);
+    }
+    let _ = faults.write_all(b"error: the words are not UTF-8 text\n");
+    2
 }
