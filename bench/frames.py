@@ -9,6 +9,11 @@ is printed as Rust's `Debug` does. Standard library only.
 """
 
 import sys
+from pathlib import Path
+
+sys.dont_write_bytecode = True
+sys.path.append(str(Path(__file__).resolve().parent.parent / "scripts"))
+import running
 
 MOST = 300_000
 VERSIONS = {1: "One", 2: "Two"}
@@ -240,6 +245,7 @@ def stream_lines(text):
 
 
 def main():
+    running.Words(__doc__).parse_args()
     words = {"frames": frames_lines, "feed": feed_lines, "stream": stream_lines}
     for line in sys.stdin.read().splitlines():
         word, _, rest = line.partition(" ")

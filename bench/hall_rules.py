@@ -5,12 +5,17 @@
     bench/hall_rules.py --histories < HISTORIES
 
 A second program, written from the protocol's table of events and 'Paxos Made Simple' and sharing
-nothing with the crates. With `--histories` the input is like checks/stored/halls.txt: headings, each
-a line `# DESKS TITLE`, with a script behind each. Standard library only.
+nothing with the crates. With `--histories` the input is like checks/stored/halls.txt: headings,
+each a line `# DESKS TITLE`, with a script behind each. Standard library only.
 """
 
 import re
 import sys
+from pathlib import Path
+
+sys.dont_write_bytecode = True
+sys.path.append(str(Path(__file__).resolve().parent.parent / "scripts"))
+import running
 
 MOST_ENTRIES = 65_536
 MOST_QUEUED = 64
@@ -262,12 +267,17 @@ def run(count, lines, write):
 
 
 def main():
+    words = running.Words(__doc__)
+    either = words.add_mutually_exclusive_group(required=True)
+    either.add_argument("desks", nargs="?", type=int, metavar="DESKS")
+    either.add_argument("--histories", action="store_true")
+    given = words.parse_args()
     lines = sys.stdin.buffer.read().split(b"\n")
     if lines and not lines[-1]:
         lines.pop()
     write = sys.stdout.buffer.write
-    if sys.argv[1:] != ["--histories"]:
-        run(int(sys.argv[1]), lines, write)
+    if not given.histories:
+        run(given.desks, lines, write)
         return
     heads = [at for at, line in enumerate(lines) if re.match(rb"# [0-9] ", line)]
     for head, end in zip(heads, heads[1:] + [len(lines)]):

@@ -11,9 +11,12 @@ does. Standard library only.
 """
 
 import sys
+from pathlib import Path
 
 sys.dont_write_bytecode = True
+sys.path.append(str(Path(__file__).resolve().parent.parent / "scripts"))
 import rules
+import running
 import stickers
 
 EVENTS = ("Cube3", "Cube2", "Cube4", "Cube5", "Cube6", "Cube7", "Blind3", "FewestMoves",
@@ -295,6 +298,7 @@ PLAIN = {"moves": moves_lines, "cube": cube_lines, "opposites": opposites_lines,
 
 
 def main():
+    running.Words(__doc__).parse_args()
     competition = Competition()
     for line in sys.stdin.buffer.read().split(b"\n")[:-1]:
         word, _, rest = line.partition(b" ")

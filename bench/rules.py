@@ -10,8 +10,11 @@ crates: slow, plain, with whole lists in place of tables; bench/stickers.py has 
 
 import re
 import sys
+from pathlib import Path
 
 sys.dont_write_bytecode = True
+sys.path.append(str(Path(__file__).resolve().parent.parent / "scripts"))
+import running
 from stickers import TOKEN, fewest_moves
 
 TIMES = ("333", "222", "444", "555", "333oh", "clock", "minx", "pyram", "skewb", "sq1")
@@ -539,11 +542,12 @@ def replay(data, what, which, table=False):
 
 
 def main():
-    words = [word for word in sys.argv[1:] if word != "--csv"]
-    if len(words) != 2 or words[0] not in EVENTS or words[1] not in ("1", "2", "3", "4"):
-        sys.exit(__doc__)
-    said, fault, status = replay(sys.stdin.buffer.read(), words[0], int(words[1]),
-                                 "--csv" in sys.argv)
+    words = running.Words(__doc__)
+    words.add_argument("event", choices=EVENTS, metavar="EVENT")
+    words.add_argument("round", type=int, choices=range(1, 5), metavar="ROUND")
+    words.add_argument("--csv", action="store_true")
+    given = words.parse_args()
+    said, fault, status = replay(sys.stdin.buffer.read(), given.event, given.round, given.csv)
     sys.stdout.buffer.write(said)
     sys.stderr.buffer.write(fault)
     return status

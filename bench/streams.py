@@ -10,6 +10,11 @@ and what is behind them. It knows nothing of desks, so it tells nothing of answe
 
 import sys
 from collections import Counter
+from pathlib import Path
+
+sys.dont_write_bytecode = True
+sys.path.append(str(Path(__file__).resolve().parent.parent / "scripts"))
+import running
 
 WORD = (1 << 64) - 1
 KINDS = [1, 1, 2, 2, 3, 3, 4, 5, 6, 7, 16, 16, 17, 18, 19, 36]
@@ -162,7 +167,11 @@ def served(seed):
 
 
 def main():
-    first, count = int(sys.argv[1]), int(sys.argv[2])
+    words = running.Words(__doc__)
+    words.add_argument("first", type=int, metavar="FIRST")
+    words.add_argument("count", type=running.count, metavar="COUNT")
+    given = words.parse_args()
+    first, count = given.first, given.count
     seen = [served(seed) for seed in range(first, first + count)]
     ends = Counter(end for _, end in seen)
     print(f"{count} streams, each as its whole frames alone")

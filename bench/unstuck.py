@@ -14,11 +14,15 @@ With `--histories H` it prints the first H cases as histories for `desk hall` in
 counts: headings, each a line `# DESKS TITLE`, with a script behind each. Standard library only.
 """
 
-import argparse
 import copy
 import random
+import sys
+from pathlib import Path
 
+sys.dont_write_bytecode = True
+sys.path.append(str(Path(__file__).resolve().parent.parent / "scripts"))
 import hall_rules
+import running
 from hall_rules import Desk, Refused, happen
 
 
@@ -275,7 +279,7 @@ def cases(rng, worlds):
 
 
 def main():
-    parser = argparse.ArgumentParser()
+    parser = running.Words(__doc__)
     parser.add_argument("--worlds", type=int, default=1000)
     parser.add_argument("--seed", type=int, default=1)
     parser.add_argument("--histories", type=int, default=0)

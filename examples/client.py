@@ -1,6 +1,7 @@
 #!/usr/bin/env python3
 """A client of a desk, written from docs/FORMATS.md ('Frames on the wire') with Python's standard
-library alone. Its words, output, fault lines and statuses are those of `desk`:
+library alone. Its words, output, fault lines and statuses are those of `desk`; where the words are
+not understood it says so in one line:
 
     examples/client.py enter --hall 7 --desk 1 --to 127.0.0.1:7001 5 'ENT 333 1'
     examples/client.py ask   --hall 7 --desk 1 --to 127.0.0.1:7001 5
@@ -8,6 +9,7 @@ library alone. Its words, output, fault lines and statuses are those of `desk`:
 """
 
 import argparse
+import re
 import socket
 import struct
 import sys
@@ -23,6 +25,7 @@ TAKEN, TOLD, SHEET_TEXT, REFUSED, FINE = 32, 33, 34, 35, 36
 FIRST, SECOND, CLIENT = 1, 2, 0  # versions of the wire; a client's number
 LEAST, MOST = 8, 300_000  # the values of a frame's length
 NO_ANSWER = "no answer", 4
+NOT_UNDERSTOOD = 2  # the status, at wrong words and at `--help`
 
 
 class Fault(Exception):
@@ -112,32 +115,63 @@ def stop(given):
     return bare(STOP, given)
 
 
+class Words(argparse.ArgumentParser):
+    """The parser of words, whose every end is a status of 2."""
+
+    def __init__(self, **more):
+        super().__init__(allow_abbrev=False, **more)
+
+    def error(self, message):
+        self.exit(message=f"error: {message}\n")
+
+    def exit(self, status=NOT_UNDERSTOOD, message=None):
+        super().exit(NOT_UNDERSTOOD, message)
+
+
+def in_range(low, high):
+    """How a number is read: without sign, without leading zeros, and in its range."""
+    def number(text):
+        if not re.fullmatch("0|[1-9][0-9]*", text) or not low <= int(text) <= high:
+            raise argparse.ArgumentTypeError(f"{text} is no number from {low} to {high}")
+        return int(text)
+    return number
+
+
 def words():
-    parser = argparse.ArgumentParser(description="Asks a desk.")
+    parser = Words(description="Asks a desk.")
     does = parser.add_subparsers(required=True)
     for run in (enter, ask, sheet, tick, stop):
         word = does.add_parser(run.__name__)
         word.set_defaults(run=run)
-        word.add_argument("--hall", type=int, required=True)
-        word.add_argument("--desk", type=int, required=True)
+        word.add_argument("--hall", type=in_range(0, 2**32 - 1), required=True)
+        word.add_argument("--desk", type=in_range(0, 255), required=True)
         word.add_argument("--to", required=True, metavar="ADDR")
         if run in (enter, ask):
-            word.add_argument("id", type=int)
+            word.add_argument("id", type=in_range(1, 2**63 - 1))
         if run is enter:
             word.add_argument("text")
         if run is sheet:
             word.add_argument("event", choices=EVENTS)
-            word.add_argument("round", type=int, choices=range(1, 5))
-            word.add_argument("position", type=int)
+            word.add_argument("round", type=in_range(1, 4))
+            word.add_argument("position", type=in_range(0, 2**32 - 1))
             word.add_argument("--csv", action="store_true")
     return parser.parse_args()
+
+
+def write(text):
+    """Writes to standard output."""
+    try:
+        with open(1, "wb", closefd=False) as output:
+            output.write(text)
+    except OSError:
+        raise Fault("cannot write", 4) from None
 
 
 def main():
     try:
         if not 1 <= (given := words()).desk <= 5:
             raise Fault("bad desk number", 3)
-        sys.stdout.buffer.write(given.run(given))
+        write(given.run(given))
     except Fault as fault:
         text, status = fault.args
         print(text, file=sys.stderr)

@@ -1,0 +1,70 @@
+"""What the checks and the benchmarks share: how their words are read, and that their programs are
+there.
+
+`--help` shows a script's own first text. A wrong word, and a program that is not there, end the
+script in one line on standard error, with status 2.
+"""
+
+import argparse
+import os
+import shutil
+import sys
+from pathlib import Path
+
+TOP = Path(__file__).resolve().parent.parent
+
+
+def program(path):
+    """The path of a program that can be run."""
+    if not (os.path.isfile(path) and os.access(path, os.X_OK)):
+        raise argparse.ArgumentTypeError(f"{path} is no program (./desk and ./board build theirs)")
+    return os.path.abspath(path)
+
+
+def count(text):
+    """A number of things, one at least."""
+    if int(text) < 1:
+        raise ValueError
+    return int(text)
+
+
+def built(crate):
+    """Where the program of a crate stands once it is built."""
+    return str(TOP / "crates" / crate / "out" / crate)
+
+
+class Words(argparse.ArgumentParser):
+    """The words of the script that has this text."""
+
+    def __init__(self, text):
+        name = os.path.relpath(os.path.realpath(sys.argv[0]), TOP)
+        super().__init__(prog=name, description=text, allow_abbrev=False,
+                         formatter_class=argparse.RawDescriptionHelpFormatter)
+
+    def error(self, message):
+        self.exit(2, f"{self.prog}: {message}\n")
+
+    def add_program(self, word="program", crate="desk"):
+        """A word for a program: where none is given it is the one that was built."""
+        self.add_argument(word, nargs="?", type=program, default=built(crate),
+                          metavar=word.upper())
+
+    def need(self, command):
+        """Ends the script where a command that it runs is not on the path."""
+        if shutil.which(command) is None:
+            self.error(f"{command} is not on the path")
+
+    def have_built(self, *crates):
+        """Ends the script where a program that it runs was not built."""
+        try:
+            for crate in crates:
+                program(built(crate))
+        except argparse.ArgumentTypeError as fault:
+            self.error(fault)
+
+
+def desk(text):
+    """The program of a script whose one word is a program."""
+    words = Words(text)
+    words.add_program()
+    return words.parse_args().program
