@@ -1,6 +1,6 @@
 -- An archive as it is written, line after line.
 use Rattle.std.proofs.Common.{◌≡◌, ℕ, ◌+◌, ◌<◌, ◌≤◌, zero, suc, List, [], ◌∷◌, ◌++◌, length, get_or, take, drop, ◌⊎◌, inl, inr, Option, None, Some, refl, sym, ap, ◌∙◌, append_assoc, append-nil, subst, drop-cons, arith, below_more}
-use Rattle.std.specs.Prelude.{slice_get}
+use Rattle.std.specs.Prelude.{Result, Ok, Err, OnErr, slice_get}
 use Rattle.std.specs.List.{All}
 use Rattle.std.specs.Io.KnownBytes.{Appends}
 use Rattle.std.proofs.KnownBytes.{Appends-nil}
@@ -124,3 +124,11 @@ ends es pos old mid new out a past last =
 pub all_short : (es : List Entry) (pos : ℕ) (old new : Option (List ℕ)) (out : List ℕ)
     → Archived es pos old new out → length es ≤ pos → All (λ e. IsText e.text) es
 all_short es pos old new out a past = λ k d less. a.short k (omega arith) d
+
+-- what follows where the lines are not written
+pub if_unwritten : {A E P Q : Type 0} (r : Result A E) → (P → Q) → OnErr r P → OnErr r Q
+if_unwritten (Ok a) f h = h
+if_unwritten (Err e) f h = f h
+
+pub stopped_by : {A E P : Type 0} (r : Result A E) (e : E) → r ≡ Err e → P → OnErr r P
+stopped_by {A} {E} {P} r e is h = subst (λ x. OnErr x P) (sym is) h

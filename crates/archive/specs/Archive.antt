@@ -1,4 +1,5 @@
--- The archive of a log: the lines that `replay` reads in the log's place.
+-- The archive of a log, a format of this project's own: the lines that `replay` reads in the log's
+-- place.
 use Rattle.std.specs.Prelude.{ℕ, ◌==◌, Bool, not, ◌&&◌, if◌then◌else◌, List, [], ◌∷◌, ◌++◌}
 use Rattle.std.specs.Prelude.{flat_map}
 use Rattle.std.specs.List.{list_any}

@@ -94,15 +94,8 @@ pub fn write_log<W: Write>(alloc: Global, log: &Log, writer: &mut W) -> Result<(
         let Some(entry) = log.entry(pos) else {
             continue;
         };
-        let Ok(()) = push_line(&mut out, log, pos, entry) else {
-            return Err(RunFault::NoMemory);
-        };
-        let Ok(()) = write_long(writer, &mut out) else {
-            return Err(RunFault::Write);
-        };
+        push_line(&mut out, log, pos, entry)?;
+        write_long(writer, &mut out)?;
     }
-    match write_out(writer, &mut out) {
-        Ok(()) => Ok(()),
-        Err(_) => Err(RunFault::Write),
-    }
+    write_out(writer, &mut out)
 }

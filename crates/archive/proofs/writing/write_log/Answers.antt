@@ -1,22 +1,31 @@
-use Rattle.std.proofs.Common.{[], sym, refl}
+use Rattle.std.proofs.Common.{[], sym, refl, rules}
 use Rattle.std.proofs.KnownBytes.{Appends-nil}
-use Rattle.archive.proofs.Archived.{one_more, unwritten}
+use Rattle.lines.specs.declared.fault.RunFault.TheVariants as run_fault
+use Rattle.archive.proofs.Archived.{one_more, forgotten, unwritten, if_unwritten, stopped_by}
 use Rattle.archive.proofs.writing.write_log.Goals as goal
 
-pub returns-in_default-write_long-clause-err : goal.returns-in_default-write_long-clause-err
-returns-in_default-write_long-clause-err g c =
+pub returns-in_err-push_line-clause-err : goal.returns-in_err-push_line-clause-err
+returns-in_err-push_line-clause-err g c =
+    stopped_by c.from_residual.result run_fault.NoMemory (search rules)
+    (forgotten _ _ _ _ _ c.loop-pos.invariant)
+
+pub returns-in_err-write_long-clause-err : goal.returns-in_err-write_long-clause-err
+returns-in_err-write_long-clause-err g c =
     let more = one_more _ _ _ _ _ (g.W.Write.contents c.loop-pos.writer) _ _
     c.push_line.new.out.items c.loop-pos.invariant (sym c.in-Some.ensures)
-    c.in-Ok.ensures.short (c.in-Ok.ensures.line (sym c.in-Some.ensures))
+    c.in_ok-push_line.ensures.short (c.in_ok-push_line.ensures.line (sym c.in-Some.ensures))
     ([], record { parts = refl; written = Appends-nil _ }) in
-    unwritten _ _ _ _ _ _ more c.in_default-write_long.ensures.err
+    stopped_by c.from_residual-in_err-write_long.result run_fault.Write (search rules)
+    (unwritten _ _ _ _ _ _ more c.in_err-write_long.ensures.err)
 
 pub loop-pos-preserved : goal.loop-pos-preserved
 loop-pos-preserved g c =
     one_more _ _ _ _ _ (g.W.Write.contents c.write_long.new.writer) _ _
     c.write_long.new.text.items c.loop-pos.invariant (sym c.in-Some.ensures)
-    c.in-Ok.ensures.short (c.in-Ok.ensures.line (sym c.in-Some.ensures))
-    c.in-Ok-write_long.ensures.ok
+    c.in_ok-push_line.ensures.short (c.in_ok-push_line.ensures.line (sym c.in-Some.ensures))
+    c.in_ok-write_long.ensures.ok
 
 pub returns-clause-err : goal.returns-clause-err
-returns-clause-err g c = unwritten _ _ _ _ _ _ c.loop-pos.invariant c.in-Err.ensures.err
+returns-clause-err g c =
+    if_unwritten c.write_out.result (unwritten _ _ _ _ _ _ c.loop-pos.invariant)
+    c.write_out.ensures.err
