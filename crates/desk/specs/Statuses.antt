@@ -8,7 +8,8 @@ use Rattle.lines.specs.declared.fault.RunFault.{RunFault}
 use Rattle.lines.specs.declared.fault.RunFault.TheVariants as run
 use Rattle.replay.specs.Replay.{Run, Replays, ReplayFails}
 use Rattle.hall.specs.Halls.{Run as HallRun, Runs, RunFails}
-use Rattle.batch.specs.Entering.{EntersAll, EntersSome, Sides}
+use Rattle.batch.specs.Asking.{IsOfAsking}
+use Rattle.batch.specs.Entering.{EntersAll, Sides, StopsBy}
 use Rattle.batch.specs.declared.fault.BatchFault.{BatchFault}
 use Rattle.batch.specs.declared.fault.BatchFault.TheVariants as batch
 use Rattle.batch.specs.declared.lines_entered.Batch.{Batch}
@@ -98,17 +99,26 @@ fault_of_log stored.Device = fault.StoreDevice
 fault_of_log stored.Write = fault.Write
 fault_of_log stored.NoMemory = fault.NoMemory
 
+-- what was written of an archive at each fault: nothing where the file is damaged or can't be read
+abbrev pub PrintsAtMost : LogFault → Option (List ℕ) → Option (List ℕ) → Type 0
+PrintsAtMost stored.Damaged old new = Keeps old new
+PrintsAtMost stored.Device old new = Keeps old new
+PrintsAtMost stored.Write old new = PrintsLogPart old new
+PrintsAtMost stored.NoMemory old new = PrintsLogPart old new
+
 -- the archive of a log was written, or a part of it
 abbrev pub EndsLog : ℕ → Option (List ℕ) → Option (List ℕ) → Type 0
 EndsLog status old new =
     ((status ≡ 0) × PrintsLog old new)
-    ⊎ ((e : LogFault) × (status ≡ status_of (fault_of_log e)) × PrintsLogPart old new)
+    ⊎ ((e : LogFault) × (status ≡ status_of (fault_of_log e)) × PrintsAtMost e old new)
 
--- the desk's number is none, and nothing was read or written; or some lines were entered
+-- the desk's number is none, and nothing was read or written; or the lines of a front part were
+-- entered, and the fault stopped the next one, or came of reading or printing
 abbrev pub FailsLines : DeskFault → Batch → Sides → Type 0
 FailsLines f b s =
     ((f ≡ fault.BadDesk) × (¬ IsDesk b.receiver.desk) × Keeps s.had s.left × Keeps s.old s.new)
-    ⊎ ((e : BatchFault) × (f ≡ fault_of_batch e) × IsDesk b.receiver.desk × EntersSome b s)
+    ⊎ ((e : BatchFault) × (f ≡ fault_of_batch e) × IsDesk b.receiver.desk
+    × StopsBy IsOfAsking e b s)
 
 -- all lines were entered, or not
 abbrev pub EndsLines : ℕ → Batch → Sides → Type 0

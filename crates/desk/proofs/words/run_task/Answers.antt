@@ -1,7 +1,24 @@
 use Rattle.std.proofs.Common.{inr, sym, subst, ap, ◌∙◌}
 use Rattle.std.proofs.KnownBytes.{Keeps-refl}
 use Rattle.desk.specs.Statuses.{Ends, status_of}
+use Rattle.desk.proofs.Endings.{prints_at_most}
 use Rattle.desk.proofs.words.run_task.Goals as goal
+
+pub returns-in-Err-write_stored_log-clause-ends : goal.returns-in-Err-write_stored_log-clause-ends
+returns-in-Err-write_stored_log-clause-ends g c =
+    let had = g.R.Read.remaining c.args.reader.now in
+    let old = g.W.Write.contents c.args.writer.now in
+    let new = g.W.Write.contents c.write_stored_log.new.writer in
+    let status = c.tell-in-Err-write_stored_log.result in
+    subst (λ t. Ends t status had had old new) (sym c.in-Log.is) (
+      Keeps-refl had,
+      inr (
+        c.in-Err-write_stored_log.fault,
+        c.tell-in-Err-write_stored_log.ensures ∙ ap status_of c.from.ensures,
+        prints_at_most c.in-Err-write_stored_log.fault _ _ old new
+            c.in-Err-write_stored_log.ensures.fails c.in-Err-write_stored_log.ensures.err,
+      ),
+    )
 
 pub returns-in-Err-serve-clause-ends : goal.returns-in-Err-serve-clause-ends
 returns-in-Err-serve-clause-ends g c =
