@@ -7,8 +7,9 @@ use std::time::Duration;
 
 /// A listener for clients over TCP.
 ///
-/// Answers are sent at once (`TCP_NODELAY`). Where there is a patience, a read that waits longer for
-/// bytes of the client fails, and so does a write that waits longer for the client to take bytes.
+/// Answers are sent at once (`TCP_NODELAY`). Where there is a patience, a read that waits longer
+/// for bytes of the client fails, and so does a write that waits longer for the client to take
+/// bytes.
 #[derive(Drop)]
 pub struct Listener {
     listener: TcpListener,
