@@ -13,7 +13,7 @@ use Rattle.sheets.specs.declared.Style.TheVariants.{Text, Table}
 use Rattle.sheets.specs.Sheet.{sheet}
 use Rattle.lines.specs.Lines.{is_line, lines_of}
 use Rattle.replay.specs.Replay.{entries, sheet_after}
-use Rattle.world.specs.Answers.{texts, sheet_at}
+use Rattle.answers.specs.Answers.{texts, sheet_at}
 use Rattle.archive.specs.Archive.{has_id, lines_behind, archive, archive_text}
 use Rattle.archive.specs.Replayed.{IsLog, IsReplayed}
 use Rattle.archive.proofs.Parting.{is_short, lines-joined, joined-within}

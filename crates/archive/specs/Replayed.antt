@@ -11,7 +11,7 @@ use Rattle.commands.specs.History.{history, answer_to}
 use Rattle.sheets.specs.declared.Style.{Style}
 use Rattle.lines.specs.Lines.{is_within, lines_of}
 use Rattle.replay.specs.Replay.{entries, sheet_after}
-use Rattle.world.specs.Answers.{texts, sheet_at}
+use Rattle.answers.specs.Answers.{texts, sheet_at}
 use Rattle.archive.specs.Archive.{has_id, line_of, archive, archive_text}
 
 -- at most 65,536 entries, and no text above 600 bytes

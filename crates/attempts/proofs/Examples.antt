@@ -1,7 +1,7 @@
 -- Values at the borders, computed from the definition.
 use Rattle.std.proofs.Common.{◌≡◌, refl, codes, None, Some}
 use Rattle.std.specs.Fmt.{digits}
-use Rattle.fmc_check.specs.declared.Fm.TheVariants as fm
+use Rattle.attempts.specs.declared.Fm.TheVariants as fm
 use Rattle.attempts.specs.declared.Outcome.TheVariants as outcome
 use Rattle.attempts.specs.declared.Unit.TheVariants as measure
 use Rattle.attempts.specs.declared.Value.TheVariants as value

@@ -3,9 +3,8 @@
 -- the project's own.
 use Rattle.std.specs.Prelude.{◌≡◌, ℕ, ◌+◌, ◌-◌, ◌*◌, ◌/◌, ◌≤◌, Bool, false, ◌&&◌, nat_le}
 use Rattle.std.specs.Prelude.{if◌then◌else◌, Option, None, Some}
-use Rattle.fmc_check.specs.declared.Fm.{Fm}
-use Rattle.fmc_check.specs.declared.Fm.TheVariants as fm
-use Rattle.fmc_check.specs.Fewest.{IsResult}
+use Rattle.attempts.specs.declared.Fm.{Fm}
+use Rattle.attempts.specs.declared.Fm.TheVariants as fm
 use Rattle.attempts.specs.declared.Outcome.{Outcome}
 use Rattle.attempts.specs.declared.Outcome.TheVariants as outcome
 use Rattle.attempts.specs.declared.Unit.{Unit as Measure}
@@ -62,6 +61,11 @@ value_of limit (outcome.Solution result) = solution_value result
 value_of limit (outcome.Multi solved attempted seconds) = multi_value solved attempted seconds
 value_of limit outcome.Dnf = value.Dnf
 value_of limit outcome.Dns = value.Dns
+
+-- a result of fewest moves is at most 80 moves
+abbrev pub IsResult : Fm → Type 0
+IsResult (fm.Moves n) = n ≤ 80
+IsResult fm.Dnf = Unit {0}
 
 -- what a judge may enter
 abbrev pub IsOutcome : Outcome → Type 0

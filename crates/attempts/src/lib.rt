@@ -15,7 +15,6 @@ ghost use Rattle.attempts.specs.declared.Unit.TheVariants.{Multi};
 mod laws;
 mod print;
 
-use fmc_check::Fm;
 pub use laws::{multi_blind_is_ordered, multi_blind_reads_back};
 pub use print::{print_value, push_decimal, push_two_digits};
 pub use std::alloc::AllocError as NoMemory;
@@ -25,6 +24,15 @@ const MOST: u32 = 2_000_000;
 
 /// The greatest number of multi-blind: no point, all of the time, and as many unsolved as can be.
 const MOST_OF_MULTI: u32 = 990_599_949;
+
+/// The result of a solution of fewest moves.
+#[derive(Clone, Copy, Debug, PartialEq, Eq)]
+pub enum Fm {
+    /// 0 to 80 moves in the outer block turn metric.
+    Moves(u32),
+    /// Did not solve the scramble, or has more than 80 moves, rotations included.
+    Dnf,
+}
 
 /// What a judge enters for one attempt.
 #[derive(Clone, Copy, Debug, PartialEq, Eq)]

@@ -1,6 +1,7 @@
 -- Only a run that was done has status 0, and what was written of an archive at a fault.
 use Rattle.std.proofs.Common.{◌≡◌, ℕ, List, Option, inl, inr, arith}
-use Rattle.desk.specs.Statuses.{PrintsAtMost, RunsNothing}
+use Rattle.desk.specs.Statuses.{PrintsAtMost}
+use Rattle.errands.specs.Statuses.{RunsNothing}
 use Rattle.sqlite.specs.Recovery.{Image}
 use Rattle.stored_log.specs.StoredLogs.{FailsLog, PrintsLogPart}
 use Rattle.stored_log.specs.declared.fault.LogFault.{LogFault}

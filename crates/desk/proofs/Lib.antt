@@ -1,4 +1,1 @@
-pub mod Building
-pub mod Carrying
 pub mod Endings
-pub mod Found

@@ -1,4 +1,1 @@
-pub mod Arguments
-pub mod Asking
-pub mod Errands
 pub mod Statuses

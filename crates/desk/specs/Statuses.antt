@@ -1,17 +1,11 @@
 -- What an exit status says of the run.
 use Rattle.std.specs.Prelude.{◌≡◌, ◌⊎◌, ℕ, List, Option}
-use Rattle.std.specs.Io.KnownBytes.{Keeps, Appends}
-use Rattle.client.specs.declared.fault.ClientFault.{ClientFault}
-use Rattle.client.specs.declared.fault.ClientFault.TheVariants as client
-use Rattle.lines.specs.Bytes.{HasLeft, AppendsPart}
+use Rattle.std.specs.Io.KnownBytes.{Keeps}
+use Rattle.lines.specs.Bytes.{HasLeft}
 use Rattle.lines.specs.declared.fault.RunFault.{RunFault}
-use Rattle.lines.specs.declared.fault.RunFault.TheVariants as run
 use Rattle.replay.specs.Replay.{Run, Replays, ReplayFails}
 use Rattle.hall.specs.Halls.{Run as HallRun, Runs, RunFails}
-use Rattle.batch.specs.Asking.{IsOfAsking}
-use Rattle.batch.specs.Entering.{EntersAll, Sides, StopsBy}
-use Rattle.batch.specs.declared.fault.BatchFault.{BatchFault}
-use Rattle.batch.specs.declared.fault.BatchFault.TheVariants as batch
+use Rattle.batch.specs.Entering.{EntersAll, Sides}
 use Rattle.batch.specs.declared.lines_entered.Batch.{Batch}
 use Rattle.wire.specs.Ranges.{IsDesk}
 use Rattle.stored_log.specs.StoredLogs.{PrintsLog, PrintsLogPart}
@@ -20,53 +14,15 @@ use Rattle.stored_log.specs.declared.fault.LogFault.TheVariants as stored
 use Rattle.serve.specs.Printing.{Prints, PrintsAt, output}
 use Rattle.serve.specs.declared.fault.ServeFault.{ServeFault}
 use Rattle.serve.specs.declared.fault.ServeFault.TheVariants as serve
-use Rattle.serve.specs.declared.service.Service.{Service}
-use Rattle.desk.specs.Asking.{Asks}
-use Rattle.desk.specs.Errands.{DoesErrand, FailsErrand}
-use Rattle.desk.specs.declared.faults.DeskFault.{DeskFault}
-use Rattle.desk.specs.declared.faults.DeskFault.TheVariants as fault
-use Rattle.desk.specs.declared.task.Errand.{Errand}
-use Rattle.desk.specs.declared.task.Task.{Task}
-use Rattle.desk.specs.declared.task.Task.TheVariants as task
-
-abbrev pub status_of : DeskFault → ℕ
-status_of fault.NoSuchRound = 3
-status_of fault.InputTooLong = 3
-status_of (fault.BadLine line) = 3
-status_of fault.BadCount = 3
-status_of fault.BadDesk = 3
-status_of fault.TextTooLong = 3
-status_of (fault.Refused refusal) = 3
-status_of fault.Read = 4
-status_of fault.Write = 4
-status_of fault.CannotConnect = 4
-status_of fault.NoAnswer = 4
-status_of fault.WrongDesk = 3
-status_of fault.DamagedStore = 3
-status_of fault.StoreDevice = 4
-status_of fault.StoreDown = 4
-status_of fault.CannotListen = 4
-status_of fault.NoMoreIds = 3
-status_of fault.StillPending = 3
-status_of fault.Lost = 3
-status_of fault.NoMemory = 5
-
--- the fault of a run over lines, as the program names it
-abbrev pub fault_of_run : RunFault → DeskFault
-fault_of_run run.NoSuchRound = fault.NoSuchRound
-fault_of_run run.BadCount = fault.BadCount
-fault_of_run run.InputTooLong = fault.InputTooLong
-fault_of_run (run.BadLine line) = fault.BadLine line
-fault_of_run run.Read = fault.Read
-fault_of_run run.Write = fault.Write
-fault_of_run run.NoMemory = fault.NoMemory
-
--- the fault of a request to a desk
-abbrev pub fault_of_client : ClientFault → DeskFault
-fault_of_client (client.Refused refusal) = fault.Refused refusal
-fault_of_client client.NoAnswer = fault.NoAnswer
-fault_of_client client.Write = fault.Write
-fault_of_client client.NoMemory = fault.NoMemory
+use Rattle.service.specs.declared.Service.{Service}
+use Rattle.arguments.specs.Asking.{Asks}
+use Rattle.errands.specs.Errands.{DoesErrand, FailsErrand}
+use Rattle.errands.specs.Statuses.{FailsLines, RunsNothing, fault_of_run, status_of}
+use Rattle.errands.specs.declared.faults.DeskFault.{DeskFault}
+use Rattle.errands.specs.declared.faults.DeskFault.TheVariants as fault
+use Rattle.arguments.specs.declared.task.Errand.{Errand}
+use Rattle.arguments.specs.declared.task.Task.{Task}
+use Rattle.arguments.specs.declared.task.Task.TheVariants as task
 
 -- the fault of a desk that serves
 abbrev pub fault_of_serve : ServeFault → DeskFault
@@ -79,18 +35,6 @@ fault_of_serve serve.CannotListen = fault.CannotListen
 fault_of_serve serve.Down = fault.StoreDown
 fault_of_serve serve.Write = fault.Write
 fault_of_serve serve.NoMemory = fault.NoMemory
-
--- the fault of lines that are entered
-abbrev pub fault_of_batch : BatchFault → DeskFault
-fault_of_batch (batch.Lines e) = fault_of_run e
-fault_of_batch batch.TextTooLong = fault.TextTooLong
-fault_of_batch batch.NoMoreIds = fault.NoMoreIds
-fault_of_batch batch.CannotConnect = fault.CannotConnect
-fault_of_batch (batch.Asking e) = fault_of_client e
-fault_of_batch batch.StillPending = fault.StillPending
-fault_of_batch batch.Lost = fault.Lost
-fault_of_batch batch.Write = fault.Write
-fault_of_batch batch.NoMemory = fault.NoMemory
 
 -- the fault of a stored log
 abbrev pub fault_of_log : LogFault → DeskFault
@@ -111,14 +55,6 @@ abbrev pub EndsLog : ℕ → Option (List ℕ) → Option (List ℕ) → Type 0
 EndsLog status old new =
     ((status ≡ 0) × PrintsLog old new)
     ⊎ ((e : LogFault) × (status ≡ status_of (fault_of_log e)) × PrintsAtMost e old new)
-
--- the desk's number is none, and nothing was read or written; or the lines of a front part were
--- entered, and the fault stopped the next one, or came of reading or printing
-abbrev pub FailsLines : DeskFault → Batch → Sides → Type 0
-FailsLines f b s =
-    ((f ≡ fault.BadDesk) × (¬ IsDesk b.receiver.desk) × Keeps s.had s.left × Keeps s.old s.new)
-    ⊎ ((e : BatchFault) × (f ≡ fault_of_batch e) × IsDesk b.receiver.desk
-    × StopsBy IsOfAsking e b s)
 
 -- all lines were entered, or not
 abbrev pub EndsLines : ℕ → Batch → Sides → Type 0
@@ -149,14 +85,6 @@ abbrev pub EndsServe : ℕ → Service → Option (List ℕ) → Option (List �
 EndsServe status s old new =
     ((status ≡ 0) × Prints s (output old new))
     ⊎ ((e : ServeFault) × (status ≡ status_of (fault_of_serve e)) × PrintsAt e s (output old new))
-
--- nothing was run: the words were refused or asked for help, whose text was written; or writing it
--- failed, or memory ran out
-abbrev pub RunsNothing : ℕ → Option (List ℕ) → Option (List ℕ) → Type 0
-RunsNothing status old new =
-    ((status ≡ 2) × (text : List ℕ) × Appends old new text)
-    ⊎ ((status ≡ 4) × (text : List ℕ) × AppendsPart old new text)
-    ⊎ ((status ≡ 5) × Keeps old new)
 
 -- how a task ended: of the bytes that the reader had and has left, and of those that were written
 abbrev pub Ends : Task → ℕ → (had left old new : Option (List ℕ)) → Type 0

@@ -1,26 +1,12 @@
 //! The results desk of a speedcubing competition.
 #![tactic(auto)]
 
-mod arguments;
-mod ask_words;
-mod enter_lines_words;
-mod enter_words;
-mod entering;
-mod errands;
-mod faults;
-mod hall_words;
-mod log_words;
-mod replay_words;
-mod serve_words;
-mod sheet_words;
-mod stop_words;
-mod task;
-mod tick_words;
 mod words;
 
+use errands::tell_no_words;
 use std::process::ExitCode;
 use std::{env, io};
-use words::{run_given, tell_no_words};
+use words::run_given;
 
 fn main(rt: HostRuntime) -> ExitCode {
     let alloc = rt.alloc();

@@ -1,106 +1,45 @@
-//! The words of the program: what they ask for, and how it ends.
+//! The words of the program: what is done of what they ask for, and how it ends.
 
-ghost use Rattle.std.specs.Prelude.{◌≡◌, ◌≢◌, false, map, IfOk, IfErr, OnOk};
-ghost use Rattle.std.specs.Prelude.{string_bytes};
-ghost use Rattle.std.specs.IoError.{error_kind};
+ghost use Rattle.std.specs.Prelude.{◌≡◌, map, string_bytes};
 ghost use Rattle.std.specs.Io.KnownBytes.{Keeps};
-ghost use Rattle.clap.specs.Words.{app_of, subcommand_of, subcommand_rows_of, with_subcommand};
-ghost use Rattle.clap.specs.declared.builder.command.Command.TheViews.{out-Command as fields_of};
-ghost use Rattle.desk.specs.Asking.{Parsers, desk_words, named_app, HasIds};
-ghost use Rattle.desk.specs.Statuses.{Ends, Ran, fault_of_run, status_of};
+ghost use Rattle.arguments.specs.Asking.{HasIds};
+ghost use Rattle.desk.specs.Statuses.{Ends, Ran, fault_of_log, fault_of_serve};
 
-use crate::ask_words::ask_command;
-use crate::enter_lines_words::enter_lines_command;
-use crate::enter_words::enter_command;
-use crate::entering::enter_all;
-use crate::errands::carry;
-use crate::faults::{DeskFault, tell, tell_bad_number, tell_words};
-use crate::hall_words::hall_command;
-use crate::log_words::log_command;
-use crate::replay_words::replay_command;
-use crate::serve_words::serve_command;
-use crate::sheet_words::sheet_command;
-use crate::stop_words::stop_command;
-use crate::task::{Task, task_of};
-use crate::tick_words::tick_command;
-use clap::{ArgMatches, Command, Error};
+use arguments::{Task, parse, task_of, words_of};
+use errands::{DeskFault, carry, enter_all, tell, tell_bad_number, tell_run, tell_words};
 use hall::hall;
-use lines::{RunFault, write_text};
 use replay::replay;
-use serve::serve;
+use serve::{ServeFault, serve};
 use sqlite::Unknown;
-use std::alloc::{AllocError, Global};
-use std::io;
-use std::io::{ErrorKind, Read, Write};
-use stored_log::write_stored_log;
+use std::io::{Read, Write};
+use stored_log::{LogFault, write_stored_log};
 
-const ABOUT: &str = "The results desk of a speedcubing competition.";
-
-const VERSION: &str = "0.1.0";
-
-const STATUSES: &str = "\
-Exit status: 0 done; 2 the words are not understood, or ask for help or the version; 3 a named
-refusal; 4 a device failed; 5 no memory.
-
-Standard error gets one line for a status of 3, 4 or 5. Words that are not understood get a
-line that says what is wrong with them, and lines with a hint, the usage and the word --help.";
-
-/// The words of the program, without its subcommands.
-fn own_command<'a>(alloc: Global) -> Command<'a>
-    ensures { app_of result ≡ named_app }
+/// The fault of a desk that serves.
+fn fault_of_serve(fault: ServeFault) -> DeskFault
+    ensures { result ≡ fault_of_serve fault }
 {
-    Command::new(alloc, "desk")
-        .about(ABOUT)
-        .version(VERSION)
-        .after_help(STATUSES)
-        .subcommand_required(true)
+    match fault {
+        ServeFault::BadCount => DeskFault::BadCount,
+        ServeFault::BadDesk => DeskFault::BadDesk,
+        ServeFault::WrongDesk => DeskFault::WrongDesk,
+        ServeFault::Damaged => DeskFault::DamagedStore,
+        ServeFault::Device => DeskFault::StoreDevice,
+        ServeFault::CannotListen => DeskFault::CannotListen,
+        ServeFault::Down => DeskFault::StoreDown,
+        ServeFault::Write => DeskFault::Write,
+        ServeFault::NoMemory => DeskFault::NoMemory,
+    }
 }
 
-/// The command with one more subcommand.
-fn with<'a>(command: Command<'a>, sub: Command<'a>) -> Result<Command<'a>, AllocError>
-    requires { (fields_of sub).has_globals ≡ false }
-    ensures { IfOk result
-        (λ c. app_of c ≡ with_subcommand (app_of command.entry) (app_of sub.entry).top) }
+/// The fault of a stored log.
+fn fault_of_log(fault: LogFault) -> DeskFault
+    ensures { result ≡ fault_of_log fault }
 {
-    command.subcommand(sub)
-}
-
-/// The words of the program.
-fn command<'a>(alloc: Global) -> Result<Command<'a>, AllocError>
-    ensures { IfOk result (λ command. (p : Parsers) × (app_of command ≡ desk_words p)) }
-{
-    let command = own_command(alloc);
-    let command = with(command, replay_command(alloc)?)?;
-    let command = with(command, hall_command(alloc)?)?;
-    let command = with(command, serve_command(alloc)?)?;
-    let command = with(command, log_command(alloc)?)?;
-    let command = with(command, enter_command(alloc)?)?;
-    let command = with(command, enter_lines_command(alloc)?)?;
-    let command = with(command, ask_command(alloc)?)?;
-    let command = with(command, sheet_command(alloc)?)?;
-    let command = with(command, tick_command(alloc)?)?;
-    with(command, stop_command(alloc)?)
-}
-
-/// Parses the words.
-fn parse<'a>(alloc: Global, words: &'a [&'a str]) -> Result<ArgMatches<'a>, Error>
-    ensures { IfOk result (λ matches. (p : Parsers)
-        × (subcommand_rows_of matches
-        ≡ subcommand_of (desk_words p) (map (λ word. word.now) words.now))) }
-{
-    let command = command(alloc)?;
-    command.try_get_matches_from(words)
-}
-
-/// Gives the status of a run over lines, and writes the line of its fault.
-fn tell_run<F: Write>(faults: &mut F, ran: Result<(), RunFault>) -> u8
-    ensures ok { OnOk ran (result ≡ 0) }
-    ensures err { IfErr ran (λ e. result ≡ status_of (fault_of_run e)) }
-    ensures quiet { result ≡ 0 → Keeps (F.contents faults.old) (F.contents faults.new) }
-{
-    match ran {
-        Ok(()) => 0,
-        Err(fault) => tell(faults, DeskFault::from(fault)),
+    match fault {
+        LogFault::Damaged => DeskFault::DamagedStore,
+        LogFault::Device => DeskFault::StoreDevice,
+        LogFault::Write => DeskFault::Write,
+        LogFault::NoMemory => DeskFault::NoMemory,
     }
 }
 
@@ -140,11 +79,11 @@ fn run_task<R: Read, W: Write, F: Write>(
         },
         Task::Log { store } => match write_stored_log(rt, store, Unknown, writer) {
             Ok(()) => 0,
-            Err(fault) => tell(faults, DeskFault::from(fault)),
+            Err(fault) => tell(faults, fault_of_log(fault)),
         },
         Task::Serve { service } => match serve(rt, service, Unknown, writer) {
             Ok(()) => 0,
-            Err(fault) => tell(faults, DeskFault::from(fault)),
+            Err(fault) => tell(faults, fault_of_serve(fault)),
         },
     }
 }
@@ -179,18 +118,6 @@ pub fn run_words<'a, R: Read, W: Write, F: Write>(
     run_task(rt, task, reader, writer, faults)
 }
 
-/// The words of these texts.
-fn words_of<'a>(alloc: Global, texts: &'a [String]) -> Result<Vec<&'a str>, AllocError>
-    ensures { IfOk result
-        (λ words. map (λ word. word.now) words.items ≡ map string_bytes texts.now) }
-{
-    let mut words = Vec::new(alloc);
-    for text in texts {
-        words.push(text.as_str())?;
-    }
-    Ok(words)
-}
-
 /// Runs the words that the program was given: as [`run_words`].
 pub fn run_given<R: Read, W: Write, F: Write>(
     rt: &HostRuntime,
@@ -207,16 +134,4 @@ pub fn run_given<R: Read, W: Write, F: Write>(
         return tell(faults, DeskFault::NoMemory);
     };
     run_words(rt, &words, reader, writer, faults)
-}
-
-/// Answers words that could not be had: memory ran out, or they are not text.
-pub fn tell_no_words<F: Write>(error: &io::Error, faults: &mut F) -> u8
-    ensures memory { error_kind error.now ≡ ErrorKind.OutOfMemory → result ≡ 5 }
-    ensures words { error_kind error.now ≢ ErrorKind.OutOfMemory → result ≡ 2 }
-{
-    if error.kind() == ErrorKind::OutOfMemory {
-        return tell(faults, DeskFault::NoMemory);
-    }
-    let _ = write_text(faults, b"error: the words are not UTF-8 text\n");
-    2
 }

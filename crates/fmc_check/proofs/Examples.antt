@@ -8,7 +8,7 @@ use Rattle.cube.specs.declared.moves.Quarter.{Quarter}
 use Rattle.cube.specs.declared.moves.Quarter.TheVariants.{Clockwise, Half, Anticlockwise}
 use Rattle.cube.specs.declared.moves.Move.{Move}
 use Rattle.cube.specs.Turns.{turned}
-use Rattle.fmc_check.specs.declared.Fm.TheVariants.{Moves, Dnf}
+use Rattle.attempts.specs.declared.Fm.TheVariants.{Moves, Dnf}
 use Rattle.fmc_check.specs.Fewest.{is_solved, is_solution, result_of}
 
 abbrev made : Kind → Quarter → Move

@@ -8,8 +8,8 @@ use Rattle.cube.specs.declared.moves.Colour.{Colour}
 use Rattle.cube.specs.declared.moves.Move.{Move}
 use Rattle.cube.specs.Turns.{after, first_arrangement, IsSolved}
 use Rattle.notation.specs.Notation.{turn_count}
-use Rattle.fmc_check.specs.declared.Fm.{Fm}
-use Rattle.fmc_check.specs.declared.Fm.TheVariants.{Moves, Dnf}
+use Rattle.attempts.specs.declared.Fm.{Fm}
+use Rattle.attempts.specs.declared.Fm.TheVariants.{Moves, Dnf}
 use Rattle.fmc_check.specs.Fewest.{final, Solves, is_solved, is_solution, result_of, TestsSolved, TestsSolution}
 
 both_of : (a b : Bool) → (a && b) ≡ true → (a ≡ true) × (b ≡ true)

@@ -8,8 +8,8 @@ use Rattle.cube.specs.declared.moves.Move.{Move}
 use Rattle.cube.specs.Stickers.{Zero, Sticker, sticker_on, stickers, side_of}
 use Rattle.cube.specs.Turns.{after, first_arrangement, colour_at, code, IsSolved}
 use Rattle.notation.specs.Notation.{turn_count}
-use Rattle.fmc_check.specs.declared.Fm.{Fm}
-use Rattle.fmc_check.specs.declared.Fm.TheVariants.{Moves, Dnf}
+use Rattle.attempts.specs.declared.Fm.{Fm}
+use Rattle.attempts.specs.declared.Fm.TheVariants.{Moves, Dnf}
 
 -- the arrangement after the scramble and then the solution, from the first one
 abbrev pub final : List Move → List Move → List Colour
@@ -43,11 +43,6 @@ is_solution scramble solution = nat_le (length solution) 80 && is_solved (final 
 unfoldable pub result_of : List Move → List Move → Fm
 result_of scramble solution =
     if is_solution scramble solution then Moves (turn_count solution) else Dnf
-
--- a result is at most 80 moves
-abbrev pub IsResult : Fm → Type 0
-IsResult (Moves n) = n ≤ 80
-IsResult Dnf = Unit {0}
 
 -- the test of an arrangement
 abbrev pub TestsSolved : List Colour → Type 0

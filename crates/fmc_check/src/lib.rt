@@ -4,25 +4,18 @@
 ghost use Rattle.std.specs.Prelude.{◌≡◌, ◌≤◌, ◌↔◌, IsTrue, length};
 ghost use Rattle.cube.specs.Turns.{after};
 ghost use Rattle.notation.specs.Notation.{turn_count};
-ghost use Rattle.fmc_check.specs.Fewest.{Solves, result_of, IsResult};
+ghost use Rattle.attempts.specs.Attempts.{IsResult};
+ghost use Rattle.fmc_check.specs.Fewest.{Solves, result_of};
 
 mod laws;
 
+pub use attempts::Fm;
 use cube::{Cube, Move};
 pub use laws::{solution_is_tested, solved_is_tested};
 use notation::count;
 
 /// The most moves that a solution may have, rotations included (WCA Regulations, article E).
 pub const MOST_MOVES: usize = 80;
-
-/// The result of a solution of fewest moves.
-#[derive(Clone, Copy, Debug, PartialEq, Eq)]
-pub enum Fm {
-    /// 0 to 80 moves in the outer block turn metric.
-    Moves(u32),
-    /// Did not solve the scramble, or has more than 80 moves, rotations included.
-    Dnf,
-}
 
 /// The result of a solution against its scramble.
 ///

@@ -10,9 +10,9 @@ use Rattle.acceptor.specs.declared.message.Body.{Body}
 use Rattle.acceptor.specs.declared.message.Body.TheVariants.{Prepare, Promise, Accept, Accepted}
 use Rattle.acceptor.specs.declared.message.Body.TheVariants.{Nack, Behind, Decided}
 use Rattle.acceptor.specs.declared.message.Message.{Message}
-use Rattle.world.specs.declared.faults.NodeFault.{NodeFault}
-use Rattle.world.specs.declared.faults.NodeFault.TheVariants.{Busy, LogFull, BallotsSpent, NoMemory}
-use Rattle.world.specs.declared.faults.NodeFault.TheVariants.{Down}
+use Rattle.roles.specs.declared.faults.NodeFault.{NodeFault}
+use Rattle.roles.specs.declared.faults.NodeFault.TheVariants.{Busy, LogFull, BallotsSpent, NoMemory}
+use Rattle.roles.specs.declared.faults.NodeFault.TheVariants.{Down}
 
 -- a number as a field: a space and the number in decimal
 abbrev pub number_field : ℕ → List ℕ

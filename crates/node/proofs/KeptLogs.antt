@@ -3,6 +3,7 @@ use Rattle.std.proofs.Common.{◌≡◌, ◌⊎◌, inl, inr, ℕ, zero, suc, �
 use Rattle.std.proofs.lemmas.List.{append-nil, take-append-le}
 use Rattle.std.proofs.lemmas.Option.{slice_get_within}
 use Rattle.acceptor.specs.declared.entry.Entry.{Entry}
+use Rattle.acceptor.specs.declared.message.Message.{Message}
 use Rattle.acceptor.specs.declared.stored.Change.{Change}
 use Rattle.acceptor.specs.declared.stored.Change.TheVariants.{Promised, Voted, Tried, Appended}
 use Rattle.acceptor.specs.Storing.{log_after}
@@ -18,9 +19,13 @@ use Rattle.learner.specs.Logs.{position_of}
 use Rattle.learner.specs.Steps.{Done as DoneStep, done, idle, is_heeded, on_body, passed, planned, step}
 use Rattle.texts.specs.declared.answer.Answer.{Answer}
 use Rattle.commands.specs.History.{History, StandsFor, history, answer_to}
-use Rattle.world.specs.Answers.{texts, told, told_at, told_by}
-use Rattle.world.specs.declared.answers.Told.TheVariants.{Done}
-use Rattle.world.proofs.Prefixes.{texts_after}
+use Rattle.answers.specs.Answers.{texts, told, told_at, told_by}
+use Rattle.answers.specs.declared.answers.Told.TheVariants.{Done}
+use Rattle.answers.proofs.Prefixes.{texts_after}
+use Rattle.replica.specs.Handles.{Handles}
+use Rattle.roles.specs.declared.faults.NodeFault.{NodeFault}
+use Rattle.roles.specs.declared.faults.NodeFault.TheVariants.{Down}
+use Rattle.replica.specs.Nodes.{NodeValue, KeeperWords}
 use Rattle.node.specs.declared.kept_meet.KeptMeet.{KeptMeet}
 use Rattle.node.specs.model.KeptMeets.{IsKeptOf}
 
@@ -80,6 +85,27 @@ step_grows n d x Start r h =
 step_grows n d x Tick r h = planned_grows x (tick n d x.stored (length x.log) (passing x)) r h
 step_grows n d x (Deliver m) r h =
     heeded_grows x (on_body n d x m.from m.body) (is_heeded n d m) r h
+
+-- a call of a replica that is answered Ok is a step, at a desk that is not down
+answered_grows : {K : Type 0} (k : KeeperWords K) (old : NodeValue K) (event : Event)
+    (messages : List Message) (new : NodeValue K) → Handles k old event (Ok messages) new
+    → IsPrefix old.desk.log new.desk.log
+answered_grows k old event messages new h = go old.is_down refl
+  where
+    is_err : (a : List Message) (b : NodeFault) → Ok a ≡ Err b → ⊥
+    is_err a b same = cc
+
+    go : (b : Bool) → old.is_down ≡ b → IsPrefix old.desk.log new.desk.log
+    go true down = absurd (is_err messages Down (h.ended down).0)
+    go false up =
+        let home = k.home_of old.keeper in
+        step_grows home.desks home.desk old.desk event _ (h.takes up).ok
+
+pub handled_grows : {K : Type 0} (k : KeeperWords K) (old : NodeValue K) (event : Event)
+    (result : Result (List Message) NodeFault) (messages : List Message) (new : NodeValue K)
+    → result ≡ Ok messages → Handles k old event result new → IsPrefix old.desk.log new.desk.log
+handled_grows k old event result messages new is h =
+    answered_grows k old event messages new (subst (λ r. Handles k old event r new) is h)
 
 -- Nothing is kept yet
 

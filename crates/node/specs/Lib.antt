@@ -1,10 +1,2 @@
-pub use Rattle.world.specs.Faults
-pub use Rattle.world.specs.Answers
-pub use Rattle.world.specs.Opening
-pub use Rattle.world.specs.WorldValues
-pub use Rattle.world.specs.Headline
-pub mod Nodes
-pub mod Handles
-pub mod Opens
-pub mod Stops
+pub mod Seeing
 pub mod model

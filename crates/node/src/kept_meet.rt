@@ -3,17 +3,17 @@
 ghost use Rattle.std.specs.Prelude.{◌≡◌, ◌≤◌, ◌+◌, IfOk, IfErr, OnOk, OnErr, List, Some, length};
 ghost use Rattle.std.specs.Prelude.{slice_get};
 ghost use Rattle.acceptor.specs.declared.entry.Entry.{Entry as EntryValue};
-ghost use Rattle.world.specs.Answers.{told, sheet_at, NoSheetAt};
+ghost use Rattle.answers.specs.Answers.{told, sheet_at, NoSheetAt};
 ghost use Rattle.node.specs.model.KeptMeets.{IsKeptOf};
 
 use acceptor::NoMemory;
 use acceptor::entry::Entry;
+use answers::answers::{answer_of, sheet_in, sheet_of};
+use answers::{SheetFault, Told};
 use commands::{Answer, Meet};
 use learner::log::Log;
 use sheets::Style;
 use std::alloc::Global;
-use world::answers::{Told, answer_of, sheet_in, sheet_of};
-use world::faults::SheetFault;
 
 /// The meet that the first entries of a log come to, and what each of them was answered.
 ///
@@ -36,21 +36,12 @@ impl Drop for KeptMeet {
 
 impl KeptMeet {
     /// No entry is taken yet.
-    fn new(alloc: Global) -> Result<Self, NoMemory>
+    pub(crate) fn new(alloc: Global) -> Result<Self, NoMemory>
         ensures { IfOk result (λ kept. (log : List EntryValue) → IsKeptOf kept log) }
     {
         let meet = Meet::new(alloc)?;
         let answers = Vec::new(alloc);
         Ok(KeptMeet { meet, answers })
-    }
-
-    /// What the entries of a log have come to, up to the first for which memory is refused.
-    pub(crate) fn of(alloc: Global, log: &Log) -> Result<Self, NoMemory>
-        ensures { IfOk result (λ kept. IsKeptOf kept log.now.entries) }
-    {
-        let mut kept = KeptMeet::new(alloc)?;
-        kept.catch_up(log);
-        Ok(kept)
     }
 
     /// Takes the entries of the log that lack, up to the first for which memory is refused.

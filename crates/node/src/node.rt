@@ -1,46 +1,36 @@
-//! One desk of a hall, over the store that keeps its state.
+//! One desk of a hall: its replicated log, and what the log's entries have come to.
 
-ghost use Rattle.std.specs.Prelude.{◌≡◌, ◌≢◌, ◌⊎◌, ◌↔◌, ◌≤◌, ◌<◌, List, Err, Result, Some, true};
-ghost use Rattle.std.specs.Prelude.{false, IsOk, IfOk, OnOk, IfErr, IsTrue, length};
-ghost use Rattle.acceptor.specs.declared.entry.Entry.{Entry as EntryValue};
-ghost use Rattle.acceptor.specs.declared.stored.Stored.{Stored as State};
-ghost use Rattle.store.specs.Keeping.{HoldsOnly};
+ghost use Rattle.std.specs.Prelude.{◌≡◌, ◌⊎◌, ◌≤◌, Err, Some, IfOk, OnOk, IfErr, length};
+ghost use Rattle.answers.specs.Answers.{told, sheet_at, NoSheetAt};
+ghost use Rattle.node.specs.model.KeptMeets.{IsKeptOf};
+ghost use Rattle.replica.specs.Handles.{Handles};
+ghost use Rattle.replica.specs.Nodes.{words};
+ghost use Rattle.replica.specs.Opens.{Opens, GivesBack};
 ghost use Rattle.store.specs.Ranges.{IsHome};
-ghost use Rattle.world.specs.Answers.{told, sheet_at, NoSheetAt};
-ghost use Rattle.world.specs.Opening.{opened};
-ghost use Rattle.node.specs.Nodes.{words};
-ghost use Rattle.node.specs.Handles.{Handles, Takes, HoldsBeforeOrAfter, IsIgnored, FitInFrames};
-ghost use Rattle.node.specs.Handles.{step_at};
-ghost use Rattle.node.specs.Opens.{Opens, GivesBack};
 
-use crate::entries::look_at_all;
-use crate::handling::take_event;
 use crate::kept_meet::KeptMeet;
 use acceptor::NoMemory;
 use acceptor::message::Messages;
+use answers::{SheetFault, Told};
 use learner::event::Event;
 use learner::log::Log;
+use replica::{NodeFault, Replica};
 use sheets::Style;
 use std::alloc::Global;
 use std::marker::Model;
 use store::faults::LoadFault;
 use store::home::Home;
 use store::keeper::Keeper;
-use world::answers::Told;
-use world::faults::{NodeFault, SheetFault};
-use world::running::Running;
 
-/// One desk of a hall, over a keeper. It takes one event at a time.
+/// One desk of a hall, over a keeper. It takes one event at a time, and answers from its log.
 ///
 /// What is said of the store stands under the keeper's premise, `is_honest`: so far the store has
 /// given back what was written to it, and nobody else has written it. A keeper in memory needs
 /// none.
 pub struct Node<K: Keeper> {
     alloc: Global,
-    keeper: K,
-    desk: Running,
+    replica: Replica<K>,
     kept: KeptMeet,
-    is_down: bool,
 }
 
 // It is written out, so that a caller does not prove again how each part is dropped.
@@ -48,30 +38,22 @@ impl<K: Keeper + Drop> Drop for Node<K> {
     fn drop(self) {
         let Node {
             alloc: _,
-            keeper: _,
-            desk: _,
+            replica: _,
             kept: _,
-            is_down: _,
         } = self;
     }
 }
 
 impl<K: Keeper> Model for Node<K> {
-    ghost use Rattle.std.specs.Prelude.{◌≡◌, false};
-    ghost use Rattle.node.specs.Nodes.{NodeValue};
+    ghost use Rattle.replica.specs.Nodes.{NodeValue};
 
     ghost Value = { NodeValue K };
 
-    ghost view = { λ n. record { keeper = n.keeper; desk = n.desk.desk; is_down = n.is_down } };
+    ghost view = { λ n. n.replica };
 
     ghost use Rattle.node.specs.model.KeptMeets.{IsKeptOf};
 
-    ghost invariant = { λ n. ((K.home_of n.keeper).desk ≡ n.desk.number)
-        × ((K.home_of n.keeper).desks ≡ n.desk.desks)
-        × (n.is_down ≡ false → K.is_down n.keeper ≡ false)
-        × (n.is_down ≡ false → K.is_honest n.keeper
-        → K.keeps n.keeper n.desk.desk.stored n.desk.desk.log)
-        × IsKeptOf n.kept n.desk.desk.log };
+    ghost invariant = { λ n. IsKeptOf n.kept n.replica.desk.log };
 }
 
 impl<K: Keeper + Drop> Node<K> {
@@ -112,60 +94,19 @@ impl<K: Keeper + Drop> Node<K> {
         ensures refused { IfErr result (λ e. (e.0 ≡ LoadFault.NoMemory)
             ⊎ K.load_gives keeper (Err e.0) e.1) }
     {
-        Node::load(alloc, keeper)
-    }
-
-    /// The same, clause by clause.
-    fn load(alloc: Global, keeper: K) -> Result<Node<K>, (LoadFault, K)>
-        ensures up { IfOk result (λ node. node.is_down ≡ false) }
-        ensures first { IfOk result (λ node. node.desk ≡ opened node.desk.stored node.desk.log) }
-        ensures loaded { IfOk result (λ node. K.is_honest node.keeper
-            → K.may_hold keeper node.desk.stored node.desk.log) }
-        ensures same { IfOk result (λ node. K.is_honest node.keeper
-            → (s : State) (log : List EntryValue) → K.keeps keeper s log
-            → (node.desk.stored ≡ s) × (node.desk.log ≡ log)) }
-        ensures stored { IfOk result (λ node. K.is_honest node.keeper
-            → HoldsOnly (K.may_hold node.keeper) (K.may_break node.keeper)
-            node.desk.stored node.desk.log) }
-        ensures honest { IfOk result (λ node. K.is_honest node.keeper → K.is_honest keeper) }
-        ensures home { IfOk result (λ node. K.home_of node.keeper ≡ K.home_of keeper) }
-        ensures back_honest { IfErr result (λ e. K.is_honest e.1 → K.is_honest keeper) }
-        ensures back_home { IfErr result (λ e. K.home_of e.1 ≡ K.home_of keeper) }
-        ensures back_no_other { IfErr result (λ e. K.is_honest e.1
-            → (s : State) (log : List EntryValue)
-            → K.may_hold e.1 s log → K.may_hold keeper s log) }
-        ensures back_whole { IfErr result (λ e. K.is_honest e.1
-            → K.may_break e.1 → K.may_break keeper) }
-        ensures back_memory { IfErr result (λ e. e.0 ≡ LoadFault.NoMemory → K.is_honest e.1
-            → (s : State) (log : List EntryValue) → K.keeps keeper s log → K.keeps e.1 s log) }
-        ensures back_counted { IfErr result (λ e. e.0 ≡ LoadFault.Device
-            → K.failures_of keeper < K.failures_of e.1) }
-        ensures back_uncounted { IfErr result (λ e. e.0 ≢ LoadFault.Device
-            → K.failures_of e.1 ≡ K.failures_of keeper) }
-        ensures back_down { IfErr result (λ e. e.0 ≢ LoadFault.Device
-            → IsTrue (K.is_down e.1) → IsTrue (K.is_down keeper)) }
-        ensures refused { IfErr result (λ e. (e.0 ≡ LoadFault.NoMemory)
-            ⊎ K.load_gives keeper (Err e.0) e.1) }
-    {
-        let mut keeper = keeper;
-        let home = keeper.home();
-        match keeper.load(alloc) {
-            Ok((stored, log)) => match Running::new(alloc, home.desk, home.desks, stored, log) {
-                Ok(desk) => {
-                    let Ok(kept) = KeptMeet::of(alloc, desk.log()) else {
-                        return Err((LoadFault::NoMemory, keeper));
-                    };
-                    Ok(Node {
-                        alloc,
-                        keeper,
-                        desk,
-                        kept,
-                        is_down: false,
-                    })
-                }
-                Err(_) => Err((LoadFault::NoMemory, keeper)),
-            },
-            Err(fault) => Err((fault, keeper)),
+        let Ok(mut kept) = KeptMeet::new(alloc) else {
+            return Err((LoadFault::NoMemory, keeper));
+        };
+        match Replica::open_or_give_back(alloc, keeper) {
+            Ok(replica) => {
+                kept.catch_up(replica.log());
+                Ok(Node {
+                    alloc,
+                    replica,
+                    kept,
+                })
+            }
+            Err(refused) => Err(refused),
         }
     }
 
@@ -174,14 +115,14 @@ impl<K: Keeper + Drop> Node<K> {
         ensures home { result ≡ K.home_of self.now.keeper }
         ensures in_range { IsHome result }
     {
-        self.keeper.home()
+        self.replica.home()
     }
 
     /// Whether the desk is Down: a save has failed, and `handle` answers Down to each event.
     pub fn is_down(&self) -> bool
         ensures { result ≡ self.now.is_down }
     {
-        self.is_down
+        self.replica.is_down()
     }
 
     /// How many entries wait to be proposed, 0 to 64.
@@ -189,7 +130,7 @@ impl<K: Keeper + Drop> Node<K> {
         ensures queued { result ≡ length self.now.desk.queue }
         ensures most { result ≤ 64 }
     {
-        self.desk.queue().len() as u8
+        self.replica.queue().len() as u8
     }
 
     /// Takes an event: does the step of the protocol, with its one change committed to the store
@@ -213,47 +154,10 @@ impl<K: Keeper + Drop> Node<K> {
             (words K.home_of K.failures_of K.is_down K.is_honest K.keeps K.may_hold K.may_break)
             self.old event result self.new }
     {
-        self.take(event)
-    }
-
-    /// The same, clause by clause.
-    fn take(&mut self, event: Event) -> Result<Messages, NodeFault>
-        ensures ended { self.old.is_down ≡ true
-            → (result ≡ Err NodeFault.Down) × (self.new ≡ self.old) }
-        ensures takes { let home = K.home_of self.old.keeper in let x = self.old.desk in
-            self.old.is_down ≡ false
-            → Takes (step_at home x event) home.desks home.desk x self.new.desk result }
-        ensures entries { IfOk result FitInFrames }
-        ensures ignored { let home = K.home_of self.old.keeper in
-            self.old.is_down ≡ false → IsIgnored home.desks home.desk self.old.desk event
-            → IsOk result × (self.new.keeper ≡ self.old.keeper) }
-        ensures down { (result ≡ Err NodeFault.Down) ↔ (self.new.is_down ≡ true) }
-        ensures counted { self.old.is_down ≡ false → result ≡ Err NodeFault.Down
-            → K.failures_of self.old.keeper < K.failures_of self.new.keeper }
-        ensures uncounted { result ≢ Err NodeFault.Down
-            → K.failures_of self.new.keeper ≡ K.failures_of self.old.keeper }
-        ensures stored { self.new.is_down ≡ false → K.is_honest self.new.keeper
-            → HoldsOnly (K.may_hold self.new.keeper) (K.may_break self.new.keeper)
-            self.new.desk.stored self.new.desk.log }
-        ensures left { let home = K.home_of self.old.keeper in let x = self.old.desk in
-            self.old.is_down ≡ false → self.new.is_down ≡ true → K.is_honest self.new.keeper
-            → HoldsBeforeOrAfter (K.may_hold self.new.keeper) (K.may_break self.new.keeper) x
-            (step_at home x event) }
-        ensures honest { K.is_honest self.new.keeper → K.is_honest self.old.keeper }
-        ensures home { K.home_of self.new.keeper ≡ K.home_of self.old.keeper }
-    {
-        if self.is_down {
-            return Err(NodeFault::Down);
-        }
-        match take_event(self.alloc, &mut self.keeper, &mut self.desk, event) {
+        match self.replica.handle(event) {
             Ok(messages) => {
-                look_at_all(messages.as_slice());
-                self.kept.catch_up(self.desk.log());
+                self.kept.catch_up(self.replica.log());
                 Ok(messages)
-            }
-            Err(NodeFault::Down) => {
-                self.is_down = true;
-                Err(NodeFault::Down)
             }
             Err(fault) => Err(fault),
         }
@@ -265,7 +169,7 @@ impl<K: Keeper + Drop> Node<K> {
         ensures entries { result.now.entries ≡ self.now.desk.log }
         ensures most { length self.now.desk.log ≤ 65536 }
     {
-        self.desk.log()
+        self.replica.log()
     }
 
     /// What has become of a submitted id, by this desk's log and queue, also where the desk is
@@ -274,7 +178,7 @@ impl<K: Keeper + Drop> Node<K> {
         ensures { IfOk result (λ answer. answer ≡ told self.now.desk.log self.now.desk.queue id) }
     {
         self.kept
-            .told(self.alloc, self.desk.log(), self.desk.queue(), id)
+            .told(self.alloc, self.replica.log(), self.replica.queue(), id)
     }
 
     /// The result sheet of a round, after the log's first `position` entries, also where the desk
@@ -297,7 +201,13 @@ impl<K: Keeper + Drop> Node<K> {
             (λ fault. NoSheetAt fault self.now.desk.log position
             (sheet_at style self.now.desk.log position event round)) }
     {
-        self.kept
-            .sheet(self.alloc, self.desk.log(), position, event, round, style)
+        self.kept.sheet(
+            self.alloc,
+            self.replica.log(),
+            position,
+            event,
+            round,
+            style,
+        )
     }
 }

@@ -12,9 +12,9 @@ use Rattle.sqlite.specs.Tree.{Trees}
 use Rattle.acceptor.specs.Storing.{first_stored}
 use Rattle.acceptor.specs.declared.entry.Entry.{Entry}
 use Rattle.acceptor.specs.declared.stored.Stored.{Stored}
-use Rattle.node.specs.Handles.{Handles}
-use Rattle.node.specs.Nodes.{NodeValue, KeeperWords}
-use Rattle.node.specs.Opens.{Opens as OpensNode}
+use Rattle.replica.specs.Handles.{Handles}
+use Rattle.replica.specs.Nodes.{NodeValue, KeeperWords}
+use Rattle.replica.specs.Opens.{Opens as OpensNode}
 use Rattle.store.specs.Holding.{Holds}
 use Rattle.store.specs.Kept.{Keeps}
 use Rattle.store.specs.Layout.{no_schema}
@@ -28,7 +28,7 @@ use Rattle.serve.specs.Files.{HasNoTable, HeldBy, IsFirst, IsOpenedOn}
 use Rattle.serve.specs.Printing.{IsOfListener, Output, home_of}
 use Rattle.serve.specs.Serves.{FailsServing, IsHindered, IsRun, Serves, Turn, standing, turn, unheard}
 use Rattle.serve.specs.declared.fault.ServeFault.{ServeFault}
-use Rattle.serve.specs.declared.service.Service.{Service}
+use Rattle.service.specs.declared.Service.{Service}
 
 -- what a connection holds that is new is the last commit
 bare_before : (c : State) → IsFresh c → IsLive c → c.now.schema ≡ no_schema

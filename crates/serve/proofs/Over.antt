@@ -13,7 +13,7 @@ use Rattle.serve.specs.Printing.{Hinders, IsAllowed, IsOfListener, IsOfStore, Is
 use Rattle.serve.specs.Serves.{FailsServing, HasServed, IsCutOff, Serves, ServesTo, Turn, turn, unheard}
 use Rattle.serve.specs.declared.fault.ServeFault.{ServeFault}
 use Rattle.serve.specs.declared.fault.ServeFault.TheVariants as fault
-use Rattle.serve.specs.declared.service.Service.{Service}
+use Rattle.service.specs.declared.Service.{Service}
 
 few_served : {V : Type 0} {way : Way V} (t : Turn) (a b : Standing way) (served : ServedAll)
     → HasServed served t a b → served.connections ≤ t.most

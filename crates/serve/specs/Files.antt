@@ -7,11 +7,11 @@ use Rattle.sqlite.specs.Tree.{Trees}
 use Rattle.acceptor.specs.Storing.{first_stored}
 use Rattle.acceptor.specs.declared.entry.Entry.{Entry}
 use Rattle.acceptor.specs.declared.stored.Stored.{Stored}
-use Rattle.node.specs.Nodes.{NodeValue, KeeperWords}
+use Rattle.replica.specs.Nodes.{NodeValue, KeeperWords}
 use Rattle.store.specs.Holding.{Holds}
 use Rattle.store.specs.Layout.{no_schema}
 use Rattle.store.specs.declared.home.Home.{Home}
-use Rattle.node.specs.Opening.{opened}
+use Rattle.roles.specs.Opening.{opened}
 
 -- a database that has no table
 abbrev pub HasNoTable : Trees → Type 0

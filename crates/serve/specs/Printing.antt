@@ -10,7 +10,7 @@ use Rattle.store.specs.declared.faults.OpenFault.TheVariants as opening
 use Rattle.store.specs.declared.home.Home.{Home}
 use Rattle.serve.specs.declared.fault.ServeFault.{ServeFault}
 use Rattle.serve.specs.declared.fault.ServeFault.TheVariants as fault
-use Rattle.serve.specs.declared.service.Service.{Service}
+use Rattle.service.specs.declared.Service.{Service}
 
 -- which desk it is, of how many, and how long its log is
 abbrev pub first_line : Home → ℕ → List ℕ

@@ -3,8 +3,9 @@ use Rattle.std.specs.Prelude.{◌≡◌, ◌⊎◌, ℕ, List, length, Option, N
 use Rattle.std.specs.Io.KnownBytes.{Appends, Keeps}
 use Rattle.sqlite.specs.Recovery.{Image}
 use Rattle.lines.specs.Bytes.{AppendsPart}
-use Rattle.node.specs.Handles.{Handles}
-use Rattle.node.specs.Nodes.{NodeValue, KeeperWords}
+use Rattle.replica.specs.Handles.{Handles}
+use Rattle.node.specs.Seeing.{seen_of}
+use Rattle.replica.specs.Nodes.{NodeValue, KeeperWords}
 use Rattle.serving.specs.Making.{Way, speaking, spoken}
 use Rattle.sockets.specs.Listening.{Listened}
 use Rattle.sockets.specs.Visits.{Standing, Visit, IsServedAll, standing_of}
@@ -16,7 +17,7 @@ use Rattle.serve.specs.Files.{IsOpenedOn}
 use Rattle.serve.specs.Printing.{Hinders, Output, first_line, both_lines, home_of}
 use Rattle.serve.specs.declared.fault.ServeFault.{ServeFault}
 use Rattle.serve.specs.declared.fault.ServeFault.TheVariants as fault
-use Rattle.serve.specs.declared.service.Service.{Service}
+use Rattle.service.specs.declared.Service.{Service}
 
 -- what came of listening before and afterwards, where it is told
 pub record Heard : Type 0 where
@@ -87,7 +88,7 @@ unheard = heard None None
 -- a node between two connections, where nothing is told of what the other desks were handed
 abbrev pub standing : {K : Type 0} → (k : KeeperWords K) → (wire : ℕ) → NodeValue K
     → Standing (speaking (Handles k) (spoken wire))
-standing k wire node = standing_of (speaking (Handles k) (spoken wire)) node None
+standing k wire node = standing_of (speaking (Handles k) (spoken wire)) seen_of node None
 
 -- The desk that was opened on these files served so: from what it was then, with the length of its
 -- log in the first line, to what it was at the end.

@@ -3,9 +3,9 @@
 #![tactic(auto)]
 
 mod fault;
+mod home;
 mod opening;
 mod running;
-mod service;
 mod telling;
 
 pub use fault::ServeFault;

@@ -5,7 +5,7 @@ ghost use Rattle.sqlite.specs.Files.{file_state, IsOpened};
 ghost use Rattle.sqlite.specs.Start.{FindsIn};
 ghost use Rattle.sqlite.specs.State.{HasCleanDisk};
 ghost use Rattle.sqlite.specs.WalFiles.{image_at};
-ghost use Rattle.node.specs.Nodes.{words};
+ghost use Rattle.replica.specs.Nodes.{words};
 ghost use Rattle.store.specs.Ranges.{IsHome};
 ghost use Rattle.serve.specs.Files.{IsOpenedOn};
 ghost use Rattle.serve.specs.Printing.{IsOfStore};

@@ -2,8 +2,9 @@
 
 ghost use Rattle.std.specs.Prelude.{◌≡◌, ◌⊎◌, None, length, IfErr, OnOk};
 ghost use Rattle.std.specs.Io.KnownBytes.{Keeps};
-ghost use Rattle.node.specs.Handles.{Handles};
-ghost use Rattle.node.specs.Nodes.{words};
+ghost use Rattle.node.specs.Seeing.{seen_of};
+ghost use Rattle.replica.specs.Handles.{Handles};
+ghost use Rattle.replica.specs.Nodes.{words};
 ghost use Rattle.serving.specs.Making.{speaking, spoken};
 ghost use Rattle.sockets.specs.Visits.{standing_of};
 ghost use Rattle.wire.specs.Laws.{IsVersion};
@@ -13,10 +14,11 @@ ghost use Rattle.serve.specs.Serves.{standing, turn, unheard};
 ghost use Rattle.sqlite.specs.WalFiles.{image_at};
 
 use crate::fault::ServeFault;
+use crate::home::home_of;
 use crate::opening::open_desk;
-use crate::service::{Service, home_of};
 use crate::telling::{tell_first, tell_last};
 use node::Node;
+use service::Service;
 use serving::Peers;
 use sockets::{Accept, AllEnd, Listener, SocketPeers, serve_all};
 use sqlite::{FileFrom, FileStore, Start};
@@ -65,8 +67,8 @@ pub fn serve_node<K: Keeper + Drop, A: Accept, P: Peers, W: Write>(
         (turn (K.home_of node.old.keeper) most (length node.old.desk.log)
         (output (W.contents writer.old) (W.contents writer.new))
         (heard (A.listened listener.old) (A.listened listener.new)))
-        (standing_of way node.old (P.handed peers.old))
-        (standing_of way node.new (P.handed peers.new))) }
+        (standing_of way seen_of node.old (P.handed peers.old))
+        (standing_of way seen_of node.new (P.handed peers.new))) }
     ensures err { let way = speaking (Handles
         (words K.home_of K.failures_of K.is_down K.is_honest K.keeps K.may_hold K.may_break))
         (spoken wire) in
@@ -74,8 +76,8 @@ pub fn serve_node<K: Keeper + Drop, A: Accept, P: Peers, W: Write>(
         (turn (K.home_of node.old.keeper) most (length node.old.desk.log)
         (output (W.contents writer.old) (W.contents writer.new))
         (heard (A.listened listener.old) (A.listened listener.new)))
-        (standing_of way node.old (P.handed peers.old))
-        (standing_of way node.new (P.handed peers.new))) }
+        (standing_of way seen_of node.old (P.handed peers.old))
+        (standing_of way seen_of node.new (P.handed peers.new))) }
 {
     if let Err(fault) = tell_first(alloc, writer, node.home(), node.log().len()) {
         return Err(fault);

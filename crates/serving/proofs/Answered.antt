@@ -9,7 +9,8 @@ use Rattle.store.specs.declared.home.Home.{Home}
 use Rattle.serving.specs.Making.{Way, Outside, outside_of, Makes}
 use Rattle.serving.specs.Answering.{answer_of, answer_first, standing, told_what, printed}
 use Rattle.serving.specs.model.Requests.{Answers, AnswersSome, FailsToAnswer}
-use Rattle.serving.specs.Nodes.{Seen, Fate, reply}
+use Rattle.answers.specs.Seen.{Seen}
+use Rattle.serving.specs.Nodes.{Fate, reply}
 use Rattle.serving.specs.model.Reaching.{at, service, Reaches, DoesPart, DoesTake}
 use Rattle.serving.specs.Serving.{Act, Service, first_fate, take, begun, served, answer, pushes_of, seen_after}
 use Rattle.serving.specs.declared.calling.Answer.{Answer}

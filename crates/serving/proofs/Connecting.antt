@@ -13,7 +13,8 @@ use Rattle.serving.specs.declared.ends.End.{End}
 use Rattle.serving.specs.declared.ends.End.TheVariants as end
 use Rattle.serving.specs.declared.ends.FrameFault.{FrameFault}
 use Rattle.serving.specs.declared.ends.FrameFault.TheVariants as fault
-use Rattle.serving.specs.Nodes.{Seen, Fate}
+use Rattle.answers.specs.Seen.{Seen}
+use Rattle.serving.specs.Nodes.{Fate}
 use Rattle.serving.specs.Serving.{Act}
 use Rattle.serving.specs.Connection.{Begun, frames_of, Outcome, serve_frame, serve_frames, close_of, then_others, StaysOpen, answer_bytes, Sides, FailsIn, IsServed, Serves, Closes, Fails}
 use Rattle.serving.specs.model.Requests.{ServesOne}

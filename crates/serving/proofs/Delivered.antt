@@ -6,7 +6,8 @@ use Rattle.acceptor.specs.declared.message.Message.{Message}
 use Rattle.store.specs.declared.home.Home.{Home}
 use Rattle.serving.specs.Adding.{Push}
 use Rattle.serving.specs.Making.{Way, Outside, outside_of, Makes}
-use Rattle.serving.specs.Nodes.{Seen, Fate, reply}
+use Rattle.answers.specs.Seen.{Seen}
+use Rattle.serving.specs.Nodes.{Fate, reply}
 use Rattle.serving.specs.declared.calling.Answer.{Answer}
 use Rattle.serving.specs.declared.request.Run.{Run}
 use Rattle.serving.specs.declared.request.Request.TheVariants.{Learned}

@@ -14,11 +14,12 @@ use Rattle.serving.specs.Answering.{answer_of}
 use Rattle.serving.specs.Serving.{waiting_after}
 use Rattle.serving.specs.declared.calling.Answer.TheVariants.{Refused}
 use Rattle.store.specs.declared.home.Home.{Home}
-use Rattle.world.specs.declared.faults.NodeFault.{NodeFault}
-use Rattle.world.specs.declared.faults.NodeFault.TheVariants.{Busy, LogFull, BallotsSpent, NoMemory, Down}
-use Rattle.world.specs.Faults.{refused_as}
-use Rattle.node.specs.Handles.{Takes}
-use Rattle.serving.specs.Nodes.{Seen, Fate, Goes, Starves, Breaks, by_step, reply}
+use Rattle.roles.specs.declared.faults.NodeFault.{NodeFault}
+use Rattle.roles.specs.declared.faults.NodeFault.TheVariants.{Busy, LogFull, BallotsSpent, NoMemory, Down}
+use Rattle.roles.specs.Faults.{refused_as}
+use Rattle.replica.specs.Handles.{Takes}
+use Rattle.answers.specs.Seen.{Seen}
+use Rattle.serving.specs.Nodes.{Fate, Goes, Starves, Breaks, by_step, reply}
 
 abbrev at : Desk → Bool → Seen
 at x b = record { desk = x; is_down = b }

@@ -16,4 +16,3 @@ pub mod Delivered
 pub mod Told
 pub mod OneFrame
 pub mod Sheets
-pub mod Running

@@ -7,7 +7,8 @@ use Rattle.store.specs.declared.home.Home.{Home}
 use Rattle.serving.specs.Adding.{Push, Hands}
 use Rattle.wire.specs.declared.values.Version.{Version}
 use Rattle.serving.specs.Making.{Handling, Way, Call, calls_of, Lead, Outside, outside_of, Makes}
-use Rattle.serving.specs.Nodes.{Seen, Fate, reply}
+use Rattle.answers.specs.Seen.{Seen}
+use Rattle.serving.specs.Nodes.{Fate, reply}
 use Rattle.serving.specs.Telling.{run_pushed}
 use Rattle.serving.specs.Serving.{Act, Called, Pushed, Answered, pushed, pushes_of}
 use Rattle.serving.specs.model.Calling.{IsCall}

@@ -16,7 +16,8 @@ use Rattle.lines.specs.Bytes.{AppendsPart}
 use Rattle.serving.specs.model.Writing.{WriteEnds}
 use Rattle.serving.specs.Connection.{FailsIn, serve_frame, close_of, answer_frame, framed_answer, answer_bytes, sides}
 use Rattle.serving.specs.model.Requests.{Answers, AnswersSome, AnswersPart, FailsToAnswer, ServesOne}
-use Rattle.serving.specs.Nodes.{Seen, Fate}
+use Rattle.answers.specs.Seen.{Seen}
+use Rattle.serving.specs.Nodes.{Fate}
 use Rattle.serving.specs.Serving.{Act, served, answer}
 use Rattle.serving.specs.declared.ends.Close.{Close}
 use Rattle.serving.specs.declared.ends.FrameFault.{FrameFault}

@@ -9,7 +9,8 @@ use Rattle.serving.specs.model.Calling.{Calls, IsCall, LosesMessages}
 use Rattle.serving.specs.Answering.{answer_of}
 use Rattle.serving.specs.declared.calling.Answer.{Answer}
 use Rattle.store.specs.declared.home.Home.{Home}
-use Rattle.serving.specs.Nodes.{Seen, Fate, reply}
+use Rattle.answers.specs.Seen.{Seen}
+use Rattle.serving.specs.Nodes.{Fate, reply}
 use Rattle.serving.specs.model.Pushing.{PushesPart}
 use Rattle.serving.specs.model.Reaching.{Place, at, service, Reaches, did_call, OnlyAdds, Did, DoesPart}
 use Rattle.serving.specs.Serving.{Act, Called, Pushed, Service, pushes_of, call, settle_by, deliver, push_all, in_front, from_own, to_others, waiting_after}

@@ -9,7 +9,8 @@ use Rattle.serving.specs.Making.{Way, Outside, outside_of, Makes}
 use Rattle.serving.specs.model.Calling.{Calls, IsCall}
 use Rattle.serving.specs.declared.calling.Answer.{Answer}
 use Rattle.store.specs.declared.home.Home.{Home}
-use Rattle.serving.specs.Nodes.{Seen, Fate}
+use Rattle.answers.specs.Seen.{Seen}
+use Rattle.serving.specs.Nodes.{Fate}
 use Rattle.serving.specs.model.Pushing.{Leads}
 use Rattle.serving.specs.model.Reaching.{Place, at, service, Reaches, did_call, Did, Does, DoesCall}
 use Rattle.serving.specs.Serving.{Act, Called, Pushed, Service, pushed, pushes_of, seen_after, call, settle_by, deliver, push_all, in_front, from_own, to_others}

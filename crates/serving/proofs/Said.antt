@@ -2,7 +2,8 @@
 use Rattle.std.proofs.Common.{◌≡◌, ◌∙◌, ℕ, List, [], ◌++◌, length, Option, None}
 use Rattle.store.specs.declared.home.Home.{Home}
 use Rattle.serving.specs.Making.{Way, Outside}
-use Rattle.serving.specs.Nodes.{Seen, Fate}
+use Rattle.answers.specs.Seen.{Seen}
+use Rattle.serving.specs.Nodes.{Fate}
 use Rattle.serving.specs.declared.request.Request.{Request}
 use Rattle.serving.specs.model.Reaching.{at, Does, DoesPart}
 use Rattle.serving.specs.model.Requests.{AnswersSome, FailsToAnswer}

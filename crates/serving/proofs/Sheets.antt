@@ -2,7 +2,7 @@
 use Rattle.std.proofs.Common.{◌≡◌, ◌^◌, ◌<◌, ◌≤◌, ℕ, List, length, take, Some}
 use Rattle.acceptor.specs.declared.entry.Entry.{Entry}
 use Rattle.formats.specs.declared.events.Event.{Event}
-use Rattle.world.specs.Answers.{texts, sheet_at}
+use Rattle.answers.specs.Answers.{texts, sheet_at}
 use Rattle.sheets.specs.FrameLaw.{FitsInAFrame}
 use Rattle.sheets.specs.declared.Style.{Style}
 use Rattle.sheets.specs.declared.Style.TheVariants.{Text, Table}

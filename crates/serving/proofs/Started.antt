@@ -6,7 +6,8 @@ use Rattle.learner.specs.declared.event.Event.TheVariants.{Start}
 use Rattle.serving.specs.Making.{Way, Outside}
 use Rattle.serving.specs.declared.calling.Answer.{Answer}
 use Rattle.store.specs.declared.home.Home.{Home}
-use Rattle.serving.specs.Nodes.{Seen, Fate}
+use Rattle.answers.specs.Seen.{Seen}
+use Rattle.serving.specs.Nodes.{Fate}
 use Rattle.serving.specs.model.Reaching.{Place, at, service, Reaches, OnlyAdds, Did, Does, DoesPart, DoesCall, DoesTake}
 use Rattle.serving.specs.Serving.{Act, Service, call, settle_by, settle, grew, start_if_grown, take}
 use Rattle.serving.proofs.Additions.{adds_both, adds_call, adds_settle}

@@ -19,7 +19,8 @@ use Rattle.wire.specs.Ranges.{IsCount, IsEntry, IsFrame}
 use Rattle.wire.specs.Spelling.{spelling}
 use Rattle.serving.specs.Adding.{Push, Hands}
 use Rattle.serving.specs.Making.{Way, Outside, outside_of, Makes}
-use Rattle.serving.specs.Nodes.{Seen, Fate}
+use Rattle.answers.specs.Seen.{Seen}
+use Rattle.serving.specs.Nodes.{Fate}
 use Rattle.serving.specs.Serving.{Act, Answered, Service, call, settle_by, settle, hand_out, answer_out, tell}
 use Rattle.serving.specs.Telling.{with_entry, decided_at, entry_told, entries_told, entries_said, run_of, run_frame, run_pushed}
 use Rattle.serving.specs.declared.calling.Answer.{Answer}

@@ -3,11 +3,11 @@ use Rattle.std.specs.Prelude.{◌≡◌, ℕ, nat_lt, if◌then◌else◌, List,
 use Rattle.std.specs.Prelude.{Result, Ok, Err}
 use Rattle.acceptor.specs.declared.message.Message.{Message}
 use Rattle.formats.specs.declared.events.Event.{Event}
-use Rattle.world.specs.Answers.{told, sheet_at}
-use Rattle.world.specs.declared.answers.Told.{Told}
-use Rattle.world.specs.declared.answers.Told.TheVariants as tells
-use Rattle.world.specs.declared.faults.NodeFault.{NodeFault}
-use Rattle.world.specs.declared.faults.NodeFault.TheVariants as fault
+use Rattle.answers.specs.Answers.{told, sheet_at}
+use Rattle.answers.specs.declared.answers.Told.{Told}
+use Rattle.answers.specs.declared.answers.Told.TheVariants as tells
+use Rattle.roles.specs.declared.faults.NodeFault.{NodeFault}
+use Rattle.roles.specs.declared.faults.NodeFault.TheVariants as fault
 use Rattle.sheets.specs.declared.Style.{Style as SheetStyle}
 use Rattle.sheets.specs.declared.Style.TheVariants as layout
 use Rattle.wire.specs.Ranges.{IsBody, ToClient, way_of}
@@ -20,7 +20,8 @@ use Rattle.wire.specs.declared.values.SheetStyle.{SheetStyle as Style}
 use Rattle.wire.specs.declared.values.SheetStyle.TheVariants as asked
 use Rattle.wire.specs.declared.frame.What.{What}
 use Rattle.wire.specs.declared.frame.What.TheVariants as what
-use Rattle.serving.specs.Nodes.{Seen, Fate, Goes, Starves, Breaks}
+use Rattle.answers.specs.Seen.{Seen}
+use Rattle.serving.specs.Nodes.{Fate, Goes, Starves, Breaks}
 use Rattle.serving.specs.declared.calling.Answer.{Answer}
 use Rattle.serving.specs.declared.calling.Answer.TheVariants.{Taken, Refused}
 

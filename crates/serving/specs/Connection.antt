@@ -19,7 +19,8 @@ use Rattle.serving.specs.declared.ends.Served.{Served}
 use Rattle.serving.specs.declared.ends.FrameFault.TheVariants as fault
 use Rattle.lines.specs.Bytes.{AppendsPart}
 use Rattle.serving.specs.Making.{Way, Outside, Makes}
-use Rattle.serving.specs.Nodes.{Seen, Fate}
+use Rattle.answers.specs.Seen.{Seen}
+use Rattle.serving.specs.Nodes.{Fate}
 use Rattle.serving.specs.Asking.{request, closes}
 use Rattle.serving.specs.declared.request.Request.{Request}
 use Rattle.serving.specs.Serving.{Act, served, answer, seen_after}

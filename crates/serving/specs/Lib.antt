@@ -6,5 +6,4 @@ pub mod Telling
 pub mod Serving
 pub mod Making
 pub mod Connection
-pub mod Running
 pub mod model

@@ -2,7 +2,7 @@
 use Rattle.std.specs.Prelude.{◌≡◌, ℕ, ◌==◌, if◌then◌else◌, List, [], ◌∷◌, Option, Result}
 use Rattle.acceptor.specs.declared.message.Message.{Message}
 use Rattle.learner.specs.declared.event.Event.{Event}
-use Rattle.world.specs.declared.faults.NodeFault.{NodeFault}
+use Rattle.roles.specs.declared.faults.NodeFault.{NodeFault}
 use Rattle.wire.specs.declared.values.Version.{Version}
 use Rattle.wire.specs.declared.values.Version.TheVariants.{One, Two}
 use Rattle.serving.specs.Adding.{Push, Hands}

@@ -3,17 +3,12 @@ use Rattle.std.specs.Prelude.{Bool, true, if◌then◌else◌, List, Result, Ok,
 use Rattle.acceptor.specs.declared.message.Message.{Message}
 use Rattle.proposer.specs.declared.faults.Refusal.{Refusal}
 use Rattle.learner.specs.declared.event.Event.{Event}
-use Rattle.learner.specs.Desks.{Desk}
+use Rattle.answers.specs.Seen.{Seen}
 use Rattle.learner.specs.Steps.{Done, step}
-use Rattle.world.specs.Faults.{refused_as}
-use Rattle.world.specs.declared.faults.NodeFault.{NodeFault}
-use Rattle.world.specs.declared.faults.NodeFault.TheVariants.{NoMemory, Down}
+use Rattle.roles.specs.Faults.{refused_as}
+use Rattle.roles.specs.declared.faults.NodeFault.{NodeFault}
+use Rattle.roles.specs.declared.faults.NodeFault.TheVariants.{NoMemory, Down}
 use Rattle.store.specs.declared.home.Home.{Home}
-
--- all that the desk knows, and whether its store has failed
-pub record Seen : Type 0 where
-  pub desk : Desk
-  pub is_down : Bool
 
 -- what happens to a call: it is taken as the protocol has it, memory is refused, or the device
 -- fails

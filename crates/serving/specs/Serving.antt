@@ -14,10 +14,11 @@ use Rattle.wire.specs.declared.frame.What.{What}
 use Rattle.wire.specs.declared.frame.What.TheVariants as what
 use Rattle.wire.specs.Spelling.{spelling}
 use Rattle.store.specs.declared.home.Home.{Home}
-use Rattle.world.specs.declared.faults.NodeFault.{NodeFault}
-use Rattle.world.specs.declared.faults.NodeFault.TheVariants as fault
+use Rattle.roles.specs.declared.faults.NodeFault.{NodeFault}
+use Rattle.roles.specs.declared.faults.NodeFault.TheVariants as fault
 use Rattle.serving.specs.Adding.{Push}
-use Rattle.serving.specs.Nodes.{Seen, Fate, Goes, Reply, reply}
+use Rattle.answers.specs.Seen.{Seen}
+use Rattle.serving.specs.Nodes.{Fate, Goes, Reply, reply}
 use Rattle.serving.specs.Answering.{answer_of, answer_first, standing, told_what, printed}
 use Rattle.serving.specs.Telling.{run_of, run_pushed}
 use Rattle.serving.specs.declared.request.Run.{Run}

@@ -7,9 +7,9 @@ ghost use Rattle.serving.specs.Answering.{standing, told_what, style_of, printed
 ghost use Rattle.serving.specs.Nodes.{Fate};
 
 use crate::calling::Answer;
-use crate::desk::Desk;
+use answers::{Desk, SheetFault, Told};
 use formats::Event;
-use node::{NodeFault, SheetFault, Told};
+use roles::NodeFault;
 use sheets::fits_in_a_frame;
 use wire::{Bytes, ClientRefusal as Refusal, SheetStyle as Style, Standing, What};
 

@@ -9,10 +9,10 @@ ghost use Rattle.learner.specs.Steps.{IsDesk};
 ghost use Rattle.serving.specs.Connection.{Begun, sides};
 ghost use Rattle.serving.specs.model.Pieces.{IsBatch};
 
-use crate::desk::Desk;
 use crate::ends::{Close, End, FrameFault};
 use crate::frame::serve_frame;
 use crate::peers::Peers;
+use answers::Desk;
 use std::alloc::Global;
 use std::io::Write;
 use store::home::Home;

@@ -5,11 +5,11 @@ ghost use Rattle.learner.specs.Ranges.{AreInRange};
 ghost use Rattle.serving.specs.Nodes.{Fate};
 ghost use Rattle.serving.specs.model.Calling.{Calls, IsCall, LosesMessages};
 
-use crate::desk::Desk;
 use acceptor::NoMemory;
 use acceptor::message::Message;
+use answers::Desk;
 use learner::event::Event;
-use node::NodeFault;
+use roles::NodeFault;
 use std::collections::VecDeque;
 
 /// How the node answered.

@@ -1,21 +1,17 @@
 //! A connection.
 
 ghost use Rattle.std.specs.Prelude.{◌≡◌, ℕ, List, Option};
-ghost use Rattle.node.specs.Handles.{Handles};
-ghost use Rattle.node.specs.Nodes.{words};
 ghost use Rattle.wire.specs.Laws.{IsVersion};
 ghost use Rattle.serving.specs.Making.{outside_of, speaking, spoken};
 ghost use Rattle.serving.specs.Connection.{Begun, IsConnection, sides};
 
-use crate::desk::Desk;
 use crate::ends::{End, Served};
 use crate::peers::Peers;
 use crate::piece::serve_piece;
 use crate::source::{Counted, MOST_READS, Source};
-use node::Node;
+use answers::Desk;
 use std::alloc::Global;
 use std::io::{ErrorKind, Read, Write};
-use store::keeper::Keeper;
 use wire::{FrameReader, Version};
 
 /// Serves a connection over a reader that counts its reads, frame by frame, until one of its ends.
@@ -105,30 +101,24 @@ fn spoken(wire: u8) -> Version
 /// fails, or want of memory. Each frame's answer is written before the next frame is begun, in the
 /// version of that frame. What is said to other desks is pushed in the version `wire`, 1 or 2; both
 /// are read.
-pub fn serve_connection<K: Keeper + Drop, R: Read + Drop, W: Write, P: Peers>(
+pub fn serve_connection<D: Desk, R: Read + Drop, W: Write, P: Peers>(
     alloc: Global,
     reader: R,
     writer: &mut W,
-    node: &mut Node<K>,
+    node: &mut D,
     peers: &mut P,
     wire: u8,
 ) -> Served
     requires version { IsVersion wire }
     ensures served { (left : Option (List ℕ)) × (reads : ℕ) × (bytes : List ℕ) ×
         (begun : List Begun) × (rest : List ℕ)
-        × IsConnection result (K.home_of node.old.keeper)
-        (sides (record { desk = node.old.desk; is_down = node.old.is_down }) (W.contents writer.old)
-        (outside_of
-        (speaking (Handles
-        (words K.home_of K.failures_of K.is_down K.is_honest K.keeps K.may_hold K.may_break))
-        (spoken wire)) node.old (P.handed peers.old)))
-        (sides (record { desk = node.new.desk; is_down = node.new.is_down }) (W.contents writer.new)
-        (outside_of
-        (speaking (Handles
-        (words K.home_of K.failures_of K.is_down K.is_honest K.keeps K.may_hold K.may_break))
-        (spoken wire)) node.new (P.handed peers.new)))
+        × IsConnection result (D.home_of node.old)
+        (sides (D.seen node.old) (W.contents writer.old)
+        (outside_of (speaking D.handles (spoken wire)) node.old (P.handed peers.old)))
+        (sides (D.seen node.new) (W.contents writer.new)
+        (outside_of (speaking D.handles (spoken wire)) node.new (P.handed peers.new)))
         bytes begun rest (R.remaining reader) left reads }
-    ensures home { K.home_of node.new.keeper ≡ K.home_of node.old.keeper }
+    ensures home { D.home_of node.new ≡ D.home_of node.old }
 {
     let mut source = Counted::new(reader);
     serve_source(alloc, &mut source, writer, node, peers, spoken(wire))

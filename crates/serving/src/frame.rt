@@ -9,12 +9,12 @@ ghost use Rattle.serving.specs.model.Requests.{ServesOne};
 ghost use Rattle.serving.specs.Asking.{close_by};
 ghost use Rattle.serving.specs.Nodes.{Fate};
 
-use crate::desk::Desk;
 use crate::ends::{Close, FrameFault};
 use crate::peers::Peers;
 use crate::request::{Ending, request_of};
 use crate::requests::serve_request;
 use crate::writing::write_answer;
+use answers::Desk;
 use std::alloc::Global;
 use std::io::Write;
 use store::home::Home;

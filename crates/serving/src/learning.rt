@@ -10,13 +10,13 @@ ghost use Rattle.serving.specs.model.Requests.{AnswersSome, FailsToAnswer};
 ghost use Rattle.serving.specs.Serving.{learn, settle_by};
 
 use crate::calling::call;
-use crate::desk::Desk;
 use crate::peers::Peers;
 use crate::request::{Request, Run};
 use crate::settling::settle;
 use crate::taking::{MOST_OWN, start_if_grown};
 use acceptor::NoMemory;
 use acceptor::message::{Body, Message};
+use answers::Desk;
 use learner::event::Event;
 use std::alloc::Global;
 use std::collections::VecDeque;

@@ -7,9 +7,9 @@ ghost use Rattle.serving.specs.Connection.{Begun, sides};
 ghost use Rattle.serving.specs.model.Pieces.{IsPiece};
 
 use crate::batch::serve_batch;
-use crate::desk::Desk;
 use crate::ends::End;
 use crate::peers::Peers;
+use answers::Desk;
 use std::alloc::Global;
 use std::io::Write;
 use store::home::Home;

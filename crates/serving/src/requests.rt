@@ -13,7 +13,6 @@ ghost use Rattle.serving.specs.model.Requests.{AnswersSome, FailsToAnswer};
 
 use crate::answering::{answer_first, asked, printed};
 use crate::calling::{Answer, call};
-use crate::desk::Desk;
 use crate::learning::learn;
 use crate::peers::Peers;
 use crate::request::Request;
@@ -23,6 +22,7 @@ use crate::telling::tell;
 use acceptor::NoMemory;
 use acceptor::entry::Entry;
 use acceptor::message::Message;
+use answers::Desk;
 use learner::event::Event;
 use std::alloc::Global;
 use std::collections::VecDeque;

@@ -7,11 +7,11 @@ ghost use Rattle.serving.specs.model.Reaching.{Does, DoesPart, at};
 ghost use Rattle.serving.specs.Serving.{settle_by};
 
 use crate::calling::call;
-use crate::desk::Desk;
 use crate::peers::Peers;
 use crate::pushing::{push_front, push_others};
 use acceptor::NoMemory;
 use acceptor::message::Message;
+use answers::Desk;
 use learner::event::Event;
 use std::alloc::Global;
 use std::collections::VecDeque;

@@ -7,11 +7,11 @@ ghost use Rattle.serving.specs.model.Reaching.{Does, DoesCall, DoesTake, DoesPar
 ghost use Rattle.serving.specs.Serving.{Act, call, settle_by, start_if_grown, take, grew};
 
 use crate::calling::{Answer, call};
-use crate::desk::Desk;
 use crate::peers::Peers;
 use crate::settling::settle;
 use acceptor::NoMemory;
 use acceptor::message::Message;
+use answers::Desk;
 use learner::event::Event;
 use std::alloc::Global;
 use std::collections::VecDeque;

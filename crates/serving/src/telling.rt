@@ -13,7 +13,6 @@ ghost use Rattle.serving.specs.model.Reaching.{Does, DoesPart, at};
 ghost use Rattle.serving.specs.model.Requests.{AnswersSome, FailsToAnswer};
 
 use crate::calling::call;
-use crate::desk::Desk;
 use crate::peers::Peers;
 use crate::request::{Request, Run};
 use crate::settling::settle;
@@ -21,6 +20,7 @@ use crate::taking::{MOST_OWN, start_if_grown};
 use acceptor::NoMemory;
 use acceptor::entry::Entry;
 use acceptor::message::{Body, Message};
+use answers::Desk;
 use learner::event::Event;
 use std::alloc::Global;
 use std::collections::VecDeque;

@@ -3,12 +3,11 @@ use Rattle.std.specs.Prelude.{◌≡◌, ◌≤◌, ◌<◌, ℕ, List, [], ◌�
 use Rattle.serving.specs.Adding.{Push}
 use Rattle.serving.specs.Connection.{Begun, IsConnection, sides}
 use Rattle.serving.specs.Making.{Way, Outside, outside_of}
-use Rattle.serving.specs.Nodes.{Seen}
+use Rattle.answers.specs.Seen.{Seen}
 use Rattle.serving.specs.declared.ends.End.{End}
 use Rattle.serving.specs.declared.ends.End.TheVariants as end
 use Rattle.serving.specs.declared.ends.Served.{Served}
 use Rattle.store.specs.declared.home.Home.{Home}
-use Rattle.node.specs.Nodes.{NodeValue}
 use Rattle.sockets.specs.Listening.{Listened, Came, Failed, Ended, Tells}
 use Rattle.sockets.specs.declared.serving_all.AllEnd.{AllEnd}
 use Rattle.sockets.specs.declared.serving_all.AllEnd.TheVariants as all
@@ -20,13 +19,10 @@ pub record Standing {V : Type 0} (way : Way V) : Type 0 where
   pub seen : Seen
   pub outside : Outside way
 
-abbrev pub standing_of : {K : Type 0} → (way : Way (NodeValue K)) → NodeValue K
-    → Option (List Push) → Standing way
-standing_of way node handed =
-    record {
-      seen = record { desk = node.desk; is_down = node.is_down };
-      outside = outside_of way node handed;
-    }
+abbrev pub standing_of : {V : Type 0} → (way : Way V) → (V → Seen) → V → Option (List Push)
+    → Standing way
+standing_of way seen node handed =
+    record { seen = seen node; outside = outside_of way node handed }
 
 -- a connection: how it was served, what its client had to send, and what the client had been sent
 -- before it and behind it

@@ -1,18 +1,15 @@
 //! Clients that are served one after the other.
 
 ghost use Rattle.std.specs.Prelude.{◌≡◌, ◌∷◌, [], ℕ, List, Option};
-ghost use Rattle.node.specs.Handles.{Handles};
-ghost use Rattle.node.specs.Nodes.{words};
 ghost use Rattle.serving.specs.Making.{speaking, spoken};
 ghost use Rattle.wire.specs.Laws.{IsVersion};
 ghost use Rattle.sockets.specs.Listening.{Ended, Tells};
 ghost use Rattle.sockets.specs.Visits.{Visit, IsVisit, IsServedAll, end_behind, standing_of, visit};
 
 use crate::accepting::Accept;
-use node::Node;
+use answers::Desk;
 use serving::{End, Peers, Served, serve_connection};
 use std::alloc::Global;
-use store::keeper::Keeper;
 
 /// Why no further client is served.
 #[derive(Clone, Copy, PartialEq, Eq, Debug)]
@@ -36,28 +33,22 @@ pub struct ServedAll {
 }
 
 /// Serves one client.
-fn serve_client<K: Keeper + Drop, A: Accept, P: Peers>(
+fn serve_client<D: Desk, A: Accept, P: Peers>(
     alloc: Global,
     listener: &mut A,
     reader: A::Reader,
     writer: A::Writer,
-    node: &mut Node<K>,
+    node: &mut D,
     peers: &mut P,
     wire: u8,
 ) -> Served
     requires version { IsVersion wire }
-    ensures visit { (behind : Option (List ℕ)) × IsVisit (K.home_of node.old.keeper)
+    ensures visit { (behind : Option (List ℕ)) × IsVisit (D.home_of node.old)
         (visit result (A.Reader.remaining reader) (A.Writer.contents writer) behind)
-        (standing_of (speaking (Handles
-        (words K.home_of K.failures_of K.is_down K.is_honest K.keeps K.may_hold K.may_break))
-        (spoken wire))
-        node.old (P.handed peers.old))
-        (standing_of (speaking (Handles
-        (words K.home_of K.failures_of K.is_down K.is_honest K.keeps K.may_hold K.may_break))
-        (spoken wire))
-        node.new (P.handed peers.new))
+        (standing_of (speaking D.handles (spoken wire)) D.seen node.old (P.handed peers.old))
+        (standing_of (speaking D.handles (spoken wire)) D.seen node.new (P.handed peers.new))
         × Tells (A.listened listener.old) (A.listened listener.new) (Ended behind ∷ []) }
-    ensures home { K.home_of node.new.keeper ≡ K.home_of node.old.keeper }
+    ensures home { D.home_of node.new ≡ D.home_of node.old }
 {
     let mut writer = writer;
     let served = serve_connection(alloc, reader, &mut writer, node, peers, wire);
@@ -69,27 +60,21 @@ fn serve_client<K: Keeper + Drop, A: Accept, P: Peers>(
 /// is down, or a client that can't be accepted ends it earlier; any other end of a connection is
 /// followed by the next client. What is said to other desks is pushed in the version `wire` of the
 /// wire, 1 or 2.
-pub fn serve_all<K: Keeper + Drop, A: Accept, P: Peers>(
+pub fn serve_all<D: Desk, A: Accept, P: Peers>(
     alloc: Global,
     listener: &mut A,
     most: u32,
-    node: &mut Node<K>,
+    node: &mut D,
     peers: &mut P,
     wire: u8,
 ) -> ServedAll
     requires version { IsVersion wire }
-    ensures served { (each : List Visit) × IsServedAll result (K.home_of node.old.keeper) most
-        (standing_of (speaking (Handles
-        (words K.home_of K.failures_of K.is_down K.is_honest K.keeps K.may_hold K.may_break))
-        (spoken wire))
-        node.old (P.handed peers.old))
-        (standing_of (speaking (Handles
-        (words K.home_of K.failures_of K.is_down K.is_honest K.keeps K.may_hold K.may_break))
-        (spoken wire))
-        node.new (P.handed peers.new))
+    ensures served { (each : List Visit) × IsServedAll result (D.home_of node.old) most
+        (standing_of (speaking D.handles (spoken wire)) D.seen node.old (P.handed peers.old))
+        (standing_of (speaking D.handles (spoken wire)) D.seen node.new (P.handed peers.new))
         (A.listened listener.old) (A.listened listener.new)
         each }
-    ensures home { K.home_of node.new.keeper ≡ K.home_of node.old.keeper }
+    ensures home { D.home_of node.new ≡ D.home_of node.old }
 {
     let mut connections = 0;
     while connections < most {

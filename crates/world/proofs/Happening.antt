@@ -12,7 +12,7 @@ use Rattle.learner.specs.Desks.{first_desk, restarted}
 use Rattle.learner.specs.Steps.{Done, done, idle, is_desk, is_heeded, on_body, step}
 use Rattle.learner.specs.declared.event.Event.TheVariants.{Submit, Deliver}
 use Rattle.learner.specs.Worlds.{World, new_world, put, world_after, at_desk, nth_sent, delivered, restart_at, happens, run, after}
-use Rattle.world.specs.model.RunningDesks.{RunningDesk}
+use Rattle.roles.specs.model.RunningDesks.{RunningDesk}
 use Rattle.world.specs.model.Halls.{HallValue, desk_from, known_by, world_of, AreNumbered, Does}
 use Rattle.world.specs.WorldValues.{refusal_of, refusal_at, refusal}
 use Rattle.world.specs.WorldValues.{WorldValue, extended, refused_by, last_refusal}

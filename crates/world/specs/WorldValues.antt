@@ -13,8 +13,8 @@ use Rattle.learner.specs.declared.event.WorldEvent.TheVariants.{Deliver as Deliv
 use Rattle.learner.specs.declared.event.WorldEvent.TheVariants.{Restart as RestartAt}
 use Rattle.learner.specs.Steps.{Done, is_desk, step}
 use Rattle.learner.specs.Worlds.{World, new_world, happens}
-use Rattle.world.specs.Faults.{refused_as}
-use Rattle.world.specs.declared.faults.NodeFault.{NodeFault}
+use Rattle.roles.specs.Faults.{refused_as}
+use Rattle.roles.specs.declared.faults.NodeFault.{NodeFault}
 
 -- so many desks, and the events that were done, in order
 pub record WorldValue : Type 0 where

@@ -1,3 +1,2 @@
 -- Models of the code: what the desks of a hall are as they run. No contract of `World` cites them.
-pub mod RunningDesks
 pub mod Halls

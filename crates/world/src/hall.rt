@@ -5,11 +5,9 @@ ghost use Rattle.std.specs.Prelude.{slice_get};
 ghost use Rattle.acceptor.specs.declared.message.Message.{Message};
 ghost use Rattle.learner.specs.declared.event.Event.TheVariants.{Submit, Start, Tick, Deliver};
 ghost use Rattle.learner.specs.Steps.{done, step};
-ghost use Rattle.world.specs.model.RunningDesks.{Fits};
+ghost use Rattle.roles.specs.model.RunningDesks.{Fits};
 ghost use Rattle.world.specs.model.Halls.{Does};
 
-use crate::heeding::is_desk;
-use crate::running::Running;
 use acceptor::NoMemory;
 use acceptor::entry::Entry;
 use acceptor::message::Message;
@@ -18,6 +16,8 @@ use learner::event::WorldEvent;
 use learner::log::Log;
 use proposer::faults::{Refusal, StepFault};
 use proposer::plan::Plan;
+use roles::Running;
+use roles::heeding::is_desk;
 use std::alloc::{AllocError, Global};
 use std::marker::Model;
 

@@ -2,7 +2,6 @@
 
 ghost use Rattle.std.specs.Prelude.{◌≡◌, IfOk};
 
-use crate::faults::NodeFault;
 use crate::hall::Hall;
 use crate::laws::headline;
 use acceptor::NoMemory;
@@ -10,6 +9,7 @@ use acceptor::message::Message;
 use learner::event::WorldEvent;
 use learner::log::Log;
 use proposer::faults::{Refusal, StepFault};
+use roles::NodeFault;
 use std::alloc::{AllocError, Global};
 use std::marker::Model;
 

@@ -1,5 +1,5 @@
 use Rattle.std.proofs.Common.{◌≡◌, true, sym, ap, ◌∙◌}
-use Rattle.fmc_check.specs.declared.Fm.TheVariants.{Moves}
+use Rattle.attempts.specs.declared.Fm.TheVariants.{Moves}
 use Rattle.fmc_check.proofs.Solutions.{moves_result, dnf_result}
 use Rattle.fmc_check.proofs.check.Goals as goal
 

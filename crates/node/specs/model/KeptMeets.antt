@@ -2,7 +2,7 @@
 use Rattle.std.specs.Prelude.{ℕ, ◌≡◌, ◌<◌, ◌≤◌, List, length, take, slice_get, Some}
 use Rattle.acceptor.specs.declared.entry.Entry.{Entry}
 use Rattle.commands.specs.History.{StandsFor, history, answer_to}
-use Rattle.world.specs.Answers.{texts}
+use Rattle.answers.specs.Answers.{texts}
 use Rattle.node.specs.declared.kept_meet.KeptMeet.{KeptMeet}
 
 -- the meet is what the log's first entries come to, as many as there are answers, and each of these

@@ -3,7 +3,8 @@ use Rattle.std.specs.Prelude.{◌≡◌, ℕ, List, [], ◌∷◌, ◌++◌}
 use Rattle.acceptor.specs.declared.message.Message.{Message}
 use Rattle.learner.specs.declared.event.Event.{Event}
 use Rattle.store.specs.declared.home.Home.{Home}
-use Rattle.serving.specs.Nodes.{Seen, Fate, reply}
+use Rattle.answers.specs.Seen.{Seen}
+use Rattle.serving.specs.Nodes.{Fate, reply}
 use Rattle.serving.specs.declared.calling.Answer.{Answer}
 use Rattle.serving.specs.Answering.{answer_of}
 use Rattle.serving.specs.Making.{Way, Outside, Makes}

@@ -7,7 +7,8 @@ use Rattle.serving.specs.declared.ends.Close.{Close}
 use Rattle.serving.specs.declared.request.Request.{Request}
 use Rattle.serving.specs.Connection.{Begun, Sides, serve_frame, close_of, answer_bytes}
 use Rattle.serving.specs.Making.{Way, Outside, Makes}
-use Rattle.serving.specs.Nodes.{Seen, Fate}
+use Rattle.answers.specs.Seen.{Seen}
+use Rattle.serving.specs.Nodes.{Fate}
 use Rattle.serving.specs.Serving.{Act, served, answer, seen_after}
 
 -- all calls and pushes of the request were made, and this is its answer

@@ -9,7 +9,7 @@ use Rattle.learner.specs.Desks.{Desk, first_desk}
 use Rattle.learner.specs.Steps.{Done}
 use Rattle.learner.specs.Worlds.{World, after}
 use Rattle.world.specs.WorldValues.{last_refusal}
-use Rattle.world.specs.model.RunningDesks.{RunningDesk}
+use Rattle.roles.specs.model.RunningDesks.{RunningDesk}
 
 -- the desk of a number among these, the first of which has the number `first`; where there is none,
 -- a desk as it is at first

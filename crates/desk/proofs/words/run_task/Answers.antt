@@ -1,6 +1,7 @@
 use Rattle.std.proofs.Common.{inr, sym, subst, ap, ◌∙◌}
 use Rattle.std.proofs.KnownBytes.{Keeps-refl}
-use Rattle.desk.specs.Statuses.{Ends, status_of}
+use Rattle.desk.specs.Statuses.{Ends}
+use Rattle.errands.specs.Statuses.{status_of}
 use Rattle.desk.proofs.Endings.{prints_at_most}
 use Rattle.desk.proofs.words.run_task.Goals as goal
 
@@ -14,7 +15,7 @@ returns-in-Err-write_stored_log-clause-ends g c =
       Keeps-refl had,
       inr (
         c.in-Err-write_stored_log.fault,
-        c.tell-in-Err-write_stored_log.ensures ∙ ap status_of c.from.ensures,
+        c.tell-in-Err-write_stored_log.ensures ∙ ap status_of c.fault_of_log.ensures,
         prints_at_most c.in-Err-write_stored_log.fault _ _ old new
             c.in-Err-write_stored_log.ensures.fails c.in-Err-write_stored_log.ensures.err,
       ),
@@ -30,7 +31,7 @@ returns-in-Err-serve-clause-ends g c =
       Keeps-refl had,
       inr (
         c.in-Err-serve.fault,
-        c.tell-in-Err-serve.ensures ∙ ap status_of c.from-in-Err-serve.ensures,
+        c.tell-in-Err-serve.ensures ∙ ap status_of c.fault_of_serve.ensures,
         c.in-Err-serve.ensures.err,
       ),
     )

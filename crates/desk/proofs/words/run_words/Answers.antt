@@ -1,9 +1,9 @@
 use Rattle.std.proofs.Common.{inl, inr, subst, Option, List}
 use Rattle.std.proofs.KnownBytes.{Keeps-refl}
 use Rattle.clap.specs.Words.{Row, Text}
-use Rattle.desk.specs.Asking.{Finds}
+use Rattle.arguments.specs.Asking.{Finds}
 use Rattle.desk.proofs.Endings.{nothing_not_zero}
-use Rattle.desk.proofs.Found.{found_ids}
+use Rattle.arguments.proofs.Found.{found_ids}
 use Rattle.desk.proofs.words.run_words.Goals as goal
 
 pub returns-in-Err-clause-ran : goal.returns-in-Err-clause-ran

@@ -1,5 +1,5 @@
 use Rattle.std.proofs.Common.{◌∷◌, [], ◌++◌, ◌∙◌, ap, length, take}
-use Rattle.world.specs.Answers.{texts}
+use Rattle.answers.specs.Answers.{texts}
 use Rattle.node.proofs.KeptLogs.{kept_next}
 use Rattle.node.proofs.kept_meet.KeptMeet.take_next.Goals as goal
 

@@ -1,6 +1,6 @@
 use Rattle.std.proofs.Common.{◌≡◌, ◌<◌, ◌-◌, Some, slice_get, ap, sym, ◌∙◌, subst}
 use Rattle.std.proofs.lemmas.Option.{slice_get-get_or}
-use Rattle.world.specs.model.RunningDesks.{RunningDesk}
+use Rattle.roles.specs.model.RunningDesks.{RunningDesk}
 use Rattle.world.proofs.Places.{place_less}
 use Rattle.world.proofs.Happening.{deliver_follows}
 use Rattle.world.proofs.hall.Hall.deliver.Goals as goal

@@ -4,7 +4,7 @@ use Rattle.std.proofs.lemmas.Option.{slice_get-get_or}
 use Rattle.learner.specs.Desks.{Desk}
 use Rattle.learner.specs.Steps.{is_desk}
 use Rattle.world.specs.model.Halls.{HallValue, desk_from}
-use Rattle.world.specs.model.RunningDesks.{RunningDesk}
+use Rattle.roles.specs.model.RunningDesks.{RunningDesk}
 use Rattle.world.proofs.Places.{desk_test, place_less, known_at}
 use Rattle.world.proofs.hall.Hall.log.Goals as goal
 

@@ -1,7 +1,7 @@
 use Rattle.std.proofs.Common.{◌≡◌, ◌≤◌, ◌+◌, List, ap, sym, ◌∙◌, subst, arith}
 use Rattle.std.proofs.lemmas.Grind.{common_steps}
-use Rattle.world.specs.model.RunningDesks.{RunningDesk}
-use Rattle.world.specs.Opening.{opened}
+use Rattle.roles.specs.model.RunningDesks.{RunningDesk}
+use Rattle.roles.specs.Opening.{opened}
 use Rattle.world.proofs.Happening.{FirstPlaces, first_more, first_numbered, first_world}
 use Rattle.world.proofs.hall.Hall.new.Goals as goal
 

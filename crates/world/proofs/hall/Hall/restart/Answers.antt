@@ -2,7 +2,7 @@ use Rattle.std.proofs.Common.{◌<◌, ◌-◌, Some, ap, sym, ◌∙◌, subst}
 use Rattle.std.proofs.lemmas.Option.{slice_get-get_or}
 use Rattle.learner.specs.Worlds.{restart_at}
 use Rattle.world.specs.model.Halls.{HallValue, world_of}
-use Rattle.world.specs.model.RunningDesks.{RunningDesk}
+use Rattle.roles.specs.model.RunningDesks.{RunningDesk}
 use Rattle.world.proofs.Places.{place_less, numbered_set}
 use Rattle.world.proofs.Happening.{restart_world}
 use Rattle.world.proofs.hall.Hall.restart.Goals as goal

@@ -1,7 +1,7 @@
 use Rattle.std.proofs.Common.{◌<◌, ◌-◌, Some, ap, sym, ◌∙◌, subst}
 use Rattle.std.proofs.lemmas.Option.{slice_get-get_or}
 use Rattle.learner.specs.declared.event.Event.TheVariants.{Start}
-use Rattle.world.specs.model.RunningDesks.{RunningDesk}
+use Rattle.roles.specs.model.RunningDesks.{RunningDesk}
 use Rattle.world.proofs.Places.{place_less}
 use Rattle.world.proofs.Happening.{seen_follows}
 use Rattle.world.proofs.hall.Hall.start.Goals as goal

@@ -1,0 +1,86 @@
+//! What whoever serves a desk needs of it.
+
+ghost use Rattle.std.specs.Prelude.{◌≡◌, ◌↔◌, ◌≤◌, List, Result, Err, Some, IfOk, OnOk, IfErr};
+ghost use Rattle.std.specs.Prelude.{true, false, length};
+ghost use Rattle.acceptor.specs.declared.message.Message.{Message as MessageValue};
+ghost use Rattle.learner.specs.declared.event.Event.{Event as EventValue};
+ghost use Rattle.learner.specs.Steps.{step, IsDesk};
+ghost use Rattle.answers.specs.Answers.{told, sheet_at, NoSheetAt};
+ghost use Rattle.roles.specs.declared.faults.NodeFault.{NodeFault as Refusal};
+ghost use Rattle.replica.specs.Handles.{Takes};
+ghost use Rattle.answers.specs.Seen.{Seen};
+ghost use Rattle.store.specs.declared.home.Home.{Home as Place};
+
+use crate::answers::Told;
+use crate::faults::SheetFault;
+use acceptor::NoMemory;
+use acceptor::message::Messages;
+use formats::Event as EventOf;
+use learner::event::Event;
+use learner::log::Log;
+use roles::NodeFault;
+use sheets::Style;
+use store::home::Home;
+
+/// One desk of a hall, as serving uses it.
+pub trait Desk {
+    /// What is seen of it.
+    ghost seen: { Self → Seen };
+
+    /// The hall, its number, and the number of desks.
+    ghost home_of: { Self → Place };
+
+    /// All that is said of a call: the desk before it, the event, the answer, the desk behind it.
+    ghost handles: { Self → EventValue → Result (List MessageValue) Refusal → Self → Type 0 };
+
+    /// The hall, its number, and the number of desks.
+    fn home(&self) -> Home
+        ensures home { result ≡ home_of self.now }
+        ensures ours { IsDesk result.desks result.desk }
+        ensures few { result.desks ≤ 5 };
+
+    /// Takes an event, and gives the messages that come of it.
+    fn handle(&mut self, event: Event) -> Result<Messages, NodeFault>
+        ensures handles { handles self.old event result self.new }
+        ensures takes { let home = home_of self.old in let x = (seen self.old).desk in
+            (seen self.old).is_down ≡ false
+            → Takes (step home.desks home.desk x event) home.desks home.desk x (seen self.new).desk
+            result }
+        ensures ended { (seen self.old).is_down ≡ true
+            → (result ≡ Err NodeFault.Down) × (seen self.new ≡ seen self.old) }
+        ensures down { (result ≡ Err NodeFault.Down) ↔ ((seen self.new).is_down ≡ true) }
+        ensures home { home_of self.new ≡ home_of self.old };
+
+    /// The decided entries.
+    fn log(&self) -> &Log
+        ensures entries { result.now.entries ≡ (seen self.now).desk.log }
+        ensures most { length (seen self.now).desk.log ≤ 65536 };
+
+    /// How many entries wait in the queue.
+    fn queued(&self) -> u8
+        ensures { result ≡ length (seen self.now).desk.queue };
+
+    /// Whether the store has failed.
+    fn is_down(&self) -> bool
+        ensures { result ≡ (seen self.now).is_down };
+
+    /// What has become of a submitted id.
+    fn answer(&self, id: u64) -> Result<Told, NoMemory>
+        ensures { let x = (seen self.now).desk in
+            IfOk result (λ answer. answer ≡ told x.log x.queue id) };
+
+    /// The sheet of a round after the log's first `position` entries.
+    fn sheet_at(
+        &self,
+        position: u32,
+        event: EventOf,
+        round: u8,
+        style: Style,
+    ) -> Result<Vec<u8>, SheetFault>
+        ensures there { OnOk result (position ≤ length (seen self.now).desk.log) }
+        ensures sheet { let log = (seen self.now).desk.log in
+            IfOk result (λ text. sheet_at style log position event round ≡ Some text.items) }
+        ensures none { let log = (seen self.now).desk.log in
+            IfErr result
+            (λ fault. NoSheetAt fault log position (sheet_at style log position event round)) };
+}

@@ -1,0 +1,81 @@
+-- What was found in the words.
+use Rattle.std.proofs.Common.{◌≡◌, ◌∙◌, ap, ap₂, sym, subst, ℕ, List, Option, None, Some, Bor, IfSome, option_map, unwrap_or, decimal}
+use Rattle.std.specs.Prelude.{Box}
+use Rattle.std.specs.Box.{box_value}
+use Rattle.clap.specs.Words.{Row, Text, first_of, first_value, found_of, rows_of, subcommand_rows}
+use Rattle.clap.specs.declared.parser.matches.SubCommand.{SubCommand}
+use Rattle.clap.specs.declared.parser.matches.ArgMatches.TheViews.{out-SubCommand}
+use Rattle.clap.specs.declared.parser.matches.Found.{Found}
+use Rattle.clap.proofs.WalkLemmas.{first_value-rows}
+use Rattle.arguments.specs.Arguments.{IsNumberAt}
+use Rattle.arguments.specs.Asking.{Finds, HasId, HasIds, IsRequest, IsTask}
+use Rattle.arguments.specs.declared.task.Request.{Request}
+use Rattle.arguments.specs.declared.task.Request.TheVariants as request
+use Rattle.arguments.specs.declared.task.Task.{Task}
+use Rattle.arguments.specs.declared.task.Task.TheVariants as task
+
+pub entered_rows : {Z : Type 0} (sub : Option (Box SubCommand Z)) (name : Text) (rows : List Row)
+    → Some name ≡ option_map (λ b. (out-SubCommand (box_value b)).name.now) sub
+    → Some rows ≡ option_map (λ p. p.1) (subcommand_rows sub)
+    → subcommand_rows sub ≡ Some (name, rows)
+entered_rows None name rows named in_rows = cc
+entered_rows (Some b) name rows named in_rows =
+    let name_is : name ≡ (out-SubCommand (box_value b)).name.now =
+    ap (λ (o : Option Text). unwrap_or o name) named in
+    let rows_are : rows ≡ rows_of (found_of (out-SubCommand (box_value b)).matches) =
+    ap (λ (o : Option (List Row)). unwrap_or o rows) in_rows in
+    ap₂ (λ (x : Text) (y : List Row). Some (x, y)) (sym name_is) (sym rows_are)
+
+pub text_found : (f : Found) (id : Text) (r : Option (Bor Text))
+    → option_map (λ s. s.now) r ≡ first_value f id
+    → IfSome r (λ t. first_of id (rows_of f) ≡ Some t.now)
+text_found f id None h = tt
+text_found f id (Some t) h = sym (first_value-rows f id) ∙ sym h
+
+pub none_found : (f : Found) (id : Text) (r : Option (Bor Text))
+    → option_map (λ s. s.now) r ≡ first_value f id → r ≡ None → first_of id (rows_of f) ≡ None
+none_found f id None h is = sym (first_value-rows f id) ∙ sym h
+none_found f id (Some t) h is = cc
+
+pub finds_named : (found : Option (Text × List Row)) (name : Text) (rows : List Row)
+    (t : Option Task)
+    → found ≡ Some (name, rows) → IfSome t (λ t. IsTask t name rows)
+    → IfSome t (λ t. Finds found t)
+finds_named found name rows None is h = tt
+finds_named found name rows (Some t) is h = (name, rows, is, h)
+
+-- the subcommand has another spelling of its name
+pub task_renamed : (name other : Text) (rows : List Row) (t : Option Task) → name ≡ other
+    → IfSome t (λ t. IsTask t other rows) → IfSome t (λ t. IsTask t name rows)
+task_renamed name other rows t is h =
+    let P : Text → Type 0 = λ n. IfSome t (λ t. IsTask t n rows) in subst P (sym is) h
+
+pub request_renamed : (name other : Text) (rows : List Row) (r : Option Request) → name ≡ other
+    → IfSome r (λ r. IsRequest r other rows) → IfSome r (λ r. IsRequest r name rows)
+request_renamed name other rows r is h =
+    let P : Text → Type 0 = λ n. IfSome r (λ r. IsRequest r n rows) in subst P (sym is) h
+
+pub renumbered : (id : Text) (rows : List Row) (m n : ℕ) → m ≡ n → IsNumberAt id rows n
+    → IsNumberAt id rows m
+renumbered id rows m n is h = h ∙ ap (λ k. Some (decimal k)) (sym is)
+
+pub renumbered_if : (id : Text) (rows : List Row) (m : Option ℕ) (n : ℕ) → IfSome m (λ m. m ≡ n)
+    → IsNumberAt id rows n → IfSome m (λ m. IsNumberAt id rows m)
+renumbered_if id rows None n is h = tt
+renumbered_if id rows (Some m) n is h = renumbered id rows m n is h
+
+request_ids : (r : Request) (name : Text) (rows : List Row) → IsRequest r name rows → HasId r
+request_ids (request.Enter id text) name rows h = h.1
+request_ids (request.Ask id) name rows h = h.1
+request_ids (request.Sheet event round position style) name rows h = tt
+request_ids request.Tick name rows h = tt
+request_ids request.Stop name rows h = tt
+
+-- what was found has its ids in their range
+pub found_ids : (found : Option (Text × List Row)) (t : Task) → Finds found t → HasIds t
+found_ids found (task.Replay event round style) h = tt
+found_ids found (task.Hall desks) h = tt
+found_ids found (task.EnterLines to batch) h = tt
+found_ids found (task.Log store) h = tt
+found_ids found (task.Serve service) h = h.3.1.version
+found_ids found (task.Carry errand) h = request_ids errand.request h.0 h.1 h.3.request

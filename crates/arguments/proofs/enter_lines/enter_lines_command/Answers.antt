@@ -1,0 +1,15 @@
+use Rattle.std.proofs.Common.{◌∙◌, ap, Some, codes}
+use Rattle.arguments.specs.Arguments.{option_rule}
+use Rattle.arguments.proofs.Building.{added, added_last}
+use Rattle.arguments.proofs.enter_lines.enter_lines_command.Goals as goal
+
+pub returns : goal.returns
+returns c =
+    let one =
+    added c.in_ok-command.command c.in_ok-command-2.command _ c.option-first_id.result _
+    c.in_ok-command.ensures
+    (c.option-first_id.ensures.rule
+    ∙ ap (λ p. option_rule (codes "first-id") (Some p)) c.unsigned.ensures)
+    c.in_ok-command-2.ensures.app c.in_ok-command-2.ensures.local in
+    added_last c.with_argument-2.result c.in_ok-command-2.command _ c.wait_flag.result _ one
+    c.wait_flag.ensures.rule c.with_argument-2.ensures.app c.with_argument-2.ensures.local

@@ -1,0 +1,38 @@
+use Rattle.std.proofs.Common.{◌∙◌, ap, Some, codes}
+use Rattle.arguments.specs.Arguments.{option_rule}
+use Rattle.arguments.proofs.Building.{added, added_last}
+use Rattle.arguments.proofs.serve.serve_command.Goals as goal
+
+pub returns : goal.returns
+returns c =
+    let one =
+    added c.plain_command-command.result c.in_ok-command.command _ c.option-hall.result _
+    c.plain_command-command.ensures
+    (c.option-hall.ensures.rule
+    ∙ ap (λ p. option_rule (codes "hall") (Some p)) c.unsigned.ensures)
+    c.in_ok-command.ensures.app c.in_ok-command.ensures.local in
+    let two =
+    added c.in_ok-command.command c.in_ok-command-2.command _ c.option-desk.result _ one
+    (c.option-desk.ensures.rule
+    ∙ ap (λ p. option_rule (codes "desk") (Some p)) c.unsigned-2.ensures)
+    c.in_ok-command-2.ensures.app c.in_ok-command-2.ensures.local in
+    let three =
+    added c.in_ok-command-2.command c.in_ok-command-3.command _ c.option-store.result _ two
+    (c.option-store.ensures.rule
+    ∙ ap (λ p. option_rule (codes "store") (Some p)) c.string.ensures)
+    c.in_ok-command-3.ensures.app c.in_ok-command-3.ensures.local in
+    let four =
+    added c.in_ok-command-3.command c.in_ok-command-4.command _ c.option-connections.result _ three
+    (c.option-connections.ensures.rule
+    ∙ ap (λ p. option_rule (codes "connections") (Some p)) c.unsigned-3.ensures)
+    c.in_ok-command-4.ensures.app c.in_ok-command-4.ensures.local in
+    let five =
+    added c.in_ok-command-4.command c.in_ok-command-5.command _ c.patience_option.result _ four
+    c.patience_option.ensures.rule c.in_ok-command-5.ensures.app
+    c.in_ok-command-5.ensures.local in
+    let six =
+    added c.in_ok-command-5.command c.in_ok-command-6.command _ c.wire_option.result _ five
+    c.wire_option.ensures.rule c.in_ok-command-6.ensures.app
+    c.in_ok-command-6.ensures.local in
+    added_last c.with_argument-7.result c.in_ok-command-6.command _ c.address_value.result _ six
+    c.address_value.ensures.rule c.with_argument-7.ensures.app c.with_argument-7.ensures.local

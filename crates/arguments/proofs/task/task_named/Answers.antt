@@ -1,0 +1,29 @@
+use Rattle.std.proofs.Common.{codes}
+use Rattle.clap.specs.Words.{found_of, rows_of}
+use Rattle.arguments.proofs.Found.{task_renamed}
+use Rattle.arguments.proofs.task.task_named.Goals as goal
+
+pub returns-in-hall : goal.returns-in-hall
+returns-in-hall c =
+    task_renamed c.args.name.now (codes "hall") (rows_of (found_of c.args.found.now))
+    c.hall_of.result c.in-hall.is c.hall_of.ensures
+
+pub returns-in-replay : goal.returns-in-replay
+returns-in-replay c =
+    task_renamed c.args.name.now (codes "replay") (rows_of (found_of c.args.found.now))
+    c.replay_of.result c.in-replay.is c.replay_of.ensures
+
+pub returns-in-text : goal.returns-in-text
+returns-in-text c =
+    task_renamed c.args.name.now (codes "enter-lines") (rows_of (found_of c.args.found.now))
+    c.lines_of.result c.in-text.is c.lines_of.ensures
+
+pub returns-in-log : goal.returns-in-log
+returns-in-log c =
+    task_renamed c.args.name.now (codes "log") (rows_of (found_of c.args.found.now))
+    c.log_of.result c.in-log.is c.log_of.ensures
+
+pub returns-in-serve : goal.returns-in-serve
+returns-in-serve c =
+    task_renamed c.args.name.now (codes "serve") (rows_of (found_of c.args.found.now))
+    c.serve_of.result c.in-serve.is c.serve_of.ensures

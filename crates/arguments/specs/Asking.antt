@@ -1,0 +1,217 @@
+-- What the words of the program ask for, as its parser reads words: `clap` says which word is whose
+-- value.
+use Rattle.std.specs.Prelude.{◌≡◌, ◌⊎◌, true, false, ℕ, List, codes, decimal, map, Option, None}
+use Rattle.std.specs.Prelude.{Some, option_and_then}
+use Rattle.clap.specs.Words.{App, Row, Text, all_of, first_of, new_app, one_of, subcommand_of}
+use Rattle.clap.specs.Words.{with_rule, with_subcommand}
+use Rattle.clap.specs.declared.builder.value_parser.ValueParser.{ValueParser}
+use Rattle.formats.specs.declared.events.Event.{Event}
+use Rattle.formats.specs.Events.{all_events, event_name, event_of_name}
+use Rattle.sheets.specs.declared.Style.{Style}
+use Rattle.sheets.specs.declared.Style.TheVariants as printed
+use Rattle.wire.specs.declared.values.SheetStyle.{SheetStyle}
+use Rattle.wire.specs.declared.values.SheetStyle.TheVariants as asked
+use Rattle.wire.specs.Laws.{IsVersion}
+use Rattle.wire.specs.Ranges.{IsId}
+use Rattle.arguments.specs.Arguments.{IsNumberAt, IsOneOf, any_text, csv_rule, errand_words}
+use Rattle.arguments.specs.Arguments.{numbers, option_rule, round_numbers, value_rule, values_rule}
+use Rattle.arguments.specs.Arguments.{wait_rule}
+use Rattle.batch.specs.declared.lines_entered.Batch.{Batch}
+use Rattle.service.specs.declared.Service.{Service}
+use Rattle.arguments.specs.declared.task.Errand.{Errand}
+use Rattle.arguments.specs.declared.task.Request.{Request}
+use Rattle.arguments.specs.declared.task.Request.TheVariants as request
+use Rattle.arguments.specs.declared.task.Task.{Task}
+use Rattle.arguments.specs.declared.task.Task.TheVariants as task
+
+-- ---- the words that subcommands take
+
+-- what passes as an event, the name of one, and what as a round
+pub record RoundParsers : Type 0 where
+  pub events : Option ValueParser
+  pub rounds : Option ValueParser
+  pub named : IsOneOf events (map event_name all_events)
+  pub numbered : IsOneOf rounds round_numbers
+
+abbrev pub replay_words : RoundParsers → App
+replay_words p =
+    with_rule (with_rule (with_rule (new_app (codes "replay"))
+    (value_rule (codes "event") p.events))
+    (value_rule (codes "round") p.rounds))
+    csv_rule
+
+abbrev pub hall_words : App
+hall_words = with_rule (new_app (codes "hall")) (value_rule (codes "desks") (numbers 0 255))
+
+abbrev pub serve_words : App
+serve_words =
+    with_rule (with_rule (with_rule (with_rule (with_rule (with_rule (with_rule
+    (new_app (codes "serve"))
+    (option_rule (codes "hall") (numbers 0 4294967295)))
+    (option_rule (codes "desk") (numbers 0 255)))
+    (option_rule (codes "store") any_text))
+    (option_rule (codes "connections") (numbers 1 1000000)))
+    (record (option_rule (codes "patience") (numbers 1 86400)) { required = false }))
+    (record (option_rule (codes "wire") (numbers 1 2)) { required = false }))
+    (values_rule (codes "addr") any_text)
+
+abbrev pub log_words : App
+log_words = with_rule (new_app (codes "log")) (option_rule (codes "store") any_text)
+
+abbrev pub enter_words : App
+enter_words =
+    with_rule (with_rule (errand_words (codes "enter"))
+    (value_rule (codes "id") (numbers 1 9223372036854775807)))
+    (value_rule (codes "text") any_text)
+
+abbrev pub lines_words : App
+lines_words =
+    with_rule (with_rule (errand_words (codes "enter-lines"))
+    (option_rule (codes "first-id") (numbers 1 9223372036854775807)))
+    wait_rule
+
+abbrev pub ask_words : App
+ask_words =
+    with_rule (errand_words (codes "ask"))
+    (value_rule (codes "id") (numbers 1 9223372036854775807))
+
+abbrev pub sheet_words : RoundParsers → App
+sheet_words p =
+    with_rule (with_rule (with_rule (with_rule (errand_words (codes "sheet"))
+    (value_rule (codes "event") p.events))
+    (value_rule (codes "round") p.rounds))
+    (value_rule (codes "position") (numbers 0 4294967295)))
+    csv_rule
+
+-- the words of the program: a subcommand, which has to be there, and its own, of which it has a
+-- version
+abbrev pub named_app : App
+named_app =
+    record (new_app (codes "desk")) {
+      top =
+          record (new_app (codes "desk")).top { has_version = true; subcommand_required = true };
+    }
+
+-- what passes at `replay` and at `sheet`
+pub record Parsers : Type 0 where
+  pub replay : RoundParsers
+  pub sheet : RoundParsers
+
+abbrev pub desk_words : Parsers → App
+desk_words p =
+    with_subcommand (with_subcommand (with_subcommand (with_subcommand (with_subcommand
+    (with_subcommand (with_subcommand (with_subcommand (with_subcommand (with_subcommand named_app
+    (replay_words p.replay).top)
+    hall_words.top)
+    serve_words.top)
+    log_words.top)
+    enter_words.top)
+    lines_words.top)
+    ask_words.top)
+    (sheet_words p.sheet).top)
+    (errand_words (codes "tick")).top)
+    (errand_words (codes "stop")).top
+
+-- ---- what their values say
+
+-- an event by its name, and a round as it prints in decimal
+pub record IsRound (rows : List Row) (event : Event) (round : ℕ) : Type 0 where
+  pub named : option_and_then event_of_name (first_of (codes "event") rows) ≡ Some event
+  pub numbered : first_of (codes "round") rows ≡ Some (decimal round)
+
+-- whether `--csv` is there
+pub record IsPrinted (rows : List Row) (style : Style) : Type 0 where
+  pub table : one_of (codes "csv") rows ≡ Some (codes "true") → style ≡ printed.Table
+  pub text : one_of (codes "csv") rows ≡ Some (codes "false") → style ≡ printed.Text
+
+pub record IsAsked (rows : List Row) (style : SheetStyle) : Type 0 where
+  pub table : one_of (codes "csv") rows ≡ Some (codes "true") → style ≡ asked.Table
+  pub text : one_of (codes "csv") rows ≡ Some (codes "false") → style ≡ asked.Text
+
+-- the subcommand of this name with these values makes the request
+abbrev pub IsRequest : Request → Text → List Row → Type 0
+IsRequest (request.Enter id text) name rows =
+    (name ≡ codes "enter") × IsId id × IsNumberAt (codes "id") rows id
+    × (first_of (codes "text") rows ≡ Some text.now)
+IsRequest (request.Ask id) name rows =
+    (name ≡ codes "ask") × IsId id × IsNumberAt (codes "id") rows id
+IsRequest (request.Sheet event round position style) name rows =
+    (name ≡ codes "sheet") × IsRound rows event round
+    × IsNumberAt (codes "position") rows position × IsAsked rows style
+IsRequest request.Tick name rows = name ≡ codes "tick"
+IsRequest request.Stop name rows = name ≡ codes "stop"
+
+-- and is for this desk of this hall at this address
+pub record IsErrand (e : Errand) (name : Text) (rows : List Row) : Type 0 where
+  pub hall : IsNumberAt (codes "hall") rows e.hall
+  pub desk : IsNumberAt (codes "desk") rows e.desk
+  pub address : first_of (codes "to") rows ≡ Some e.to.now
+  pub request : IsRequest e.request name rows
+
+-- how long a read waits, where the words say it
+abbrev pub IsPatience : Option ℕ → List Row → Type 0
+IsPatience (Some n) rows = IsNumberAt (codes "patience") rows n
+IsPatience None rows = first_of (codes "patience") rows ≡ None
+
+-- the version of the wire, 1 where none is given
+abbrev pub IsWire : ℕ → List Row → Type 0
+IsWire n rows =
+    IsNumberAt (codes "wire") rows n ⊎ ((first_of (codes "wire") rows ≡ None) × (n ≡ 1))
+
+-- a desk of this hall that lines are entered at, the id of the first one, and whether `--wait` is
+-- there
+pub record IsBatch (to : Text) (b : Batch) (rows : List Row) : Type 0 where
+  pub hall : IsNumberAt (codes "hall") rows b.receiver.hall
+  pub desk : IsNumberAt (codes "desk") rows b.receiver.desk
+  pub address : first_of (codes "to") rows ≡ Some to
+  pub first_id : IsNumberAt (codes "first-id") rows b.first_id
+  pub waits : one_of (codes "wait") rows ≡ Some (codes "true") → b.waits ≡ true
+  pub goes_on : one_of (codes "wait") rows ≡ Some (codes "false") → b.waits ≡ false
+
+-- a desk of this hall, its file, how many connections it serves, how long it waits for a silent
+-- one, the version in which it pushes, and where the desks listen
+pub record IsService (s : Service) (rows : List Row) : Type 0 where
+  pub hall : IsNumberAt (codes "hall") rows s.hall
+  pub desk : IsNumberAt (codes "desk") rows s.desk
+  pub store : first_of (codes "store") rows ≡ Some s.store.now
+  pub connections : IsNumberAt (codes "connections") rows s.connections
+  pub patience : IsPatience s.patience rows
+  pub wire : IsWire s.wire rows
+  pub version : IsVersion s.wire
+  pub addresses : all_of (codes "addr") rows ≡ Some (map (λ a. a.now) s.addresses.now)
+
+abbrev pub IsTask : Task → Text → List Row → Type 0
+IsTask (task.Replay event round style) name rows =
+    (name ≡ codes "replay") × IsRound rows event round × IsPrinted rows style
+IsTask (task.Hall desks) name rows =
+    (name ≡ codes "hall") × IsNumberAt (codes "desks") rows desks
+IsTask (task.Carry errand) name rows = IsErrand errand name rows
+IsTask (task.EnterLines to batch) name rows =
+    (name ≡ codes "enter-lines") × IsBatch to.now batch rows
+IsTask (task.Log store) name rows =
+    (name ≡ codes "log") × (first_of (codes "store") rows ≡ Some store.now)
+IsTask (task.Serve service) name rows = (name ≡ codes "serve") × IsService service rows
+
+-- the id of a request is in its range
+abbrev pub HasId : Request → Type 0
+HasId (request.Enter id text) = IsId id
+HasId (request.Ask id) = IsId id
+HasId (request.Sheet event round position style) = Unit {0}
+HasId request.Tick = Unit {0}
+HasId request.Stop = Unit {0}
+
+-- the ids of a task are in their range, and its version of the wire is one
+abbrev pub HasIds : Task → Type 0
+HasIds (task.Replay event round style) = Unit {0}
+HasIds (task.Hall desks) = Unit {0}
+HasIds (task.Carry errand) = HasId errand.request
+HasIds (task.EnterLines to batch) = Unit {0}
+HasIds (task.Log store) = Unit {0}
+HasIds (task.Serve service) = IsVersion service.wire
+
+abbrev pub Finds : Option (Text × List Row) → Task → Type 0
+Finds found t = (name : Text) × (rows : List Row) × (found ≡ Some (name, rows)) × IsTask t name rows
+
+-- the words, of which the first is the program's own name, ask for this
+abbrev pub Asks : List Text → Task → Type 0
+Asks words t = (p : Parsers) × Finds (subcommand_of (desk_words p) words) t

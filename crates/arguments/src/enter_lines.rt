@@ -1,0 +1,76 @@
+//! The subcommand `enter-lines`: its words and its help.
+
+ghost use Rattle.std.specs.Prelude.{◌≡◌, false, codes, IfOk, IfSome};
+ghost use Rattle.clap.specs.Words.{found_of, rows_of, rule_of};
+ghost use Rattle.arguments.specs.Arguments.{IsCommand, wait_rule};
+ghost use Rattle.arguments.specs.Asking.{lines_words, IsTask};
+
+use crate::task::{Task, of_four_bytes, of_one_byte};
+use crate::values::{errand_command, number_at, option, text_at, with_argument};
+use batch::{Batch, Receiver};
+use clap::builder::ValueParser;
+use clap::{Arg, ArgAction, ArgMatches, Command};
+use std::alloc::{AllocError, Global};
+
+const ABOUT: &str = "Enters the commands of standard input at a desk, one a line.";
+
+const AFTER: &str = "\
+The first line gets the id ID, and each further one the next. A line is entered as soon as it was
+read, over a connection of its own, and again where the desk's queue is full. Prints `taken ID` for
+each line, or with --wait what `ask` prints once the command is decided; a desk that does not decide
+is ticked now and then.
+
+At a fault the lines that were printed are entered and the next one may be; no other was sent. Go on
+from the next one, with its id: nothing is entered twice.
+
+Exit status: 0 all lines were entered; 2 the words are not understood, or ask for help; 3 bad desk
+number, input too long, text too long, no more ids, still pending, command lost (the desk was
+started again before it was decided), or refused NAME; 4 cannot read, cannot connect, cannot write,
+or no answer; 5 no memory.";
+
+/// The flag `--wait`.
+fn wait_flag<'a>(alloc: Global) -> Arg<'a>
+    ensures rule { rule_of result ≡ wait_rule }
+    ensures local { result.global ≡ false }
+{
+    Arg::new(alloc, "wait")
+        .long("wait")
+        .help("Wait for each command until it is decided")
+        .action(ArgAction::SetTrue)
+}
+
+/// The words of `enter-lines`.
+pub fn enter_lines_command<'a>(alloc: Global) -> Result<Command<'a>, AllocError>
+    ensures { IfOk result (λ command. IsCommand command lines_words) }
+{
+    let command = errand_command(alloc, "enter-lines", ABOUT, AFTER)?;
+    let first_id = option(
+        alloc,
+        "first-id",
+        "ID",
+        "The id of the first line, 1 to 9223372036854775807",
+        ValueParser::unsigned(1, 9_223_372_036_854_775_807),
+    );
+    let command = with_argument(command, first_id)?;
+    with_argument(command, wait_flag(alloc))
+}
+
+/// What the words of `enter-lines` ask for.
+pub fn lines_of<'a>(found: &ArgMatches<'a>) -> Option<Task<'a>>
+    ensures { IfSome result
+        (λ task. IsTask task (codes "enter-lines") (rows_of (found_of found.now))) }
+{
+    let hall = of_four_bytes(number_at(found, "hall")?)?;
+    let desk = of_one_byte(number_at(found, "desk")?)?;
+    let to = text_at(found, "to")?;
+    let first_id = number_at(found, "first-id")?;
+    let waits = found.get_flag("wait");
+    Some(Task::EnterLines {
+        to,
+        batch: Batch {
+            receiver: Receiver { hall, desk },
+            first_id,
+            waits,
+        },
+    })
+}

@@ -1,0 +1,20 @@
+//! What the command line of the program asks for: its subcommands with their arguments and their
+//! help, and the task of a command line that was parsed.
+#![tactic(auto)]
+
+mod ask;
+mod enter;
+mod enter_lines;
+mod hall;
+mod log;
+mod parsing;
+mod replay;
+mod serve;
+mod sheet;
+mod stop;
+mod task;
+mod tick;
+mod values;
+
+pub use parsing::{parse, words_of};
+pub use task::{Errand, Request, Task, task_of};

@@ -1,0 +1,202 @@
+//! Errands: one request to a desk, and its answer printed.
+
+ghost use Rattle.std.specs.Prelude.{◌≡◌, ◌⊎◌, ◌<◌, ◌≤◌, length, IfOk, IfErr, Ok, OnOk};
+ghost use Rattle.client.specs.Answers.{judged};
+ghost use Rattle.wire.specs.Ranges.{IsBody, IsEntry, IsFrame};
+ghost use Rattle.wire.specs.declared.frame.Frame.{Frame};
+ghost use Rattle.wire.specs.declared.frame.What.TheVariants as what;
+ghost use Rattle.arguments.specs.Asking.{HasId};
+ghost use Rattle.errands.specs.Errands.{Answers, DoesErrand, FailsErrand, FailsTalk};
+ghost use Rattle.errands.specs.Errands.{FailsToConnect, Hinders, IsAllowed, IsShort, frame_of};
+ghost use Rattle.errands.specs.Errands.{version_of, what_of};
+ghost use Rattle.wire.specs.declared.values.Version.TheVariants as version;
+ghost use Rattle.errands.specs.declared.faults.DeskFault.TheVariants as desk_fault;
+
+use crate::faults::DeskFault;
+use acceptor::entry::Entry;
+use arguments::{Errand, Request};
+use client::{exchange, reply_text};
+use lines::write_text;
+use std::alloc::Global;
+use std::io;
+use std::io::{ErrorKind, Write};
+use std::net::TcpStream;
+use wire::{Frame, Version, What};
+
+/// The entry, whose id and text are in their ranges.
+fn kept(entry: Entry) -> Entry
+    ensures same { result ≡ entry }
+    ensures in_range { IsEntry result }
+{
+    let _id = entry.id();
+    let _text = entry.text();
+    entry
+}
+
+/// A command for a desk's queue.
+fn submit(alloc: Global, id: u64, text: &str) -> Result<What, DeskFault>
+    ensures ok { IfOk result (λ w. w ≡ what.Submit (record { id = id; text = text.now })) }
+    ensures body { IfOk result (IsBody version.One) }
+    ensures short { OnOk result (length text.now ≤ 600) }
+    ensures err { IfErr result (λ f. (f ≡ desk_fault.NoMemory)
+        ⊎ ((f ≡ desk_fault.TextTooLong) × (600 < length text.now))) }
+{
+    if text.len() > 600 {
+        return Err(DeskFault::TextTooLong);
+    }
+    match Entry::new(alloc, id, text.as_bytes()) {
+        Ok(entry) => Ok(What::Submit { entry: kept(entry) }),
+        Err(_) => Err(DeskFault::NoMemory),
+    }
+}
+
+/// What a frame says that makes a request.
+fn what_of(alloc: Global, request: Request<'_>) -> Result<What, DeskFault>
+    requires { HasId request }
+    ensures what { IfOk result (λ w. w ≡ what_of request.entry) }
+    ensures body { IfOk result (IsBody (version_of request.entry)) }
+    ensures short { OnOk result (IsShort request.entry) }
+    ensures err { IfErr result (λ f. (f ≡ desk_fault.NoMemory)
+        ⊎ ((f ≡ desk_fault.TextTooLong) × (¬ IsShort request.entry))) }
+{
+    match request {
+        Request::Enter { id, text } => submit(alloc, id, text),
+        Request::Ask { id } => Ok(What::Ask { id }),
+        Request::Sheet {
+            event,
+            round,
+            position,
+            style,
+        } => Ok(What::Sheet {
+            event,
+            round,
+            position,
+            style,
+        }),
+        Request::Tick => Ok(What::Tick),
+        Request::Stop => Ok(What::Stop),
+    }
+}
+
+/// The first version of the wire that has a frame for a request.
+fn version_of(request: &Request<'_>) -> Version
+    ensures { result ≡ version_of request.now }
+{
+    match request {
+        Request::Sheet { event, .. } => {
+            if event.number() <= Version::One.last_event() {
+                Version::One
+            } else {
+                Version::Two
+            }
+        }
+        Request::Enter { .. } | Request::Ask { .. } | Request::Tick | Request::Stop => Version::One,
+    }
+}
+
+/// The frame of an errand, from a client, which is 0, to the desk.
+///
+/// # Errors
+///
+/// `BadDesk` where the desk's number is not 1 to 5; with a good one `TextTooLong` where a text has
+/// more than 600 bytes; `NoMemory` where memory runs out.
+pub(crate) fn frame_of(alloc: Global, errand: Errand<'_>) -> Result<Frame, DeskFault>
+    requires { HasId errand.request }
+    ensures frame { IfOk result (λ f. f ≡ frame_of errand.entry) }
+    ensures spelled { IfOk result IsFrame }
+    ensures allowed { OnOk result (IsAllowed errand.entry) }
+    ensures err { IfErr result (λ f. Hinders f errand.entry) }
+{
+    if errand.desk == 0 || errand.desk > 5 {
+        return Err(DeskFault::BadDesk);
+    }
+    let version = version_of(&errand.request);
+    match what_of(alloc, errand.request) {
+        Ok(what) => Ok(Frame {
+            version,
+            hall: errand.hall,
+            from: 0,
+            to: errand.desk,
+            what,
+        }),
+        Err(fault) => Err(fault),
+    }
+}
+
+/// Why nobody could be reached.
+fn no_connection(error: &io::Error) -> DeskFault
+    ensures { FailsToConnect result }
+{
+    if error.kind() == ErrorKind::OutOfMemory {
+        return DeskFault::NoMemory;
+    }
+    DeskFault::CannotConnect
+}
+
+/// Opens a connection to an address, writes a request, and reads the answer.
+fn talk(rt: &HostRuntime, asked: &Frame, to: &str) -> Result<What, DeskFault>
+    requires { IsFrame asked.now }
+    ensures ok { IfOk result (λ answer. (given : Frame) × IsFrame given
+        × (judged asked.now given ≡ Ok answer)) }
+    ensures err { IfErr result (λ f. FailsTalk f asked.now) }
+{
+    let stream = match TcpStream::connect(rt, to) {
+        Ok(stream) => stream,
+        Err(error) => return Err(no_connection(&error)),
+    };
+    let _ = stream.set_nodelay(true);
+    match exchange(rt.alloc(), asked, &mut &stream, &mut &stream) {
+        Ok(answer) => Ok(answer),
+        Err(fault) => Err(DeskFault::from(fault)),
+    }
+}
+
+/// What is printed of a desk's answer to an errand.
+fn answer_text(rt: &HostRuntime, errand: Errand<'_>) -> Result<Vec<u8>, DeskFault>
+    requires { HasId errand.request }
+    ensures ok { IfOk result (λ text. Answers errand.entry text.items) }
+    ensures allowed { OnOk result (IsAllowed errand.entry) }
+    ensures err { IfErr result (λ f. Hinders f errand.entry) }
+{
+    let asked = match frame_of(rt.alloc(), errand) {
+        Ok(asked) => asked,
+        Err(fault) => return Err(fault),
+    };
+    let answer = match talk(rt, &asked, errand.to) {
+        Ok(answer) => answer,
+        Err(fault) => return Err(fault),
+    };
+    match reply_text(rt.alloc(), answer) {
+        Ok(text) => Ok(text),
+        Err(_) => Err(DeskFault::NoMemory),
+    }
+}
+
+/// Asks a desk and prints its answer.
+///
+/// # Errors
+///
+/// - `BadDesk` and `TextTooLong`, in this order, before anything is opened.
+/// - `CannotConnect` where nobody answers at the address.
+/// - `Refused` where the desk refuses, `NoAnswer` where no answer comes, `Write` where the request
+///   or the answer can't be written, `NoMemory` where memory runs out.
+pub fn carry<W: Write>(
+    rt: &HostRuntime,
+    errand: Errand<'_>,
+    writer: &mut W,
+) -> Result<(), DeskFault>
+    requires { HasId errand.request }
+    ensures ok { OnOk result
+        (DoesErrand errand.entry (W.contents writer.old) (W.contents writer.new)) }
+    ensures err { IfErr result
+        (λ f. FailsErrand f errand.entry (W.contents writer.old) (W.contents writer.new)) }
+{
+    let text = match answer_text(rt, errand) {
+        Ok(text) => text,
+        Err(fault) => return Err(fault),
+    };
+    match write_text(writer, &text) {
+        Ok(()) => Ok(()),
+        Err(_) => Err(DeskFault::Write),
+    }
+}

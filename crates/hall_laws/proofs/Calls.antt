@@ -1,0 +1,225 @@
+-- What is said of one desk's calls is what is said of the world's happenings.
+use Rattle.std.proofs.Common.{◌≡◌, ◌≤◌, ◌⊎◌, inl, inr, ℕ, Bool, true, false, if◌then◌else◌, List, [], ◌++◌, Option, Some, Result, Ok, Err, IfOk, refl, sym, ap, ◌∙◌, arith}
+use Rattle.std.proofs.lemmas.List.{append-nil}
+use Rattle.std.proofs.lemmas.Bool.Decides.{nat_tests}
+use Rattle.proposer.specs.declared.faults.Refusal.{Refusal}
+use Rattle.acceptor.specs.declared.entry.Entry.{Entry}
+use Rattle.acceptor.specs.declared.message.Message.{Message}
+use Rattle.acceptor.specs.declared.stored.Stored.{Stored}
+use Rattle.learner.specs.declared.event.Event.{Event}
+use Rattle.learner.specs.declared.event.Event.TheVariants.{Submit, Start, Tick, Deliver}
+use Rattle.learner.specs.declared.event.WorldEvent.{WorldEvent}
+use Rattle.learner.specs.declared.event.WorldEvent.TheVariants.{Submit as SubmitAt, Start as StartAt, Tick as TickAt, Deliver as DeliverNth, Restart as RestartAt}
+use Rattle.learner.specs.Desks.{Desk, restarted}
+use Rattle.learner.specs.Steps.{Done, IsDesk, is_desk, step}
+use Rattle.learner.specs.Worlds.{World, put, world_after, at_desk, nth_sent, delivered, restart_at, happens}
+use Rattle.store.specs.Keeping.{HoldsEither}
+use Rattle.world.proofs.Places.{put_same}
+use Rattle.roles.specs.declared.faults.NodeFault.{NodeFault}
+use Rattle.roles.specs.declared.faults.NodeFault.TheVariants.{Down}
+use Rattle.replica.specs.Nodes.{NodeValue, KeeperWords}
+use Rattle.replica.specs.Handles.{Handles, HoldsBeforeOrAfter, step_at}
+use Rattle.hall_laws.proofs.Putting.{put_here, put_put}
+use Rattle.roles.specs.Opening.{opened}
+use Rattle.replica.specs.Opens.{Opens}
+use Rattle.hall_laws.specs.Stops.{AnswerIsEvent, OpeningsAreRestarts, Answered, Stopped, receiver, place, goes_on, IsEventAt, IsNext, with_desk, CallsAreHappenings}
+
+there : (n d : ℕ) → IsDesk n d → is_desk n d ≡ true
+there n d ours =
+    let low : 1 ≤ d = ours.0 in
+    let high : d ≤ n = ours.1 in grind (arith, nat_tests)
+
+pub answer_is_event : AnswerIsEvent
+answer_is_event n d w event y messages ours takes =
+    ap (λ (t : Bool). if t then world_after w d (step n d (w.desks d) event) else w)
+    (there n d ours)
+    ∙ ap (λ (r : Result Done Refusal). world_after w d r) takes.ok
+
+restart_is : (n d : ℕ) (w : World) → IsDesk n d → (restart_at n w d).desks d ≡ restarted (w.desks d)
+restart_is n d w ours =
+    ap (λ (t : Bool). (if t then restart else w).desks d) (there n d ours)
+    ∙ put_here w.desks d (restarted (w.desks d))
+  where
+    restart : World
+    restart = record { desks = put w.desks d (restarted (w.desks d)); sent = w.sent }
+
+pub openings_are_restarts : OpeningsAreRestarts
+openings_are_restarts n d w event ours = record {
+  before = sym (restart_is n d w ours);
+  later = go (step n d (w.desks d) event) refl;
+}
+  where
+    after_is : (r : Done) → step n d (w.desks d) event ≡ Ok r
+        → (at_desk n w d event).desks d ≡ r.desk
+    after_is r is =
+        ap (λ (t : Bool). (if t then world_after w d (step n d (w.desks d) event) else w).desks d)
+        (there n d ours)
+        ∙ ap (λ (x : Result Done Refusal). (world_after w d x).desks d) is
+        ∙ put_here w.desks d r.desk
+
+    go : (r : Result Done Refusal) → step n d (w.desks d) event ≡ r
+        → IfOk r
+        (λ x. opened x.desk.stored x.desk.log ≡ (restart_at n (at_desk n w d event) d).desks d)
+    go (Ok r) is =
+        ap restarted (sym (after_is r is)) ∙ sym (restart_is n d (at_desk n w d event) ours)
+    go (Err why) is = tt
+
+-- ---- the calls of a node
+
+happens_at : (n : ℕ) (w : World) (e : WorldEvent) (d : ℕ) (event : Event) → IsEventAt w e d event
+    → happens n w e ≡ at_desk n w d event
+happens_at n w (SubmitAt k f) d event h = λ i. at_desk n w (h.0 i) (sym h.1 i)
+happens_at n w (StartAt k) d event h = λ i. at_desk n w (h.0 i) (sym h.1 i)
+happens_at n w (TickAt k) d event h = λ i. at_desk n w (h.0 i) (sym h.1 i)
+happens_at n w (DeliverNth k) d event h =
+    let there : delivered n w (nth_sent w.sent k) ≡ at_desk n w (h.0).to (Deliver h.0) =
+    ap (λ (o : Option Message). delivered n w o) h.1 in
+    there ∙ (λ i. at_desk n w (h.2 i) (sym h.3 i))
+happens_at n w (RestartAt k) d event h = absurd h
+
+place_at : (w : World) (e : WorldEvent) (d : ℕ) (event : Event) → IsEventAt w e d event
+    → place w e ≡ d
+place_at w (SubmitAt k f) d event h = h.0
+place_at w (StartAt k) d event h = h.0
+place_at w (TickAt k) d event h = h.0
+place_at w (DeliverNth k) d event h = ap (λ (o : Option Message). receiver o) h.1 ∙ h.2
+place_at w (RestartAt k) d event h = absurd h
+
+next_step : {K : Type 0} (k : KeeperWords K) (n d : ℕ) (w : World) (e : WorldEvent) (event : Event)
+    (node : NodeValue K) → IsNext k n d w e event node
+    → step_at (k.home_of node.keeper) node.desk event ≡ step n d (w.desks d) event
+next_step k n d w e event node next =
+    let n_is = next.desks in
+    let d_is = next.desk in
+    let known = next.known in λ i. step (n_is i) (d_is i) (known i) event
+
+answered_is : {K : Type 0} (k : KeeperWords K) (n d : ℕ) (w : World) (e : WorldEvent)
+    (event : Event)
+    (old new : NodeValue K) (messages : List Message) → IsNext k n d w e event old
+    → Handles k old event (Ok messages) new
+    → with_desk w d new.desk messages ≡ goes_on n w (Answered e)
+answered_is k n d w e event old new messages next h =
+    let done : step n d (w.desks d) event ≡ Ok (record { desk = new.desk; messages = messages }) =
+    sym (next_step k n d w e event old next) ∙ (h.takes next.up).ok in
+    sym
+    (happens_at n w e d event next.event_is
+    ∙ ap (λ (t : Bool). if t then world_after w d (step n d (w.desks d) event) else w)
+    (there n d next.ours)
+    ∙ ap (λ (r : Result Done Refusal). world_after w d r) done)
+
+same_world : (w : World) (d : ℕ) (x : Desk) → x ≡ w.desks d → with_desk w d x [] ≡ w
+same_world w d x same =
+    let desks = put_same w.desks d x same in
+    let sent = append-nil w.sent in λ i. record { desks = desks i; sent = sent i }
+
+refused_is : {K : Type 0} (k : KeeperWords K) (n d : ℕ) (w : World) (e : WorldEvent) (event : Event)
+    (old new : NodeValue K) (fault : NodeFault) → IsNext k n d w e event old
+    → Handles k old event (Err fault) new → with_desk w d new.desk [] ≡ w
+refused_is k n d w e event old new fault next h =
+    same_world w d new.desk ((h.takes next.up).err ∙ next.known)
+
+-- a restart of the desk, in the world before its event
+restart_before : (n d : ℕ) (w : World) (x : Desk) → IsDesk n d → x ≡ restarted (w.desks d)
+    → with_desk w d x [] ≡ restart_at n w d
+restart_before n d w x ours is =
+    let sent = append-nil w.sent in
+    (λ i. record { desks = put w.desks d (is i); sent = sent i })
+    ∙ sym
+    (ap
+    (λ (t : Bool).
+    if t then record { desks = put w.desks d (restarted (w.desks d)); sent = w.sent } else w)
+    (there n d ours))
+
+-- a restart of the desk, in the world after its event
+restart_later : (n d : ℕ) (w : World) (event : Event) (r : Done) (x : Desk) → IsDesk n d
+    → step n d (w.desks d) event ≡ Ok r → x ≡ restarted r.desk
+    → with_desk w d x []
+    ≡ record { desks = (restart_at n (at_desk n w d event) d).desks; sent = w.sent }
+restart_later n d w event r x ours is same =
+    let sent = append-nil w.sent in
+    let after : at_desk n w d event ≡ world_after w d (Ok r) =
+    ap (λ (t : Bool). if t then world_after w d (step n d (w.desks d) event) else w)
+    (there n d ours)
+    ∙ ap (λ (q : Result Done Refusal). world_after w d q) is in
+    let v : World = world_after w d (Ok r) in
+    let known : v.desks d ≡ r.desk = put_here w.desks d r.desk in
+    let again : (restart_at n v d).desks ≡ put w.desks d x =
+    ap
+    (λ (t : Bool).
+    (if t then record { desks = put v.desks d (restarted (v.desks d)); sent = v.sent }
+    else v).desks)
+    (there n d ours)
+    ∙ ap (λ (z : Desk). put v.desks d (restarted z)) known
+    ∙ put_put w.desks d r.desk (restarted r.desk)
+    ∙ ap (λ (z : Desk). put w.desks d z) (sym same) in
+    let desks : put w.desks d x ≡ (restart_at n (at_desk n w d event) d).desks =
+    sym again ∙ ap (λ (u : World). (restart_at n u d).desks) (sym after) in
+    λ i. record { desks = desks i; sent = sent i }
+
+stopped_is : {K : Type 0} (k : KeeperWords K) (n d : ℕ) (w : World) (e : WorldEvent) (event : Event)
+    (old new : NodeValue K) (s : Stored) (log : List Entry) → IsNext k n d w e event old
+    → Handles k old event (Err Down) new → k.is_honest new.keeper → k.may_hold new.keeper s log
+    → (stored : Bool) × (with_desk w d (opened s log) [] ≡ goes_on n w (Stopped stored e))
+stopped_is k n d w e event old new s log next h honest may =
+    go (step_at (k.home_of old.keeper) old.desk event) refl (h.left next.up (h.down.0 refl) honest)
+  where
+    here : place w e ≡ d
+    here = place_at w e d event next.event_is
+
+    before : (s ≡ old.desk.stored) × (log ≡ old.desk.log)
+        → with_desk w d (opened s log) [] ≡ restart_at n w (place w e)
+    before is =
+        let known = next.known in
+        restart_before n d w (opened s log) next.ours
+        ((λ i. opened (is.0 i) (is.1 i)) ∙ ap restarted known)
+        ∙ ap (λ (j : ℕ). restart_at n w j) (sym here)
+
+    later : (r : Done) → step n d (w.desks d) event ≡ Ok r
+        → (s ≡ r.desk.stored) × (log ≡ r.desk.log)
+        → with_desk w d (opened s log) []
+        ≡ record { desks = (restart_at n (happens n w e) (place w e)).desks; sent = w.sent }
+    later r done is =
+        restart_later n d w event r (opened s log) next.ours done (λ i. opened (is.0 i) (is.1 i))
+        ∙ (λ i.
+        record {
+          desks =
+              (restart_at n (sym (happens_at n w e d event next.event_is) i) (sym here i)).desks;
+          sent = w.sent;
+        })
+
+    either : (r : Done) → step n d (w.desks d) event ≡ Ok r
+        → ((s ≡ old.desk.stored) × (log ≡ old.desk.log))
+        ⊎ ((s ≡ r.desk.stored) × (log ≡ r.desk.log))
+        → (stored : Bool) × (with_desk w d (opened s log) [] ≡ goes_on n w (Stopped stored e))
+    either r done (inl is) = (false, before is)
+    either r done (inr is) = (true, later r done is)
+
+    go : (r : Result Done Refusal) → step_at (k.home_of old.keeper) old.desk event ≡ r
+        → HoldsBeforeOrAfter (k.may_hold new.keeper) (k.may_break new.keeper) old.desk r
+        → (stored : Bool) × (with_desk w d (opened s log) [] ≡ goes_on n w (Stopped stored e))
+    go (Ok r) is holds =
+        either r (sym (next_step k n d w e event old next) ∙ is) (holds.only s log may)
+    go (Err why) is holds = absurd holds
+
+reopened_is : {K : Type 0} (k : KeeperWords K) (n d : ℕ) (w : World) (e : WorldEvent)
+    (event : Event) (old new : NodeValue K) (keeper : K) (node : NodeValue K)
+    → IsNext k n d w e event old → Handles k old event (Err Down) new
+    → (k.is_honest keeper → k.is_honest new.keeper)
+    → ((s : Stored) (log : List Entry) → k.may_hold keeper s log → k.may_hold new.keeper s log)
+    → Opens k keeper node → k.is_honest node.keeper
+    → (stored : Bool) × (with_desk w d node.desk [] ≡ goes_on n w (Stopped stored e))
+reopened_is k n d w e event old new keeper node next h honest held opens here =
+    let s : Stored = node.desk.stored in
+    let log : List Entry = node.desk.log in
+    let stop =
+    stopped_is k n d w e event old new s log next h (honest (opens.honest here))
+    (held s log (opens.loaded here)) in
+    let first = opens.first in (stop.0, ap (λ (x : Desk). with_desk w d x []) first ∙ stop.1)
+
+pub calls_are_happenings : {K : Type 0} (k : KeeperWords K) → CallsAreHappenings k
+calls_are_happenings k = record {
+  answered = answered_is k;
+  refused = refused_is k;
+  stopped = stopped_is k;
+  reopened = reopened_is k;
+}

@@ -1,0 +1,4 @@
+pub mod Calls
+pub mod Putting
+pub mod Running
+pub mod Stopping

@@ -1,0 +1,163 @@
+-- The calls of served frames are a run of the world.
+use Rattle.std.proofs.Common.{◌≡◌, refl, sym, ap, subst, ◌∙◌, ℕ, Bool, true, false, cond, nat_lt, ◌≤◌, List, [], ◌∷◌, ◌++◌, length, Option, None, Some, Result, Ok, Err}
+use Rattle.std.proofs.lemmas.List.{append-nil, append_assoc}
+use Rattle.std.proofs.lemmas.Bool.{ltb-false}
+use Rattle.acceptor.specs.declared.message.Message.{Message}
+use Rattle.learner.specs.Desks.{Desk}
+use Rattle.learner.specs.declared.event.Event.{Event}
+use Rattle.learner.specs.declared.event.Event.TheVariants.{Submit, Start, Tick, Deliver}
+use Rattle.learner.specs.declared.event.WorldEvent.{WorldEvent}
+use Rattle.learner.specs.declared.event.WorldEvent.TheVariants.{Submit as SubmitAt, Start as StartAt, Tick as TickAt, Deliver as DeliverNth}
+use Rattle.learner.specs.Worlds.{World, put}
+use Rattle.replica.specs.Handles.{Handles}
+use Rattle.replica.specs.Nodes.{NodeValue, KeeperWords}
+use Rattle.hall_laws.specs.Stops.{Happening, Answered, real_run, goes_on, with_desk, IsEventAt, CallsAreHappenings}
+use Rattle.hall_laws.proofs.Putting.{put_here, put_put}
+use Rattle.world.proofs.Places.{put_same}
+use Rattle.roles.specs.declared.faults.NodeFault.{NodeFault}
+use Rattle.wire.specs.declared.frame.What.{What}
+use Rattle.wire.specs.declared.frame.What.TheVariants as what
+use Rattle.wire.specs.declared.values.ClientRefusal.TheVariants as refusal
+use Rattle.serving.specs.Answering.{printed, printed_as, sheet}
+use Rattle.serving.specs.Making.{Call, Lead}
+use Rattle.serving.specs.Nodes.{Fate, Goes, Starves, Breaks}
+use Rattle.hall_laws.specs.Served.{handed_out, all_handed_out, IsSentTo, AreSentTo, StandsFor, CallsAreARun, SheetsAreOfTheLog}
+use Rattle.serving.specs.Serving.{first_fate}
+
+-- the event of the world that an event at desk d is
+event_at : (d : ℕ) (sent : List Message) (event : Event) → IsSentTo d sent event → WorldEvent
+event_at d sent (Submit e) s = SubmitAt d e
+event_at d sent Start s = StartAt d
+event_at d sent Tick s = TickAt d
+event_at d sent (Deliver m) s = DeliverNth s.0
+
+is_event_at : (d : ℕ) (w : World) (event : Event) (s : IsSentTo d w.sent event)
+    → IsEventAt w (event_at d w.sent event s) d event
+unfolding event_at
+is_event_at d w (Submit e) s = (refl, refl)
+is_event_at d w Start s = (refl, refl)
+is_event_at d w Tick s = (refl, refl)
+is_event_at d w (Deliver m) s = (m, s.1, s.2, refl)
+
+run_both : (n : ℕ) (w : World) (hs ks : List Happening)
+    → real_run n w (hs ++ ks) ≡ real_run n (real_run n w hs) ks
+run_both n w [] ks = refl
+run_both n w (h ∷ hs) ks = run_both n (goes_on n w h) hs ks
+
+same_world : (w : World) (d : ℕ) (x : Desk) → x ≡ w.desks d → with_desk w d x [] ≡ w
+same_world w d x same =
+    let desks = put_same w.desks d x same in
+    let sent = append-nil w.sent in λ i. record { desks = desks i; sent = sent i }
+
+with_both : (w : World) (d : ℕ) (x y : Desk) (ms more : List Message)
+    → with_desk w d y (ms ++ more) ≡ with_desk (with_desk w d x ms) d y more
+with_both w d x y ms more =
+    let desks = sym (put_put w.desks d x y) in
+    let sent = sym (append_assoc w.sent ms more) in λ i. record { desks = desks i; sent = sent i }
+
+-- what one call comes to
+abbrev Comes : {K : Type 0} → ℕ → ℕ → World → NodeValue K → List Message → Type 0
+Comes n d w z ms = (hs : List Happening) × (with_desk w d z.desk ms ≡ real_run n w hs)
+
+up_call : {K : Type 0} (k : KeeperWords K) → CallsAreHappenings k → (n d : ℕ) (w : World)
+    (event : Event) (answer : Result (List Message) NodeFault) (x z : NodeValue K)
+    → StandsFor k n d w x → x.is_down ≡ false → IsSentTo d w.sent event
+    → Handles k x event answer z → Comes n d w z (handed_out answer)
+up_call k law n d w event (Ok ms) x z h up s c = (
+  Answered (event_at d w.sent event s) ∷ [],
+  law.answered n d w (event_at d w.sent event s) event x z ms (record {
+    ours = h.ours;
+    desks = h.desks;
+    desk = h.desk;
+    known = h.known;
+    up = up;
+    event_is = is_event_at d w event s;
+  }) c,
+)
+up_call k law n d w event (Err why) x z h up s c = (
+  [],
+  law.refused n d w (event_at d w.sent event s) event x z why (record {
+    ours = h.ours;
+    desks = h.desks;
+    desk = h.desk;
+    known = h.known;
+    up = up;
+    event_is = is_event_at d w event s;
+  }) c,
+)
+
+-- a call of a desk that is down does nothing
+down_call : {K : Type 0} (k : KeeperWords K) (n d : ℕ) (w : World)
+    (event : Event) (answer : Result (List Message) NodeFault) (x z : NodeValue K)
+    → StandsFor k n d w x → x.is_down ≡ true
+    → Handles k x event answer z → Comes n d w z (handed_out answer)
+down_call k n d w event answer x z h down c =
+    let ended = c.ended down in (
+      [],
+      ap (λ r. with_desk w d z.desk (handed_out r)) ended.0
+          ∙ same_world w d z.desk (ap (λ u. u.desk) ended.1 ∙ h.known),
+    )
+
+one_call : {K : Type 0} (k : KeeperWords K) → CallsAreHappenings k → (n d : ℕ) (w : World)
+    (event : Event) (answer : Result (List Message) NodeFault) (x z : NodeValue K) (b : Bool)
+    → x.is_down ≡ b → StandsFor k n d w x → IsSentTo d w.sent event
+    → Handles k x event answer z → Comes n d w z (handed_out answer)
+one_call k law n d w event answer x z false is h s c = up_call k law n d w event answer x z h is s c
+one_call k law n d w event answer x z true is h s c = down_call k n d w event answer x z h is c
+
+stands_on : {K : Type 0} (k : KeeperWords K) (n d : ℕ) (w : World) (event : Event)
+    (answer : Result (List Message) NodeFault) (x z : NodeValue K) (ms : List Message)
+    → StandsFor k n d w x → Handles k x event answer z
+    → StandsFor k n d (with_desk w d z.desk ms) z
+stands_on k n d w event answer x z ms h c = record {
+  ours = h.ours;
+  desks = ap (λ u. u.desks) c.home ∙ h.desks;
+  desk = ap (λ u. u.desk) c.home ∙ h.desk;
+  known = sym (put_here w.desks d z.desk);
+}
+
+pub calls_run : {K : Type 0} (k : KeeperWords K) → CallsAreHappenings k → CallsAreARun k
+calls_run k law n d w [] x y h s lead =
+    ([], same_world w d y.desk (ap (λ u. u.desk) (sym lead) ∙ h.known))
+calls_run k law n d w (c ∷ cs) x y h s lead =
+    let z = lead.0 in
+    let ms = handed_out c.answer in
+    let one = one_call k law n d w c.event c.answer x z x.is_down refl h s.0 lead.1 in
+    let w2 = with_desk w d z.desk ms in
+    let rest =
+    calls_run k law n d w2 cs z y (stands_on k n d w c.event c.answer x z ms h lead.1) s.1 lead.2 in (
+      one.0 ++ rest.0,
+      with_both w d z.desk y.desk ms (all_handed_out cs) ∙ rest.1
+          ∙ ap (λ v. real_run n v rest.0) one.1 ∙ sym (run_both n w one.0 rest.0),
+    )
+
+-- a sheet that is answered
+only_sheets : (fate : Fate) (o : Option (List ℕ)) (text : List ℕ)
+    → printed_as fate o ≡ what.SheetText text → o ≡ Some text
+only_sheets Goes None text h =
+    absurd (let k : what.Refused refusal.NoSuchRound ≡ what.SheetText text = h in cc)
+only_sheets Goes (Some t) text h = ap Some (text_of h)
+  where
+    text_of : {t text : List ℕ} → what.SheetText t ≡ what.SheetText text → t ≡ text
+    text_of h = cc
+only_sheets Starves o text h =
+    absurd (let k : what.Refused refusal.NoMemory ≡ what.SheetText text = h in cc)
+only_sheets Breaks o text h =
+    absurd (let k : what.Refused refusal.NoMemory ≡ what.SheetText text = h in cc)
+
+only_there : (b : Bool) (fate : Fate) (o : Option (List ℕ)) (text : List ℕ)
+    → cond b (what.Refused refusal.NotThere) (printed_as fate o) ≡ what.SheetText text
+    → (b ≡ false) × (o ≡ Some text)
+only_there true fate o text h =
+    absurd (let k : what.Refused refusal.NotThere ≡ what.SheetText text = h in cc)
+only_there false fate o text h = (refl, only_sheets fate o text h)
+
+inside : {a b : What} → Some a ≡ Some b → a ≡ b
+inside h = cc
+
+pub sheets_law : SheetsAreOfTheLog
+sheets_law home x fates event round position style text h =
+    let found =
+    only_there (nat_lt (length x.desk.log) position) (first_fate fates)
+    (sheet x event round position style) text (inside h) in
+    (ltb-false (length x.desk.log) position found.0, found.1)

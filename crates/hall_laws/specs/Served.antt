@@ -1,0 +1,73 @@
+-- What the calls of served frames are in the world, and what a sheet that was written is.
+use Rattle.std.specs.Prelude.{◌≡◌, ◌≤◌, ℕ, List, [], ◌∷◌, ◌++◌, length, Some, Result, Ok}
+use Rattle.std.specs.Prelude.{Err}
+use Rattle.acceptor.specs.declared.message.Message.{Message}
+use Rattle.formats.specs.declared.events.Event.{Event as EventOf}
+use Rattle.learner.specs.declared.event.Event.{Event}
+use Rattle.learner.specs.declared.event.Event.TheVariants.{Submit, Start, Tick, Deliver}
+use Rattle.learner.specs.Steps.{IsDesk}
+use Rattle.learner.specs.Worlds.{World, nth_sent}
+use Rattle.replica.specs.Handles.{Handles}
+use Rattle.replica.specs.Nodes.{NodeValue, KeeperWords}
+use Rattle.hall_laws.specs.Stops.{Happening, real_run, with_desk}
+use Rattle.serving.specs.Answering.{style_of}
+use Rattle.serving.specs.Making.{Call, Lead}
+use Rattle.answers.specs.Seen.{Seen}
+use Rattle.serving.specs.Nodes.{Fate}
+use Rattle.serving.specs.Serving.{answer}
+use Rattle.serving.specs.declared.request.Request.TheVariants.{Printed}
+use Rattle.store.specs.declared.home.Home.{Home}
+use Rattle.wire.specs.declared.frame.What.TheVariants as what
+use Rattle.wire.specs.declared.values.SheetStyle.{SheetStyle as Style}
+use Rattle.answers.specs.Answers.{sheet_at}
+use Rattle.roles.specs.declared.faults.NodeFault.{NodeFault}
+
+-- the messages that an answer hands out
+abbrev pub handed_out : Result (List Message) NodeFault → List Message
+handed_out (Ok messages) = messages
+handed_out (Err why) = []
+
+abbrev pub all_handed_out : List Call → List Message
+all_handed_out [] = []
+all_handed_out (c ∷ cs) = handed_out c.answer ++ all_handed_out cs
+
+-- a message that comes to desk d is among those sent, and is for it
+abbrev pub IsSentTo : ℕ → List Message → Event → Type 0
+IsSentTo d sent (Submit e) = Unit {0}
+IsSentTo d sent Start = Unit {0}
+IsSentTo d sent Tick = Unit {0}
+IsSentTo d sent (Deliver m) = (k : ℕ) × (nth_sent sent k ≡ Some m) × (m.to ≡ d)
+
+-- so is each that comes in these calls: it was sent before them, or handed out by an earlier one
+abbrev pub AreSentTo : ℕ → List Message → List Call → Type 0
+AreSentTo d sent [] = Unit {0}
+AreSentTo d sent (c ∷ cs) =
+    IsSentTo d sent c.event × AreSentTo d (sent ++ handed_out c.answer) cs
+
+-- the node is desk d of n, and knows what that desk knows in the world
+pub record StandsFor {K : Type 0} (k : KeeperWords K) (n d : ℕ) (w : World)
+    (node : NodeValue K) : Type 0 where
+  pub ours : IsDesk n d
+  pub desks : (k.home_of node.keeper).desks ≡ n
+  pub desk : (k.home_of node.keeper).desk ≡ d
+  pub known : node.desk ≡ w.desks d
+
+-- Calls of a desk, each as `handle` makes it, happen in the world, where each message that they
+-- deliver was sent by the desk that it names: there are happenings behind which the desk knows what
+-- the node knows after the calls, what they hand out was sent, and nothing else has changed.
+abbrev pub CallsAreARun : {K : Type 0} → KeeperWords K → Type 0
+CallsAreARun {K} k =
+    (n d : ℕ) (w : World) (calls : List Call) (x y : NodeValue K)
+    → StandsFor k n d w x → AreSentTo d w.sent calls → Lead (Handles k) x calls y
+    → (hs : List Happening)
+    × (with_desk w d y.desk (all_handed_out calls) ≡ real_run n w hs)
+
+-- A sheet that is answered for a position is the Regulations' sheet for the accepted commands of
+-- the desk's log up to there, and the log is that long.
+abbrev pub SheetsAreOfTheLog : Type 0
+SheetsAreOfTheLog =
+    (home : Home) (x : Seen) (fates : List Fate) (event : EventOf) (round position : ℕ)
+    (style : Style) (text : List ℕ)
+    → answer home x fates (Printed event round position style) ≡ Some (what.SheetText text)
+    → (position ≤ length x.desk.log)
+    × (sheet_at (style_of style) x.desk.log position event round ≡ Some text)

@@ -1,0 +1,6 @@
+-- What is seen of a node by whoever serves it.
+use Rattle.answers.specs.Seen.{Seen}
+use Rattle.replica.specs.Nodes.{NodeValue}
+
+abbrev pub seen_of : {K : Type 0} → NodeValue K → Seen
+seen_of node = record { desk = node.desk; is_down = node.is_down }

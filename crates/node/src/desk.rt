@@ -1,0 +1,60 @@
+//! A node is a desk that serves.
+
+ghost use Rattle.node.specs.Seeing.{seen_of};
+ghost use Rattle.replica.specs.Handles.{Handles};
+ghost use Rattle.replica.specs.Nodes.{words};
+
+use crate::node::Node;
+use acceptor::NoMemory;
+use acceptor::message::Messages;
+use answers::{Desk, SheetFault, Told};
+use formats::Event as EventOf;
+use learner::event::Event;
+use learner::log::Log;
+use replica::NodeFault;
+use sheets::Style;
+use store::home::Home;
+use store::keeper::Keeper;
+
+impl<K: Keeper + Drop> Desk for Node<K> {
+    ghost seen = { seen_of };
+
+    ghost home_of = { λ n. K.home_of n.keeper };
+
+    ghost handles = { Handles
+        (words K.home_of K.failures_of K.is_down K.is_honest K.keeps K.may_hold K.may_break) };
+
+    fn home(&self) -> Home {
+        Node::home(self)
+    }
+
+    fn handle(&mut self, event: Event) -> Result<Messages, NodeFault> {
+        Node::handle(self, event)
+    }
+
+    fn log(&self) -> &Log {
+        Node::log(self)
+    }
+
+    fn queued(&self) -> u8 {
+        Node::queued(self)
+    }
+
+    fn is_down(&self) -> bool {
+        Node::is_down(self)
+    }
+
+    fn answer(&self, id: u64) -> Result<Told, NoMemory> {
+        Node::answer(self, id)
+    }
+
+    fn sheet_at(
+        &self,
+        position: u32,
+        event: EventOf,
+        round: u8,
+        style: Style,
+    ) -> Result<Vec<u8>, SheetFault> {
+        Node::sheet_at(self, position, event, round, style)
+    }
+}

@@ -1,0 +1,4 @@
+pub mod Nodes
+pub mod Handles
+pub mod Opens
+pub mod model

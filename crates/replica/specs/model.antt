@@ -1,0 +1,2 @@
+-- Models of the code. No public contract cites them.
+pub mod Planning

@@ -1,0 +1,253 @@
+//! One desk of a replicated log, over the store that keeps its state.
+
+ghost use Rattle.std.specs.Prelude.{◌≡◌, ◌≢◌, ◌⊎◌, ◌↔◌, ◌≤◌, ◌<◌, List, Err, Result, Some, true};
+ghost use Rattle.std.specs.Prelude.{false, IsOk, IfOk, OnOk, IfErr, IsTrue, length};
+ghost use Rattle.acceptor.specs.declared.entry.Entry.{Entry as EntryValue};
+ghost use Rattle.acceptor.specs.declared.stored.Stored.{Stored as State};
+ghost use Rattle.store.specs.Keeping.{HoldsOnly};
+ghost use Rattle.store.specs.Ranges.{IsHome};
+ghost use Rattle.roles.specs.Opening.{opened};
+ghost use Rattle.replica.specs.Nodes.{words};
+ghost use Rattle.replica.specs.Handles.{Handles, Takes, HoldsBeforeOrAfter, IsIgnored, FitInFrames};
+ghost use Rattle.replica.specs.Handles.{step_at};
+ghost use Rattle.replica.specs.Opens.{Opens, GivesBack};
+
+use crate::entries::look_at_all;
+use crate::handling::take_event;
+use acceptor::entry::Entry;
+use acceptor::message::Messages;
+use learner::event::Event;
+use learner::log::Log;
+use roles::{NodeFault, Running};
+use std::alloc::Global;
+use std::marker::Model;
+use store::faults::LoadFault;
+use store::home::Home;
+use store::keeper::Keeper;
+
+/// One desk of a hall and its log, over a keeper. It takes one event at a time.
+///
+/// What is said of the store stands under the keeper's premise, `is_honest`: so far the store has
+/// given back what was written to it, and nobody else has written it. A keeper in memory needs
+/// none.
+pub struct Replica<K: Keeper> {
+    alloc: Global,
+    keeper: K,
+    desk: Running,
+    is_down: bool,
+}
+
+// It is written out, so that a caller does not prove again how each part is dropped.
+impl<K: Keeper + Drop> Drop for Replica<K> {
+    fn drop(self) {
+        let Replica {
+            alloc: _,
+            keeper: _,
+            desk: _,
+            is_down: _,
+        } = self;
+    }
+}
+
+impl<K: Keeper> Model for Replica<K> {
+    ghost use Rattle.std.specs.Prelude.{◌≡◌, false};
+    ghost use Rattle.replica.specs.Nodes.{NodeValue};
+
+    ghost Value = { NodeValue K };
+
+    ghost view = { λ n. record { keeper = n.keeper; desk = n.desk.desk; is_down = n.is_down } };
+
+    ghost invariant = { λ n. ((K.home_of n.keeper).desk ≡ n.desk.number)
+        × ((K.home_of n.keeper).desks ≡ n.desk.desks)
+        × (n.is_down ≡ false → K.is_down n.keeper ≡ false)
+        × (n.is_down ≡ false → K.is_honest n.keeper
+        → K.keeps n.keeper n.desk.desk.stored n.desk.desk.log) };
+}
+
+impl<K: Keeper + Drop> Replica<K> {
+    /// Opens the desk that the keeper keeps: it has the state and the log that the keeper loads, is
+    /// idle, and has an empty queue.
+    ///
+    /// Damaged: what the store holds is not a state in its ranges, or the count of failures is at
+    /// its end. Device: the device refused, and a failure was counted. NoMemory: the keeper's load
+    /// or the desk was refused memory. A refusal drops the keeper: `open_or_give_back` says what it
+    /// leaves.
+    pub fn open(alloc: Global, keeper: K) -> Result<Replica<K>, LoadFault>
+        ensures opened { IfOk result (λ replica. Opens
+            (words K.home_of K.failures_of K.is_down K.is_honest K.keeps K.may_hold K.may_break)
+            keeper replica) }
+        ensures refused { IfErr result (λ fault. (fault ≡ LoadFault.NoMemory)
+            ⊎ ((k : K) × K.load_gives keeper (Err fault) k)) }
+    {
+        match Replica::open_or_give_back(alloc, keeper) {
+            Ok(node) => Ok(node),
+            Err((fault, _)) => Err(fault),
+        }
+    }
+
+    /// As `open`, but a refusal gives the keeper back, with why.
+    ///
+    /// Damaged: what the store holds is not a state in its ranges, or the count of failures is at
+    /// its end. Device: the device refused, and a failure was counted. NoMemory: the keeper's load
+    /// or the desk was refused memory, and the keeper keeps what it kept. Whatever the refusal, its
+    /// store holds nothing that it could not hold before, and is lost only where it could be
+    /// before.
+    pub fn open_or_give_back(alloc: Global, keeper: K) -> Result<Replica<K>, (LoadFault, K)>
+        ensures opened { IfOk result (λ replica. Opens
+            (words K.home_of K.failures_of K.is_down K.is_honest K.keeps K.may_hold K.may_break)
+            keeper replica) }
+        ensures given_back { IfErr result (λ e. GivesBack
+            (words K.home_of K.failures_of K.is_down K.is_honest K.keeps K.may_hold K.may_break)
+            keeper e.0 e.1) }
+        ensures refused { IfErr result (λ e. (e.0 ≡ LoadFault.NoMemory)
+            ⊎ K.load_gives keeper (Err e.0) e.1) }
+    {
+        Replica::load(alloc, keeper)
+    }
+
+    /// The same, clause by clause.
+    fn load(alloc: Global, keeper: K) -> Result<Replica<K>, (LoadFault, K)>
+        ensures up { IfOk result (λ node. node.is_down ≡ false) }
+        ensures first { IfOk result (λ node. node.desk ≡ opened node.desk.stored node.desk.log) }
+        ensures loaded { IfOk result (λ node. K.is_honest node.keeper
+            → K.may_hold keeper node.desk.stored node.desk.log) }
+        ensures same { IfOk result (λ node. K.is_honest node.keeper
+            → (s : State) (log : List EntryValue) → K.keeps keeper s log
+            → (node.desk.stored ≡ s) × (node.desk.log ≡ log)) }
+        ensures stored { IfOk result (λ node. K.is_honest node.keeper
+            → HoldsOnly (K.may_hold node.keeper) (K.may_break node.keeper)
+            node.desk.stored node.desk.log) }
+        ensures honest { IfOk result (λ node. K.is_honest node.keeper → K.is_honest keeper) }
+        ensures home { IfOk result (λ node. K.home_of node.keeper ≡ K.home_of keeper) }
+        ensures back_honest { IfErr result (λ e. K.is_honest e.1 → K.is_honest keeper) }
+        ensures back_home { IfErr result (λ e. K.home_of e.1 ≡ K.home_of keeper) }
+        ensures back_no_other { IfErr result (λ e. K.is_honest e.1
+            → (s : State) (log : List EntryValue)
+            → K.may_hold e.1 s log → K.may_hold keeper s log) }
+        ensures back_whole { IfErr result (λ e. K.is_honest e.1
+            → K.may_break e.1 → K.may_break keeper) }
+        ensures back_memory { IfErr result (λ e. e.0 ≡ LoadFault.NoMemory → K.is_honest e.1
+            → (s : State) (log : List EntryValue) → K.keeps keeper s log → K.keeps e.1 s log) }
+        ensures back_counted { IfErr result (λ e. e.0 ≡ LoadFault.Device
+            → K.failures_of keeper < K.failures_of e.1) }
+        ensures back_uncounted { IfErr result (λ e. e.0 ≢ LoadFault.Device
+            → K.failures_of e.1 ≡ K.failures_of keeper) }
+        ensures back_down { IfErr result (λ e. e.0 ≢ LoadFault.Device
+            → IsTrue (K.is_down e.1) → IsTrue (K.is_down keeper)) }
+        ensures refused { IfErr result (λ e. (e.0 ≡ LoadFault.NoMemory)
+            ⊎ K.load_gives keeper (Err e.0) e.1) }
+    {
+        let mut keeper = keeper;
+        let home = keeper.home();
+        match keeper.load(alloc) {
+            Ok((stored, log)) => match Running::new(alloc, home.desk, home.desks, stored, log) {
+                Ok(desk) => Ok(Replica {
+                    alloc,
+                    keeper,
+                    desk,
+                    is_down: false,
+                }),
+                Err(_) => Err((LoadFault::NoMemory, keeper)),
+            },
+            Err(fault) => Err((fault, keeper)),
+        }
+    }
+
+    /// The hall, the number of this desk, 1 to the number of desks, and that number, 3 or 5.
+    pub fn home(&self) -> Home
+        ensures home { result ≡ K.home_of self.now.keeper }
+        ensures in_range { IsHome result }
+    {
+        self.keeper.home()
+    }
+
+    /// Whether the desk is Down: a save has failed, and `handle` answers Down to each event.
+    pub fn is_down(&self) -> bool
+        ensures { result ≡ self.now.is_down }
+    {
+        self.is_down
+    }
+
+    /// The entries that wait to be proposed, at most 64.
+    pub fn queue(&self) -> &[Entry]
+        ensures queue { result.now ≡ self.now.desk.queue }
+        ensures most { length self.now.desk.queue ≤ 64 }
+    {
+        self.desk.queue()
+    }
+
+    /// Takes an event: does the step of the protocol, with its one change committed to the store
+    /// before any message is handed out.
+    ///
+    /// The messages are in the order in which they are to be sent. Each is from this desk to a desk
+    /// of the hall, with its fields in the ranges of a frame. A message for another desk, from none
+    /// of the hall, or with a field out of its range does nothing, as does any message that the
+    /// protocol ignores: the answer is Ok, and nothing is stored.
+    ///
+    /// At a desk that is Down every event is Down. Else a submission is Busy with 64 entries in the
+    /// queue, and it is LogFull with 65,536 in the log; a Start is LogFull at an idle or leading
+    /// desk with 65,536 in the log; a Start or a Tick that needs a new ballot is BallotsSpent where
+    /// no round is left. Where memory is refused, the answer is NoMemory. Each of these leaves the
+    /// desk and its store as they were. Where the save fails by the device, the answer is Down, in
+    /// this call and in every later one: nothing is handed out, the desk still shows its state
+    /// before that event, and a store that is opened again holds the state before it or the one
+    /// after it.
+    pub fn handle(&mut self, event: Event) -> Result<Messages, NodeFault>
+        ensures { Handles
+            (words K.home_of K.failures_of K.is_down K.is_honest K.keeps K.may_hold K.may_break)
+            self.old event result self.new }
+    {
+        self.take(event)
+    }
+
+    /// The same, clause by clause.
+    fn take(&mut self, event: Event) -> Result<Messages, NodeFault>
+        ensures ended { self.old.is_down ≡ true
+            → (result ≡ Err NodeFault.Down) × (self.new ≡ self.old) }
+        ensures takes { let home = K.home_of self.old.keeper in let x = self.old.desk in
+            self.old.is_down ≡ false
+            → Takes (step_at home x event) home.desks home.desk x self.new.desk result }
+        ensures entries { IfOk result FitInFrames }
+        ensures ignored { let home = K.home_of self.old.keeper in
+            self.old.is_down ≡ false → IsIgnored home.desks home.desk self.old.desk event
+            → IsOk result × (self.new.keeper ≡ self.old.keeper) }
+        ensures down { (result ≡ Err NodeFault.Down) ↔ (self.new.is_down ≡ true) }
+        ensures counted { self.old.is_down ≡ false → result ≡ Err NodeFault.Down
+            → K.failures_of self.old.keeper < K.failures_of self.new.keeper }
+        ensures uncounted { result ≢ Err NodeFault.Down
+            → K.failures_of self.new.keeper ≡ K.failures_of self.old.keeper }
+        ensures stored { self.new.is_down ≡ false → K.is_honest self.new.keeper
+            → HoldsOnly (K.may_hold self.new.keeper) (K.may_break self.new.keeper)
+            self.new.desk.stored self.new.desk.log }
+        ensures left { let home = K.home_of self.old.keeper in let x = self.old.desk in
+            self.old.is_down ≡ false → self.new.is_down ≡ true → K.is_honest self.new.keeper
+            → HoldsBeforeOrAfter (K.may_hold self.new.keeper) (K.may_break self.new.keeper) x
+            (step_at home x event) }
+        ensures honest { K.is_honest self.new.keeper → K.is_honest self.old.keeper }
+        ensures home { K.home_of self.new.keeper ≡ K.home_of self.old.keeper }
+    {
+        if self.is_down {
+            return Err(NodeFault::Down);
+        }
+        match take_event(self.alloc, &mut self.keeper, &mut self.desk, event) {
+            Ok(messages) => {
+                look_at_all(messages.as_slice());
+                Ok(messages)
+            }
+            Err(NodeFault::Down) => {
+                self.is_down = true;
+                Err(NodeFault::Down)
+            }
+            Err(fault) => Err(fault),
+        }
+    }
+
+    /// The entries that this desk knows to be decided. At a desk that is Down they are those before
+    /// the event whose save failed.
+    pub fn log(&self) -> &Log
+        ensures entries { result.now.entries ≡ self.now.desk.log }
+        ensures most { length self.now.desk.log ≤ 65536 }
+    {
+        self.desk.log()
+    }
+}

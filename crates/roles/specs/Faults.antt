@@ -1,0 +1,17 @@
+-- How a desk names what keeps it from a step.
+use Rattle.proposer.specs.declared.faults.Refusal.{Refusal}
+use Rattle.proposer.specs.declared.faults.Refusal.TheVariants as refusal
+use Rattle.proposer.specs.declared.faults.StepFault.{StepFault}
+use Rattle.proposer.specs.declared.faults.StepFault.TheVariants as step
+use Rattle.roles.specs.declared.faults.NodeFault.{NodeFault}
+use Rattle.roles.specs.declared.faults.NodeFault.TheVariants.{Busy, LogFull, BallotsSpent, NoMemory}
+
+-- the fault for a refusal of the protocol's step
+abbrev pub refused_as : Refusal → NodeFault
+refused_as refusal.Busy = Busy
+refused_as refusal.LogFull = LogFull
+refused_as refusal.BallotsSpent = BallotsSpent
+
+abbrev pub fault_of : StepFault → NodeFault
+fault_of (step.Refused why) = refused_as why
+fault_of step.NoMemory = NoMemory

@@ -1,0 +1,10 @@
+//! One desk in its three roles, as acceptor, proposer and learner: it works out the plan of a step,
+//! makes room for it, and takes it. It stores and sends nothing.
+#![tactic(auto)]
+
+pub mod faults;
+pub mod heeding;
+pub mod running;
+
+pub use faults::NodeFault;
+pub use running::Running;
