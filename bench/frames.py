@@ -54,8 +54,8 @@ class Fields:
         return names[self.number(1, first, first + len(names) - 1) - first]
 
     def ballot(self):
-        round_number = self.number(4, 1)
-        return f"Ballot {{ round: {round_number}, desk: {self.number(1, 1, 5)} }}"
+        ballot_number = self.number(4, 1)
+        return f"Ballot {{ number: {ballot_number}, desk: {self.number(1, 1, 5)} }}"
 
     def position(self):
         return self.number(4, 0, 65_535)
@@ -89,7 +89,7 @@ class Fields:
         ballot = self.ballot()
         return f"Some(Report {{ ballot: {ballot}, entry: {self.entry()} }})"
 
-    def standing(self):
+    def state(self):
         case = self.number(1, 0, 2)
         if case < 2:
             return ("Unknown", "Pending")[case]
@@ -143,7 +143,7 @@ KINDS = {
     19: ("Tick", []),
     20: ("Stop", []),
     32: ("Taken", [ID]),
-    33: ("Told", [ID, ("standing", Fields.standing)]),
+    33: ("Told", [ID, ("state", Fields.state)]),
     34: ("SheetText", [("text", Fields.rest)]),
     35: ("Refused", [("refusal", refusal)]),
     36: ("Fine", []),

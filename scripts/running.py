@@ -1,8 +1,8 @@
-"""What the checks and the benchmarks share: how their words are read, and that their programs are
-there.
+"""What the checks and the benchmarks share: how their arguments are read, and that their programs
+are built.
 
-`--help` shows a script's own first text. A wrong word, and a program that is not there, end the
-script in one line on standard error, with status 2.
+`--help` shows a script's own first text. An invalid argument, or a program that is not built, ends
+the script with one line on standard error and status 2.
 """
 
 import argparse
@@ -17,7 +17,7 @@ TOP = Path(__file__).resolve().parent.parent
 def program(path):
     """The path of a program that can be run."""
     if not (os.path.isfile(path) and os.access(path, os.X_OK)):
-        raise argparse.ArgumentTypeError(f"{path} is no program (./desk and ./board build theirs)")
+        raise argparse.ArgumentTypeError(f"{path} is not a program: run ./desk or ./board")
     return os.path.abspath(path)
 
 
@@ -34,7 +34,7 @@ def built(crate):
 
 
 class Words(argparse.ArgumentParser):
-    """The words of the script that has this text."""
+    """The arguments of the script that has this text."""
 
     def __init__(self, text):
         name = os.path.relpath(os.path.realpath(sys.argv[0]), TOP)
@@ -45,14 +45,14 @@ class Words(argparse.ArgumentParser):
         self.exit(2, f"{self.prog}: {message}\n")
 
     def add_program(self, word="program", crate="desk"):
-        """A word for a program: where none is given it is the one that was built."""
+        """An argument for a program; without it, the program that was built."""
         self.add_argument(word, nargs="?", type=program, default=built(crate),
                           metavar=word.upper())
 
     def need(self, command):
         """Ends the script where a command that it runs is not on the path."""
         if shutil.which(command) is None:
-            self.error(f"{command} is not on the path")
+            self.error(f"{command} is not on the PATH")
 
     def have_built(self, *crates):
         """Ends the script where a program that it runs was not built."""
@@ -64,7 +64,7 @@ class Words(argparse.ArgumentParser):
 
 
 def desk(text):
-    """The program of a script whose one word is a program."""
+    """The program of a script whose one argument is a program."""
     words = Words(text)
     words.add_program()
     return words.parse_args().program

@@ -1,13 +1,14 @@
 -- What a desk stores and answers at a Prepare and at an Accept: phases 1b and 2b of 'Paxos Made
 -- Simple', section 2.2. Own rule: a desk promises and votes at its log's length alone, so that the
 -- log has no gap.
-use Rattle.std.specs.Prelude.{ℕ, if◌then◌else◌, Option, Some, None, ◌==◌}
+use Rattle.std.specs.Prelude.{ℕ, if◌then◌else◌, Option, Some, None, ◌==◌, option_map}
 use Rattle.acceptor.specs.declared.ballot.Ballot.{Ballot}
 use Rattle.acceptor.specs.declared.entry.Entry.{Entry}
 use Rattle.acceptor.specs.declared.message.Report.{Report}
 use Rattle.acceptor.specs.declared.message.Body.{Body}
 use Rattle.acceptor.specs.declared.message.Body.TheVariants.{Promise, Accepted, Nack, Decided}
 use Rattle.acceptor.specs.declared.message.Body.TheVariants.{Behind}
+use Rattle.acceptor.specs.declared.steps.Here.{Here}
 use Rattle.acceptor.specs.declared.stored.Vote.{Vote}
 use Rattle.acceptor.specs.declared.stored.Stored.{Stored}
 use Rattle.acceptor.specs.declared.stored.Change.{Change}
@@ -55,3 +56,15 @@ accept_here s b pos e =
 abbrev pub accept_reply : Stored → ℕ → Option Entry → Ballot → ℕ → Entry → Reply
 accept_reply s len there b pos e =
     if pos == len then accept_here s b pos e else elsewhere there len pos
+
+-- the entry at the asked position of a desk's log, where there is one
+abbrev pub entry_there : Here → Option Entry
+entry_there here = option_map (λ e. e.now) here.entry
+
+-- what a desk with this log stores and answers when it is asked for a promise
+abbrev pub promise_reply : Stored → Here → Ballot → ℕ → Reply
+promise_reply s here b pos = prepare_reply s here.len (entry_there here) b pos
+
+-- what it stores and answers when it is asked for its vote
+abbrev pub vote_reply : Stored → Here → Ballot → ℕ → Entry → Reply
+vote_reply s here b pos e = accept_reply s here.len (entry_there here) b pos e

@@ -3,14 +3,14 @@
 use Rattle.std.specs.Prelude.{Bool, false, if◌then◌else◌, nat_lt, ◌==◌}
 use Rattle.acceptor.specs.declared.ballot.Ballot.{Ballot}
 
--- ballots are ordered by round, and in one round by desk
+-- ballots are ordered by number, and with one number by desk
 abbrev pub is_below : Ballot → Ballot → Bool
-is_below b c = if b.round == c.round then nat_lt b.desk c.desk else nat_lt b.round c.round
+is_below b c = if b.number == c.number then nat_lt b.desk c.desk else nat_lt b.number c.number
 
--- one round, and one desk
+-- the same number, and the same desk
 abbrev pub is_same : Ballot → Ballot → Bool
-is_same b c = if b.round == c.round then b.desk == c.desk else false
+is_same b c = if b.number == c.number then b.desk == c.desk else false
 
 -- below all real ballots
 abbrev pub no_ballot : Ballot
-no_ballot = record { round = 0; desk = 0 }
+no_ballot = record { number = 0; desk = 0 }

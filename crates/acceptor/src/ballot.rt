@@ -1,12 +1,12 @@
 //! Ballots, which name attempts to decide.
 
-/// The name of one attempt to decide: a round, and the desk that makes the attempt.
+/// The name of one attempt to decide: a number, and the desk that makes the attempt.
 ///
-/// A real ballot has a round of at least 1 and a desk of 1 to the number of desks. 'Paxos Made
+/// A real ballot has a number of at least 1 and a desk of 1 to the number of desks. 'Paxos Made
 /// Simple', section 2.2, calls it a proposal number.
 #[derive(Clone, Copy, PartialEq, Eq, Debug)]
 pub struct Ballot {
-    pub round: u32,
+    pub number: u32,
     pub desk: u8,
 }
 
@@ -18,17 +18,17 @@ impl Ballot {
     pub fn none() -> Ballot
         ensures { result ≡ no_ballot }
     {
-        Ballot { round: 0, desk: 0 }
+        Ballot { number: 0, desk: 0 }
     }
 
-    /// Whether this ballot comes before the other: by round, and in one round by desk.
+    /// Whether this ballot comes before the other: by number, and with one number by desk.
     pub fn is_below(self, other: Ballot) -> bool
         ensures { result ≡ is_below self other }
     {
-        if self.round == other.round {
+        if self.number == other.number {
             self.desk < other.desk
         } else {
-            self.round < other.round
+            self.number < other.number
         }
     }
 }

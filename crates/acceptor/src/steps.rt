@@ -1,7 +1,8 @@
 //! What a desk stores and answers when it is asked for a promise or for a vote.
 
-ghost use Rattle.std.specs.Prelude.{◌≡◌, IfOk, option_map};
-ghost use Rattle.acceptor.specs.Answers.{reported, elsewhere, prepare_reply, accept_reply};
+ghost use Rattle.std.specs.Prelude.{◌≡◌, IfOk};
+ghost use Rattle.acceptor.specs.Answers.{reported, elsewhere, entry_there, promise_reply};
+ghost use Rattle.acceptor.specs.Answers.{vote_reply};
 
 use crate::NoMemory;
 use crate::ballot::Ballot;
@@ -32,12 +33,10 @@ pub fn on_prepare(
     ballot: Ballot,
     pos: u32,
 ) -> Result<(Option<Change>, Body), NoMemory>
-    ensures change { let there = option_map (λ e. e.now) here.entry.entry in
-        let reply = prepare_reply stored.now here.entry.len there ballot pos in
-        IfOk result (λ r. r.0 ≡ reply.change) }
-    ensures body { let there = option_map (λ e. e.now) here.entry.entry in
-        let reply = prepare_reply stored.now here.entry.len there ballot pos in
-        IfOk result (λ r. r.1 ≡ reply.body) }
+    ensures change { IfOk result
+        (λ r. r.0 ≡ (promise_reply stored.now here.entry ballot pos).change) }
+    ensures body { IfOk result
+        (λ r. r.1 ≡ (promise_reply stored.now here.entry ballot pos).body) }
 {
     if pos != here.len {
         return Ok((None, told(alloc, here, pos)?));
@@ -74,12 +73,10 @@ pub fn on_accept(
     pos: u32,
     entry: &Entry,
 ) -> Result<(Option<Change>, Body), NoMemory>
-    ensures change { let there = option_map (λ e. e.now) here.entry.entry in
-        let reply = accept_reply stored.now here.entry.len there ballot pos entry.now in
-        IfOk result (λ r. r.0 ≡ reply.change) }
-    ensures body { let there = option_map (λ e. e.now) here.entry.entry in
-        let reply = accept_reply stored.now here.entry.len there ballot pos entry.now in
-        IfOk result (λ r. r.1 ≡ reply.body) }
+    ensures change { IfOk result
+        (λ r. r.0 ≡ (vote_reply stored.now here.entry ballot pos entry.now).change) }
+    ensures body { IfOk result
+        (λ r. r.1 ≡ (vote_reply stored.now here.entry ballot pos entry.now).body) }
 {
     if pos != here.len {
         return Ok((None, told(alloc, here, pos)?));
@@ -118,8 +115,8 @@ fn report(alloc: Global, vote: &Option<Vote>, pos: u32) -> Result<Option<Report>
 
 /// What is answered at a position that is not the log's length.
 fn told(alloc: Global, here: Here, pos: u32) -> Result<Body, NoMemory>
-    ensures { let there = option_map (λ e. e.now) here.entry.entry in
-        IfOk result (λ b. b ≡ (elsewhere there here.entry.len pos).body) }
+    ensures { IfOk result
+        (λ b. b ≡ (elsewhere (entry_there here.entry) here.entry.len pos).body) }
 {
     match here.entry {
         Some(there) => Ok(Body::Decided {

@@ -18,7 +18,7 @@ pub struct Stored {
     /// The highest ballot that the desk has promised, first (0, 0).
     pub promised: Ballot,
     pub vote: Option<Vote>,
-    /// The round of the last ballot that the desk has made, first 0.
+    /// The number of the last ballot that the desk has made, first 0.
     pub tried: u32,
 }
 
@@ -45,7 +45,7 @@ pub enum Change {
     Promised(Ballot),
     /// This is the vote, and its ballot is promised.
     Voted(Vote),
-    /// This is the round of the last ballot.
+    /// This is the number of the last ballot.
     Tried(u32),
     /// The log grows by this entry.
     Appended(Entry),

@@ -1,5 +1,6 @@
 -- What is left of a list in which nothing comes twice.
-use Rattle.std.proofs.Common.{◌≡◌, ℕ, ◌≤◌, Bool, true, false, cond, List, [], ◌∷◌, filter, length, nat_eq, Result, Ok, Err, IfOk, arith}
+use Rattle.std.proofs.Common.{◌≡◌, ℕ, ◌≤◌, Bool, true, false, cond, List, [], ◌∷◌, filter, length}
+use Rattle.std.proofs.Common.{nat_eq, Result, Ok, Err, IfOk, arith}
 use Rattle.std.specs.List.{IsDistinct, AllByRecursion}
 use Rattle.std.proofs.lemmas.List.Sums.{length-filter, count_by-le-length}
 

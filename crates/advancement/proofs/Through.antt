@@ -1,5 +1,8 @@
 -- Those who advance stand before one place.
-use Rattle.std.proofs.Common.{◌≡◌, ℕ, ◌+◌, ◌<◌, ◌≤◌, ◌==◌, nat_le, nat_lt, Bool, true, false, cond, not, ◌||◌, ◌&&◌, List, [], ◌∷◌, length, map, find, count_by, slice_get, is_some, Option, None, Some, ◌⊎◌, inl, inr, suc, refl, sym, ap, ◌∙◌, arith}
+use Rattle.std.proofs.Common.{◌≡◌, ℕ, ◌+◌, ◌<◌, ◌≤◌, ◌==◌, nat_le, nat_lt, Bool, true, false, cond}
+use Rattle.std.proofs.Common.{not, ◌||◌, ◌&&◌, List, [], ◌∷◌, length, map, find, count_by}
+use Rattle.std.proofs.Common.{slice_get, is_some, Option, None, Some, ◌⊎◌, inl, inr, suc, refl, sym}
+use Rattle.std.proofs.Common.{ap, ◌∙◌, arith}
 use Rattle.std.specs.List.{list_any}
 use Rattle.std.specs.Option.{option_map}
 use Rattle.std.proofs.lemmas.Bool.{false≢true}
@@ -12,14 +15,18 @@ use Rattle.attempts.specs.declared.Unit.{Unit as Measure}
 use Rattle.formats.specs.declared.events.Format.{Format}
 use Rattle.formats.specs.declared.events.Format.TheVariants.{Ao5, Mo3, Bo1, Bo2, Bo3}
 use Rattle.formats.specs.declared.results.Averaged.TheVariants.{Missing}
-use Rattle.formats.specs.Results.{number_of, numbers, least, best_of, average_of, averaged_number, trimmed, mean_of, key_of, is_less, is_same, is_better}
-use Rattle.rounds.specs.Tables.{Entrant, Table, entrant, has_number, has_started, is_started_attempt, key, place, not_worse, started}
+use Rattle.formats.specs.Results.{number_of, numbers, least, best_of, average_of, averaged_number}
+use Rattle.formats.specs.Results.{trimmed, mean_of, key_of, is_less, is_same, is_better}
+use Rattle.rounds.specs.Tables.{Entrant, Table, entrant, has_number, has_started}
+use Rattle.rounds.specs.Tables.{is_started_attempt, key, place, not_worse, started}
 use Rattle.rounds.specs.Positions.{place_at}
 use Rattle.rounds.proofs.CutoffOrder.{number_of_best, better_better, not_better}
-use Rattle.rounds.proofs.KeyOrder.{ahead_of, count_le_in, count_lt_in, count_all, count_same, IsBest, best_of_those}
+use Rattle.rounds.proofs.KeyOrder.{ahead_of, count_le_in, count_lt_in, count_all, count_same}
+use Rattle.rounds.proofs.KeyOrder.{IsBest, best_of_those}
 use Rattle.rounds.proofs.Within.{within_upper, within_there, IsThere}
 use Rattle.formats.specs.declared.advance.Advance.{Advance}
-use Rattle.advancement.specs.Advancing.{has_result, holds_of, is_among, is_before, IsBorder, quota, advances}
+use Rattle.advancement.specs.Advancing.{has_result, holds_of, is_among, is_before, IsBorder, quota}
+use Rattle.advancement.specs.Advancing.{advances}
 
 -- Who has not started is worse than who has a result
 

@@ -1,6 +1,7 @@
 -- How many rounds may follow, and who goes on to the next one (WCA Regulations, article 9).
-use Rattle.std.specs.Prelude.{◌≡◌, ℕ, ◌*◌, ◌/◌, ◌&&◌, Bool, false, nat_le, nat_lt, if◌then◌else◌}
-use Rattle.std.specs.Prelude.{min, is_some, List, filter, Option, None, Some}
+use Rattle.std.specs.Prelude.{◌≡◌, ℕ, ◌*◌, ◌/◌, ◌&&◌, ◌==◌, Bool, false, nat_le, nat_lt}
+use Rattle.std.specs.Prelude.{if◌then◌else◌, min, is_some, List, filter, Option, None, Some}
+use Rattle.std.specs.List.{list_any}
 use Rattle.formats.specs.Results.{best_of, number_of}
 use Rattle.rounds.specs.Tables.{Entrant, Table, entrant, place, started, not_worse, standings}
 use Rattle.formats.specs.declared.advance.Advance.{Advance}
@@ -50,9 +51,18 @@ goes_on t advance n = holds_of (advances t advance) (entrant t n)
 abbrev pub advancing : Table → Advance → List ℕ
 advancing t advance = filter (goes_on t advance) (standings t)
 
+-- these and no others advance
+abbrev pub AreThoseWhoAdvance : Table → Advance → List ℕ → Type 0
+AreThoseWhoAdvance t advance ns =
+    (n : ℕ) → list_any (λ other. other == n) ns ≡ goes_on t advance n
+
 -- the best attempt is a number, and the place is before another one
 abbrev pub is_before : Table → ℕ → Entrant → Bool
 is_before t border e = has_result e && nat_lt (place t e) border
+
+-- those of these numbers whose entrants are placed before a border, with a result
+abbrev pub those_before : Table → ℕ → List ℕ → List ℕ
+those_before t border ns = filter (λ n. holds_of (is_before t border) (entrant t n)) ns
 
 -- those who advance are those with a result who are placed before this place
 abbrev pub IsBorder : Table → Advance → ℕ → Type 0

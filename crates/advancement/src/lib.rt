@@ -2,13 +2,12 @@
 //! article 9).
 #![tactic(auto)]
 
-ghost use Rattle.std.specs.Prelude.{◌≡◌, ◌≤◌, ◌==◌, ◌&&◌, ℕ, IfOk, filter, is_some, length, nat_eq};
-ghost use Rattle.std.specs.Prelude.{nat_lt};
-ghost use Rattle.std.specs.List.{IsDistinct, list_any};
+ghost use Rattle.std.specs.Prelude.{◌≡◌, ◌≤◌, ◌&&◌, IfOk, is_some, length, nat_eq, nat_lt};
+ghost use Rattle.std.specs.List.{IsDistinct};
 ghost use Rattle.formats.specs.Results.{number_of};
 ghost use Rattle.rounds.specs.Tables.{entrant};
-ghost use Rattle.advancement.specs.Advancing.{later_rounds, quota, goes_on, advancing, holds_of};
-ghost use Rattle.advancement.specs.Advancing.{is_before, IsBorder};
+ghost use Rattle.advancement.specs.Advancing.{later_rounds, quota, advancing, holds_of, is_before};
+ghost use Rattle.advancement.specs.Advancing.{IsBorder, AreThoseWhoAdvance, those_before};
 
 use attempts::{NoMemory, Value};
 pub use formats::Advance;
@@ -68,9 +67,7 @@ pub fn is_through(best: Value, place: u16, border: u16) -> bool
 pub fn advancing(alloc: Global, table: &RoundTable, advance: Advance) -> Result<Vec<u16>, NoMemory>
     ensures order { IfOk result (λ numbers. numbers.items ≡ advancing table.now advance) }
     // These and no others advance.
-    ensures whom { IfOk result
-        (λ numbers. (number : ℕ)
-        → list_any (λ other. other == number) numbers.items ≡ goes_on table.now advance number) }
+    ensures whom { IfOk result (λ numbers. AreThoseWhoAdvance table.now advance numbers.items) }
     ensures each_once { IfOk result (λ numbers. IsDistinct nat_eq numbers.items) }
     ensures few { IfOk result (λ numbers. length numbers.items ≤ 999) }
 {
@@ -86,9 +83,7 @@ fn those_before(
     border: u16,
     numbers: &[u16],
 ) -> Result<Vec<u16>, NoMemory>
-    ensures { IfOk result
-        (λ kept. kept.items
-        ≡ filter (λ n. holds_of (is_before table.now border) (entrant table.now n)) numbers.now) }
+    ensures { IfOk result (λ kept. kept.items ≡ those_before table.now border numbers.now) }
 {
     numbers
         .iter()

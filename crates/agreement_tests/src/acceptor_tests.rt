@@ -6,8 +6,8 @@ use std::alloc::Global;
 use std::process::Abort;
 use std::test::Fail;
 
-fn ballot(round: u32, desk: u8) -> Ballot {
-    Ballot { round, desk }
+fn ballot(number: u32, desk: u8) -> Ballot {
+    Ballot { number, desk }
 }
 
 fn ann(alloc: Global) -> Result<Entry, EntryFault> {

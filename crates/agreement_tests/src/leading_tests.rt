@@ -1,4 +1,4 @@
-//! A leader at the borders: a log that is full, and a last round that is spent.
+//! A leader at the borders: a log that is full, and a last number that is spent.
 
 use crate::proposer_tests::{b, ballot, refuses_start, refuses_tick, says, tells_length, tried};
 use acceptor::{Ballot, Body, Entry, EntryFault, NoMemory, Stored};
@@ -6,10 +6,10 @@ use proposer::{Plan, Proposer, Refusal, Role};
 use std::alloc::Global;
 use std::test::Fail;
 
-/// A desk that has promised this ballot, and has tried round 1.
-fn with_promise(round: u32, desk: u8) -> Stored {
+/// A desk that has promised this ballot, and has tried number 1.
+fn with_promise(number: u32, desk: u8) -> Stored {
     Stored {
-        promised: ballot(round, desk),
+        promised: ballot(number, desk),
         vote: None,
         tried: 1,
     }
@@ -68,7 +68,7 @@ fn stops_at_a_full_log(rt: HostRuntime) -> Result<(), Fail> {
     Ok(())
 }
 
-/// A kept ballot needs no further round. A leader that is outbid does, at a Start and at a Tick.
+/// A kept ballot needs no further number. A leader that is outbid does, at a Start and at a Tick.
 #[test]
 fn has_spent_its_ballots(rt: HostRuntime) -> Result<(), Fail> {
     let alloc = rt.alloc();

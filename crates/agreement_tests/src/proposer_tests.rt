@@ -8,8 +8,8 @@ use std::alloc::Global;
 use std::process::Abort;
 use std::test::Fail;
 
-pub fn ballot(round: u32, desk: u8) -> Ballot {
-    Ballot { round, desk }
+pub fn ballot(number: u32, desk: u8) -> Ballot {
+    Ballot { number, desk }
 }
 
 pub fn a(alloc: Global) -> Result<Entry, EntryFault> {
@@ -20,11 +20,11 @@ pub fn b(alloc: Global) -> Result<Entry, EntryFault> {
     Entry::new(alloc, 8, b"B")
 }
 
-pub fn tried(round: u32) -> Stored {
+pub fn tried(number: u32) -> Stored {
     Stored {
         promised: Ballot::none(),
         vote: None,
-        tried: round,
+        tried: number,
     }
 }
 
@@ -72,9 +72,9 @@ fn prepares(plan: &Plan, ballot: Ballot, pos: u32) -> bool {
     says(plan, ballot.desk, &[1, 2, 3], &body)
 }
 
-/// Whether the plan stores this round, which is tried.
-fn tries(plan: &Plan, round: u32) -> bool {
-    matches!(&plan.change, Some(Change::Tried(tried)) if *tried == round)
+/// Whether the plan stores this number, which is tried.
+fn tries(plan: &Plan, number: u32) -> bool {
+    matches!(&plan.change, Some(Change::Tried(tried)) if *tried == number)
 }
 
 /// Whether the desk, told to start, makes this ballot at this position.
@@ -85,7 +85,7 @@ fn start_prepares(
     pos: u32,
 ) -> Result<bool, StepFault> {
     let plan = start(proposer, stored, pos)?;
-    let good = tries(&plan, ballot.round) && prepares(&plan, ballot, pos);
+    let good = tries(&plan, ballot.number) && prepares(&plan, ballot, pos);
     proposer.adopt(plan);
     Ok(good)
 }

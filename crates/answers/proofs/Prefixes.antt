@@ -1,5 +1,6 @@
 -- The first entries of a log, one after the other.
-use Rattle.std.proofs.Common.{◌≡◌, ℕ, zero, suc, ◌+◌, List, [], ◌∷◌, ◌++◌, Some, None, take, slice_get, refl, ap, ◌∙◌, arith}
+use Rattle.std.proofs.Common.{◌≡◌, ℕ, zero, suc, ◌+◌, List, [], ◌∷◌, ◌++◌, Some, None, take}
+use Rattle.std.proofs.Common.{slice_get, refl, ap, ◌∙◌, arith}
 use Rattle.acceptor.specs.declared.entry.Entry.{Entry}
 use Rattle.answers.specs.Answers.{texts}
 

@@ -1,5 +1,6 @@
 -- The sheet at a position is that of the meet which the entries up to there come to.
-use Rattle.std.proofs.Common.{◌≡◌, ◌≤◌, ℕ, List, Option, Some, None, Result, Ok, Err, IfOk, IfErr, Vec, length, take, refl, sym, ap, ◌∙◌}
+use Rattle.std.proofs.Common.{◌≡◌, ◌≤◌, ℕ, List, Option, Some, None, Result, Ok, Err, IfOk, IfErr}
+use Rattle.std.proofs.Common.{Vec, length, take, refl, sym, ap, ◌∙◌}
 use Rattle.acceptor.specs.declared.entry.Entry.{Entry}
 use Rattle.formats.specs.declared.events.Event.{Event}
 use Rattle.commands.specs.History.{History, history}
@@ -7,8 +8,8 @@ use Rattle.sheets.specs.Sheet.{sheet}
 use Rattle.sheets.specs.declared.Style.{Style}
 use Rattle.sheets.specs.declared.Style.TheVariants.{Text, Table}
 use Rattle.answers.specs.Answers.{texts, sheet_at, NoSheetAt, NoSheetIn}
-use Rattle.answers.specs.declared.faults.SheetFault.{SheetFault}
-use Rattle.answers.specs.declared.faults.SheetFault.TheVariants.{NotThere, NoSuchRound, NoMemory}
+use Rattle.answers.specs.declared.fault.SheetFault.{SheetFault}
+use Rattle.answers.specs.declared.fault.SheetFault.TheVariants.{NotThere, NoSuchRound, NoMemory}
 
 same_sheet : (style : Style) (log : List Entry) (position : ℕ) (event : Event) (round : ℕ)
     → sheet_at style log position event round

@@ -11,8 +11,8 @@ use Rattle.sheets.specs.declared.Style.{Style}
 use Rattle.sheets.specs.declared.Style.TheVariants.{Text, Table}
 use Rattle.answers.specs.declared.answers.Told.{Told}
 use Rattle.answers.specs.declared.answers.Told.TheVariants.{Done, Pending, Unknown}
-use Rattle.answers.specs.declared.faults.SheetFault.{SheetFault}
-use Rattle.answers.specs.declared.faults.SheetFault.TheVariants.{NotThere, NoSuchRound, NoMemory}
+use Rattle.answers.specs.declared.fault.SheetFault.{SheetFault}
+use Rattle.answers.specs.declared.fault.SheetFault.TheVariants.{NotThere, NoSuchRound, NoMemory}
 
 -- entries as ids and texts
 abbrev pub texts : List Entry → List (ℕ × List ℕ)

@@ -6,7 +6,7 @@ ghost use Rattle.sheets.specs.Sheet.{sheet};
 ghost use Rattle.answers.specs.Answers.{texts, is_queued, told_by_queue, told, sheet_at, NoSheetAt};
 ghost use Rattle.answers.specs.Answers.{NoSheetIn};
 
-use crate::faults::SheetFault;
+use crate::fault::SheetFault;
 use acceptor::NoMemory;
 use acceptor::entry::Entry;
 use commands::{Answer, Meet};

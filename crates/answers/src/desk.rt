@@ -3,20 +3,20 @@
 ghost use Rattle.std.specs.Prelude.{◌≡◌, ◌↔◌, ◌≤◌, List, Result, Err, Some, IfOk, OnOk, IfErr};
 ghost use Rattle.std.specs.Prelude.{true, false, length};
 ghost use Rattle.acceptor.specs.declared.message.Message.{Message as MessageValue};
-ghost use Rattle.learner.specs.declared.event.Event.{Event as EventValue};
+ghost use Rattle.learner.specs.declared.event.DeskEvent.{DeskEvent as EventValue};
 ghost use Rattle.learner.specs.Steps.{step, IsDesk};
 ghost use Rattle.answers.specs.Answers.{told, sheet_at, NoSheetAt};
-ghost use Rattle.roles.specs.declared.faults.NodeFault.{NodeFault as Refusal};
+ghost use Rattle.roles.specs.declared.fault.NodeFault.{NodeFault as Refusal};
 ghost use Rattle.replica.specs.Handles.{Takes};
 ghost use Rattle.answers.specs.Seen.{Seen};
 ghost use Rattle.store.specs.declared.home.Home.{Home as Place};
 
 use crate::answers::Told;
-use crate::faults::SheetFault;
+use crate::fault::SheetFault;
 use acceptor::NoMemory;
 use acceptor::message::Messages;
 use formats::Event as EventOf;
-use learner::event::Event;
+use learner::event::DeskEvent;
 use learner::log::Log;
 use roles::NodeFault;
 use sheets::Style;
@@ -40,7 +40,7 @@ pub trait Desk {
         ensures few { result.desks ≤ 5 };
 
     /// Takes an event, and gives the messages that come of it.
-    fn handle(&mut self, event: Event) -> Result<Messages, NodeFault>
+    fn handle(&mut self, event: DeskEvent) -> Result<Messages, NodeFault>
         ensures handles { handles self.old event result self.new }
         ensures takes { let home = home_of self.old in let x = (seen self.old).desk in
             (seen self.old).is_down ≡ false

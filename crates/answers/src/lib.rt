@@ -4,8 +4,8 @@
 
 pub mod answers;
 pub mod desk;
-pub mod faults;
+pub mod fault;
 
 pub use answers::Told;
 pub use desk::Desk;
-pub use faults::SheetFault;
+pub use fault::SheetFault;

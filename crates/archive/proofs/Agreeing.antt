@@ -1,5 +1,7 @@
 -- The lines of an archive come to the accepted commands of the log, entry by entry.
-use Rattle.std.proofs.Common.{◌≡◌, ℕ, ◌+◌, ◌≤◌, suc, Bool, true, false, cond, ◌&&◌, ◌==◌, not, List, [], ◌∷◌, ◌++◌, length, map, Option, Some, Result, Ok, Err, refl, sym, ap, ◌∙◌, subst, arith, append_assoc, append-nil}
+use Rattle.std.proofs.Common.{◌≡◌, ℕ, ◌+◌, ◌≤◌, suc, Bool, true, false, cond, ◌&&◌, ◌==◌, not, List}
+use Rattle.std.proofs.Common.{[], ◌∷◌, ◌++◌, length, map, Option, Some, Result, Ok, Err, refl, sym}
+use Rattle.std.proofs.Common.{ap, ◌∙◌, subst, arith, append_assoc, append-nil}
 use Rattle.std.specs.List.{list_any, enumerate_from}
 use Rattle.std.proofs.lemmas.Bool.{false≢true}
 use Rattle.std.proofs.lemmas.Bool.Decides.{nat_tests}
@@ -14,7 +16,8 @@ use Rattle.texts.specs.declared.reading.CommandFault.{CommandFault}
 use Rattle.texts.specs.declared.reading.CommandFault.TheVariants as fault
 use Rattle.texts.specs.Fields.{cut}
 use Rattle.texts.specs.Reading.{command_of, SpellsWhatIsRead}
-use Rattle.commands.specs.History.{History, nothing, history, after, is_seen, answer_of, answer_to, read_refusal, added_read, SeesEachId}
+use Rattle.commands.specs.History.{History, nothing, history, after, is_seen, answer_of, answer_to}
+use Rattle.commands.specs.History.{read_refusal, added_read, SeesEachId}
 use Rattle.commands.proofs.Entries.{after_seen, answer_new}
 use Rattle.lines.specs.Lines.{is_line}
 use Rattle.archive.specs.Archive.{has_id, line_of, lines_behind, archive}

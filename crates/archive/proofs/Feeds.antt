@@ -1,5 +1,7 @@
 -- A text that reads as a command has no line feed.
-use Rattle.std.proofs.Common.{◌≡◌, ℕ, ◌<◌, Bool, true, false, ◌||◌, ◌==◌, not, List, [], ◌∷◌, ◌++◌, map, codes, decimal, Option, Some, None, Ok, refl, sym, ap, ◌∙◌, arith, eqb-true}
+use Rattle.std.proofs.Common.{◌≡◌, ℕ, ◌<◌, Bool, true, false, ◌||◌, ◌==◌, not, List, [], ◌∷◌, ◌++◌}
+use Rattle.std.proofs.Common.{map, codes, decimal, Option, Some, None, Ok, refl, sym, ap, ◌∙◌}
+use Rattle.std.proofs.Common.{arith, eqb-true}
 use Rattle.std.specs.Char.{is_ascii_digit}
 use Rattle.std.specs.List.{list_all, list_any, join_with_byte}
 use Rattle.std.proofs.lemmas.Bool.{false≢true}
@@ -17,17 +19,24 @@ use Rattle.cube.specs.declared.moves.Move.{Move}
 use Rattle.notation.specs.Tokens.{side_letter, axis_letter, stem, mark, token}
 use Rattle.notation.specs.Notation.{spelling as moves_text}
 use Rattle.formats.specs.declared.events.Event.{Event}
-use Rattle.formats.specs.declared.events.Event.TheVariants.{Cube3, Cube2, Cube4, Cube5, Cube6, Cube7, Blind3, FewestMoves, OneHanded, Clock, Megaminx, Pyraminx, Skewb, Square1, Blind4, Blind5, MultiBlind}
+use Rattle.formats.specs.declared.events.Event.TheVariants.{Cube3, Cube2, Cube4, Cube5, Cube6}
+use Rattle.formats.specs.declared.events.Event.TheVariants.{Cube7, Blind3, FewestMoves, OneHanded}
+use Rattle.formats.specs.declared.events.Event.TheVariants.{Clock, Megaminx, Pyraminx, Skewb}
+use Rattle.formats.specs.declared.events.Event.TheVariants.{Square1, Blind4, Blind5, MultiBlind}
 use Rattle.formats.specs.declared.events.Format.{Format}
 use Rattle.formats.specs.declared.events.Format.TheVariants.{Ao5, Mo3, Bo1, Bo2, Bo3}
 use Rattle.formats.specs.Events.{event_name, format_name}
 use Rattle.formats.specs.declared.advance.Advance.{Advance}
 use Rattle.formats.specs.declared.advance.Advance.TheVariants.{Final, Top, Percent}
 use Rattle.texts.specs.declared.command.Command.{Command}
-use Rattle.texts.specs.declared.command.Command.TheVariants.{Register, Open, Enter, Scramble, Attempt, Correct, Strike, SetAdvance, Close, SetEdition}
+use Rattle.texts.specs.declared.command.Command.TheVariants.{Register, Open, Enter, Scramble}
+use Rattle.texts.specs.declared.command.Command.TheVariants.{Attempt, Correct, Strike, SetAdvance}
+use Rattle.texts.specs.declared.command.Command.TheVariants.{Close, SetEdition}
 use Rattle.texts.specs.declared.command.Entered.{Entered}
 use Rattle.texts.specs.declared.command.Entered.TheVariants.{Time, Solution, Multi, Dnf, Dns}
-use Rattle.texts.specs.Spelling.{is_name_byte, is_name, IsFit, IsFitCutoff, IsFitLimit, IsFitAdvance, IsEntered, cutoff_text, limit_text, advance_text, entered_text, words_of, spelling}
+use Rattle.texts.specs.Spelling.{is_name_byte, is_name, IsFit, IsFitCutoff, IsFitLimit}
+use Rattle.texts.specs.Spelling.{IsFitAdvance, IsEntered, cutoff_text, limit_text, advance_text}
+use Rattle.texts.specs.Spelling.{entered_text, words_of, spelling}
 use Rattle.texts.specs.Reading.{SpellsWhatIsRead, command_of}
 use Rattle.texts.proofs.Cuts.{lacks, and-true}
 use Rattle.texts.proofs.FieldSpellings.{decimal_digits}

@@ -10,10 +10,13 @@ use Rattle.lines.specs.Lines.{is_line}
 abbrev pub has_id : List Entry → ℕ → Bool
 has_id es id = list_any (λ e. e.id == id) es
 
--- the line of an entry behind these others: its text, where its id is new and the text has no line
--- feed; else it is empty
+-- behind these others, its id is new and its text has no line feed
+abbrev pub is_copied : List Entry → Entry → Bool
+is_copied before e = not (has_id before e.id) && is_line e.text
+
+-- the line of an entry behind these others: its text, where it is copied, else empty
 abbrev pub line_of : List Entry → Entry → List ℕ
-line_of before e = if not (has_id before e.id) && is_line e.text then e.text else []
+line_of before e = if is_copied before e then e.text else []
 
 -- a line for each entry, behind these others
 abbrev pub lines_behind : List Entry → List Entry → List (List ℕ)

@@ -1,16 +1,15 @@
 //! A log, written as the lines that a replay reads.
 
-ghost use Rattle.std.specs.Prelude.{◌≡◌, ◌⊎◌, ◌&&◌, ◌∷◌, [], ◌++◌, not, Some, OnOk, OnErr, IfErr};
-ghost use Rattle.std.specs.Prelude.{slice_get, take};
+ghost use Rattle.std.specs.Prelude.{◌≡◌, ◌⊎◌, Some, OnOk, OnErr, IfErr, slice_get, take};
 ghost use Rattle.std.specs.Io.KnownBytes.{Appends};
 ghost use Rattle.acceptor.specs.Entries.{IsText};
 ghost use Rattle.lines.specs.Bytes.{AppendsPart};
 ghost use Rattle.lines.specs.Lines.{is_line};
 ghost use Rattle.lines.specs.declared.fault.RunFault.TheVariants as run_fault;
 ghost use Rattle.learner.specs.Logs.{position_of};
-ghost use Rattle.archive.specs.Archive.{has_id, line_of, archive_text};
+ghost use Rattle.archive.specs.Archive.{is_copied, line_of, archive_text};
 ghost use Rattle.archive.specs.Replayed.{IsReplayed};
-ghost use Rattle.archive.specs.model.Firsts.{is_at};
+ghost use Rattle.archive.specs.model.Firsts.{is_at, AddsLine};
 
 use crate::laws::archives_are_replayed;
 use acceptor::NoMemory;
@@ -40,8 +39,7 @@ fn is_first(log: &Log, pos: u32, id: u64) -> bool
 /// Whether the line of the entry at a position is its text.
 fn has_line(log: &Log, pos: u32, entry: &Entry) -> bool
     ensures { slice_get log.now.entries pos ≡ Some entry.now
-        → result
-        ≡ (not (has_id (take pos log.now.entries) entry.now.id) && is_line entry.now.text) }
+        → result ≡ is_copied (take pos log.now.entries) entry.now }
 {
     is_first(log, pos, entry.id()) && is_line(entry.text())
 }
@@ -59,11 +57,11 @@ fn line_of<'a>(log: &Log, pos: u32, entry: &'a Entry) -> &'a [u8]
 
 /// Adds the line of the entry at a position, and a line feed.
 fn push_line(out: &mut Vec<u8>, log: &Log, pos: u32, entry: &Entry) -> Result<(), NoMemory>
-    ensures line { OnOk result (slice_get log.now.entries pos ≡ Some entry.now
-        → out.new.items ≡ out.old.items ++ (line_of (take pos log.now.entries) entry.now
-        ++ 10 ∷ [])) }
+    ensures line { OnOk result
+        (AddsLine log.now.entries pos entry.now out.old.items out.new.items) }
     ensures short { IsText entry.now.text }
 {
+    // That the text is short is said by the contract of this call.
     let _ = entry.text();
     out.extend_from_slice(line_of(log, pos, entry))?;
     out.extend_from_slice(b"\n")

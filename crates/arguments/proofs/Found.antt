@@ -1,10 +1,7 @@
--- What was found in the words.
-use Rattle.std.proofs.Common.{◌≡◌, ◌∙◌, ap, ap₂, sym, subst, ℕ, List, Option, None, Some, Bor, IfSome, option_map, unwrap_or, decimal}
-use Rattle.std.specs.Prelude.{Box}
-use Rattle.std.specs.Box.{box_value}
-use Rattle.clap.specs.Words.{Row, Text, first_of, first_value, found_of, rows_of, subcommand_rows}
-use Rattle.clap.specs.declared.parser.matches.SubCommand.{SubCommand}
-use Rattle.clap.specs.declared.parser.matches.ArgMatches.TheViews.{out-SubCommand}
+-- What was found in the arguments.
+use Rattle.std.proofs.Common.{◌≡◌, ◌∙◌, ap, sym, subst, ℕ, List, Bor, decimal, IfSome, Option}
+use Rattle.std.proofs.Common.{None, Some, option_map}
+use Rattle.clap.specs.Words.{Row, Text, first_of, first_value, rows_of}
 use Rattle.clap.specs.declared.parser.matches.Found.{Found}
 use Rattle.clap.proofs.WalkLemmas.{first_value-rows}
 use Rattle.arguments.specs.Arguments.{IsNumberAt}
@@ -13,24 +10,6 @@ use Rattle.arguments.specs.declared.task.Request.{Request}
 use Rattle.arguments.specs.declared.task.Request.TheVariants as request
 use Rattle.arguments.specs.declared.task.Task.{Task}
 use Rattle.arguments.specs.declared.task.Task.TheVariants as task
-
-pub entered_rows : {Z : Type 0} (sub : Option (Box SubCommand Z)) (name : Text) (rows : List Row)
-    → Some name ≡ option_map (λ b. (out-SubCommand (box_value b)).name.now) sub
-    → Some rows ≡ option_map (λ p. p.1) (subcommand_rows sub)
-    → subcommand_rows sub ≡ Some (name, rows)
-entered_rows None name rows named in_rows = cc
-entered_rows (Some b) name rows named in_rows =
-    let name_is : name ≡ (out-SubCommand (box_value b)).name.now =
-    ap (λ (o : Option Text). unwrap_or o name) named in
-    let rows_are : rows ≡ rows_of (found_of (out-SubCommand (box_value b)).matches) =
-    ap (λ (o : Option (List Row)). unwrap_or o rows) in_rows in
-    ap₂ (λ (x : Text) (y : List Row). Some (x, y)) (sym name_is) (sym rows_are)
-
-pub text_found : (f : Found) (id : Text) (r : Option (Bor Text))
-    → option_map (λ s. s.now) r ≡ first_value f id
-    → IfSome r (λ t. first_of id (rows_of f) ≡ Some t.now)
-text_found f id None h = tt
-text_found f id (Some t) h = sym (first_value-rows f id) ∙ sym h
 
 pub none_found : (f : Found) (id : Text) (r : Option (Bor Text))
     → option_map (λ s. s.now) r ≡ first_value f id → r ≡ None → first_of id (rows_of f) ≡ None

@@ -1,2 +1,2 @@
-pub mod Building
+pub mod Alike
 pub mod Found

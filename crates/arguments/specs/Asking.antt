@@ -1,21 +1,14 @@
--- What the words of the program ask for, as its parser reads words: `clap` says which word is whose
--- value.
-use Rattle.std.specs.Prelude.{◌≡◌, ◌⊎◌, true, false, ℕ, List, codes, decimal, map, Option, None}
-use Rattle.std.specs.Prelude.{Some, option_and_then}
+-- What the arguments of the program ask for, as its parser reads them: `clap` says which argument
+-- is the value of which name.
+use Rattle.std.specs.Prelude.{◌≡◌, ◌⊎◌, true, false, ℕ, List, codes, map, Option, None, Some}
 use Rattle.clap.specs.Words.{App, Row, Text, all_of, first_of, new_app, one_of, subcommand_of}
 use Rattle.clap.specs.Words.{with_rule, with_subcommand}
-use Rattle.clap.specs.declared.builder.value_parser.ValueParser.{ValueParser}
-use Rattle.formats.specs.declared.events.Event.{Event}
-use Rattle.formats.specs.Events.{all_events, event_name, event_of_name}
-use Rattle.sheets.specs.declared.Style.{Style}
-use Rattle.sheets.specs.declared.Style.TheVariants as printed
 use Rattle.wire.specs.declared.values.SheetStyle.{SheetStyle}
 use Rattle.wire.specs.declared.values.SheetStyle.TheVariants as asked
 use Rattle.wire.specs.Laws.{IsVersion}
 use Rattle.wire.specs.Ranges.{IsId}
-use Rattle.arguments.specs.Arguments.{IsNumberAt, IsOneOf, any_text, csv_rule, errand_words}
-use Rattle.arguments.specs.Arguments.{numbers, option_rule, round_numbers, value_rule, values_rule}
-use Rattle.arguments.specs.Arguments.{wait_rule}
+use Rattle.arguments.specs.Arguments.{IsNumberAt, any_text, csv_rule, errand_arguments, numbers}
+use Rattle.arguments.specs.Arguments.{option_rule, value_rule, values_rule, wait_rule}
 use Rattle.batch.specs.declared.lines_entered.Batch.{Batch}
 use Rattle.service.specs.declared.Service.{Service}
 use Rattle.arguments.specs.declared.task.Errand.{Errand}
@@ -23,28 +16,16 @@ use Rattle.arguments.specs.declared.task.Request.{Request}
 use Rattle.arguments.specs.declared.task.Request.TheVariants as request
 use Rattle.arguments.specs.declared.task.Task.{Task}
 use Rattle.arguments.specs.declared.task.Task.TheVariants as task
+pub use Rattle.replay_arguments.specs.Asking.{RoundParsers, replay_arguments, named_app}
+pub use Rattle.replay_arguments.specs.Asking.{IsRound, IsPrinted}
 
--- ---- the words that subcommands take
+-- ---- the arguments of each subcommand
 
--- what passes as an event, the name of one, and what as a round
-pub record RoundParsers : Type 0 where
-  pub events : Option ValueParser
-  pub rounds : Option ValueParser
-  pub named : IsOneOf events (map event_name all_events)
-  pub numbered : IsOneOf rounds round_numbers
+abbrev pub hall_arguments : App
+hall_arguments = with_rule (new_app (codes "hall")) (value_rule (codes "desks") (numbers 0 255))
 
-abbrev pub replay_words : RoundParsers → App
-replay_words p =
-    with_rule (with_rule (with_rule (new_app (codes "replay"))
-    (value_rule (codes "event") p.events))
-    (value_rule (codes "round") p.rounds))
-    csv_rule
-
-abbrev pub hall_words : App
-hall_words = with_rule (new_app (codes "hall")) (value_rule (codes "desks") (numbers 0 255))
-
-abbrev pub serve_words : App
-serve_words =
+abbrev pub serve_arguments : App
+serve_arguments =
     with_rule (with_rule (with_rule (with_rule (with_rule (with_rule (with_rule
     (new_app (codes "serve"))
     (option_rule (codes "hall") (numbers 0 4294967295)))
@@ -55,75 +36,57 @@ serve_words =
     (record (option_rule (codes "wire") (numbers 1 2)) { required = false }))
     (values_rule (codes "addr") any_text)
 
-abbrev pub log_words : App
-log_words = with_rule (new_app (codes "log")) (option_rule (codes "store") any_text)
+abbrev pub log_arguments : App
+log_arguments = with_rule (new_app (codes "log")) (option_rule (codes "store") any_text)
 
-abbrev pub enter_words : App
-enter_words =
-    with_rule (with_rule (errand_words (codes "enter"))
+abbrev pub enter_arguments : App
+enter_arguments =
+    with_rule (with_rule (errand_arguments (codes "enter"))
     (value_rule (codes "id") (numbers 1 9223372036854775807)))
     (value_rule (codes "text") any_text)
 
-abbrev pub lines_words : App
-lines_words =
-    with_rule (with_rule (errand_words (codes "enter-lines"))
+abbrev pub lines_arguments : App
+lines_arguments =
+    with_rule (with_rule (errand_arguments (codes "enter-lines"))
     (option_rule (codes "first-id") (numbers 1 9223372036854775807)))
     wait_rule
 
-abbrev pub ask_words : App
-ask_words =
-    with_rule (errand_words (codes "ask"))
+abbrev pub ask_arguments : App
+ask_arguments =
+    with_rule (errand_arguments (codes "ask"))
     (value_rule (codes "id") (numbers 1 9223372036854775807))
 
-abbrev pub sheet_words : RoundParsers → App
-sheet_words p =
-    with_rule (with_rule (with_rule (with_rule (errand_words (codes "sheet"))
+abbrev pub sheet_arguments : RoundParsers → App
+sheet_arguments p =
+    with_rule (with_rule (with_rule (with_rule (errand_arguments (codes "sheet"))
     (value_rule (codes "event") p.events))
     (value_rule (codes "round") p.rounds))
     (value_rule (codes "position") (numbers 0 4294967295)))
     csv_rule
 
--- the words of the program: a subcommand, which has to be there, and its own, of which it has a
--- version
-abbrev pub named_app : App
-named_app =
-    record (new_app (codes "desk")) {
-      top =
-          record (new_app (codes "desk")).top { has_version = true; subcommand_required = true };
-    }
-
--- what passes at `replay` and at `sheet`
+-- the texts that are accepted at `replay` and at `sheet`
 pub record Parsers : Type 0 where
   pub replay : RoundParsers
   pub sheet : RoundParsers
 
-abbrev pub desk_words : Parsers → App
-desk_words p =
+abbrev pub desk_arguments : Parsers → App
+desk_arguments p =
     with_subcommand (with_subcommand (with_subcommand (with_subcommand (with_subcommand
     (with_subcommand (with_subcommand (with_subcommand (with_subcommand (with_subcommand named_app
-    (replay_words p.replay).top)
-    hall_words.top)
-    serve_words.top)
-    log_words.top)
-    enter_words.top)
-    lines_words.top)
-    ask_words.top)
-    (sheet_words p.sheet).top)
-    (errand_words (codes "tick")).top)
-    (errand_words (codes "stop")).top
+    (replay_arguments p.replay).top)
+    hall_arguments.top)
+    serve_arguments.top)
+    log_arguments.top)
+    enter_arguments.top)
+    lines_arguments.top)
+    ask_arguments.top)
+    (sheet_arguments p.sheet).top)
+    (errand_arguments (codes "tick")).top)
+    (errand_arguments (codes "stop")).top
 
 -- ---- what their values say
 
--- an event by its name, and a round as it prints in decimal
-pub record IsRound (rows : List Row) (event : Event) (round : ℕ) : Type 0 where
-  pub named : option_and_then event_of_name (first_of (codes "event") rows) ≡ Some event
-  pub numbered : first_of (codes "round") rows ≡ Some (decimal round)
-
 -- whether `--csv` is there
-pub record IsPrinted (rows : List Row) (style : Style) : Type 0 where
-  pub table : one_of (codes "csv") rows ≡ Some (codes "true") → style ≡ printed.Table
-  pub text : one_of (codes "csv") rows ≡ Some (codes "false") → style ≡ printed.Text
-
 pub record IsAsked (rows : List Row) (style : SheetStyle) : Type 0 where
   pub table : one_of (codes "csv") rows ≡ Some (codes "true") → style ≡ asked.Table
   pub text : one_of (codes "csv") rows ≡ Some (codes "false") → style ≡ asked.Text
@@ -148,7 +111,7 @@ pub record IsErrand (e : Errand) (name : Text) (rows : List Row) : Type 0 where
   pub address : first_of (codes "to") rows ≡ Some e.to.now
   pub request : IsRequest e.request name rows
 
--- how long a read waits, where the words say it
+-- how long a read waits, where the arguments say it
 abbrev pub IsPatience : Option ℕ → List Row → Type 0
 IsPatience (Some n) rows = IsNumberAt (codes "patience") rows n
 IsPatience None rows = first_of (codes "patience") rows ≡ None
@@ -212,6 +175,10 @@ HasIds (task.Serve service) = IsVersion service.wire
 abbrev pub Finds : Option (Text × List Row) → Task → Type 0
 Finds found t = (name : Text) × (rows : List Row) × (found ≡ Some (name, rows)) × IsTask t name rows
 
--- the words, of which the first is the program's own name, ask for this
+-- these arguments are parsed as a subcommand and the rows of its values, or as none
+abbrev pub Parses : List Text → Option (Text × List Row) → Type 0
+Parses given found = (p : Parsers) × (found ≡ subcommand_of (desk_arguments p) given)
+
+-- the arguments, of which the first is the program's own name, ask for this
 abbrev pub Asks : List Text → Task → Type 0
-Asks words t = (p : Parsers) × Finds (subcommand_of (desk_words p) words) t
+Asks given t = (p : Parsers) × Finds (subcommand_of (desk_arguments p) given) t

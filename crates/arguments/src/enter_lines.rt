@@ -1,32 +1,33 @@
-//! The subcommand `enter-lines`: its words and its help.
+//! The subcommand `enter-lines`: its arguments and its help.
 
 ghost use Rattle.std.specs.Prelude.{◌≡◌, false, codes, IfOk, IfSome};
 ghost use Rattle.clap.specs.Words.{found_of, rows_of, rule_of};
 ghost use Rattle.arguments.specs.Arguments.{IsCommand, wait_rule};
-ghost use Rattle.arguments.specs.Asking.{lines_words, IsTask};
+ghost use Rattle.arguments.specs.Asking.{lines_arguments, IsTask};
 
 use crate::task::{Task, of_four_bytes, of_one_byte};
-use crate::values::{errand_command, number_at, option, text_at, with_argument};
+use crate::values::{errand_command, number_at, option};
 use batch::{Batch, Receiver};
 use clap::builder::ValueParser;
 use clap::{Arg, ArgAction, ArgMatches, Command};
+use replay_arguments::{text_at, with_argument};
 use std::alloc::{AllocError, Global};
 
 const ABOUT: &str = "Enters the commands of standard input at a desk, one a line.";
 
 const AFTER: &str = "\
-The first line gets the id ID, and each further one the next. A line is entered as soon as it was
-read, over a connection of its own, and again where the desk's queue is full. Prints `taken ID` for
-each line, or with --wait what `ask` prints once the command is decided; a desk that does not decide
-is ticked now and then.
+The first line gets the id ID, and each later line gets the next id. A line is entered as soon as
+it was read, over a connection of its own, and again while the desk's queue is full. Prints
+`taken ID` for each line. With --wait it prints what `desk ask` prints, once the command is decided;
+a desk that decides nothing is sent a tick from time to time.
 
-At a fault the lines that were printed are entered and the next one may be; no other was sent. Go on
-from the next one, with its id: nothing is entered twice.
+After a fault, each line for which something was printed is entered. The next line may be entered,
+and no later line was sent. Go on with that next line and its id: no command is entered twice.
 
-Exit status: 0 all lines were entered; 2 the words are not understood, or ask for help; 3 bad desk
-number, input too long, text too long, no more ids, still pending, command lost (the desk was
-started again before it was decided), or refused NAME; 4 cannot read, cannot connect, cannot write,
-or no answer; 5 no memory.";
+Exit status: 0 all lines were entered; 2 invalid arguments, or help; 3 bad desk number, input too
+long, text too long, no more ids, still pending, command lost (the desk was started again before the
+command was decided), or refused NAME; 4 cannot read, cannot connect, cannot write, or no answer; 5
+no memory.";
 
 /// The flag `--wait`.
 fn wait_flag<'a>(alloc: Global) -> Arg<'a>
@@ -39,9 +40,9 @@ fn wait_flag<'a>(alloc: Global) -> Arg<'a>
         .action(ArgAction::SetTrue)
 }
 
-/// The words of `enter-lines`.
+/// The subcommand `enter-lines`, as the parser knows it.
 pub fn enter_lines_command<'a>(alloc: Global) -> Result<Command<'a>, AllocError>
-    ensures { IfOk result (λ command. IsCommand command lines_words) }
+    ensures { IfOk result (λ command. IsCommand command lines_arguments) }
 {
     let command = errand_command(alloc, "enter-lines", ABOUT, AFTER)?;
     let first_id = option(
@@ -55,7 +56,7 @@ pub fn enter_lines_command<'a>(alloc: Global) -> Result<Command<'a>, AllocError>
     with_argument(command, wait_flag(alloc))
 }
 
-/// What the words of `enter-lines` ask for.
+/// What the arguments of `enter-lines` ask for.
 pub fn lines_of<'a>(found: &ArgMatches<'a>) -> Option<Task<'a>>
     ensures { IfSome result
         (λ task. IsTask task (codes "enter-lines") (rows_of (found_of found.now))) }

@@ -1,14 +1,15 @@
-//! The subcommand `hall`: its words and its help.
+//! The subcommand `hall`: its arguments and its help.
 
 ghost use Rattle.std.specs.Prelude.{codes, IfOk, IfSome};
 ghost use Rattle.clap.specs.Words.{found_of, rows_of};
 ghost use Rattle.arguments.specs.Arguments.{IsCommand};
-ghost use Rattle.arguments.specs.Asking.{hall_words, IsTask};
+ghost use Rattle.arguments.specs.Asking.{hall_arguments, IsTask};
 
 use crate::task::{Task, of_one_byte};
-use crate::values::{number_at, plain_command, value, with_argument};
+use crate::values::number_at;
 use clap::builder::ValueParser;
 use clap::{ArgMatches, Command};
+use replay_arguments::{plain_command, value, with_argument};
 use std::alloc::{AllocError, Global};
 
 const ABOUT: &str = "Runs a hall of desks from a script and prints what they send and decide.";
@@ -16,24 +17,25 @@ const ABOUT: &str = "Runs a hall of desks from a script and prints what they sen
 const SCRIPT: &str = "\
 Standard input has one event a line; D is a desk, 1 to DESKS:
 
-  submit 1 7 REG 1 Ann Li  desk 1 takes the command text REG 1 Ann Li with the id 7
-  start 1                  desk 1 begins
-  tick 1                   desk 1 takes a tick
-  deliver 3                message m3 comes to its desk
+  submit 1 7 REG 1 Ann Li  desk 1 receives the command `REG 1 Ann Li` with the id 7
+  start 1                  desk 1 begins to have a command decided
+  tick 1                   desk 1 receives a tick, as from a clock
+  deliver 3                the message m3 arrives at its desk
   restart 1                desk 1 stops and is opened again from its store
 
 At most 65,536 lines, 10,000 bytes a line and 39,387,136 bytes in all are read.
 
-Standard output gets a line for each message that is sent, `m3 1 2 Prepare 1.1 0`: its number, from
-whom, to whom, its kind and its fields; a line `refused N FAULT` for each event that its desk
-refuses; and at the end the desks' logs, a line for each entry: `desk 1 0 7 REG 1 Ann Li`.
+Standard output gets a line for each message that is sent, as `m3 1 2 Prepare 1.1 0`: its number,
+its sender, its receiver, its kind and its fields. It gets a line `refused N FAULT` where the desk
+refuses the event of line N. At the end it gets the logs of the desks, a line for each entry, as
+`desk 1 0 7 REG 1 Ann Li`: the desk, the position, the id and the command.
 
-Exit status: 0 the script was run; 2 the words are not understood, or ask for help; 3 bad number of
-desks, bad line N, or input too long; 4 cannot read, or cannot write; 5 no memory.";
+Exit status: 0 the script was run; 2 invalid arguments, or help; 3 bad number of desks, bad line N,
+or input too long; 4 cannot read, or cannot write; 5 no memory.";
 
-/// The words of `hall`.
+/// The subcommand `hall`, as the parser knows it.
 pub fn hall_command<'a>(alloc: Global) -> Result<Command<'a>, AllocError>
-    ensures { IfOk result (λ command. IsCommand command hall_words) }
+    ensures { IfOk result (λ command. IsCommand command hall_arguments) }
 {
     let command = plain_command(alloc, "hall", ABOUT, SCRIPT);
     let desks = value(
@@ -46,7 +48,7 @@ pub fn hall_command<'a>(alloc: Global) -> Result<Command<'a>, AllocError>
     with_argument(command, desks)
 }
 
-/// What the words of `hall` ask for.
+/// What the arguments of `hall` ask for.
 pub fn hall_of<'a>(found: &ArgMatches<'a>) -> Option<Task<'a>>
     ensures { IfSome result
         (λ task. IsTask task (codes "hall") (rows_of (found_of found.now))) }

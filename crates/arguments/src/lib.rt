@@ -6,9 +6,9 @@ mod ask;
 mod enter;
 mod enter_lines;
 mod hall;
+mod laws;
 mod log;
 mod parsing;
-mod replay;
 mod serve;
 mod sheet;
 mod stop;
@@ -16,5 +16,6 @@ mod task;
 mod tick;
 mod values;
 
-pub use parsing::{parse, words_of};
+pub use laws::replay_is_asked_alike;
+pub use parsing::parse;
 pub use task::{Errand, Request, Task, task_of};

@@ -1,36 +1,37 @@
-//! The subcommand `serve`: its words and its help.
+//! The subcommand `serve`: its arguments and its help.
 
 ghost use Rattle.std.specs.Prelude.{◌≡◌, false, codes, IfOk, IfSome};
 ghost use Rattle.clap.specs.Words.{found_of, rows_of, rule_of};
 ghost use Rattle.arguments.specs.Arguments.{IsCommand, IsNumberAt, any_text, numbers, option_rule};
 ghost use Rattle.arguments.specs.Arguments.{values_rule};
-ghost use Rattle.arguments.specs.Asking.{serve_words, IsPatience, IsTask, IsWire};
+ghost use Rattle.arguments.specs.Asking.{serve_arguments, IsPatience, IsTask, IsWire};
 ghost use Rattle.wire.specs.Laws.{IsVersion};
 
 use crate::task::{Task, of_four_bytes, of_one_byte};
-use crate::values::{number_at, option, plain_command, text_at, value, with_argument};
+use crate::values::{number_at, option};
 use clap::builder::ValueParser;
 use clap::{Arg, ArgAction, ArgMatches, Command};
+use replay_arguments::{plain_command, text_at, value, with_argument};
 use service::Service;
 use std::alloc::{AllocError, Global};
 
-const ABOUT: &str = "Runs a desk over its file: it serves clients and the other desks of its hall.";
+const ABOUT: &str = "Runs a desk from its file: it serves clients and the other desks of its hall.";
 
 const AFTER: &str = "\
-ADDR is where each desk of the hall listens, from desk 1 on, as 127.0.0.1:7001: three of them or
-five, the same ones in the same order at each desk. FILE is made where there is none; what the desk
-has promised and decided stands in it and in FILE-wal beside it, and a desk that was stopped or
-killed is started again by the same words.
+The ADDRs are where the desks of the hall listen, in the order of their numbers, as 127.0.0.1:7001.
+There are three or five, and they are the same at each desk. FILE is created if it does not exist.
+What the desk has promised and decided is kept in FILE and in FILE-wal beside it. A desk that was
+stopped or killed is started again by the same command.
 
-Prints `desk D of N len LENGTH` once clients can come, where LENGTH is that of the desk's log, and
-at the end `served CONNECTIONS`.
+Prints `desk D of N len LENGTH` once clients can connect: N is the number of desks, and LENGTH is
+the length of the desk's log. At the end it prints `served CONNECTIONS`.
 
-Exit status: 0 K connections were served, or a client asked the desk to stop; 2 the words are not
-understood, or ask for help; 3 bad number of desks, bad desk number, wrong desk, or damaged store;
-4 store device (FILE cannot be opened, or another program has it open), store down (a write to it
-failed), cannot listen, or cannot write; 5 no memory.";
+Exit status: 0 K connections were served, or a client asked the desk to stop; 2 invalid arguments,
+or help; 3 bad number of desks, bad desk number, wrong desk, or damaged store; 4 store device (FILE
+cannot be opened, or another program has it open), store down (a write to it failed), cannot listen,
+or cannot write; 5 no memory.";
 
-/// The value ADDR, which may come more than once.
+/// The value ADDR, which may be given more than once.
 fn address_value<'a>(alloc: Global) -> Arg<'a>
     ensures rule { rule_of result ≡ values_rule (codes "addr") any_text }
     ensures local { result.global ≡ false }
@@ -39,7 +40,7 @@ fn address_value<'a>(alloc: Global) -> Arg<'a>
         alloc,
         "addr",
         "ADDR",
-        "Where each desk listens, from desk 1 on",
+        "Where each desk listens, desk 1 first",
         ValueParser::string(),
     )
     .action(ArgAction::Append)
@@ -55,7 +56,7 @@ fn patience_option<'a>(alloc: Global) -> Arg<'a>
         alloc,
         "patience",
         "SECONDS",
-        "How long a client may send nothing or read nothing, 1 to 86400; for ever without it",
+        "How long to wait for a silent client, 1 to 86400; without this option for ever",
         ValueParser::unsigned(1, 86400),
     )
     .required(false)
@@ -71,15 +72,15 @@ fn wire_option<'a>(alloc: Global) -> Arg<'a>
         alloc,
         "wire",
         "VERSION",
-        "The version of the wire in which the other desks are spoken to, 1 or 2; 1 without it",
+        "The version of the frames for the other desks, 1 or 2; without this option 1",
         ValueParser::unsigned(1, 2),
     )
     .required(false)
 }
 
-/// The words of `serve`.
+/// The subcommand `serve`, as the parser knows it.
 pub fn serve_command<'a>(alloc: Global) -> Result<Command<'a>, AllocError>
-    ensures { IfOk result (λ command. IsCommand command serve_words) }
+    ensures { IfOk result (λ command. IsCommand command serve_arguments) }
 {
     let command = plain_command(alloc, "serve", ABOUT, AFTER);
     let hall = option(
@@ -119,7 +120,7 @@ pub fn serve_command<'a>(alloc: Global) -> Result<Command<'a>, AllocError>
     with_argument(command, address_value(alloc))
 }
 
-/// The value of SECONDS, which is there.
+/// The value of SECONDS, where it is given.
 fn seconds_at(found: &ArgMatches<'_>) -> Option<u32>
     ensures { IfSome result
         (λ seconds. IsNumberAt (codes "patience") (rows_of (found_of found.now)) seconds) }
@@ -127,7 +128,7 @@ fn seconds_at(found: &ArgMatches<'_>) -> Option<u32>
     of_four_bytes(number_at(found, "patience")?)
 }
 
-/// The value of SECONDS, where there is one. The parser lets nothing through but a number.
+/// The value of SECONDS, or no value where it is not given. The parser accepts only a number.
 fn patience_at(found: &ArgMatches<'_>) -> Option<Option<u32>>
     ensures { IfSome result (λ patience. IsPatience patience (rows_of (found_of found.now))) }
 {
@@ -140,7 +141,7 @@ fn patience_at(found: &ArgMatches<'_>) -> Option<Option<u32>>
     }
 }
 
-/// The value of VERSION, which is there.
+/// The value of VERSION, where it is given.
 fn version_at(found: &ArgMatches<'_>) -> Option<u8>
     ensures number { IfSome result
         (λ wire. IsNumberAt (codes "wire") (rows_of (found_of found.now)) wire) }
@@ -154,7 +155,7 @@ fn version_at(found: &ArgMatches<'_>) -> Option<u8>
     }
 }
 
-/// The value of VERSION, or 1 where there is none.
+/// The value of VERSION, or 1 where it is not given.
 fn wire_at(found: &ArgMatches<'_>) -> Option<u8>
     ensures wire { IfSome result (λ wire. IsWire wire (rows_of (found_of found.now))) }
     ensures version { IfSome result IsVersion }
@@ -165,7 +166,7 @@ fn wire_at(found: &ArgMatches<'_>) -> Option<u8>
     }
 }
 
-/// What the words of `serve` ask for.
+/// What the arguments of `serve` ask for.
 pub fn serve_of<'m, 'a: 'm>(found: &'m ArgMatches<'a>) -> Option<Task<'m>>
     ensures { IfSome result
         (λ task. IsTask task (codes "serve") (rows_of (found_of found.now))) }

@@ -1,32 +1,34 @@
-//! The subcommand `sheet`: its words and its help.
+//! The subcommand `sheet`: its arguments and its help.
 
 ghost use Rattle.std.specs.Prelude.{◌≡◌, true, false, codes, IfOk, IfSome};
 ghost use Rattle.clap.specs.Words.{found_of, rows_of};
 ghost use Rattle.arguments.specs.Arguments.{IsCommand};
-ghost use Rattle.arguments.specs.Asking.{sheet_words, IsRequest, RoundParsers};
+ghost use Rattle.arguments.specs.Asking.{sheet_arguments, IsRequest, RoundParsers};
 
-use crate::replay::{event_at, event_value, round_at, round_value};
 use crate::task::{Request, of_four_bytes};
-use crate::values::{csv_flag, errand_command, number_at, value, with_argument};
+use crate::values::{errand_command, number_at};
 use clap::builder::ValueParser;
 use clap::{ArgMatches, Command};
+use replay_arguments::{
+    csv_flag, event_at, event_value, round_at, round_value, value, with_argument,
+};
 use std::alloc::{AllocError, Global};
 use wire::SheetStyle;
 
 const ABOUT: &str = "Fetches the result sheet of a round from a desk and prints it.";
 
 const AFTER: &str = "\
-The sheet is that of the first POSITION commands of the desk's log: 0 is the empty log, and each
-`done` of `ask` says a position, behind which POSITION is one more. All desks print the same bytes
-for one POSITION.
+The sheet is that of the first POSITION commands of the desk's log; POSITION 0 is the empty log.
+Where `desk ask` prints `done ID 4 Done`, the sheet with that command has POSITION 5. All desks
+print the same bytes for the same POSITION.
 
-Exit status: 0 the sheet was printed; 2 the words are not understood, or ask for help; 3 bad desk
-number, or refused NAME (NotThere: the desk's log is shorter; NoSuchRound: no command among them
-opened the round); 4 cannot connect, cannot write, or no answer; 5 no memory.";
+Exit status: 0 the sheet was printed; 2 invalid arguments, or help; 3 bad desk number, or refused
+NAME (NotThere: the desk's log is shorter; NoSuchRound: none of these commands opened the round); 4
+cannot connect, cannot write, or no answer; 5 no memory.";
 
-/// The words of `sheet`.
+/// The subcommand `sheet`, as the parser knows it.
 pub fn sheet_command<'a>(alloc: Global) -> Result<Command<'a>, AllocError>
-    ensures { IfOk result (λ command. (p : RoundParsers) × IsCommand command (sheet_words p)) }
+    ensures { IfOk result (λ command. (p : RoundParsers) × IsCommand command (sheet_arguments p)) }
 {
     let command = errand_command(alloc, "sheet", ABOUT, AFTER)?;
     let command = with_argument(command, event_value(alloc))?;
@@ -35,7 +37,7 @@ pub fn sheet_command<'a>(alloc: Global) -> Result<Command<'a>, AllocError>
         alloc,
         "position",
         "POSITION",
-        "How many commands of the log the sheet is of",
+        "How many commands of the log the sheet counts",
         ValueParser::unsigned(0, 4_294_967_295),
     );
     let command = with_argument(command, position)?;
@@ -54,7 +56,7 @@ fn style_of(table: bool) -> SheetStyle
     }
 }
 
-/// What the words of `sheet` ask for.
+/// What the arguments of `sheet` ask for.
 pub fn sheet_of<'a>(found: &ArgMatches<'a>) -> Option<Request<'a>>
     ensures { IfSome result
         (λ request. IsRequest request (codes "sheet") (rows_of (found_of found.now))) }

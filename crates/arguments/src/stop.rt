@@ -1,23 +1,23 @@
-//! The subcommand `stop`: its words and its help.
+//! The subcommand `stop`: its arguments and its help.
 
 ghost use Rattle.std.specs.Prelude.{codes, IfOk};
-ghost use Rattle.arguments.specs.Arguments.{IsCommand, errand_words};
+ghost use Rattle.arguments.specs.Arguments.{IsCommand, errand_arguments};
 
 use crate::values::errand_command;
 use clap::Command;
 use std::alloc::{AllocError, Global};
 
-const ABOUT: &str = "Asks a desk to end.";
+const ABOUT: &str = "Asks a desk to stop.";
 
 const AFTER: &str = "\
-The desk answers and ends; what it has stored stays, and it may be started again. Prints `ok`.
+The desk answers and ends. Its file stays, and it can be started again. Prints `ok`.
 
-Exit status: 0 done; 2 the words are not understood, or ask for help; 3 bad desk number, or refused
-NAME; 4 cannot connect, cannot write, or no answer; 5 no memory.";
+Exit status: 0 done; 2 invalid arguments, or help; 3 bad desk number, or refused NAME; 4 cannot
+connect, cannot write, or no answer; 5 no memory.";
 
-/// The words of `stop`.
+/// The subcommand `stop`, as the parser knows it.
 pub fn stop_command<'a>(alloc: Global) -> Result<Command<'a>, AllocError>
-    ensures { IfOk result (λ command. IsCommand command (errand_words (codes "stop"))) }
+    ensures { IfOk result (λ command. IsCommand command (errand_arguments (codes "stop"))) }
 {
     errand_command(alloc, "stop", ABOUT, AFTER)
 }

@@ -1,6 +1,6 @@
-//! What the words ask for.
+//! What the arguments ask for.
 
-ghost use Rattle.std.specs.Prelude.{◌≡◌, IfSome};
+ghost use Rattle.std.specs.Prelude.{◌≡◌, codes, IfSome};
 ghost use Rattle.clap.specs.Words.{found_of, rows_of, subcommand_rows_of};
 ghost use Rattle.arguments.specs.Asking.{Finds, IsErrand, IsRequest, IsTask};
 
@@ -9,13 +9,13 @@ use crate::enter::entered;
 use crate::enter_lines::lines_of;
 use crate::hall::hall_of;
 use crate::log::log_of;
-use crate::replay::replay_of;
 use crate::serve::serve_of;
 use crate::sheet::sheet_of;
-use crate::values::{number_at, text_at};
+use crate::values::number_at;
 use batch::Batch;
 use clap::ArgMatches;
 use formats::Event;
+use replay_arguments::{replay_of, text_at};
 use service::Service;
 use sheets::Style;
 use wire::SheetStyle;
@@ -23,12 +23,12 @@ use wire::SheetStyle;
 /// What a client asks of a desk.
 #[derive(Clone, Copy)]
 pub enum Request<'a> {
-    /// To take a command into its queue.
+    /// To accept a command into its queue.
     Enter {
         id: u64,
         text: &'a str,
     },
-    /// What became of a command.
+    /// What happened to a command.
     Ask {
         id: u64,
     },
@@ -39,7 +39,7 @@ pub enum Request<'a> {
         position: u32,
         style: SheetStyle,
     },
-    /// To take a tick.
+    /// To do what a tick of a clock asks for.
     Tick,
     /// To end.
     Stop,
@@ -54,7 +54,7 @@ pub struct Errand<'a> {
     pub request: Request<'a>,
 }
 
-/// What the words ask for.
+/// What the arguments ask for.
 #[derive(Clone, Copy)]
 pub enum Task<'a> {
     /// The sheet of a round, from commands.
@@ -86,7 +86,7 @@ pub enum Task<'a> {
     },
 }
 
-/// The number, where it is one of four bytes.
+/// The number, where four bytes hold it.
 pub fn of_four_bytes(number: u64) -> Option<u32>
     ensures { IfSome result (λ n. n ≡ number) }
 {
@@ -96,7 +96,7 @@ pub fn of_four_bytes(number: u64) -> Option<u32>
     Some(number as u32)
 }
 
-/// The number, where it is one of a byte.
+/// The number, where a byte holds it.
 pub fn of_one_byte(number: u64) -> Option<u8>
     ensures { IfSome result (λ n. n ≡ number) }
 {
@@ -106,7 +106,7 @@ pub fn of_one_byte(number: u64) -> Option<u8>
     Some(number as u8)
 }
 
-/// The request of a subcommand's words, where it is one that asks a desk.
+/// The request of a subcommand's arguments, where the subcommand asks a desk.
 fn request_of<'a>(name: &str, found: &ArgMatches<'a>) -> Option<Request<'a>>
     ensures { IfSome result
         (λ request. IsRequest request name.now (rows_of (found_of found.now))) }
@@ -121,7 +121,7 @@ fn request_of<'a>(name: &str, found: &ArgMatches<'a>) -> Option<Request<'a>>
     }
 }
 
-/// The errand of a subcommand's words, where it is one that asks a desk.
+/// The errand of a subcommand's arguments, where the subcommand asks a desk.
 fn errand_of<'a>(name: &str, found: &ArgMatches<'a>) -> Option<Errand<'a>>
     ensures { IfSome result
         (λ errand. IsErrand errand name.now (rows_of (found_of found.now))) }
@@ -138,12 +138,25 @@ fn errand_of<'a>(name: &str, found: &ArgMatches<'a>) -> Option<Errand<'a>>
     })
 }
 
-/// The task of a subcommand's words.
+/// The task of the arguments of `replay`.
+fn replayed<'a>(found: &ArgMatches<'a>) -> Option<Task<'a>>
+    ensures { IfSome result
+        (λ task. IsTask task (codes "replay") (rows_of (found_of found.now))) }
+{
+    let task = replay_of(found)?;
+    Some(Task::Replay {
+        event: task.event,
+        round: task.round,
+        style: task.style,
+    })
+}
+
+/// The task of a subcommand's arguments.
 fn task_named<'m, 'a: 'm>(name: &str, found: &'m ArgMatches<'a>) -> Option<Task<'m>>
     ensures { IfSome result (λ task. IsTask task name.now (rows_of (found_of found.now))) }
 {
     match name {
-        "replay" => replay_of(found),
+        "replay" => replayed(found),
         "hall" => hall_of(found),
         "serve" => serve_of(found),
         "enter-lines" => lines_of(found),
@@ -155,7 +168,8 @@ fn task_named<'m, 'a: 'm>(name: &str, found: &'m ArgMatches<'a>) -> Option<Task<
     }
 }
 
-/// What parsed words ask for. The parser gives every value, so there always is a task.
+/// What parsed arguments ask for. No task where a number has a sign or leading zeros, which the
+/// parser accepts.
 pub fn task_of<'m, 'a: 'm>(matches: &'m ArgMatches<'a>) -> Option<Task<'m>>
     ensures { IfSome result (λ task. Finds (subcommand_rows_of matches.now) task) }
 {

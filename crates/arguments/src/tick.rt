@@ -1,23 +1,23 @@
-//! The subcommand `tick`: its words and its help.
+//! The subcommand `tick`: its arguments and its help.
 
 ghost use Rattle.std.specs.Prelude.{codes, IfOk};
-ghost use Rattle.arguments.specs.Arguments.{IsCommand, errand_words};
+ghost use Rattle.arguments.specs.Arguments.{IsCommand, errand_arguments};
 
 use crate::values::errand_command;
 use clap::Command;
 use std::alloc::{AllocError, Global};
 
-const ABOUT: &str = "Gives a desk a tick, as a clock would every few seconds.";
+const ABOUT: &str = "Sends a desk a tick, as a clock would every few seconds.";
 
 const AFTER: &str = "\
-The desk begins again what it waits for, or asks the others what it lacks. Prints `ok`.
+The desk tries again what it waits for, or asks the other desks for what it lacks. Prints `ok`.
 
-Exit status: 0 done; 2 the words are not understood, or ask for help; 3 bad desk number, or refused
-NAME; 4 cannot connect, cannot write, or no answer; 5 no memory.";
+Exit status: 0 done; 2 invalid arguments, or help; 3 bad desk number, or refused NAME; 4 cannot
+connect, cannot write, or no answer; 5 no memory.";
 
-/// The words of `tick`.
+/// The subcommand `tick`, as the parser knows it.
 pub fn tick_command<'a>(alloc: Global) -> Result<Command<'a>, AllocError>
-    ensures { IfOk result (λ command. IsCommand command (errand_words (codes "tick"))) }
+    ensures { IfOk result (λ command. IsCommand command (errand_arguments (codes "tick"))) }
 {
     errand_command(alloc, "tick", ABOUT, AFTER)
 }

@@ -1,11 +1,14 @@
 -- Results of multi-blind: their numbers are ordered, and are read back from their texts.
-use Rattle.std.proofs.Common.{◌≡◌, ◌↔◌, refl, ap, ◌∙◌, ℕ, ◌+◌, ◌-◌, ◌*◌, ◌/◌, ◌%◌, ◌^◌, ◌<◌, ◌≤◌, Bool, true, false, cond, List, [], ◌∷◌, ◌++◌, map, decimal, codes, All, None, arith, append_assoc}
+use Rattle.std.proofs.Common.{◌≡◌, ◌↔◌, refl, ap, ◌∙◌, ℕ, ◌+◌, ◌-◌, ◌*◌, ◌/◌, ◌%◌, ◌^◌, ◌<◌, ◌≤◌}
+use Rattle.std.proofs.Common.{Bool, true, false, cond, List, [], ◌∷◌, ◌++◌, map, decimal, codes}
+use Rattle.std.proofs.Common.{All, None, arith, append_assoc}
 use Rattle.std.specs.List.{slice_split, AllByRecursion}
 use Rattle.std.specs.Str.Parse.{digits_value, AllDigits}
 use Rattle.std.specs.Char.{digit_value}
 use Rattle.std.proofs.lemmas.Bool.Decides.{nat_tests}
 use Rattle.std.proofs.lemmas.Fmt.{digits_decimal, digits_value-decimal}
-use Rattle.std.proofs.lemmas.Str.Parse.{IsNumeralModel, numerals_by_value, tells_digits, digit_from_value}
+use Rattle.std.proofs.lemmas.Str.Parse.{IsNumeralModel, numerals_by_value, tells_digits}
+use Rattle.std.proofs.lemmas.Str.Parse.{digit_from_value}
 use Rattle.std.proofs.lemmas.Str.{digit_value_digit}
 use Rattle.std.proofs.lemmas.List.Splits.{slice_split_at, slice_split_none}
 use Rattle.std.proofs.lemmas.List.Elements.{All-from_recursion}
@@ -14,8 +17,10 @@ use Rattle.attempts.specs.declared.Unit.TheVariants as measure
 use Rattle.attempts.specs.declared.Value.{Value}
 use Rattle.attempts.specs.declared.Value.TheVariants as value
 use Rattle.attempts.specs.Attempts.{is_multi_finished, multi_number}
-use Rattle.attempts.specs.Texts.{two_digits, multi_text, unsolved_in, solved_in, attempted_in, seconds_in}
-use Rattle.attempts.specs.MultiLaws.{Multi, points_of, unsolved_of, is_better, is_mark, numbers_in, CountsAs, IsOrdered, ReadsBack}
+use Rattle.attempts.specs.Texts.{two_digits, multi_text, unsolved_in, solved_in, attempted_in}
+use Rattle.attempts.specs.Texts.{seconds_in}
+use Rattle.attempts.specs.MultiLaws.{Multi, points_of, unsolved_of, is_better, is_mark, numbers_in}
+use Rattle.attempts.specs.MultiLaws.{CountsAs, IsOrdered, ReadsBack}
 
 -- The number of a result that counts
 
@@ -36,7 +41,8 @@ counted : (r : Multi) (n : ℕ) → CountsAs r n → Counted r n
 counted r n h = go (is_multi_finished r.solved r.attempted) refl (h.1 None)
   where
     go : (b : Bool) → is_multi_finished r.solved r.attempted ≡ b
-        → cond b (value.Number (multi_number r.solved r.attempted r.seconds)) value.Dnf ≡ value.Number n
+        → cond b (value.Number (multi_number r.solved r.attempted r.seconds)) value.Dnf
+        ≡ value.Number n
         → Counted r n
     go false is e = cc
     go true is e =
@@ -58,10 +64,40 @@ ordered r s m n hr hs = go (counted r m hr) (counted s n hs)
     go a b = (λ less. to less, λ is. from is)
       where
         to : m < n → is_better r s ≡ true
-        to less = grind (arith, nat_tests, a.number, b.number, a.two, b.two, a.enough, b.enough, a.few, b.few, a.all, b.all, a.seconds, b.seconds)
+        to less = grind (
+          arith,
+          nat_tests,
+          a.number,
+          b.number,
+          a.two,
+          b.two,
+          a.enough,
+          b.enough,
+          a.few,
+          b.few,
+          a.all,
+          b.all,
+          a.seconds,
+          b.seconds,
+        )
 
         from : is_better r s ≡ true → m < n
-        from is = grind (arith, nat_tests, a.number, b.number, a.two, b.two, a.enough, b.enough, a.few, b.few, a.all, b.all, a.seconds, b.seconds)
+        from is = grind (
+          arith,
+          nat_tests,
+          a.number,
+          b.number,
+          a.two,
+          b.two,
+          a.enough,
+          b.enough,
+          a.few,
+          b.few,
+          a.all,
+          b.all,
+          a.seconds,
+          b.seconds,
+        )
 
 -- What is read back
 
@@ -131,7 +167,8 @@ read_multi s a t hs ha ht =
     (digits_unmarked (two_digits (t % 60)) (two_are_digits (t % 60))))
     ∙ ap (λ n. n ∷ digits_value 10 (decimal a) ∷ digits_value 10 (decimal (t / 60))
     ∷ digits_value 10 (two_digits (t % 60)) ∷ []) (digits_value-decimal own s (omega arith))
-    ∙ ap (λ n. s ∷ n ∷ digits_value 10 (decimal (t / 60)) ∷ digits_value 10 (two_digits (t % 60)) ∷ [])
+    ∙ ap (λ n. s ∷ n ∷ digits_value 10 (decimal (t / 60)) ∷ digits_value 10 (two_digits (t % 60))
+    ∷ [])
     (digits_value-decimal own a (omega arith))
     ∙ ap (λ n. s ∷ a ∷ n ∷ digits_value 10 (two_digits (t % 60)) ∷ [])
     (digits_value-decimal own (t / 60) (omega arith))

@@ -1,6 +1,6 @@
 -- What an attempt counts as: results as in the WCA Regulations, article 9f, penalties of two
--- seconds as in article 10e and time limits as in article A1a. The ranges of what may be entered are
--- the project's own.
+-- seconds as in article 10e and time limits as in article A1a. The ranges of what may be entered
+-- are the project's own.
 use Rattle.std.specs.Prelude.{◌≡◌, ℕ, ◌+◌, ◌-◌, ◌*◌, ◌/◌, ◌≤◌, Bool, false, ◌&&◌, nat_le}
 use Rattle.std.specs.Prelude.{if◌then◌else◌, Option, None, Some}
 use Rattle.attempts.specs.declared.Fm.{Fm}

@@ -1,5 +1,7 @@
 -- Lines that were entered, and what was asked for that.
-use Rattle.std.proofs.Common.{◌≡◌, ◌⊎◌, inl, inr, ℕ, ◌+◌, Bool, true, List, [], ◌∷◌, ◌++◌, length, Option, Result, Ok, Err, OnErr, IfErr, refl, sym, ap, ◌∙◌, append_assoc, append-nil, subst, arith}
+use Rattle.std.proofs.Common.{◌≡◌, ◌⊎◌, inl, inr, ℕ, ◌+◌, Bool, true, List, [], ◌∷◌, ◌++◌, length}
+use Rattle.std.proofs.Common.{Option, Result, Ok, Err, OnErr, IfErr, refl, sym, ap, ◌∙◌}
+use Rattle.std.proofs.Common.{append_assoc, append-nil, subst, arith}
 use Rattle.client.specs.Printing.{reply_text}
 use Rattle.std.proofs.KnownBytes.{Appends-nil}
 use Rattle.lines.specs.Lines.{lines_of}
@@ -7,16 +9,17 @@ use Rattle.lines.specs.Reading.{Reading, GivesFault, GivesLine, GivesNone}
 use Rattle.lines.specs.Bytes.{AppendsPart}
 use Rattle.lines.specs.declared.fault.RunFault.{RunFault}
 use Rattle.wire.specs.declared.frame.What.{What}
-use Rattle.batch.specs.Asking.{Adds, Asked, Asks, IsAnswer, submit_of}
+use Rattle.batch.specs.Asking.{Adds, Asked, Asks, IsAnswer, Told, submit_of}
 use Rattle.batch.specs.declared.asking.Receiver.{Receiver}
 use Rattle.batch.specs.declared.fault.BatchFault.TheVariants as fault
 use Rattle.batch.specs.model.Trying.{IsUndecided}
 use Rattle.batch.specs.Entering.{AsksAll, AsksSome, EndsReading, EnteredBy, Hinders, SaidBy}
-use Rattle.batch.specs.Entering.{EntersSome, IsOfPrinting, IsOther, Sides, StopsAsking, StopsBy, StopsLine, Told}
+use Rattle.batch.specs.Entering.{EntersSome, FailsLine, IsOfPrinting, IsOther, Sides}
+use Rattle.batch.specs.Entering.{StopsAsking, StopsBy, StopsLine}
 use Rattle.batch.specs.declared.fault.BatchFault.{BatchFault}
 use Rattle.batch.specs.declared.lines_entered.Batch.{Batch}
 use Rattle.batch.proofs.Entered.{Entered, enters_all, next_of, stops_at, stops_in}
-use Rattle.batch.proofs.Trying.{adds_more, adds_none, entered_for}
+use Rattle.batch.proofs.Trying.{adds_more, adds_none, entered_for, entered_known}
 
 -- the lines that were given were entered by these requests
 pub record Made (b : Batch) (given said : List ℕ) (asked : List Asked)
@@ -107,7 +110,8 @@ asks_in Fails f b p q line text given said next asked lines start before now old
               line,
               next_of q line given start now g,
               subst (λ n. StopsLine Fails f b (b.first_id + n) line next) count
-                  (subst (λ (t : List ℕ). StopsLine Fails f b (b.first_id + lines) t next) same stops),
+                  (subst (λ (t : List ℕ). StopsLine Fails f b (b.first_id + lines) t next) same
+                  stops),
             );
       };
       asked = asked;
@@ -124,7 +128,7 @@ asks_in Fails f b p q line text given said next asked lines start before now old
           );
     }
 
--- reading ended early, behind lines that were entered
+-- reading ended early, after lines that were entered
 pub asks_at : (Fails : BatchFault → Type 0) (h : BatchFault) (f : RunFault) (b : Batch)
     (p : Reading) (given said : List ℕ) (asked : List Asked)
     (start before now old new : Option (List ℕ)) (first last : Option (List Asked))
@@ -159,12 +163,18 @@ if_unsaid b id line last old new (Ok _) h is = tt
 if_unsaid b id line last old new (Err f) h is = (
   h.0,
   h.1,
-  (entered_for b.waits b.receiver id line last h.0 h.2, inr (inr (printing_other f is))),
+  (
+    entered_for b.waits b.receiver id line last h.0 h.2,
+    inl (
+      entered_known b.waits b.receiver id line last h.0 h.2,
+      inr (inr (printing_other f is)),
+    ),
+  ),
 )
 
 -- a command that was taken was not decided, where that was waited for
-pub undecided : (Fails : BatchFault → Type 0) (f : BatchFault) (waits : Bool) (r : Receiver) (id : ℕ)
-    (text : List ℕ) (taken : What)
+pub undecided : (Fails : BatchFault → Type 0) (f : BatchFault) (waits : Bool) (r : Receiver)
+    (id : ℕ) (text : List ℕ) (taken : What)
     → waits ≡ true → IsAnswer (submit_of r id text) taken → Fails f ⊎ IsUndecided f r id
     → Fails f ⊎ Hinders f waits r id text
 undecided Fails f waits r id text taken is t (inl h) = inl h
@@ -184,12 +194,12 @@ undecided Fails fault.NoMemory waits r id text taken is t (inr h) = absurd h
 pub unprinted : (Fails : BatchFault → Type 0) (f : BatchFault) (b : Batch) (id n : ℕ)
     (line : List ℕ) (old : Option (List ℕ))
     → id ≡ n → Fails f ⊎ Hinders f b.waits b.receiver id line
-    → (said : List ℕ) × AppendsPart old old said × StopsLine Fails f b n line said
-unprinted Fails f b id n line old is h = (
-  [],
-  ([], [], record { parts = refl; written = Appends-nil old }),
-  inl (refl, subst (λ (m : ℕ). Fails f ⊎ Hinders f b.waits b.receiver m line) is h),
-)
+    → FailsLine Fails f b n line old old
+unprinted Fails f b id n line old is h = record {
+  said = [];
+  written = ([], [], record { parts = refl; written = Appends-nil old });
+  stops = inl (refl, subst (λ (m : ℕ). Fails f ⊎ Hinders f b.waits b.receiver m line) is h);
+}
 
 -- what is said of a fault, without the requests
 pub enters_some : (Fails : BatchFault → Type 0) (b : Batch) (s : Sides) (t : Told)

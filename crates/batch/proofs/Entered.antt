@@ -1,11 +1,13 @@
 -- Lines that were entered one after the other, in words on the whole input.
-use Rattle.std.proofs.Common.{◌≡◌, inl, inr, ℕ, ◌+◌, Bool, true, false, List, [], ◌∷◌, ◌++◌, length, Option, refl, sym, ap, ◌∙◌, append_assoc, append-nil, subst, arith}
+use Rattle.std.proofs.Common.{◌≡◌, inl, inr, ℕ, ◌+◌, Bool, true, false, List, [], ◌∷◌, ◌++◌, length}
+use Rattle.std.proofs.Common.{Option, refl, sym, ap, ◌∙◌, append_assoc, append-nil, subst, arith}
 use Rattle.std.specs.Prelude.{Ok}
 use Rattle.std.proofs.KnownBytes.{Appends-trans, Appends-nil}
 use Rattle.std.specs.Io.KnownBytes.{Appends, Consumes}
 use Rattle.lines.specs.Bytes.{AppendsPart}
 use Rattle.lines.specs.Lines.{lines_of}
-use Rattle.lines.specs.Reading.{Reading, nothing_read, HasGiven, GivesLine, GivesNone, GivesFault, Gives}
+use Rattle.lines.specs.Reading.{Reading, nothing_read, HasGiven, GivesLine, GivesNone, GivesFault}
+use Rattle.lines.specs.Reading.{Gives}
 use Rattle.lines.specs.declared.fault.RunFault.{RunFault}
 use Rattle.lines.specs.declared.fault.RunFault.TheVariants as fault
 use Rattle.lines.proofs.Inputs.{part_after, part_front, whole_written}
@@ -123,14 +125,13 @@ stops_in b p q line given said next start before now old new new' e g part = rec
   written = part_after old new new' said next e.written part;
 }
 
--- reading ended early, behind lines that were entered
+-- reading ended early, after lines that were entered
 pub front_read : (f : RunFault) (given : List ℕ) (start now : Option (List ℕ))
     → GivesFault f given start now → (rest : List ℕ) × Consumes start now (given ++ rest)
 front_read fault.InputTooLong given start now g = (g.0, g.1.consumed)
 front_read fault.Read given start now g = (g.0, g.1.consumed)
 front_read fault.NoMemory given start now g = (g.0, g.1)
 front_read fault.Write given start now g = absurd g
-front_read fault.NoSuchRound given start now g = absurd g
 front_read fault.BadCount given start now g = absurd g
 front_read (fault.BadLine n) given start now g = absurd g
 

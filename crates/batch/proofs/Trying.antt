@@ -1,18 +1,31 @@
--- Requests that are made one behind the other.
-use Rattle.std.proofs.Common.{◌≡◌, inl, inr, ◌++◌, ◌∷◌, [], ℕ, List, Bool, true, false, Option, None, Some, Result, Ok, Err, IfOk, IfErr, ◌⊎◌, ◌+◌, ◌/◌, ◌<◌, length, refl, sym, ap, ◌∙◌, append_assoc, append-nil, subst, arith}
+-- Requests that are made one after the other.
+use Rattle.std.proofs.Common.{◌≡◌, inl, inr, ◌++◌, ◌∷◌, [], ℕ, List, Bool, true, false, Option}
+use Rattle.std.proofs.Common.{None, Some, Result, Ok, Err, IfOk, IfErr, ◌⊎◌, ◌+◌, ◌/◌, ◌<◌, length}
+use Rattle.std.proofs.Common.{refl, sym, ap, ◌∙◌, append_assoc, append-nil, subst, arith}
 use Rattle.std.specs.Prelude.{IsOkAnd}
 use Rattle.std.specs.List.{AllByRecursion}
 use Rattle.wire.specs.declared.frame.Frame.{Frame}
 use Rattle.wire.specs.declared.frame.What.{What}
 use Rattle.client.specs.declared.fault.ClientFault.TheVariants.{Refused}
 use Rattle.wire.specs.declared.values.ClientRefusal.TheVariants.{Busy}
-use Rattle.batch.specs.Asking.{Adds, AreAllTries, AreOf, Asked, Asks, Counts, IsAnswer, IsAwaited, IsDecided, IsFull, IsOneOf, IsPutOff, IsTaken, IsTicked, IsTurnedDown, IsWaiting, Tries, ask_of, submit_of, tick_of}
-use Rattle.batch.specs.Entering.{EnteredBy, IsCutOff, IsGivenUp, IsOther, StopsAsking}
+use Rattle.wire.specs.declared.frame.What.TheVariants as what
+use Rattle.batch.specs.Asking.{Adds, AreAllTries, AreKnown, AreOf, Asked, Asks, Counts, IsAnswer}
+use Rattle.batch.specs.Asking.{IsAwaited, IsDecided, IsForgotten, IsFull, IsKnown, IsOneOf}
+use Rattle.batch.specs.Asking.{IsPending, IsPutOff, IsTaken, IsTicked, IsTurnedDown, IsUnknown}
+use Rattle.batch.specs.Asking.{IsWaiting, Tries, ask_of, asked_so, submit_of, tick_of}
+use Rattle.batch.specs.Entering.{EndsAsking, EnteredBy, IsCutOff, IsGivenUp, IsLost, IsOther}
+use Rattle.batch.specs.Entering.{StopsAsking}
 use Rattle.batch.specs.declared.asking.Receiver.{Receiver}
 use Rattle.batch.specs.declared.fault.BatchFault.{BatchFault}
 use Rattle.batch.specs.declared.fault.BatchFault.TheVariants.{Asking}
 use Rattle.batch.specs.declared.fault.BatchFault.TheVariants as fault
-use Rattle.batch.specs.model.Trying.{AreFor, AreTicks, EndsWaiting, IsFor, IsLastTry, IsUndecided}
+use Rattle.batch.specs.model.Trying.{AreFor, AreTicks, EndsWaiting, IsFor, IsLastTry, IsTurnedOff}
+use Rattle.batch.specs.model.Trying.{IsUnanswered, IsUndecided, StopsTaking}
+
+-- what holds of its fault holds of a result that is one
+pub fails_by : {T E : Type 0} (P : E → Type 0) (r : Result T E) (e : E) → r ≡ Err e → P e
+    → IfErr r P
+fails_by P r e is p = subst (λ x. IfErr x P) (sym is) p
 
 pub adds_none : (a : Option (List Asked)) → Adds a a []
 adds_none None = tt
@@ -38,9 +51,6 @@ pub all_weaker : (P Q : Asked → Type 0) (xs : List Asked) → ((a : Asked) →
     → AllByRecursion P xs → AllByRecursion Q xs
 all_weaker P Q [] f h = tt
 all_weaker P Q (x ∷ xs) f h = (f x h.0, all_weaker P Q xs f h.1)
-
-abbrev pub asked_so : Frame → Result What BatchFault → Asked
-asked_so request answer = record { request = request; answer = answer }
 
 -- the last of the tries was answered
 pub tried : (P : Asked → Type 0) (a b c : Option (List Asked)) (request : Frame) (answer : What)
@@ -84,6 +94,49 @@ pub put_off_for : (r : Receiver) (request : Frame) (a : Asked) → IsPutOff r re
     → IsFor r request a
 put_off_for r request a (inl h) = inl h.0
 put_off_for r request a (inr h) = inr h.0
+
+-- ---- that it is known of
+
+submit_apart : (r : Receiver) (id : ℕ) (text : List ℕ) → submit_of r id text ≡ ask_of r id → ⊥
+submit_apart r id text e =
+    let w : what.Submit (record { id = id; text = text }) ≡ what.Ask id =
+    ap (λ (f : Frame). f.what) e in
+    cc
+
+tick_apart : (r : Receiver) (id : ℕ) → tick_of r ≡ ask_of r id → ⊥
+tick_apart r id e =
+    let w : what.Tick ≡ what.Ask id = ap (λ (f : Frame). f.what) e in
+    cc
+
+-- a tick isn't asked for the id
+ticked_known : (r : Receiver) (id : ℕ) (a : Asked) → a.request ≡ tick_of r → IsKnown (ask_of r id) a
+ticked_known r id a h = λ is told answer unknown. tick_apart r id (sym h ∙ is)
+
+-- nor is the request that enters the text
+for_known : (r : Receiver) (id : ℕ) (text : List ℕ) (a : Asked) → IsFor r (submit_of r id text) a
+    → IsKnown (ask_of r id) a
+for_known r id text a (inl h) = λ is told answer unknown. submit_apart r id text (sym h ∙ is)
+for_known r id text a (inr h) = ticked_known r id a h
+
+waiting_known : (ask : Frame) (a : Asked) → IsWaiting ask a → IsKnown ask a
+waiting_known ask a h = λ is told answer unknown.
+    let k : IsAnswer ask told × IsPending told =
+    subst (λ (x : Result What BatchFault). IsOkAnd x (λ t. IsAnswer ask t × IsPending t)) answer
+    h.1 in
+    k.1.1 unknown
+
+put_off_known : (r : Receiver) (id : ℕ) (a : Asked) → IsPutOff r (ask_of r id) a
+    → IsKnown (ask_of r id) a
+put_off_known r id a (inl h) = waiting_known (ask_of r id) a h
+put_off_known r id a (inr h) = ticked_known r id a h.0
+
+-- a request that failed was not answered so
+failed_known : (ask : Frame) (a : Asked) (f : BatchFault) → a.answer ≡ Err f → IsKnown ask a
+failed_known ask a f failed = λ is told answer unknown. cc
+
+decided_known : (ask request : Frame) (last : What) → IsDecided last
+    → IsKnown ask (asked_so request (Ok last))
+decided_known ask request last h = λ is told answer unknown. cc (h.3, unknown.1, answer)
 
 -- ---- how often
 
@@ -163,11 +216,12 @@ then_last P Q R a b c one f h add is so = (
   (all_more Q h.0 (one ∷ []) (all_weaker P Q h.0 f h.2) (is, tt), so),
 )
 
--- a tick failed behind one more try
+-- a tick failed after one more try
 pub tick_last : (P : Asked → Type 0) (r : Receiver) (request : Frame) (m n : ℕ)
     (a b c d : Option (List Asked)) (one : Asked) (f : BatchFault) (R : List Asked → Type 0)
     → ((x : Asked) → P x ⊎ IsTicked r x → IsFor r request x)
-    → ((front : List Asked) → R (front ++ asked_so (tick_of r) (Err f) ∷ []))
+    → ((front : List Asked) → AllByRecursion (λ x. P x ⊎ IsTicked r x) front
+    → R (front ++ asked_so (tick_of r) (Err f) ∷ []))
     → Asks a b (Counts P (IsTicked r) m n) → Adds b c (one ∷ []) → P one
     → Adds c d (asked_so (tick_of r) (Err f) ∷ [])
     → Asks a d (λ asked. AreFor r request asked × R asked)
@@ -175,7 +229,7 @@ tick_last P r request m n a b c d one f R is_for so h add is tick =
     let all = tries_of P (IsTicked r) (m + 1) n a c
     (one_counted P (IsTicked r) m n a b c one h add is) in
     then_last (λ x. P x ⊎ IsTicked r x) (IsFor r request) R a c d (asked_so (tick_of r) (Err f))
-    is_for all tick (inr refl) (so all.0)
+    is_for all tick (inr refl) (so all.0 all.2)
 
 -- the text's last try failed
 pub turned_off : (r : Receiver) (submit : Frame) (f : BatchFault) (m n : ℕ)
@@ -203,50 +257,91 @@ if_turned_off r submit m n a b c (Err f) x y h add =
     turned_off r submit f m n a b c (λ busy. (x, y)) h add
 
 pub tick_last_try : (r : Receiver) (submit : Frame) (f : BatchFault) (front : List Asked)
+    → AllByRecursion (IsTurnedDown r submit) front
     → IsLastTry f r submit (front ++ asked_so (tick_of r) (Err f) ∷ [])
-tick_last_try r submit f front = (front, asked_so (tick_of r) (Err f), refl, refl, inl refl)
+tick_last_try r submit f front each = (front, asked_so (tick_of r) (Err f), refl, refl, inl refl)
 
--- one more question failed, or it was answered that nothing is known
-pub asks_last : (r : Receiver) (id : ℕ) (f : BatchFault) (m n : ℕ) (a b c : Option (List Asked))
-    (result : Result What BatchFault) → (result ≡ Err f) ⊎ (f ≡ fault.Lost)
+-- why it isn't asked further for an id
+abbrev pub Ends : Receiver → ℕ → BatchFault → List Asked → Type 0
+Ends r id f asked =
+    (AreKnown r id asked × IsUnanswered f r id asked)
+    ⊎ ((f ≡ fault.Lost) × IsForgotten r id asked)
+
+-- the last of the requests, all else after tries, failed
+last_failed : (r : Receiver) (id : ℕ) (f : BatchFault) (front : List Asked) (request : Frame)
+    (answer : Result What BatchFault)
+    → AllByRecursion (IsPutOff r (ask_of r id)) front → answer ≡ Err f
+    → IsFor r (ask_of r id) (asked_so request answer)
+    → Ends r id f (front ++ asked_so request answer ∷ [])
+last_failed r id f front request answer each failed is_for =
+    let last = asked_so request answer in
+    inl (
+      all_more (IsKnown (ask_of r id)) front (last ∷ [])
+          (all_weaker (IsPutOff r (ask_of r id)) (IsKnown (ask_of r id)) front (put_off_known r id)
+          each)
+          (failed_known (ask_of r id) last f failed, tt),
+      inl (front, last, refl, failed, is_for),
+    )
+
+-- one more question failed
+pub asks_failed : (r : Receiver) (id : ℕ) (f : BatchFault) (m n : ℕ) (a b c : Option (List Asked))
+    (result : Result What BatchFault) → result ≡ Err f
     → Asks a b (Counts (IsWaiting (ask_of r id)) (IsTicked r) m n)
     → Adds b c (asked_so (ask_of r id) result ∷ [])
-    → Asks a c (λ asked. AreFor r (ask_of r id) asked × EndsWaiting f r id asked)
-asks_last r id f m n a b c result (inl failed) h add =
+    → Asks a c (EndsWaiting f r id)
+asks_failed r id f m n a b c result failed h add =
     let all = tries_of (IsWaiting (ask_of r id)) (IsTicked r) m n a b h in
-    then_last (IsPutOff r (ask_of r id)) (IsFor r (ask_of r id)) (EndsWaiting f r id) a b c
+    then_last (IsPutOff r (ask_of r id)) (IsFor r (ask_of r id)) (Ends r id f) a b c
     (asked_so (ask_of r id) result) (put_off_for r (ask_of r id)) all add (inl refl)
-    (inl (all.0, asked_so (ask_of r id) result, refl, failed, inl refl))
-asks_last r id f m n a b c result (inr lost) h add =
-    then_last (IsPutOff r (ask_of r id)) (IsFor r (ask_of r id)) (EndsWaiting f r id) a b c
-    (asked_so (ask_of r id) result) (put_off_for r (ask_of r id))
-    (tries_of (IsWaiting (ask_of r id)) (IsTicked r) m n a b h) add (inl refl) (inr (inl lost))
+    (last_failed r id f all.0 (ask_of r id) result all.2 failed (inl refl))
+
+-- it was answered that nothing is known
+pub asks_lost : (r : Receiver) (id m n : ℕ) (a b c : Option (List Asked)) (told : What)
+    → IsUnknown told
+    → Asks a b (Counts (IsWaiting (ask_of r id)) (IsTicked r) m n)
+    → Adds b c (asked_so (ask_of r id) (Ok told) ∷ [])
+    → Asks a c (EndsWaiting fault.Lost r id)
+asks_lost r id m n a b c told unknown h add =
+    let all = tries_of (IsWaiting (ask_of r id)) (IsTicked r) m n a b h in
+    let forgotten : IsForgotten r id (all.0 ++ asked_so (ask_of r id) (Ok told) ∷ []) = record {
+      last = told;
+      tries = record { front = all.0; each = all.2; parts = refl };
+      unknown = unknown;
+    } in
+    then_last (IsPutOff r (ask_of r id)) (IsFor r (ask_of r id)) (Ends r id fault.Lost) a b c
+    (asked_so (ask_of r id) (Ok told)) (put_off_for r (ask_of r id)) all add (inl refl)
+    (inr (refl, forgotten))
 
 pub tick_last_asked : (r : Receiver) (id : ℕ) (f : BatchFault) (front : List Asked)
-    → EndsWaiting f r id (front ++ asked_so (tick_of r) (Err f) ∷ [])
-tick_last_asked r id f front = inl (front, asked_so (tick_of r) (Err f), refl, refl, inr refl)
+    → AllByRecursion (IsPutOff r (ask_of r id)) front
+    → Ends r id f (front ++ asked_so (tick_of r) (Err f) ∷ [])
+tick_last_asked r id f front each =
+    last_failed r id f front (tick_of r) (Err f) each refl (inr refl)
 
 -- it was asked as often as that is done
 pub waits_on : (r : Receiver) (id m n : ℕ) (a b : Option (List Asked)) → m ≡ 10000 → n ≡ 312
     → Asks a b (Counts (IsWaiting (ask_of r id)) (IsTicked r) m n)
-    → Asks a b (λ asked. AreFor r (ask_of r id) asked × EndsWaiting fault.StillPending r id asked)
+    → Asks a b (EndsWaiting fault.StillPending r id)
 waits_on r id m n a b x y h =
     let ask = ask_of r id in
     let all : AreAllTries (IsWaiting ask) r h.0 =
     subst (λ i. Counts (IsWaiting ask) (IsTicked r) i 312 h.0) x
-    (subst (λ j. Counts (IsWaiting ask) (IsTicked r) m j h.0) y h.2) in (
+    (subst (λ j. Counts (IsWaiting ask) (IsTicked r) m j h.0) y h.2) in
+    let each = all_of (IsWaiting ask) (IsTicked r) m n h.0 h.2 in (
       h.0,
       h.1,
       (
-        all_weaker (IsPutOff r ask) (IsFor r ask) h.0 (put_off_for r ask)
-            (all_of (IsWaiting ask) (IsTicked r) m n h.0 h.2),
-        inr (inr (refl, all)),
+        all_weaker (IsPutOff r ask) (IsFor r ask) h.0 (put_off_for r ask) each,
+        inl (
+          all_weaker (IsPutOff r ask) (IsKnown ask) h.0 (put_off_known r id) each,
+          inr (refl, all),
+        ),
       ),
     )
 
 if_waiting : (ask : Frame) (result : Result What BatchFault)
-    → IsOkAnd result (λ told. IsAnswer ask told × ¬ IsDecided told)
-    → (told : What) × IsAnswer ask told × ¬ IsDecided told
+    → IsOkAnd result (λ told. IsAnswer ask told × IsPending told)
+    → (told : What) × IsAnswer ask told × IsPending told
 if_waiting ask (Ok told) h = (told, h.0, h.1)
 if_waiting ask (Err f) h = absurd h
 
@@ -288,6 +383,32 @@ taken_for r id text taken asked h =
     (tries_for (IsTurnedDown r (submit_of r id text)) r (submit_of r id text) taken asked
     (turned_down_for r (submit_of r id text)) h)
 
+taken_known : (r : Receiver) (id : ℕ) (text : List ℕ) (taken : What) (asked : List Asked)
+    → IsTaken r id text taken asked → AreKnown r id asked
+taken_known r id text taken asked h =
+    all_weaker (IsFor r (submit_of r id text)) (IsKnown (ask_of r id)) asked
+    (for_known r id text)
+    (tries_for (IsTurnedDown r (submit_of r id text)) r (submit_of r id text) taken asked
+    (turned_down_for r (submit_of r id text)) h)
+
+awaited_known : (r : Receiver) (id : ℕ) (last : What) (asked : List Asked)
+    → IsAwaited r id last asked → AreKnown r id asked
+awaited_known r id last asked h =
+    let ask = ask_of r id in
+    subst (AllByRecursion (IsKnown ask)) (sym h.tries.parts)
+    (all_more (IsKnown ask) h.tries.front (asked_so ask (Ok last) ∷ [])
+    (all_weaker (IsPutOff r ask) (IsKnown ask) h.tries.front (put_off_known r id) h.tries.each)
+    (decided_known ask ask last h.decided, tt))
+
+-- what is known of those that entered a line
+pub entered_known : (waits : Bool) (r : Receiver) (id : ℕ) (text : List ℕ) (last : What)
+    (asked : List Asked) → EnteredBy waits r id text last asked → AreKnown r id asked
+entered_known true r id text last asked h =
+    subst (AllByRecursion (IsKnown (ask_of r id))) (sym h.5)
+    (all_more (IsKnown (ask_of r id)) h.1 h.2 (taken_known r id text h.0 h.1 h.3)
+    (awaited_known r id last h.2 h.4))
+entered_known false r id text last asked h = taken_known r id text last asked h
+
 awaited_for : (r : Receiver) (id : ℕ) (text : List ℕ) (last : What) (asked : List Asked)
     → IsAwaited r id last asked → AreOf r id text asked
 awaited_for r id text last asked h =
@@ -315,61 +436,69 @@ last_of_text f r id text asked (front, last, parts, failed, inl tick) =
 last_of_text f r id text asked (front, last, parts, failed, inr full) =
     (front, last, parts, failed, inr full)
 
+known_of_text : (r : Receiver) (id : ℕ) (text : List ℕ) (asked : List Asked)
+    → AreFor r (submit_of r id text) asked → AreKnown r id asked
+known_of_text r id text asked h =
+    all_weaker (IsFor r (submit_of r id text)) (IsKnown (ask_of r id)) asked (for_known r id text) h
+
 not_taken : (f : BatchFault) (r : Receiver) (id : ℕ) (text : List ℕ) (asked : List Asked)
     → AreFor r (submit_of r id text) asked
     → IsLastTry f r (submit_of r id text) asked ⊎ IsOther f → StopsAsking f r id text asked
 not_taken f r id text asked h (inl last) = (
   all_weaker (IsFor r (submit_of r id text)) (IsOneOf r (submit_of r id text) (ask_of r id)) asked
       (submit_one r (submit_of r id text) (ask_of r id)) h,
-  inl (last_of_text f r id text asked last),
+  inl (known_of_text r id text asked h, inl (last_of_text f r id text asked last)),
 )
 not_taken f r id text asked h (inr other) = (
   all_weaker (IsFor r (submit_of r id text)) (IsOneOf r (submit_of r id text) (ask_of r id)) asked
       (submit_one r (submit_of r id text) (ask_of r id)) h,
-  inr (inr other),
+  inl (known_of_text r id text asked h, inr (inr other)),
 )
 
 -- so it is of what is asked for the text
 pub if_asks_text : (r : Receiver) (id : ℕ) (text : List ℕ) (submit : Frame)
     (a b : Option (List Asked)) (result : Result What BatchFault) → submit ≡ submit_of r id text
-    → IfErr result (λ f. Asks a b (λ asked. AreFor r submit asked × IsLastTry f r submit asked))
-    → IfErr result (λ f. Asks a b (λ asked. AreFor r (submit_of r id text) asked
-    × (IsLastTry f r (submit_of r id text) asked ⊎ IsOther f)))
+    → IfErr result (λ f. Asks a b (IsTurnedOff f r submit))
+    → IfErr result (λ f. Asks a b (StopsTaking f r id text))
 if_asks_text r id text submit a b (Ok answer) is h = tt
 if_asks_text r id text submit a b (Err f) is h =
-    let k = subst (λ (s : Frame). Asks a b (λ asked. AreFor r s asked × IsLastTry f r s asked)) is h
-    in (k.0, k.1, (k.2.0, inl k.2.1))
+    let k = subst (λ (s : Frame). Asks a b (IsTurnedOff f r s)) is h in
+    (k.0, k.1, (k.2.0, inl k.2.1))
 
 -- the text was not taken
 pub asks_text : (f : BatchFault) (r : Receiver) (id : ℕ) (text : List ℕ)
     (a b : Option (List Asked))
-    → Asks a b (λ asked. AreFor r (submit_of r id text) asked
-    × (IsLastTry f r (submit_of r id text) asked ⊎ IsOther f))
-    → Asks a b (StopsAsking f r id text)
+    → Asks a b (StopsTaking f r id text) → Asks a b (StopsAsking f r id text)
 asks_text f r id text a b h = (h.0, h.1, not_taken f r id text h.0 h.2.0 h.2.1)
 
 -- it was taken, and then not waited for to the end
 ends_so : (f : BatchFault) (r : Receiver) (id : ℕ) (text : List ℕ) (taken : What)
-    (first rest : List Asked) → IsTaken r id text taken first → EndsWaiting f r id rest
-    → IsCutOff f r id text (first ++ rest)
-    ⊎ (((f ≡ fault.StillPending) × IsGivenUp r id text (first ++ rest)) ⊎ IsOther f)
-ends_so f r id text taken first rest h (inl last) =
+    (first rest : List Asked) → IsTaken r id text taken first → Ends r id f rest
+    → (AreKnown r id (first ++ rest) × EndsAsking f r id text (first ++ rest))
+    ⊎ ((f ≡ fault.Lost) × IsLost r id text (first ++ rest))
+ends_so f r id text taken first rest h (inl (known, inl last)) =
     inl (
-      first ++ last.0,
-      last.1,
-      ap (λ l. first ++ l) last.2 ∙ sym (append_assoc first last.0 (last.1 ∷ [])),
-      last.3,
-      inl last.4,
+      all_more (IsKnown (ask_of r id)) first rest (taken_known r id text taken first h) known,
+      inl (
+        first ++ last.0,
+        last.1,
+        ap (λ l. first ++ l) last.2 ∙ sym (append_assoc first last.0 (last.1 ∷ [])),
+        last.3,
+        inl last.4,
+      ),
     )
-ends_so f r id text taken first rest h (inr (inl lost)) =
-    inr (inr (subst IsOther (sym lost) tt))
-ends_so f r id text taken first rest h (inr (inr still)) =
-    inr (inl (still.0, (taken, first, rest, h, still.1, refl)))
+ends_so f r id text taken first rest h (inl (known, inr still)) =
+    inl (
+      all_more (IsKnown (ask_of r id)) first rest (taken_known r id text taken first h) known,
+      inr (inl (still.0, (taken, first, rest, h, still.1, refl))),
+    )
+ends_so f r id text taken first rest h (inr (lost, forgotten)) =
+    inr (lost, (taken, first, rest, h, forgotten, refl))
 
 not_awaited : (f : BatchFault) (r : Receiver) (id : ℕ) (text : List ℕ) (taken : What)
     (a b c : Option (List Asked))
     → Asks a b (IsTaken r id text taken)
-    → Asks b c (λ asked. AreFor r (ask_of r id) asked × EndsWaiting f r id asked)
+    → Asks b c (EndsWaiting f r id)
     → Asks a c (StopsAsking f r id text)
 not_awaited f r id text taken a b c h k = (
   h.0 ++ k.0,
@@ -407,8 +536,7 @@ if_awaited waits r id text taken a b c (Err f) is h k = tt
 pub if_not_awaited : (r : Receiver) (id : ℕ) (text : List ℕ) (taken : What)
     (a b c : Option (List Asked)) (result : Result What BatchFault)
     → Asks a b (IsTaken r id text taken)
-    → IfErr result (λ f. Asks b c (λ asked. AreFor r (ask_of r id) asked
-    × EndsWaiting f r id asked))
+    → IfErr result (λ f. Asks b c (EndsWaiting f r id))
     → IfErr result (λ f. Asks a c (StopsAsking f r id text))
 if_not_awaited r id text taken a b c (Ok last) h k = tt
 if_not_awaited r id text taken a b c (Err f) h k = not_awaited f r id text taken a b c h k

@@ -9,7 +9,7 @@ use Rattle.wire.specs.declared.frame.Frame.{Frame}
 use Rattle.wire.specs.declared.frame.What.{What}
 use Rattle.wire.specs.declared.frame.What.TheVariants as what
 use Rattle.wire.specs.declared.values.ClientRefusal.TheVariants.{Busy}
-use Rattle.wire.specs.declared.values.Standing.TheVariants.{Done, Unknown}
+use Rattle.wire.specs.declared.values.CommandState.TheVariants.{Done, Unknown}
 use Rattle.wire.specs.declared.values.Version.TheVariants.{One}
 use Rattle.batch.specs.declared.asking.Receiver.{Receiver}
 use Rattle.batch.specs.declared.fault.BatchFault.{BatchFault}
@@ -52,10 +52,17 @@ IsOfAsking (Asking f) = Unit {0}
 IsOfAsking NoMemory = Unit {0}
 IsOfAsking _ = ⊥
 
+-- it says neither
+abbrev pub IsPending : What → Type 0
+IsPending answer = (¬ IsDecided answer) × (¬ IsUnknown answer)
+
 -- a request, and what came of it
 pub record Asked : Type 0 where
   pub request : Frame
   pub answer : Result What BatchFault
+
+abbrev pub asked_so : Frame → Result What BatchFault → Asked
+asked_so request answer = record { request = request; answer = answer }
 
 -- what was asked grows by these, in order, where it is told; who tells may stop, and never begins
 abbrev pub Adds : Option (List Asked) → Option (List Asked) → List Asked → Type 0
@@ -80,12 +87,17 @@ IsFull submit a = (a.request ≡ submit) × (a.answer ≡ Err (Asking (Refused B
 abbrev pub IsTurnedDown : Receiver → Frame → Asked → Type 0
 IsTurnedDown r submit a = IsFull submit a ⊎ IsTicked r a
 
--- the desk was asked, and answered that the command isn't decided yet
+-- the desk was asked, and answered neither that the command is decided nor that it knows nothing
+-- of it
 abbrev pub IsWaiting : Frame → Asked → Type 0
 IsWaiting ask a =
-    (a.request ≡ ask) × IsOkAnd a.answer (λ told. IsAnswer ask told × ¬ IsDecided told)
+    (a.request ≡ ask) × IsOkAnd a.answer (λ told. IsAnswer ask told × IsPending told)
 
--- it answered that the command isn't decided yet, or was ticked
+-- to this request it did not answer that it knows nothing of the command
+abbrev pub IsKnown : Frame → Asked → Type 0
+IsKnown ask a = a.request ≡ ask → (told : What) → a.answer ≡ Ok told → ¬ IsUnknown told
+
+-- it was asked, and answered neither, or was ticked
 abbrev pub IsPutOff : Receiver → Frame → Asked → Type 0
 IsPutOff r ask a = IsWaiting ask a ⊎ IsTicked r a
 
@@ -112,9 +124,19 @@ pub record Tries (Is : Asked → Type 0) (request : Frame) (answer : What) (aske
   pub each : AllByRecursion Is front
   pub parts : asked ≡ front ++ (record { request = request; answer = Ok answer }) ∷ []
 
+-- the request that enters a text was made until the queue had room
+abbrev pub IsTakenOf : Receiver → Frame → What → List Asked → Type 0
+IsTakenOf r submit = Tries (IsTurnedDown r submit) submit
+
 -- the text was entered with the id as soon as the queue had room
 abbrev pub IsTaken : Receiver → ℕ → List ℕ → What → List Asked → Type 0
-IsTaken r id text = Tries (IsTurnedDown r (submit_of r id text)) (submit_of r id text)
+IsTaken r id text = IsTakenOf r (submit_of r id text)
+
+-- it was asked for the id until it answered that it knows nothing of that
+pub record IsForgotten (r : Receiver) (id : ℕ) (asked : List Asked) : Type 0 where
+  pub last : What
+  pub tries : Tries (IsPutOff r (ask_of r id)) (ask_of r id) last asked
+  pub unknown : IsUnknown last
 
 -- it was asked for the id until that was decided
 pub record IsAwaited (r : Receiver) (id : ℕ) (last : What) (asked : List Asked) : Type 0 where
@@ -124,3 +146,16 @@ pub record IsAwaited (r : Receiver) (id : ℕ) (last : What) (asked : List Asked
 -- each request is for this text and id, or a tick
 abbrev pub AreOf : Receiver → ℕ → List ℕ → List Asked → Type 0
 AreOf r id text = AllByRecursion (IsOneOf r (submit_of r id text) (ask_of r id))
+
+-- no answer to the request for the id says that the desk knows nothing of it
+abbrev pub AreKnown : Receiver → ℕ → List Asked → Type 0
+AreKnown r id = AllByRecursion (IsKnown (ask_of r id))
+
+-- what was asked before and afterwards, where it is told
+pub record Told : Type 0 where
+  pub old : Option (List Asked)
+  pub new : Option (List Asked)
+
+-- by what desks were asked: of this desk, before and after
+abbrev pub told : {A : Type 0} → (A → Option (List Asked)) → (before after : A) → Told
+told asked before after = record { old = asked before; new = asked after }

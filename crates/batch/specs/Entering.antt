@@ -5,14 +5,16 @@ use Rattle.std.specs.Io.KnownBytes.{Appends, Consumes, IsAtEnd}
 use Rattle.acceptor.specs.Entries.{IsId, IsText}
 use Rattle.client.specs.Printing.{reply_text}
 use Rattle.client.specs.declared.fault.ClientFault.TheVariants.{Refused}
+pub use Rattle.lines.specs.Bytes.{Sides}
 use Rattle.lines.specs.Bytes.{AppendsPart}
 use Rattle.lines.specs.Lines.{is_within, lines_of, rest_of}
 use Rattle.lines.specs.Reading.{GivesFault}
 use Rattle.lines.specs.declared.fault.RunFault.TheVariants as run_fault
 use Rattle.wire.specs.declared.frame.What.{What}
 use Rattle.wire.specs.declared.values.ClientRefusal.TheVariants.{Busy}
-use Rattle.batch.specs.Asking.{Adds, AreAllTries, AreOf, Asked, IsAnswer, IsAwaited, IsDecided}
-use Rattle.batch.specs.Asking.{IsFull, IsTaken, IsUnknown, IsWaiting, ask_of, submit_of, tick_of}
+use Rattle.batch.specs.Asking.{Adds, AreAllTries, AreKnown, AreOf, Asked, Asks, IsAnswer}
+use Rattle.batch.specs.Asking.{IsAwaited, IsDecided, IsForgotten, IsFull, IsPending, IsTaken}
+use Rattle.batch.specs.Asking.{IsUnknown, IsWaiting, Told, ask_of, submit_of, tick_of}
 use Rattle.batch.specs.declared.asking.Receiver.{Receiver}
 use Rattle.batch.specs.declared.fault.BatchFault.{BatchFault}
 use Rattle.batch.specs.declared.fault.BatchFault.TheVariants as fault
@@ -38,13 +40,6 @@ abbrev pub Says : Batch → ℕ → List (List ℕ) → List ℕ → Type 0
 Says b id [] said = said ≡ []
 Says b id (line ∷ lines) said =
     (one rest : List ℕ) × IsSaid b id line one × Says b (id + 1) lines rest × (said ≡ one ++ rest)
-
--- what a reader had and has left, and what a writer had and has
-pub record Sides : Type 0 where
-  pub had : Option (List ℕ)
-  pub left : Option (List ℕ)
-  pub old : Option (List ℕ)
-  pub new : Option (List ℕ)
 
 -- the input was read to its end, and each of its lines was entered
 pub record EntersAll (b : Batch) (s : Sides) : Type 0 where
@@ -85,7 +80,7 @@ Hinders fault.Lost waits r id text =
     × (told : What) × IsAnswer (ask_of r id) told × IsUnknown told
 Hinders fault.StillPending waits r id text =
     (waits ≡ true) × (taken : What) × IsAnswer (submit_of r id text) taken
-    × (told : What) × IsAnswer (ask_of r id) told × ¬ IsDecided told
+    × (told : What) × IsAnswer (ask_of r id) told × IsPending told
 Hinders fault.NoMemory waits r id text = Unit {0}
 Hinders _ waits r id text = ⊥
 
@@ -100,7 +95,7 @@ StopsLine Fails f b id line said =
     ((said ≡ []) × (Fails f ⊎ Hinders f b.waits b.receiver id line))
     ⊎ (IsOfPrinting f × IsSaid b id line said)
 
--- the line behind the front part, as the rest gives it
+-- the line after the front part, as the rest gives it
 pub record IsNext (front rest line : List ℕ) (had : Option (List ℕ)) : Type 0 where
   pub more : List ℕ
   pub others : List ℕ
@@ -150,31 +145,56 @@ IsCutOff f r id text asked =
     × (((last.request ≡ ask_of r id) ⊎ (last.request ≡ tick_of r))
     ⊎ ((f ≡ fault.Asking (Refused Busy)) → AreAllTries (IsFull (submit_of r id text)) r front))
 
--- the text was entered, and behind that the desk answered 10,000 times that it isn't decided
+-- the text was entered, and after that the desk answered 10,000 times that it isn't decided
 abbrev pub IsGivenUp : Receiver → ℕ → List ℕ → List Asked → Type 0
 IsGivenUp r id text asked =
     (taken : What) × (first rest : List Asked) × IsTaken r id text taken first
     × AreAllTries (IsWaiting (ask_of r id)) r rest × (asked ≡ first ++ rest)
+
+-- the text was entered, and after that the desk was asked for the id until it answered that it
+-- knows nothing of it
+abbrev pub IsLost : Receiver → ℕ → List ℕ → List Asked → Type 0
+IsLost r id text asked =
+    (taken : What) × (first rest : List Asked) × IsTaken r id text taken first
+    × IsForgotten r id rest × (asked ≡ first ++ rest)
 
 -- the faults that are not said to come of the requests that were made
 abbrev pub IsOther : BatchFault → Type 0
 IsOther fault.CannotConnect = ⊥
 IsOther (fault.Asking e) = ⊥
 IsOther fault.StillPending = ⊥
+IsOther fault.Lost = ⊥
 IsOther _ = Unit {0}
 
--- Each request is for this text and id, or a tick. There were no more of them since the last one
--- failed, or the text was entered and given up, or a fault came that is none of a request.
+-- The last request failed, or the text was entered and given up, or the fault is none of a request.
+abbrev pub EndsAsking : BatchFault → Receiver → ℕ → List ℕ → List Asked → Type 0
+EndsAsking f r id text asked =
+    IsCutOff f r id text asked
+    ⊎ (((f ≡ fault.StillPending) × IsGivenUp r id text asked) ⊎ IsOther f)
+
+-- Each request is for this text and id, or a tick. No answer says that the desk knows nothing of
+-- the id, and asking ended otherwise; or the last answer says so, and the fault is Lost.
 abbrev pub StopsAsking : BatchFault → Receiver → ℕ → List ℕ → List Asked → Type 0
 StopsAsking f r id text asked =
     AreOf r id text asked
-    × (IsCutOff f r id text asked
-    ⊎ (((f ≡ fault.StillPending) × IsGivenUp r id text asked) ⊎ IsOther f))
+    × ((AreKnown r id asked × EndsAsking f r id text asked)
+    ⊎ ((f ≡ fault.Lost) × IsLost r id text asked))
 
--- what was asked before and afterwards, where it is told
-pub record Told : Type 0 where
-  pub old : Option (List Asked)
-  pub new : Option (List Asked)
+-- the line was entered with the id, by the requests that were made, and its last answer is printed
+pub record EntersLine (b : Batch) (id : ℕ) (line : List ℕ) (t : Told) (old new : Option (List ℕ))
+    : Type 0 where
+  pub last : What
+  pub entered : IsEntered b.waits b.receiver id line last
+  pub asked : Asks t.old t.new (EnteredBy b.waits b.receiver id line last)
+  pub written : Appends old new (reply_text last)
+
+-- the line was not entered with the id, or not told, and of what is printed of it a front part may
+-- be written
+pub record FailsLine (Fails : BatchFault → Type 0) (f : BatchFault) (b : Batch) (id : ℕ)
+    (line : List ℕ) (old new : Option (List ℕ)) : Type 0 where
+  pub said : List ℕ
+  pub written : AppendsPart old new said
+  pub stops : StopsLine Fails f b id line said
 
 -- each line was entered by the requests that were made, and by no others
 pub record AsksAll (b : Batch) (s : Sides) (t : Told) : Type 0 where
@@ -183,7 +203,7 @@ pub record AsksAll (b : Batch) (s : Sides) (t : Told) : Type 0 where
   pub told : Adds t.old t.new asked
   pub each : SaidBy b b.first_id (lines_of enters.input) enters.said asked
 
--- So were the lines of the front part. What was asked behind them was for the next line, with the
+-- So were the lines of the front part. What was asked after them was for the next line, with the
 -- next id, where there was one.
 pub record AsksSome (Fails : BatchFault → Type 0) (f : BatchFault) (b : Batch) (s : Sides)
     (t : Told) : Type 0 where

@@ -2,7 +2,7 @@
 
 ghost use Rattle.std.specs.Prelude.{◌≡◌, ◌∷◌, [], List, None, Option, IfErr, IfOk};
 ghost use Rattle.wire.specs.Ranges.{IsFrame};
-ghost use Rattle.batch.specs.Asking.{Adds, Asked, IsAnswer, IsOfAsking, request_to};
+ghost use Rattle.batch.specs.Asking.{Adds, Asked, IsAnswer, IsOfAsking, asked_so, request_to};
 ghost use Rattle.batch.specs.declared.fault.BatchFault.{BatchFault as Fault};
 
 use crate::dialing::Dial;
@@ -47,11 +47,11 @@ pub trait Ask {
     fn ask(&mut self, alloc: Global, request: &Frame) -> Result<What, BatchFault>
         requires { IsFrame request.now }
         ensures told { Adds (asked self.old) (asked self.new)
-            (record { request = request.now; answer = result } ∷ []) }
+            (asked_so request.now result ∷ []) }
         ensures answered { IfOk result (λ answer. IsAnswer request.now answer) }
         ensures failed { IfErr result fails };
 
-    /// Rests, before the same is asked once more, behind so many tries, counted from 0. Nothing is
+    /// Rests, before the same is asked once more, after so many tries, counted from 0. Nothing is
     /// asked.
     fn rest(&mut self, tries: u32)
         ensures { Adds (asked self.old) (asked self.new) [] };

@@ -12,6 +12,6 @@ pub trait Dial {
     /// Opens a connection: what the desk says, and where requests go.
     fn dial(&mut self) -> io::Result<(Self::Reader, Self::Writer)>;
 
-    /// Rests, before the same is asked once more, behind so many tries, counted from 0.
+    /// Rests, before the same is asked once more, after so many tries, counted from 0.
     fn rest(&mut self, tries: u32);
 }

@@ -3,11 +3,13 @@
 ghost use Rattle.std.specs.Prelude.{◌≡◌, ◌≢◌, ◌⊎◌, ◌∷◌, [], Bool, Err, false, IfErr, IfOk};
 ghost use Rattle.std.specs.Prelude.{OnOk, IsTrue};
 ghost use Rattle.wire.specs.Ranges.{IsDesk, IsEntry, IsFrame, IsId};
-ghost use Rattle.batch.specs.Asking.{Adds, Asks, IsAnswer, IsAwaited, IsDecided, IsTaken};
-ghost use Rattle.batch.specs.Asking.{IsTurnedDown, IsUnknown, Tries, ask_of, submit_of, tick_of};
+ghost use Rattle.batch.specs.Asking.{Adds, Asks, IsAnswer, IsAwaited, IsDecided, IsPending};
+ghost use Rattle.batch.specs.Asking.{IsTaken, IsTakenOf, IsUnknown, ask_of, asked_so, submit_of};
+ghost use Rattle.batch.specs.Asking.{tick_of};
 ghost use Rattle.batch.specs.Entering.{EnteredBy, Hinders, IsEntered, IsOther, StopsAsking};
 ghost use Rattle.batch.specs.declared.asking.Receiver.{Receiver as Desk};
-ghost use Rattle.batch.specs.model.Trying.{AreFor, AreTicks, EndsWaiting, IsLastTry, IsUndecided};
+ghost use Rattle.batch.specs.model.Trying.{AreTicks, EndsWaiting, IsTurnedOff, IsUndecided};
+ghost use Rattle.batch.specs.model.Trying.{StopsTaking};
 ghost use Rattle.batch.specs.declared.entering.Fate.TheVariants as fate;
 
 use crate::asking::{Ask, Receiver, request_to};
@@ -15,7 +17,7 @@ use crate::fault::BatchFault;
 use acceptor::entry::{Entry, EntryFault};
 use client::ClientFault;
 use std::alloc::Global;
-use wire::{ClientRefusal, Frame, Standing, What};
+use wire::{ClientRefusal, CommandState, Frame, What};
 
 /// How many times a desk is asked again whose queue is full, or that has not decided a command.
 const MOST_TRIES: u32 = 10_000;
@@ -26,7 +28,7 @@ const TRIES_TO_TICK: u32 = 32;
 /// The greatest id.
 const GREATEST: u64 = 9_223_372_036_854_775_807;
 
-/// Rests behind a try, counted from 0, and gives the desk a tick behind every 32nd one.
+/// Rests after a try, counted from 0, and gives the desk a tick after every 32nd one.
 fn rest_behind<A: Ask>(
     alloc: Global,
     desk: &mut A,
@@ -37,7 +39,7 @@ fn rest_behind<A: Ask>(
     ensures ok { OnOk result
         (Asks (A.asked desk.old) (A.asked desk.new) (AreTicks receiver tries)) }
     ensures err { IfErr result (λ f. Adds (A.asked desk.old) (A.asked desk.new)
-        (record { request = tick_of receiver; answer = Err f } ∷ [])) }
+        (asked_so (tick_of receiver) (Err f) ∷ [])) }
     ensures fails { IfErr result A.fails }
 {
     desk.rest(tries);
@@ -45,10 +47,8 @@ fn rest_behind<A: Ask>(
         return Ok(());
     }
     let tick = request_to(receiver, What::Tick);
-    match desk.ask(alloc, &tick) {
-        Ok(_) => Ok(()),
-        Err(fault) => Err(fault),
-    }
+    desk.ask(alloc, &tick)?;
+    Ok(())
 }
 
 /// Whether a request is to be made again, since the desk's queue was full.
@@ -75,9 +75,9 @@ fn asked_until_taken<A: Ask>(
     requires spelled { IsFrame submit.now }
     ensures answer { IfOk result (λ answer. IsAnswer submit.now answer) }
     ensures ok { IfOk result (λ answer. Asks (A.asked desk.old) (A.asked desk.new)
-        (Tries (IsTurnedDown receiver submit.now) submit.now answer)) }
+        (IsTakenOf receiver submit.now answer)) }
     ensures err { IfErr result (λ f. Asks (A.asked desk.old) (A.asked desk.new)
-        (λ asked. AreFor receiver submit.now asked × IsLastTry f receiver submit.now asked)) }
+        (IsTurnedOff f receiver submit.now)) }
     ensures fails { IfErr result A.fails }
 {
     for tries in 0..MOST_TRIES {
@@ -89,14 +89,12 @@ fn asked_until_taken<A: Ask>(
                 }
             }
         }
-        if let Err(fault) = rest_behind(alloc, desk, receiver, tries) {
-            return Err(fault);
-        }
+        rest_behind(alloc, desk, receiver, tries)?;
     }
     desk.ask(alloc, submit)
 }
 
-/// The entry, whose id and text are in their ranges.
+/// The entry, whose id and text are in their ranges: the contracts of the two calls say so.
 fn kept(entry: Entry) -> Entry
     ensures same { result ≡ entry }
     ensures in_range { IsEntry result }
@@ -135,15 +133,11 @@ fn submitted<A: Ask>(
     ensures ok { IfOk result (λ answer. Asks (A.asked desk.old) (A.asked desk.new)
         (IsTaken receiver id text.now answer)) }
     ensures err { IfErr result (λ f. Asks (A.asked desk.old) (A.asked desk.new)
-        (λ asked. AreFor receiver (submit_of receiver id text.now) asked
-        × (IsLastTry f receiver (submit_of receiver id text.now) asked ⊎ IsOther f))) }
+        (StopsTaking f receiver id text.now)) }
     ensures cause { IfErr result
         (λ f. A.fails f ⊎ ((waits : Bool) (r : Desk) → Hinders f waits r id text.now)) }
 {
-    let entry = match entry_of(alloc, id, text) {
-        Ok(entry) => entry,
-        Err(fault) => return Err(fault),
-    };
+    let entry = entry_of(alloc, id, text)?;
     let submit = request_to(receiver, What::Submit { entry });
     asked_until_taken(alloc, desk, receiver, &submit)
 }
@@ -156,23 +150,25 @@ enum Fate {
     Unknown,
 }
 
-/// What a desk's answer says of a command.
+/// What a desk's answer says of a command: that it stands in the log, that the desk knows nothing
+/// of it, or neither.
 fn fate_of(told: &What) -> Fate
     ensures decided { result ≡ fate.Decided → IsDecided told.now }
-    ensures waits { result ≡ fate.Waits → ¬ IsDecided told.now }
+    ensures waits { result ≡ fate.Waits → IsPending told.now }
     ensures unknown { result ≡ fate.Unknown → IsUnknown told.now }
 {
     match told {
-        What::Told { standing, .. } => match standing {
-            Standing::Pending => Fate::Waits,
-            Standing::Unknown => Fate::Unknown,
-            Standing::Done { .. } => Fate::Decided,
+        What::Told { state, .. } => match state {
+            CommandState::Pending => Fate::Waits,
+            CommandState::Unknown => Fate::Unknown,
+            CommandState::Done { .. } => Fate::Decided,
         },
         _ => Fate::Waits,
     }
 }
 
-/// Asks until the command with an id is decided, and gives the answer.
+/// Asks until the command with an id is decided, and gives the answer. The first answer that the
+/// desk knows nothing of it ends that with `Lost`.
 fn decided<A: Ask>(
     alloc: Global,
     desk: &mut A,
@@ -185,24 +181,18 @@ fn decided<A: Ask>(
     ensures ok { IfOk result (λ told. Asks (A.asked desk.old) (A.asked desk.new)
         (IsAwaited receiver id told)) }
     ensures err { IfErr result (λ f. Asks (A.asked desk.old) (A.asked desk.new)
-        (λ asked. AreFor receiver (ask_of receiver id) asked
-        × EndsWaiting f receiver id asked)) }
+        (EndsWaiting f receiver id)) }
     ensures cause { IfErr result (λ f. A.fails f ⊎ IsUndecided f receiver id) }
 {
     let ask = request_to(receiver, What::Ask { id });
     for tries in 0..MOST_TRIES {
-        let told = match desk.ask(alloc, &ask) {
-            Ok(told) => told,
-            Err(fault) => return Err(fault),
-        };
+        let told = desk.ask(alloc, &ask)?;
         match fate_of(&told) {
             Fate::Decided => return Ok(told),
             Fate::Unknown => return Err(BatchFault::Lost),
             Fate::Waits => {}
         }
-        if let Err(fault) = rest_behind(alloc, desk, receiver, tries) {
-            return Err(fault);
-        }
+        rest_behind(alloc, desk, receiver, tries)?;
     }
     Err(BatchFault::StillPending)
 }
@@ -228,10 +218,7 @@ pub(crate) fn entered<A: Ask>(
     if id == 0 || id > GREATEST {
         return Err(BatchFault::NoMoreIds);
     }
-    let taken = match submitted(alloc, desk, receiver, id, text) {
-        Ok(taken) => taken,
-        Err(fault) => return Err(fault),
-    };
+    let taken = submitted(alloc, desk, receiver, id, text)?;
     if !waits {
         return Ok(taken);
     }

@@ -1,14 +1,13 @@
 //! The lines of an input as commands, each entered with an id of its own.
 
-ghost use Rattle.std.specs.Prelude.{◌+◌, List, ℕ, IfErr, OnOk, OnErr};
+ghost use Rattle.std.specs.Prelude.{◌+◌, IfErr, OnOk, OnErr};
 ghost use Rattle.wire.specs.Ranges.{IsDesk};
 ghost use Rattle.std.specs.Io.KnownBytes.{Appends};
-ghost use Rattle.lines.specs.Bytes.{AppendsPart};
+ghost use Rattle.lines.specs.Bytes.{AppendsPart, sides};
 ghost use Rattle.client.specs.Printing.{reply_text};
-ghost use Rattle.wire.specs.declared.frame.What.{What as WhatValue};
-ghost use Rattle.batch.specs.Asking.{Asks, IsOfAsking};
-ghost use Rattle.batch.specs.Entering.{AsksAll, AsksSome, EnteredBy, EntersAll, EntersSome};
-ghost use Rattle.batch.specs.Entering.{IsEntered, IsOfPrinting, StopsAsking, StopsBy, StopsLine};
+ghost use Rattle.batch.specs.Asking.{Asks, IsOfAsking, told};
+ghost use Rattle.batch.specs.Entering.{AsksAll, AsksSome, EntersAll, EntersLine, EntersSome};
+ghost use Rattle.batch.specs.Entering.{FailsLine, IsOfPrinting, StopsAsking, StopsBy};
 
 use crate::asking::{Ask, Dialing, Receiver};
 use crate::dialing::Dial;
@@ -58,24 +57,18 @@ fn enter_line<A: Ask, W: Write>(
     writer: &mut W,
 ) -> Result<(), BatchFault>
     requires { IsDesk batch.receiver.desk }
-    ensures ok { OnOk result ((last : WhatValue)
-        × IsEntered batch.waits batch.receiver (batch.first_id + number) line.now last
-        × Asks (A.asked desk.old) (A.asked desk.new)
-        (EnteredBy batch.waits batch.receiver (batch.first_id + number) line.now last)
-        × Appends (W.contents writer.old) (W.contents writer.new) (reply_text last)) }
-    ensures err { IfErr result (λ f. (said : List ℕ)
-        × AppendsPart (W.contents writer.old) (W.contents writer.new) said
-        × StopsLine A.fails f batch (batch.first_id + number) line.now said) }
+    ensures ok { OnOk result (EntersLine batch (batch.first_id + number) line.now
+        (told A.asked desk.old desk.new) (W.contents writer.old) (W.contents writer.new)) }
+    ensures err { IfErr result (λ f. FailsLine A.fails f batch (batch.first_id + number) line.now
+        (W.contents writer.old) (W.contents writer.new)) }
     ensures asked { IfErr result (λ f. Asks (A.asked desk.old) (A.asked desk.new)
         (StopsAsking f batch.receiver (batch.first_id + number) line.now)) }
 {
     let Some(id) = batch.first_id.checked_add(u64::from(number)) else {
         return Err(BatchFault::NoMoreIds);
     };
-    match entered(alloc, desk, batch.receiver, batch.waits, id, line) {
-        Ok(answer) => print_answer(alloc, writer, answer),
-        Err(fault) => Err(fault),
-    }
+    let answer = entered(alloc, desk, batch.receiver, batch.waits, id, line)?;
+    print_answer(alloc, writer, answer)
 }
 
 /// As [`enter_lines`], by requests to a desk that may tell what it was asked.
@@ -87,18 +80,12 @@ pub fn enter_lines_by<A: Ask, R: Read, W: Write>(
     writer: &mut W,
 ) -> Result<(), BatchFault>
     requires { IsDesk batch.receiver.desk }
-    ensures ok { OnOk result (AsksAll batch (record {
-      had = R.remaining reader.old;
-      left = R.remaining reader.new;
-      old = W.contents writer.old;
-      new = W.contents writer.new;
-    }) (record { old = A.asked desk.old; new = A.asked desk.new })) }
-    ensures err { IfErr result (λ f. AsksSome A.fails f batch (record {
-      had = R.remaining reader.old;
-      left = R.remaining reader.new;
-      old = W.contents writer.old;
-      new = W.contents writer.new;
-    }) (record { old = A.asked desk.old; new = A.asked desk.new })) }
+    ensures ok { OnOk result (AsksAll batch
+        (sides R.remaining W.contents reader.old reader.new writer.old writer.new)
+        (told A.asked desk.old desk.new)) }
+    ensures err { IfErr result (λ f. AsksSome A.fails f batch
+        (sides R.remaining W.contents reader.old reader.new writer.old writer.new)
+        (told A.asked desk.old desk.new)) }
 {
     let mut lines = LineReader::new();
     let mut line = Vec::new(alloc);
@@ -106,9 +93,7 @@ pub fn enter_lines_by<A: Ask, R: Read, W: Write>(
         let number = lines.count();
         match lines.read_line(reader, &mut line) {
             Ok(true) => {
-                if let Err(fault) = enter_line(alloc, desk, batch, number, &line, writer) {
-                    return Err(fault);
-                }
+                enter_line(alloc, desk, batch, number, &line, writer)?;
             }
             Ok(false) => return Ok(()),
             Err(RunFault::NoMemory) => return Err(BatchFault::NoMemory),
@@ -127,9 +112,10 @@ pub fn enter_lines_by<A: Ask, R: Read, W: Write>(
 ///
 /// # Errors
 ///
-/// At a fault the lines in front of it were entered and their answers written, and no line behind
-/// it was sent. The line itself may have been taken: enter it again with its id, the one behind the
-/// last that was written, and nothing is entered twice.
+/// At a fault the lines in front of it were entered and their answers written, and no line after
+/// it was sent. The line itself may have been taken: enter it again with its id, the one after the
+/// last that was written, and nothing is entered twice. `Lost` comes at the first answer that the
+/// desk knows nothing of a line that it took.
 pub fn enter_lines<D: Dial, R: Read, W: Write>(
     alloc: Global,
     dial: &mut D,
@@ -138,24 +124,12 @@ pub fn enter_lines<D: Dial, R: Read, W: Write>(
     writer: &mut W,
 ) -> Result<(), BatchFault>
     requires { IsDesk batch.receiver.desk }
-    ensures ok { OnOk result (EntersAll batch (record {
-      had = R.remaining reader.old;
-      left = R.remaining reader.new;
-      old = W.contents writer.old;
-      new = W.contents writer.new;
-    })) }
-    ensures err { OnErr result (EntersSome batch (record {
-      had = R.remaining reader.old;
-      left = R.remaining reader.new;
-      old = W.contents writer.old;
-      new = W.contents writer.new;
-    })) }
-    ensures cause { IfErr result (λ f. StopsBy IsOfAsking f batch (record {
-      had = R.remaining reader.old;
-      left = R.remaining reader.new;
-      old = W.contents writer.old;
-      new = W.contents writer.new;
-    })) }
+    ensures ok { OnOk result (EntersAll batch
+        (sides R.remaining W.contents reader.old reader.new writer.old writer.new)) }
+    ensures err { OnErr result (EntersSome batch
+        (sides R.remaining W.contents reader.old reader.new writer.old writer.new)) }
+    ensures cause { IfErr result (λ f. StopsBy IsOfAsking f batch
+        (sides R.remaining W.contents reader.old reader.new writer.old writer.new)) }
 {
     let mut desk = Dialing { dial };
     enter_lines_by(alloc, &mut desk, batch, reader, writer)

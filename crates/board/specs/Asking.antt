@@ -1,27 +1,20 @@
 -- What the board asks a desk, and what it sends to it.
-use Rattle.std.specs.Prelude.{◌≡◌, ℕ, List, take, drop, nat_le, if◌then◌else◌, Option}
+use Rattle.std.specs.Prelude.{◌≡◌, ℕ, List, take, drop, Option}
 use Rattle.std.specs.Io.KnownBytes.{Appends}
-use Rattle.formats.specs.declared.events.Event.{Event}
-use Rattle.formats.specs.Events.{event_number}
+use Rattle.client.specs.Versions.{sheet_version}
 use Rattle.wire.specs.declared.frame.Frame.{Frame}
 use Rattle.wire.specs.declared.frame.What.TheVariants as what
 use Rattle.wire.specs.declared.values.SheetStyle.TheVariants as style
-use Rattle.wire.specs.declared.values.Version.{Version}
-use Rattle.wire.specs.declared.values.Version.TheVariants.{One, Two}
 use Rattle.wire.specs.Spelling.{spelling}
-use Rattle.board.specs.declared.inquiry.Desk.{Desk}
+use Rattle.board.specs.declared.inquiry.AskedDesk.{AskedDesk}
 use Rattle.board.specs.declared.inquiry.Inquiry.{Inquiry}
 use Rattle.board.specs.declared.survey.Question.{Question}
 
--- the first version of the wire that has a frame for the sheets of an event
-abbrev pub version_of : Event → Version
-version_of event = if nat_le (event_number event) 16 then One else Two
-
 -- a client's frame, from 0, that asks a desk for the table of a round's sheet at a position
-abbrev pub frame_of : Desk → Question → Frame
+abbrev pub frame_of : AskedDesk → Question → Frame
 frame_of desk q =
     record {
-      version = version_of q.event;
+      version = sheet_version q.event;
       hall = desk.hall;
       from = 0;
       to = desk.number;
@@ -29,11 +22,11 @@ frame_of desk q =
     }
 
 -- the bytes that ask a desk a question, and nothing else
-abbrev pub request : Desk → Question → List ℕ
+abbrev pub request : AskedDesk → Question → List ℕ
 request desk q = spelling (frame_of desk q)
 
 -- a connection on which all of this question to this desk is still to be sent, and nothing else
-pub record Begins (desk : Desk) (question : Question) (inquiry : Inquiry) : Type 0 where
+pub record Begins (desk : AskedDesk) (question : Question) (inquiry : Inquiry) : Type 0 where
   pub same_desk : inquiry.desk ≡ desk
   pub same_question : inquiry.question ≡ question
   pub unsent : inquiry.unsent ≡ request desk question

@@ -17,7 +17,7 @@ const MOST: usize = 800;
 /// The token of the first place; those below it are the listener's and the desk's.
 pub const FIRST: usize = 2;
 
-/// A connection, which ends behind one answer.
+/// A connection, which ends after one answer.
 #[derive(Drop)]
 struct Browser {
     stream: TcpStream,
@@ -39,8 +39,8 @@ impl Browser {
         }
     }
 
-    /// Reads once. What comes behind a request's head is read and dropped, since what was not read
-    /// would reset the connection, and take the answer with it. False at the end.
+    /// Reads once. What comes after a request's head is read and dropped: bytes that were not read
+    /// would reset the connection, and the answer would be lost. False at the end.
     fn read(&mut self, pages: &[Page]) -> io::Result<bool> {
         let mut piece = [0; 4096];
         let count = self.stream.read(&mut piece)?;
@@ -51,7 +51,7 @@ impl Browser {
         Ok(count > 0)
     }
 
-    /// Writes once. Behind the answer no more is written.
+    /// Writes once. After the answer no more is written.
     fn write(&mut self) -> io::Result<bool> {
         let Some(unsent) = &mut self.unsent else {
             return Ok(true);
@@ -64,7 +64,7 @@ impl Browser {
         Ok(true)
     }
 
-    /// Writes or reads once, and says whether the connection goes on.
+    /// Writes or reads once, and returns whether the connection goes on.
     fn turn(&mut self, pages: &[Page]) -> bool {
         let done = if self.is_writing() {
             self.write()
@@ -144,7 +144,7 @@ impl Browsers {
         }
     }
 
-    /// Takes a connection. Where every place is taken, the one that came first is ended.
+    /// Accepts a connection. Where no place is free, the connection that came first is ended.
     pub fn admit(&mut self, alloc: Global, stream: TcpStream, registry: &Registry, now: u64) {
         let mut stream = stream;
         let place = self.next_place();

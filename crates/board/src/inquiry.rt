@@ -3,22 +3,21 @@
 ghost use Rattle.std.specs.Prelude.{◌≡◌, IfSome, OnSome, OnOk, OnErr, SomeIff};
 ghost use Rattle.std.specs.Io.KnownBytes.{Keeps};
 ghost use Rattle.wire.specs.Ranges.{IsDesk, IsFrame};
-ghost use Rattle.board.specs.Asking.{Begins, GoesOn, Sends, frame_of, request, version_of};
+ghost use Rattle.board.specs.Asking.{Begins, GoesOn, Sends, frame_of, request};
 
 use crate::survey::{Heard, Question, what_came};
 use bytes::Bytes;
-use client::judged;
-use formats::Event;
+use client::{judged, sheet_version};
 use mio::net::TcpStream;
 use std::alloc::Global;
 use std::io;
 use std::io::{ErrorKind, Read, Write};
 use std::net::{Net, SocketAddr};
-use wire::{Frame, FrameReader, SheetStyle, Version, What, encode};
+use wire::{Frame, FrameReader, SheetStyle, What, encode};
 
-/// A desk.
+/// The desk that is asked: its hall, its number and its address.
 #[derive(Clone, Copy)]
-pub struct Desk {
+pub struct AskedDesk {
     pub hall: u32,
     pub number: u8,
     pub address: SocketAddr,
@@ -28,7 +27,7 @@ pub struct Desk {
 #[derive(Drop)]
 pub struct Inquiry {
     pub stream: TcpStream,
-    desk: Desk,
+    desk: AskedDesk,
     question: Question,
     /// What of the question is still to be written.
     unsent: Bytes,
@@ -42,19 +41,8 @@ pub fn is_waiting(error: &io::Error) -> bool {
     matches!(error.kind(), ErrorKind::WouldBlock | ErrorKind::Interrupted)
 }
 
-/// The first version of the wire that has a frame for the sheets of an event.
-fn version_of(event: Event) -> Version
-    ensures { result ≡ version_of event }
-{
-    if event.number() <= Version::One.last_event() {
-        Version::One
-    } else {
-        Version::Two
-    }
-}
-
 /// The frame of a question, from a client, which is 0. None where the desk's number is not 1 to 5.
-fn frame_of(desk: Desk, question: Question) -> Option<Frame>
+fn frame_of(desk: AskedDesk, question: Question) -> Option<Frame>
     ensures frame { SomeIff result (IsDesk desk.number) (frame_of desk question) }
     ensures spelled { IfSome result IsFrame }
 {
@@ -67,7 +55,7 @@ fn frame_of(desk: Desk, question: Question) -> Option<Frame>
         position,
     } = question;
     Some(Frame {
-        version: version_of(event),
+        version: sheet_version(event),
         hall: desk.hall,
         from: 0,
         to: desk.number,
@@ -80,8 +68,8 @@ fn frame_of(desk: Desk, question: Question) -> Option<Frame>
     })
 }
 
-/// The bytes of a question. None where the desk's number is not 1 to 5, or memory is wanting.
-fn request_of(alloc: Global, desk: Desk, question: Question) -> Option<Bytes>
+/// The bytes of a question. None where the desk's number is not 1 to 5, or memory runs out.
+fn request_of(alloc: Global, desk: AskedDesk, question: Question) -> Option<Bytes>
     ensures request { IfSome result (λ bytes. bytes ≡ request desk question) }
     ensures known { OnSome result (IsDesk desk.number) }
 {
@@ -109,11 +97,11 @@ fn send<W: Write>(writer: &mut W, unsent: &mut Bytes) -> io::Result<()>
 
 impl Inquiry {
     /// Begins to ask. None where the desk's number is not 1 to 5, the system gives no socket, or
-    /// memory is wanting.
+    /// memory runs out.
     pub fn begin<R: Net>(
         net: &R,
         alloc: Global,
-        desk: Desk,
+        desk: AskedDesk,
         question: Question,
         now: u64,
     ) -> Option<Inquiry>
@@ -137,12 +125,12 @@ impl Inquiry {
         })
     }
 
-    /// Whether it waits for leave to write, and not for bytes to read.
+    /// Whether it waits until it can write, and not for bytes to read.
     pub fn is_writing(&self) -> bool {
         !self.unsent.is_empty()
     }
 
-    /// Writes or reads once, and gives what came of the question, once that is known.
+    /// Writes or reads once, and returns what came of the question, once that is known.
     pub fn turn(&mut self) -> Option<Heard>
         ensures { GoesOn self.old self.new }
     {
@@ -177,7 +165,7 @@ impl Inquiry {
         Ok(self.feed(&piece[..count]))
     }
 
-    /// Takes a piece of the answer.
+    /// Reads on in the answer, whose next piece this is.
     fn feed(&mut self, piece: &[u8]) -> Option<Heard>
         ensures { self.new ≡ record self.old { reader = self.new.reader } }
     {

@@ -1,7 +1,7 @@
 //! What stands at each path.
 
 use crate::style::{SCRIPT, STYLE};
-use crate::survey::{Standing, Survey};
+use crate::survey::{Contact, Survey};
 use board_page::{Sheet, push_overview, push_projector};
 use bytes::Bytes;
 use itoa::Buffer;
@@ -15,10 +15,29 @@ pub struct Page {
     pub answer: Bytes,
 }
 
-/// What is said of the desk: a class of the style, and a text.
+/// The class of the style under which the desk's state is shown.
+#[derive(Clone, Copy)]
+enum Class {
+    /// The sheets are those of the desk.
+    Fine,
+    /// The sheets may be old, since the desk has not answered.
+    Lost,
+}
+
+impl Class {
+    /// Its name in the style.
+    fn name(self) -> &'static str {
+        match self {
+            Class::Fine => "fine",
+            Class::Lost => "lost",
+        }
+    }
+}
+
+/// What is said of the desk.
 #[derive(Drop)]
-struct Told {
-    class: &'static str,
+struct Status {
+    class: Class,
     text: Vec<u8>,
 }
 
@@ -41,7 +60,7 @@ fn put(pages: &mut Vec<Page>, path: Vec<u8>, kind: &str, body: &[u8]) -> Result<
     Ok(())
 }
 
-/// Three texts, one behind the other.
+/// Three texts, one after the other.
 fn joined(alloc: Global, a: &[u8], b: &[u8], c: &[u8]) -> Result<Vec<u8>, AllocError> {
     let mut text = Vec::from_slice(alloc, a)?;
     text.extend_from_slice(b)?;
@@ -49,28 +68,53 @@ fn joined(alloc: Global, a: &[u8], b: &[u8], c: &[u8]) -> Result<Vec<u8>, AllocE
     Ok(text)
 }
 
-/// What is said of the desk.
-fn told_of(alloc: Global, standing: Standing, is_empty: bool) -> Result<Told, AllocError> {
-    let last: &[u8] = if is_empty {
+/// What is said of a desk that has not answered, and of the sheets below it.
+fn lost(alloc: Global, text: Vec<u8>, is_empty: bool) -> Result<Status, AllocError> {
+    let sheets: &[u8] = if is_empty {
         b""
     } else {
         b" These are the last sheets that it gave."
     };
-    let (class, start, why, end): (&str, &[u8], &str, &[u8]) = match standing {
-        Standing::NotAsked => ("lost", b"The desk has not been asked yet.", "", b""),
-        Standing::Silent(why) => ("lost", b"The desk does not answer (", why, b")."),
-        Standing::Answers if is_empty => ("fine", b"No round is open yet.", "", b""),
-        Standing::Answers => ("fine", b"The desk answers.", "", b""),
+    Ok(Status {
+        class: Class::Lost,
+        text: joined(alloc, &text, sheets, b"")?,
+    })
+}
+
+/// What is said of a desk that answers.
+fn fine(alloc: Global, is_empty: bool) -> Result<Status, AllocError> {
+    let text: &[u8] = if is_empty {
+        b"No round is open yet."
+    } else {
+        b"The desk answers."
     };
-    let mut text = joined(alloc, start, why.as_bytes(), end)?;
-    if class == "lost" {
-        text.extend_from_slice(last)?;
+    Ok(Status {
+        class: Class::Fine,
+        text: Vec::from_slice(alloc, text)?,
+    })
+}
+
+/// What is said of the desk, above its sheets or where there are none.
+fn status_of(alloc: Global, contact: Contact, is_empty: bool) -> Result<Status, AllocError> {
+    match contact {
+        Contact::NotAsked => {
+            let text = Vec::from_slice(alloc, b"The desk has not been asked yet.")?;
+            lost(alloc, text, is_empty)
+        }
+        Contact::Silent(why) => {
+            let text = joined(alloc, b"The desk does not answer (", why.as_bytes(), b").")?;
+            lost(alloc, text, is_empty)
+        }
+        Contact::Answers => fine(alloc, is_empty),
     }
-    Ok(Told { class, text })
 }
 
 /// Adds a projector's page for each sheet, which goes on to the next one.
-fn put_projectors(pages: &mut Vec<Page>, told: &Told, sheets: &[Sheet]) -> Result<(), AllocError> {
+fn put_projectors(
+    pages: &mut Vec<Page>,
+    status: &Status,
+    sheets: &[Sheet],
+) -> Result<(), AllocError> {
     let alloc = *pages.allocator();
     for place in 0..sheets.len() {
         let next = if place + 1 < sheets.len() {
@@ -80,9 +124,9 @@ fn put_projectors(pages: &mut Vec<Page>, told: &Told, sheets: &[Sheet]) -> Resul
         };
         let refresh = joined(alloc, b"15;url=/hall/", &sheets[next].name, b"")?;
         let shown = &sheets[place..=place];
-        put_projector(pages, &sheets[place].name, &refresh, told, shown)?;
+        put_projector(pages, &sheets[place].name, &refresh, status, shown)?;
         if place == 0 {
-            put_projector(pages, b"", &refresh, told, shown)?;
+            put_projector(pages, b"", &refresh, status, shown)?;
         }
     }
     Ok(())
@@ -93,7 +137,7 @@ fn put_projector(
     pages: &mut Vec<Page>,
     name: &[u8],
     refresh: &[u8],
-    told: &Told,
+    status: &Status,
     sheets: &[Sheet],
 ) -> Result<(), AllocError> {
     let alloc = *pages.allocator();
@@ -101,8 +145,8 @@ fn put_projector(
     push_projector(
         &mut page,
         refresh,
-        told.class.as_bytes(),
-        &told.text,
+        status.class.name().as_bytes(),
+        &status.text,
         sheets,
     )?;
     let between: &[u8] = if name.is_empty() { b"" } else { b"/" };
@@ -133,10 +177,19 @@ fn put_fixed(pages: &mut Vec<Page>) -> Result<(), AllocError> {
 }
 
 /// Adds the page of all sheets.
-fn put_overview(pages: &mut Vec<Page>, told: &Told, sheets: &[Sheet]) -> Result<(), AllocError> {
+fn put_overview(
+    pages: &mut Vec<Page>,
+    status: &Status,
+    sheets: &[Sheet],
+) -> Result<(), AllocError> {
     let alloc = *pages.allocator();
     let mut page = Vec::new(alloc);
-    push_overview(&mut page, told.class.as_bytes(), &told.text, sheets)?;
+    push_overview(
+        &mut page,
+        status.class.name().as_bytes(),
+        &status.text,
+        sheets,
+    )?;
     put(pages, Vec::from_slice(alloc, b"/")?, HTML, &page)
 }
 
@@ -145,12 +198,12 @@ pub fn pages_of(alloc: Global, survey: &Survey) -> Result<Vec<Page>, AllocError>
     let sheets = survey.sheets();
     let mut pages = Vec::new(alloc);
     put_fixed(&mut pages)?;
-    let told = told_of(alloc, survey.standing(), sheets.is_empty())?;
-    put_overview(&mut pages, &told, sheets)?;
+    let status = status_of(alloc, survey.contact(), sheets.is_empty())?;
+    put_overview(&mut pages, &status, sheets)?;
     if sheets.is_empty() {
-        put_projector(&mut pages, b"", b"5;url=/hall", &told, sheets)?;
+        put_projector(&mut pages, b"", b"5;url=/hall", &status, sheets)?;
     }
-    put_projectors(&mut pages, &told, sheets)?;
+    put_projectors(&mut pages, &status, sheets)?;
     put_tables(&mut pages, sheets)?;
     Ok(pages)
 }

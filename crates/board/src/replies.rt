@@ -68,7 +68,7 @@ fn reply(method: &str, target: &str, pages: &[Page]) -> Bytes {
     }
 }
 
-/// An answer without its body: what stands behind the empty line is gone.
+/// An answer without its body, which stands after the empty line.
 fn without_body(answer: Bytes) -> Bytes {
     let mut answer = answer;
     let end = answer
@@ -91,7 +91,7 @@ fn answer_of(request: &Request<'_, '_>, pages: &[Page]) -> Bytes {
     }
 }
 
-/// The answer to what came of a request, once its head is whole, or can't be any more. To a HEAD it
+/// The answer to what came of a request, once its head is whole or invalid. The answer to a HEAD
 /// has no body.
 pub fn answer_to(came: &[u8], pages: &[Page]) -> Option<Bytes> {
     let mut headers = [EMPTY_HEADER; 64];

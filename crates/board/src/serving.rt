@@ -1,7 +1,7 @@
 //! The board: browsers are answered, and the desk is asked, as sockets become ready.
 
 use crate::browsers::Browsers;
-use crate::inquiry::{Desk, Inquiry, is_waiting};
+use crate::inquiry::{AskedDesk, Inquiry, is_waiting};
 use crate::pages::{Page, pages_of};
 use crate::survey::{Heard, Survey};
 use mio::net::TcpListener;
@@ -31,7 +31,7 @@ const DESK: usize = 1;
 /// What the board is to do.
 #[derive(Clone, Copy)]
 pub struct Order {
-    pub desk: Desk,
+    pub desk: AskedDesk,
     pub listen: SocketAddr,
     /// How long a browser is waited for, in seconds.
     pub patience: u64,
@@ -41,7 +41,7 @@ pub struct Order {
 #[derive(Drop)]
 struct Board {
     alloc: Global,
-    desk: Desk,
+    desk: AskedDesk,
     listener: TcpListener,
     browsers: Browsers,
     survey: Survey,
@@ -67,7 +67,7 @@ impl Board {
         })
     }
 
-    /// Takes one browser that waits, and asks to be told of the next one.
+    /// Accepts one browser that waits, and asks to be told of the next one.
     fn accept(&mut self, registry: &Registry, now: u64) -> io::Result<()> {
         match self.listener.accept() {
             Ok((stream, _)) => self.browsers.admit(self.alloc, stream, registry, now),
@@ -106,8 +106,8 @@ impl Board {
         watched.is_ok()
     }
 
-    /// Takes what came of the question, and closes its connection. At the end of a survey the pages
-    /// are made; where memory is wanting for them, the old ones stay.
+    /// Closes the connection of a question of which this came. At the end of a survey the pages are
+    /// made; where memory runs out for them, the old ones stay.
     fn hear(&mut self, heard: Heard, now: u64) {
         self.inquiry = None;
         if self.survey.hear(heard) {

@@ -2,16 +2,13 @@
 
 use board_page::Sheet;
 use client::{ClientFault, refusal_name};
-use formats::Event;
+use formats::{Event, LAST_ROUND};
 use std::alloc::Global;
 use std::mem;
 use wire::{ClientRefusal, What};
 
 /// More than a desk's log can have.
 const BEYOND: u32 = 65_537;
-
-/// The last round of an event.
-const LAST_ROUND: u8 = 4;
 
 /// The sheet of a round at a position of the log. A desk opens no round 0, so that a question for
 /// it asks whether the log is so long, and no sheet is made.
@@ -31,11 +28,11 @@ pub enum Heard {
     NoRound,
     /// The log is shorter.
     NotThere,
-    /// There is no answer, and why.
+    /// The desk gave no answer, and why.
     Silent(&'static str),
 }
 
-/// What a client's call gave, as a survey needs it.
+/// What came of a question, by the result of a client's call.
 pub fn what_came(answer: Result<What, ClientFault>) -> Heard {
     match answer {
         Ok(What::SheetText { text }) => Heard::Table(text.into_vec()),
@@ -57,15 +54,18 @@ enum Step {
     Sheets(Question),
 }
 
-/// What is known of the desk.
+/// Whether the desk answers.
 #[derive(Clone, Copy)]
-pub enum Standing {
+pub enum Contact {
+    /// No survey has come to its end.
     NotAsked,
+    /// The last survey was answered.
     Answers,
+    /// The last survey was not answered, and why.
     Silent(&'static str),
 }
 
-/// Surveys of a desk, one behind the other: each looks for the length of its log, and asks for the
+/// Surveys of a desk, one after the other: each looks for the length of its log, and asks for the
 /// sheet of each round that was opened in that much of it.
 #[derive(Drop)]
 pub struct Survey {
@@ -78,7 +78,7 @@ pub struct Survey {
     /// The sheets of the last survey that came to its end, and their position.
     sheets: Vec<Sheet>,
     position: Option<u32>,
-    standing: Standing,
+    contact: Contact,
 }
 
 /// The next length to ask for: in steps that double from what was known, and then halves.
@@ -105,7 +105,7 @@ impl Survey {
             coming: Vec::new(alloc),
             sheets: Vec::new(alloc),
             position: None,
-            standing: Standing::NotAsked,
+            contact: Contact::NotAsked,
         }
     }
 
@@ -114,8 +114,9 @@ impl Survey {
         &self.sheets
     }
 
-    pub fn standing(&self) -> Standing {
-        self.standing
+    /// Whether the desk answered the last survey.
+    pub fn contact(&self) -> Contact {
+        self.contact
     }
 
     /// What is to be asked next.
@@ -130,15 +131,15 @@ impl Survey {
         }
     }
 
-    /// Takes what came of the question, and says whether the survey is at its end.
+    /// Goes on after what came of the question, and returns whether the survey is at its end.
     pub fn hear(&mut self, heard: Heard) -> bool {
         match (self.step, heard) {
             (Step::Length { high, probe, .. }, Heard::NoRound) => self.narrow(probe, high),
             (Step::Length { low, probe, .. }, Heard::NotThere) => self.narrow(low, probe),
             (Step::Sheets(asked), Heard::Table(table)) => self.take(asked, table),
             (Step::Sheets(asked), Heard::NoRound) => self.next_event(asked),
-            (_, Heard::Silent(why)) => self.end(Standing::Silent(why)),
-            _ => self.end(Standing::Silent("no answer")),
+            (_, Heard::Silent(why)) => self.end(Contact::Silent(why)),
+            _ => self.end(Contact::Silent("no answer")),
         }
     }
 
@@ -151,7 +152,7 @@ impl Survey {
         }
         self.length = low;
         if self.position == Some(low) {
-            return self.end(Standing::Answers);
+            return self.end(Contact::Answers);
         }
         self.step = Step::Sheets(Question {
             event: Event::Cube3,
@@ -169,10 +170,10 @@ impl Survey {
             position,
         } = asked;
         let Ok(sheet) = Sheet::new(self.alloc, event, round, position, table) else {
-            return self.end(Standing::Silent("no memory"));
+            return self.end(Contact::Silent("no memory"));
         };
         let Ok(()) = self.coming.push(sheet) else {
-            return self.end(Standing::Silent("no memory"));
+            return self.end(Contact::Silent("no memory"));
         };
         if round >= LAST_ROUND {
             return self.next_event(asked);
@@ -184,7 +185,7 @@ impl Survey {
         false
     }
 
-    /// Goes on to the next event; behind the last one the sheets are shown.
+    /// Goes on to the next event; after the last one the sheets are shown.
     fn next_event(&mut self, asked: Question) -> bool {
         let number = asked.event.number().saturating_add(1);
         if let Some(event) = Event::from_number(number) {
@@ -197,13 +198,13 @@ impl Survey {
         }
         mem::swap(&mut self.sheets, &mut self.coming);
         self.position = Some(asked.position);
-        self.end(Standing::Answers)
+        self.end(Contact::Answers)
     }
 
     /// Ends a survey; the next one asks first whether the log is as long as it was.
-    fn end(&mut self, standing: Standing) -> bool {
+    fn end(&mut self, contact: Contact) -> bool {
         self.coming.clear();
-        self.standing = standing;
+        self.contact = contact;
         self.step = Step::Length {
             low: 0,
             high: BEYOND,

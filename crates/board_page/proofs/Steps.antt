@@ -1,5 +1,9 @@
 -- One step of a loop that writes a text for each item of a list.
-use Rattle.std.proofs.Common.{◌≡◌, ◌∙◌, ℕ, zero, suc, ◌+◌, ◌-◌, ◌<◌, ◌≤◌, List, [], ◌∷◌, ◌++◌, length, get_or, drop, take, map, flat_map, None, Result, Ok, Err, OnOk, if◌then◌else◌, refl, ap, sym, subst, arith, append_assoc, add-one, drop-cons}
+use Rattle.std.proofs.Common.{◌≡◌, ◌∙◌, ℕ, zero, suc, ◌+◌, ◌-◌, ◌<◌, ◌≤◌, List, [], ◌∷◌, ◌++◌}
+use Rattle.std.proofs.Common.{length}
+use Rattle.std.proofs.Common.{get_or, drop, take, map, flat_map, None, Result, Ok, Err, OnOk}
+use Rattle.std.proofs.Common.{if◌then◌else◌, refl, ap, sym, subst, arith, append_assoc, add-one}
+use Rattle.std.proofs.Common.{drop-cons}
 use Rattle.std.specs.Result.{is_ok}
 use Rattle.std.proofs.lemmas.List.{append-nil, drop_all, take_all}
 use Rattle.csv.specs.Records.{field_at}
@@ -57,30 +61,30 @@ pub first_and_rest : {X : Type 0} (xs : List X) (d : X) → 1 ≤ length xs
 first_and_rest [] d some = absurd (omega arith)
 first_and_rest (x ∷ xs) d some = refl
 
--- what stands behind the first item is all that is left
+-- what stands after the first item is all that is left
 pub rest_whole : {X : Type 0} (xs : List X) → take (length xs - 1) (drop 1 xs) ≡ drop 1 xs
 rest_whole [] = take_all (0 - 1) [] (omega arith)
 rest_whole (x ∷ xs) = take_all (suc (length xs) - 1) xs (omega arith)
 
--- a text of two parts, one behind the other
+-- a text of two parts, one after the other
 pub two_parts : (out a b x y : List ℕ) → x ≡ out ++ a → y ≡ x ++ b → y ≡ out ++ (a ++ b)
 two_parts out a b x y p q = q ∙ ap (λ w. w ++ b) p ∙ append_assoc out a b
 
--- a text of three parts, each behind the one before
+-- a text of three parts, each after the one before
 pub three_parts : (out a b c x y z : List ℕ) → x ≡ out ++ a → y ≡ x ++ b → z ≡ y ++ c
     → z ≡ out ++ (a ++ b ++ c)
 three_parts out a b c x y z p q r =
     r ∙ ap (λ w. w ++ c) (q ∙ ap (λ w. w ++ b) p)
     ∙ rw (append_assoc out a b, append_assoc out (a ++ b) c) refl
 
--- a text of five parts, each behind the one before
+-- a text of five parts, each after the one before
 pub five_parts : (out a b c d e v w x y z : List ℕ) → v ≡ out ++ a → w ≡ v ++ b → x ≡ w ++ c
     → y ≡ x ++ d → z ≡ y ++ e → z ≡ out ++ (a ++ b ++ c ++ d ++ e)
 five_parts out a b c d e v w x y z p q r s t =
     two_parts out (a ++ b ++ c ++ d) e y z
     (two_parts out (a ++ b ++ c) d x y (three_parts out a b c v w x p q r) s) t
 
--- a text of six parts, each behind the one before
+-- a text of six parts, each after the one before
 pub six_parts : (out a b c d e f u v w x y z : List ℕ) → u ≡ out ++ a → v ≡ u ++ b
     → w ≡ v ++ c → x ≡ w ++ d → y ≡ x ++ e → z ≡ y ++ f
     → z ≡ out ++ (a ++ b ++ c ++ d ++ e ++ f)
@@ -89,7 +93,7 @@ six_parts out a b c d e f u v w x y z p q r s t k =
     (five_parts out a b c d e u v w x y p q r s t) k
 
 -- Whatever text shows the sheets that are left, what was written and that text are a text that
--- shows them all behind what was there first.
+-- shows them all after what was there first.
 abbrev pub Completes : List Sheet → ℕ → List ℕ → List ℕ → Type 0
 Completes sheets i first out = (back : List ℕ) → AreSheetsOf (drop i sheets) back
     → (whole : List ℕ) × AreSheetsOf sheets whole × (out ++ back ≡ first ++ whole)

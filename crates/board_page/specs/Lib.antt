@@ -1,3 +1,4 @@
+pub mod Adding
 pub mod Escaped
 pub mod Table
 pub mod Page

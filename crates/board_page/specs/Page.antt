@@ -1,5 +1,5 @@
 -- Pages: sheets in their order between fixed texts.
-use Rattle.std.specs.Prelude.{◌≡◌, ℕ, List, [], ◌∷◌, ◌++◌, codes, decimal}
+use Rattle.std.specs.Prelude.{◌≡◌, ℕ, List, [], ◌∷◌, ◌++◌, codes, decimal, flat_map}
 use Rattle.formats.specs.declared.events.Event.{Event}
 use Rattle.formats.specs.Events.{event_name}
 use Rattle.board_page.specs.Escaped.{escaped}
@@ -62,7 +62,18 @@ unfoldable pub overview : List ℕ → List ℕ → List ℕ → List ℕ
 overview links told inside = overview_start ++ links
     ++ codes "<a href=\"/hall\">projector</a></nav>\n" ++ told ++ inside ++ end
 
+-- this text is the page of these sheets, under what is said of the desk
+abbrev pub IsOverview : List Sheet → List ℕ → List ℕ → Type 0
+IsOverview sheets told page =
+    (inside : List ℕ) × AreSheetsOf sheets inside
+    × (page ≡ overview (flat_map link sheets) told inside)
+
 -- a page for a projector: how it goes on, what is said of the desk, and sheets
 unfoldable pub projector : List ℕ → List ℕ → List ℕ → List ℕ
 projector refresh told inside = projector_start ++ escaped refresh
     ++ codes "\">\n</head>\n<body class=\"hall\"><main>\n" ++ told ++ inside ++ end
+
+-- this text is a projector's page of these sheets, under what is said of the desk
+abbrev pub IsProjector : List ℕ → List Sheet → List ℕ → List ℕ → Type 0
+IsProjector refresh sheets told page =
+    (inside : List ℕ) × AreSheetsOf sheets inside × (page ≡ projector refresh told inside)

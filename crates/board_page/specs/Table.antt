@@ -46,9 +46,13 @@ abbrev pub sheet : List ℕ → List ℕ → List ℕ → List (List (List ℕ))
 sheet anchor title position records =
     (section_start anchor ++ title_of title) ++ table records ++ position_of position
 
+-- these are the records that a reader of CSV reads in a text
+abbrev pub AreRecordsOf : List ℕ → List (List (List ℕ)) → Type 0
+AreRecordsOf text records = AreRecords default_config st.StartRecord (strip_bom text) records
+
 -- the page of a text is the sheet of the records that a reader of CSV reads there
 abbrev pub IsSheetOf : List ℕ → List ℕ → List ℕ → List ℕ → List ℕ → Type 0
 IsSheetOf anchor title position text page =
     (records : List (List (List ℕ)))
-    × AreRecords default_config st.StartRecord (strip_bom text) records
+    × AreRecordsOf text records
     × (page ≡ sheet anchor title position records)

@@ -1,7 +1,8 @@
 //! Pages that show sheets.
 
-ghost use Rattle.std.specs.Prelude.{◌≡◌, ◌++◌, List, ℕ, OnOk, flat_map};
-ghost use Rattle.board_page.specs.Page.{AreSheetsOf, link, overview, projector, status};
+ghost use Rattle.std.specs.Prelude.{◌≡◌, ◌++◌, OnOk, flat_map};
+ghost use Rattle.board_page.specs.Adding.{Adds};
+ghost use Rattle.board_page.specs.Page.{IsOverview, IsProjector, link, status};
 
 use crate::escaping::push_escaped;
 use crate::sheet::{Sheet, push_sheets};
@@ -74,16 +75,15 @@ fn push_status(out: &mut Vec<u8>, class: &[u8], text: &[u8]) -> Result<(), Alloc
 ///
 /// # Errors
 ///
-/// Where memory is wanting. A front part may have been added then.
+/// Where memory runs out. A front part may have been added then.
 pub fn push_overview(
     out: &mut Vec<u8>,
     class: &[u8],
     text: &[u8],
     sheets: &[Sheet],
 ) -> Result<(), AllocError>
-    ensures { OnOk result ((inside : List ℕ) × AreSheetsOf sheets.now inside
-        × (out.new.items ≡ out.old.items
-        ++ overview (flat_map link sheets.now) (status class.now text.now) inside)) }
+    ensures { OnOk result (Adds out.old.items out.new.items
+        (IsOverview sheets.now (status class.now text.now))) }
 {
     out.extend_from_slice(OVERVIEW_START)?;
     push_links(out, sheets)?;
@@ -99,7 +99,7 @@ pub fn push_overview(
 ///
 /// # Errors
 ///
-/// Where memory is wanting. A front part may have been added then.
+/// Where memory runs out. A front part may have been added then.
 pub fn push_projector(
     out: &mut Vec<u8>,
     refresh: &[u8],
@@ -107,9 +107,8 @@ pub fn push_projector(
     text: &[u8],
     sheets: &[Sheet],
 ) -> Result<(), AllocError>
-    ensures { OnOk result ((inside : List ℕ) × AreSheetsOf sheets.now inside
-        × (out.new.items ≡ out.old.items
-        ++ projector refresh.now (status class.now text.now) inside)) }
+    ensures { OnOk result (Adds out.old.items out.new.items
+        (IsProjector refresh.now sheets.now (status class.now text.now))) }
 {
     out.extend_from_slice(PROJECTOR_START)?;
     push_escaped(out, refresh)?;

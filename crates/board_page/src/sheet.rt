@@ -1,6 +1,7 @@
 //! A round's sheet, and the sheets of a page.
 
-ghost use Rattle.std.specs.Prelude.{◌≡◌, ◌++◌, List, ℕ, IfOk, OnOk, decimal};
+ghost use Rattle.std.specs.Prelude.{◌≡◌, IfOk, OnOk, decimal};
+ghost use Rattle.board_page.specs.Adding.{Adds};
 ghost use Rattle.board_page.specs.Page.{AreSheetsOf, joined, name_of, title_of_round};
 
 use crate::table::push_sheet;
@@ -70,10 +71,9 @@ impl Sheet {
 ///
 /// # Errors
 ///
-/// Where memory is wanting. A front part may have been added then.
+/// Where memory runs out. A front part may have been added then.
 pub fn push_sheets(out: &mut Vec<u8>, sheets: &[Sheet]) -> Result<(), AllocError>
-    ensures { OnOk result ((text : List ℕ) × AreSheetsOf sheets.now text
-        × (out.new.items ≡ out.old.items ++ text)) }
+    ensures { OnOk result (Adds out.old.items out.new.items (AreSheetsOf sheets.now)) }
 {
     for sheet in sheets {
         push_sheet(

@@ -1,21 +1,19 @@
 //! A sheet's table in HTML.
 
-ghost use Rattle.std.specs.Prelude.{◌≡◌, ◌++◌, [], List, ℕ, get_or, map, flat_map, IfOk, OnOk};
-ghost use Rattle.csv.specs.Reading.{AreRecords, default_config, strip_bom};
+ghost use Rattle.std.specs.Prelude.{◌≡◌, ◌++◌, [], get_or, map, flat_map, IfOk, OnOk};
 ghost use Rattle.csv.specs.Records.{fields_of};
-ghost use Rattle.csv.specs.declared.parser.State.TheVariants as st;
+ghost use Rattle.board_page.specs.Adding.{Adds};
 ghost use Rattle.board_page.specs.Table.{cell, heading, headings, line, line_start, position_of};
-ghost use Rattle.board_page.specs.Table.{section_start, table, title_of, IsSheetOf};
+ghost use Rattle.board_page.specs.Table.{section_start, table, title_of, AreRecordsOf, IsSheetOf};
 
 use crate::escaping::push_escaped;
 use csv::{ByteRecord, ReaderBuilder};
 use std::alloc::{AllocError, Global};
 
-/// The records of a text. A record may have any number of fields, so that nothing but want of
-/// memory keeps the reader from them.
+/// The records of a text. A record may have any number of fields, so that the reader fails only
+/// where memory runs out.
 fn records_of(alloc: Global, text: &[u8]) -> Result<Vec<ByteRecord>, AllocError>
-    ensures { IfOk result (λ rows. AreRecords default_config st.StartRecord
-        (strip_bom text.now) (map fields_of rows.items)) }
+    ensures { IfOk result (λ rows. AreRecordsOf text.now (map fields_of rows.items)) }
 {
     let rdr = ReaderBuilder::new()
         .has_headers(false)
@@ -164,7 +162,7 @@ fn push_position(out: &mut Vec<u8>, position: &[u8]) -> Result<(), AllocError>
 ///
 /// # Errors
 ///
-/// Where memory is wanting. A front part of the sheet may have been added then.
+/// Where memory runs out. A front part of the sheet may have been added then.
 pub fn push_sheet(
     out: &mut Vec<u8>,
     anchor: &[u8],
@@ -172,9 +170,8 @@ pub fn push_sheet(
     text: &[u8],
     position: &[u8],
 ) -> Result<(), AllocError>
-    ensures { OnOk result ((page : List ℕ)
-        × IsSheetOf anchor.now title.now position.now text.now page
-        × (out.new.items ≡ out.old.items ++ page)) }
+    ensures { OnOk result (Adds out.old.items out.new.items
+        (IsSheetOf anchor.now title.now position.now text.now)) }
 {
     let rows = records_of(*out.allocator(), text)?;
     push_section_start(out, anchor)?;

@@ -1,5 +1,6 @@
 -- The first frame of what a reader of frames was fed.
-use Rattle.std.proofs.Common.{◌≡◌, ◌++◌, ◌∙◌, ℕ, List, [], ◌∷◌, Option, None, Some, MatchOption, ap, sym, subst, append_assoc, refl, append-nil, length, arith}
+use Rattle.std.proofs.Common.{◌≡◌, ◌++◌, ◌∙◌, ℕ, List, [], ◌∷◌, Option, None, Some, MatchOption}
+use Rattle.std.proofs.Common.{ap, append_assoc, append-nil, arith, length, refl, subst, sym}
 use Rattle.std.proofs.KnownBytes.{Consumes-trans}
 use Rattle.std.specs.Prelude.{option_to_list}
 use Rattle.std.specs.Global.{Global}
@@ -10,7 +11,8 @@ use Rattle.std.specs.List.{flat_map}
 use Rattle.wire.specs.declared.fault.WireFault.TheVariants as wire
 use Rattle.wire.specs.declared.frame.Frame.{Frame}
 use Rattle.wire.specs.Spelling.{spelling}
-use Rattle.wire.specs.Stream.{Front, Reader, Waits, Begins, Breaks, Fed, IsBegun, front, holding, keeps}
+use Rattle.wire.specs.Stream.{Front, Reader, Waits, Begins, Breaks, Fed, IsBegun, front, holding}
+use Rattle.wire.specs.Stream.{keeps}
 use Rattle.client.specs.Exchange.{StandsFirst}
 
 keeps_none : (at : Front) (rest : List ℕ) (reader : Reader) → (IsBegun at → ⊥)

@@ -11,7 +11,7 @@ is_taken id (what.Taken other) = other == id
 is_taken id _ = false
 
 abbrev pub is_told : ℕ → What → Bool
-is_told id (what.Told other standing) = other == id
+is_told id (what.Told other state) = other == id
 is_told id _ = false
 
 abbrev pub is_sheet_text : What → Bool

@@ -1,13 +1,15 @@
 -- What a client writes and reads, and how it comes to its answer.
-use Rattle.std.specs.Prelude.{◌≡◌, ◌⊎◌, ℕ, List, [], ◌++◌, Option, Result, Ok, Err}
+use Rattle.std.specs.Prelude.{◌≡◌, ◌⊎◌, ℕ, List, [], ◌++◌, MatchOption, Option, Result, Ok, Err}
 use Rattle.std.specs.Io.KnownBytes.{Appends, Consumes, Keeps}
+use Rattle.std.specs.declared.io.Read as read
+use Rattle.std.specs.declared.io.Write as write
 use Rattle.lines.specs.Bytes.{AppendsPart}
 use Rattle.wire.specs.declared.fault.WireFault.{WireFault}
 use Rattle.wire.specs.declared.frame.Frame.{Frame}
 use Rattle.wire.specs.declared.frame.What.{What}
 use Rattle.wire.specs.Ranges.{IsFrame}
 use Rattle.wire.specs.Spelling.{spelling}
-use Rattle.wire.specs.Stream.{Waits, Breaks, front, IsBegun, IsOfStream}
+use Rattle.wire.specs.Stream.{Waits, Breaks, Reader, front, holding, IsBegun, IsOfStream}
 use Rattle.client.specs.declared.fault.ClientFault.{ClientFault}
 use Rattle.client.specs.declared.fault.ClientFault.TheVariants as fault
 use Rattle.client.specs.Answers.{judged}
@@ -23,12 +25,36 @@ abbrev pub LacksFrame : List ℕ → Type 0
 LacksFrame bytes =
     (front bytes ≡ Waits) ⊎ ((e : WireFault) × (front bytes ≡ Breaks e) × IsOfStream e)
 
+-- these bytes were read, and this frame stands first in them
+abbrev pub Heard : (had left : Option (List ℕ)) → Frame → Type 0
+Heard had left f = (bytes : List ℕ) × Consumes had left bytes × StandsFirst f bytes
+
+-- a reader that waits for the rest of a frame of which it holds these bytes
+abbrev pub IsWaiting : Reader → List ℕ → Type 0
+IsWaiting reader bytes = (reader ≡ holding bytes) × (front bytes ≡ Waits)
+
+-- a reader that holds these bytes has given the frame that stands first in them, or waits for more
+abbrev pub GivesFirst : Reader → List ℕ → Option Frame → Type 0
+GivesFirst reader bytes given =
+    MatchOption given (IsWaiting reader bytes) (λ f. StandsFirst f bytes)
+
 -- what a client's reader had and has left, and what its writer had and has
 pub record Sides : Type 0 where
   pub had : Option (List ℕ)
   pub left : Option (List ℕ)
   pub old : Option (List ℕ)
   pub new : Option (List ℕ)
+
+-- the sides of a call: of its reader and its writer before and after it
+abbrev pub sides : {R W : Type 0} → read.Ghosts R → write.Ghosts W
+    → (reader_before reader_after : R) → (writer_before writer_after : W) → Sides
+sides r w reader_before reader_after writer_before writer_after =
+    record {
+      had = r.remaining reader_before;
+      left = r.remaining reader_after;
+      old = w.contents writer_before;
+      new = w.contents writer_after;
+    }
 
 -- the request was written whole, and then these bytes were read
 pub record Hears (asked : Frame) (s : Sides) (bytes : List ℕ) : Type 0 where
@@ -45,7 +71,7 @@ abbrev pub IsSilent : Sides → Type 0
 IsSilent s = Appends s.old s.new [] × Keeps s.had s.left
 
 -- Where the answer or a refusal is given, the first frame that came was judged so. There is no
--- answer where that frame is none, or no frame came. A write failed where a front part of the
+-- answer where that frame is no answer, or no frame came. A write failed where a front part of the
 -- request was written and nothing was read. Memory was refused before anything was written, or
 -- where a frame had come whole.
 abbrev pub Exchanges : Result What ClientFault → Frame → Sides → Type 0
@@ -66,3 +92,7 @@ LacksFor fault.NoAnswer bytes = LacksFrame bytes
 LacksFor fault.NoMemory bytes = IsBegun (front bytes)
 LacksFor (fault.Refused refusal) bytes = ⊥
 LacksFor fault.Write bytes = ⊥
+
+-- these bytes were read, and this is why no frame was found in them
+abbrev pub HeardNone : (had left : Option (List ℕ)) → ClientFault → Type 0
+HeardNone had left e = (bytes : List ℕ) × Consumes had left bytes × LacksFor e bytes

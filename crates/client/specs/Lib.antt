@@ -1,3 +1,4 @@
 pub mod Answers
 pub mod Exchange
 pub mod Printing
+pub mod Versions

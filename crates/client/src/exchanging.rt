@@ -1,7 +1,7 @@
 //! One request and its answer.
 
 ghost use Rattle.wire.specs.Ranges.{IsFrame};
-ghost use Rattle.client.specs.Exchange.{Exchanges};
+ghost use Rattle.client.specs.Exchange.{Exchanges, sides};
 
 use crate::fault::ClientFault;
 use crate::hearing::hear;
@@ -11,17 +11,17 @@ use std::alloc::Global;
 use std::io::{Read, Write};
 use wire::{Frame, FrameReader, What, encode};
 
-/// Writes a request whole, and reads until one frame is there, in pieces of at most 4,096 bytes. It
-/// gives the answer: [`answers`](crate::answers) says which frame is one.
+/// Writes a request whole, reads in pieces of at most 4,096 bytes until a whole frame was read, and
+/// returns the answer: [`answers`](crate::answers) says which frame is one.
 ///
 /// # Errors
 ///
 /// - `Refused` where the first frame that comes is a refusal.
-/// - `NoAnswer` where the stream ends, a read fails (an interrupted one too), what comes is no
-///   frame, or the first frame is neither the answer nor a refusal.
-/// - `Write` where a write fails or takes no byte: a front part of the request is written, and
-///   nothing is read.
-/// - `NoMemory` where memory runs out, before anything is written or where a frame has come whole.
+/// - `NoAnswer` where the stream ends, a read fails (an interrupted one too), the bytes break the
+///   format of frames, or the first frame is neither the answer nor a refusal.
+/// - `Write` where a write fails or accepts no byte: a front part of the request was written, and
+///   nothing was read.
+/// - `NoMemory` where memory runs out: before anything is written, or once a whole frame was read.
 pub fn exchange<R: Read, W: Write>(
     alloc: Global,
     asked: &Frame,
@@ -29,12 +29,8 @@ pub fn exchange<R: Read, W: Write>(
     writer: &mut W,
 ) -> Result<What, ClientFault>
     requires spelled { IsFrame asked.now }
-    ensures exchanges { Exchanges result asked.now (record {
-      had = R.remaining reader.old;
-      left = R.remaining reader.new;
-      old = W.contents writer.old;
-      new = W.contents writer.new;
-    }) }
+    ensures exchanges { Exchanges result asked.now
+        (sides R.Read W.Write reader.old reader.new writer.old writer.new) }
 {
     let Ok(mut stream) = FrameReader::new(alloc) else {
         return Err(ClientFault::NoMemory);

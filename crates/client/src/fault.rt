@@ -11,7 +11,7 @@ use wire::ClientRefusal;
 pub enum ClientFault {
     /// The desk refused.
     Refused { refusal: ClientRefusal },
-    /// The connection ended, a read failed, or what came is not the answer.
+    /// The connection ended, a read failed, or the bytes that came are not the answer.
     NoAnswer,
     /// A write failed.
     Write,

@@ -65,7 +65,7 @@ pub fn answers(asked: &Frame, given: &Frame) -> bool
     given.hall == asked.hall && given.from == asked.to && fits(&asked.what, &given.what)
 }
 
-/// What a client makes of a frame: its answer, or why it is none.
+/// What a client makes of a frame: the answer, or why the frame is not the answer.
 ///
 /// # Errors
 ///

@@ -1,7 +1,8 @@
 //! A client of a desk: one request over a connection, and the desk's answer.
 //!
 //! [`exchange`] writes the frame of a request and reads the frame that answers it; [`reply_text`]
-//! is the answer as the program prints it.
+//! is the answer as the program prints it; [`sheet_version`] is the version of the wire that has
+//! the sheets of an event.
 #![tactic(auto)]
 
 mod exchanging;
@@ -9,8 +10,10 @@ mod fault;
 mod hearing;
 mod judging;
 mod printing;
+mod versions;
 
 pub use exchanging::exchange;
 pub use fault::{ClientFault, refusal_name};
 pub use judging::{answers, judged};
 pub use printing::reply_text;
+pub use versions::sheet_version;

@@ -1,12 +1,12 @@
 //! Answers as the program prints them.
 
 ghost use Rattle.std.specs.Prelude.{◌≡◌, ◌++◌, IfOk, OnOk, decimal};
-ghost use Rattle.client.specs.Printing.{answer_name, reply_text, standing_text};
+ghost use Rattle.client.specs.Printing.{answer_name, reply_text, state_text};
 
 use itoa::Buffer;
 use std::alloc::{AllocError, Global};
 use texts::Answer;
-use wire::{Standing, What};
+use wire::{CommandState, What};
 
 /// Adds a number in decimal.
 fn push_number(out: &mut Vec<u8>, number: u64) -> Result<(), AllocError>
@@ -27,19 +27,19 @@ fn answer_name(answer: Answer) -> &'static str
 }
 
 /// Adds what became of the command with an id, and a line feed.
-fn push_standing(out: &mut Vec<u8>, id: u64, standing: Standing) -> Result<(), AllocError>
-    ensures { OnOk result (out.new.items ≡ out.old.items ++ standing_text id standing) }
+fn push_state(out: &mut Vec<u8>, id: u64, state: CommandState) -> Result<(), AllocError>
+    ensures { OnOk result (out.new.items ≡ out.old.items ++ state_text id state) }
 {
-    match standing {
-        Standing::Unknown => {
+    match state {
+        CommandState::Unknown => {
             out.extend_from_slice(b"unknown ")?;
             push_number(out, id)?;
         }
-        Standing::Pending => {
+        CommandState::Pending => {
             out.extend_from_slice(b"pending ")?;
             push_number(out, id)?;
         }
-        Standing::Done { pos, answer } => {
+        CommandState::Done { pos, answer } => {
             out.extend_from_slice(b"done ")?;
             push_number(out, id)?;
             out.extend_from_slice(b" ")?;
@@ -65,9 +65,9 @@ pub fn reply_text(alloc: Global, answer: What) -> Result<Vec<u8>, AllocError>
             out.extend_from_slice(b"\n")?;
             Ok(out)
         }
-        What::Told { id, standing } => {
+        What::Told { id, state } => {
             let mut out = Vec::new(alloc);
-            push_standing(&mut out, id, standing)?;
+            push_state(&mut out, id, state)?;
             Ok(out)
         }
         What::Fine => Vec::from_slice(alloc, b"ok\n"),

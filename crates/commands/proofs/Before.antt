@@ -1,5 +1,8 @@
 -- Without `EDITION 2` everything is as edition 1 had it.
-use Rattle.std.proofs.Common.{◌≡◌, ℕ, zero, suc, ◌-◌, ◌≤◌, Bool, true, false, not, ◌==◌, ◌&&◌, cond, nat_lt, max, List, [], ◌∷◌, ◌++◌, map, fold, codes, Option, Some, None, option_map, option_to_list, is_some, unwrap_or, Result, Ok, Err, refl, sym, ap, ◌∙◌, subst, arith}
+use Rattle.std.proofs.Common.{◌≡◌, ℕ, zero, suc, ◌-◌, ◌≤◌, Bool, true, false, not, ◌==◌, ◌&&◌, cond}
+use Rattle.std.proofs.Common.{nat_lt, max, List, [], ◌∷◌, ◌++◌, map, fold, codes, Option, Some}
+use Rattle.std.proofs.Common.{None, option_map, option_to_list, is_some, unwrap_or, Result, Ok, Err}
+use Rattle.std.proofs.Common.{refl, sym, ap, ◌∙◌, subst, arith}
 use Rattle.std.specs.List.{AllByRecursion, list_any, range_with_len}
 use Rattle.std.specs.Option.{option_or}
 use Rattle.std.proofs.Math.Nat.{le-max_left, le-max_right}
@@ -11,13 +14,18 @@ use Rattle.attempts.specs.declared.Value.{Value}
 use Rattle.attempts.specs.declared.Unit.{Unit as Measure}
 use Rattle.attempts.specs.declared.Unit.TheVariants as measure
 use Rattle.formats.specs.declared.events.Event.{Event}
-use Rattle.formats.specs.declared.events.Event.TheVariants.{Cube3, Cube2, Cube4, Cube5, Cube6, Cube7, Blind3, FewestMoves, OneHanded, Clock, Megaminx, Pyraminx, Skewb, Square1, Blind4, Blind5, MultiBlind}
+use Rattle.formats.specs.declared.events.Event.TheVariants.{Cube3, Cube2, Cube4, Cube5, Cube6}
+use Rattle.formats.specs.declared.events.Event.TheVariants.{Cube7, Blind3, FewestMoves, OneHanded}
+use Rattle.formats.specs.declared.events.Event.TheVariants.{Clock, Megaminx, Pyraminx, Skewb}
+use Rattle.formats.specs.declared.events.Event.TheVariants.{Square1, Blind4, Blind5, MultiBlind}
 use Rattle.formats.specs.declared.events.Format.{Format}
 use Rattle.formats.specs.Events.{same_event, unit_of, is_allowed, event_edition, attempts_of}
 use Rattle.texts.specs.declared.answer.Code.{Code}
 use Rattle.texts.specs.declared.answer.Code.TheVariants as code
 use Rattle.texts.specs.declared.command.Command.{Command}
-use Rattle.texts.specs.declared.command.Command.TheVariants.{Register, Open, Enter, Scramble, Attempt, Correct, Strike, SetAdvance, Close, SetEdition}
+use Rattle.texts.specs.declared.command.Command.TheVariants.{Register, Open, Enter, Scramble}
+use Rattle.texts.specs.declared.command.Command.TheVariants.{Attempt, Correct, Strike, SetAdvance}
+use Rattle.texts.specs.declared.command.Command.TheVariants.{Close, SetEdition}
 use Rattle.texts.specs.declared.command.Entered.{Entered}
 use Rattle.texts.specs.declared.command.Entered.TheVariants as entered
 use Rattle.texts.specs.declared.command.Settings.{Settings}
@@ -28,8 +36,19 @@ use Rattle.texts.specs.Reading.{command_of}
 use Rattle.texts.specs.FirstEdition.{command_of as first_command_of}
 use Rattle.texts.proofs.ReadBefore.{reads_as_before, edition_spelled}
 use Rattle.rounds.specs.Tables.{Entrant, Table, replaced, correct_fault, close_fault}
-use Rattle.commands.specs.Accepted.{scramble_by, is_registered, Opened, opened, opening, scrambling, scramble_of, first_of, settled, one_value, values_after, entering, entrant_after, entrants_after, closing, settings_now, table_of, round_at, who_advance, round_in, round_of, edition_set, edition_after, edition_in, enter_refusal, is_moves, is_multi, is_wrong, lacks_scramble, scramble_refusal, unfit_refusal, entered_refusal, put_refusal, correct_code, correct_refusal, strike_refusal, advance_refusal, is_final, leads_on, has_too_few, end_refusal, close_refusal, is_cutoff, is_limit, refusal}
-use Rattle.commands.specs.History.{History, nothing, answer_of, is_seen, added, spelled_refusal, read_refusal, added_read, entry_refusal, answer_to, after, history}
+use Rattle.commands.specs.Accepted.{scramble_by, is_registered, Opened, opened, opening, scrambling}
+use Rattle.commands.specs.Accepted.{scramble_of, first_of, settled, one_value, values_after}
+use Rattle.commands.specs.Accepted.{entering, entrant_after, entrants_after, closing, settings_now}
+use Rattle.commands.specs.Accepted.{table_of, round_at, who_advance, round_in, round_of}
+use Rattle.commands.specs.Accepted.{edition_set, edition_after, edition_in, enter_refusal, is_moves}
+use Rattle.commands.specs.Accepted.{is_multi, is_wrong, lacks_scramble, scramble_refusal}
+use Rattle.commands.specs.Accepted.{unfit_refusal, entered_refusal, put_refusal, correct_code}
+use Rattle.commands.specs.Accepted.{correct_refusal, strike_refusal, advance_refusal, is_final}
+use Rattle.commands.specs.Accepted.{leads_on, has_too_few, end_refusal, close_refusal, is_cutoff}
+use Rattle.commands.specs.Accepted.{is_limit, refusal}
+use Rattle.commands.specs.History.{History, nothing, answer_of, is_seen, added, spelled_refusal}
+use Rattle.commands.specs.History.{read_refusal, added_read, entry_refusal, answer_to, after}
+use Rattle.commands.specs.History.{history}
 use Rattle.commands.specs.FirstEdition as first
 use Rattle.commands.specs.EditionLaws.{IsWithoutSecond, AnswersAsBefore}
 use Rattle.commands.proofs.OneMore.{with_table}

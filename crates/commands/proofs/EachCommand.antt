@@ -1,5 +1,8 @@
 -- What each command makes of a round, as the accepted commands have it.
-use Rattle.std.proofs.Common.{◌≡◌, ℕ, zero, suc, ◌-◌, ◌≤◌, Bool, true, false, ◌&&◌, ◌||◌, ◌==◌, cond, unwrap_or, List, [], ◌∷◌, ◌++◌, map, Option, Some, None, option_map, option_to_list, refl, ap, ◌∙◌, sym, append-nil, arith, eqb-true}
+use Rattle.std.proofs.Common.{◌≡◌, ℕ, zero, suc, ◌-◌, ◌≤◌, Bool, true, false, ◌&&◌, ◌||◌, ◌==◌}
+use Rattle.std.proofs.Common.{cond, unwrap_or, List, [], ◌∷◌, ◌++◌, map, Option, Some, None}
+use Rattle.std.proofs.Common.{option_map, option_to_list, refl, ap, ◌∙◌, sym, append-nil, arith}
+use Rattle.std.proofs.Common.{eqb-true}
 use Rattle.std.specs.Option.{option_or, option_and_then}
 use Rattle.std.proofs.lemmas.Bool.Decides.{nat_tests}
 use Rattle.cube.specs.declared.moves.Move.{Move}
@@ -8,15 +11,24 @@ use Rattle.formats.specs.declared.events.Event.{Event}
 use Rattle.formats.specs.Events.{same_event}
 use Rattle.formats.proofs.SameEvent.{same_event-equal}
 use Rattle.texts.specs.declared.command.Command.{Command}
-use Rattle.texts.specs.declared.command.Command.TheVariants.{Register, Open, Enter, Scramble, Attempt, Correct, Strike, SetAdvance, Close, SetEdition}
+use Rattle.texts.specs.declared.command.Command.TheVariants.{Register, Open, Enter, Scramble}
+use Rattle.texts.specs.declared.command.Command.TheVariants.{Attempt, Correct, Strike, SetAdvance}
+use Rattle.texts.specs.declared.command.Command.TheVariants.{Close, SetEdition}
 use Rattle.texts.specs.declared.command.Entered.{Entered}
 use Rattle.texts.specs.declared.command.Settings.{Settings}
 use Rattle.texts.specs.Fields.{round_id, attempt_entry}
 use Rattle.rounds.specs.Tables.{Entrant, Table, replaced, without_last}
 use Rattle.formats.specs.declared.advance.Advance.{Advance}
-use Rattle.commands.specs.model.Kept.{with_attempt, with_correction, with_strike, with_advance, with_end, with_entry, newcomer, with_newcomers}
-use Rattle.commands.specs.Accepted.{Opened, opened, opening, scramble_since, scramble_of, settled, entering, closing, advance_given, settings_now, table_of, round_at, who_advance, round_in, round_of}
-use Rattle.commands.proofs.OneMore.{plus_command, just_opened, opened_push, one_more, new_table, with_entrants, with_table, entrants_with, with_parts, advance_of, is_ended, or_false, or_true, round_more, round_with, map_same, map_alike, KeepsValues, same_entrants, still, round_changed}
+use Rattle.commands.specs.model.Kept.{with_attempt, with_correction, with_strike, with_advance}
+use Rattle.commands.specs.model.Kept.{with_end, with_entry, newcomer, with_newcomers}
+use Rattle.commands.specs.Accepted.{Opened, opened, opening, scramble_since, scramble_of, settled}
+use Rattle.commands.specs.Accepted.{entering, closing, advance_given, settings_now, table_of}
+use Rattle.commands.specs.Accepted.{round_at, who_advance, round_in, round_of}
+use Rattle.commands.proofs.OneMore.{plus_command, just_opened, opened_push, one_more, new_table}
+use Rattle.commands.proofs.OneMore.{with_entrants, with_table, entrants_with, with_parts}
+use Rattle.commands.proofs.OneMore.{advance_of, is_ended, or_false, or_true, round_more, round_with}
+use Rattle.commands.proofs.OneMore.{map_same, map_alike, KeepsValues, same_entrants, still}
+use Rattle.commands.proofs.OneMore.{round_changed}
 
 -- a change of the values of one number
 abbrev pub change_of : ℕ → (List Value → List Value) → Entrant → Entrant

@@ -1,5 +1,6 @@
 -- The edition that holds behind one more command.
-use Rattle.std.proofs.Common.{◌≡◌, ℕ, List, [], ◌∷◌, ◌++◌, unwrap_or, refl, ap, ◌∙◌, sym, append-nil, subst}
+use Rattle.std.proofs.Common.{◌≡◌, ℕ, List, [], ◌∷◌, ◌++◌, unwrap_or, refl, ap, ◌∙◌, sym}
+use Rattle.std.proofs.Common.{append-nil, subst}
 use Rattle.texts.specs.declared.command.Command.{Command}
 use Rattle.commands.specs.Accepted.{edition_set, edition_after, edition_in}
 use Rattle.commands.specs.declared.index.Index.{Index}

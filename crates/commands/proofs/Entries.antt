@@ -1,9 +1,11 @@
 -- What one more entry makes of a history.
-use Rattle.std.proofs.Common.{◌≡◌, ℕ, Bool, true, false, cond, ◌||◌, ◌==◌, List, [], ◌∷◌, ◌++◌, fold, refl, sym, ap, ◌∙◌, eqb-true}
+use Rattle.std.proofs.Common.{◌≡◌, ℕ, Bool, true, false, cond, ◌||◌, ◌==◌, List, [], ◌∷◌, ◌++◌}
+use Rattle.std.proofs.Common.{fold, refl, sym, ap, ◌∙◌, eqb-true}
 use Rattle.std.specs.List.{list_any}
 use Rattle.std.proofs.lemmas.List.Folds.{list_any-append}
 use Rattle.std.proofs.lemmas.List.Sums.{fold-append}
-use Rattle.commands.specs.History.{History, nothing, added_read, is_seen, answer_of, answer_to, entry_refusal, read_refusal, after, history, StandsFor}
+use Rattle.commands.specs.History.{History, nothing, added_read, is_seen, answer_of, answer_to}
+use Rattle.commands.specs.History.{entry_refusal, read_refusal, after, history, StandsFor}
 use Rattle.texts.specs.declared.command.Command.{Command}
 use Rattle.texts.specs.Reading.{command_of}
 

@@ -1,5 +1,8 @@
 -- What one more command makes of the index of the accepted commands.
-use Rattle.std.proofs.Common.{◌≡◌, ◌≤◌, ◌+◌, ◌-◌, ℕ, zero, suc, Bool, true, false, not, cond, ◌&&◌, ◌==◌, List, [], ◌∷◌, ◌++◌, length, Option, Some, None, is_some, option_map, IfNone, OnSome, Result, Ok, Err, IfOk, refl, ap, ◌∙◌, sym, append-nil, arith, eqb-true}
+use Rattle.std.proofs.Common.{◌≡◌, ◌≤◌, ◌+◌, ◌-◌, ℕ, zero, suc, Bool, true, false, not, cond, ◌&&◌}
+use Rattle.std.proofs.Common.{◌==◌, List, [], ◌∷◌, ◌++◌, length, Option, Some, None, is_some}
+use Rattle.std.proofs.Common.{option_map, IfNone, OnSome, Result, Ok, Err, IfOk, refl, ap, ◌∙◌, sym}
+use Rattle.std.proofs.Common.{append-nil, arith, eqb-true}
 use Rattle.std.specs.Prelude.{nat_lt}
 use Rattle.std.specs.List.{list_any, range_with_len}
 use Rattle.std.specs.declared.alloc.AllocError.{AllocError}
@@ -13,7 +16,9 @@ use Rattle.formats.proofs.SameEvent.{same_event-equal}
 use Rattle.texts.specs.declared.answer.Code.{Code}
 use Rattle.texts.specs.declared.answer.Code.TheVariants as code
 use Rattle.texts.specs.declared.command.Command.{Command}
-use Rattle.texts.specs.declared.command.Command.TheVariants.{Register, Open, Enter, Scramble, Attempt, Correct, Strike, SetAdvance, Close, SetEdition}
+use Rattle.texts.specs.declared.command.Command.TheVariants.{Register, Open, Enter, Scramble}
+use Rattle.texts.specs.declared.command.Command.TheVariants.{Attempt, Correct, Strike, SetAdvance}
+use Rattle.texts.specs.declared.command.Command.TheVariants.{Close, SetEdition}
 use Rattle.texts.specs.declared.command.Entered.{Entered}
 use Rattle.texts.specs.declared.command.Settings.{Settings}
 use Rattle.texts.specs.Fields.{round_id, attempt_entry}
@@ -22,11 +27,18 @@ use Rattle.commands.specs.declared.index.Index.{Index}
 use Rattle.rounds.specs.Tables.{Table, close_fault}
 use Rattle.formats.specs.declared.advance.Advance.{Advance}
 use Rattle.advancement.specs.Advancing.{later_rounds}
-use Rattle.commands.specs.Accepted.{name_given, scrambling, scramble_of, is_moves, scramble_refusal, is_final, competitors_of, has_too_few, end_refusal, close_refusal, who_advance, round_in, round_of}
+use Rattle.commands.specs.Accepted.{name_given, scrambling, scramble_of, is_moves, scramble_refusal}
+use Rattle.commands.specs.Accepted.{is_final, competitors_of, has_too_few, end_refusal}
+use Rattle.commands.specs.Accepted.{close_refusal, who_advance, round_in, round_of}
 use Rattle.commands.specs.History.{added}
-use Rattle.commands.specs.model.Kept.{has_name, scramble_at, kept_round, kept_scramble, AreCompetitors, AreRounds, IsIndexOf, ChangesRound, AddsRound, AddsScramble, with_attempt, with_correction, with_strike, with_advance, with_end, with_entry, with_newcomers}
+use Rattle.commands.specs.model.Kept.{has_name, scramble_at, kept_round, kept_scramble}
+use Rattle.commands.specs.model.Kept.{AreCompetitors, AreRounds, IsIndexOf, ChangesRound, AddsRound}
+use Rattle.commands.specs.model.Kept.{AddsScramble, with_attempt, with_correction, with_strike}
+use Rattle.commands.specs.model.Kept.{with_advance, with_end, with_entry, with_newcomers}
 use Rattle.commands.proofs.Lookups.{at_end, found_push}
-use Rattle.commands.proofs.EachCommand.{round_attempt, round_correct, round_strike, round_advance, round_close, round_enter, round_register, round_scramble, round_open, round_edition}
+use Rattle.commands.proofs.EachCommand.{round_attempt, round_correct, round_strike, round_advance}
+use Rattle.commands.proofs.EachCommand.{round_close, round_enter, round_register, round_scramble}
+use Rattle.commands.proofs.EachCommand.{round_open, round_edition}
 use Rattle.commands.proofs.OneMore.{new_table, with_table, scramble_kept, scramble_new}
 use Rattle.commands.proofs.Registrations.{AreCompetitors-other}
 
@@ -358,7 +370,7 @@ scrambled cs e r k moves (Some code) old new is low allowed same done unchanged 
 }
 
 -- a setting of the edition, which the index does not note
-edition_noted : (cs : List Command) (edition : ℕ) (refused : Option Code) (index : Index)
+pub edition_noted : (cs : List Command) (edition : ℕ) (refused : Option Code) (index : Index)
     → IsIndexOf cs index → IsIndexOf (cs ++ added refused (SetEdition edition)) index
 edition_noted cs edition None index is = record {
   competitors =
@@ -374,15 +386,10 @@ edition_noted cs edition (Some code) index is = record {
   rounds = rw (append-nil cs) is.rounds;
 }
 
-pub edition_set : (cs : List Command) (edition : ℕ) (index : Index) → IsIndexOf cs index
-    → IsIndexOf (cs ++ SetEdition edition ∷ []) index
-edition_set cs edition index is = edition_noted cs edition None index is
-
-pub edition_refused : (cs : List Command) (index : Index) → IsIndexOf cs index
+-- a refused command, which nothing notes
+pub nothing_added : (cs : List Command) (index : Index) → IsIndexOf cs index
     → IsIndexOf (cs ++ []) index
-edition_refused cs index is = edition_noted cs 0 (Some code.Already) index is
-
-pub ruleset editions = (edition_set, edition_refused, nat_tests)
+nothing_added cs index is = edition_noted cs 0 (Some code.Already) index is
 
 -- the same of an answer that want of memory may take the place of
 pub registered : (cs : List Command) (n : ℕ) (name : List ℕ)

@@ -1,5 +1,8 @@
 -- The kept rounds and competitors, and what one more command makes of them.
-use Rattle.std.proofs.Common.{◌≡◌, ℕ, ◌<◌, Bool, true, false, ◌&&◌, ◌==◌, cond, is_some, zero, suc, ◌-◌, ◌≤◌, ◌≢◌, List, [], ◌∷◌, ◌++◌, length, set, get_or, find, position, slice_get, Option, Some, None, option_map, MatchOption, refl, sym, ap, ◌∙◌, arith, eqb-true}
+use Rattle.std.proofs.Common.{◌≡◌, ℕ, ◌<◌, Bool, true, false, ◌&&◌, ◌==◌, cond, is_some, zero, suc}
+use Rattle.std.proofs.Common.{◌-◌, ◌≤◌, ◌≢◌, List, [], ◌∷◌, ◌++◌, length, set, get_or, find}
+use Rattle.std.proofs.Common.{position, slice_get, Option, Some, None, option_map, MatchOption}
+use Rattle.std.proofs.Common.{refl, sym, ap, ◌∙◌, arith, eqb-true}
 use Rattle.std.specs.List.{position_or_len}
 use Rattle.std.specs.Option.{option_or, option_and_then}
 use Rattle.std.proofs.lemmas.List.Folds.{find-set, find_past, find-append}
@@ -16,7 +19,8 @@ use Rattle.texts.specs.declared.command.Settings.{Settings}
 use Rattle.commands.specs.Accepted.{unfit_refusal, entered_refusal}
 use Rattle.commands.specs.declared.kept_rounds.KeptRound.{KeptRound}
 use Rattle.rounds.specs.Tables.{Table}
-use Rattle.commands.specs.model.Kept.{is_round, kept_value, kept_round, place_in, kept_scramble, IsKeptAt, ChangesRound, AddsRound, AddsScramble}
+use Rattle.commands.specs.model.Kept.{is_round, kept_value, kept_round, place_in, kept_scramble}
+use Rattle.commands.specs.model.Kept.{IsKeptAt, ChangesRound, AddsRound, AddsScramble}
 use Rattle.commands.proofs.Places.{IsFound, found_at}
 
 -- a round is the same for events of one number
@@ -77,6 +81,7 @@ kept_at e r xs = tell (position p xs) (found_at p xs)
         record {
           within = within;
           there = ap (λ o. is_some (option_map kept_value o)) h.found;
+          found = λ d. rw (same d) h.found;
           kept = λ d. rw (same d) (ap (option_map kept_value) h.found);
           places = λ d k. rw (same d) (ap (option_and_then (place_in k)) h.found);
           changed =

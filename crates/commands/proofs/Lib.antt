@@ -1,3 +1,4 @@
+pub mod Arms
 pub mod Before
 pub mod EachCommand
 pub mod Editions
@@ -9,5 +10,6 @@ pub mod Newcomers
 pub mod OneMore
 pub mod Places
 pub mod Registrations
+pub mod SettledLemmas
 pub mod Sizes
 pub mod Units

@@ -1,5 +1,6 @@
 -- Looking up what the first command to say something says, after one more command.
-use Rattle.std.proofs.Common.{◌≡◌, ℕ, zero, suc, List, [], ◌∷◌, ◌++◌, length, slice_get, Option, Some, None, ap, ◌∙◌, refl}
+use Rattle.std.proofs.Common.{◌≡◌, ℕ, zero, suc, List, [], ◌∷◌, ◌++◌, length, slice_get, Option}
+use Rattle.std.proofs.Common.{Some, None, ap, ◌∙◌, refl}
 use Rattle.std.specs.Option.{option_or, option_and_then}
 use Rattle.texts.specs.declared.command.Command.{Command}
 use Rattle.commands.specs.Accepted.{first_of}

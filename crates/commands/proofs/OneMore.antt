@@ -1,5 +1,7 @@
 -- What one more command makes of a list of accepted commands.
-use Rattle.std.proofs.Common.{◌≡◌, ℕ, zero, suc, Bool, true, false, ◌||◌, cond, unwrap_or, List, [], ◌∷◌, ◌++◌, map, Option, Some, None, option_map, option_to_list, is_some, refl, ap, ◌∙◌, sym, append_assoc, append-nil}
+use Rattle.std.proofs.Common.{◌≡◌, ℕ, zero, suc, Bool, true, false, ◌||◌, cond, unwrap_or, List, []}
+use Rattle.std.proofs.Common.{◌∷◌, ◌++◌, map, Option, Some, None, option_map, option_to_list}
+use Rattle.std.proofs.Common.{is_some, refl, ap, ◌∙◌, sym, append_assoc, append-nil}
 use Rattle.std.specs.Option.{option_or, option_and_then}
 use Rattle.std.specs.List.{list_any}
 use Rattle.std.proofs.lemmas.Bool.{false≢true}
@@ -14,7 +16,11 @@ use Rattle.texts.specs.declared.command.Settings.{Settings}
 use Rattle.rounds.specs.Tables.{Entrant, Table, empty_table}
 use Rattle.formats.specs.declared.advance.Advance.{Advance}
 use Rattle.commands.specs.model.Kept.{newcomer}
-use Rattle.commands.specs.Accepted.{Opened, opened, opening, scrambling, scramble_since, scramble_of, entering, one_value, values_after, entrant_after, entrants_after, closing, advance_given, advance_after, settings_now, table_of, round_at, who_advance, round_in, round_of}
+use Rattle.commands.specs.Accepted.{Opened, opened, opening, scrambling, scramble_since}
+use Rattle.commands.specs.Accepted.{scramble_of, entering, one_value, values_after, entrant_after}
+use Rattle.commands.specs.Accepted.{entrants_after, closing, advance_given, advance_after}
+use Rattle.commands.specs.Accepted.{settings_now, table_of, round_at, who_advance, round_in}
+use Rattle.commands.specs.Accepted.{round_of}
 use Rattle.commands.proofs.Lookups.{or_none, first_push}
 
 -- a round with one more command since its opening

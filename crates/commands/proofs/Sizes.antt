@@ -1,6 +1,10 @@
 -- What every list of accepted commands keeps to: names and numbers in their ranges, and at most 999
 -- entrants in a round.
-use Rattle.std.proofs.Common.{◌≡◌, ℕ, zero, suc, ◌+◌, ◌-◌, ◌*◌, ◌/◌, ◌<◌, ◌≤◌, Bool, true, false, ◌&&◌, ◌==◌, not, cond, nat_le, nat_lt, List, [], ◌∷◌, ◌++◌, length, take, set, map, filter, flat_map, fold, Option, Some, None, IfSome, option_map, is_some, Result, Ok, Err, IfOk, refl, sym, ap, ◌∙◌, subst, arith, append-nil, length-append, eqb-true}
+use Rattle.std.proofs.Common.{◌≡◌, ℕ, zero, suc, ◌+◌, ◌-◌, ◌*◌, ◌/◌, ◌<◌, ◌≤◌, Bool, true, false}
+use Rattle.std.proofs.Common.{◌&&◌, ◌==◌, not, cond, nat_le, nat_lt, List, [], ◌∷◌, ◌++◌, length}
+use Rattle.std.proofs.Common.{take, set, map, filter, flat_map, fold, Option, Some, None, IfSome}
+use Rattle.std.proofs.Common.{option_map, is_some, Result, Ok, Err, IfOk, refl, sym, ap, ◌∙◌, subst}
+use Rattle.std.proofs.Common.{arith, append-nil, length-append, eqb-true}
 use Rattle.std.specs.List.{range_with_len, AllByRecursion, list_any}
 use Rattle.std.specs.Option.{option_or, option_and_then}
 use Rattle.std.proofs.lemmas.Bool.{false≢true}
@@ -14,19 +18,23 @@ use Rattle.attempts.specs.declared.Fm.TheVariants as fm
 use Rattle.fmc_check.specs.Fewest.{is_solution, result_of}
 use Rattle.attempts.specs.declared.Value.{Value}
 use Rattle.attempts.specs.declared.Value.TheVariants as value
-use Rattle.attempts.specs.Attempts.{rounded, reaches, solution_value, multi_number, is_multi_finished, IsInRangeOf}
+use Rattle.attempts.specs.Attempts.{rounded, reaches, solution_value, multi_number}
+use Rattle.attempts.specs.Attempts.{is_multi_finished, IsInRangeOf}
 use Rattle.attempts.specs.declared.Unit.TheVariants as measure
 use Rattle.formats.specs.declared.events.Event.{Event}
 use Rattle.formats.specs.Events.{same_event}
 use Rattle.formats.proofs.SameEvent.{same_event-equal}
-use Rattle.rounds.specs.Tables.{Entrant, Table, has_number, enter_fault, plus_value, with_replaced, less_last, number_of_entrant, place, standings}
-use Rattle.rounds.specs.declared.faults.EnterFault.TheVariants as enter
+use Rattle.rounds.specs.Tables.{Entrant, Table, has_number, enter_fault, plus_value, with_replaced}
+use Rattle.rounds.specs.Tables.{less_last, number_of_entrant, place, standings}
+use Rattle.rounds.specs.declared.fault.EnterFault.TheVariants as enter
 use Rattle.formats.specs.declared.advance.Advance.{Advance}
 use Rattle.advancement.specs.Advancing.{goes_on}
 use Rattle.texts.specs.declared.answer.Code.{Code}
 use Rattle.texts.specs.declared.answer.Code.TheVariants as code
 use Rattle.texts.specs.declared.command.Command.{Command}
-use Rattle.texts.specs.declared.command.Command.TheVariants.{Register, Open, Enter, Scramble, Attempt, Correct, Strike, SetAdvance, Close, SetEdition}
+use Rattle.texts.specs.declared.command.Command.TheVariants.{Register, Open, Enter, Scramble}
+use Rattle.texts.specs.declared.command.Command.TheVariants.{Attempt, Correct, Strike, SetAdvance}
+use Rattle.texts.specs.declared.command.Command.TheVariants.{Close, SetEdition}
 use Rattle.texts.specs.declared.command.Entered.{Entered}
 use Rattle.texts.specs.declared.command.Entered.TheVariants as entered
 use Rattle.texts.specs.declared.command.Settings.{Settings}
@@ -34,12 +42,18 @@ use Rattle.texts.specs.declared.reading.CommandFault.{CommandFault}
 use Rattle.texts.specs.Spelling.{IsFit, IsFitSettings, IsFitAdvance, IsEntered}
 use Rattle.texts.specs.Reading.{command_of}
 use Rattle.texts.specs.Editions.{edition_of}
-use Rattle.commands.specs.Accepted.{is_of, scramble_by, name_given, name_of, is_registered, settled, edition_in, who_advance, round_in, round_of, refusal, enter_code, enter_refusal}
-use Rattle.commands.specs.model.Kept.{with_attempt, with_correction, with_strike, with_advance, with_end, with_entry, newcomer}
-use Rattle.commands.specs.History.{History, nothing, is_seen, added_read, spelled_refusal, read_refusal, after, history}
+use Rattle.commands.specs.Accepted.{is_of, scramble_by, name_given, name_of, is_registered, settled}
+use Rattle.commands.specs.Accepted.{edition_in, who_advance, round_in, round_of, refusal}
+use Rattle.commands.specs.Accepted.{enter_code, enter_refusal}
+use Rattle.commands.specs.model.Kept.{with_attempt, with_correction, with_strike, with_advance}
+use Rattle.commands.specs.model.Kept.{with_end, with_entry, newcomer}
+use Rattle.commands.specs.History.{History, nothing, is_seen, added_read, spelled_refusal}
+use Rattle.commands.specs.History.{read_refusal, after, history}
 use Rattle.commands.proofs.Lookups.{first_push}
 use Rattle.texts.proofs.FieldSpellings.{name_short}
-use Rattle.commands.proofs.EachCommand.{opening_table, round_open, round_enter, round_scramble, round_attempt, round_correct, round_strike, round_advance, round_close, round_register, round_edition}
+use Rattle.commands.proofs.EachCommand.{opening_table, round_open, round_enter, round_scramble}
+use Rattle.commands.proofs.EachCommand.{round_attempt, round_correct, round_strike, round_advance}
+use Rattle.commands.proofs.EachCommand.{round_close, round_register, round_edition}
 use Rattle.commands.proofs.OneMore.{with_table}
 use Rattle.texts.proofs.Words.{spelled_only}
 
@@ -62,7 +76,7 @@ pub record IsSmall (cs : List Command) : Type 0 where
 
 -- Lists
 
-all_append : {X : Type 0} (P : X → Type 0) (xs ys : List X) → AllByRecursion P xs
+pub all_append : {X : Type 0} (P : X → Type 0) (xs ys : List X) → AllByRecursion P xs
     → AllByRecursion P ys → AllByRecursion P (xs ++ ys)
 all_append P [] ys h k = k
 all_append P (x ∷ xs) ys h k = (h.0, all_append P xs ys h.1 k)
@@ -84,7 +98,7 @@ all_set P [] i y h is = h
 all_set P (x ∷ xs) zero y h is = (is, h.1)
 all_set P (x ∷ xs) (suc i) y h is = (h.0, all_set P xs i y h.1 is)
 
-all_filter : {X : Type 0} (P : X → Type 0) (p : X → Bool) (xs : List X) → AllByRecursion P xs
+pub all_filter : {X : Type 0} (P : X → Type 0) (p : X → Bool) (xs : List X) → AllByRecursion P xs
     → AllByRecursion P (filter p xs)
 all_filter P p [] h = tt
 all_filter {X} P p (x ∷ xs) h = step (p x) (all_filter P p xs h.1)
@@ -94,7 +108,8 @@ all_filter {X} P p (x ∷ xs) h = step (p x) (all_filter P p xs h.1)
     step true rest = (h.0, rest)
     step false rest = rest
 
-all_flat_map : {X Y : Type 0} (P : Y → Type 0) (f : X → List Y) → ((x : X) → AllByRecursion P (f x))
+pub all_flat_map : {X Y : Type 0} (P : Y → Type 0) (f : X → List Y)
+    → ((x : X) → AllByRecursion P (f x))
     → (xs : List X) → AllByRecursion P (flat_map f xs)
 all_flat_map P f each [] = tt
 all_flat_map P f each (x ∷ xs) =

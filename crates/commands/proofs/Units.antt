@@ -1,5 +1,6 @@
 -- What is entered in a round is of the unit of its event.
-use Rattle.std.proofs.Common.{◌≡◌, ℕ, zero, suc, Bool, true, false, not, cond, List, [], Option, Some, None, option_map, is_some, refl, sym, ap, subst}
+use Rattle.std.proofs.Common.{◌≡◌, ℕ, zero, suc, Bool, true, false, not, cond, List, [], Option}
+use Rattle.std.proofs.Common.{Some, None, option_map, is_some, refl, sym, ap, subst}
 use Rattle.std.proofs.lemmas.Bool.{false≢true}
 use Rattle.cube.specs.declared.moves.Move.{Move}
 use Rattle.attempts.specs.declared.Outcome.{Outcome}
@@ -13,7 +14,8 @@ use Rattle.texts.specs.declared.command.Command.{Command}
 use Rattle.texts.specs.declared.command.Entered.{Entered}
 use Rattle.texts.specs.declared.command.Settings.{Settings}
 use Rattle.rounds.specs.Tables.{Table}
-use Rattle.commands.specs.Accepted.{Opened, opened, round_at, who_advance, round_in, round_of, is_multi, is_wrong, lacks_scramble, unfit_refusal}
+use Rattle.commands.specs.Accepted.{Opened, opened, round_at, who_advance, round_in, round_of}
+use Rattle.commands.specs.Accepted.{is_multi, is_wrong, lacks_scramble, unfit_refusal}
 use Rattle.commands.specs.declared.index.Index.{Index}
 use Rattle.commands.specs.model.Kept.{kept_round, IsIndexOf, HasUnit}
 

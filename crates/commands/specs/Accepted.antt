@@ -28,16 +28,16 @@ use Rattle.texts.specs.declared.command.Entered.TheVariants as entered
 use Rattle.texts.specs.declared.command.Settings.{Settings}
 use Rattle.texts.specs.declared.answer.Code.{Code}
 use Rattle.texts.specs.declared.answer.Code.TheVariants as code
-use Rattle.rounds.specs.declared.faults.EnterFault.{EnterFault}
-use Rattle.rounds.specs.declared.faults.EnterFault.TheVariants as enter
-use Rattle.rounds.specs.declared.faults.PutFault.{PutFault}
-use Rattle.rounds.specs.declared.faults.PutFault.TheVariants as put
-use Rattle.rounds.specs.declared.faults.CorrectFault.{CorrectFault}
-use Rattle.rounds.specs.declared.faults.CorrectFault.TheVariants as correct
-use Rattle.rounds.specs.declared.faults.StrikeFault.{StrikeFault}
-use Rattle.rounds.specs.declared.faults.StrikeFault.TheVariants as strike
-use Rattle.rounds.specs.declared.faults.CloseFault.{CloseFault}
-use Rattle.rounds.specs.declared.faults.CloseFault.TheVariants as close
+use Rattle.rounds.specs.declared.fault.EnterFault.{EnterFault}
+use Rattle.rounds.specs.declared.fault.EnterFault.TheVariants as enter
+use Rattle.rounds.specs.declared.fault.PutFault.{PutFault}
+use Rattle.rounds.specs.declared.fault.PutFault.TheVariants as put
+use Rattle.rounds.specs.declared.fault.CorrectFault.{CorrectFault}
+use Rattle.rounds.specs.declared.fault.CorrectFault.TheVariants as correct
+use Rattle.rounds.specs.declared.fault.StrikeFault.{StrikeFault}
+use Rattle.rounds.specs.declared.fault.StrikeFault.TheVariants as strike
+use Rattle.rounds.specs.declared.fault.CloseFault.{CloseFault}
+use Rattle.rounds.specs.declared.fault.CloseFault.TheVariants as close
 use Rattle.rounds.specs.Tables.{Entrant, Table, enter_fault, put_fault, replaced, correct_fault}
 use Rattle.rounds.specs.Tables.{without_last, strike_fault, started, close_fault}
 use Rattle.formats.specs.declared.advance.Advance.{Advance}
@@ -284,25 +284,25 @@ abbrev pub enter_refusal : ℕ → Option (Settings × Table) → Option Code
 enter_refusal n None = Some code.RoundUnknown
 enter_refusal n (Some round) = option_and_then enter_code (enter_fault round.1 n)
 
--- timed events alone take times
+-- timed events alone accept times
 abbrev pub is_time : Measure → Bool
 is_time measure.Time = true
 is_time measure.Moves = false
 is_time measure.Multi = false
 
--- fewest moves alone takes scrambles and solutions
+-- fewest moves alone accepts scrambles and solutions
 abbrev pub is_moves : Measure → Bool
 is_moves measure.Moves = true
 is_moves measure.Time = false
 is_moves measure.Multi = false
 
--- multi-blind alone takes cubes
+-- multi-blind alone accepts cubes
 abbrev pub is_multi : Measure → Bool
 is_multi measure.Multi = true
 is_multi measure.Time = false
 is_multi measure.Moves = false
 
--- what was entered is none that an event takes: a time in fewest moves and multi-blind, a solution
+-- what was entered is not what an event accepts: a time in fewest moves and multi-blind, a solution
 -- but in fewest moves, cubes but in multi-blind
 abbrev pub is_wrong : Measure → Entered → Bool
 is_wrong unit (entered.Time time penalties) = not (is_time unit)

@@ -7,7 +7,7 @@ use Rattle.commands.specs.FirstEdition as first
 abbrev pub IsWithoutSecond : List (ℕ × List ℕ) → Type 0
 IsWithoutSecond entries = All (λ entry. ¬ (entry.1 ≡ codes "EDITION 2")) entries
 
--- behind entries without that text, an entry without it is answered as edition 1 answered it
+-- after entries without that text, an entry without it is answered as edition 1 answered it
 abbrev pub AnswersAsBefore : Type 0
 AnswersAsBefore =
     (entries : List (ℕ × List ℕ)) (id : ℕ) (text : List ℕ)

@@ -32,7 +32,7 @@ impl Model for AcceptedCommands {
     ghost invariant = { λ b. IsAccepted b.accepted.items b.index b.edition };
 }
 
-/// The edition that holds behind one more command.
+/// The edition that holds after one more command.
 fn edition_after(edition: u8, command: &Command) -> u8
     ensures { result ≡ unwrap_or (edition_set command.now) edition }
 {

@@ -73,7 +73,7 @@ impl Competitors {
         None
     }
 
-    /// Notes a registration that will stand behind the accepted commands.
+    /// Notes a registration that will stand after the accepted commands.
     fn add(
         &mut self,
         alloc: Global,

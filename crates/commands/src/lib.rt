@@ -3,12 +3,15 @@
 #![tactic(auto)]
 
 mod accepted;
+mod changes;
 mod codes;
 mod competitors;
 mod index;
 mod kept_rounds;
 mod meet;
+mod openings;
 mod outcomes;
+mod rounds_rule;
 
 pub use meet::{Meet, every_id_is_seen, first_edition_answers};
 pub use texts::{

@@ -133,7 +133,7 @@ pub fn every_id_is_seen()
     ensures { SeesEachId }
 {}
 
-/// A law: behind entries without the text `EDITION 2` an entry without it is answered as edition 1
+/// A law: after entries without the text `EDITION 2` an entry without it is answered as edition 1
 /// answered it, by that edition's own definitions.
 pub fn first_edition_answers()
     ensures { AnswersAsBefore }

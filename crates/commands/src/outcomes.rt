@@ -65,7 +65,7 @@ fn lacks_scramble(scramble: Option<&[Move]>, entered: &Entered) -> bool
     }
 }
 
-/// Why an event does not take what was entered, under the scramble that the attempt has.
+/// Why an event does not accept what was entered, under the scramble that the attempt has.
 pub(crate) fn refusal(event: Event, entered: &Entered, scramble: Option<&[Move]>) -> Option<Code>
     ensures { result
         ≡ unfit_refusal event (option_map (λ moves. moves.now) scramble.entry) entered.now }

@@ -1,11 +1,14 @@
 -- A move rearranges the stickers: a table for each move, checked by computation, and what follows
 -- from it.
-use Rattle.std.proofs.Common.{◌≡◌, ℕ, ◌+◌, ◌*◌, Bool, true, false, cond, ◌&&◌, eqb, nat_lt, List, [], ◌∷◌, map, length, get_or, refl, sym, ap, ◌∙◌, subst}
+use Rattle.std.proofs.Common.{◌≡◌, ℕ, ◌+◌, ◌*◌, Bool, true, false, cond, ◌&&◌, eqb, nat_lt, List}
+use Rattle.std.proofs.Common.{[], ◌∷◌, map, length, get_or, refl, sym, ap, ◌∙◌, subst}
 use Rattle.std.proofs.lemmas.Bool.{eqb-true, and_parts, ltb-true}
 use Rattle.std.proofs.lemmas.List.{get_or-map}
 use Rattle.std.proofs.lemmas.List.FromFn.{fill_by_all}
 use Rattle.std.proofs.lemmas.List.Sums.{AllPass-from_list_all}
-use Rattle.std.proofs.lemmas.List.Sorted.{IsPermutation-refl, IsPermutation-cons, IsPermutation-trans, IsPermutation-map, IsPermutation-middle, sum_by-IsPermutation}
+use Rattle.std.proofs.lemmas.List.Sorted.{IsPermutation-refl, IsPermutation-cons}
+use Rattle.std.proofs.lemmas.List.Sorted.{IsPermutation-trans, IsPermutation-map}
+use Rattle.std.proofs.lemmas.List.Sorted.{IsPermutation-middle, sum_by-IsPermutation}
 use Rattle.std.specs.List.{range_with_len, list_all}
 use Rattle.std.specs.List.Sorted.{IsPermutation}
 use Rattle.cube.specs.declared.moves.Side.TheVariants.{U, R, F, D, L, B}
@@ -18,7 +21,8 @@ use Rattle.cube.specs.declared.moves.Move.{Move}
 use Rattle.cube.specs.declared.moves.Colour.{Colour}
 use Rattle.cube.specs.declared.moves.Colour.TheVariants as colours
 use Rattle.cube.specs.Stickers.{Sticker, Minus, stickers, number, free, rank, sticker_on}
-use Rattle.cube.specs.Turns.{turned, moved, inverse, CarriesStickers, code, count_of, first_arrangement, HasNineOfEach}
+use Rattle.cube.specs.Turns.{turned, moved, inverse, CarriesStickers, code, count_of}
+use Rattle.cube.specs.Turns.{first_arrangement, HasNineOfEach}
 use Rattle.cube.proofs.Space.{cell, sticker_at, at_number, on_side, number_below}
 
 -- is a number in a list, and the list without it

@@ -1,8 +1,11 @@
 -- Each sticker has its number, and each number below 54 is that of a sticker.
-use Rattle.std.proofs.Common.{◌≡◌, ℕ, ◌+◌, ◌*◌, ◌<◌, ◌/◌, ◌%◌, zero, suc, get_or, refl, sym, ap, ◌∙◌, subst, arith, lit<, slice_get, Some}
+use Rattle.std.proofs.Common.{◌≡◌, ℕ, ◌+◌, ◌*◌, ◌<◌, ◌/◌, ◌%◌, zero, suc, get_or, refl, sym, ap}
+use Rattle.std.proofs.Common.{◌∙◌, subst, arith, lit<, slice_get, Some}
 use Rattle.cube.specs.declared.moves.Side.{Side}
 use Rattle.cube.specs.declared.moves.Side.TheVariants.{U, R, F, D, L, B}
-use Rattle.cube.specs.Stickers.{Coordinate, Minus, Zero, Plus, negative, Sticker, outward, StandsOn, IsSticker, sticker_on, stickers, rank, offset, side_of, free, number}
+use Rattle.cube.specs.Stickers.{Coordinate, Minus, Zero, Plus, negative, Sticker, outward, StandsOn}
+use Rattle.cube.specs.Stickers.{IsSticker, sticker_on, stickers, rank, offset, side_of, free}
+use Rattle.cube.specs.Stickers.{number}
 use Rattle.std.proofs.lemmas.Nat.{div-mul-add, div_below, div-add-mod'}
 use Rattle.std.proofs.Math.Nat.{mod-lt}
 use Rattle.std.proofs.lemmas.Option.{slice_get-get_or}

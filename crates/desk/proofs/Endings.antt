@@ -1,17 +1,10 @@
--- Only a run that was done has status 0, and what was written of an archive at a fault.
-use Rattle.std.proofs.Common.{◌≡◌, ℕ, List, Option, inl, inr, arith}
+-- What was written of an archive at a fault.
+use Rattle.std.proofs.Common.{ℕ, List, Option}
 use Rattle.desk.specs.Statuses.{PrintsAtMost}
-use Rattle.errands.specs.Statuses.{RunsNothing}
 use Rattle.sqlite.specs.Recovery.{Image}
 use Rattle.stored_log.specs.StoredLogs.{FailsLog, PrintsLogPart}
 use Rattle.stored_log.specs.declared.fault.LogFault.{LogFault}
 use Rattle.stored_log.specs.declared.fault.LogFault.TheVariants as stored
-
-pub nothing_not_zero : (status : ℕ) (old new : Option (List ℕ)) → RunsNothing status old new
-    → status ≡ 0 → ⊥
-nothing_not_zero status old new (inl h) zero = omega (arith, h.0, zero)
-nothing_not_zero status old new (inr (inl h)) zero = omega (arith, h.0, zero)
-nothing_not_zero status old new (inr (inr h)) zero = omega (arith, h.0, zero)
 
 pub prints_at_most : {K : Type 0} (e : LogFault) (IsHonest : K → Type 0) (files : Image)
     (old new : Option (List ℕ))

@@ -16,7 +16,7 @@ fn show_bytes(out: &mut Vec<u8>, name: &str, bytes: &[u8]) -> io::Result<()> {
     writeln!(out, "")
 }
 
-/// The digits of a stream, and whether a read behind its bytes fails.
+/// The digits of a stream, and whether a read after its bytes fails.
 fn digits_of(text: &str) -> (&str, bool) {
     match text.split_once('!') {
         Some((digits, _)) => (digits, true),

@@ -1,4 +1,4 @@
-//! What stands behind the whole frames of a stream, and how a connection ends there.
+//! What stands after the whole frames of a stream, and how a connection ends there.
 
 use crate::frames::{below, byte, draw, framed};
 use rand_xoshiro::SplitMix64;
@@ -29,7 +29,7 @@ fn put_cut(alloc: Global, rng: &mut SplitMix64, stream: &mut Vec<u8>) -> Result<
     Ok(End::End)
 }
 
-/// A length that no frame has, and bytes behind it.
+/// A length that no frame has, and bytes after it.
 fn put_length(rng: &mut SplitMix64, stream: &mut Vec<u8>, length: u32) -> Result<End, AllocError> {
     stream.extend_from_slice(&length.to_be_bytes())?;
     let count = below(rng, 40);
@@ -121,7 +121,7 @@ fn put_bytes(alloc: Global, rng: &mut SplitMix64, stream: &mut Vec<u8>) -> Resul
     Ok(end_of_random(&bytes))
 }
 
-/// Puts damage behind whole frames, or none, and tells how a connection ends there.
+/// Puts damage after whole frames, or none, and tells how a connection ends there.
 pub fn put_damage(
     alloc: Global,
     rng: &mut SplitMix64,

@@ -3,7 +3,7 @@
 use crate::events::{EVENTS, Step, copied, desk_of, entry, event_of};
 use acceptor::message::Message;
 use learner::log::Log;
-use node::{Event, Node, NodeFault};
+use node::{DeskEvent, Node, NodeFault};
 use std::alloc::{AllocError, Global};
 use std::io;
 use std::io::{Error, ErrorKind};
@@ -45,7 +45,7 @@ fn send(sent: &mut Vec<Message>, messages: Vec<Message>) -> Result<(), AllocErro
 /// The node takes an event, and what it hands out is sent. False: its store has failed.
 fn hear<K: Keeper + Drop>(
     node: &mut Node<K>,
-    event: Event,
+    event: DeskEvent,
     sent: &mut Vec<Message>,
 ) -> io::Result<bool> {
     match node.handle(event) {
@@ -64,7 +64,7 @@ fn happen<K: Keeper + Drop>(
     first: &mut Node<K>,
     others: &mut Others,
     desk: u8,
-    event: Event,
+    event: DeskEvent,
 ) -> io::Result<bool> {
     match desk {
         1 => hear(first, event, &mut others.sent),
@@ -114,7 +114,7 @@ fn deliver_rest<K: Keeper + Drop>(
             return Ok(true);
         };
         let message = copied(message)?;
-        if !happen(first, others, message.to, Event::Deliver(message))? {
+        if !happen(first, others, message.to, DeskEvent::Deliver(message))? {
             return Ok(false);
         }
     }

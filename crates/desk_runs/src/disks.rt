@@ -31,7 +31,7 @@ impl IntoDisks for Leftover<Fuse<Memory>> {
 
 /// What is done over two files.
 pub trait Visit {
-    /// Does it over what the files were opened as, and gives back those that are wanted behind it.
+    /// Does it over what the files were opened as, and gives back those that are wanted after it.
     fn visit<S: Alter + IntoDisks, L: IntoDisks>(
         &mut self,
         alloc: Global,

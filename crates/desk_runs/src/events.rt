@@ -2,7 +2,7 @@
 
 use acceptor::entry::{Entry, EntryFault};
 use acceptor::message::{Body, Message};
-use learner::event::Event;
+use learner::event::DeskEvent;
 use std::alloc::{AllocError, Global};
 
 /// What a message says, without its fields.
@@ -86,16 +86,20 @@ pub fn copied(message: &Message) -> Result<Message, AllocError> {
 }
 
 /// The event at its desk; none where its message was never sent.
-pub fn event_of(alloc: Global, step: Step, sent: &[Message]) -> Result<Option<Event>, AllocError> {
+pub fn event_of(
+    alloc: Global,
+    step: Step,
+    sent: &[Message],
+) -> Result<Option<DeskEvent>, AllocError> {
     let (from, to, kind) = match step {
-        Step::Submit => return Ok(Some(Event::Submit(entry(alloc)?))),
-        Step::Start => return Ok(Some(Event::Start)),
-        Step::Tick(_) => return Ok(Some(Event::Tick)),
+        Step::Submit => return Ok(Some(DeskEvent::Submit(entry(alloc)?))),
+        Step::Start => return Ok(Some(DeskEvent::Start)),
+        Step::Tick(_) => return Ok(Some(DeskEvent::Tick)),
         Step::Deliver(from, to, kind) => (from, to, kind),
     };
     for message in sent.iter().rev() {
         if message.from == from && message.to == to && kind_of(&message.body) == kind {
-            return Ok(Some(Event::Deliver(copied(message)?)));
+            return Ok(Some(DeskEvent::Deliver(copied(message)?)));
         }
     }
     Ok(None)

@@ -56,7 +56,7 @@ fn put_id(rng: &mut SplitMix64, body: &mut Vec<u8>) -> Result<(), AllocError> {
     put_u32(body, u32::from(byte(rng, 1, 5)))
 }
 
-/// An id, and a text behind its length.
+/// An id, and a text after its length.
 fn put_entry(rng: &mut SplitMix64, body: &mut Vec<u8>) -> Result<(), AllocError> {
     put_id(rng, body)?;
     let text = match byte(rng, 0, 3) {
@@ -89,7 +89,7 @@ fn put_sheet(rng: &mut SplitMix64, body: &mut Vec<u8>) -> Result<(), AllocError>
     Ok(())
 }
 
-/// A position and what was decided from there on: one entry, or in version 2 one to three behind
+/// A position and what was decided from there on: one entry, or in version 2 one to three after
 /// their number.
 fn put_decided(rng: &mut SplitMix64, version: u8, body: &mut Vec<u8>) -> Result<(), AllocError> {
     put_position(rng, body)?;

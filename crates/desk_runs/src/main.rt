@@ -26,19 +26,19 @@
 //!
 //! In a run that is stopped one entry is decided while desk 3 is not reached, and desk 3 catches
 //! up. At the stop the desk is Down and hands out nothing; its files are opened again, and hold the
-//! state in front of the event or the one behind it. Then the rest of the events happen, the client
+//! state in front of the event or the one after it. Then the rest of the events happen, the client
 //! hands in its entry again, and in the end every desk has it, and of any two logs one begins with
 //! the other.
 //!
 //! Of connections, where the desk is desk 1 of 3 in hall 7, in memory, and pushes in version 1 of
 //! the wire, if nothing else is said:
 //!
-//! - `serve ROOM HEX`: one stream, to a client that takes ROOM bytes, behind which a write fails.
-//!   Where `!` stands behind the digits, the read behind their bytes fails. `/ ROOM HEX` is the
+//! - `serve ROOM HEX`: one stream, to a client that takes ROOM bytes, after which a write fails.
+//!   Where `!` stands after the digits, the read after their bytes fails. `/ ROOM HEX` is the
 //!   stream of a further connection. What came of each is printed, and then the log. Spaces between
 //!   digits count nothing, and `DIGITS*N` is N times these bytes.
 //! - `third WIRE ROOM HEX`: the same at desk 3, which pushes in version WIRE.
-//! - `streams SEED COUNT`: so many streams of random frames, with random damage behind them, each
+//! - `streams SEED COUNT`: so many streams of random frames, with random damage after them, each
 //!   served whole, and each frame of it served on a connection of its own. The two desks, and what
 //!   was written and pushed, have to be the same. The number of the frames and of each kind of end
 //!   is printed, or the first seed at which something differs.

@@ -9,7 +9,7 @@ use sqlite::{Alter, Connection};
 use std::alloc::Global;
 use std::io;
 use std::io::Write;
-use store::faults::OpenFault;
+use store::fault::OpenFault;
 use store::home::Home;
 use store::lent_keeper::save_to;
 use store::memory::MemoryKeeper;
@@ -50,7 +50,7 @@ pub fn show_memory(alloc: Global, out: &mut Vec<u8>, rest: &str) -> io::Result<(
     show_failing(alloc, out, &mut keeper, fails, steps)
 }
 
-/// Gives a keeper the first state behind a saved change, and does the steps through a reference.
+/// Gives a keeper the first state after a saved change, and does the steps through a reference.
 fn show_given(
     alloc: Global,
     out: &mut Vec<u8>,

@@ -15,7 +15,7 @@ use wire::Version;
 pub struct Pieces<'a> {
     pub rest: &'a [u8],
     pub size: usize,
-    /// A read behind the bytes fails.
+    /// A read after the bytes fails.
     pub fails: bool,
 }
 
@@ -43,7 +43,7 @@ impl Read for Pieces<'_> {
     }
 }
 
-/// Keeps what is pushed: each frame behind its receiver's number.
+/// Keeps what is pushed: each frame after its receiver's number.
 #[derive(Drop)]
 pub struct Pushed {
     pub bytes: Vec<u8>,

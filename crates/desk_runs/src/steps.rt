@@ -14,7 +14,7 @@ pub fn misspelt() -> Error {
     Error::from(ErrorKind::InvalidInput)
 }
 
-/// What stands in front of the first such character, and what stands behind it.
+/// What stands in front of the first such character, and what stands after it.
 pub fn cut(text: &str, by: char) -> (&str, &str) {
     text.split_once(by).unwrap_or((text, ""))
 }
@@ -29,12 +29,12 @@ pub fn small(text: &str) -> u8 {
     number(text).min(255) as u8
 }
 
-/// The ballot in front, and what stands behind it.
+/// The ballot in front, and what stands after it.
 fn ballot_of(text: &str) -> (Ballot, &str) {
-    let (round, rest) = cut(text, ' ');
+    let (field, rest) = cut(text, ' ');
     let (desk, rest) = cut(rest, ' ');
     let ballot = Ballot {
-        round: number(round),
+        number: number(field),
         desk: small(desk),
     };
     (ballot, rest)

@@ -4,12 +4,12 @@ use crate::desks::{Others, astray, enter_again, have_agreed, run_from};
 use crate::disks::{Disks, IntoDisks, Stop, Visit, Which, after_stop, new_disks, open_for};
 use crate::events::EVENTS;
 use crate::stored::{changes_in, is_after};
-use node::{Event, Node, NodeFault};
+use node::{DeskEvent, Node, NodeFault};
 use sqlite::{Alter, Connection, Error};
 use std::alloc::Global;
 use std::io;
 use std::io::Write;
-use store::faults::{LoadFault, OpenFault};
+use store::fault::{LoadFault, OpenFault};
 use store::keeper::Keeper;
 use store::opening::open_fault;
 use store::sql::SqlKeeper;
@@ -77,7 +77,7 @@ fn unopened(fault: OpenFault) -> Reached {
 
 /// Whether the desk is Down for good, and has handed out nothing more.
 fn is_still_down<K: Keeper + Drop>(node: &mut Node<K>) -> bool {
-    node.is_down() && matches!(node.handle(Event::Start), Err(NodeFault::Down))
+    node.is_down() && matches!(node.handle(DeskEvent::Start), Err(NodeFault::Down))
 }
 
 /// The events happen, up to a stop.
@@ -131,7 +131,7 @@ fn has_none_or_both<S: Alter + Drop>(conn: &mut Connection<S>) -> bool {
     matches!(row.get::<i64>(0), Ok(0 | 2))
 }
 
-/// Whether the store holds what was stored in front of the stop or behind it.
+/// Whether the store holds what was stored in front of the stop or after it.
 fn holds_either<K: Keeper>(alloc: Global, keeper: &mut K, reached: Reached) -> io::Result<bool> {
     let (before, after) = match reached {
         Reached::Event(place) => (changes_in(place), changes_in(place.saturating_add(1))),
@@ -202,7 +202,7 @@ fn second_life<S: Alter + Drop>(
     }
 }
 
-/// The desk's first life over what the files were opened as, and the files behind it.
+/// The desk's first life over what the files were opened as, and the files after it.
 fn live_first<S: Alter + IntoDisks, L: IntoDisks>(
     alloc: Global,
     found: Result<Connection<S>, (Error, L)>,

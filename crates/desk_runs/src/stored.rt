@@ -1,4 +1,4 @@
-//! What desk 1 has stored in front of each event and behind it, as the protocol has it.
+//! What desk 1 has stored in front of each event and after it, as the protocol has it.
 
 use crate::events::entry;
 use acceptor::ballot::Ballot;
@@ -18,7 +18,7 @@ pub fn changes_in(count: usize) -> usize {
 
 /// What is stored after so many changes, but for the log.
 fn stored_after(alloc: Global, changes: usize) -> Result<Stored, AllocError> {
-    let ballot = Ballot { round: 1, desk: 1 };
+    let ballot = Ballot { number: 1, desk: 1 };
     let mut stored = Stored::new();
     if changes >= 1 {
         stored.tried = 1;

@@ -103,7 +103,7 @@ fn serve_alone(alloc: Global, side: &mut Side, frame: &Drawn) -> Result<bool, Al
 }
 
 /// Serves whole frames up to a Stop or the 64th, and tells what becomes of a connection that brings
-/// them with the end `end` behind them. None: a connection of one frame ended otherwise.
+/// them with the end `end` after them. None: a connection of one frame ended otherwise.
 fn serve_each(
     alloc: Global,
     side: &mut Side,

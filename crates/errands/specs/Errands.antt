@@ -1,20 +1,20 @@
 -- The frame of an errand, and how an errand ends.
-use Rattle.std.specs.Prelude.{◌≡◌, ◌⊎◌, ◌≤◌, ℕ, nat_le, if◌then◌else◌, List, length, Option, Ok}
-use Rattle.std.specs.Prelude.{Err}
+use Rattle.std.specs.Prelude.{◌≡◌, ◌⊎◌, ◌≤◌, ℕ, List, length, Option, Ok, Err}
 use Rattle.std.specs.Io.KnownBytes.{Keeps, Appends}
 use Rattle.client.specs.Answers.{judged}
 use Rattle.client.specs.Printing.{reply_text}
+use Rattle.client.specs.Versions.{sheet_version}
 use Rattle.client.specs.declared.fault.ClientFault.TheVariants as client
 use Rattle.lines.specs.Bytes.{AppendsPart}
+use Rattle.lines.specs.declared.fault.RunFault.TheVariants as run
 use Rattle.wire.specs.Ranges.{IsDesk, IsFrame}
-use Rattle.formats.specs.Events.{event_number}
 use Rattle.wire.specs.declared.values.Version.{Version}
-use Rattle.wire.specs.declared.values.Version.TheVariants.{One, Two}
+use Rattle.wire.specs.declared.values.Version.TheVariants.{One}
 use Rattle.wire.specs.declared.frame.Frame.{Frame}
 use Rattle.wire.specs.declared.frame.What.{What}
 use Rattle.wire.specs.declared.frame.What.TheVariants as what
-use Rattle.errands.specs.declared.faults.DeskFault.{DeskFault}
-use Rattle.errands.specs.declared.faults.DeskFault.TheVariants as fault
+use Rattle.errands.specs.declared.fault.DeskFault.{DeskFault}
+use Rattle.errands.specs.declared.fault.DeskFault.TheVariants as fault
 use Rattle.arguments.specs.declared.task.Errand.{Errand}
 use Rattle.arguments.specs.declared.task.Request.{Request}
 use Rattle.arguments.specs.declared.task.Request.TheVariants as request
@@ -26,13 +26,11 @@ what_of (request.Sheet event round position style) = what.Sheet event round posi
 what_of request.Tick = what.Tick
 what_of request.Stop = what.Stop
 
--- the first version of the wire that has a frame for the request: only the sheet of an event behind
--- the 16th asks for the second one
+-- the first version of the wire that has a frame for the request: only a sheet can need the second
 abbrev pub version_of : Request → Version
 version_of (request.Enter id text) = One
 version_of (request.Ask id) = One
-version_of (request.Sheet event round position style) =
-    if nat_le (event_number event) 16 then One else Two
+version_of (request.Sheet event round position style) = sheet_version event
 version_of request.Tick = One
 version_of request.Stop = One
 
@@ -55,7 +53,7 @@ IsShort (request.Sheet event round position style) = Unit {0}
 IsShort request.Tick = Unit {0}
 IsShort request.Stop = Unit {0}
 
--- nothing is refused by name, and the connection is opened
+-- no name refuses the errand, so the connection is opened
 abbrev pub IsAllowed : Errand → Type 0
 IsAllowed e = IsDesk e.desk × IsShort e.request
 
@@ -72,25 +70,25 @@ FailsTalk (fault.Refused refusal) asked =
     (given : Frame) × IsFrame given × (judged asked given ≡ Err (client.Refused refusal))
 FailsTalk fault.CannotConnect asked = Unit {0}
 FailsTalk fault.NoAnswer asked = Unit {0}
-FailsTalk fault.Write asked = Unit {0}
-FailsTalk fault.NoMemory asked = Unit {0}
+FailsTalk (fault.Run run.Write) asked = Unit {0}
+FailsTalk (fault.Run run.NoMemory) asked = Unit {0}
 FailsTalk _ asked = ⊥
 
 abbrev pub FailsToConnect : DeskFault → Type 0
-FailsToConnect f = (f ≡ fault.CannotConnect) ⊎ (f ≡ fault.NoMemory)
+FailsToConnect f = (f ≡ fault.CannotConnect) ⊎ (f ≡ fault.Run run.NoMemory)
 
 -- the cause of each fault that stands in front of printing
 abbrev pub Hinders : DeskFault → Errand → Type 0
 Hinders fault.BadDesk e = ¬ IsDesk e.desk
 Hinders fault.TextTooLong e = IsDesk e.desk × (¬ IsShort e.request)
-Hinders fault.NoMemory e = Unit {0}
+Hinders (fault.Run run.NoMemory) e = Unit {0}
 Hinders f e = IsAllowed e × FailsTalk f (frame_of e)
 
 -- nothing was printed; or the desk had answered, and printing it failed
 abbrev pub FailsErrand : DeskFault → Errand → Option (List ℕ) → Option (List ℕ) → Type 0
 FailsErrand f e old new =
     (Hinders f e × Keeps old new)
-    ⊎ ((f ≡ fault.Write) × (text : List ℕ) × Answers e text × AppendsPart old new text)
+    ⊎ ((f ≡ fault.Run run.Write) × (text : List ℕ) × Answers e text × AppendsPart old new text)
 
 abbrev pub DoesErrand : Errand → Option (List ℕ) → Option (List ℕ) → Type 0
 DoesErrand e old new = IsAllowed e × (text : List ℕ) × Answers e text × Appends old new text

@@ -5,16 +5,16 @@ ghost use Rattle.batch.specs.Entering.{EntersAll};
 ghost use Rattle.wire.specs.Ranges.{IsDesk};
 ghost use Rattle.errands.specs.Statuses.{FailsLines};
 
-use crate::faults::DeskFault;
+use crate::fault::DeskFault;
 use batch::{Batch, Dial, enter_lines};
 use std::io::{Read, Write};
 use std::net::TcpStream;
 use std::time::Duration;
 use std::{io, thread};
 
-/// How long a client rests behind so many tries: 250 microseconds at first, twice as long behind
+/// How long a client rests after so many tries: 250 microseconds at first, twice as long after
 /// every third try, and at most 32 milliseconds.
-fn rest_behind(tries: u32) -> Duration {
+fn rest_after(tries: u32) -> Duration {
     Duration::from_micros(250 << (tries / 3).min(7))
 }
 
@@ -32,14 +32,14 @@ impl Dial for Dialer<'_> {
 
     fn dial(&mut self) -> io::Result<(TcpStream, TcpStream)> {
         let stream = TcpStream::connect(self.rt, self.address)?;
-        // It only makes requests slower where it is refused.
+        // where it is refused, the requests are only slower
         let _ = stream.set_nodelay(true);
         let writer = stream.try_clone()?;
         Ok((stream, writer))
     }
 
     fn rest(&mut self, tries: u32) {
-        thread::sleep(self.rt, rest_behind(tries));
+        thread::sleep(self.rt, rest_after(tries));
     }
 }
 

@@ -3,9 +3,9 @@
 #![tactic(auto)]
 
 mod entering;
-mod faults;
+mod fault;
 mod requests;
 
 pub use entering::enter_all;
-pub use faults::{DeskFault, tell, tell_bad_number, tell_no_words, tell_run, tell_words};
+pub use fault::{DeskFault, tell};
 pub use requests::carry;

@@ -10,13 +10,14 @@ ghost use Rattle.errands.specs.Errands.{Answers, DoesErrand, FailsErrand, FailsT
 ghost use Rattle.errands.specs.Errands.{FailsToConnect, Hinders, IsAllowed, IsShort, frame_of};
 ghost use Rattle.errands.specs.Errands.{version_of, what_of};
 ghost use Rattle.wire.specs.declared.values.Version.TheVariants as version;
-ghost use Rattle.errands.specs.declared.faults.DeskFault.TheVariants as desk_fault;
+ghost use Rattle.errands.specs.declared.fault.DeskFault.TheVariants as desk_fault;
+ghost use Rattle.lines.specs.declared.fault.RunFault.TheVariants as run_fault;
 
-use crate::faults::DeskFault;
+use crate::fault::DeskFault;
 use acceptor::entry::Entry;
 use arguments::{Errand, Request};
-use client::{exchange, reply_text};
-use lines::write_text;
+use client::{exchange, reply_text, sheet_version};
+use lines::{RunFault, write_text};
 use std::alloc::Global;
 use std::io;
 use std::io::{ErrorKind, Write};
@@ -28,6 +29,7 @@ fn kept(entry: Entry) -> Entry
     ensures same { result ≡ entry }
     ensures in_range { IsEntry result }
 {
+    // the contracts of these two calls say that the id and the text are in their ranges
     let _id = entry.id();
     let _text = entry.text();
     entry
@@ -38,7 +40,7 @@ fn submit(alloc: Global, id: u64, text: &str) -> Result<What, DeskFault>
     ensures ok { IfOk result (λ w. w ≡ what.Submit (record { id = id; text = text.now })) }
     ensures body { IfOk result (IsBody version.One) }
     ensures short { OnOk result (length text.now ≤ 600) }
-    ensures err { IfErr result (λ f. (f ≡ desk_fault.NoMemory)
+    ensures err { IfErr result (λ f. (f ≡ desk_fault.Run run_fault.NoMemory)
         ⊎ ((f ≡ desk_fault.TextTooLong) × (600 < length text.now))) }
 {
     if text.len() > 600 {
@@ -46,7 +48,7 @@ fn submit(alloc: Global, id: u64, text: &str) -> Result<What, DeskFault>
     }
     match Entry::new(alloc, id, text.as_bytes()) {
         Ok(entry) => Ok(What::Submit { entry: kept(entry) }),
-        Err(_) => Err(DeskFault::NoMemory),
+        Err(_) => Err(DeskFault::Run(RunFault::NoMemory)),
     }
 }
 
@@ -56,7 +58,7 @@ fn what_of(alloc: Global, request: Request<'_>) -> Result<What, DeskFault>
     ensures what { IfOk result (λ w. w ≡ what_of request.entry) }
     ensures body { IfOk result (IsBody (version_of request.entry)) }
     ensures short { OnOk result (IsShort request.entry) }
-    ensures err { IfErr result (λ f. (f ≡ desk_fault.NoMemory)
+    ensures err { IfErr result (λ f. (f ≡ desk_fault.Run run_fault.NoMemory)
         ⊎ ((f ≡ desk_fault.TextTooLong) × (¬ IsShort request.entry))) }
 {
     match request {
@@ -83,13 +85,7 @@ fn version_of(request: &Request<'_>) -> Version
     ensures { result ≡ version_of request.now }
 {
     match request {
-        Request::Sheet { event, .. } => {
-            if event.number() <= Version::One.last_event() {
-                Version::One
-            } else {
-                Version::Two
-            }
-        }
+        Request::Sheet { event, .. } => sheet_version(*event),
         Request::Enter { .. } | Request::Ask { .. } | Request::Tick | Request::Stop => Version::One,
     }
 }
@@ -123,12 +119,12 @@ pub(crate) fn frame_of(alloc: Global, errand: Errand<'_>) -> Result<Frame, DeskF
     }
 }
 
-/// Why nobody could be reached.
+/// Why no connection was opened.
 fn no_connection(error: &io::Error) -> DeskFault
     ensures { FailsToConnect result }
 {
     if error.kind() == ErrorKind::OutOfMemory {
-        return DeskFault::NoMemory;
+        return DeskFault::Run(RunFault::NoMemory);
     }
     DeskFault::CannotConnect
 }
@@ -144,6 +140,7 @@ fn talk(rt: &HostRuntime, asked: &Frame, to: &str) -> Result<What, DeskFault>
         Ok(stream) => stream,
         Err(error) => return Err(no_connection(&error)),
     };
+    // where it is refused, the request is only slower
     let _ = stream.set_nodelay(true);
     match exchange(rt.alloc(), asked, &mut &stream, &mut &stream) {
         Ok(answer) => Ok(answer),
@@ -168,7 +165,7 @@ fn answer_text(rt: &HostRuntime, errand: Errand<'_>) -> Result<Vec<u8>, DeskFaul
     };
     match reply_text(rt.alloc(), answer) {
         Ok(text) => Ok(text),
-        Err(_) => Err(DeskFault::NoMemory),
+        Err(_) => Err(DeskFault::Run(RunFault::NoMemory)),
     }
 }
 
@@ -177,9 +174,9 @@ fn answer_text(rt: &HostRuntime, errand: Errand<'_>) -> Result<Vec<u8>, DeskFaul
 /// # Errors
 ///
 /// - `BadDesk` and `TextTooLong`, in this order, before anything is opened.
-/// - `CannotConnect` where nobody answers at the address.
+/// - `CannotConnect` where the connection to the address is not accepted.
 /// - `Refused` where the desk refuses, `NoAnswer` where no answer comes, `Write` where the request
-///   or the answer can't be written, `NoMemory` where memory runs out.
+///   or the answer cannot be written, `NoMemory` where memory runs out.
 pub fn carry<W: Write>(
     rt: &HostRuntime,
     errand: Errand<'_>,
@@ -197,6 +194,6 @@ pub fn carry<W: Write>(
     };
     match write_text(writer, &text) {
         Ok(()) => Ok(()),
-        Err(_) => Err(DeskFault::Write),
+        Err(_) => Err(DeskFault::Run(RunFault::Write)),
     }
 }

@@ -1,6 +1,7 @@
 -- A solution passes its test exactly where it solves the scramble, and its result follows from
 -- that.
-use Rattle.std.proofs.Common.{◌≡◌, ◌≤◌, ◌↔◌, List, [], ◌∷◌, ◌++◌, length, Bool, true, false, ◌&&◌, IsTrue, refl, sym, subst, ap, ◌∙◌}
+use Rattle.std.proofs.Common.{◌≡◌, ◌≤◌, ◌↔◌, List, [], ◌∷◌, ◌++◌, length, Bool, true, false, ◌&&◌}
+use Rattle.std.proofs.Common.{IsTrue, refl, sym, subst, ap, ◌∙◌}
 use Rattle.std.specs.Prelude.{nat_le, if◌then◌else◌}
 use Rattle.std.proofs.lemmas.Bool.{leb-true, le-leb}
 use Rattle.std.specs.Cmp.Derive.{both_true}
@@ -10,7 +11,8 @@ use Rattle.cube.specs.Turns.{after, first_arrangement, IsSolved}
 use Rattle.notation.specs.Notation.{turn_count}
 use Rattle.attempts.specs.declared.Fm.{Fm}
 use Rattle.attempts.specs.declared.Fm.TheVariants.{Moves, Dnf}
-use Rattle.fmc_check.specs.Fewest.{final, Solves, is_solved, is_solution, result_of, TestsSolved, TestsSolution}
+use Rattle.fmc_check.specs.Fewest.{final, Solves, is_solved, is_solution, result_of, TestsSolved}
+use Rattle.fmc_check.specs.Fewest.{TestsSolution}
 
 both_of : (a b : Bool) → (a && b) ≡ true → (a ≡ true) × (b ≡ true)
 both_of true b h = (refl, h)

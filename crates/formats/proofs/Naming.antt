@@ -1,11 +1,16 @@
 -- A name is of one event or of one format, and a number of one event.
-use Rattle.std.proofs.Common.{◌≡◌, ◌↔◌, refl, ap, subst, sym, ℕ, Bool, true, false, cond, List, [], ◌∷◌, Option, Some, unwrap_or, bytes_eq, find, ◌==◌, eqb-true}
+use Rattle.std.proofs.Common.{◌≡◌, ◌↔◌, refl, ap, subst, sym, ℕ, Bool, true, false, cond, List, []}
+use Rattle.std.proofs.Common.{◌∷◌, Option, Some, unwrap_or, bytes_eq, find, ◌==◌, eqb-true}
 use Rattle.std.proofs.lemmas.Slice.Eq.{bytes_eq-Decides}
 use Rattle.formats.specs.declared.events.Event.{Event}
-use Rattle.formats.specs.declared.events.Event.TheVariants.{Cube3, Cube2, Cube4, Cube5, Cube6, Cube7, Blind3, FewestMoves, OneHanded, Clock, Megaminx, Pyraminx, Skewb, Square1, Blind4, Blind5, MultiBlind}
+use Rattle.formats.specs.declared.events.Event.TheVariants.{Cube3, Cube2, Cube4, Cube5, Cube6}
+use Rattle.formats.specs.declared.events.Event.TheVariants.{Cube7, Blind3, FewestMoves, OneHanded}
+use Rattle.formats.specs.declared.events.Event.TheVariants.{Clock, Megaminx, Pyraminx, Skewb}
+use Rattle.formats.specs.declared.events.Event.TheVariants.{Square1, Blind4, Blind5, MultiBlind}
 use Rattle.formats.specs.declared.events.Format.{Format}
 use Rattle.formats.specs.declared.events.Format.TheVariants.{Ao5, Mo3, Bo1, Bo2, Bo3}
-use Rattle.formats.specs.Events.{all_events, event_name, event_of_name, event_number, event_of_number, formats, format_name, format_named}
+use Rattle.formats.specs.Events.{all_events, event_name, event_of_name, event_number}
+use Rattle.formats.specs.Events.{event_of_number, formats, format_name, format_named}
 
 found_first : {X : Type 0} (p : X → Bool) (x y : X) (rest : Option X) (b : Bool) → p x ≡ b
     → (rest ≡ Some y → p y ≡ true) → cond b (Some x) rest ≡ Some y → p y ≡ true
@@ -40,7 +45,8 @@ event_of_name-event_name Blind4 = refl
 event_of_name-event_name Blind5 = refl
 event_of_name-event_name MultiBlind = refl
 
-event_of_name-found : (text : List ℕ) (e : Event) → event_of_name text ≡ Some e → text ≡ event_name e
+event_of_name-found : (text : List ℕ) (e : Event) → event_of_name text ≡ Some e → text
+    ≡ event_name e
 unfolding event_of_name
 event_of_name-found text e h =
     sym (equal_bytes (event_name e) text

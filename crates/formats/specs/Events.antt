@@ -54,6 +54,14 @@ event_named text = find (λ event. bytes_eq (event_name event) text) events
 unfoldable pub event_of_name : List ℕ → Option Event
 event_of_name text = find (λ event. bytes_eq (event_name event) text) all_events
 
+-- the last round that an event may have (WCA Regulations, article 9m)
+abbrev pub last_round : ℕ
+last_round = 4
+
+-- the most entrants of a round (the project's own)
+abbrev pub most_entrants : ℕ
+most_entrants = 999
+
 -- all formats
 abbrev pub formats : List Format
 formats = Ao5 ∷ Mo3 ∷ Bo1 ∷ Bo2 ∷ Bo3 ∷ []

@@ -1,5 +1,8 @@
 //! Who advances from a round.
 
+/// The most entrants of a round, and so the most who advance from one.
+pub const MOST_ENTRANTS: u16 = 999;
+
 /// Who advances from a round to the next one.
 #[derive(Clone, Copy, Debug, PartialEq, Eq)]
 pub enum Advance {

@@ -8,6 +8,9 @@ ghost use Rattle.formats.specs.Results.{IsFormatOf};
 
 use attempts::Unit;
 
+/// The last round that an event may have (WCA Regulations, article 9m).
+pub const LAST_ROUND: u8 = 4;
+
 /// An event of the WCA Regulations, in the order of their numbers.
 #[derive(Clone, Copy, Debug, PartialEq, Eq)]
 pub enum Event {

@@ -1,5 +1,7 @@
 -- The logs of a hall as they are written, entry after entry and desk after desk.
-use Rattle.std.proofs.Common.{◌≡◌, ℕ, ◌+◌, ◌-◌, ◌<◌, ◌≤◌, suc, List, [], ◌++◌, length, get_or, ◌⊎◌, inl, inr, flat_map, Option, None, Some, refl, sym, ap, ◌∙◌, append_assoc, append-nil, subst, arith}
+use Rattle.std.proofs.Common.{◌≡◌, ℕ, ◌+◌, ◌-◌, ◌<◌, ◌≤◌, suc, List, [], ◌++◌, length, get_or, ◌⊎◌}
+use Rattle.std.proofs.Common.{inl, inr, flat_map, Option, None, Some, refl, sym, ap, ◌∙◌}
+use Rattle.std.proofs.Common.{append_assoc, append-nil, subst, arith}
 use Rattle.std.specs.Prelude.{slice_get}
 use Rattle.std.proofs.lemmas.Option.{slice_get_cases}
 use Rattle.std.specs.List.{range_with_len}
@@ -124,7 +126,9 @@ pub logs_begin : (n : ℕ) (events : List WorldEvent) (old : Option (List ℕ))
 logs_begin n events old = record {
   text = [];
   written = Appends-nil old;
-  whole = ap (λ k. flat_map (λ d. log_text d (log_of n events d)) (range_with_len 1 k)) (omega arith);
+  whole =
+      ap (λ k. flat_map (λ d. log_text d (log_of n events d)) (range_with_len 1 k))
+      (omega arith);
 }
 
 logs_next : (n : ℕ) (events : List WorldEvent) (d : ℕ) → d ≤ n

@@ -1,5 +1,7 @@
 -- A hall from line to line, and how it ends, in words on the whole input.
-use Rattle.std.proofs.Common.{◌≡◌, ℕ, ◌+◌, Bool, true, false, ◌≤◌, List, [], ◌∷◌, ◌++◌, length, map, eqb-true, append-nil, Option, None, inl, inr, refl, sym, ap, ◌∙◌, append_assoc, length-append, subst}
+use Rattle.std.proofs.Common.{◌≡◌, ℕ, ◌+◌, Bool, true, false, ◌≤◌, List, [], ◌∷◌, ◌++◌, length, map}
+use Rattle.std.proofs.Common.{eqb-true, append-nil, Option, None, inl, inr, refl, sym, ap, ◌∙◌}
+use Rattle.std.proofs.Common.{append_assoc, length-append, subst}
 use Rattle.std.specs.Prelude.{Result, Ok, Err, OnOk, OnErr, IfErr}
 use Rattle.std.proofs.KnownBytes.{Appends-trans, Appends-nil}
 use Rattle.std.specs.Io.KnownBytes.{Appends}
@@ -9,13 +11,17 @@ use Rattle.lines.specs.Lines.{lines_of, lines_read}
 use Rattle.lines.specs.Reading.{Reading, nothing_read, HasGiven, GivesLine, GivesFault, Gives}
 use Rattle.lines.specs.declared.fault.RunFault.{RunFault}
 use Rattle.lines.specs.declared.fault.RunFault.TheVariants as fault
-use Rattle.lines.proofs.Inputs.{given_of, left_of, left_is, has_read, has_all, part_front, part_after, nothing_written, whole_written, waits_more, all_out, part_out, still_waits, lines_above}
+use Rattle.lines.proofs.Inputs.{given_of, left_of, left_is, has_read, has_all, part_front}
+use Rattle.lines.proofs.Inputs.{part_after, nothing_written, whole_written, waits_more, all_out}
+use Rattle.lines.proofs.Inputs.{part_out, still_waits, lines_above}
 use Rattle.hall.specs.Scripts.{SpellsNone, HasEvents, spelling}
 use Rattle.hall.specs.Halls.{event_text, script_text, logs_text, Run, Runs, WritesPart, RunFails}
 use Rattle.hall.specs.model.Events.{events_of, are_events}
-use Rattle.hall.specs.model.Running.{lines_text, hall_text, DoesLine, LeavesLine, HandlesLine, DoesAll, StopsAmong, EndsBy, IsStopped}
+use Rattle.hall.specs.model.Running.{lines_text, hall_text, DoesLine, LeavesLine, HandlesLine}
+use Rattle.hall.specs.model.Running.{DoesAll, StopsAmong, EndsBy, IsStopped}
 use Rattle.hall.proofs.Spelled.{spelled_found, all_spelled}
-use Rattle.hall.proofs.Scripted.{AreGood, good_is, events_more, good_more, script_more, script_begins, is_hall_text, text_whole, reads_all}
+use Rattle.hall.proofs.Scripted.{AreGood, good_is, events_more, good_more, script_more}
+use Rattle.hall.proofs.Scripted.{script_begins, is_hall_text, text_whole, reads_all}
 
 -- ---- one line after the other
 
@@ -131,7 +137,8 @@ does_all n p world out given start now old before new a over last =
             subst (λ ls. are_events n ls ≡ true) lines (good_is n (lines_of given) a.good);
         world_is =
             a.world_is
-            ∙ ap (λ ls. let v : WorldValue = record { desks = n; events = events_of n ls } in v) lines;
+            ∙ ap (λ ls. let v : WorldValue = record { desks = n; events = events_of n ls } in v)
+            lines;
         written =
             subst (λ ls. Appends old new (lines_text n ls)) lines
             (all_out old before new (lines_text n (lines_of given)) a.front out a.written last);
@@ -190,7 +197,7 @@ meets_bad n p q world line given out start before now old between new a g none l
       },
     )
 
--- reading ended early, behind lines whose text is written
+-- reading ended early, after lines whose text is written
 pub stops : (n : ℕ) (e : RunFault) (p : Reading) (world : WorldValue) (out given : List ℕ)
     (start before now old between new : Option (List ℕ))
     → Ran n p world out given start before old between → GivesFault e given start now
@@ -205,7 +212,8 @@ stops n fault.InputTooLong p world out given start before now old between new a 
         spelled =
             subst (λ ls. HasEvents n ls (events_of n (lines_of given)) []) (sym above.3)
             (all_spelled n (lines_of given) a.small a.good);
-        written = all_out old between new (lines_text n (lines_of given)) a.front out a.written last;
+        written =
+            all_out old between new (lines_text n (lines_of given)) a.front out a.written last;
       },
     )
 stops n fault.Read p world out given start before now old between new a f last = (
@@ -229,11 +237,10 @@ stops n fault.NoMemory p world out given start before now old between new a f la
     (whole_written old new (lines_text n (lines_of given))
     (all_out old between new (lines_text n (lines_of given)) a.front out a.written last))
 stops n fault.Write p world out given start before now old between new a f last = absurd f
-stops n fault.NoSuchRound p world out given start before now old between new a f last = absurd f
 stops n fault.BadCount p world out given start before now old between new a f last = absurd f
 stops n (fault.BadLine k) p world out given start before now old between new a f last = absurd f
 
--- what waited was written behind a fault, or a write failed
+-- what waited was written after a fault, or a write failed
 pub ended : (n : ℕ) (result e : RunFault) (p : Reading) (world : WorldValue)
     (out given : List ℕ) (start before now old between new : Option (List ℕ))
     → Ran n p world out given start before old between → GivesFault e given start now
@@ -245,7 +252,7 @@ ended n result e p world out given start before now old between new a f (inr h) 
     subst (λ x. Stops n x start now old new) (sym h.0)
     (unwritten n p world out given start before old between new a h.1)
 
--- the same behind a line that spells no event
+-- the same after a line that spells no event
 pub ended_bad : (n : ℕ) (result : RunFault) (p q : Reading) (k : ℕ) (world world' : WorldValue)
     (line given out out' : List ℕ) (start before now old between new : Option (List ℕ))
     → Ran n p world out given start before old between → GivesLine q line given start now
@@ -280,10 +287,9 @@ fails_among (fault.BadLine line) n input left old new small s = s
 fails_among fault.Read n input left old new small s = s
 fails_among fault.Write n input left old new small s = writes_part n input left old new small s
 fails_among fault.NoMemory n input left old new small s = writes_part n input left old new small s
-fails_among fault.NoSuchRound n input left old new small s = absurd s
 fails_among fault.BadCount n input left old new small s = absurd s
 
--- the logs were written behind the rest
+-- the logs were written after the rest
 pub runs : (n : ℕ) (world : WorldValue) (input : List ℕ) (left old mid new : Option (List ℕ))
     → n ≤ 255 → DoesAll n world input left old mid → Appends mid new (logs_text n world.events)
     → Runs (run_of n input left old new)

@@ -1,5 +1,7 @@
 -- The events of lines, and what is printed for them, from one line to the next.
-use Rattle.std.proofs.Common.{◌≡◌, ℕ, ◌+◌, ◌<◌, ◌≤◌, suc, zero, Bool, true, false, ◌==◌, ◌&&◌, cond, List, [], ◌∷◌, ◌++◌, length, Option, None, Some, refl, sym, ap, ◌∙◌, append_assoc, append-nil, length-append, arith}
+use Rattle.std.proofs.Common.{◌≡◌, ℕ, ◌+◌, ◌<◌, ◌≤◌, suc, zero, Bool, true, false, ◌==◌, ◌&&◌, cond}
+use Rattle.std.proofs.Common.{List, [], ◌∷◌, ◌++◌, length, Option, None, Some, refl, sym, ap, ◌∙◌}
+use Rattle.std.proofs.Common.{append_assoc, append-nil, length-append, arith}
 use Rattle.std.proofs.lemmas.Bool.Decides.{nat_tests}
 use Rattle.learner.specs.declared.event.WorldEvent.{WorldEvent}
 use Rattle.lines.specs.Lines.{is_within, lines_read, lines_of}
@@ -18,14 +20,15 @@ same_is a b h = grind (arith, nat_tests)
 pub good_is : (n : ℕ) (lines : List (List ℕ)) → AreGood n lines → are_events n lines ≡ true
 good_is n lines h = same_is (length (events_of n lines)) (length lines) h
 
--- behind lines that spell events the others follow
+-- after lines that spell events the others follow
 pub events_append : (n : ℕ) (lines others : List (List ℕ)) → AreGood n lines
     → events_of n (lines ++ others) ≡ events_of n lines ++ events_of n others
 events_append n [] others h = refl
 events_append n (line ∷ lines) others h =
     step (events_append n lines others) (event_of n line) h
   where
-    step : (AreGood n lines → events_of n (lines ++ others) ≡ events_of n lines ++ events_of n others)
+    step : (AreGood n lines
+        → events_of n (lines ++ others) ≡ events_of n lines ++ events_of n others)
         → (o : Option WorldEvent)
         → length (before o (events_of n lines)) ≡ length (line ∷ lines)
         → before o (events_of n (lines ++ others))
@@ -109,7 +112,8 @@ pub text_whole : (n : ℕ) (input : List ℕ) → is_within input ≡ true
     → hall_text n input
     ≡ lines_text n (lines_read input) ++ logs_text n (events_of n (lines_read input))
 text_whole n input within good =
-    ap (λ b. lines_text n (lines_read input) ++ logs_for n input b (are_events n (lines_read input)))
+    ap
+    (λ b. lines_text n (lines_read input) ++ logs_for n input b (are_events n (lines_read input)))
     within
     ∙ ap (λ g. lines_text n (lines_read input) ++ logs_for n input true g) good
 

@@ -1,24 +1,30 @@
 -- An event is read of its one spelling.
-use Rattle.std.proofs.Common.{◌≡◌, ℕ, ◌+◌, ◌<◌, ◌≤◌, ◌^◌, zero, suc, Bool, true, false, ◌==◌, cond, nat_le, List, [], ◌∷◌, ◌++◌, length, codes, decimal, bytes_eq, map, Option, Some, None, Result, Ok, Err, refl, sym, ap, ◌∙◌, subst, arith, append_assoc, append-nil, length-append}
+use Rattle.std.proofs.Common.{◌≡◌, ℕ, ◌+◌, ◌<◌, ◌≤◌, ◌^◌, zero, suc, Bool, true, false, ◌==◌, cond}
+use Rattle.std.proofs.Common.{nat_le, List, [], ◌∷◌, ◌++◌, length, codes, decimal, bytes_eq, map}
+use Rattle.std.proofs.Common.{Option, Some, None, Result, Ok, Err, refl, sym, ap, ◌∙◌, subst, arith}
+use Rattle.std.proofs.Common.{append_assoc, append-nil, length-append}
 use Rattle.std.proofs.lemmas.List.{append_cancel_left, length-map}
 use Rattle.std.specs.Prelude.{IfOk, OnErr}
 use Rattle.std.specs.Option.{option_map, option_and_then}
 use Rattle.std.proofs.lemmas.Bool.Decides.{nat_tests}
 use Rattle.acceptor.specs.Entries.{EntryValue, IsId, IsText}
 use Rattle.learner.specs.declared.event.WorldEvent.{WorldEvent}
-use Rattle.learner.specs.declared.event.WorldEvent.TheVariants.{Submit, Start, Tick, Deliver, Restart}
+use Rattle.learner.specs.declared.event.WorldEvent.TheVariants.{Submit, Start, Tick, Deliver}
+use Rattle.learner.specs.declared.event.WorldEvent.TheVariants.{Restart}
 use Rattle.learner.specs.Steps.{IsDesk}
 use Rattle.texts.specs.Spelling.{IsWithin}
 use Rattle.texts.specs.Fields.{cut, number_between}
 use Rattle.texts.proofs.Cuts.{behind, cut_spelled, cut-behind, lacks}
 use Rattle.texts.proofs.Spelled.{bytes_eq-equal}
 use Rattle.texts.proofs.FieldSpellings.{number_spelled, decimal_no_space}
-use Rattle.hall.specs.Scripts.{most_delivered, spelling, IsFit, AreFit, Spells, SpellsNone, IsRead, SpellsSubmit, EndsScript, HasEvents}
-use Rattle.hall.specs.model.Events.{◌>>=◌, entry_of, submit_of, number_of, by_word, event_of, IsSubmit, before, events_of, are_events}
+use Rattle.hall.specs.Scripts.{most_delivered, spelling, IsFit, AreFit, Spells, SpellsNone, IsRead}
+use Rattle.hall.specs.Scripts.{SpellsSubmit, EndsScript, HasEvents}
+use Rattle.hall.specs.model.Events.{◌>>=◌, entry_of, submit_of, number_of, by_word, event_of}
+use Rattle.hall.specs.model.Events.{IsSubmit, before, events_of, are_events}
 
 -- ---- what is read of a line is what it spells
 
--- an event that is read of what stands behind a word is spelled by both
+-- an event that is read of what stands after a word is spelled by both
 abbrev SpellsBehind : ℕ → List ℕ → Option (List ℕ) → WorldEvent → Type 0
 SpellsBehind n word left e = Spells n (word ++ behind 32 left) e
 
@@ -266,7 +272,7 @@ script_once n lines ds es left rest small a b =
           (sym a.parts ∙ b.parts ∙ ap (λ x. map spelling x ++ rest) (sym same)),
     )
 
--- the lines behind those that spell the events
+-- the lines after those that spell the events
 pub script_of : (n : ℕ) (lines : List (List ℕ)) → n ≤ 255
     → (others : List (List ℕ)) × HasEvents n lines (events_of n lines) others
 script_of n [] small = ([], record { parts = refl; fit = tt; ends = tt })

@@ -7,20 +7,20 @@ use Rattle.learner.specs.declared.event.WorldEvent.{WorldEvent}
 use Rattle.learner.specs.Worlds.{after, log_of}
 use Rattle.world.specs.WorldValues.{last_fault}
 use Rattle.lines.specs.Lines.{whole_lines, is_within, lines_read}
-use Rattle.lines.specs.Bytes.{HasLeft, AppendsPart}
+use Rattle.lines.specs.Bytes.{HasLeft, AppendsPart, Sides}
 use Rattle.lines.specs.declared.fault.RunFault.{RunFault}
 use Rattle.lines.specs.declared.fault.RunFault.TheVariants as fault
 use Rattle.hall.specs.Scripts.{HasEvents}
 use Rattle.hall.specs.Texts.{messages_text, refusal_text, log_text}
 
--- what is printed for an event behind others, at n desks: the messages that it makes the desks
+-- what is printed for an event after others, at n desks: the messages that it makes the desks
 -- send, or its refusal; line i has the i-th event
 abbrev pub event_text : ℕ → List WorldEvent → WorldEvent → List ℕ
 event_text n events e =
     messages_text (length (after n events).sent) (after n (events ++ e ∷ [])).sent
     ++ refusal_text (length events + 1) (last_fault n (events ++ e ∷ []))
 
--- what is printed for events behind others
+-- what is printed for events after others
 abbrev pub events_text : ℕ → List WorldEvent → List WorldEvent → List ℕ
 events_text n events [] = []
 events_text n events (e ∷ es) = event_text n events e ++ events_text n (events ++ e ∷ []) es
@@ -110,4 +110,16 @@ RunFails (fault.BadLine line) r = MeetsBadLine line r
 RunFails fault.Read r = ReadsPart r
 RunFails fault.Write r = WritesPart r
 RunFails fault.NoMemory r = WritesPart r
-RunFails fault.NoSuchRound r = ⊥
+
+-- the run of n desks with this input between these two sides
+abbrev pub run_of : ℕ → List ℕ → Sides → Run
+run_of n input s =
+    record { desks = n; input = input; left = s.left; old = s.old; new = s.new }
+
+-- between these two sides, the script that the reader had was run to its end
+abbrev pub RunsAll : ℕ → Sides → Type 0
+RunsAll n s = (input : List ℕ) × HasLeft s.had input × Runs (run_of n input s)
+
+-- between these two sides, a run of the script that the reader had ended early by this fault
+abbrev pub RunsPart : ℕ → Sides → RunFault → Type 0
+RunsPart n s fault = (input : List ℕ) × HasLeft s.had input × RunFails fault (run_of n input s)

@@ -8,7 +8,7 @@ use Rattle.learner.specs.declared.event.WorldEvent.TheVariants.{Restart}
 use Rattle.learner.specs.Steps.{IsDesk}
 
 -- an event: its word, and its fields in decimal, parted by one space each; a text is all that
--- stands behind the space after the id
+-- follows the space after the id
 abbrev pub spelling : WorldEvent → List ℕ
 spelling (Submit d e) =
     codes "submit " ++ decimal d ++ codes " " ++ decimal e.id ++ codes " " ++ e.text
@@ -51,7 +51,7 @@ IsRead n line (Some e) = Spells n line e
 abbrev pub SpellsSubmit : ℕ → List ℕ → Type 0
 SpellsSubmit n line = (d : ℕ) × (e : EntryValue) × Spells n line (Submit d e)
 
--- behind these events the lines end, or one spells none
+-- after these events the lines end, or one spells none
 abbrev pub EndsScript : ℕ → List (List ℕ) → Type 0
 EndsScript n [] = Unit {0}
 EndsScript n (line ∷ lines) = SpellsNone n line

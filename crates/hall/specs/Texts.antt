@@ -10,17 +10,17 @@ use Rattle.acceptor.specs.declared.message.Body.{Body}
 use Rattle.acceptor.specs.declared.message.Body.TheVariants.{Prepare, Promise, Accept, Accepted}
 use Rattle.acceptor.specs.declared.message.Body.TheVariants.{Nack, Behind, Decided}
 use Rattle.acceptor.specs.declared.message.Message.{Message}
-use Rattle.roles.specs.declared.faults.NodeFault.{NodeFault}
-use Rattle.roles.specs.declared.faults.NodeFault.TheVariants.{Busy, LogFull, BallotsSpent, NoMemory}
-use Rattle.roles.specs.declared.faults.NodeFault.TheVariants.{Down}
+use Rattle.roles.specs.declared.fault.NodeFault.{NodeFault}
+use Rattle.roles.specs.declared.fault.NodeFault.TheVariants.{Busy, LogFull, BallotsSpent, NoMemory}
+use Rattle.roles.specs.declared.fault.NodeFault.TheVariants.{Down}
 
 -- a number as a field: a space and the number in decimal
 abbrev pub number_field : ℕ → List ℕ
 number_field n = codes " " ++ decimal n
 
--- `round.desk`
+-- `number.desk`
 abbrev pub ballot_field : Ballot → List ℕ
-ballot_field b = codes " " ++ decimal b.round ++ codes "." ++ decimal b.desk
+ballot_field b = codes " " ++ decimal b.number ++ codes "." ++ decimal b.desk
 
 -- a vote: its ballot and the id of its entry; `-` where there is none
 abbrev pub vote_field : Option Report → List ℕ
@@ -46,7 +46,7 @@ message_text k m =
     codes "m" ++ decimal k ++ number_field m.from ++ number_field m.to ++ codes " "
     ++ body_text m.body ++ codes "\n"
 
--- the messages behind the first `told`; all are numbered from 1 in the order in which they were
+-- the messages after the first `told`; all are numbered from 1 in the order in which they were
 -- sent
 abbrev pub messages_text : ℕ → List Message → List ℕ
 messages_text told sent =

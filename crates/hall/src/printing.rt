@@ -27,12 +27,12 @@ fn push_field(out: &mut Vec<u8>, number: u64) -> Result<(), NoMemory>
     push_number(out, number)
 }
 
-/// Adds a space and a ballot, as `round.desk`.
+/// Adds a space and a ballot, as `number.desk`.
 fn push_ballot(out: &mut Vec<u8>, ballot: Ballot) -> Result<(), NoMemory>
     ensures { OnOk result (out.new.items ≡ out.old.items ++ ballot_field ballot) }
 {
     out.extend_from_slice(b" ")?;
-    push_number(out, u64::from(ballot.round))?;
+    push_number(out, u64::from(ballot.number))?;
     out.extend_from_slice(b".")?;
     push_number(out, u64::from(ballot.desk))
 }
@@ -114,7 +114,7 @@ fn push_message(out: &mut Vec<u8>, number: usize, message: &Message) -> Result<(
     out.extend_from_slice(b"\n")
 }
 
-/// Adds a line for each message behind the first `told`.
+/// Adds a line for each message after the first `told`.
 pub fn push_messages(out: &mut Vec<u8>, told: usize, sent: &[Message]) -> Result<(), NoMemory>
     ensures { OnOk result (out.new.items ≡ out.old.items ++ messages_text told sent.now) }
 {

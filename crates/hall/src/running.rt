@@ -1,14 +1,14 @@
-//! A script run from line to line, and the logs behind it.
+//! A script run from line to line, and the logs after it.
 
-ghost use Rattle.std.specs.Prelude.{◌≡◌, ◌⊎◌, ◌↔◌, ◌+◌, ◌++◌, ◌∷◌, [], List, ℕ, Some, IfOk, OnOk};
-ghost use Rattle.std.specs.Prelude.{OnErr, IfErr, IsErrOf};
+ghost use Rattle.std.specs.Prelude.{◌≡◌, ◌⊎◌, ◌↔◌, ◌+◌, ◌++◌, ◌∷◌, [], IfOk, OnOk, OnErr, IfErr};
+ghost use Rattle.std.specs.Prelude.{IsErrOf};
 ghost use Rattle.learner.specs.declared.event.WorldEvent.{WorldEvent};
-ghost use Rattle.lines.specs.Bytes.{HasLeft, AppendsPart};
+ghost use Rattle.lines.specs.Bytes.{AppendsPart, sides};
 ghost use Rattle.std.specs.Io.KnownBytes.{Appends};
 ghost use Rattle.world.specs.WorldValues.{extended};
 ghost use Rattle.hall.specs.Texts.{log_text};
-ghost use Rattle.hall.specs.Halls.{event_text, logs_text, Runs, RunFails};
-ghost use Rattle.hall.specs.model.Running.{HandlesLine, EndsBy, DoesAll, StopsAmong, IsStopped};
+ghost use Rattle.hall.specs.Halls.{event_text, logs_text, RunsAll, RunsPart};
+ghost use Rattle.hall.specs.model.Running.{HandlesLine, EndsBy, DoesScript, StopsScript, IsStopped};
 
 use crate::printing::{push_entry, push_messages, push_refusal};
 use crate::scripts::event_of;
@@ -38,7 +38,7 @@ fn happen(
     push_refusal(out, world.done(), world.refused())
 }
 
-/// Does the event of a line, which stands behind those that were done, and adds what is printed for
+/// Does the event of a line, which stands after those that were done, and adds what is printed for
 /// it. False where the line spells none; then nothing is done.
 fn do_line(
     alloc: Global,
@@ -77,17 +77,10 @@ fn do_lines<R: Read, W: Write>(
     writer: &mut W,
 ) -> Result<(), RunFault>
     requires { world.old ≡ record { desks = desks; events = [] } }
-    ensures ok { OnOk result ((input : List ℕ) × HasLeft (R.remaining reader.old) input
-        × DoesAll desks world.new input (R.remaining reader.new)
-        (W.contents writer.old) (W.contents writer.new)) }
-    ensures err { IfErr result (λ e. (input : List ℕ) × HasLeft (R.remaining reader.old) input
-        × StopsAmong e (record {
-          desks = desks;
-          input = input;
-          left = R.remaining reader.new;
-          old = W.contents writer.old;
-          new = W.contents writer.new;
-        })) }
+    ensures ok { OnOk result (DoesScript desks world.new
+        (sides R.remaining W.contents reader.old reader.new writer.old writer.new)) }
+    ensures err { IfErr result (StopsScript desks
+        (sides R.remaining W.contents reader.old reader.new writer.old writer.new)) }
 {
     let mut lines = LineReader::new();
     let mut line = Vec::new(alloc);
@@ -195,22 +188,10 @@ pub fn hall<R: Read, W: Write>(
     desks: u8,
 ) -> Result<(), RunFault>
     ensures bad_count { IsErrOf result RunFault.BadCount ↔ (¬ ((desks ≡ 3) ⊎ (desks ≡ 5))) }
-    ensures ok { OnOk result ((input : List ℕ) × HasLeft (R.remaining reader.old) input
-        × Runs (record {
-          desks = desks;
-          input = input;
-          left = R.remaining reader.new;
-          old = W.contents writer.old;
-          new = W.contents writer.new;
-        })) }
-    ensures err { IfErr result (λ e. (input : List ℕ) × HasLeft (R.remaining reader.old) input
-        × RunFails e (record {
-          desks = desks;
-          input = input;
-          left = R.remaining reader.new;
-          old = W.contents writer.old;
-          new = W.contents writer.new;
-        })) }
+    ensures ok { OnOk result (RunsAll desks
+        (sides R.remaining W.contents reader.old reader.new writer.old writer.new)) }
+    ensures err { IfErr result (RunsPart desks
+        (sides R.remaining W.contents reader.old reader.new writer.old writer.new)) }
 {
     let mut world = match World::new(alloc, desks) {
         Ok(world) => world,

@@ -18,7 +18,7 @@ const MOST_DELIVERED: u64 = 999_999_999;
 /// The greatest id of an entry.
 const MOST_ID: u64 = 9_223_372_036_854_775_807;
 
-/// One number of 1 to `most`, and nothing behind it.
+/// One number of 1 to `most`, and nothing after it.
 fn number_of(most: u64, left: Option<&[u8]>) -> Option<u64>
     requires { most < 10000000000000000000 }
     ensures value { result
@@ -28,7 +28,7 @@ fn number_of(most: u64, left: Option<&[u8]>) -> Option<u64>
     number_between(1, most, left?)
 }
 
-/// The number of a desk, and nothing behind it.
+/// The number of a desk, and nothing after it.
 fn desk_of(desks: u8, left: Option<&[u8]>) -> Option<u8>
     ensures { result
         ≡ option_and_then (number_between 1 desks) (option_map (λ s. s.now) left.entry) }
@@ -80,7 +80,7 @@ fn submit_of(alloc: Global, desks: u8, left: Option<&[u8]>) -> Result<Option<Wor
     Ok(Some(WorldEvent::Submit(desk as u8, entry)))
 }
 
-/// The event of a word and what is left behind it.
+/// The event of a word and what is left after it.
 fn event_of_word(
     alloc: Global,
     desks: u8,

@@ -1,28 +1,37 @@
 -- What is said of one desk's calls is what is said of the world's happenings.
-use Rattle.std.proofs.Common.{◌≡◌, ◌≤◌, ◌⊎◌, inl, inr, ℕ, Bool, true, false, if◌then◌else◌, List, [], ◌++◌, Option, Some, Result, Ok, Err, IfOk, refl, sym, ap, ◌∙◌, arith}
+use Rattle.std.proofs.Common.{◌≡◌, ◌≤◌, ◌⊎◌, inl, inr, ℕ, Bool, true, false, if◌then◌else◌, List}
+use Rattle.std.proofs.Common.{[], ◌++◌, Option, Some, Result, Ok, Err, IfOk, refl, sym, ap, ◌∙◌}
+use Rattle.std.proofs.Common.{arith}
 use Rattle.std.proofs.lemmas.List.{append-nil}
 use Rattle.std.proofs.lemmas.Bool.Decides.{nat_tests}
-use Rattle.proposer.specs.declared.faults.Refusal.{Refusal}
+use Rattle.proposer.specs.declared.fault.Refusal.{Refusal}
 use Rattle.acceptor.specs.declared.entry.Entry.{Entry}
 use Rattle.acceptor.specs.declared.message.Message.{Message}
 use Rattle.acceptor.specs.declared.stored.Stored.{Stored}
-use Rattle.learner.specs.declared.event.Event.{Event}
-use Rattle.learner.specs.declared.event.Event.TheVariants.{Submit, Start, Tick, Deliver}
+use Rattle.learner.specs.declared.event.DeskEvent.{DeskEvent}
+use Rattle.learner.specs.declared.event.DeskEvent.TheVariants.{Submit, Start, Tick, Deliver}
 use Rattle.learner.specs.declared.event.WorldEvent.{WorldEvent}
-use Rattle.learner.specs.declared.event.WorldEvent.TheVariants.{Submit as SubmitAt, Start as StartAt, Tick as TickAt, Deliver as DeliverNth, Restart as RestartAt}
+use Rattle.learner.specs.declared.event.WorldEvent.TheVariants.{Submit as SubmitAt}
+use Rattle.learner.specs.declared.event.WorldEvent.TheVariants.{Start as StartAt, Tick as TickAt}
+use Rattle.learner.specs.declared.event.WorldEvent.TheVariants.{Deliver as DeliverNth}
+use Rattle.learner.specs.declared.event.WorldEvent.TheVariants.{Restart as RestartAt}
 use Rattle.learner.specs.Desks.{Desk, restarted}
 use Rattle.learner.specs.Steps.{Done, IsDesk, is_desk, step}
-use Rattle.learner.specs.Worlds.{World, put, world_after, at_desk, nth_sent, delivered, restart_at, happens}
+use Rattle.learner.specs.Worlds.{World, put, world_after, at_desk, nth_sent, delivered, restart_at}
+use Rattle.learner.specs.Worlds.{happens}
 use Rattle.store.specs.Keeping.{HoldsEither}
+use Rattle.store.specs.declared.keeper.Keeper.{Ghosts}
 use Rattle.world.proofs.Places.{put_same}
-use Rattle.roles.specs.declared.faults.NodeFault.{NodeFault}
-use Rattle.roles.specs.declared.faults.NodeFault.TheVariants.{Down}
-use Rattle.replica.specs.Nodes.{NodeValue, KeeperWords}
-use Rattle.replica.specs.Handles.{Handles, HoldsBeforeOrAfter, step_at}
+use Rattle.roles.specs.declared.fault.NodeFault.{NodeFault}
+use Rattle.roles.specs.declared.fault.NodeFault.TheVariants.{Down}
+use Rattle.replica.specs.Nodes.{NodeValue}
+use Rattle.replica.specs.Handles.{Handles, step_at}
+use Rattle.replica.specs.Stores.{HoldsBeforeOrAfter}
 use Rattle.hall_laws.proofs.Putting.{put_here, put_put}
 use Rattle.roles.specs.Opening.{opened}
 use Rattle.replica.specs.Opens.{Opens}
-use Rattle.hall_laws.specs.Stops.{AnswerIsEvent, OpeningsAreRestarts, Answered, Stopped, receiver, place, goes_on, IsEventAt, IsNext, with_desk, CallsAreHappenings}
+use Rattle.hall_laws.specs.Stops.{AnswerIsEvent, OpeningsAreRestarts, Answered, Stopped, receiver}
+use Rattle.hall_laws.specs.Stops.{place, goes_on, IsEventAt, IsNext, with_desk, CallsAreHappenings}
 
 there : (n d : ℕ) → IsDesk n d → is_desk n d ≡ true
 there n d ours =
@@ -66,7 +75,8 @@ openings_are_restarts n d w event ours = record {
 
 -- ---- the calls of a node
 
-happens_at : (n : ℕ) (w : World) (e : WorldEvent) (d : ℕ) (event : Event) → IsEventAt w e d event
+happens_at : (n : ℕ) (w : World) (e : WorldEvent) (d : ℕ) (event : DeskEvent)
+    → IsEventAt w e d event
     → happens n w e ≡ at_desk n w d event
 happens_at n w (SubmitAt k f) d event h = λ i. at_desk n w (h.0 i) (sym h.1 i)
 happens_at n w (StartAt k) d event h = λ i. at_desk n w (h.0 i) (sym h.1 i)
@@ -77,7 +87,7 @@ happens_at n w (DeliverNth k) d event h =
     there ∙ (λ i. at_desk n w (h.2 i) (sym h.3 i))
 happens_at n w (RestartAt k) d event h = absurd h
 
-place_at : (w : World) (e : WorldEvent) (d : ℕ) (event : Event) → IsEventAt w e d event
+place_at : (w : World) (e : WorldEvent) (d : ℕ) (event : DeskEvent) → IsEventAt w e d event
     → place w e ≡ d
 place_at w (SubmitAt k f) d event h = h.0
 place_at w (StartAt k) d event h = h.0
@@ -85,7 +95,8 @@ place_at w (TickAt k) d event h = h.0
 place_at w (DeliverNth k) d event h = ap (λ (o : Option Message). receiver o) h.1 ∙ h.2
 place_at w (RestartAt k) d event h = absurd h
 
-next_step : {K : Type 0} (k : KeeperWords K) (n d : ℕ) (w : World) (e : WorldEvent) (event : Event)
+next_step : {K : Type 0} (k : Ghosts K) (n d : ℕ) (w : World) (e : WorldEvent)
+    (event : DeskEvent)
     (node : NodeValue K) → IsNext k n d w e event node
     → step_at (k.home_of node.keeper) node.desk event ≡ step n d (w.desks d) event
 next_step k n d w e event node next =
@@ -93,8 +104,8 @@ next_step k n d w e event node next =
     let d_is = next.desk in
     let known = next.known in λ i. step (n_is i) (d_is i) (known i) event
 
-answered_is : {K : Type 0} (k : KeeperWords K) (n d : ℕ) (w : World) (e : WorldEvent)
-    (event : Event)
+answered_is : {K : Type 0} (k : Ghosts K) (n d : ℕ) (w : World) (e : WorldEvent)
+    (event : DeskEvent)
     (old new : NodeValue K) (messages : List Message) → IsNext k n d w e event old
     → Handles k old event (Ok messages) new
     → with_desk w d new.desk messages ≡ goes_on n w (Answered e)
@@ -112,7 +123,8 @@ same_world w d x same =
     let desks = put_same w.desks d x same in
     let sent = append-nil w.sent in λ i. record { desks = desks i; sent = sent i }
 
-refused_is : {K : Type 0} (k : KeeperWords K) (n d : ℕ) (w : World) (e : WorldEvent) (event : Event)
+refused_is : {K : Type 0} (k : Ghosts K) (n d : ℕ) (w : World) (e : WorldEvent)
+    (event : DeskEvent)
     (old new : NodeValue K) (fault : NodeFault) → IsNext k n d w e event old
     → Handles k old event (Err fault) new → with_desk w d new.desk [] ≡ w
 refused_is k n d w e event old new fault next h =
@@ -131,7 +143,7 @@ restart_before n d w x ours is =
     (there n d ours))
 
 -- a restart of the desk, in the world after its event
-restart_later : (n d : ℕ) (w : World) (event : Event) (r : Done) (x : Desk) → IsDesk n d
+restart_later : (n d : ℕ) (w : World) (event : DeskEvent) (r : Done) (x : Desk) → IsDesk n d
     → step n d (w.desks d) event ≡ Ok r → x ≡ restarted r.desk
     → with_desk w d x []
     ≡ record { desks = (restart_at n (at_desk n w d event) d).desks; sent = w.sent }
@@ -156,7 +168,8 @@ restart_later n d w event r x ours is same =
     sym again ∙ ap (λ (u : World). (restart_at n u d).desks) (sym after) in
     λ i. record { desks = desks i; sent = sent i }
 
-stopped_is : {K : Type 0} (k : KeeperWords K) (n d : ℕ) (w : World) (e : WorldEvent) (event : Event)
+stopped_is : {K : Type 0} (k : Ghosts K) (n d : ℕ) (w : World) (e : WorldEvent)
+    (event : DeskEvent)
     (old new : NodeValue K) (s : Stored) (log : List Entry) → IsNext k n d w e event old
     → Handles k old event (Err Down) new → k.is_honest new.keeper → k.may_hold new.keeper s log
     → (stored : Bool) × (with_desk w d (opened s log) [] ≡ goes_on n w (Stopped stored e))
@@ -201,8 +214,8 @@ stopped_is k n d w e event old new s log next h honest may =
         either r (sym (next_step k n d w e event old next) ∙ is) (holds.only s log may)
     go (Err why) is holds = absurd holds
 
-reopened_is : {K : Type 0} (k : KeeperWords K) (n d : ℕ) (w : World) (e : WorldEvent)
-    (event : Event) (old new : NodeValue K) (keeper : K) (node : NodeValue K)
+reopened_is : {K : Type 0} (k : Ghosts K) (n d : ℕ) (w : World) (e : WorldEvent)
+    (event : DeskEvent) (old new : NodeValue K) (keeper : K) (node : NodeValue K)
     → IsNext k n d w e event old → Handles k old event (Err Down) new
     → (k.is_honest keeper → k.is_honest new.keeper)
     → ((s : Stored) (log : List Entry) → k.may_hold keeper s log → k.may_hold new.keeper s log)
@@ -216,7 +229,7 @@ reopened_is k n d w e event old new keeper node next h honest held opens here =
     (held s log (opens.loaded here)) in
     let first = opens.first in (stop.0, ap (λ (x : Desk). with_desk w d x []) first ∙ stop.1)
 
-pub calls_are_happenings : {K : Type 0} (k : KeeperWords K) → CallsAreHappenings k
+pub calls_are_happenings : {K : Type 0} (k : Ghosts K) → CallsAreHappenings k
 calls_are_happenings k = record {
   answered = answered_is k;
   refused = refused_is k;

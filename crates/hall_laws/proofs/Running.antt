@@ -1,37 +1,43 @@
 -- The calls of served frames are a run of the world.
-use Rattle.std.proofs.Common.{◌≡◌, refl, sym, ap, subst, ◌∙◌, ℕ, Bool, true, false, cond, nat_lt, ◌≤◌, List, [], ◌∷◌, ◌++◌, length, Option, None, Some, Result, Ok, Err}
+use Rattle.std.proofs.Common.{◌≡◌, refl, sym, ap, subst, ◌∙◌, ℕ, Bool, true, false, cond, nat_lt}
+use Rattle.std.proofs.Common.{◌≤◌, List, [], ◌∷◌, ◌++◌, length, Option, None, Some, Result, Ok, Err}
 use Rattle.std.proofs.lemmas.List.{append-nil, append_assoc}
 use Rattle.std.proofs.lemmas.Bool.{ltb-false}
 use Rattle.acceptor.specs.declared.message.Message.{Message}
 use Rattle.learner.specs.Desks.{Desk}
-use Rattle.learner.specs.declared.event.Event.{Event}
-use Rattle.learner.specs.declared.event.Event.TheVariants.{Submit, Start, Tick, Deliver}
+use Rattle.learner.specs.declared.event.DeskEvent.{DeskEvent}
+use Rattle.learner.specs.declared.event.DeskEvent.TheVariants.{Submit, Start, Tick, Deliver}
 use Rattle.learner.specs.declared.event.WorldEvent.{WorldEvent}
-use Rattle.learner.specs.declared.event.WorldEvent.TheVariants.{Submit as SubmitAt, Start as StartAt, Tick as TickAt, Deliver as DeliverNth}
+use Rattle.learner.specs.declared.event.WorldEvent.TheVariants.{Submit as SubmitAt}
+use Rattle.learner.specs.declared.event.WorldEvent.TheVariants.{Start as StartAt, Tick as TickAt}
+use Rattle.learner.specs.declared.event.WorldEvent.TheVariants.{Deliver as DeliverNth}
 use Rattle.learner.specs.Worlds.{World, put}
 use Rattle.replica.specs.Handles.{Handles}
-use Rattle.replica.specs.Nodes.{NodeValue, KeeperWords}
-use Rattle.hall_laws.specs.Stops.{Happening, Answered, real_run, goes_on, with_desk, IsEventAt, CallsAreHappenings}
+use Rattle.replica.specs.Nodes.{NodeValue}
+use Rattle.store.specs.declared.keeper.Keeper.{Ghosts}
+use Rattle.hall_laws.specs.Stops.{Happening, Answered, real_run, goes_on, with_desk, IsEventAt}
+use Rattle.hall_laws.specs.Stops.{CallsAreHappenings}
 use Rattle.hall_laws.proofs.Putting.{put_here, put_put}
 use Rattle.world.proofs.Places.{put_same}
-use Rattle.roles.specs.declared.faults.NodeFault.{NodeFault}
+use Rattle.roles.specs.declared.fault.NodeFault.{NodeFault}
 use Rattle.wire.specs.declared.frame.What.{What}
 use Rattle.wire.specs.declared.frame.What.TheVariants as what
 use Rattle.wire.specs.declared.values.ClientRefusal.TheVariants as refusal
 use Rattle.serving.specs.Answering.{printed, printed_as, sheet}
 use Rattle.serving.specs.Making.{Call, Lead}
 use Rattle.serving.specs.Nodes.{Fate, Goes, Starves, Breaks}
-use Rattle.hall_laws.specs.Served.{handed_out, all_handed_out, IsSentTo, AreSentTo, StandsFor, CallsAreARun, SheetsAreOfTheLog}
+use Rattle.hall_laws.specs.Served.{handed_out, all_handed_out, IsSentTo, AreSentTo, StandsFor}
+use Rattle.hall_laws.specs.Served.{CallsAreARun, SheetsAreOfTheLog}
 use Rattle.serving.specs.Serving.{first_fate}
 
 -- the event of the world that an event at desk d is
-event_at : (d : ℕ) (sent : List Message) (event : Event) → IsSentTo d sent event → WorldEvent
+event_at : (d : ℕ) (sent : List Message) (event : DeskEvent) → IsSentTo d sent event → WorldEvent
 event_at d sent (Submit e) s = SubmitAt d e
 event_at d sent Start s = StartAt d
 event_at d sent Tick s = TickAt d
 event_at d sent (Deliver m) s = DeliverNth s.0
 
-is_event_at : (d : ℕ) (w : World) (event : Event) (s : IsSentTo d w.sent event)
+is_event_at : (d : ℕ) (w : World) (event : DeskEvent) (s : IsSentTo d w.sent event)
     → IsEventAt w (event_at d w.sent event s) d event
 unfolding event_at
 is_event_at d w (Submit e) s = (refl, refl)
@@ -59,8 +65,8 @@ with_both w d x y ms more =
 abbrev Comes : {K : Type 0} → ℕ → ℕ → World → NodeValue K → List Message → Type 0
 Comes n d w z ms = (hs : List Happening) × (with_desk w d z.desk ms ≡ real_run n w hs)
 
-up_call : {K : Type 0} (k : KeeperWords K) → CallsAreHappenings k → (n d : ℕ) (w : World)
-    (event : Event) (answer : Result (List Message) NodeFault) (x z : NodeValue K)
+up_call : {K : Type 0} (k : Ghosts K) → CallsAreHappenings k → (n d : ℕ) (w : World)
+    (event : DeskEvent) (answer : Result (List Message) NodeFault) (x z : NodeValue K)
     → StandsFor k n d w x → x.is_down ≡ false → IsSentTo d w.sent event
     → Handles k x event answer z → Comes n d w z (handed_out answer)
 up_call k law n d w event (Ok ms) x z h up s c = (
@@ -87,8 +93,8 @@ up_call k law n d w event (Err why) x z h up s c = (
 )
 
 -- a call of a desk that is down does nothing
-down_call : {K : Type 0} (k : KeeperWords K) (n d : ℕ) (w : World)
-    (event : Event) (answer : Result (List Message) NodeFault) (x z : NodeValue K)
+down_call : {K : Type 0} (k : Ghosts K) (n d : ℕ) (w : World)
+    (event : DeskEvent) (answer : Result (List Message) NodeFault) (x z : NodeValue K)
     → StandsFor k n d w x → x.is_down ≡ true
     → Handles k x event answer z → Comes n d w z (handed_out answer)
 down_call k n d w event answer x z h down c =
@@ -98,14 +104,14 @@ down_call k n d w event answer x z h down c =
           ∙ same_world w d z.desk (ap (λ u. u.desk) ended.1 ∙ h.known),
     )
 
-one_call : {K : Type 0} (k : KeeperWords K) → CallsAreHappenings k → (n d : ℕ) (w : World)
-    (event : Event) (answer : Result (List Message) NodeFault) (x z : NodeValue K) (b : Bool)
+one_call : {K : Type 0} (k : Ghosts K) → CallsAreHappenings k → (n d : ℕ) (w : World)
+    (event : DeskEvent) (answer : Result (List Message) NodeFault) (x z : NodeValue K) (b : Bool)
     → x.is_down ≡ b → StandsFor k n d w x → IsSentTo d w.sent event
     → Handles k x event answer z → Comes n d w z (handed_out answer)
 one_call k law n d w event answer x z false is h s c = up_call k law n d w event answer x z h is s c
 one_call k law n d w event answer x z true is h s c = down_call k n d w event answer x z h is c
 
-stands_on : {K : Type 0} (k : KeeperWords K) (n d : ℕ) (w : World) (event : Event)
+stands_on : {K : Type 0} (k : Ghosts K) (n d : ℕ) (w : World) (event : DeskEvent)
     (answer : Result (List Message) NodeFault) (x z : NodeValue K) (ms : List Message)
     → StandsFor k n d w x → Handles k x event answer z
     → StandsFor k n d (with_desk w d z.desk ms) z
@@ -116,7 +122,7 @@ stands_on k n d w event answer x z ms h c = record {
   known = sym (put_here w.desks d z.desk);
 }
 
-pub calls_run : {K : Type 0} (k : KeeperWords K) → CallsAreHappenings k → CallsAreARun k
+pub calls_run : {K : Type 0} (k : Ghosts K) → CallsAreHappenings k → CallsAreARun k
 calls_run k law n d w [] x y h s lead =
     ([], same_world w d y.desk (ap (λ u. u.desk) (sym lead) ∙ h.known))
 calls_run k law n d w (c ∷ cs) x y h s lead =
@@ -125,7 +131,8 @@ calls_run k law n d w (c ∷ cs) x y h s lead =
     let one = one_call k law n d w c.event c.answer x z x.is_down refl h s.0 lead.1 in
     let w2 = with_desk w d z.desk ms in
     let rest =
-    calls_run k law n d w2 cs z y (stands_on k n d w c.event c.answer x z ms h lead.1) s.1 lead.2 in (
+    calls_run k law n d w2 cs z y
+    (stands_on k n d w c.event c.answer x z ms h lead.1) s.1 lead.2 in (
       one.0 ++ rest.0,
       with_both w d z.desk y.desk ms (all_handed_out cs) ∙ rest.1
           ∙ ap (λ v. real_run n v rest.0) one.1 ∙ sym (run_both n w one.0 rest.0),

@@ -1,23 +1,32 @@
 -- Desks that stop make a run of the world.
-use Rattle.std.proofs.Common.{◌≡◌, ◌⊎◌, inl, inr, ℕ, zero, suc, Bool, true, false, if◌then◌else◌, List, [], ◌∷◌, ◌++◌, Option, Some, None, Result, Ok, Err, IsOk, slice_get, take, map, length, refl, sym, ap, subst, ◌∙◌}
+use Rattle.std.proofs.Common.{◌≡◌, ◌⊎◌, inl, inr, ℕ, zero, suc, Bool, true, false, if◌then◌else◌}
+use Rattle.std.proofs.Common.{List, [], ◌∷◌, ◌++◌, Option, Some, None, Result, Ok, Err, IsOk}
+use Rattle.std.proofs.Common.{slice_get, take, map, length, refl, sym, ap, subst, ◌∙◌}
 use Rattle.std.specs.Option.{option_map}
 use Rattle.std.proofs.lemmas.List.{take-map}
 use Rattle.std.proofs.lemmas.Option.{slice_get-map}
 use Rattle.acceptor.specs.declared.entry.Entry.{Entry}
 use Rattle.acceptor.specs.declared.message.Message.{Message}
-use Rattle.proposer.specs.declared.faults.Refusal.{Refusal}
-use Rattle.learner.specs.declared.event.Event.{Event}
-use Rattle.learner.specs.declared.event.Event.TheVariants.{Submit, Start, Tick, Deliver}
+use Rattle.proposer.specs.declared.fault.Refusal.{Refusal}
+use Rattle.learner.specs.declared.event.DeskEvent.{DeskEvent}
+use Rattle.learner.specs.declared.event.DeskEvent.TheVariants.{Submit, Start, Tick, Deliver}
 use Rattle.learner.specs.declared.event.WorldEvent.{WorldEvent}
-use Rattle.learner.specs.declared.event.WorldEvent.TheVariants.{Submit as SubmitAt, Start as StartAt, Tick as TickAt, Deliver as DeliverNth, Restart as RestartAt}
+use Rattle.learner.specs.declared.event.WorldEvent.TheVariants.{Submit as SubmitAt}
+use Rattle.learner.specs.declared.event.WorldEvent.TheVariants.{Start as StartAt, Tick as TickAt}
+use Rattle.learner.specs.declared.event.WorldEvent.TheVariants.{Deliver as DeliverNth}
+use Rattle.learner.specs.declared.event.WorldEvent.TheVariants.{Restart as RestartAt}
 use Rattle.proposer.specs.Plans.{Passing}
 use Rattle.proposer.specs.Proposing.{submit}
 use Rattle.learner.specs.Desks.{Desk, passing, restarted}
 use Rattle.learner.specs.Steps.{Done, is_desk, passed, step}
 use Rattle.learner.specs.Laws.{IsPrefix, LogsAgree, LogsAreSubmitted}
 use Rattle.learner.specs.Submitted.{IsTaken}
-use Rattle.learner.specs.Worlds.{World, new_world, put, world_after, at_desk, nth_sent, delivered, restart_at, happens, run, log_of}
-use Rattle.hall_laws.specs.Stops.{Happening, Answered, Stopped, place, goes_on, real_run, IsAmong, Follows, IsSameEvent, event_of, group, events_of, KeepsStep, StopsMakeARun, real_log, RealLogsAgree, WasSubmitted, RealEntriesAreSubmitted}
+use Rattle.learner.specs.Worlds.{World, new_world, put, world_after, at_desk, nth_sent, delivered}
+use Rattle.learner.specs.Worlds.{restart_at, happens, run, log_of}
+use Rattle.hall_laws.specs.Stops.{Happening, Answered, Stopped, place, goes_on, real_run, IsAmong}
+use Rattle.hall_laws.specs.Stops.{Follows, IsSameEvent, event_of, group, events_of, KeepsStep}
+use Rattle.hall_laws.specs.Stops.{StopsMakeARun, real_log, RealLogsAgree, WasSubmitted}
+use Rattle.hall_laws.specs.Stops.{RealEntriesAreSubmitted}
 use Rattle.hall_laws.proofs.Putting.{put_here, put_put}
 
 abbrev world_of : (ℕ → Desk) → List Message → World
@@ -65,7 +74,7 @@ desks_of : {real w : World} → Follows real w → real.desks ≡ w.desks
 desks_of f = f.desks
 
 -- one event at a desk
-at_follows : (n d : ℕ) (event : Event) (desks : ℕ → Desk) (a b : List Message) → Within a b
+at_follows : (n d : ℕ) (event : DeskEvent) (desks : ℕ → Desk) (a b : List Message) → Within a b
     → Follows (at_desk n (world_of desks a) d event) (at_desk n (world_of desks b) d event)
 at_follows n d event desks a b h = go (is_desk n d) (step n d (desks d) event)
   where
@@ -140,7 +149,7 @@ Continues n real w h =
     (there : WorldEvent) × IsSameEvent real.sent w.sent (event_of h) there
     × Follows (goes_on n real h) (run n w (group real h there))
 
-at_grows : (n d : ℕ) (event : Event) (w : World) → Within w.sent (at_desk n w d event).sent
+at_grows : (n d : ℕ) (event : DeskEvent) (w : World) → Within w.sent (at_desk n w d event).sent
 at_grows n d event w m k = go (is_desk n d) (step n d (w.desks d) event)
   where
     go : (t : Bool) (r : Result Done Refusal) → IsAmong m (if t then world_after w d r else w).sent

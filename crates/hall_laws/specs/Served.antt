@@ -3,12 +3,12 @@ use Rattle.std.specs.Prelude.{◌≡◌, ◌≤◌, ℕ, List, [], ◌∷◌, �
 use Rattle.std.specs.Prelude.{Err}
 use Rattle.acceptor.specs.declared.message.Message.{Message}
 use Rattle.formats.specs.declared.events.Event.{Event as EventOf}
-use Rattle.learner.specs.declared.event.Event.{Event}
-use Rattle.learner.specs.declared.event.Event.TheVariants.{Submit, Start, Tick, Deliver}
+use Rattle.learner.specs.declared.event.DeskEvent.{DeskEvent}
+use Rattle.learner.specs.declared.event.DeskEvent.TheVariants.{Submit, Start, Tick, Deliver}
 use Rattle.learner.specs.Steps.{IsDesk}
 use Rattle.learner.specs.Worlds.{World, nth_sent}
 use Rattle.replica.specs.Handles.{Handles}
-use Rattle.replica.specs.Nodes.{NodeValue, KeeperWords}
+use Rattle.replica.specs.Nodes.{NodeValue}
 use Rattle.hall_laws.specs.Stops.{Happening, real_run, with_desk}
 use Rattle.serving.specs.Answering.{style_of}
 use Rattle.serving.specs.Making.{Call, Lead}
@@ -17,10 +17,11 @@ use Rattle.serving.specs.Nodes.{Fate}
 use Rattle.serving.specs.Serving.{answer}
 use Rattle.serving.specs.declared.request.Request.TheVariants.{Printed}
 use Rattle.store.specs.declared.home.Home.{Home}
+use Rattle.store.specs.declared.keeper.Keeper.{Ghosts}
 use Rattle.wire.specs.declared.frame.What.TheVariants as what
 use Rattle.wire.specs.declared.values.SheetStyle.{SheetStyle as Style}
 use Rattle.answers.specs.Answers.{sheet_at}
-use Rattle.roles.specs.declared.faults.NodeFault.{NodeFault}
+use Rattle.roles.specs.declared.fault.NodeFault.{NodeFault}
 
 -- the messages that an answer hands out
 abbrev pub handed_out : Result (List Message) NodeFault → List Message
@@ -32,7 +33,7 @@ all_handed_out [] = []
 all_handed_out (c ∷ cs) = handed_out c.answer ++ all_handed_out cs
 
 -- a message that comes to desk d is among those sent, and is for it
-abbrev pub IsSentTo : ℕ → List Message → Event → Type 0
+abbrev pub IsSentTo : ℕ → List Message → DeskEvent → Type 0
 IsSentTo d sent (Submit e) = Unit {0}
 IsSentTo d sent Start = Unit {0}
 IsSentTo d sent Tick = Unit {0}
@@ -45,7 +46,7 @@ AreSentTo d sent (c ∷ cs) =
     IsSentTo d sent c.event × AreSentTo d (sent ++ handed_out c.answer) cs
 
 -- the node is desk d of n, and knows what that desk knows in the world
-pub record StandsFor {K : Type 0} (k : KeeperWords K) (n d : ℕ) (w : World)
+pub record StandsFor {K : Type 0} (k : Ghosts K) (n d : ℕ) (w : World)
     (node : NodeValue K) : Type 0 where
   pub ours : IsDesk n d
   pub desks : (k.home_of node.keeper).desks ≡ n
@@ -55,7 +56,7 @@ pub record StandsFor {K : Type 0} (k : KeeperWords K) (n d : ℕ) (w : World)
 -- Calls of a desk, each as `handle` makes it, happen in the world, where each message that they
 -- deliver was sent by the desk that it names: there are happenings behind which the desk knows what
 -- the node knows after the calls, what they hand out was sent, and nothing else has changed.
-abbrev pub CallsAreARun : {K : Type 0} → KeeperWords K → Type 0
+abbrev pub CallsAreARun : {K : Type 0} → Ghosts K → Type 0
 CallsAreARun {K} k =
     (n d : ℕ) (w : World) (calls : List Call) (x y : NodeValue K)
     → StandsFor k n d w x → AreSentTo d w.sent calls → Lead (Handles k) x calls y

@@ -4,8 +4,8 @@ use Rattle.std.specs.Prelude.{None, Ok, Err, IfOk, slice_get, take}
 use Rattle.acceptor.specs.declared.entry.Entry.{Entry}
 use Rattle.acceptor.specs.declared.message.Message.{Message}
 use Rattle.acceptor.specs.declared.stored.Stored.{Stored}
-use Rattle.learner.specs.declared.event.Event.{Event}
-use Rattle.learner.specs.declared.event.Event.TheVariants.{Submit, Start, Tick, Deliver}
+use Rattle.learner.specs.declared.event.DeskEvent.{DeskEvent}
+use Rattle.learner.specs.declared.event.DeskEvent.TheVariants.{Submit, Start, Tick, Deliver}
 use Rattle.learner.specs.declared.event.WorldEvent.{WorldEvent}
 use Rattle.learner.specs.declared.event.WorldEvent.TheVariants.{Submit as SubmitAt}
 use Rattle.learner.specs.declared.event.WorldEvent.TheVariants.{Start as StartAt, Tick as TickAt}
@@ -17,9 +17,10 @@ use Rattle.learner.specs.Desks.{Desk}
 use Rattle.learner.specs.Steps.{IsDesk, step}
 use Rattle.learner.specs.Worlds.{World, new_world, put, at_desk, nth_sent, restart_at, happens, run}
 use Rattle.learner.specs.Worlds.{after}
-use Rattle.roles.specs.declared.faults.NodeFault.{NodeFault}
-use Rattle.roles.specs.declared.faults.NodeFault.TheVariants.{Down}
-use Rattle.replica.specs.Nodes.{NodeValue, KeeperWords}
+use Rattle.roles.specs.declared.fault.NodeFault.{NodeFault}
+use Rattle.roles.specs.declared.fault.NodeFault.TheVariants.{Down}
+use Rattle.replica.specs.Nodes.{NodeValue}
+use Rattle.store.specs.declared.keeper.Keeper.{Ghosts}
 use Rattle.replica.specs.Handles.{Takes, Handles}
 use Rattle.replica.specs.Opens.{Opens}
 use Rattle.roles.specs.Opening.{opened}
@@ -152,23 +153,23 @@ RealEntriesAreSubmitted =
 -- hands out behind those sent before: its event
 abbrev pub AnswerIsEvent : Type 0
 AnswerIsEvent =
-    (n d : ℕ) (w : World) (event : Event) (y : Desk) (messages : List Message)
+    (n d : ℕ) (w : World) (event : DeskEvent) (y : Desk) (messages : List Message)
     → IsDesk n d → Takes (step n d (w.desks d) event) n d (w.desks d) y (Ok messages)
     → at_desk n w d event ≡ record { desks = put w.desks d y; sent = w.sent ++ messages }
 
 -- a desk that is opened again with the state before a call is its desk after a restart; with the
 -- state after the step, its desk after the event and a restart
-pub record OpeningIsRestart (n d : ℕ) (w : World) (event : Event) : Type 0 where
+pub record OpeningIsRestart (n d : ℕ) (w : World) (event : DeskEvent) : Type 0 where
   pub before : opened (w.desks d).stored (w.desks d).log ≡ (restart_at n w d).desks d
   pub later : IfOk (step n d (w.desks d) event)
       (λ r. opened r.desk.stored r.desk.log ≡ (restart_at n (at_desk n w d event) d).desks d)
 
 abbrev pub OpeningsAreRestarts : Type 0
 OpeningsAreRestarts =
-    (n d : ℕ) (w : World) (event : Event) → IsDesk n d → OpeningIsRestart n d w event
+    (n d : ℕ) (w : World) (event : DeskEvent) → IsDesk n d → OpeningIsRestart n d w event
 
 -- this event of the world is that event at desk d
-abbrev pub IsEventAt : World → WorldEvent → ℕ → Event → Type 0
+abbrev pub IsEventAt : World → WorldEvent → ℕ → DeskEvent → Type 0
 IsEventAt w (SubmitAt k e) d event = (k ≡ d) × (event ≡ Submit e)
 IsEventAt w (StartAt k) d event = (k ≡ d) × (event ≡ Start)
 IsEventAt w (TickAt k) d event = (k ≡ d) × (event ≡ Tick)
@@ -178,8 +179,8 @@ IsEventAt w (RestartAt k) d event = ⊥
 
 -- The node is desk d of n, it is not Down, and it knows what that desk knows in the world; and this
 -- event of the world is its next.
-pub record IsNext {K : Type 0} (k : KeeperWords K) (n d : ℕ) (w : World) (e : WorldEvent)
-    (event : Event) (node : NodeValue K) : Type 0 where
+pub record IsNext {K : Type 0} (k : Ghosts K) (n d : ℕ) (w : World) (e : WorldEvent)
+    (event : DeskEvent) (node : NodeValue K) : Type 0 where
   pub ours : IsDesk n d
   pub desks : (k.home_of node.keeper).desks ≡ n
   pub desk : (k.home_of node.keeper).desk ≡ d
@@ -192,27 +193,27 @@ abbrev pub with_desk : World → ℕ → Desk → List Message → World
 with_desk w d x messages = record { desks = put w.desks d x; sent = w.sent ++ messages }
 
 -- What `handle` does, whatever the keeper, is what happens in the world.
-pub record CallsAreHappenings {K : Type 0} (k : KeeperWords K) : Type 0 where
+pub record CallsAreHappenings {K : Type 0} (k : Ghosts K) : Type 0 where
   -- a call that is answered Ok is its event
-  pub answered : (n d : ℕ) (w : World) (e : WorldEvent) (event : Event) (old new : NodeValue K)
+  pub answered : (n d : ℕ) (w : World) (e : WorldEvent) (event : DeskEvent) (old new : NodeValue K)
       (messages : List Message)
       → IsNext k n d w e event old → Handles k old event (Ok messages) new
       → with_desk w d new.desk messages ≡ goes_on n w (Answered e)
   -- a call that is refused leaves the world as it was
-  pub refused : (n d : ℕ) (w : World) (e : WorldEvent) (event : Event) (old new : NodeValue K)
+  pub refused : (n d : ℕ) (w : World) (e : WorldEvent) (event : DeskEvent) (old new : NodeValue K)
       (fault : NodeFault)
       → IsNext k n d w e event old → Handles k old event (Err fault) new
       → with_desk w d new.desk [] ≡ w
   -- A call that is answered Down, and then an opening of what the store may hold, is a stopped call
   -- with its change in the store or without it.
-  pub stopped : (n d : ℕ) (w : World) (e : WorldEvent) (event : Event) (old new : NodeValue K)
+  pub stopped : (n d : ℕ) (w : World) (e : WorldEvent) (event : DeskEvent) (old new : NodeValue K)
       (s : Stored) (log : List Entry)
       → IsNext k n d w e event old → Handles k old event (Err Down) new
       → k.is_honest new.keeper → k.may_hold new.keeper s log
       → (stored : Bool) × (with_desk w d (opened s log) [] ≡ goes_on n w (Stopped stored e))
   -- So it is where `open` opens a node over a keeper of the same store: one that is honest only
   -- where the keeper before it was, and that finds nothing but what that keeper's store may hold.
-  pub reopened : (n d : ℕ) (w : World) (e : WorldEvent) (event : Event) (old new : NodeValue K)
+  pub reopened : (n d : ℕ) (w : World) (e : WorldEvent) (event : DeskEvent) (old new : NodeValue K)
       (keeper : K) (node : NodeValue K)
       → IsNext k n d w e event old → Handles k old event (Err Down) new
       → (k.is_honest keeper → k.is_honest new.keeper)

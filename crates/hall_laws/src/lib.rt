@@ -1,10 +1,12 @@
-//! What holds of every hall of desks, whichever stop and whatever they serve: the headline, and laws
-//! that tie real desks to it. Each is the contract of a function that does nothing.
+//! What holds of every hall of desks, whichever stop and whatever they serve: the headline, and
+//! laws that tie real desks to it. Each is the contract of a function that does nothing.
 #![tactic(auto)]
 
+mod arriving;
 mod served;
 mod stops;
 
+pub use arriving::messages_arrive;
 pub use served::{calls_are_a_run, sheets_are_of_the_log};
 pub use stops::{calls_are_happenings, stops_make_a_run};
 pub use world::laws::headline;

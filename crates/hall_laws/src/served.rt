@@ -1,6 +1,5 @@
 //! What is served, in the world.
 
-ghost use Rattle.replica.specs.Nodes.{words};
 ghost use Rattle.hall_laws.specs.Served.{CallsAreARun, SheetsAreOfTheLog};
 
 use crate::stops::calls_are_happenings;
@@ -12,8 +11,7 @@ use store::keeper::Keeper;
 /// by the desk that it names. So a hall of desks that serve is a run of real desks
 /// (`stops_make_a_run`), and the logs of its desks agree.
 pub fn calls_are_a_run<K: Keeper>()
-    ensures { CallsAreARun
-        (words K.home_of K.failures_of K.is_down K.is_honest K.keeps K.may_hold K.may_break) }
+    ensures { CallsAreARun K.Keeper }
 {
     calls_are_happenings::<K>();
 }

@@ -2,7 +2,6 @@
 
 ghost use Rattle.hall_laws.specs.Stops.{StopsMakeARun, RealLogsAgree, RealEntriesAreSubmitted};
 ghost use Rattle.hall_laws.specs.Stops.{AnswerIsEvent, OpeningsAreRestarts, CallsAreHappenings};
-ghost use Rattle.replica.specs.Nodes.{words};
 
 use learner::laws::{logs_agree, logs_are_submitted};
 use store::keeper::Keeper;
@@ -32,6 +31,5 @@ pub fn stops_make_a_run()
 /// that is answered Down, and then an opening of what the store may hold, is a stopped call, with
 /// its change in the store or without it.
 pub fn calls_are_happenings<K: Keeper>()
-    ensures { CallsAreHappenings
-        (words K.home_of K.failures_of K.is_down K.is_honest K.keeps K.may_hold K.may_break) }
+    ensures { CallsAreHappenings K.Keeper }
 {}

@@ -1,5 +1,7 @@
 -- A Start and a Tick keep the invariant.
-use Rattle.std.proofs.Common.{List, ◌∷◌, zero, suc, ◌≡◌, ℕ, ◌+◌, Bool, true, false, if◌then◌else◌, ◌==◌, [], ◌∷◌, inl, inr, Result, Ok, Err, length, refl, subst, arith, ◌≤◌}
+use Rattle.std.proofs.Common.{List, ◌∷◌, zero, suc, ◌≡◌, ℕ, ◌+◌, Bool, true, false, if◌then◌else◌}
+use Rattle.std.proofs.Common.{◌==◌, [], ◌∷◌, inl, inr, Result, Ok, Err, length, refl, subst, arith}
+use Rattle.std.proofs.Common.{◌≤◌}
 use Rattle.learner.specs.Invariant.{RoleStands, ProposingStands, IsSound}
 use Rattle.learner.proofs.Quiet.{plain_each, says_goes, gather_goes}
 use Rattle.learner.proofs.Votes.{lead_goes}
@@ -13,9 +15,11 @@ use Rattle.proposer.specs.declared.role.Role.{Role}
 use Rattle.proposer.specs.Plans.{queue_after}
 use Rattle.proposer.specs.declared.plan.Plan.{Plan}
 use Rattle.proposer.specs.declared.role.Role.TheVariants.{Idle, Gathering, Proposing, Leading}
-use Rattle.proposer.specs.Proposing.{is_full, is_outbid, last_round, gather, new_ballot, ask_next, lead, start, start_by_role, wants_ballot, tell_length, tick_idle, tick, tick_by_role}
-use Rattle.proposer.specs.declared.faults.Refusal.{Refusal}
-use Rattle.proposer.specs.declared.faults.Refusal.TheVariants.{LogFull, BallotsSpent}
+use Rattle.proposer.specs.Proposing.{is_full, is_outbid, last_number, gather, new_ballot, ask_next}
+use Rattle.proposer.specs.Proposing.{lead, start, start_by_role, wants_ballot, tell_length}
+use Rattle.proposer.specs.Proposing.{tick_idle, tick, tick_by_role}
+use Rattle.proposer.specs.declared.fault.Refusal.{Refusal}
+use Rattle.proposer.specs.declared.fault.Refusal.TheVariants.{LogFull, BallotsSpent}
 use Rattle.learner.specs.Worlds.{World}
 use Rattle.learner.specs.Desks.{passing}
 
@@ -27,17 +31,17 @@ ResultGoes n w d (Err why) = Unit {0}
 ballot_goes : (n : ℕ) (w : World) (d : ℕ) → IsSound n w
     → ResultGoes n w d
     (new_ballot n d (w.desks d).stored (length (w.desks d).log) (passing (w.desks d)))
-ballot_goes n w d sound = go (last_round (w.desks d).stored (passing (w.desks d)) == 4294967295)
+ballot_goes n w d sound = go (last_number (w.desks d).stored (passing (w.desks d)) == 4294967295)
   where
     go : (t : Bool)
         → ResultGoes n w d
         (if t then Err BallotsSpent
         else Ok
         (gather n d (w.desks d).stored (length (w.desks d).log) (passing (w.desks d))
-        (last_round (w.desks d).stored (passing (w.desks d)) + 1)))
+        (last_number (w.desks d).stored (passing (w.desks d)) + 1)))
     go true = tt
     go false =
-        gather_goes n w d sound (last_round (w.desks d).stored (passing (w.desks d)) + 1)
+        gather_goes n w d sound (last_number (w.desks d).stored (passing (w.desks d)) + 1)
         (omega arith)
 
 abbrev len : World → ℕ → ℕ

@@ -1,5 +1,7 @@
 -- The laws of agreement.
-use Rattle.std.proofs.Common.{◌≡◌, ℕ, zero, suc, ◌⊎◌, inl, inr, List, [], ◌∷◌, ◌++◌, Some, slice_get, take, drop, refl, sym, ap, ◌∙◌, subst, length, ◌<◌, ◌≤◌, arith, take-append-drop}
+use Rattle.std.proofs.Common.{◌≡◌, ℕ, zero, suc, ◌⊎◌, inl, inr, List, [], ◌∷◌, ◌++◌, Some}
+use Rattle.std.proofs.Common.{slice_get, take, drop, refl, sym, ap, ◌∙◌, subst, length, ◌<◌, ◌≤◌}
+use Rattle.std.proofs.Common.{arith, take-append-drop}
 use Rattle.learner.proofs.Grows.{chosen_grows}
 use Rattle.learner.proofs.Agree.{one_chosen}
 use Rattle.learner.proofs.Runs.{after_sound, run_more, run_log, run_append}
@@ -7,7 +9,8 @@ use Rattle.acceptor.specs.declared.entry.Entry.{Entry}
 use Rattle.learner.specs.declared.event.WorldEvent.{WorldEvent}
 use Rattle.learner.specs.Worlds.{World, new_world, run, after, log_of}
 use Rattle.learner.specs.Chosen.{IsChosen}
-use Rattle.learner.specs.Laws.{LogsAreChosen, OneIsChosen, LogsAgree, LogsGrow, EntriesStay, IsPrefix}
+use Rattle.learner.specs.Laws.{LogsAreChosen, OneIsChosen, LogsAgree, LogsGrow, EntriesStay}
+use Rattle.learner.specs.Laws.{IsPrefix}
 
 pub logs_are_chosen : LogsAreChosen
 logs_are_chosen n events d pos e h = ((after_sound n events).desks d).log pos e h

@@ -1,6 +1,9 @@
 -- Where the entries and the ballots in desks and messages come from: a walk over the steps, for any
 -- property of entries and any of ballots.
-use Rattle.std.proofs.Common.{take, drop, ◌≡◌, ℕ, ◌+◌, ◌≤◌, max, nat_lt, Bool, true, false, if◌then◌else◌, ◌==◌, List, [], ◌∷◌, ◌++◌, ◌⊎◌, inl, inr, Option, Some, None, Result, Ok, Err, length, slice_get, refl, subst, arith, zero, suc}
+use Rattle.std.proofs.Common.{take, drop, ◌≡◌, ℕ, ◌+◌, ◌≤◌, max, nat_lt, Bool, true, false}
+use Rattle.std.proofs.Common.{if◌then◌else◌, ◌==◌, List, [], ◌∷◌, ◌++◌, ◌⊎◌, inl, inr, Option, Some}
+use Rattle.std.proofs.Common.{None, Result, Ok, Err, length, slice_get, refl, subst, arith, zero}
+use Rattle.std.proofs.Common.{suc}
 use Rattle.std.proofs.lemmas.Bool.Decides.{nat_tests}
 use Rattle.acceptor.specs.declared.ballot.Ballot.{Ballot}
 use Rattle.acceptor.specs.Ballots.{is_below, is_same, no_ballot}
@@ -9,7 +12,8 @@ use Rattle.acceptor.specs.declared.message.Report.{Report}
 use Rattle.acceptor.specs.declared.message.Body.{Body}
 use Rattle.acceptor.specs.declared.message.Message.{Message}
 use Rattle.acceptor.specs.Messages.{message, has, desks_from, without, to_each, to_others}
-use Rattle.acceptor.specs.declared.message.Body.TheVariants.{Prepare, Promise, Accept, Accepted, Nack, Behind, Decided}
+use Rattle.acceptor.specs.declared.message.Body.TheVariants.{Prepare, Promise, Accept, Accepted}
+use Rattle.acceptor.specs.declared.message.Body.TheVariants.{Nack, Behind, Decided}
 use Rattle.acceptor.specs.declared.stored.Vote.{Vote}
 use Rattle.proposer.specs.declared.role.Heard.{Heard}
 use Rattle.proposer.specs.declared.role.Role.{Role}
@@ -20,12 +24,19 @@ use Rattle.proposer.specs.declared.plan.Plan.{Plan}
 use Rattle.acceptor.specs.Storing.{stored_after, log_after}
 use Rattle.proposer.specs.declared.role.Role.TheVariants.{Idle, Gathering, Proposing, Leading}
 use Rattle.acceptor.specs.declared.stored.Change.TheVariants.{Promised, Voted, Tried, Appended}
-use Rattle.acceptor.specs.Answers.{Reply, reported, elsewhere, prepare_here, prepare_reply, accept_here, accept_reply}
-use Rattle.proposer.specs.Proposing.{is_full, is_majority, last_round, gather, new_ballot, is_outbid, ask_next, lead, start, start_by_role, wants_ballot, tell_length, tick_idle, tick, tick_by_role, was_heard, higher, highest, choice, propose, promises_heard, promise_by_role, on_promise, votes_heard, accepted_by_role, on_accepted, is_ballot_of, on_nack}
-use Rattle.proposer.specs.declared.faults.Refusal.{Refusal}
-use Rattle.proposer.specs.declared.faults.Refusal.TheVariants.{LogFull, BallotsSpent}
+use Rattle.acceptor.specs.Answers.{Reply, reported, elsewhere, prepare_here, prepare_reply}
+use Rattle.acceptor.specs.Answers.{accept_here, accept_reply}
+use Rattle.proposer.specs.Proposing.{is_full, is_majority, last_number, gather, new_ballot}
+use Rattle.proposer.specs.Proposing.{is_outbid, ask_next, lead, start, start_by_role, wants_ballot}
+use Rattle.proposer.specs.Proposing.{tell_length, tick_idle, tick, tick_by_role, was_heard, higher}
+use Rattle.proposer.specs.Proposing.{highest, choice, propose, promises_heard, promise_by_role}
+use Rattle.proposer.specs.Proposing.{on_promise, votes_heard, accepted_by_role, on_accepted}
+use Rattle.proposer.specs.Proposing.{is_ballot_of, on_nack}
+use Rattle.proposer.specs.declared.fault.Refusal.{Refusal}
+use Rattle.proposer.specs.declared.fault.Refusal.TheVariants.{LogFull, BallotsSpent}
 use Rattle.learner.specs.Learning.{on_decided, on_behind, told, longest_run}
-use Rattle.learner.specs.Contents.{ListHolds, ReportHolds, BodyHolds, MessagesHold, VoteHolds, HeardHolds, RoleHolds, DeskHolds}
+use Rattle.learner.specs.Contents.{ListHolds, ReportHolds, BodyHolds, MessagesHold, VoteHolds}
+use Rattle.learner.specs.Contents.{HeardHolds, RoleHolds, DeskHolds}
 use Rattle.learner.specs.Steps.{answered, on_body}
 
 abbrev pub ChangeHolds : (Entry → Type 0) → (Ballot → Type 0) → Option Change → Type 0
@@ -49,7 +60,7 @@ abbrev pub Fits : (Ballot → Type 0) → ℕ → Option Change → Type 0
 Fits Q d None = Unit {0}
 Fits Q d (Some (Promised b)) = Unit {0}
 Fits Q d (Some (Voted v)) = Unit {0}
-Fits Q d (Some (Tried r)) = 1 ≤ r → Q (record { round = r; desk = d })
+Fits Q d (Some (Tried r)) = 1 ≤ r → Q (record { number = r; desk = d })
 Fits Q d (Some (Appended e)) = Unit {0}
 
 pub push_holds : (P : Entry → Type 0) (xs : List Entry) (e : Entry) → ListHolds P xs → P e
@@ -145,7 +156,7 @@ elsewhere_holds P Q d x from pos h = go (slice_get x.log pos) refl
 
 -- all ballots that are spoken of are real
 abbrev AreReal : (Ballot → Type 0) → Type 0
-AreReal Q = (b : Ballot) → Q b → 1 ≤ b.round
+AreReal Q = (b : Ballot) → Q b → 1 ≤ b.number
 
 prepare_holds : (P : Entry → Type 0) (Q : Ballot → Type 0) → AreReal Q
     → (d : ℕ) (x : Desk) (from : ℕ) (b : Ballot) (pos : ℕ) → DeskHolds P Q x → Q b
@@ -166,7 +177,7 @@ prepare_holds P Q real d x from b pos h q = go (pos == length x.log)
     higher_holds : (x.stored.promised ≡ no_ballot) ⊎ Q x.stored.promised
         → is_below x.stored.promised b ≡ false → Q x.stored.promised
     higher_holds (inl e) t =
-        let r : 1 ≤ b.round = real b q in
+        let r : 1 ≤ b.number = real b q in
         let u : is_below no_ballot b ≡ false = subst (λ (c : Ballot). is_below c b ≡ false) e t in
         absurd (grind (arith, nat_tests))
     higher_holds (inr i) t = i
@@ -371,7 +382,7 @@ nack_holds P Q x b promised = mine (is_ballot_of x.role b)
         then
         record {
           role = Some Idle;
-          seen = max x.seen promised.round;
+          seen = max x.seen promised.number;
           drop_first = false;
           change = None;
           messages = [];
@@ -388,7 +399,7 @@ nack_holds P Q x b promised = mine (is_ballot_of x.role b)
         then
         record {
           role = Some Idle;
-          seen = max x.seen promised.round;
+          seen = max x.seen promised.number;
           drop_first = false;
           change = None;
           messages = [];
@@ -479,27 +490,27 @@ ResultFits Q d (Err why) = Unit {0}
 ballot_holds : (P : Entry → Type 0) (Q : Ballot → Type 0) (n d : ℕ) (x : Desk)
     → ResultFits Q d (new_ballot n d x.stored (length x.log) (passing x))
     → ResultHolds P Q (new_ballot n d x.stored (length x.log) (passing x))
-ballot_holds P Q n d x = go (last_round x.stored (passing x) == 4294967295)
+ballot_holds P Q n d x = go (last_number x.stored (passing x) == 4294967295)
   where
     go : (t : Bool)
         → ResultFits Q d
         (if t then Err BallotsSpent
         else Ok
-        (gather n d x.stored (length x.log) (passing x) (last_round x.stored (passing x) + 1)))
+        (gather n d x.stored (length x.log) (passing x) (last_number x.stored (passing x) + 1)))
         → ResultHolds P Q
         (if t then Err BallotsSpent
         else Ok
-        (gather n d x.stored (length x.log) (passing x) (last_round x.stored (passing x) + 1)))
+        (gather n d x.stored (length x.log) (passing x) (last_number x.stored (passing x) + 1)))
     go true f = tt
     go false f =
-        let q : Q (record { round = last_round x.stored (passing x) + 1; desk = d }) =
+        let q : Q (record { number = last_number x.stored (passing x) + 1; desk = d }) =
         f (omega arith) in
         record {
           role = (q, tt);
           change = tt;
           messages =
               each_holds P Q d (desks_from 1 n)
-              (Prepare (record { round = last_round x.stored (passing x) + 1; desk = d })
+              (Prepare (record { number = last_number x.stored (passing x) + 1; desk = d })
               (length x.log))
               q;
         }

@@ -1,5 +1,6 @@
 -- When what holds of a desk's messages goes on to hold as the desk changes.
-use Rattle.std.proofs.Common.{◌≡◌, ℕ, ◌≤◌, List, [], ◌++◌, length, sym, ap, ◌∙◌, append_assoc, subst, arith, length-append}
+use Rattle.std.proofs.Common.{◌≡◌, ℕ, ◌≤◌, List, [], ◌++◌, length, sym, ap, ◌∙◌, append_assoc}
+use Rattle.std.proofs.Common.{subst, arith, length-append}
 use Rattle.std.proofs.lemmas.List.{append-nil}
 use Rattle.learner.specs.Order.{IsAtMost}
 use Rattle.learner.proofs.Order.{at_most_self, at_most_trans}
@@ -8,7 +9,8 @@ use Rattle.acceptor.specs.declared.ballot.Ballot.{Ballot}
 use Rattle.acceptor.specs.declared.entry.Entry.{Entry}
 use Rattle.acceptor.specs.declared.message.Body.{Body}
 use Rattle.acceptor.specs.declared.message.Message.{Message}
-use Rattle.acceptor.specs.declared.message.Body.TheVariants.{Prepare, Promise, Accept, Accepted, Nack, Behind, Decided}
+use Rattle.acceptor.specs.declared.message.Body.TheVariants.{Prepare, Promise, Accept, Accepted}
+use Rattle.acceptor.specs.declared.message.Body.TheVariants.{Nack, Behind, Decided}
 use Rattle.learner.specs.Desks.{Desk}
 use Rattle.learner.specs.Laws.{IsPrefix}
 
@@ -29,7 +31,7 @@ pub record Evolves (d : ℕ) (x y : Desk) : Type 0 where
   pub log : IsPrefix x.log y.log
   pub vote : (b : Ballot) → IsAtMost b x.stored.promised → length x.log ≡ length y.log
       → Covers x.stored.vote (length x.log) b → Covers y.stored.vote (length x.log) b
-  pub role : (b : Ballot) (pos : ℕ) → b.round ≤ x.stored.tried
+  pub role : (b : Ballot) (pos : ℕ) → b.number ≤ x.stored.tried
       → RoleAllows x.role (length x.log) b pos → RoleAllows y.role (length y.log) b pos
 
 pub evolves_self : (d : ℕ) (x : Desk) → Evolves d x x

@@ -1,19 +1,24 @@
 -- Histories of desks, computed from the definitions.
-use Rattle.std.proofs.Common.{◌≡◌, ℕ, zero, suc, List, [], ◌∷◌, ◌++◌, Some, None, Result, Ok, Err, drop, refl}
+use Rattle.std.proofs.Common.{◌≡◌, ℕ, zero, suc, List, [], ◌∷◌, ◌++◌, Some, None, Result, Ok, Err}
+use Rattle.std.proofs.Common.{drop, refl}
 use Rattle.std.specs.Prelude.{codes, replicate}
 use Rattle.acceptor.specs.declared.ballot.Ballot.{Ballot}
 use Rattle.acceptor.specs.declared.entry.Entry.{Entry}
 use Rattle.acceptor.specs.declared.message.Body.{Body}
-use Rattle.acceptor.specs.declared.message.Body.TheVariants.{Prepare, Promise, Accept, Accepted, Nack, Behind, Decided}
+use Rattle.acceptor.specs.declared.message.Body.TheVariants.{Prepare, Promise, Accept, Accepted}
+use Rattle.acceptor.specs.declared.message.Body.TheVariants.{Nack, Behind, Decided}
 use Rattle.acceptor.specs.declared.message.Message.{Message}
 use Rattle.acceptor.specs.Storing.{first_stored}
 use Rattle.acceptor.specs.Messages.{message}
-use Rattle.proposer.specs.declared.faults.Refusal.{Refusal}
-use Rattle.proposer.specs.declared.faults.Refusal.TheVariants.{Busy, BallotsSpent}
+use Rattle.proposer.specs.declared.fault.Refusal.{Refusal}
+use Rattle.proposer.specs.declared.fault.Refusal.TheVariants.{Busy, BallotsSpent}
 use Rattle.proposer.specs.declared.role.Role.TheVariants.{Idle, Gathering, Proposing, Leading}
-use Rattle.learner.specs.declared.event.Event.TheVariants.{Submit, Start, Deliver}
+use Rattle.learner.specs.declared.event.DeskEvent.TheVariants.{Submit, Start, Deliver}
 use Rattle.learner.specs.declared.event.WorldEvent.{WorldEvent}
-use Rattle.learner.specs.declared.event.WorldEvent.TheVariants.{Submit as SubmitAt, Start as StartAt, Tick as TickAt, Deliver as DeliverNth, Restart as RestartAt}
+use Rattle.learner.specs.declared.event.WorldEvent.TheVariants.{Submit as SubmitAt}
+use Rattle.learner.specs.declared.event.WorldEvent.TheVariants.{Start as StartAt, Tick as TickAt}
+use Rattle.learner.specs.declared.event.WorldEvent.TheVariants.{Deliver as DeliverNth}
+use Rattle.learner.specs.declared.event.WorldEvent.TheVariants.{Restart as RestartAt}
 use Rattle.learner.specs.Desks.{Desk, first_desk}
 use Rattle.learner.specs.Steps.{Done, on_body, step}
 use Rattle.learner.specs.Worlds.{after, log_of}
@@ -25,7 +30,7 @@ abbrev pub b : Entry
 b = record { id = 8; text = codes "REG 2 Bo Ek" }
 
 abbrev pub ballot : ℕ → ℕ → Ballot
-ballot round desk = record { round = round; desk = desk }
+ballot number desk = record { number = number; desk = desk }
 
 abbrev pub deliver : List ℕ → List WorldEvent
 deliver [] = []
@@ -126,7 +131,7 @@ taking_over_tick : drop 17 (after 3 (taking_over ++ TickAt 2 ∷ [])).sent
 taking_over_tick = refl
 
 -- Desk 1 has sent Accept and restarts. A late Accepted changes nothing and is not answered, the
--- queue is empty, and the next ballot is of a new round.
+-- queue is empty, and the next ballot is of a new number.
 abbrev restarted_desk : List WorldEvent
 restarted_desk =
     SubmitAt 1 a ∷ SubmitAt 1 b ∷ StartAt 1 ∷ deliver (1 ∷ 2 ∷ 4 ∷ 5 ∷ 6 ∷ 7 ∷ []) ++ RestartAt 1 ∷
@@ -255,9 +260,9 @@ equal_behind = refl
 longer_behind : answer 2 (Behind 5) ≡ says (message 1 2 (Behind 1) ∷ [])
 longer_behind = refl
 
--- a ballot of round 0, and a position past the last, are not heeded
-round_zero : answer 2 (Prepare (ballot 0 1) 0) ≡ says []
-round_zero = refl
+-- a ballot of number 0, and a position past the last, are not heeded
+number_zero : answer 2 (Prepare (ballot 0 1) 0) ≡ says []
+number_zero = refl
 
 past_the_last : answer 2 (Decided 65536 b) ≡ says []
 past_the_last = refl
@@ -348,7 +353,7 @@ tick_idle_queue = refl
 nothing_to_propose : ((after 3 (StartAt 1 ∷ deliver (1 ∷ 2 ∷ 4 ∷ 5 ∷ []))).desks 1).role ≡ Idle
 nothing_to_propose = refl
 
--- a queue of 64 is Busy, and after the last round there is no ballot
+-- a queue of 64 is Busy, and after the last number there is no ballot
 abbrev busy_desk : Desk
 busy_desk = record first_desk { queue = replicate 64 a }
 

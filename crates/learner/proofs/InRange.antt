@@ -1,32 +1,42 @@
 -- One step, and every list of events, keeps a desk and what it sends in range.
 use Rattle.std.specs.Prelude.{⊤}
-use Rattle.std.proofs.Common.{◌≡◌, ℕ, zero, suc, ◌<◌, Bool, true, false, if◌then◌else◌, ◌==◌, ◌&&◌, List, [], ◌∷◌, ◌++◌, inl, Option, Some, None, Result, Ok, Err, length, slice_get, nat_lt, refl, subst, sym, arith}
+use Rattle.std.proofs.Common.{◌≡◌, ℕ, zero, suc, ◌<◌, Bool, true, false, if◌then◌else◌, ◌==◌, ◌&&◌}
+use Rattle.std.proofs.Common.{List, [], ◌∷◌, ◌++◌, inl, Option, Some, None, Result, Ok, Err, length}
+use Rattle.std.proofs.Common.{slice_get, nat_lt, refl, subst, sym, arith}
 use Rattle.std.proofs.lemmas.Bool.Decides.{nat_tests}
 use Rattle.acceptor.specs.declared.ballot.Ballot.{Ballot}
 use Rattle.acceptor.specs.declared.entry.Entry.{Entry}
 use Rattle.acceptor.specs.declared.message.Body.{Body}
-use Rattle.acceptor.specs.declared.message.Body.TheVariants.{Prepare, Promise, Accept, Accepted, Nack, Behind, Decided}
+use Rattle.acceptor.specs.declared.message.Body.TheVariants.{Prepare, Promise, Accept, Accepted}
+use Rattle.acceptor.specs.declared.message.Body.TheVariants.{Nack, Behind, Decided}
 use Rattle.acceptor.specs.declared.message.Message.{Message}
 use Rattle.acceptor.specs.declared.stored.Change.{Change}
 use Rattle.acceptor.specs.declared.stored.Change.TheVariants.{Promised, Voted, Tried, Appended}
-use Rattle.proposer.specs.declared.faults.Refusal.{Refusal}
-use Rattle.proposer.specs.declared.faults.Refusal.TheVariants.{Busy, LogFull}
+use Rattle.proposer.specs.declared.fault.Refusal.{Refusal}
+use Rattle.proposer.specs.declared.fault.Refusal.TheVariants.{Busy, LogFull}
 use Rattle.proposer.specs.declared.plan.Plan.{Plan}
 use Rattle.proposer.specs.Plans.{Passing}
 use Rattle.proposer.specs.Proposing.{is_full, start, tick}
-use Rattle.learner.specs.declared.event.Event.{Event}
-use Rattle.learner.specs.declared.event.Event.TheVariants.{Submit, Start, Tick, Deliver}
+use Rattle.learner.specs.declared.event.DeskEvent.{DeskEvent}
+use Rattle.learner.specs.declared.event.DeskEvent.TheVariants.{Submit, Start, Tick, Deliver}
 use Rattle.learner.specs.declared.event.WorldEvent.{WorldEvent}
-use Rattle.learner.specs.declared.event.WorldEvent.TheVariants.{Submit as SubmitAt, Start as StartAt, Tick as TickAt, Deliver as DeliverNth, Restart as RestartAt}
+use Rattle.learner.specs.declared.event.WorldEvent.TheVariants.{Submit as SubmitAt}
+use Rattle.learner.specs.declared.event.WorldEvent.TheVariants.{Start as StartAt, Tick as TickAt}
+use Rattle.learner.specs.declared.event.WorldEvent.TheVariants.{Deliver as DeliverNth}
+use Rattle.learner.specs.declared.event.WorldEvent.TheVariants.{Restart as RestartAt}
 use Rattle.learner.specs.Desks.{Desk, restarted, passing}
-use Rattle.learner.specs.Steps.{IsDesk, is_desk, is_real, is_in_range, is_heeded, on_body, Done, done, idle, planned, passed, step}
-use Rattle.learner.specs.Worlds.{World, new_world, put, world_after, at_desk, nth_sent, delivered, happens, run, after}
+use Rattle.learner.specs.Steps.{IsDesk, is_desk, is_real, is_in_range, is_heeded, on_body, Done}
+use Rattle.learner.specs.Steps.{done, idle, planned, passed, step}
+use Rattle.learner.specs.Worlds.{World, new_world, put, world_after, at_desk, nth_sent, delivered}
+use Rattle.learner.specs.Worlds.{happens, run, after}
 use Rattle.learner.specs.Contents.{BodyHolds, MessagesHold, DeskHolds}
 use Rattle.learner.specs.Ranges.{IsInRange, IsReal, DeskIsInRange, AreInRange, DoneIsInRange}
 use Rattle.learner.specs.Laws.{MessagesAreInRange, DesksAreInRange, StepsStayInRange}
-use Rattle.learner.proofs.Contents.{Fits, PlanHolds, ResultHolds, ResultFits, push_holds, adopt_holds, body_holds, start_holds, tick_holds}
+use Rattle.learner.proofs.Contents.{Fits, PlanHolds, ResultHolds, ResultFits, push_holds}
+use Rattle.learner.proofs.Contents.{adopt_holds, body_holds, start_holds, tick_holds}
 use Rattle.learner.proofs.Goes.{put_all}
-use Rattle.learner.proofs.Ranges.{BodyIsPlaced, ArePlaced, DeskIsPlaced, PlanIsPlaced, ResultIsPlaced, body_placed, start_placed, tick_placed}
+use Rattle.learner.proofs.Ranges.{BodyIsPlaced, ArePlaced, DeskIsPlaced, PlanIsPlaced}
+use Rattle.learner.proofs.Ranges.{ResultIsPlaced, body_placed, start_placed, tick_placed}
 use Rattle.learner.proofs.Runs.{desk_from_test}
 
 -- any entry will do
@@ -246,7 +256,7 @@ after_in_range n w d (Ok r) h k =
       sent = all_append n d w.sent r.messages h.sent k.1;
     }
 
-at_desk_in_range : (n : ℕ) (w : World) (d : ℕ) (event : Event) → WorldIsInRange n w
+at_desk_in_range : (n : ℕ) (w : World) (d : ℕ) (event : DeskEvent) → WorldIsInRange n w
     → WorldIsInRange n (at_desk n w d event)
 at_desk_in_range n w d event h = go (is_desk n d) refl
   where

@@ -3,15 +3,18 @@ use Rattle.std.proofs.Common.{◌≡◌, List, [], ◌∷◌, ◌++◌, Some, No
 use Rattle.std.specs.Prelude.{codes}
 use Rattle.acceptor.specs.declared.ballot.Ballot.{Ballot}
 use Rattle.acceptor.specs.declared.entry.Entry.{Entry}
-use Rattle.acceptor.specs.declared.message.Body.TheVariants.{Prepare, Promise, Accept, Accepted, Behind, Decided}
+use Rattle.acceptor.specs.declared.message.Body.TheVariants.{Prepare, Promise, Accept, Accepted}
+use Rattle.acceptor.specs.declared.message.Body.TheVariants.{Behind, Decided}
 use Rattle.acceptor.specs.declared.stored.Stored.{Stored}
 use Rattle.acceptor.specs.Messages.{message}
-use Rattle.proposer.specs.declared.faults.Refusal.TheVariants.{LogFull, BallotsSpent}
+use Rattle.proposer.specs.declared.fault.Refusal.TheVariants.{LogFull, BallotsSpent}
 use Rattle.proposer.specs.declared.role.Role.TheVariants.{Idle, Proposing, Leading}
 use Rattle.proposer.specs.Plans.{Passing, only_say}
 use Rattle.proposer.specs.Proposing.{start, tick, gather}
 use Rattle.learner.specs.declared.event.WorldEvent.{WorldEvent}
-use Rattle.learner.specs.declared.event.WorldEvent.TheVariants.{Submit as SubmitAt, Start as StartAt, Tick as TickAt, Deliver as DeliverNth}
+use Rattle.learner.specs.declared.event.WorldEvent.TheVariants.{Submit as SubmitAt}
+use Rattle.learner.specs.declared.event.WorldEvent.TheVariants.{Start as StartAt, Tick as TickAt}
+use Rattle.learner.specs.declared.event.WorldEvent.TheVariants.{Deliver as DeliverNth}
 use Rattle.learner.specs.Worlds.{after, log_of}
 use Rattle.learner.proofs.Histories.{a, b, ballot, deliver}
 
@@ -161,7 +164,7 @@ full_tick : tick 3 1 (with_promise (ballot 1 1)) 65536 (once_leading (b ∷ []))
     (message 1 2 (Behind 65536) ∷ message 1 3 (Behind 65536) ∷ []))
 full_tick = refl
 
--- a kept ballot needs no further round; an outbid leader does
+-- a kept ballot needs no further number; an outbid leader does
 kept_though_spent :
     start 3 1 (record { promised = ballot 1 1; vote = None; tried = 4294967295 }) 1
     (once_leading [])

@@ -1,17 +1,24 @@
 -- Every entry was submitted, and every ballot tried.
-use Rattle.std.proofs.Common.{◌≡◌, ℕ, zero, suc, ◌≤◌, Bool, true, false, if◌then◌else◌, ◌==◌, List, [], ◌∷◌, ◌++◌, ◌⊎◌, inl, inr, Option, Some, None, Result, Ok, Err, length, slice_get, take, refl, sym, ap, append_assoc, subst, arith, IsOk}
+use Rattle.std.proofs.Common.{◌≡◌, ℕ, zero, suc, ◌≤◌, Bool, true, false, if◌then◌else◌, ◌==◌, List}
+use Rattle.std.proofs.Common.{[], ◌∷◌, ◌++◌, ◌⊎◌, inl, inr, Option, Some, None, Result, Ok, Err}
+use Rattle.std.proofs.Common.{length, slice_get, take, refl, sym, ap, append_assoc, subst, arith}
+use Rattle.std.proofs.Common.{IsOk}
 use Rattle.learner.specs.Invariant.{IsSound}
 use Rattle.learner.proofs.Goes.{put_all, put_here}
 use Rattle.learner.proofs.Runs.{desk_from_test, happens_follows, new_sound, run_append}
-use Rattle.learner.specs.Contents.{ReportHolds, BodyHolds, MessagesHold, VoteHolds, HeardHolds, RoleHolds, DeskHolds, WorldHolds, IsTried}
-use Rattle.learner.proofs.Contents.{Fits, ResultHolds, ResultFits, push_holds, get_holds, messages_append, message_at, adopt_holds, body_holds, start_holds, tick_holds}
+use Rattle.learner.specs.Contents.{ReportHolds, BodyHolds, MessagesHold, VoteHolds, HeardHolds}
+use Rattle.learner.specs.Contents.{RoleHolds, DeskHolds, WorldHolds, IsTried}
+use Rattle.learner.proofs.Contents.{Fits, ResultHolds, ResultFits, push_holds, get_holds}
+use Rattle.learner.proofs.Contents.{messages_append, message_at, adopt_holds, body_holds}
+use Rattle.learner.proofs.Contents.{start_holds, tick_holds}
 use Rattle.acceptor.specs.declared.ballot.Ballot.{Ballot}
 use Rattle.acceptor.specs.Ballots.{no_ballot}
 use Rattle.acceptor.specs.declared.entry.Entry.{Entry}
 use Rattle.acceptor.specs.declared.message.Report.{Report}
 use Rattle.acceptor.specs.declared.message.Body.{Body}
 use Rattle.acceptor.specs.declared.message.Message.{Message}
-use Rattle.acceptor.specs.declared.message.Body.TheVariants.{Prepare, Promise, Accept, Accepted, Nack, Behind, Decided}
+use Rattle.acceptor.specs.declared.message.Body.TheVariants.{Prepare, Promise, Accept, Accepted}
+use Rattle.acceptor.specs.declared.message.Body.TheVariants.{Nack, Behind, Decided}
 use Rattle.acceptor.specs.declared.stored.Vote.{Vote}
 use Rattle.proposer.specs.declared.role.Heard.{Heard}
 use Rattle.proposer.specs.declared.role.Role.{Role}
@@ -22,13 +29,17 @@ use Rattle.proposer.specs.declared.role.Role.TheVariants.{Idle, Gathering, Propo
 use Rattle.acceptor.specs.declared.stored.Change.TheVariants.{Promised, Voted, Tried, Appended}
 use Rattle.proposer.specs.Plans.{Passing}
 use Rattle.proposer.specs.Proposing.{is_full, start, tick}
-use Rattle.proposer.specs.declared.faults.Refusal.{Refusal}
-use Rattle.proposer.specs.declared.faults.Refusal.TheVariants.{Busy, LogFull}
-use Rattle.learner.specs.declared.event.Event.{Event}
+use Rattle.proposer.specs.declared.fault.Refusal.{Refusal}
+use Rattle.proposer.specs.declared.fault.Refusal.TheVariants.{Busy, LogFull}
+use Rattle.learner.specs.declared.event.DeskEvent.{DeskEvent}
 use Rattle.learner.specs.declared.event.WorldEvent.{WorldEvent}
-use Rattle.learner.specs.Worlds.{World, new_world, put, world_after, at_desk, nth_sent, delivered, happens, run, after}
-use Rattle.learner.specs.declared.event.Event.TheVariants.{Submit, Start, Tick, Deliver}
-use Rattle.learner.specs.declared.event.WorldEvent.TheVariants.{Submit as SubmitAt, Start as StartAt, Tick as TickAt, Deliver as DeliverNth, Restart as RestartAt}
+use Rattle.learner.specs.Worlds.{World, new_world, put, world_after, at_desk, nth_sent, delivered}
+use Rattle.learner.specs.Worlds.{happens, run, after}
+use Rattle.learner.specs.declared.event.DeskEvent.TheVariants.{Submit, Start, Tick, Deliver}
+use Rattle.learner.specs.declared.event.WorldEvent.TheVariants.{Submit as SubmitAt}
+use Rattle.learner.specs.declared.event.WorldEvent.TheVariants.{Start as StartAt, Tick as TickAt}
+use Rattle.learner.specs.declared.event.WorldEvent.TheVariants.{Deliver as DeliverNth}
+use Rattle.learner.specs.declared.event.WorldEvent.TheVariants.{Restart as RestartAt}
 use Rattle.learner.specs.Laws.{LogsAreSubmitted, ContentsStand}
 use Rattle.acceptor.specs.Storing.{stored_after}
 use Rattle.learner.specs.Steps.{planned, done, idle, passed, is_desk, is_heeded, on_body, step}
@@ -54,7 +65,7 @@ EventFits Q n w (DeliverNth k) = Unit {0}
 EventFits Q n w (RestartAt d) = Unit {0}
 
 abbrev AreReal : (Ballot → Type 0) → Type 0
-AreReal Q = (b : Ballot) → Q b → 1 ≤ b.round
+AreReal Q = (b : Ballot) → Q b → 1 ≤ b.number
 
 put_holds : (P : Entry → Type 0) (Q : Ballot → Type 0) (w : World) (d : ℕ) (y : Desk)
     (out : List Message)
@@ -76,7 +87,7 @@ planned_holds P Q w d (Ok p) h k =
 planned_holds P Q w d (Err why) h k = h
 
 at_desk_holds : (P : Entry → Type 0) (Q : Ballot → Type 0) (n : ℕ) (w : World) (d : ℕ)
-    (event : Event)
+    (event : DeskEvent)
     → WorldHolds P Q w
     → (is_desk n d ≡ true → WorldHolds P Q (world_after w d (step n d (w.desks d) event)))
     → WorldHolds P Q (at_desk n w d event)
@@ -191,7 +202,14 @@ happens_holds P Q real n w (RestartAt d) h k f = go (is_desk n d)
         record {
           desks =
               put_all (λ j z. DeskHolds P Q z) w.desks d (restarted (w.desks d))
-              (record { promised = was.promised; vote = was.vote; log = was.log; role = tt; queue = tt })
+              (record {
+                promised = was.promised;
+                vote = was.vote;
+                log = was.log;
+                role = tt;
+                queue =
+                    tt;
+              })
               h.desks;
           sent = h.sent;
         }
@@ -266,7 +284,7 @@ result_fits n w d ours (Ok p) = by_change p.change refl
     by_change (Some (Appended f)) e = tt
     by_change (Some (Tried r)) e =
         λ one. record {
-          round = one;
+          number = one;
           desk = desk_from_test n d ours;
           tried =
               put_here (λ j z. r ≤ z.stored.tried) w.desks d (adopt (w.desks d) p)
@@ -330,13 +348,13 @@ run_holds P n w (e ∷ es) sound h k =
       sent = messages_more P (IsTried n w) (IsTried n w') more w.sent h.sent;
     } in
     run_holds P n w' es f.sound
-    (happens_holds P (IsTried n w') (λ b t. t.round) n w e h' k.0 (event_fits n w e)) k.1
+    (happens_holds P (IsTried n w') (λ b t. t.number) n w e h' k.0 (event_fits n w e)) k.1
   where
     grown : (b : Ballot) → IsTried n w b → Rattle.learner.proofs.Goes.Follows n w (happens n w e)
         → IsTried n (happens n w e) b
     grown b t f =
         let old = t.tried in let more = (f.evolves b.desk).tried in
-        record { round = t.round; desk = t.desk; tried = omega arith }
+        record { number = t.number; desk = t.desk; tried = omega arith }
 
 new_holds : (P : Entry → Type 0) (Q : Ballot → Type 0) → WorldHolds P Q new_world
 new_holds P Q =

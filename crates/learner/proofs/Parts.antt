@@ -5,7 +5,8 @@ use Rattle.acceptor.specs.declared.stored.Vote.{Vote}
 use Rattle.learner.specs.Order.{IsAtMost}
 use Rattle.learner.specs.Worlds.{World}
 use Rattle.learner.specs.Invariant.{Asked, IsSound, VoteStands}
-use Rattle.learner.specs.Parts.{HasOneEntry, VotesStand, PromisesStand, AcceptsAreBacked, DecisionsAreChosen, RolesStand}
+use Rattle.learner.specs.Parts.{HasOneEntry, VotesStand, PromisesStand, AcceptsAreBacked}
+use Rattle.learner.specs.Parts.{DecisionsAreChosen, RolesStand}
 
 pub has_one_entry : (n : ℕ) (w : World) → IsSound n w → HasOneEntry w
 has_one_entry n w sound = sound.one

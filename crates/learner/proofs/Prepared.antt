@@ -1,5 +1,6 @@
 -- A Prepare and an Accept keep the invariant.
-use Rattle.std.proofs.Common.{◌≡◌, ℕ, Bool, true, false, if◌then◌else◌, ◌==◌, inr, Option, Some, None, length, slice_get, refl, sym, subst, arith}
+use Rattle.std.proofs.Common.{◌≡◌, ℕ, Bool, true, false, if◌then◌else◌, ◌==◌, inr, Option, Some}
+use Rattle.std.proofs.Common.{None, length, slice_get, refl, sym, subst, arith}
 use Rattle.std.proofs.lemmas.Bool.Decides.{nat_tests}
 use Rattle.learner.specs.Invariant.{Asked, IsSound}
 use Rattle.learner.proofs.Goes.{Goes}
@@ -8,11 +9,13 @@ use Rattle.learner.proofs.Votes.{promise_goes, vote_goes}
 use Rattle.acceptor.specs.declared.ballot.Ballot.{Ballot}
 use Rattle.acceptor.specs.Ballots.{is_below}
 use Rattle.acceptor.specs.declared.entry.Entry.{Entry}
-use Rattle.acceptor.specs.declared.message.Body.TheVariants.{Promise, Accepted, Nack, Decided, Behind}
+use Rattle.acceptor.specs.declared.message.Body.TheVariants.{Promise, Accepted, Nack, Decided}
+use Rattle.acceptor.specs.declared.message.Body.TheVariants.{Behind}
 use Rattle.learner.specs.Desks.{adopt}
 use Rattle.proposer.specs.Plans.{queue_after}
 use Rattle.proposer.specs.declared.plan.Plan.{Plan}
-use Rattle.acceptor.specs.Answers.{prepare_here, prepare_reply, accept_here, accept_reply, elsewhere, reported}
+use Rattle.acceptor.specs.Answers.{prepare_here, prepare_reply, accept_here, accept_reply}
+use Rattle.acceptor.specs.Answers.{elsewhere, reported}
 use Rattle.learner.specs.Worlds.{World}
 use Rattle.acceptor.specs.declared.stored.Change.TheVariants.{Promised, Voted}
 use Rattle.learner.specs.Steps.{answered}

@@ -1,5 +1,8 @@
 -- A step keeps positions, log lengths, ballots and desk numbers in their ranges.
-use Rattle.std.proofs.Common.{take, drop, ◌≡◌, ℕ, zero, suc, ◌+◌, ◌-◌, ◌<◌, ◌≤◌, max, nat_lt, Bool, true, false, not, if◌then◌else◌, ◌==◌, List, [], ◌∷◌, ◌++◌, Option, Some, None, Result, Ok, Err, length, slice_get, refl, arith, length-append, length-drop}
+use Rattle.std.proofs.Common.{take, drop, ◌≡◌, ℕ, zero, suc, ◌+◌, ◌-◌, ◌<◌, ◌≤◌, max, nat_lt, Bool}
+use Rattle.std.proofs.Common.{true, false, not, if◌then◌else◌, ◌==◌, List, [], ◌∷◌, ◌++◌, Option}
+use Rattle.std.proofs.Common.{Some, None, Result, Ok, Err, length, slice_get, refl, arith}
+use Rattle.std.proofs.Common.{length-append, length-drop}
 use Rattle.std.proofs.lemmas.Bool.Decides.{nat_tests}
 use Rattle.acceptor.specs.declared.ballot.Ballot.{Ballot}
 use Rattle.acceptor.specs.Ballots.{is_below, is_same}
@@ -8,18 +11,25 @@ use Rattle.acceptor.specs.declared.message.Report.{Report}
 use Rattle.acceptor.specs.declared.message.Body.{Body}
 use Rattle.acceptor.specs.declared.message.Message.{Message}
 use Rattle.acceptor.specs.Messages.{message, has, desks_from, without, to_each, to_others}
-use Rattle.acceptor.specs.declared.message.Body.TheVariants.{Prepare, Promise, Accept, Accepted, Nack, Behind, Decided}
+use Rattle.acceptor.specs.declared.message.Body.TheVariants.{Prepare, Promise, Accept, Accepted}
+use Rattle.acceptor.specs.declared.message.Body.TheVariants.{Nack, Behind, Decided}
 use Rattle.acceptor.specs.declared.stored.Vote.{Vote}
 use Rattle.acceptor.specs.declared.stored.Change.TheVariants.{Promised, Voted}
-use Rattle.acceptor.specs.Answers.{reported, elsewhere, prepare_here, prepare_reply, accept_here, accept_reply}
-use Rattle.proposer.specs.declared.faults.Refusal.{Refusal}
-use Rattle.proposer.specs.declared.faults.Refusal.TheVariants.{LogFull, BallotsSpent}
+use Rattle.acceptor.specs.Answers.{reported, elsewhere, prepare_here, prepare_reply, accept_here}
+use Rattle.acceptor.specs.Answers.{accept_reply}
+use Rattle.proposer.specs.declared.fault.Refusal.{Refusal}
+use Rattle.proposer.specs.declared.fault.Refusal.TheVariants.{LogFull, BallotsSpent}
 use Rattle.proposer.specs.declared.plan.Plan.{Plan}
 use Rattle.proposer.specs.declared.role.Heard.{Heard}
 use Rattle.proposer.specs.declared.role.Role.{Role}
 use Rattle.proposer.specs.declared.role.Role.TheVariants.{Idle, Gathering, Proposing, Leading}
 use Rattle.proposer.specs.Plans.{only_say, become, append}
-use Rattle.proposer.specs.Proposing.{is_full, is_majority, last_round, gather, new_ballot, is_outbid, ask_next, lead, start, start_by_role, wants_ballot, tell_length, tick_idle, tick, tick_by_role, was_heard, highest, choice, propose, promises_heard, promise_by_role, on_promise, votes_heard, accepted_by_role, on_accepted, is_ballot_of, on_nack}
+use Rattle.proposer.specs.Proposing.{is_full, is_majority, last_number, gather, new_ballot}
+use Rattle.proposer.specs.Proposing.{is_outbid, ask_next, lead, start, start_by_role, wants_ballot}
+use Rattle.proposer.specs.Proposing.{tell_length, tick_idle, tick, tick_by_role, was_heard, highest}
+use Rattle.proposer.specs.Proposing.{choice, propose, promises_heard, promise_by_role, on_promise}
+use Rattle.proposer.specs.Proposing.{votes_heard, accepted_by_role, on_accepted, is_ballot_of}
+use Rattle.proposer.specs.Proposing.{on_nack}
 use Rattle.learner.specs.Order.{IsBelow}
 use Rattle.learner.specs.Desks.{Desk, adopt, passing}
 use Rattle.learner.specs.Learning.{on_decided, on_behind, told, longest_run}
@@ -333,7 +343,7 @@ nack_placed n d x b promised h = mine (is_ballot_of x.role b)
         then
         record {
           role = Some Idle;
-          seen = max x.seen promised.round;
+          seen = max x.seen promised.number;
           drop_first = false;
           change = None;
           messages = [];
@@ -347,7 +357,7 @@ nack_placed n d x b promised h = mine (is_ballot_of x.role b)
         then (if is_below b promised then record {
           role =
               Some Idle;
-          seen = max x.seen promised.round;
+          seen = max x.seen promised.number;
           drop_first = false;
           change = None;
           messages = [];
@@ -434,20 +444,20 @@ ResultIsPlaced n d x (Err why) = Unit {0}
 
 ballot_placed : (n d : ℕ) (x : Desk) → DeskIsPlaced x → length x.log < 65536
     → ResultIsPlaced n d x (new_ballot n d x.stored (length x.log) (passing x))
-ballot_placed n d x h less = go (last_round x.stored (passing x) == 4294967295)
+ballot_placed n d x h less = go (last_number x.stored (passing x) == 4294967295)
   where
     go : (t : Bool)
         → ResultIsPlaced n d x
         (if t then Err BallotsSpent
         else Ok
-        (gather n d x.stored (length x.log) (passing x) (last_round x.stored (passing x) + 1)))
+        (gather n d x.stored (length x.log) (passing x) (last_number x.stored (passing x) + 1)))
     go true = tt
     go false =
         record {
           desk = record { log = h.log; role = (refl, less); vote = h.vote };
           messages =
               all_placed n d
-              (Prepare (record { round = last_round x.stored (passing x) + 1; desk = d })
+              (Prepare (record { number = last_number x.stored (passing x) + 1; desk = d })
               (length x.log))
               less;
         }

@@ -1,5 +1,7 @@
 -- Every list of events keeps the invariant.
-use Rattle.std.proofs.Common.{◌≡◌, ℕ, zero, suc, ◌≤◌, Bool, true, false, if◌then◌else◌, ◌==◌, List, [], ◌∷◌, ◌++◌, Option, Some, None, Result, Ok, Err, length, refl, sym, ap, ◌∙◌, append_assoc, subst, arith}
+use Rattle.std.proofs.Common.{◌≡◌, ℕ, zero, suc, ◌≤◌, Bool, true, false, if◌then◌else◌, ◌==◌, List}
+use Rattle.std.proofs.Common.{[], ◌∷◌, ◌++◌, Option, Some, None, Result, Ok, Err, length, refl, sym}
+use Rattle.std.proofs.Common.{ap, ◌∙◌, append_assoc, subst, arith}
 use Rattle.std.proofs.lemmas.List.{append-nil}
 use Rattle.std.proofs.lemmas.Bool.Decides.{nat_tests}
 use Rattle.learner.proofs.Evolves.{prefix_self, prefix_trans}
@@ -16,19 +18,25 @@ use Rattle.acceptor.specs.declared.entry.Entry.{Entry}
 use Rattle.acceptor.specs.declared.message.Body.{Body}
 use Rattle.acceptor.specs.declared.message.Message.{Message}
 use Rattle.acceptor.specs.Messages.{Sent}
-use Rattle.acceptor.specs.declared.message.Body.TheVariants.{Prepare, Promise, Accept, Accepted, Nack, Behind, Decided}
+use Rattle.acceptor.specs.declared.message.Body.TheVariants.{Prepare, Promise, Accept, Accepted}
+use Rattle.acceptor.specs.declared.message.Body.TheVariants.{Nack, Behind, Decided}
 use Rattle.proposer.specs.declared.plan.Plan.{Plan}
 use Rattle.learner.specs.Desks.{restarted, adopt, passing}
 use Rattle.proposer.specs.Plans.{Passing}
 use Rattle.proposer.specs.Proposing.{is_full, start, tick}
-use Rattle.proposer.specs.declared.faults.Refusal.{Refusal}
-use Rattle.proposer.specs.declared.faults.Refusal.TheVariants.{Busy, LogFull}
-use Rattle.learner.specs.declared.event.Event.{Event}
+use Rattle.proposer.specs.declared.fault.Refusal.{Refusal}
+use Rattle.proposer.specs.declared.fault.Refusal.TheVariants.{Busy, LogFull}
+use Rattle.learner.specs.declared.event.DeskEvent.{DeskEvent}
 use Rattle.learner.specs.declared.event.WorldEvent.{WorldEvent}
-use Rattle.learner.specs.Worlds.{World, new_world, put, world_after, at_desk, nth_sent, delivered, restart_at, happens, run, after}
-use Rattle.learner.specs.declared.event.Event.TheVariants.{Submit, Start, Tick, Deliver}
-use Rattle.learner.specs.declared.event.WorldEvent.TheVariants.{Submit as SubmitAt, Start as StartAt, Tick as TickAt, Deliver as DeliverNth, Restart as RestartAt}
-use Rattle.learner.specs.Steps.{IsDesk, Done, planned, done, idle, passed, is_desk, is_heeded, on_body, step}
+use Rattle.learner.specs.Worlds.{World, new_world, put, world_after, at_desk, nth_sent, delivered}
+use Rattle.learner.specs.Worlds.{restart_at, happens, run, after}
+use Rattle.learner.specs.declared.event.DeskEvent.TheVariants.{Submit, Start, Tick, Deliver}
+use Rattle.learner.specs.declared.event.WorldEvent.TheVariants.{Submit as SubmitAt}
+use Rattle.learner.specs.declared.event.WorldEvent.TheVariants.{Start as StartAt, Tick as TickAt}
+use Rattle.learner.specs.declared.event.WorldEvent.TheVariants.{Deliver as DeliverNth}
+use Rattle.learner.specs.declared.event.WorldEvent.TheVariants.{Restart as RestartAt}
+use Rattle.learner.specs.Steps.{IsDesk, Done, planned, done, idle, passed, is_desk, is_heeded}
+use Rattle.learner.specs.Steps.{on_body, step}
 use Rattle.learner.specs.Laws.{IsPrefix}
 
 pub desk_from_test : (n d : ℕ) → is_desk n d ≡ true → IsDesk n d
@@ -101,7 +109,7 @@ deliver_follows n w d m sound ours said = heeded (is_heeded n d m) refl
         goes_follows n w d _ [] sound
         (says_goes n w d sound (w.desks d).queue (w.desks d).seen [] (plain_none n w.sent d))
 
-at_desk_follows : (n : ℕ) (w : World) (d : ℕ) (event : Event) → IsSound n w
+at_desk_follows : (n : ℕ) (w : World) (d : ℕ) (event : DeskEvent) → IsSound n w
     → ((1 ≤ d) × (d ≤ n) → DoneFollows n w d (step n d (w.desks d) event))
     → Follows n w (at_desk n w d event)
 at_desk_follows n w d event sound h = go (is_desk n d) refl

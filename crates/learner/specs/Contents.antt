@@ -63,9 +63,9 @@ pub record WorldHolds (P : Entry → Type 0) (Q : Ballot → Type 0) (w : World)
   pub desks : (d : ℕ) → DeskHolds P Q (w.desks d)
   pub sent : MessagesHold P Q w.sent
 
--- the ballot is of a round from 1 on, and the desk that it names is one of n and has tried that
--- round
+-- the ballot is of a number from 1 on, and the desk that it names is one of n and has tried that
+-- number
 pub record IsTried (n : ℕ) (w : World) (b : Ballot) : Type 0 where
-  pub round : 1 ≤ b.round
+  pub number : 1 ≤ b.number
   pub desk : IsDesk n b.desk
-  pub tried : b.round ≤ (w.desks b.desk).stored.tried
+  pub tried : b.number ≤ (w.desks b.desk).stored.tried

@@ -71,7 +71,7 @@ RoleAllows (Leading own) len b pos = own ≡ b → pos < len
 pub record AcceptStands (n : ℕ) (sent : List Message) (d : ℕ) (x : Desk) (b : Ballot) (pos : ℕ)
     (e : Entry) : Type 0 where
   pub own : b.desk ≡ d
-  pub tried : b.round ≤ x.stored.tried
+  pub tried : b.number ≤ x.stored.tried
   pub role : RoleAllows x.role (length x.log) b pos
   pub backed : IsBacked n sent b pos e
 
@@ -109,7 +109,7 @@ Stands n sent d x (Decided pos e) = IsChosen n sent pos e
 pub record GatheringStands (n : ℕ) (sent : List Message) (d top len : ℕ) (b : Ballot) (pos : ℕ)
     (heard : List Heard) : Type 0 where
   pub own : b.desk ≡ d
-  pub tried : b.round ≤ top
+  pub tried : b.number ≤ top
   pub place : pos ≡ len
   pub distinct : IsDistinct (desks_of heard)
   pub ours : (k : ℕ) → Has (desks_of heard) k → IsDesk n k
@@ -120,7 +120,7 @@ pub record GatheringStands (n : ℕ) (sent : List Message) (d top len : ℕ) (b 
 pub record ProposingStands (n : ℕ) (sent : List Message) (d top len : ℕ) (b : Ballot) (pos : ℕ)
     (e : Entry) (heard : List ℕ) : Type 0 where
   pub own : b.desk ≡ d
-  pub tried : b.round ≤ top
+  pub tried : b.number ≤ top
   pub place : pos ≡ len
   pub asked : Sent sent d (Accept b pos e)
   pub distinct : IsDistinct heard
@@ -130,7 +130,7 @@ pub record ProposingStands (n : ℕ) (sent : List Message) (d top len : ℕ) (b 
 -- a majority promised the ballot, at one position, which is decided by now
 pub record LeadingStands (n : ℕ) (sent : List Message) (d top len : ℕ) (b : Ballot) : Type 0 where
   pub own : b.desk ≡ d
-  pub tried : b.round ≤ top
+  pub tried : b.number ≤ top
   pub at : ℕ
   pub before : at < len
   pub heard : List Heard

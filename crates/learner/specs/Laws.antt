@@ -8,7 +8,7 @@ use Rattle.learner.specs.Chosen.{IsChosen}
 use Rattle.learner.specs.Submitted.{IsSubmitted}
 use Rattle.learner.specs.Contents.{WorldHolds, IsTried}
 use Rattle.learner.specs.Ranges.{DeskIsInRange, IsInRange, DoneIsInRange}
-use Rattle.learner.specs.declared.event.Event.{Event}
+use Rattle.learner.specs.declared.event.DeskEvent.{DeskEvent}
 use Rattle.learner.specs.Desks.{Desk}
 use Rattle.learner.specs.Steps.{IsDesk, step}
 
@@ -62,7 +62,7 @@ abbrev pub Always : (ℕ → World → Type 0) → Type 0
 Always P = (n : ℕ) (events : List WorldEvent) → P n (after n events)
 
 -- each entry in a queue, a role, a vote, a log or a message was submitted, and each ballot there is
--- of a round that the desk which it names has tried
+-- of a number that the desk which it names has tried
 abbrev pub ContentsStand : Type 0
 ContentsStand =
     (n : ℕ) (events : List WorldEvent)
@@ -83,5 +83,5 @@ DesksAreInRange =
 -- a step of a desk in range leaves it in range, and what it sends is from that desk and in range
 abbrev pub StepsStayInRange : Type 0
 StepsStayInRange =
-    (n d : ℕ) (x : Desk) (event : Event) → IsDesk n d → DeskIsInRange n x
+    (n d : ℕ) (x : Desk) (event : DeskEvent) → IsDesk n d → DeskIsInRange n x
     → DoneIsInRange n d (step n d x event)

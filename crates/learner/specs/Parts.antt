@@ -1,5 +1,5 @@
 -- The parts of the invariant, each in words of its own. It is proved as one (IsSound), since its
--- parts rest on one another; what it says of submissions and of rounds that were tried stands in
+-- parts rest on one another; what it says of submissions and of numbers that were tried stands in
 -- Contents.
 use Rattle.std.specs.Prelude.{ℕ, ◌≡◌, ◌≤◌, ◌<◌, Option, Some, slice_get, length}
 use Rattle.acceptor.specs.declared.ballot.Ballot.{Ballot}
@@ -59,10 +59,10 @@ pub record DecisionsAreChosen (n : ℕ) (w : World) : Type 0 where
       → slice_get (w.desks d).log pos ≡ Some e → IsChosen n w.sent pos e
   pub told : (d pos : ℕ) (e : Entry) → Sent w.sent d (Decided pos e) → IsChosen n w.sent pos e
 
--- what a role has heard was sent, its ballot names the desk and is of a round that it has tried,
+-- what a role has heard was sent, its ballot names the desk and is of a number that it has tried,
 -- and its position, where it has one, is the log's length; the ballot of a desk that leads was
 -- promised by a majority, at a position below the log's length. An Accept names its sender and is
--- of a round that it has tried; none is of the ballot of a desk that gathers promises. None of the
+-- of a number that it has tried; none is of the ballot of a desk that gathers promises. None of the
 -- ballot of a desk that proposes is past its log's length, and none of the ballot of one that leads
 -- is there or past it
 pub record RolesStand (n : ℕ) (w : World) : Type 0 where
@@ -71,7 +71,7 @@ pub record RolesStand (n : ℕ) (w : World) : Type 0 where
   pub own : (d : ℕ) (b : Ballot) (pos : ℕ) (e : Entry)
       → Sent w.sent d (Accept b pos e) → b.desk ≡ d
   pub tried : (d : ℕ) (b : Ballot) (pos : ℕ) (e : Entry)
-      → Sent w.sent d (Accept b pos e) → b.round ≤ (w.desks d).stored.tried
+      → Sent w.sent d (Accept b pos e) → b.number ≤ (w.desks d).stored.tried
   pub accept : (d : ℕ) (b : Ballot) (pos : ℕ) (e : Entry)
       → Sent w.sent d (Accept b pos e)
       → RoleAllows (w.desks d).role (length (w.desks d).log) b pos

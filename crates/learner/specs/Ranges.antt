@@ -9,7 +9,7 @@ use Rattle.proposer.specs.declared.role.Role.TheVariants.{Idle, Gathering, Propo
 use Rattle.learner.specs.Order.{IsAtMost}
 use Rattle.learner.specs.Desks.{Desk}
 use Rattle.learner.specs.Steps.{IsDesk, is_in_range, Done}
-use Rattle.proposer.specs.declared.faults.Refusal.{Refusal}
+use Rattle.proposer.specs.declared.fault.Refusal.{Refusal}
 use Rattle.learner.specs.Contents.{DeskHolds}
 
 -- the message is from a desk of n to one of n, with its fields in their ranges
@@ -20,7 +20,7 @@ pub record IsInRange (n : ℕ) (m : Message) : Type 0 where
 
 -- a ballot that a desk of the hall can have made
 abbrev pub IsReal : ℕ → Ballot → Type 0
-IsReal n b = (1 ≤ b.round) × IsDesk n b.desk
+IsReal n b = (1 ≤ b.number) × IsDesk n b.desk
 
 -- a role's position, where it has one, is the log's length, and the log has room for it
 abbrev pub RoleIsPlaced : ℕ → Role → Type 0

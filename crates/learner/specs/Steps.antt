@@ -12,9 +12,9 @@ use Rattle.acceptor.specs.Answers.{Reply, prepare_reply, accept_reply}
 use Rattle.proposer.specs.Plans.{Passing}
 use Rattle.proposer.specs.declared.plan.Plan.{Plan}
 use Rattle.proposer.specs.Proposing.{submit, start, tick, on_promise, on_accepted, on_nack}
-use Rattle.proposer.specs.declared.faults.Refusal.{Refusal}
-use Rattle.learner.specs.declared.event.Event.{Event}
-use Rattle.learner.specs.declared.event.Event.TheVariants.{Submit, Start, Tick, Deliver}
+use Rattle.proposer.specs.declared.fault.Refusal.{Refusal}
+use Rattle.learner.specs.declared.event.DeskEvent.{DeskEvent}
+use Rattle.learner.specs.declared.event.DeskEvent.TheVariants.{Submit, Start, Tick, Deliver}
 use Rattle.learner.specs.Desks.{Desk, adopt, passing}
 use Rattle.learner.specs.Learning.{on_decided, on_behind}
 
@@ -27,7 +27,7 @@ is_desk n d = nat_le 1 d && nat_le d n
 
 -- a ballot that a desk of the hall can have made
 abbrev pub is_real : ℕ → Ballot → Bool
-is_real n b = nat_le 1 b.round && is_desk n b.desk
+is_real n b = nat_le 1 b.number && is_desk n b.desk
 
 -- the fields are in their ranges
 abbrev pub is_in_range : ℕ → Body → Bool
@@ -100,7 +100,7 @@ passed x (Ok p) =
 passed x (Err why) = Err why
 
 -- a step of desk d of n
-abbrev pub step : ℕ → ℕ → Desk → Event → Result Done Refusal
+abbrev pub step : ℕ → ℕ → Desk → DeskEvent → Result Done Refusal
 step n d x (Submit e) = passed x (submit (length x.log) (passing x) e)
 step n d x Start = planned x (start n d x.stored (length x.log) (passing x))
 step n d x Tick = planned x (tick n d x.stored (length x.log) (passing x))

@@ -1,7 +1,7 @@
 -- When an entry was submitted.
 use Rattle.std.specs.Prelude.{ℕ, ◌≡◌, IsOk, List, Some, slice_get, take}
 use Rattle.acceptor.specs.declared.entry.Entry.{Entry}
-use Rattle.learner.specs.declared.event.Event.TheVariants.{Submit}
+use Rattle.learner.specs.declared.event.DeskEvent.TheVariants.{Submit}
 use Rattle.learner.specs.declared.event.WorldEvent.{WorldEvent}
 use Rattle.learner.specs.declared.event.WorldEvent.TheVariants.{Submit as SubmitAt}
 use Rattle.learner.specs.Steps.{IsDesk, step}

@@ -5,9 +5,9 @@ use Rattle.std.specs.Prelude.{ℕ, zero, suc, if◌then◌else◌, List, [], ◌
 use Rattle.std.specs.Prelude.{Result, Ok, Err, ◌==◌, slice_get}
 use Rattle.acceptor.specs.declared.entry.Entry.{Entry}
 use Rattle.acceptor.specs.declared.message.Message.{Message}
-use Rattle.proposer.specs.declared.faults.Refusal.{Refusal}
-use Rattle.learner.specs.declared.event.Event.{Event}
-use Rattle.learner.specs.declared.event.Event.TheVariants.{Submit, Start, Tick, Deliver}
+use Rattle.proposer.specs.declared.fault.Refusal.{Refusal}
+use Rattle.learner.specs.declared.event.DeskEvent.{DeskEvent}
+use Rattle.learner.specs.declared.event.DeskEvent.TheVariants.{Submit, Start, Tick, Deliver}
 use Rattle.learner.specs.declared.event.WorldEvent.{WorldEvent}
 use Rattle.learner.specs.declared.event.WorldEvent.TheVariants.{Submit as SubmitAt}
 use Rattle.learner.specs.declared.event.WorldEvent.TheVariants.{Start as StartAt, Tick as TickAt}
@@ -34,7 +34,7 @@ world_after w d (Ok r) = record { desks = put w.desks d r.desk; sent = w.sent ++
 world_after w d (Err why) = w
 
 -- the event is done at desk d, where there is such a desk
-abbrev pub at_desk : ℕ → World → ℕ → Event → World
+abbrev pub at_desk : ℕ → World → ℕ → DeskEvent → World
 at_desk n w d event = if is_desk n d then world_after w d (step n d (w.desks d) event) else w
 
 -- the k-th message ever sent, counted from 1

@@ -5,7 +5,7 @@ use acceptor::message::Message;
 
 /// What may happen at a desk.
 #[derive(PartialEq, Eq, Debug, Drop)]
-pub enum Event {
+pub enum DeskEvent {
     /// A client hands in an entry, to be decided at some position.
     Submit(Entry),
     /// The desk is told to propose: by a new ballot, or by the one that it leads by.
@@ -29,7 +29,7 @@ pub enum WorldEvent {
     /// The k-th message ever sent, counted from 1, comes to its receiver. Where there is none,
     /// nothing happens.
     Deliver(u64),
-    /// This desk loses what it has not stored: its role, its queue, and the greatest round that it
+    /// This desk loses what it has not stored: its role, its queue, and the greatest number that it
     /// has seen.
     Restart(u8),
 }

@@ -5,9 +5,9 @@ ghost use Rattle.learner.specs.Learning.{decided_plan, behind_plan, told, longes
 ghost use Rattle.proposer.specs.Plans.{IsNothing};
 
 use crate::log::Log;
-use acceptor::NoMemory;
 use acceptor::message::{Body, Message, Messages};
 use acceptor::sending::to_one;
+use acceptor::{MOST_ENTRIES, NoMemory};
 use proposer::plan::Plan;
 use proposer::proposer::Proposer;
 use proposer::role::Role;
@@ -54,7 +54,7 @@ pub fn on_decided(
 /// What a desk is told whose log ends at position `first`: the entries from there on, at most 16,
 /// in order of position, each by a message of its own.
 fn tell(alloc: Global, log: &Log, from: u8, to: u8, first: u32) -> Result<Messages, NoMemory>
-    requires { first ≤ 65536 }
+    requires { first ≤ MOST_ENTRIES }
     ensures { let run = take longest_run (drop first log.now.entries) in
         IfOk result (λ ms. ms ≡ told from to first run) }
 {

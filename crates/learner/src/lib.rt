@@ -12,6 +12,6 @@ pub mod laws;
 pub mod learning;
 pub mod log;
 
-pub use event::{Event, WorldEvent};
+pub use event::{DeskEvent, WorldEvent};
 pub use learning::{on_behind, on_decided};
 pub use log::{Log, ReserveFault};

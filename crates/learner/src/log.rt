@@ -75,7 +75,8 @@ impl Log {
     pub fn reserve(&mut self) -> Result<(), ReserveFault>
         ensures ok { OnOk result (self.new ≡ reserved self.old) }
         ensures room { 0 < self.old.room → IsOk result }
-        ensures full { (result ≡ Err ReserveFault.LogFull) ↔ (length self.old.entries ≡ 65536) }
+        ensures full { (result ≡ Err ReserveFault.LogFull)
+            ↔ (length self.old.entries ≡ MOST_ENTRIES) }
         ensures err { OnErr result (self.new ≡ self.old) }
     {
         if self.entries.len() == MOST_ENTRIES as usize {
@@ -94,6 +95,7 @@ impl Log {
     {
         let pos = self.len();
         let id = entry.id();
+        // Both have room, so neither answer is a fault.
         if !self.first.contains_key(&id) {
             let _ = self.first.insert(id, pos);
         }
@@ -111,7 +113,7 @@ impl Log {
     /// The number of entries, at most 65,536.
     pub fn len(&self) -> u32
         ensures len { result ≡ length self.now.entries }
-        ensures most { length self.now.entries ≤ 65536 }
+        ensures most { length self.now.entries ≤ MOST_ENTRIES }
     {
         self.entries.len() as u32
     }

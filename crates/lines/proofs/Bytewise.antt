@@ -1,6 +1,8 @@
 -- Bytes taken one by one come to the lines of the whole text.
-use Rattle.std.proofs.Common.{length, add-zero, arith, ◌≡◌, ℕ, ◌+◌, Bool, true, false, cond, ◌==◌, List, [], ◌∷◌, ◌++◌, refl, sym, ap, ◌∙◌, append_assoc, append-nil}
-use Rattle.lines.proofs.Machine.{Progress, start, next, after_line, counted, with_byte, after_bytes, count_bytes}
+use Rattle.std.proofs.Common.{length, add-zero, arith, ◌≡◌, ℕ, ◌+◌, Bool, true, false, cond, ◌==◌}
+use Rattle.std.proofs.Common.{List, [], ◌∷◌, ◌++◌, refl, sym, ap, ◌∙◌, append_assoc, append-nil}
+use Rattle.lines.proofs.Machine.{Progress, start, next, after_line, counted, with_byte, after_bytes}
+use Rattle.lines.proofs.Machine.{count_bytes}
 use Rattle.lines.specs.Lines.{onto, lines_and_rest, whole_lines, rest_of}
 
 pub onto_nothing : (x : List (List ℕ) × List ℕ) → onto [] x ≡ x
@@ -43,7 +45,7 @@ moved_parts t p b bs =
     onto p.line
     (cond t ([] ∷ (lines_and_rest bs).0, (lines_and_rest bs).1) (onto (b ∷ []) (lines_and_rest bs)))
 
--- the line that has begun is what stands behind the last line feed
+-- the line that has begun is what stands after the last line feed
 pub line_of_rest : (p : Progress) (bs : List ℕ) → (after_bytes p bs).line ≡ (parts p.line bs).1
 unfolding next after_line
 line_of_rest p [] = sym (append-nil p.line)

@@ -1,16 +1,22 @@
 -- From byte to byte within a line, and from line to line.
-use Rattle.std.proofs.Common.{◌≡◌, ℕ, ◌+◌, ◌<◌, ◌≤◌, Bool, true, false, cond, ◌==◌, ◌&&◌, List, [], ◌∷◌, ◌++◌, length, unwrap_or, Option, MatchOption, None, Some, not, refl, sym, ap, ◌∙◌, append_assoc, append-nil, length-append, subst, arith}
+use Rattle.std.proofs.Common.{◌≡◌, ℕ, ◌+◌, ◌<◌, ◌≤◌, Bool, true, false, cond, ◌==◌, ◌&&◌, List, []}
+use Rattle.std.proofs.Common.{◌∷◌, ◌++◌, length, unwrap_or, Option, MatchOption, None, Some, not}
+use Rattle.std.proofs.Common.{refl, sym, ap, ◌∙◌, append_assoc, append-nil, length-append, subst}
+use Rattle.std.proofs.Common.{arith}
 use Rattle.std.proofs.lemmas.Bool.{ltb-true}
 use Rattle.std.proofs.lemmas.Bool.Decides.{nat_tests}
 use Rattle.std.proofs.KnownBytes.{Consumes-trans, Consumes-nil}
 use Rattle.std.specs.Io.KnownBytes.{Consumes, Keeps, IsAtEnd}
 use Rattle.lines.specs.Bytes.{HasLeft}
-use Rattle.lines.specs.Lines.{lines_and_rest, whole_lines, rest_of, lines_of, closed, is_within, part_within, lines_read}
-use Rattle.lines.specs.Reading.{Reading, nothing_read, has_room, HasGiven, GivesLine, GivesNone, IsAbove, IsBroken}
+use Rattle.lines.specs.Lines.{lines_and_rest, whole_lines, rest_of, lines_of, closed, is_within}
+use Rattle.lines.specs.Lines.{part_within, lines_read}
+use Rattle.lines.specs.Reading.{Reading, nothing_read, has_room, HasGiven, GivesLine, GivesNone}
+use Rattle.lines.specs.Reading.{IsAbove, IsBroken}
 use Rattle.lines.specs.model.Stepping.{TakesHeld, TakesNone, Fills, TakesByte, MeetsEnd}
-use Rattle.lines.proofs.More.{with_more, lines_more, room_behind, within_more, all_whole, above_with_more, longest_in_front, read_begins}
+use Rattle.lines.proofs.More.{with_more, lines_more, room_behind, within_more, all_whole}
+use Rattle.lines.proofs.More.{above_with_more, longest_in_front, read_begins}
 
--- a line has begun behind bytes whose lines were given
+-- a line has begun after bytes whose lines were given
 pub record Midway (p : Reading) (line given : List ℕ) (start now : Option (List ℕ)) : Type 0 where
   pub consumed : Consumes start now ((given ++ line) ++ p.held)
   pub bytes : p.bytes ≡ length (given ++ line)
@@ -41,7 +47,7 @@ begins p given start now going h = record {
   going = going;
 }
 
--- the room behind a line that has begun, by the counts of the reader
+-- the room after a line that has begun, by the counts of the reader
 room_is : (p : Reading) (line given : List ℕ) (start now : Option (List ℕ)) (b : ℕ)
     → Midway p line given start now
     → room_behind (given ++ line) b ≡ has_room p.bytes p.lines (length line) b
@@ -185,7 +191,7 @@ is_broken p line given start before now m none kept = record {
     stays (Some xs) None h = absurd h
     stays (Some xs) (Some ys) h = sym h
 
--- the input ends behind a whole line
+-- the input ends after a whole line
 pub ends_whole : (p q : Reading) (given : List ℕ) (start before now : Option (List ℕ))
     → Midway p [] given start before → MeetsEnd p q before now → GivesNone q given start now
 ends_whole p q given start before now m e =
@@ -295,6 +301,7 @@ pub starves : (p q : Reading) (line given : List ℕ) (b : ℕ) (start before no
 starves p q line given b start before now m t = (
   line ++ b ∷ q.held,
   subst (λ x. Consumes start now x) (append_assoc given line (b ∷ q.held))
-      (consumed_more start before now (given ++ line) p.held t.piece (b ∷ q.held) m.consumed t.consumed
+      (consumed_more start before now (given ++ line) p.held t.piece (b ∷ q.held) m.consumed
+      t.consumed
       t.bytes),
 )

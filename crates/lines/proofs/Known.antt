@@ -1,5 +1,6 @@
 -- Known bytes, and parts of lists.
-use Rattle.std.proofs.Common.{◌≡◌, ℕ, List, ◌++◌, take, drop, sym, ap, ◌∙◌, append_assoc, take-append-drop}
+use Rattle.std.proofs.Common.{◌≡◌, ℕ, List, ◌++◌, take, drop, sym, ap, ◌∙◌, append_assoc}
+use Rattle.std.proofs.Common.{take-append-drop}
 
 -- the front part grows by the first n of the rest
 pub split_front : (text front rest : List ℕ) (n : ℕ) → text ≡ front ++ rest

@@ -1,5 +1,7 @@
 -- Bytes are taken exactly as far as they are within the limits.
-use Rattle.std.proofs.Common.{◌≡◌, ℕ, ◌+◌, ◌<◌, ◌≤◌, Bool, true, false, cond, ◌==◌, ◌&&◌, ◌||◌, nat_le, nat_lt, List, [], ◌∷◌, ◌++◌, length, refl, sym, ap, subst, length-append, arith}
+use Rattle.std.proofs.Common.{◌≡◌, ℕ, ◌+◌, ◌<◌, ◌≤◌, Bool, true, false, cond, ◌==◌, ◌&&◌, ◌||◌}
+use Rattle.std.proofs.Common.{nat_le, nat_lt, List, [], ◌∷◌, ◌++◌, length, refl, sym, ap, subst}
+use Rattle.std.proofs.Common.{length-append, arith}
 use Rattle.std.specs.List.{list_all}
 use Rattle.std.proofs.lemmas.Bool.Decides.{nat_tests}
 use Rattle.std.proofs.lemmas.Bool.{leb-true, le-leb}
@@ -10,7 +12,7 @@ use Rattle.lines.proofs.Bytewise.{parts, moved, moved_parts, onto_nothing, onto_
 abbrev is_short : List ℕ → Bool
 is_short line = nat_le (length line) 10000
 
--- so many lines and bytes, behind those of a state, are within the limits
+-- so many lines and bytes, after those of a state, are within the limits
 record Fits (p : Progress) (lines : List (List ℕ)) (n : ℕ) : Type 0 where
   bytes : p.bytes + n ≤ 39387136
   count : p.lines + length lines ≤ 65536
@@ -79,7 +81,7 @@ leave false p b inside =
     omega (arith, inside.short, length-append p.line (b ∷ [])) in
     has false p few_bytes few_lines (grind (arith, nat_tests))
 
--- the lines behind a state, by whether the next byte is a line feed
+-- the lines after a state, by whether the next byte is a line feed
 moved_end : (p : Progress) (b : ℕ) (bs : List ℕ)
     → closed (moved_parts true p b bs) ≡ p.line ∷ closed (parts [] bs)
 moved_end p b bs = ap closed (parts_end p.line bs)

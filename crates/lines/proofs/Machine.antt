@@ -1,5 +1,6 @@
 -- Bytes taken one by one: the line that has begun, and how many lines and bytes there were.
-use Rattle.std.proofs.Common.{◌≡◌, ℕ, ◌+◌, Bool, true, false, cond, ◌==◌, ◌&&◌, ◌||◌, nat_lt, if◌then◌else◌, List, [], ◌∷◌, ◌++◌, length, fold, refl, arith}
+use Rattle.std.proofs.Common.{◌≡◌, ℕ, ◌+◌, Bool, true, false, cond, ◌==◌, ◌&&◌, ◌||◌, nat_lt}
+use Rattle.std.proofs.Common.{if◌then◌else◌, List, [], ◌∷◌, ◌++◌, length, fold, refl, arith}
 use Rattle.std.proofs.lemmas.List.Sums.{fold-append}
 
 -- what the bytes so far came to

@@ -1,21 +1,24 @@
--- One more byte behind bytes: their lines, and whether they are within the limits.
-use Rattle.std.proofs.Common.{◌≡◌, ℕ, ◌+◌, ◌<◌, ◌≤◌, Bool, true, false, cond, ◌==◌, ◌&&◌, List, [], ◌∷◌, ◌++◌, length, take, refl, sym, ap, ◌∙◌, append_assoc, append-nil, length-append, subst, arith}
+-- One more byte after bytes: their lines, and whether they are within the limits.
+use Rattle.std.proofs.Common.{◌≡◌, ℕ, ◌+◌, ◌<◌, ◌≤◌, Bool, true, false, cond, ◌==◌, ◌&&◌, List, []}
+use Rattle.std.proofs.Common.{◌∷◌, ◌++◌, length, take, refl, sym, ap, ◌∙◌, append_assoc, append-nil}
+use Rattle.std.proofs.Common.{length-append, subst, arith}
 use Rattle.std.proofs.Math.Seq.{take-append_seam}
-use Rattle.lines.specs.Lines.{onto, lines_and_rest, whole_lines, rest_of, lines_of, closed, is_within, longest_within, part_within, lines_read}
+use Rattle.lines.specs.Lines.{onto, lines_and_rest, whole_lines, rest_of, lines_of, closed}
+use Rattle.lines.specs.Lines.{is_within, longest_within, part_within, lines_read}
 use Rattle.lines.specs.Reading.{has_room}
 use Rattle.lines.proofs.Limits.{within_fits}
 use Rattle.lines.proofs.Longest.{within_front, longest_begins, longest_ends}
 use Rattle.lines.proofs.Bytewise.{rest_of_input, count_of_input, bytes_of_input}
 use Rattle.lines.proofs.Machine as machine
 
--- lines with one more byte behind them
+-- lines with one more byte after them
 abbrev pub with_more : Bool → List (List ℕ) × List ℕ → ℕ → List (List ℕ) × List ℕ
 with_more t parts b = cond t (parts.0 ++ parts.1 ∷ [], []) (parts.0, parts.1 ++ b ∷ [])
 
 abbrev in_front : Bool → ℕ → List (List ℕ) × List ℕ → List (List ℕ) × List ℕ
 in_front t b parts = cond t ([] ∷ parts.0, parts.1) (onto (b ∷ []) parts)
 
--- a byte in front and a byte behind
+-- a byte before and a byte after
 both_ends : (s t : Bool) (a b : ℕ) (parts : List (List ℕ) × List ℕ)
     → in_front s a (with_more t parts b) ≡ with_more t (in_front s a parts) b
 both_ends true true a b parts = refl
@@ -36,7 +39,7 @@ lines_more (a ∷ bs) b =
     ap (in_front (a == 10) a) (lines_more bs b)
     ∙ both_ends (a == 10) (b == 10) a b (lines_and_rest bs)
 
--- the room behind bytes
+-- the room after bytes
 abbrev pub room_behind : List ℕ → ℕ → Bool
 room_behind bs b = has_room (length bs) (length (whole_lines bs)) (length (rest_of bs)) b
 
@@ -53,7 +56,7 @@ within_more bs b =
     alone true false = refl
     alone false t = refl
 
--- bytes with nothing behind their last line feed are whole lines
+-- bytes with nothing after their last line feed are whole lines
 pub all_whole : (bs : List ℕ) → rest_of bs ≡ [] → lines_of bs ≡ whole_lines bs
 all_whole bs h =
     ap (λ (rest : List ℕ). closed (whole_lines bs, rest)) h ∙ append-nil (whole_lines bs)
@@ -81,7 +84,7 @@ longest_in_front bs b more fits over =
     (ap is_within longer ∙ over)
     ∙ front
 
--- whole lines stay whole with more behind them
+-- whole lines stay whole with more after them
 pub whole_begins : (bs more : List ℕ)
     → (others : List (List ℕ)) × (whole_lines (bs ++ more) ≡ whole_lines bs ++ others)
 whole_begins bs [] = ([], ap whole_lines (append-nil bs) ∙ sym (append-nil (whole_lines bs)))

@@ -1,5 +1,9 @@
 -- Bytes of a line that are taken at once.
-use Rattle.std.proofs.Common.{◌≡◌, ◌≢◌, ℕ, ◌+◌, ◌<◌, ◌≤◌, true, false, ◌==◌, List, [], ◌∷◌, ◌++◌, length, take, drop, slice_index, get_or-take, get_or-drop, length-drop, add-zero, min, Option, refl, sym, ap, ◌∙◌, suc, append_assoc, append-nil, take-append-drop, length-take, length-append, subst, arith}
+use Rattle.std.proofs.Common.{◌≡◌, ◌≢◌, ℕ, ◌+◌, ◌<◌, ◌≤◌, true, false, ◌==◌, List, [], ◌∷◌, ◌++◌}
+use Rattle.std.proofs.Common.{length, take, drop, slice_index, get_or-take, get_or-drop}
+use Rattle.std.proofs.Common.{length-drop, add-zero, min, Option, refl, sym, ap, ◌∙◌, suc}
+use Rattle.std.proofs.Common.{append_assoc, append-nil, take-append-drop, length-take}
+use Rattle.std.proofs.Common.{length-append, subst, arith}
 use Rattle.std.proofs.lemmas.Bool.Decides.{nat_tests}
 use Rattle.std.proofs.lemmas.List.{take-append-le, drop-append-le}
 use Rattle.std.proofs.KnownBytes.{Consumes-nil}
@@ -7,7 +11,7 @@ use Rattle.lines.specs.Reading.{Reading, has_room}
 use Rattle.lines.specs.model.Stepping.{TakesByte, IsRoomFor, TakesRun}
 use Rattle.lines.proofs.Given.{Midway, goes_on}
 
--- the first bytes behind a place are the first of those that are held from there on
+-- the first bytes after a place are the first of those that are held from there on
 pub held_front : (xs : List ℕ) (next end n m : ℕ) → m ≡ n → next ≤ end → end ≤ length xs
     → n ≤ length (drop next (take end xs))
     → take m (drop next xs) ≡ take n (drop next (take end xs))
@@ -79,7 +83,8 @@ run_goes_on (b ∷ run) p held bytes line now given start left is counts all cle
     } in
     let some : 0 < length (b ∷ run) = omega arith in
     let one = goes_on p q line given b start left left m byte
-    (room_of_run p (length line) (length (b ∷ run)) b some (room some)) (no_feed b (clean 0 some)) in
+    (room_of_run p (length line) (length (b ∷ run)) b some (room some))
+    (no_feed b (clean 0 some)) in
     run_goes_on run (record q { bytes = q.bytes + 1 }) held bytes (line ++ b ∷ []) now given start
     left refl (omega arith) (all ∙ sym (append_assoc line (b ∷ []) run))
     (λ k small. clean (suc k) (omega arith))
@@ -102,7 +107,7 @@ run_on p q line now given start left t m =
     (run_goes_on t.run p q.held (p.bytes + length t.run) line now given start left t.bytes refl
     t.line t.unended t.room m)
 
--- neither these bytes nor one behind them meet the input's end
+-- neither these bytes nor one after them meet the input's end
 pub still_going : (p q r : Reading) (line now : List ℕ) (b : ℕ) (before after : Option (List ℕ))
     → TakesRun p q line now → TakesByte q r b before after → p.over ≡ false → r.over ≡ false
 still_going p q r line now b before after run byte going =

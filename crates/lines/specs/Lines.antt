@@ -8,7 +8,7 @@ abbrev pub onto : List ℕ → List (List ℕ) × List ℕ → List (List ℕ) �
 onto text ([], rest) = ([], text ++ rest)
 onto text (line ∷ lines, rest) = ((text ++ line) ∷ lines, rest)
 
--- the lines that a line feed ends, and what stands behind the last line feed
+-- the lines that a line feed ends, and what stands after the last line feed
 abbrev pub lines_and_rest : List ℕ → List (List ℕ) × List ℕ
 lines_and_rest [] = ([], [])
 lines_and_rest (b ∷ bs) =
@@ -28,13 +28,23 @@ closed parts = parts.0 ++ (if length parts.1 == 0 then [] else parts.1 ∷ [])
 abbrev pub lines_of : List ℕ → List (List ℕ)
 lines_of bs = closed (lines_and_rest bs)
 
--- at most 65,536 lines, 10,000 bytes a line, and 39,387,136 bytes in all: as many as 65,536 lines
--- have of the longest command, 600 bytes, and a line feed
+abbrev pub most_lines : ℕ
+most_lines = 65536
+
+-- without its line feed
+abbrev pub most_in_line : ℕ
+most_in_line = 10000
+
+-- as many as the most lines have of the longest command, 600 bytes, and a line feed
+abbrev pub most_bytes : ℕ
+most_bytes = 39387136
+
+-- the input has at most so many bytes in all, so many lines, and so many bytes a line
 abbrev pub is_within : List ℕ → Bool
 is_within bs =
-    nat_le (length bs) 39387136
-    && nat_le (length (lines_of bs)) 65536
-    && list_all (λ line. nat_le (length line) 10000) (lines_of bs)
+    nat_le (length bs) most_bytes
+    && nat_le (length (lines_of bs)) most_lines
+    && list_all (λ line. nat_le (length line) most_in_line) (lines_of bs)
 
 -- the longest front part, of at most so many bytes, that is within the limits
 abbrev pub longest_within : ℕ → List ℕ → List ℕ
@@ -54,7 +64,7 @@ lines_read bs = if is_within bs then lines_of bs else whole_lines (part_within b
 abbrev pub is_line : List ℕ → Bool
 is_line line = not (list_any (λ b. b == 10) line)
 
--- the whole lines, a line feed behind each, and then the rest, are the input; and a line feed
+-- the whole lines, a line feed after each, and then the rest, are the input; and a line feed
 -- stands nowhere else
 pub record AreParts (input : List ℕ) (lines : List (List ℕ)) (rest : List ℕ) : Type 0 where
   pub joined : flat_map (λ line. line ++ 10 ∷ []) lines ++ rest ≡ input

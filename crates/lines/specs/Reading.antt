@@ -3,10 +3,11 @@ use Rattle.std.specs.Prelude.{◌≡◌, ℕ, ◌+◌, Bool, true, false, nat_lt
 use Rattle.std.specs.Prelude.{◌∷◌, ◌++◌, length, Option, Result, Ok, Err}
 use Rattle.std.specs.Io.KnownBytes.{Consumes, IsAtEnd}
 use Rattle.lines.specs.Lines.{whole_lines, rest_of, lines_of, is_within, part_within}
+use Rattle.lines.specs.Lines.{most_bytes, most_lines, most_in_line}
 use Rattle.lines.specs.declared.fault.RunFault.{RunFault}
 use Rattle.lines.specs.declared.fault.RunFault.TheVariants as fault
 
--- how many lines and bytes were given, what was read behind them, and whether the input's end was
+-- how many lines and bytes were given, what was read after them, and whether the input's end was
 -- met
 pub record Reading : Type 0 where
   pub lines : ℕ
@@ -17,10 +18,11 @@ pub record Reading : Type 0 where
 abbrev pub nothing_read : Reading
 nothing_read = record { lines = 0; bytes = 0; held = []; over = false }
 
--- behind so many bytes and lines, and so many bytes of a line, one more byte is within the limits
+-- after so many bytes and lines, and so many bytes of a line, one more byte is within the limits
 abbrev pub has_room : (bytes lines in_line : ℕ) → ℕ → Bool
 has_room bytes lines in_line byte =
-    nat_lt bytes 39387136 && nat_lt lines 65536 && (byte == 10 || nat_lt in_line 10000)
+    nat_lt bytes most_bytes && nat_lt lines most_lines
+    && (byte == 10 || nat_lt in_line most_in_line)
 
 -- the lines of these bytes were given: they are within the limits, and the last one is whole, or
 -- the input's end
@@ -44,7 +46,7 @@ pub record GivesNone (p : Reading) (given : List ℕ) (start now : Option (List 
   pub read : HasGiven p given start now
   pub over : p.over ≡ true
 
--- one byte of the rest that was read is above the limits, whatever stands behind it, and no line in
+-- one byte of the rest that was read is above the limits, whatever stands after it, and no line in
 -- front of it is left
 pub record IsAbove (given rest : List ℕ) (start now : Option (List ℕ)) : Type 0 where
   pub consumed : Consumes start now (given ++ rest)
@@ -64,7 +66,6 @@ GivesFault fault.InputTooLong given start now = (rest : List ℕ) × IsAbove giv
 GivesFault fault.Read given start now = (rest : List ℕ) × IsBroken given rest start now
 GivesFault fault.NoMemory given start now = (rest : List ℕ) × Consumes start now (given ++ rest)
 GivesFault fault.Write given start now = ⊥
-GivesFault fault.NoSuchRound given start now = ⊥
 GivesFault fault.BadCount given start now = ⊥
 GivesFault (fault.BadLine n) given start now = ⊥
 
@@ -74,3 +75,10 @@ abbrev pub Gives : Result Bool RunFault → Reading
 Gives (Ok true) p line given start now = GivesLine p line given start now
 Gives (Ok false) p line given start now = GivesNone p given start now
 Gives (Err e) p line given start now = GivesFault e given start now
+
+-- the same of every call: whatever was given before it, of what the reader then has left
+abbrev pub ReadsLine : Reading → Reading → Result Bool RunFault
+    → (line : List ℕ) (before after : Option (List ℕ)) → Type 0
+ReadsLine p q result line before after =
+    (given : List ℕ) (start : Option (List ℕ)) → HasGiven p given start before
+    → Gives result q line given start after

@@ -9,9 +9,6 @@ use thiserror::Error;
 /// Why a run over the lines of an input ended early. Its text is one line for people.
 #[derive(Clone, Copy, Debug, PartialEq, Eq, Error)]
 pub enum RunFault {
-    /// No accepted command opened the round.
-    #[error("no such round")]
-    NoSuchRound,
     /// A hall has three desks or five.
     #[error("bad number of desks")]
     BadCount,

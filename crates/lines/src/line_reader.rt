@@ -1,11 +1,11 @@
 //! A reader of lines: an input in pieces, its lines one after the other.
 
-ghost use Rattle.std.specs.Prelude.{◌≡◌, ◌≢◌, ◌<◌, ◌≤◌, ◌+◌, true, false, List, [], ℕ, Option};
+ghost use Rattle.std.specs.Prelude.{◌≡◌, ◌≢◌, ◌<◌, ◌≤◌, ◌+◌, true, false, [], ℕ};
 ghost use Rattle.std.specs.Prelude.{OnOk, OnErr, IfOk, IfErr, MatchOption, length, slice_index};
 ghost use Rattle.std.specs.Io.KnownBytes.{Keeps};
 ghost use Rattle.lines.specs.declared.fault.RunFault.TheVariants as run_fault;
-ghost use Rattle.lines.specs.Reading.{nothing_read, has_room, HasGiven, Gives};
-ghost use Rattle.lines.specs.model.Stepping.{TakesHeld, TakesNone, Fills, TakesByte, MeetsEnd};
+ghost use Rattle.lines.specs.Reading.{nothing_read, has_room, ReadsLine};
+ghost use Rattle.lines.specs.model.Stepping.{TakesHeld, TakesNone, Fills, GivesByte};
 ghost use Rattle.lines.specs.model.Stepping.{IsRoomFor, TakesRun};
 
 use crate::fault::RunFault;
@@ -109,12 +109,11 @@ impl LineReader {
     /// The next byte, or none at the end of the input.
     fn next_byte<R: Read>(&mut self, reader: &mut R) -> Result<Option<u8>, RunFault>
         requires { self.old.over ≡ false }
-        ensures ok { IfOk result (λ byte. MatchOption byte
-            (MeetsEnd self.old self.new (R.remaining reader.old) (R.remaining reader.new))
-            (λ b. TakesByte self.old self.new b
-            (R.remaining reader.old) (R.remaining reader.new))) }
-        ensures err { IfErr result (λ fault. (fault ≡ run_fault.Read) × (self.old.held ≡ [])
-            × Keeps (R.remaining reader.old) (R.remaining reader.new)) }
+        ensures ok { IfOk result
+            (GivesByte self.old self.new (R.remaining reader.old) (R.remaining reader.new)) }
+        ensures err { IfErr result (λ fault. fault ≡ run_fault.Read) }
+        ensures held { OnErr result (self.old.held ≡ []) }
+        ensures kept { OnErr result (Keeps (R.remaining reader.old) (R.remaining reader.new)) }
     {
         if let Some(byte) = self.take_held() {
             return Ok(Some(byte));
@@ -126,7 +125,7 @@ impl LineReader {
         }
     }
 
-    /// How many of the bytes that were read stand in a line behind so many: those up to its line
+    /// How many of the bytes that were read stand in a line after so many: those up to its line
     /// feed, as far as the limits have room.
     fn run_length(&self, in_line: usize) -> usize
         ensures held { result ≤ length self.now.held }
@@ -144,7 +143,7 @@ impl LineReader {
         memchr(b'\n', &self.piece[self.next..self.next + most]).unwrap_or(most)
     }
 
-    /// Takes those that stand in the line out of the bytes that were read, puts them behind it, and
+    /// Takes those that stand in the line out of the bytes that were read, puts them after it, and
     /// counts them.
     fn take_run(&mut self, line: &mut Vec<u8>) -> Result<(), RunFault>
         ensures ok { OnOk result (TakesRun self.old self.new line.old.items line.new.items) }
@@ -158,7 +157,7 @@ impl LineReader {
         Ok(())
     }
 
-    /// Counts one more byte, behind so many of its line, where it is within the limits.
+    /// Counts one more byte, after so many of its line, where it is within the limits.
     fn count_byte(&mut self, in_line: usize, byte: u8) -> bool
         ensures room { result ≡ has_room self.old.bytes self.old.lines in_line byte }
         ensures counted { result ≡ true
@@ -175,7 +174,7 @@ impl LineReader {
 
     /// Counts one more line.
     fn count_line(&mut self)
-        requires { self.old.lines < 65536 }
+        requires { self.old.lines < MOST_LINES }
         ensures { self.new ≡ record self.old { lines = self.old.lines + 1 } }
     {
         self.lines += 1;
@@ -204,9 +203,8 @@ impl LineReader {
         reader: &mut R,
         line: &mut Vec<u8>,
     ) -> Result<bool, RunFault>
-        ensures { (given : List ℕ) (start : Option (List ℕ))
-            → HasGiven self.old given start (R.remaining reader.old)
-            → Gives result self.new line.new.items given start (R.remaining reader.new) }
+        ensures { ReadsLine self.old self.new result line.new.items
+            (R.remaining reader.old) (R.remaining reader.new) }
     {
         line.clear();
         if self.is_over() {

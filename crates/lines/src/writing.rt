@@ -1,8 +1,8 @@
 //! Writing a whole text, at once or as it grows.
 
-ghost use Rattle.std.specs.Prelude.{◌≡◌, ◌<◌, [], List, ℕ, OnOk, OnErr, IfErr, length};
+ghost use Rattle.std.specs.Prelude.{◌≡◌, ◌<◌, [], OnOk, OnErr, IfErr, length};
 ghost use Rattle.std.specs.Io.KnownBytes.{Appends};
-ghost use Rattle.lines.specs.Bytes.{Writes, AppendsPart};
+ghost use Rattle.lines.specs.Bytes.{WritesUpTo, AppendsPart};
 ghost use Rattle.lines.specs.declared.fault.RunFault.TheVariants as run_fault;
 
 use crate::fault::RunFault;
@@ -35,7 +35,12 @@ fn write_bytes<W: Write>(writer: &mut W, text: &[u8]) -> Result<(), WriteFailed>
     Ok(())
 }
 
-/// Writes a text and flushes the writer. Where that fails, a front part of the text is written.
+/// Gives the writer a whole text, and then asks it to flush. Where either fails, a front part of
+/// the text was given.
+///
+/// What was given stands in the writer's contents before the flush, and the flush leaves them as
+/// they are. So the contract says nothing of the flush itself: a writer that holds bytes back hands
+/// them on where its own `flush` does.
 pub fn write_text<W: Write>(writer: &mut W, text: &[u8]) -> Result<(), WriteFailed>
     ensures ok { OnOk result (Appends (W.contents writer.old) (W.contents writer.new) text.now) }
     ensures err { OnErr result
@@ -71,9 +76,8 @@ pub fn write_out<W: Write>(writer: &mut W, text: &mut Vec<u8>) -> Result<(), Run
 /// on: at most 4,095 bytes. Where a write fails, a front part of the text is written.
 pub fn write_long<W: Write>(writer: &mut W, text: &mut Vec<u8>) -> Result<(), RunFault>
     ensures ok { OnOk result
-        ((front : List ℕ)
-        × Writes (W.contents writer.old) (W.contents writer.new) text.old.items front
-        text.new.items) }
+        (WritesUpTo (W.contents writer.old) (W.contents writer.new)
+        text.old.items text.new.items) }
     ensures short { OnOk result (length text.new.items < 4096) }
     ensures err { OnErr result
         (AppendsPart (W.contents writer.old) (W.contents writer.new) text.old.items) }

@@ -1,5 +1,8 @@
 -- What is kept of a log's first entries: one entry more, and a log that grew.
-use Rattle.std.proofs.Common.{◌≡◌, ◌⊎◌, inl, inr, ℕ, zero, suc, ◌+◌, ◌<◌, ◌≤◌, Bool, true, false, if◌then◌else◌, List, [], ◌∷◌, ◌++◌, Option, Some, None, Result, Ok, Err, length, take, slice_get, refl, sym, ap, ◌∙◌, subst, arith, length-append}
+use Rattle.std.proofs.Common.{◌≡◌, ◌⊎◌, inl, inr, ℕ, zero, suc, ◌+◌, ◌<◌, ◌≤◌, Bool, true, false}
+use Rattle.std.proofs.Common.{if◌then◌else◌, List, [], ◌∷◌, ◌++◌, Option, Some, None, Result, Ok}
+use Rattle.std.proofs.Common.{Err, length, take, slice_get, refl, sym, ap, ◌∙◌, subst, arith}
+use Rattle.std.proofs.Common.{length-append}
 use Rattle.std.proofs.lemmas.List.{append-nil, take-append-le}
 use Rattle.std.proofs.lemmas.Option.{slice_get_within}
 use Rattle.acceptor.specs.declared.entry.Entry.{Entry}
@@ -7,25 +10,27 @@ use Rattle.acceptor.specs.declared.message.Message.{Message}
 use Rattle.acceptor.specs.declared.stored.Change.{Change}
 use Rattle.acceptor.specs.declared.stored.Change.TheVariants.{Promised, Voted, Tried, Appended}
 use Rattle.acceptor.specs.Storing.{log_after}
-use Rattle.proposer.specs.declared.faults.Refusal.{Refusal}
+use Rattle.proposer.specs.declared.fault.Refusal.{Refusal}
 use Rattle.proposer.specs.declared.plan.Plan.{Plan}
 use Rattle.proposer.specs.Plans.{Passing}
 use Rattle.proposer.specs.Proposing.{submit, start, tick}
-use Rattle.learner.specs.declared.event.Event.{Event}
-use Rattle.learner.specs.declared.event.Event.TheVariants.{Submit, Start, Tick, Deliver}
+use Rattle.learner.specs.declared.event.DeskEvent.{DeskEvent}
+use Rattle.learner.specs.declared.event.DeskEvent.TheVariants.{Submit, Start, Tick, Deliver}
 use Rattle.learner.specs.Desks.{Desk, adopt, passing}
 use Rattle.learner.specs.Laws.{IsPrefix}
 use Rattle.learner.specs.Logs.{position_of}
-use Rattle.learner.specs.Steps.{Done as DoneStep, done, idle, is_heeded, on_body, passed, planned, step}
+use Rattle.learner.specs.Steps.{Done as DoneStep, done, idle, is_heeded, on_body, passed, planned}
+use Rattle.learner.specs.Steps.{step}
 use Rattle.texts.specs.declared.answer.Answer.{Answer}
 use Rattle.commands.specs.History.{History, StandsFor, history, answer_to}
 use Rattle.answers.specs.Answers.{texts, told, told_at, told_by}
 use Rattle.answers.specs.declared.answers.Told.TheVariants.{Done}
 use Rattle.answers.proofs.Prefixes.{texts_after}
 use Rattle.replica.specs.Handles.{Handles}
-use Rattle.roles.specs.declared.faults.NodeFault.{NodeFault}
-use Rattle.roles.specs.declared.faults.NodeFault.TheVariants.{Down}
-use Rattle.replica.specs.Nodes.{NodeValue, KeeperWords}
+use Rattle.roles.specs.declared.fault.NodeFault.{NodeFault}
+use Rattle.roles.specs.declared.fault.NodeFault.TheVariants.{Down}
+use Rattle.replica.specs.Nodes.{NodeValue}
+use Rattle.store.specs.declared.keeper.Keeper.{Ghosts}
 use Rattle.node.specs.declared.kept_meet.KeptMeet.{KeptMeet}
 use Rattle.node.specs.model.KeptMeets.{IsKeptOf}
 
@@ -77,7 +82,7 @@ heeded_grows x p false r h =
     let same : idle x ≡ r = cc in
     subst (λ (y : DoneStep). IsPrefix x.log y.desk.log) same ([], append-nil x.log)
 
-pub step_grows : (n d : ℕ) (x : Desk) (event : Event) (r : DoneStep) → step n d x event ≡ Ok r
+pub step_grows : (n d : ℕ) (x : Desk) (event : DeskEvent) (r : DoneStep) → step n d x event ≡ Ok r
     → IsPrefix x.log r.desk.log
 step_grows n d x (Submit e) r h = passed_grows x (submit (length x.log) (passing x) e) r h
 step_grows n d x Start r h =
@@ -87,7 +92,7 @@ step_grows n d x (Deliver m) r h =
     heeded_grows x (on_body n d x m.from m.body) (is_heeded n d m) r h
 
 -- a call of a replica that is answered Ok is a step, at a desk that is not down
-answered_grows : {K : Type 0} (k : KeeperWords K) (old : NodeValue K) (event : Event)
+answered_grows : {K : Type 0} (k : Ghosts K) (old : NodeValue K) (event : DeskEvent)
     (messages : List Message) (new : NodeValue K) → Handles k old event (Ok messages) new
     → IsPrefix old.desk.log new.desk.log
 answered_grows k old event messages new h = go old.is_down refl
@@ -101,7 +106,7 @@ answered_grows k old event messages new h = go old.is_down refl
         let home = k.home_of old.keeper in
         step_grows home.desks home.desk old.desk event _ (h.takes up).ok
 
-pub handled_grows : {K : Type 0} (k : KeeperWords K) (old : NodeValue K) (event : Event)
+pub handled_grows : {K : Type 0} (k : Ghosts K) (old : NodeValue K) (event : DeskEvent)
     (result : Result (List Message) NodeFault) (messages : List Message) (new : NodeValue K)
     → result ≡ Ok messages → Handles k old event result new → IsPrefix old.desk.log new.desk.log
 handled_grows k old event result messages new is h =
@@ -187,7 +192,8 @@ kept_next kept more log e answer h at items is stands =
           ∙ ap history (sym (texts_after log n e at))
           ∙ ap (λ k. history (texts (take k log))) (sym long);
       answers = λ pos f less there.
-          ap (λ xs. slice_get xs pos) items ∙ step pos f there (below_or_at pos n (omega (arith, long, less)));
+          ap (λ xs. slice_get xs pos) items ∙ step pos f there
+          (below_or_at pos n (omega (arith, long, less)));
     }
   where
     step : (pos : ℕ) (f : Entry) → slice_get log pos ≡ Some f
@@ -225,7 +231,8 @@ told_kept kept log queue id pos answer h found is =
     within : pos < length kept.answers.items
     within = slice_get_within kept.answers.items pos answer is
 
-    go : (o : Option Entry) → slice_get log pos ≡ o → Done pos answer ≡ told_by log queue id (Some pos)
+    go : (o : Option Entry) → slice_get log pos ≡ o → Done pos answer ≡ told_by log queue id
+        (Some pos)
     go None none = absurd (is_there log pos (omega (arith, within, h.few)) none)
     go (Some e) there =
         let same : answer ≡ answer_to (history (texts (take pos log))) e.id e.text =

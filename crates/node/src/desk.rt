@@ -2,14 +2,13 @@
 
 ghost use Rattle.node.specs.Seeing.{seen_of};
 ghost use Rattle.replica.specs.Handles.{Handles};
-ghost use Rattle.replica.specs.Nodes.{words};
 
 use crate::node::Node;
 use acceptor::NoMemory;
 use acceptor::message::Messages;
 use answers::{Desk, SheetFault, Told};
 use formats::Event as EventOf;
-use learner::event::Event;
+use learner::event::DeskEvent;
 use learner::log::Log;
 use replica::NodeFault;
 use sheets::Style;
@@ -21,14 +20,13 @@ impl<K: Keeper + Drop> Desk for Node<K> {
 
     ghost home_of = { λ n. K.home_of n.keeper };
 
-    ghost handles = { Handles
-        (words K.home_of K.failures_of K.is_down K.is_honest K.keeps K.may_hold K.may_break) };
+    ghost handles = { Handles K.Keeper };
 
     fn home(&self) -> Home {
         Node::home(self)
     }
 
-    fn handle(&mut self, event: Event) -> Result<Messages, NodeFault> {
+    fn handle(&mut self, event: DeskEvent) -> Result<Messages, NodeFault> {
         Node::handle(self, event)
     }
 

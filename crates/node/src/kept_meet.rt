@@ -1,10 +1,10 @@
 //! What the first entries of a log have come to, kept beside it.
 
-ghost use Rattle.std.specs.Prelude.{◌≡◌, ◌≤◌, ◌+◌, IfOk, IfErr, OnOk, OnErr, List, Some, length};
-ghost use Rattle.std.specs.Prelude.{slice_get};
+ghost use Rattle.std.specs.Prelude.{◌≡◌, ◌≤◌, ◌<◌, ◌+◌, IfOk, IfErr, OnOk, OnErr, List, Some};
+ghost use Rattle.std.specs.Prelude.{length};
 ghost use Rattle.acceptor.specs.declared.entry.Entry.{Entry as EntryValue};
 ghost use Rattle.answers.specs.Answers.{told, sheet_at, NoSheetAt};
-ghost use Rattle.node.specs.model.KeptMeets.{IsKeptOf};
+ghost use Rattle.node.specs.model.KeptMeets.{IsKeptOf, TakesNext, lacking};
 
 use acceptor::NoMemory;
 use acceptor::entry::Entry;
@@ -44,32 +44,34 @@ impl KeptMeet {
         Ok(KeptMeet { meet, answers })
     }
 
-    /// Takes the entries of the log that lack, up to the first for which memory is refused.
-    pub(crate) fn catch_up(&mut self, log: &Log)
+    /// Takes the entries of the log that lack. Where memory is refused for one, those before it are
+    /// taken.
+    pub(crate) fn catch_up(&mut self, log: &Log) -> Result<(), NoMemory>
         requires { IsKeptOf self.old log.now.entries }
-        ensures { IsKeptOf self.new log.now.entries }
+        ensures kept { IsKeptOf self.new log.now.entries }
+        ensures all { OnOk result (lacking self.new log.now.entries ≡ 0) }
+        ensures err { OnErr result (0 < lacking self.new log.now.entries) }
+        ensures no_more { lacking self.new log.now.entries ≤ lacking self.old log.now.entries }
     {
         let end = log.len();
         let taken = self.answers.len() as u32;
         for pos in taken..end {
             let Some(entry) = log.entry(pos) else {
-                return;
+                unreachable!();
             };
-            if self.take_next(entry).is_err() {
-                return;
-            }
+            self.take_next(entry)?;
         }
+        Ok(())
     }
 
     /// Takes the next entry. Every growth is made first: where memory is refused, nothing changes.
     fn take_next(&mut self, entry: &Entry) -> Result<(), NoMemory>
-        ensures taken { OnOk result ((log : List EntryValue) → IsKeptOf self.old log
-            → slice_get log (length self.old.answers.items) ≡ Some entry.now
-            → IsKeptOf self.new log) }
+        ensures taken { OnOk result (TakesNext self.old entry.now self.new) }
         ensures more { OnOk result
             (length self.new.answers.items ≡ length self.old.answers.items + 1) }
         ensures err { OnErr result ((log : List EntryValue) → IsKeptOf self.old log
             → IsKeptOf self.new log) }
+        ensures still { OnErr result (self.new.answers.items ≡ self.old.answers.items) }
     {
         self.answers.reserve(1)?;
         let answer = self.meet.apply(entry.id(), entry.text())?;

@@ -9,6 +9,6 @@ mod kept_meet;
 mod node;
 
 pub use answers::{SheetFault, Told};
-pub use learner::event::Event;
+pub use learner::event::DeskEvent;
 pub use node::Node;
 pub use replica::NodeFault;

@@ -4,7 +4,6 @@ ghost use Rattle.std.specs.Prelude.{◌≡◌, ◌⊎◌, ◌≤◌, Err, Some, 
 ghost use Rattle.answers.specs.Answers.{told, sheet_at, NoSheetAt};
 ghost use Rattle.node.specs.model.KeptMeets.{IsKeptOf};
 ghost use Rattle.replica.specs.Handles.{Handles};
-ghost use Rattle.replica.specs.Nodes.{words};
 ghost use Rattle.replica.specs.Opens.{Opens, GivesBack};
 ghost use Rattle.store.specs.Ranges.{IsHome};
 
@@ -12,13 +11,13 @@ use crate::kept_meet::KeptMeet;
 use acceptor::NoMemory;
 use acceptor::message::Messages;
 use answers::{SheetFault, Told};
-use learner::event::Event;
+use learner::event::DeskEvent;
 use learner::log::Log;
 use replica::{NodeFault, Replica};
 use sheets::Style;
 use std::alloc::Global;
 use std::marker::Model;
-use store::faults::LoadFault;
+use store::fault::LoadFault;
 use store::home::Home;
 use store::keeper::Keeper;
 
@@ -65,9 +64,7 @@ impl<K: Keeper + Drop> Node<K> {
     /// or the desk was refused memory. A refusal drops the keeper: `open_or_give_back` says what it
     /// leaves.
     pub fn open(alloc: Global, keeper: K) -> Result<Node<K>, LoadFault>
-        ensures opened { IfOk result (λ node. Opens
-            (words K.home_of K.failures_of K.is_down K.is_honest K.keeps K.may_hold K.may_break)
-            keeper node) }
+        ensures opened { IfOk result (λ node. Opens K.Keeper keeper node) }
         ensures refused { IfErr result (λ fault. (fault ≡ LoadFault.NoMemory)
             ⊎ ((k : K) × K.load_gives keeper (Err fault) k)) }
     {
@@ -85,12 +82,8 @@ impl<K: Keeper + Drop> Node<K> {
     /// store holds nothing that it could not hold before, and is lost only where it could be
     /// before.
     pub fn open_or_give_back(alloc: Global, keeper: K) -> Result<Node<K>, (LoadFault, K)>
-        ensures opened { IfOk result (λ node. Opens
-            (words K.home_of K.failures_of K.is_down K.is_honest K.keeps K.may_hold K.may_break)
-            keeper node) }
-        ensures given_back { IfErr result (λ e. GivesBack
-            (words K.home_of K.failures_of K.is_down K.is_honest K.keeps K.may_hold K.may_break)
-            keeper e.0 e.1) }
+        ensures opened { IfOk result (λ node. Opens K.Keeper keeper node) }
+        ensures given_back { IfErr result (λ e. GivesBack K.Keeper keeper e.0 e.1) }
         ensures refused { IfErr result (λ e. (e.0 ≡ LoadFault.NoMemory)
             ⊎ K.load_gives keeper (Err e.0) e.1) }
     {
@@ -99,7 +92,8 @@ impl<K: Keeper + Drop> Node<K> {
         };
         match Replica::open_or_give_back(alloc, keeper) {
             Ok(replica) => {
-                kept.catch_up(replica.log());
+                // The next event makes up for what memory was refused for.
+                let _ = kept.catch_up(replica.log());
                 Ok(Node {
                     alloc,
                     replica,
@@ -149,14 +143,13 @@ impl<K: Keeper + Drop> Node<K> {
     /// this call and in every later one: nothing is handed out, the desk still shows its state
     /// before that event, and a store that is opened again holds the state before it or the one
     /// after it.
-    pub fn handle(&mut self, event: Event) -> Result<Messages, NodeFault>
-        ensures { Handles
-            (words K.home_of K.failures_of K.is_down K.is_honest K.keeps K.may_hold K.may_break)
-            self.old event result self.new }
+    pub fn handle(&mut self, event: DeskEvent) -> Result<Messages, NodeFault>
+        ensures { Handles K.Keeper self.old event result self.new }
     {
         match self.replica.handle(event) {
             Ok(messages) => {
-                self.kept.catch_up(self.replica.log());
+                // The next event makes up for what memory was refused for.
+                let _ = self.kept.catch_up(self.replica.log());
                 Ok(messages)
             }
             Err(fault) => Err(fault),

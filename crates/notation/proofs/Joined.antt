@@ -1,5 +1,6 @@
 -- Moves put in front of what is read.
-use Rattle.std.proofs.Common.{◌≡◌, ◌<◌, List, [], ◌∷◌, ◌++◌, length, refl, sym, ap, ◌∙◌, append_assoc, arith, Result, Ok, Err}
+use Rattle.std.proofs.Common.{◌≡◌, ◌<◌, List, [], ◌∷◌, ◌++◌, length, refl, sym, ap, ◌∙◌}
+use Rattle.std.proofs.Common.{append_assoc, arith, Result, Ok, Err}
 use Rattle.notation.specs.Tokens.{token}
 use Rattle.notation.specs.Notation.{spelling}
 use Rattle.cube.specs.declared.moves.Move.{Move}

@@ -1,15 +1,22 @@
 -- Reading from the left gives exactly what the notation says.
-use Rattle.std.proofs.Common.{◌≡◌, ◌≢◌, inl, inr, ℕ, zero, suc, ◌+◌, ◌-◌, ◌<◌, ◌≤◌, List, [], ◌∷◌, ◌++◌, length, take, drop, replicate, refl, sym, ap, ◌∙◌, subst, arith, Option, Some, None, Result, Ok, Err, append_assoc, length-append}
+use Rattle.std.proofs.Common.{◌≡◌, ◌≢◌, inl, inr, ℕ, zero, suc, ◌+◌, ◌-◌, ◌<◌, ◌≤◌, List, [], ◌∷◌}
+use Rattle.std.proofs.Common.{◌++◌, length, take, drop, replicate, refl, sym, ap, ◌∙◌, subst, arith}
+use Rattle.std.proofs.Common.{Option, Some, None, Result, Ok, Err, append_assoc, length-append}
 use Rattle.std.proofs.Math.Seq.{take-append_seam, drop-append_seam, take-length}
 use Rattle.std.proofs.lemmas.List.{append-nil, length_push, length-replicate, take-append-drop}
 use Rattle.cube.specs.declared.moves.Move.{Move}
 use Rattle.notation.specs.declared.reading.ReadFault.{ReadFault}
-use Rattle.notation.specs.declared.reading.ReadFault.TheVariants.{Empty, BadToken, TooMany, NoMemory}
+use Rattle.notation.specs.declared.reading.ReadFault.TheVariants.{Empty, BadToken, TooMany}
+use Rattle.notation.specs.declared.reading.ReadFault.TheVariants.{NoMemory}
 use Rattle.notation.specs.Tokens.{token}
-use Rattle.notation.specs.Notation.{AreSpaces, Spells, spelling, Leads, BeginsWithSpace, IsBehind, BeginsWithMove, IsBadTokenAt, IsTooMany, IsUnlessNoMemory}
-use Rattle.notation.specs.model.Scan.{word_len, space_len, behind_word, behind_spaces, move_named, with_move, scan_on, scan}
+use Rattle.notation.specs.Notation.{AreSpaces, Spells, spelling, Leads, BeginsWithSpace, IsBehind}
+use Rattle.notation.specs.Notation.{BeginsWithMove, IsBadTokenAt, IsTooMany, IsUnlessNoMemory}
+use Rattle.notation.specs.model.Scan.{word_len, space_len, behind_word, behind_spaces, move_named}
+use Rattle.notation.specs.model.Scan.{with_move, scan_on, scan}
 use Rattle.notation.proofs.Joined.{with_moves, with_moves_fault}
-use Rattle.notation.proofs.Words.{Ends, move_named-token, word_len-token, token_no_space, token_not_empty, named_token, behind_ends, spaces_first, space_some, space_len-replicate}
+use Rattle.notation.proofs.Words.{Ends, move_named-token, word_len-token, token_no_space}
+use Rattle.notation.proofs.Words.{token_not_empty, named_token, behind_ends, spaces_first}
+use Rattle.notation.proofs.Words.{space_some, space_len-replicate}
 
 drop_whole : (xs : List ℕ) → drop (length xs) xs ≡ []
 drop_whole [] = refl

@@ -1,5 +1,7 @@
 -- One turn of the loop that reads, and of the loop that writes.
-use Rattle.std.proofs.Common.{◌≡◌, ◌≢◌, ℕ, zero, suc, ◌+◌, ◌-◌, ◌<◌, ◌≤◌, true, false, eqb, List, [], ◌∷◌, ◌++◌, length, take, get_or, refl, sym, ap, ◌∙◌, arith, Some, None, Result, Ok, Err, eq-eqb, append_assoc}
+use Rattle.std.proofs.Common.{◌≡◌, ◌≢◌, ℕ, zero, suc, ◌+◌, ◌-◌, ◌<◌, ◌≤◌, true, false, eqb, List}
+use Rattle.std.proofs.Common.{[], ◌∷◌, ◌++◌, length, take, get_or, refl, sym, ap, ◌∙◌, arith, Some}
+use Rattle.std.proofs.Common.{None, Result, Ok, Err, eq-eqb, append_assoc}
 use Rattle.std.proofs.lemmas.Bool.{eqb-true}
 use Rattle.std.proofs.lemmas.List.{take_more, length-take}
 use Rattle.cube.specs.declared.moves.Move.{Move}
@@ -7,8 +9,10 @@ use Rattle.notation.specs.declared.reading.ReadFault.{ReadFault}
 use Rattle.notation.specs.declared.reading.ReadFault.TheVariants.{BadToken, TooMany}
 use Rattle.notation.specs.Tokens.{token}
 use Rattle.notation.specs.Notation.{spelling}
-use Rattle.notation.specs.model.Scan.{word_len, behind_word, behind_spaces, move_named, with_move, scan_on, scan}
-use Rattle.notation.proofs.Joined.{with_moves, with_moves_more, with_moves_last, with_moves_fault, spelling-more}
+use Rattle.notation.specs.model.Scan.{word_len, behind_word, behind_spaces, move_named, with_move}
+use Rattle.notation.specs.model.Scan.{scan_on, scan}
+use Rattle.notation.proofs.Joined.{with_moves, with_moves_more, with_moves_last, with_moves_fault}
+use Rattle.notation.proofs.Joined.{spelling-more}
 
 pub empty_from : (xs : List ℕ) → eqb (length xs) 0 ≡ true → xs ≡ []
 empty_from [] h = refl

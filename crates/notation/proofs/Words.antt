@@ -1,5 +1,8 @@
 -- Words and the spaces behind them.
-use Rattle.std.proofs.Common.{◌≡◌, ◌⊎◌, inl, inr, ℕ, zero, suc, ◌+◌, ◌<◌, ◌≤◌, Bool, true, false, not, cond, ◌&&◌, eqb, List, [], ◌∷◌, ◌++◌, length, take, drop, replicate, refl, sym, ap, ◌∙◌, subst, arith, Option, Some, None, eq-eqb}
+use Rattle.std.proofs.Common.{◌≡◌, ◌⊎◌, inl, inr, ℕ, zero, suc, ◌+◌, ◌<◌, ◌≤◌, Bool, true, false}
+use Rattle.std.proofs.Common.{not, cond, ◌&&◌, eqb, List, [], ◌∷◌, ◌++◌, length, take, drop}
+use Rattle.std.proofs.Common.{replicate, refl, sym, ap, ◌∙◌, subst, arith, Option, Some, None}
+use Rattle.std.proofs.Common.{eq-eqb}
 use Rattle.std.proofs.lemmas.List.Sums.{prefix_len-le-length}
 use Rattle.std.proofs.lemmas.List.{append-nil}
 use Rattle.std.proofs.lemmas.Bool.{eqb-true, and_parts}
@@ -13,7 +16,8 @@ use Rattle.cube.specs.declared.moves.Quarter.TheVariants.{Clockwise, Half, Antic
 use Rattle.cube.specs.declared.moves.Move.{Move}
 use Rattle.notation.specs.Tokens.{token, stem, mark, side_letter}
 use Rattle.notation.specs.Notation.{BeginsWithSpace}
-use Rattle.notation.specs.model.Scan.{word_len, space_len, move_named, side_named, kind_named, face_of, block_of, quarter_named, move_by}
+use Rattle.notation.specs.model.Scan.{word_len, space_len, move_named, side_named, kind_named}
+use Rattle.notation.specs.model.Scan.{face_of, block_of, quarter_named, move_by}
 
 -- the bytes end here, or a space comes
 abbrev pub Ends : List ℕ → Type 0

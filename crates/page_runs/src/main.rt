@@ -4,21 +4,21 @@
 //!     page_runs ANCHOR TITLE POSITION < TABLE
 //!
 //! TITLE stands above the table and POSITION below it; other pages refer to the sheet by ANCHOR.
-//! Status 0: the sheet was written; 2: there aren't three words; 4: a read or a write failed, or
-//! memory ran out. A line on standard error says why it isn't 0.
+//! Status 0: the sheet was written; 2: there are not three arguments; 4: a read or a write failed,
+//! or memory ran out. Where it is not 0, a line on standard error says why.
 #![tactic(auto)]
 
 mod showing;
 
-use showing::show;
+use showing::{Labels, show};
 use std::io::Write;
 use std::process::ExitCode;
 use std::{env, io};
 
-/// The words of the program, without its own name.
-fn words_of(rt: &HostRuntime) -> io::Result<Vec<String>> {
-    let words = env::args(rt)?;
-    Ok(words.skip(1).collect::<Vec<String>>(rt.alloc())?)
+/// The arguments of the program, without its own name.
+fn given(rt: &HostRuntime) -> io::Result<Vec<String>> {
+    let arguments = env::args(rt)?;
+    Ok(arguments.skip(1).collect::<Vec<String>>(rt.alloc())?)
 }
 
 /// Says that a device failed or memory ran out.
@@ -28,31 +28,28 @@ fn tell_failure(rt: &HostRuntime) -> ExitCode {
     ExitCode::from(4)
 }
 
-/// Does what the words ask for.
-fn run(rt: &HostRuntime, words: &[String]) -> ExitCode {
-    let [anchor, title, position] = words else {
+/// Does what the arguments ask for.
+fn run(rt: &HostRuntime, given: &[String]) -> ExitCode {
+    let [anchor, title, position] = given else {
         let _ = rt
             .stderr()
-            .write_all(b"page_runs ANCHOR TITLE POSITION < TABLE\n");
+            .write_all(b"usage: page_runs ANCHOR TITLE POSITION < TABLE\n");
         return ExitCode::from(2);
     };
-    let shown = show(
-        rt.alloc(),
-        &mut rt.stdin(),
-        &mut rt.stdout(),
-        anchor.as_bytes(),
-        title.as_bytes(),
-        position.as_bytes(),
-    );
-    match shown {
+    let labels = Labels {
+        anchor: anchor.as_bytes(),
+        title: title.as_bytes(),
+        position: position.as_bytes(),
+    };
+    match show(rt.alloc(), &labels, &mut rt.stdin(), &mut rt.stdout()) {
         Ok(()) => ExitCode::SUCCESS,
         Err(_) => tell_failure(rt),
     }
 }
 
 fn main(rt: HostRuntime) -> ExitCode {
-    match words_of(&rt) {
-        Ok(words) => run(&rt, &words),
+    match given(&rt) {
+        Ok(texts) => run(&rt, &texts),
         Err(_) => tell_failure(&rt),
     }
 }

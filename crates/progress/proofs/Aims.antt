@@ -1,5 +1,8 @@
 -- What desk d aims at: that its first entry is decided, with help alone and in so many events.
-use Rattle.std.proofs.Common.{◌≡◌, ℕ, zero, suc, ◌≤◌, ◌<◌, ◌+◌, ◌*◌, Bool, true, false, if◌then◌else◌, ◌==◌, ◌&&◌, List, [], ◌∷◌, ◌++◌, inl, inr, Option, Some, None, Ok, length, slice_get, refl, sym, ap, ◌∙◌, subst, arith, length-append}
+use Rattle.std.proofs.Common.{◌≡◌, ℕ, zero, suc, ◌≤◌, ◌<◌, ◌+◌, ◌*◌, Bool, true, false}
+use Rattle.std.proofs.Common.{if◌then◌else◌, ◌==◌, ◌&&◌, List, [], ◌∷◌, ◌++◌, inl, inr, Option}
+use Rattle.std.proofs.Common.{Some, None, Ok, length, slice_get, refl, sym, ap, ◌∙◌, subst, arith}
+use Rattle.std.proofs.Common.{length-append}
 use Rattle.std.proofs.lemmas.Bool.Decides.{nat_tests}
 use Rattle.acceptor.specs.declared.entry.Entry.{Entry}
 use Rattle.acceptor.specs.declared.message.Message.{Message}
@@ -8,9 +11,10 @@ use Rattle.acceptor.specs.declared.stored.Change.TheVariants.{Promised, Voted, T
 use Rattle.acceptor.specs.Storing.{log_after}
 use Rattle.proposer.specs.declared.plan.Plan.{Plan}
 use Rattle.proposer.specs.Proposing.{tick}
-use Rattle.learner.specs.declared.event.Event.TheVariants.{Deliver, Tick}
+use Rattle.learner.specs.declared.event.DeskEvent.TheVariants.{Deliver, Tick}
 use Rattle.learner.specs.declared.event.WorldEvent.{WorldEvent}
-use Rattle.learner.specs.declared.event.WorldEvent.TheVariants.{Deliver as DeliverNth, Tick as TickAt}
+use Rattle.learner.specs.declared.event.WorldEvent.TheVariants.{Deliver as DeliverNth}
+use Rattle.learner.specs.declared.event.WorldEvent.TheVariants.{Tick as TickAt}
 use Rattle.learner.specs.Chosen.{Has, IsMajority}
 use Rattle.learner.specs.Desks.{Desk, adopt, passing}
 use Rattle.learner.specs.Steps.{IsDesk, is_desk, is_heeded, on_body, done, idle, planned, step}
@@ -35,7 +39,7 @@ reached_more n w e r =
 
 -- what is aimed at: desk d of n, which has these entries in its queue, is to have the first decided
 -- with the help of these desks, by messages after the first `start`. At first their logs are at
--- most `old` long, and no round among them is above `round`
+-- most `old` long, and no number among them is above `number`
 pub record Aim : Type 0 where
   pub n : ℕ
   pub d : ℕ
@@ -43,7 +47,7 @@ pub record Aim : Type 0 where
   pub start : ℕ
   pub from : ℕ
   pub old : ℕ
-  pub round : ℕ
+  pub number : ℕ
   pub top : ℕ
   pub first : Entry
   pub rest : List Entry
@@ -51,7 +55,7 @@ pub record Aim : Type 0 where
   pub mine : Has desks d
   pub tall : old + 2 ≤ top
   pub room : old + 2 ≤ 65536
-  pub rounds : round + 2 ≤ 4294967295
+  pub numbers : number + 2 ≤ 4294967295
 
 -- twice the entries that the desks lack: a Behind and a Decided bring one
 abbrev pub lack : Aim → World → ℕ
@@ -66,9 +70,9 @@ pub record IsDecided (a : Aim) (w : World) : Type 0 where
   pub past : a.from ≤ at
   pub entry : slice_get (w.desks a.d).log at ≡ Some a.first
   pub lens : (k : ℕ) → Has a.desks k → length (w.desks k).log ≤ a.old + 2
-  pub promised : (k : ℕ) → Has a.desks k → (w.desks k).stored.promised.round ≤ a.round + 2
-  pub tried : (w.desks a.d).stored.tried ≤ a.round + 2
-  pub seen : (w.desks a.d).seen ≤ a.round + 2
+  pub promised : (k : ℕ) → Has a.desks k → (w.desks k).stored.promised.number ≤ a.number + 2
+  pub tried : (w.desks a.d).stored.tried ≤ a.number + 2
+  pub seen : (w.desks a.d).seen ≤ a.number + 2
 
 -- with help in so many events it is decided; what the desks then lack counts with these
 pub record Decides (a : Aim) (most : ℕ) (w : World) : Type 0 where

@@ -1,12 +1,15 @@
 -- What a desk answers to the messages that are sent on the way.
-use Rattle.std.proofs.Common.{◌≡◌, ℕ, zero, suc, ◌<◌, ◌+◌, max, true, false, if◌then◌else◌, ◌==◌, nat_lt, List, [], ◌∷◌, Option, Some, None, length, slice_get, take, drop, refl, ap, ◌∙◌, arith}
+use Rattle.std.proofs.Common.{◌≡◌, ℕ, zero, suc, ◌<◌, ◌+◌, max, true, false, if◌then◌else◌, ◌==◌}
+use Rattle.std.proofs.Common.{nat_lt, List, [], ◌∷◌, Option, Some, None, length, slice_get, take}
+use Rattle.std.proofs.Common.{drop, refl, ap, ◌∙◌, arith}
 use Rattle.std.proofs.lemmas.Bool.Decides.{nat_tests}
 use Rattle.std.proofs.lemmas.Option.{slice_get_past}
 use Rattle.acceptor.specs.declared.ballot.Ballot.{Ballot}
 use Rattle.acceptor.specs.Ballots.{is_below, is_same}
 use Rattle.acceptor.specs.declared.entry.Entry.{Entry}
 use Rattle.acceptor.specs.declared.message.Report.{Report}
-use Rattle.acceptor.specs.declared.message.Body.TheVariants.{Prepare, Promise, Accept, Accepted, Nack, Behind, Decided}
+use Rattle.acceptor.specs.declared.message.Body.TheVariants.{Prepare, Promise, Accept, Accepted}
+use Rattle.acceptor.specs.declared.message.Body.TheVariants.{Nack, Behind, Decided}
 use Rattle.acceptor.specs.declared.message.Message.{Message}
 use Rattle.acceptor.specs.declared.stored.Change.TheVariants.{Promised, Voted}
 use Rattle.acceptor.specs.Messages.{message, has}
@@ -15,7 +18,8 @@ use Rattle.proposer.specs.declared.role.Heard.{Heard}
 use Rattle.proposer.specs.declared.role.Role.TheVariants.{Idle, Gathering, Proposing}
 use Rattle.proposer.specs.declared.plan.Plan.{Plan}
 use Rattle.proposer.specs.Plans.{only_say, append}
-use Rattle.proposer.specs.Proposing.{was_heard, promises_heard, promise_by_role, votes_heard, accepted_by_role, is_ballot_of}
+use Rattle.proposer.specs.Proposing.{was_heard, promises_heard, promise_by_role, votes_heard}
+use Rattle.proposer.specs.Proposing.{accepted_by_role, is_ballot_of}
 use Rattle.learner.specs.Desks.{Desk, passing}
 use Rattle.learner.specs.Order.{IsAtMost, IsBelow}
 use Rattle.learner.specs.Learning.{told, longest_run}
@@ -211,16 +215,17 @@ vote_heard n d k x b m e heard role new =
     more : Plan
     more = votes_heard n d (passing x) b m e (k ∷ heard)
 
--- desk d gives its ballot up, and keeps that round in mind
+-- desk d gives its ballot up, and keeps that number in mind
 abbrev pub gives_up : Desk → ℕ → Plan
-gives_up x round = makes (max x.seen round) (Some Idle) None []
+gives_up x number = makes (max x.seen number) (Some Idle) None []
 
 pub nack_heard : (n d k : ℕ) (x : Desk) (b : Ballot) (m : ℕ) (q : Ballot)
-    → is_ballot_of x.role b ≡ true → IsBelow b q → on_body n d x k (Nack b m q) ≡ gives_up x q.round
+    → is_ballot_of x.role b ≡ true → IsBelow b q → on_body n d x k (Nack b m q)
+    ≡ gives_up x q.number
 nack_heard n d k x b m q mine high =
-    ap (λ t. if t then (if is_below b q then gives_up x q.round else only_say (passing x) [])
+    ap (λ t. if t then (if is_below b q then gives_up x q.number else only_say (passing x) [])
     else only_say (passing x) []) mine
-    ∙ ap (λ t. if t then gives_up x q.round else only_say (passing x) []) high
+    ∙ ap (λ t. if t then gives_up x q.number else only_say (passing x) []) high
 
 pub is_own_gathering : (x : Desk) (b : Ballot) (m : ℕ) (heard : List Heard)
     → x.role ≡ Gathering b m heard → is_ballot_of x.role b ≡ true

@@ -1,5 +1,7 @@
 -- A desk that neither proposes nor leads on makes ballots, until its first entry is decided.
-use Rattle.std.proofs.Common.{◌≡◌, ℕ, suc, ◌≤◌, ◌<◌, ◌+◌, ◌-◌, ◌*◌, max, not, Bool, true, false, if◌then◌else◌, ◌==◌, nat_lt, List, [], ◌∷◌, inl, inr, Some, None, Result, Ok, Err, length, refl, sym, ap, ◌∙◌, subst, arith}
+use Rattle.std.proofs.Common.{◌≡◌, ℕ, suc, ◌≤◌, ◌<◌, ◌+◌, ◌-◌, ◌*◌, max, not, Bool, true, false}
+use Rattle.std.proofs.Common.{if◌then◌else◌, ◌==◌, nat_lt, List, [], ◌∷◌, inl, inr, Some, None}
+use Rattle.std.proofs.Common.{Result, Ok, Err, length, refl, sym, ap, ◌∙◌, subst, arith}
 use Rattle.std.proofs.lemmas.Bool.Decides.{nat_tests}
 use Rattle.acceptor.specs.declared.ballot.Ballot.{Ballot}
 use Rattle.acceptor.specs.declared.entry.Entry.{Entry}
@@ -8,21 +10,24 @@ use Rattle.acceptor.specs.declared.message.Body.TheVariants.{Prepare, Accept, Na
 use Rattle.acceptor.specs.declared.message.Message.{Message}
 use Rattle.acceptor.specs.declared.stored.Stored.{Stored}
 use Rattle.acceptor.specs.Messages.{message, to_all}
-use Rattle.proposer.specs.declared.faults.Refusal.{Refusal}
-use Rattle.proposer.specs.declared.faults.Refusal.TheVariants.{BallotsSpent}
+use Rattle.proposer.specs.declared.fault.Refusal.{Refusal}
+use Rattle.proposer.specs.declared.fault.Refusal.TheVariants.{BallotsSpent}
 use Rattle.proposer.specs.declared.role.Role.{Role}
 use Rattle.proposer.specs.declared.role.Role.TheVariants.{Idle, Gathering, Proposing, Leading}
 use Rattle.proposer.specs.declared.plan.Plan.{Plan}
-use Rattle.proposer.specs.Proposing.{is_full, last_round, gather, new_ballot, ask, ask_next, wants_ballot, tell_length, tick_idle, tick, tick_by_role}
+use Rattle.proposer.specs.Proposing.{is_full, last_number, gather, new_ballot, ask, ask_next}
+use Rattle.proposer.specs.Proposing.{wants_ballot, tell_length, tick_idle, tick, tick_by_role}
 use Rattle.learner.specs.Chosen.{Has, IsMajority}
 use Rattle.learner.specs.Desks.{Desk, adopt, passing}
 use Rattle.learner.specs.Order.{IsAtMost, IsBelow}
 use Rattle.learner.specs.Steps.{on_body}
 use Rattle.learner.specs.Worlds.{World}
 use Rattle.learner.proofs.Order.{below_from_less, at_most_from_below}
-use Rattle.progress.proofs.Aims.{Aim, lack, IsReached, Decides, decides_more, carried, put_same, put_self, IsPending, pending_new, comes, ticks}
+use Rattle.progress.proofs.Aims.{Aim, lack, IsReached, Decides, decides_more, carried, put_same}
+use Rattle.progress.proofs.Aims.{put_self, IsPending, pending_new, comes, ticks}
 use Rattle.progress.proofs.Fits.{Fit, fit_more, seen_at, fit_plain, fit_tried}
-use Rattle.progress.proofs.Answers.{refuses, tells, gives_up, prepare_ahead, prepare_past, refused_at, nack_heard, is_own_gathering}
+use Rattle.progress.proofs.Answers.{refuses, tells, gives_up, prepare_ahead, prepare_past}
+use Rattle.progress.proofs.Answers.{refused_at, nack_heard, is_own_gathering}
 use Rattle.progress.proofs.Levels.{desks_same, Level, levels, Taken, pull}
 use Rattle.progress.proofs.Votes.{IsClear, Asks, Leads, self_same, hear_all}
 use Rattle.progress.proofs.Promises.{all_pending, Gathers, Proposes, gather_all}
@@ -40,20 +45,21 @@ IsFree x = IsFreeIn x.stored.promised x.role
 pub free_idle : (x : Desk) → x.role ≡ Idle → IsFree x
 free_idle x h = subst (λ (r : Role). IsFreeIn x.stored.promised r) (sym h) tt
 
--- the Tick of a free desk that has an entry, room and a round left
+-- the Tick of a free desk that has an entry, room and a number left
 tick_makes : (n d : ℕ) (x : Desk) (e : Entry) (rest : List Entry) → IsFree x → x.queue ≡ e ∷ rest
-    → length x.log < 65536 → last_round x.stored (passing x) < 4294967295
+    → length x.log < 65536 → last_number x.stored (passing x) < 4294967295
     → tick n d x.stored (length x.log) (passing x)
-    ≡ Ok (gather n d x.stored (length x.log) (passing x) (last_round x.stored (passing x) + 1))
-tick_makes n d x e rest free queue room round = go x.role free
+    ≡ Ok (gather n d x.stored (length x.log) (passing x) (last_number x.stored (passing x) + 1))
+tick_makes n d x e rest free queue room number = go x.role free
   where
     made : Result Plan Refusal
-    made = Ok (gather n d x.stored (length x.log) (passing x) (last_round x.stored (passing x) + 1))
+    made = Ok (gather n d x.stored (length x.log) (passing x)
+        (last_number x.stored (passing x) + 1))
 
     tells_length : Result Plan Refusal
     tells_length = Ok (tell_length n d (length x.log) (passing x))
 
-    spent : (last_round x.stored (passing x) == 4294967295) ≡ false
+    spent : (last_number x.stored (passing x) == 4294967295) ≡ false
     spent = grind (arith, nat_tests)
 
     fresh : new_ballot n d x.stored (length x.log) (passing x) ≡ made
@@ -101,9 +107,9 @@ tick_leads n d x b e rest role low queue room =
     full : is_full (length x.log) ≡ false
     full = grind (arith, nat_tests)
 
--- the greatest round that desk d knows of
+-- the greatest number that desk d knows of
 abbrev pub known : Aim → World → ℕ
-known a w = last_round (w.desks a.d).stored (passing (w.desks a.d))
+known a w = last_number (w.desks a.d).stored (passing (w.desks a.d))
 
 known_under : (a : Aim) (r : ℕ) (w : World) → Fit a r w → known a w ≤ r
 known_under a r w h =
@@ -113,23 +119,23 @@ known_under a r w h =
 record Made (a : Aim) (r : ℕ) (b : Ballot) (w v : World) : Type 0 where
   pub fit : Fit a r v
   pub role : (v.desks a.d).role ≡ Gathering b (length (w.desks a.d).log) []
-  pub tried : b.round ≤ r
+  pub tried : b.number ≤ r
   pub logs : (j : ℕ) → (v.desks j).log ≡ (w.desks j).log
   pub promised : (j : ℕ) → (v.desks j).stored.promised ≡ (w.desks j).stored.promised
-  pub known : b.round ≤ known a v
+  pub known : b.number ≤ known a v
   pub asked : (k : ℕ) → Has a.desks k
       → IsPending a v (message a.d k (Prepare b (length (w.desks a.d).log)))
 
 makes_ballot : (a : Aim) (c r s : ℕ) (w : World) → Fit a r w → IsFree (w.desks a.d) → r ≤ s
-    → s ≤ a.round + 2 → known a w < s
-    → ((v : World) → Made a s (record { round = known a w + 1; desk = a.d }) w v
+    → s ≤ a.number + 2 → known a w < s
+    → ((v : World) → Made a s (record { number = known a w + 1; desk = a.d }) w v
     → Decides a (lack a v + c) v)
     → Decides a (lack a w + suc c) w
 makes_ballot a c r s w h free less under room next =
     ticks a c w made h.reached
     (tick_makes a.n a.d x a.first a.rest free h.queue
     (let l = h.lens a.d a.mine in let o = a.room in omega (arith, l, o))
-    (let o = a.rounds in omega (arith, o, under, room)))
+    (let o = a.numbers in omega (arith, o, under, room)))
     (λ reached1. next v
     (record {
       fit = fit_tried a s w (known a w + 1) (Some (Gathering b (length x.log) []))
@@ -139,7 +145,7 @@ makes_ballot a c r s w h free less under room next =
       tried = omega (arith, room);
       logs = λ j. put_same (λ y. y.log) w.desks a.d (adopt x made) refl j;
       promised = λ j. put_same (λ y. y.stored.promised) w.desks a.d (adopt x made) refl j;
-      known = subst (λ (y : Desk). known a w + 1 ≤ last_round y.stored (passing y)) (sym self)
+      known = subst (λ (y : Desk). known a w + 1 ≤ last_number y.stored (passing y)) (sym self)
           (omega arith);
       asked = λ k i. all_pending a w made (Prepare b (length x.log)) k refl h.late i;
     }))
@@ -148,7 +154,7 @@ makes_ballot a c r s w h free less under room next =
     x = w.desks a.d
 
     b : Ballot
-    b = record { round = known a w + 1; desk = a.d }
+    b = record { number = known a w + 1; desk = a.d }
 
     made : Plan
     made = gather a.n a.d x.stored (length x.log) (passing x) (known a w + 1)
@@ -162,10 +168,10 @@ makes_ballot a c r s w h free less under room next =
 -- a desk that leads, and is not outbid, asks for votes for its first entry
 pub lead_asks : (a : Aim) (c r m : ℕ) (C : Type 0) (b : Ballot) (w : World) → Fit a r w
     → (w.desks a.d).role ≡ Leading b → IsAtMost (w.desks a.d).stored.promised b
-    → length (w.desks a.d).log ≡ m → b.round ≤ r → (C → IsClear a b m w)
+    → length (w.desks a.d).log ≡ m → b.number ≤ r → (C → IsClear a b m w)
     → ((v : World) → Asks a r C b m a.first a.desks [] v → Decides a (lack a v + c) v)
     → Decides a (lack a w + suc c) w
-lead_asks a c r m C b w h role low own round clear next =
+lead_asks a c r m C b w h role low own number clear next =
     ticks a c w plan h.reached
     (tick_leads a.n a.d x b a.first a.rest role low h.queue
     (let l = h.lens a.d a.mine in let o = a.room in omega (arith, l, o))
@@ -183,7 +189,7 @@ lead_asks a c r m C b w h role low own round clear next =
       few = grind (arith, nat_tests);
       enough = let many : a.n < 2 * length a.desks = most.many in omega (arith, many);
       old = inr refl;
-      low = round;
+      low = number;
       clear = λ t j i. let q = clear t j i in (
         subst (λ (s : Stored). IsAtMost s.promised b)
             (sym (put_same (λ y. y.stored) w.desks a.d (adopt x plan) refl j)) q.0,
@@ -208,13 +214,14 @@ lead_asks a c r m C b w h role low own round clear next =
 pub not_other : (e : Entry) → is_same_entry e e ≡ false → ⊥
 not_other e h = let s = self_same e in grind (arith, h, s)
 
--- with the longest log, and no round promised above those that it knows of, the next ballot decides
-last_ballot : (a : Aim) (r : ℕ) (w : World) → Fit a r w → r + 1 ≤ a.round + 2
+-- with the longest log, and no number promised above those that it knows of, the next ballot
+-- decides
+last_ballot : (a : Aim) (r : ℕ) (w : World) → Fit a r w → r + 1 ≤ a.number + 2
     → IsFree (w.desks a.d)
     → ((j : ℕ) → Has a.desks j → length (w.desks j).log ≤ length (w.desks a.d).log)
-    → ((j : ℕ) → Has a.desks j → (w.desks j).stored.promised.round ≤ known a w)
+    → ((j : ℕ) → Has a.desks j → (w.desks j).stored.promised.number ≤ known a w)
     → Decides a (lack a w + (9 * length a.desks + 2)) w
-last_ballot a r w h room free lens rounds =
+last_ballot a r w h room free lens numbers =
     decides_more a (lack a w + suc (3 * length
     a.desks + (3 * length a.desks + suc (3 * length a.desks + 0))))
     (lack a w + (9 * length a.desks + 2)) w (omega arith)
@@ -231,10 +238,10 @@ last_ballot a r w h room free lens rounds =
     m = length (w.desks a.d).log
 
     b : Ballot
-    b = record { round = known a w + 1; desk = a.d }
+    b = record { number = known a w + 1; desk = a.d }
 
     s : ℕ
-    s = a.round + 2
+    s = a.number + 2
 
     last : (v : World) → Asks a s (Unit {0}) b (suc m) a.first a.desks [] v
         → Decides a (lack a v + (3 * length a.desks + 0)) v
@@ -242,7 +249,7 @@ last_ballot a r w h room free lens rounds =
         hear_all a 0 s (Unit {0}) b (suc m) a.first (λ u y. absurd (y.against tt))
         (λ u l t. absurd (not_other a.first t)) a.desks [] v g
 
-    leads : (f : Entry) (v : World) → Leads a s (Unit {0}) b m v → b.round ≤ s
+    leads : (f : Entry) (v : World) → Leads a s (Unit {0}) b m v → b.number ≤ s
         → Decides a (lack a v + suc (3 * length a.desks + 0)) v
     leads f v l tried =
         lead_asks a (3 * length a.desks + 0) s (suc m) (Unit {0}) b v l.fit l.role
@@ -293,7 +300,7 @@ last_ballot a r w h room free lens rounds =
         low k i =
             subst (λ (p : Ballot). IsBelow p b) (sym (g.promised k))
             (below_from_less (w.desks k).stored.promised b
-            (inl (let l = rounds k i in omega (arith, l))))
+            (inl (let l = numbers k i in omega (arith, l))))
 
 -- one of these is greatest
 pub greatest : (f : ℕ → ℕ) (ks : List ℕ) (d : ℕ) → Has ks d
@@ -335,13 +342,13 @@ greatest f (x ∷ y ∷ ys) d h = go (greatest f (y ∷ ys) y (inl refl))
           ],
         )
 
--- desk k refuses the ballot, and shows the round that it has promised
-learns : (a : Aim) (r m k : ℕ) (b : Ballot) (w : World) → Fit a r w → r + 1 ≤ a.round + 2
+-- desk k refuses the ballot, and shows the number that it has promised
+learns : (a : Aim) (r m k : ℕ) (b : Ballot) (w : World) → Fit a r w → r + 1 ≤ a.number + 2
     → (w.desks a.d).role ≡ Gathering b m [] → length (w.desks a.d).log ≡ m
     → ((j : ℕ) → Has a.desks j → length (w.desks j).log ≤ m) → Has a.desks k
-    → ((j : ℕ) → Has a.desks j → (w.desks j).stored.promised.round
-    ≤ (w.desks k).stored.promised.round)
-    → b.round < (w.desks k).stored.promised.round → IsPending a w (message a.d k (Prepare b m))
+    → ((j : ℕ) → Has a.desks j → (w.desks j).stored.promised.number
+    ≤ (w.desks k).stored.promised.number)
+    → b.number < (w.desks k).stored.promised.number → IsPending a w (message a.d k (Prepare b m))
     → length (w.desks k).log ≡ m
     → Decides a (lack a w + suc (suc (9 * length a.desks + 2))) w
 learns a r m k b w h room role own lens i most high asked here =
@@ -349,7 +356,7 @@ learns a r m k b w h room role own lens i most high asked here =
     h.reached a.mine i asked
     (refused_at a.n a.d k x b m here (at_most_from_below b q above))
     (λ reached1. comes a (9 * length a.desks + 2) u (message k a.d (Nack b m q))
-    (gives_up (u.desks a.d) q.round) reached1 i a.mine
+    (gives_up (u.desks a.d) q.number) reached1 i a.mine
     (pending_new a w k (refuses x k a.d b m) 0 (message k a.d (Nack b m q)) h.late refl)
     (nack_heard a.n a.d k (u.desks a.d) b m q
     (is_own_gathering (u.desks a.d) b m [] (ap (λ z. z.role) (same a.d) ∙ role)) above)
@@ -357,7 +364,7 @@ learns a r m k b w h room role own lens i most high asked here =
     (free_idle (v.desks a.d) (ap (λ z. z.role) self))
     (λ j p. subst (λ (l : List Entry). length l ≤ length (v.desks a.d).log) (sym (logs j))
     (let l = ap (λ l. length l) (logs a.d) in let o = lens j p in omega (arith, l, o, own)))
-    (λ j p. subst (λ (s : Stored). s.promised.round ≤ known a v) (sym (stored j))
+    (λ j p. subst (λ (s : Stored). s.promised.number ≤ known a v) (sym (stored j))
     (let o = most j p in let e = learnt in omega (arith, o, e)))))
   where
     x : Desk
@@ -379,21 +386,21 @@ learns a r m k b w h room role own lens i most high asked here =
     same j = desks_same w k ms j
 
     v : World
-    v = carried u a.d (gives_up (u.desks a.d) q.round)
+    v = carried u a.d (gives_up (u.desks a.d) q.number)
 
-    self : v.desks a.d ≡ adopt (u.desks a.d) (gives_up (u.desks a.d) q.round)
-    self = put_self u.desks a.d (adopt (u.desks a.d) (gives_up (u.desks a.d) q.round))
+    self : v.desks a.d ≡ adopt (u.desks a.d) (gives_up (u.desks a.d) q.number)
+    self = put_self u.desks a.d (adopt (u.desks a.d) (gives_up (u.desks a.d) q.number))
 
     logs : (j : ℕ) → (v.desks j).log ≡ (w.desks j).log
     logs j = put_same (λ z. z.log) u.desks a.d
-        (adopt (u.desks a.d) (gives_up (u.desks a.d) q.round)) refl j ∙ ap (λ z. z.log) (same j)
+        (adopt (u.desks a.d) (gives_up (u.desks a.d) q.number)) refl j ∙ ap (λ z. z.log) (same j)
 
     stored : (j : ℕ) → (v.desks j).stored ≡ (w.desks j).stored
     stored j = put_same (λ z. z.stored) u.desks a.d
-        (adopt (u.desks a.d) (gives_up (u.desks a.d) q.round)) refl j ∙ ap (λ z. z.stored) (same j)
+        (adopt (u.desks a.d) (gives_up (u.desks a.d) q.number)) refl j ∙ ap (λ z. z.stored) (same j)
 
-    learnt : q.round ≤ known a v
-    learnt = subst (λ (y : Desk). q.round ≤ last_round y.stored (passing y)) (sym self)
+    learnt : q.number ≤ known a v
+    learnt = subst (λ (y : Desk). q.number ≤ last_number y.stored (passing y)) (sym self)
         (omega arith)
 
     fit1 : IsReached a.n u → Fit a r u
@@ -401,36 +408,36 @@ learns a r m k b w h room role own lens i most high asked here =
 
     fit2 : Fit a r u → IsReached a.n v → Fit a r v
     fit2 g reached2 =
-        fit_plain a r u a.d (max (u.desks a.d).seen q.round) (Some Idle) [] g a.mine reached2
+        fit_plain a r u a.d (max (u.desks a.d).seen q.number) (Some Idle) [] g a.mine reached2
         (λ s. let l = h.promised k i in let o = g.seen in omega (arith, l, o))
 
 -- with the longest log, whatever was promised
-longest_decides : (a : Aim) (r : ℕ) (w : World) → Fit a r w → r + 1 ≤ a.round + 2
+longest_decides : (a : Aim) (r : ℕ) (w : World) → Fit a r w → r + 1 ≤ a.number + 2
     → IsFree (w.desks a.d)
     → ((j : ℕ) → Has a.desks j → length (w.desks j).log ≤ length (w.desks a.d).log)
     → Decides a (lack a w + (9 * length a.desks + 6)) w
 longest_decides a r w h room free lens =
-    go (greatest (λ j. (w.desks j).stored.promised.round) a.desks a.d a.mine)
+    go (greatest (λ j. (w.desks j).stored.promised.number) a.desks a.d a.mine)
   where
     m : ℕ
     m = length (w.desks a.d).log
 
     b : Ballot
-    b = record { round = known a w + 1; desk = a.d }
+    b = record { number = known a w + 1; desk = a.d }
 
     all : ℕ
     all = 9 * length a.desks + 2
 
     go : (k : ℕ) × Has a.desks k × ((j : ℕ) → Has a.desks j
-        → (w.desks j).stored.promised.round ≤ (w.desks k).stored.promised.round)
+        → (w.desks j).stored.promised.number ≤ (w.desks k).stored.promised.number)
         → Decides a (lack a w + (9 * length a.desks + 6)) w
-    go g = knows (nat_lt (known a w) (w.desks g.0).stored.promised.round) refl
+    go g = knows (nat_lt (known a w) (w.desks g.0).stored.promised.number) refl
       where
         k : ℕ
         k = g.0
 
         q : ℕ
-        q = (w.desks k).stored.promised.round
+        q = (w.desks k).stored.promised.number
 
         own : (v : World) → Made a r b w v → length (v.desks a.d).log ≡ m
         own v made = ap (λ l. length l) (made.logs a.d)
@@ -439,8 +446,8 @@ longest_decides a r w h room free lens =
         lens1 v made j p = subst (λ (l : List Entry). length l ≤ m) (sym (made.logs j)) (lens j p)
 
         most1 : (v : World) → Made a r b w v → (j : ℕ) → Has a.desks j
-            → (v.desks j).stored.promised.round ≤ q
-        most1 v made j p = subst (λ (s : Ballot). s.round ≤ q) (sym (made.promised j)) (g.2 j p)
+            → (v.desks j).stored.promised.number ≤ q
+        most1 v made j p = subst (λ (s : Ballot). s.number ≤ q) (sym (made.promised j)) (g.2 j p)
 
         refused : (v : World) → Made a r b w v → known a w + 1 < q
             → Decides a (lack a v + suc (suc (suc all))) v
@@ -451,14 +458,14 @@ longest_decides a r w h room free lens =
             (λ u l. learns a r m k b u l.fit room (ap (λ z. z.role) l.own ∙ made.role)
             (ap (λ z. length z.log) l.own ∙ own v made)
             (λ j p. lens2 v made u l j p) g.1
-            (λ j p. subst (λ (s : Stored). s.promised.round ≤ (u.desks k).stored.promised.round)
+            (λ j p. subst (λ (s : Stored). s.promised.number ≤ (u.desks k).stored.promised.number)
             (sym (l.stored j))
-            (subst (λ (s : Stored). (v.desks j).stored.promised.round ≤ s.promised.round)
+            (subst (λ (s : Stored). (v.desks j).stored.promised.number ≤ s.promised.number)
             (sym (l.stored k))
-            (subst (λ (s : Ballot). (v.desks j).stored.promised.round ≤ s.round)
+            (subst (λ (s : Ballot). (v.desks j).stored.promised.number ≤ s.number)
             (sym (made.promised k)) (most1 v made j p))))
-            (subst (λ (s : Stored). known a w + 1 < s.promised.round) (sym (l.stored k))
-            (subst (λ (s : Ballot). known a w + 1 < s.round) (sym (made.promised k)) high))
+            (subst (λ (s : Stored). known a w + 1 < s.promised.number) (sym (l.stored k))
+            (subst (λ (s : Ballot). known a w + 1 < s.number) (sym (made.promised k)) high))
             (l.sent (message a.d k (Prepare b m)) (made.asked k g.1)) l.here)
           where
             lens2 : (v : World) → Made a r b w v → (u : World) → Level a r k m v u → (j : ℕ)
@@ -504,7 +511,7 @@ longest_decides a r w h room free lens =
             (λ v made. tried v made (nat_lt (known a w + 1) q) refl))
 
 -- from every world in which desk d is free
-pub free_decides : (a : Aim) (r : ℕ) (w : World) → Fit a r w → r ≤ a.round → IsFree (w.desks a.d)
+pub free_decides : (a : Aim) (r : ℕ) (w : World) → Fit a r w → r ≤ a.number → IsFree (w.desks a.d)
     → Decides a (lack a w + (9 * length a.desks + 8)) w
 free_decides a r w h under free = go (greatest (λ j. length (w.desks j).log) a.desks a.d a.mine)
   where
@@ -512,7 +519,7 @@ free_decides a r w h under free = go (greatest (λ j. length (w.desks j).log) a.
     m = length (w.desks a.d).log
 
     b : Ballot
-    b = record { round = known a w + 1; desk = a.d }
+    b = record { number = known a w + 1; desk = a.d }
 
     all : ℕ
     all = 9 * length a.desks + 6

@@ -1,5 +1,7 @@
 -- What holds of the world on the way to the aim, and that what desks do keeps it.
-use Rattle.std.proofs.Common.{◌≡◌, ℕ, ◌≤◌, ◌+◌, true, false, List, [], ◌∷◌, ◌++◌, ◌⊎◌, Option, Some, None, length, slice_get, refl, sym, ap, ◌∙◌, subst, arith, length-append}
+use Rattle.std.proofs.Common.{◌≡◌, ℕ, ◌≤◌, ◌+◌, true, false, List, [], ◌∷◌, ◌++◌, ◌⊎◌, Option, Some}
+use Rattle.std.proofs.Common.{None, length, slice_get, refl, sym, ap, ◌∙◌, subst, arith}
+use Rattle.std.proofs.Common.{length-append}
 use Rattle.std.proofs.lemmas.Bool.Decides.{nat_tests}
 use Rattle.std.proofs.lemmas.Slice.Eq.{bytes_eq-Decides}
 use Rattle.acceptor.specs.declared.ballot.Ballot.{Ballot}
@@ -22,7 +24,7 @@ abbrev pub IsOldOr : Aim → Option Vote → Type 0
 IsOldOr a None = Unit {0}
 IsOldOr a (Some v) = (v.pos ≤ a.old) ⊎ (v.entry ≡ a.first)
 
--- the entry is not yet decided, no log is longer than `old` and one more, and no round is above r
+-- the entry is not yet decided, no log is longer than `old` and one more, and no number is above r
 pub record Fit (a : Aim) (r : ℕ) (w : World) : Type 0 where
   pub reached : IsReached a.n w
   pub late : a.start ≤ length w.sent
@@ -30,12 +32,12 @@ pub record Fit (a : Aim) (r : ℕ) (w : World) : Type 0 where
   pub past : a.from ≤ length (w.desks a.d).log
   pub lens : (k : ℕ) → Has a.desks k → length (w.desks k).log ≤ a.old + 1
   pub votes : (k : ℕ) → Has a.desks k → IsOldOr a (w.desks k).stored.vote
-  pub promised : (k : ℕ) → Has a.desks k → (w.desks k).stored.promised.round ≤ r
+  pub promised : (k : ℕ) → Has a.desks k → (w.desks k).stored.promised.number ≤ r
   pub tried : (w.desks a.d).stored.tried ≤ r
   pub seen : (w.desks a.d).seen ≤ r
-  pub under : r ≤ a.round + 2
+  pub under : r ≤ a.number + 2
 
-pub fit_more : (a : Aim) (r s : ℕ) (w : World) → r ≤ s → s ≤ a.round + 2 → Fit a r w → Fit a s w
+pub fit_more : (a : Aim) (r s : ℕ) (w : World) → r ≤ s → s ≤ a.number + 2 → Fit a r w → Fit a s w
 fit_more a r s w l u h =
     record {
       reached = h.reached;
@@ -56,7 +58,7 @@ pub record Keeps (a : Aim) (r k : ℕ) (x y : Desk) : Type 0 where
   pub longer : length x.log ≤ length y.log
   pub lens : length y.log ≤ a.old + 1
   pub votes : IsOldOr a y.stored.vote
-  pub promised : y.stored.promised.round ≤ r
+  pub promised : y.stored.promised.number ≤ r
   pub tried : k ≡ a.d → y.stored.tried ≤ r
   pub seen : k ≡ a.d → y.seen ≤ r
 
@@ -75,7 +77,7 @@ fit_goes a r w k p h reached g =
       lens = λ j i. put_at (λ x. length x.log ≤ a.old + 1) w.desks k y j (λ s. g.lens) (h.lens j i);
       votes = λ j i. put_at (λ x. IsOldOr a x.stored.vote) w.desks k y j (λ s. g.votes)
           (h.votes j i);
-      promised = λ j i. put_at (λ x. x.stored.promised.round ≤ r) w.desks k y j (λ s. g.promised)
+      promised = λ j i. put_at (λ x. x.stored.promised.number ≤ r) w.desks k y j (λ s. g.promised)
           (h.promised j i);
       tried = put_at (λ x. x.stored.tried ≤ r) w.desks k y a.d g.tried h.tried;
       seen = put_at (λ x. x.seen ≤ r) w.desks k y a.d g.seen h.seen;
@@ -117,7 +119,8 @@ seen_at a r w k h s = subst (λ (j : ℕ). (w.desks j).seen ≤ r) (sym s) h.see
 -- desk k promises
 pub fit_promised : (a : Aim) (r : ℕ) (w : World) (k : ℕ) (b : Ballot) (ms : List Message)
     → Fit a r w → Has a.desks k
-    → IsReached a.n (carried w k (makes (w.desks k).seen None (Some (Promised b)) ms)) → b.round ≤ r
+    → IsReached a.n (carried w k (makes (w.desks k).seen None (Some (Promised b)) ms))
+    → b.number ≤ r
     → Fit a r (carried w k (makes (w.desks k).seen None (Some (Promised b)) ms))
 fit_promised a r w k b ms h i reached low =
     fit_goes a r w k (makes (w.desks k).seen None (Some (Promised b)) ms) h reached
@@ -134,7 +137,7 @@ fit_promised a r w k b ms h i reached low =
 -- desk k votes
 pub fit_voted : (a : Aim) (r : ℕ) (w : World) (k : ℕ) (v : Vote) (ms : List Message) → Fit a r w
     → Has a.desks k → IsReached a.n (carried w k (makes (w.desks k).seen None (Some (Voted v)) ms))
-    → v.ballot.round ≤ r → (v.pos ≤ a.old) ⊎ (v.entry ≡ a.first)
+    → v.ballot.number ≤ r → (v.pos ≤ a.old) ⊎ (v.entry ≡ a.first)
     → Fit a r (carried w k (makes (w.desks k).seen None (Some (Voted v)) ms))
 fit_voted a r w k v ms h i reached low old =
     fit_goes a r w k (makes (w.desks k).seen None (Some (Voted v)) ms) h reached
@@ -149,12 +152,12 @@ fit_voted a r w k v ms h i reached low old =
     })
 
 -- desk d makes a ballot
-pub fit_tried : (a : Aim) (r : ℕ) (w : World) (round : ℕ) (role : Option Role) (ms : List Message)
+pub fit_tried : (a : Aim) (r : ℕ) (w : World) (number : ℕ) (role : Option Role) (ms : List Message)
     → Fit a r w → IsReached a.n (carried w a.d
-    (makes (w.desks a.d).seen role (Some (Tried round)) ms))
-    → round ≤ r → Fit a r (carried w a.d (makes (w.desks a.d).seen role (Some (Tried round)) ms))
-fit_tried a r w round role ms h reached low =
-    fit_goes a r w a.d (makes (w.desks a.d).seen role (Some (Tried round)) ms) h reached
+    (makes (w.desks a.d).seen role (Some (Tried number)) ms))
+    → number ≤ r → Fit a r (carried w a.d (makes (w.desks a.d).seen role (Some (Tried number)) ms))
+fit_tried a r w number role ms h reached low =
+    fit_goes a r w a.d (makes (w.desks a.d).seen role (Some (Tried number)) ms) h reached
     (record {
       queue = λ s. queue_kept (w.desks a.d).queue;
       longer = omega arith;
@@ -222,13 +225,13 @@ fit_decided a r w c role ms h reached same =
           (λ s. let l = length-append x.log (c ∷ []) in let o = h.lens a.d a.mine in omega
           (arith, l, o))
           (let o = h.lens j i in omega (arith, o));
-      promised = λ j i. put_at (λ z. z.stored.promised.round ≤ a.round + 2) w.desks a.d y j
+      promised = λ j i. put_at (λ z. z.stored.promised.number ≤ a.number + 2) w.desks a.d y j
           (λ s. let o = h.promised a.d a.mine in omega (arith, o, under))
           (let o = h.promised j i in omega (arith, o, under));
-      tried = put_at (λ z. z.stored.tried ≤ a.round + 2) w.desks a.d y a.d
+      tried = put_at (λ z. z.stored.tried ≤ a.number + 2) w.desks a.d y a.d
           (λ s. let o = h.tried in omega (arith, o, under))
           (let o = h.tried in omega (arith, o, under));
-      seen = put_at (λ z. z.seen ≤ a.round + 2) w.desks a.d y a.d
+      seen = put_at (λ z. z.seen ≤ a.number + 2) w.desks a.d y a.d
           (λ s. let o = h.seen in omega (arith, o, under))
           (let o = h.seen in omega (arith, o, under));
     }
@@ -245,5 +248,5 @@ fit_decided a r w c role ms h reached same =
     self : (carried w a.d p).desks a.d ≡ y
     self = put_self w.desks a.d y
 
-    under : r ≤ a.round + 2
+    under : r ≤ a.number + 2
     under = h.under

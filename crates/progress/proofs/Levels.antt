@@ -1,5 +1,7 @@
 -- Logs are brought to one length, entry by entry: a Behind, and the Decided that answers it.
-use Rattle.std.proofs.Common.{◌≡◌, ℕ, zero, suc, ◌≤◌, ◌<◌, ◌+◌, ◌-◌, Bool, true, false, nat_lt, List, [], ◌∷◌, None, length, refl, sym, ap, ◌∙◌, subst, arith, length-append}
+use Rattle.std.proofs.Common.{◌≡◌, ℕ, zero, suc, ◌≤◌, ◌<◌, ◌+◌, ◌-◌, Bool, true, false, nat_lt}
+use Rattle.std.proofs.Common.{List, [], ◌∷◌, None, length, refl, sym, ap, ◌∙◌, subst, arith}
+use Rattle.std.proofs.Common.{length-append}
 use Rattle.std.proofs.lemmas.Bool.Decides.{nat_tests}
 use Rattle.acceptor.specs.declared.entry.Entry.{Entry}
 use Rattle.acceptor.specs.Entries.{is_same_entry}
@@ -13,8 +15,11 @@ use Rattle.learner.specs.Chosen.{Has}
 use Rattle.learner.specs.Desks.{Desk, adopt}
 use Rattle.learner.specs.Steps.{on_body}
 use Rattle.learner.specs.Worlds.{World}
-use Rattle.progress.proofs.Aims.{Aim, lack, IsReached, Decides, decides_here, decides_more, carried, put_other, put_same, put_self, IsPending, pending_more, pending_new, comes, takes}
-use Rattle.progress.proofs.Fits.{Fit, makes, queue_kept, seen_at, fit_plain, fit_appended, fit_decided}
+use Rattle.progress.proofs.Aims.{Aim, lack, IsReached, Decides, decides_here, decides_more, carried}
+use Rattle.progress.proofs.Aims.{put_other, put_same, put_self, IsPending, pending_more}
+use Rattle.progress.proofs.Aims.{pending_new, comes, takes}
+use Rattle.progress.proofs.Fits.{Fit, makes, queue_kept, seen_at, fit_plain, fit_appended}
+use Rattle.progress.proofs.Fits.{fit_decided}
 use Rattle.progress.proofs.Answers.{asks_more, takes_in, taken_at, told_at}
 
 -- what only says something leaves the desk as it is

@@ -1,5 +1,7 @@
 -- Desk d gathers promises of a ballot against which nothing stands, until it can ask for votes.
-use Rattle.std.proofs.Common.{◌≡◌, ℕ, zero, suc, ◌≤◌, ◌<◌, ◌+◌, ◌*◌, Bool, true, false, if◌then◌else◌, ◌==◌, List, [], ◌∷◌, ◌⊎◌, inl, inr, Option, Some, None, length, slice_get, refl, sym, ap, ◌∙◌, subst, arith}
+use Rattle.std.proofs.Common.{◌≡◌, ℕ, zero, suc, ◌≤◌, ◌<◌, ◌+◌, ◌*◌, Bool, true, false}
+use Rattle.std.proofs.Common.{if◌then◌else◌, ◌==◌, List, [], ◌∷◌, ◌⊎◌, inl, inr, Option, Some, None}
+use Rattle.std.proofs.Common.{length, slice_get, refl, sym, ap, ◌∙◌, subst, arith}
 use Rattle.std.proofs.lemmas.Bool.Decides.{nat_tests}
 use Rattle.acceptor.specs.declared.ballot.Ballot.{Ballot}
 use Rattle.acceptor.specs.Ballots.{is_below}
@@ -15,14 +17,16 @@ use Rattle.proposer.specs.declared.role.Heard.{Heard}
 use Rattle.proposer.specs.declared.role.Role.TheVariants.{Gathering, Proposing}
 use Rattle.proposer.specs.declared.plan.Plan.{Plan}
 use Rattle.proposer.specs.Plans.{become}
-use Rattle.proposer.specs.Proposing.{is_majority, was_heard, higher, highest, choice, propose, ask, promises_heard}
+use Rattle.proposer.specs.Proposing.{is_majority, was_heard, higher, highest, choice, propose, ask}
+use Rattle.proposer.specs.Proposing.{promises_heard}
 use Rattle.learner.specs.Chosen.{Has, IsDistinct}
 use Rattle.learner.specs.Desks.{Desk, adopt, passing}
 use Rattle.learner.specs.Order.{IsBelow}
 use Rattle.learner.specs.Steps.{IsDesk}
 use Rattle.learner.specs.Worlds.{World}
 use Rattle.learner.proofs.Order.{at_most_self}
-use Rattle.progress.proofs.Aims.{Aim, lack, IsReached, Decides, decides_more, carried, put_other, put_same, put_self, IsPending, pending_more, pending_new, comes}
+use Rattle.progress.proofs.Aims.{Aim, lack, IsReached, Decides, decides_more, carried, put_other}
+use Rattle.progress.proofs.Aims.{put_same, put_self, IsPending, pending_more, pending_new, comes}
 use Rattle.progress.proofs.Fits.{IsOldOr, Fit, fit_plain, fit_promised}
 use Rattle.progress.proofs.Answers.{promises, prepare_ahead, promised_at, promise_heard}
 use Rattle.progress.proofs.Levels.{levels}
@@ -106,7 +110,7 @@ pub record Gathers (a : Aim) (r : ℕ) (b : Ballot) (m : ℕ) (left : List ℕ) 
   pub fair : IsFair a m (highest heard)
   pub low : (k : ℕ) → Has left k → IsBelow (w.desks k).stored.promised b
   pub clear : IsClear a b m w
-  pub tried : b.round ≤ r
+  pub tried : b.number ≤ r
 
 -- desk d has asked all for their votes, and nothing stands against its ballot
 pub record Proposes (a : Aim) (r : ℕ) (b : Ballot) (m : ℕ) (f : Entry) (w : World) : Type 0 where
@@ -116,7 +120,7 @@ pub record Proposes (a : Aim) (r : ℕ) (b : Ballot) (m : ℕ) (f : Entry) (w : 
   pub asked : (k : ℕ) → Has a.desks k → IsPending a w (message a.d k (Accept b m f))
   pub old : (m ≤ a.old) ⊎ (f ≡ a.first)
   pub clear : IsClear a b m w
-  pub tried : b.round ≤ r
+  pub tried : b.number ≤ r
 
 -- a desk promises
 gives : (a : Aim) (c r : ℕ) (b : Ballot) (m k : ℕ) (ks : List ℕ) (heard : List Heard) (w : World)

@@ -1,5 +1,7 @@
 -- The entries of desk d's queue are decided one after the other.
-use Rattle.std.proofs.Common.{◌≡◌, ℕ, zero, suc, ◌≤◌, ◌+◌, ◌*◌, max, List, [], ◌∷◌, ◌++◌, inl, inr, Some, length, slice_get, refl, sym, ap, ◌∙◌, subst, arith, length-append}
+use Rattle.std.proofs.Common.{◌≡◌, ℕ, zero, suc, ◌≤◌, ◌+◌, ◌*◌, max, List, [], ◌∷◌, ◌++◌, inl, inr}
+use Rattle.std.proofs.Common.{Some, length, slice_get, refl, sym, ap, ◌∙◌, subst, arith}
+use Rattle.std.proofs.Common.{length-append}
 use Rattle.std.proofs.Math.Nat.{suc-mul, mul-suc, add-mul}
 use Rattle.std.proofs.lemmas.Option.{slice_get_within}
 use Rattle.acceptor.specs.declared.entry.Entry.{Entry}
@@ -9,7 +11,8 @@ use Rattle.learner.specs.Invariant.{IsSound}
 use Rattle.learner.specs.Worlds.{World, happens, run, after}
 use Rattle.learner.specs.Laws.{IsPrefix}
 use Rattle.learner.proofs.Runs.{after_sound, run_append, run_log}
-use Rattle.progress.specs.Progress.{AreHelp, StandFrom, longest, lacking, CanDecide, NoDeskIsStuck, NoQueueIsStuck}
+use Rattle.progress.specs.Progress.{AreHelp, StandFrom, longest, lacking, CanDecide, NoDeskIsStuck}
+use Rattle.progress.specs.Progress.{NoQueueIsStuck}
 use Rattle.progress.proofs.Aims.{IsReached, Aim, lack, IsDecided, Decides, get_left}
 use Rattle.progress.proofs.Roles.{first_decided}
 
@@ -36,17 +39,17 @@ record AllDecide (h : Hall) (most : ℕ) (es rest : List Entry) (w : World) : Ty
   pub decided : StandFrom (length (w.desks h.d).log) es ((run h.n w events).desks h.d).log
   pub queue : ((run h.n w events).desks h.d).queue ≡ rest
 
--- the logs, and the rounds that are known, and room for these entries
-record IsRoomy (h : Hall) (old round : ℕ) (es rest : List Entry) (w : World) : Type 0 where
+-- the logs, and the numbers that are known, and room for these entries
+record IsRoomy (h : Hall) (old number : ℕ) (es rest : List Entry) (w : World) : Type 0 where
   pub reached : IsReached h.n w
   pub late : h.start ≤ length w.sent
   pub queue : (w.desks h.d).queue ≡ es ++ rest
   pub lens : (k : ℕ) → Has h.desks k → length (w.desks k).log ≤ old
-  pub promised : (k : ℕ) → Has h.desks k → (w.desks k).stored.promised.round ≤ round
-  pub tried : (w.desks h.d).stored.tried ≤ round
-  pub seen : (w.desks h.d).seen ≤ round
+  pub promised : (k : ℕ) → Has h.desks k → (w.desks k).stored.promised.number ≤ number
+  pub tried : (w.desks h.d).stored.tried ≤ number
+  pub seen : (w.desks h.d).seen ≤ number
   pub logs : old + 2 * length es ≤ h.top
-  pub rounds : round + 2 * length es ≤ 4294967295
+  pub numbers : number + 2 * length es ≤ 4294967295
 
 help_append : (n d : ℕ) (desks : List ℕ) (start : ℕ) (w : World) (xs ys : List WorldEvent)
     → AreHelp n d desks start w xs → AreHelp n d desks start (run n w xs) ys
@@ -64,14 +67,14 @@ prefix_get : (xs ys : List Entry) (i : ℕ) (e : Entry) → IsPrefix xs ys → s
 prefix_get xs ys i e p h =
     subst (λ (l : List Entry). slice_get l i ≡ Some e) p.1 (get_left xs p.0 i e h)
 
-all_decided : (h : Hall) (es rest : List Entry) (old round : ℕ) (w : World)
-    → IsRoomy h old round es rest w
+all_decided : (h : Hall) (es rest : List Entry) (old number : ℕ) (w : World)
+    → IsRoomy h old number es rest w
     → AllDecide h (2 * lacking w h.top h.desks + length es * each h) es rest w
-all_decided h [] rest old round w g =
+all_decided h [] rest old number w g =
     record { events = []; help = tt; few = omega arith; decided = tt; queue = g.queue }
-all_decided h (e ∷ es) rest old round w g =
+all_decided h (e ∷ es) rest old number w g =
     go (first_decided aim w begins)
-    (λ v k. all_decided h es rest (old + 2) (round + 2) v k)
+    (λ v k. all_decided h es rest (old + 2) (number + 2) v k)
   where
     aim : Aim
     aim =
@@ -82,7 +85,7 @@ all_decided h (e ∷ es) rest old round w g =
           start = h.start;
           from = length (w.desks h.d).log;
           old = old;
-          round = round;
+          number = number;
           top = h.top;
           first = e;
           rest = es ++ rest;
@@ -90,7 +93,7 @@ all_decided h (e ∷ es) rest old round w g =
           mine = h.mine;
           tall = let l = g.logs in omega (arith, l);
           room = let l = g.logs in let r = h.room in omega (arith, l, r);
-          rounds = let l = g.rounds in omega (arith, l);
+          numbers = let l = g.numbers in omega (arith, l);
         }
 
     begins : Rattle.progress.proofs.Roles.Begins aim w
@@ -107,7 +110,7 @@ all_decided h (e ∷ es) rest old round w g =
         }
 
     go : Decides aim (lack aim w + each h) w
-        → ((v : World) → IsRoomy h (old + 2) (round + 2) es rest v
+        → ((v : World) → IsRoomy h (old + 2) (number + 2) es rest v
         → AllDecide h (2 * lacking v h.top h.desks + length es * each h) es rest v)
         → AllDecide h (2 * lacking w h.top h.desks + length (e ∷ es) * each h) (e ∷ es) rest w
     go f others = joined (others v roomy)
@@ -118,7 +121,7 @@ all_decided h (e ∷ es) rest old round w g =
         ends : IsDecided aim v
         ends = f.ends
 
-        roomy : IsRoomy h (old + 2) (round + 2) es rest v
+        roomy : IsRoomy h (old + 2) (number + 2) es rest v
         roomy =
             record {
               reached = ends.reached;
@@ -129,7 +132,7 @@ all_decided h (e ∷ es) rest old round w g =
               tried = ends.tried;
               seen = ends.seen;
               logs = let l = g.logs in omega (arith, l);
-              rounds = let l = g.rounds in omega (arith, l);
+              numbers = let l = g.numbers in omega (arith, l);
             }
 
         joined : AllDecide h (2 * lacking v h.top h.desks + length es * each h) es rest v
@@ -206,46 +209,46 @@ longest_fits w (k ∷ ks) more low h =
     let here = h k (inl refl) in
     let l = longest_fits w ks more low (λ j i. h j (inr i)) in omega (arith, here, l)
 
--- a round that is above none of these is far enough from the last
-rounds_fit : (w : World) (d : ℕ) (ks : List ℕ) (more : ℕ)
+-- a number that is above none of these is far enough from the last
+numbers_fit : (w : World) (d : ℕ) (ks : List ℕ) (more : ℕ)
     → (w.desks d).stored.tried + more ≤ 4294967295 → (w.desks d).seen + more ≤ 4294967295
-    → ((k : ℕ) → Has ks k → (w.desks k).stored.promised.round + more ≤ 4294967295)
-    → (round : ℕ) × (round + more ≤ 4294967295) × ((w.desks d).stored.tried ≤ round)
-    × ((w.desks d).seen ≤ round)
-    × ((k : ℕ) → Has ks k → (w.desks k).stored.promised.round ≤ round)
-rounds_fit w d [] more t s h = (
+    → ((k : ℕ) → Has ks k → (w.desks k).stored.promised.number + more ≤ 4294967295)
+    → (number : ℕ) × (number + more ≤ 4294967295) × ((w.desks d).stored.tried ≤ number)
+    × ((w.desks d).seen ≤ number)
+    × ((k : ℕ) → Has ks k → (w.desks k).stored.promised.number ≤ number)
+numbers_fit w d [] more t s h = (
   max (w.desks d).stored.tried (w.desks d).seen,
   omega (arith, t, s),
   omega arith,
   omega arith,
   λ k i. elim i [ ],
 )
-rounds_fit w d (x ∷ ks) more t s h = go (rounds_fit w d ks more t s (λ k i. h k (inr i)))
+numbers_fit w d (x ∷ ks) more t s h = go (numbers_fit w d ks more t s (λ k i. h k (inr i)))
   where
-    go : (round : ℕ) × (round + more ≤ 4294967295) × ((w.desks d).stored.tried ≤ round)
-        × ((w.desks d).seen ≤ round)
-        × ((k : ℕ) → Has ks k → (w.desks k).stored.promised.round ≤ round)
-        → (round : ℕ) × (round + more ≤ 4294967295) × ((w.desks d).stored.tried ≤ round)
-        × ((w.desks d).seen ≤ round)
-        × ((k : ℕ) → Has (x ∷ ks) k → (w.desks k).stored.promised.round ≤ round)
+    go : (number : ℕ) × (number + more ≤ 4294967295) × ((w.desks d).stored.tried ≤ number)
+        × ((w.desks d).seen ≤ number)
+        × ((k : ℕ) → Has ks k → (w.desks k).stored.promised.number ≤ number)
+        → (number : ℕ) × (number + more ≤ 4294967295) × ((w.desks d).stored.tried ≤ number)
+        × ((w.desks d).seen ≤ number)
+        × ((k : ℕ) → Has (x ∷ ks) k → (w.desks k).stored.promised.number ≤ number)
     go r =
         let here = h x (inl refl) in
         let low = r.1 in
         let t1 = r.2 in
         let s1 = r.3 in (
-          max (w.desks x).stored.promised.round r.0,
+          max (w.desks x).stored.promised.number r.0,
           omega (arith, here, low),
           omega (arith, t1),
           omega (arith, s1),
           λ k i. elim i [
-            | inl e ↦ (let p = ap (λ j. (w.desks j).stored.promised.round) e in omega (arith, p))
+            | inl e ↦ (let p = ap (λ j. (w.desks j).stored.promised.number) e in omega (arith, p))
             | inr m ↦ (let p = r.4 k m in omega (arith, p))
           ],
         )
 
 pub no_queue_is_stuck : NoQueueIsStuck
 no_queue_is_stuck n past d desks es rest most mine queue room =
-    go (rounds_fit w d desks (2 * length es) room.tried room.seen room.promised)
+    go (numbers_fit w d desks (2 * length es) room.tried room.seen room.promised)
   where
     w : World
     w = after n past
@@ -269,9 +272,9 @@ no_queue_is_stuck n past d desks es rest most mine queue room =
           room = fits;
         }
 
-    go : (round : ℕ) × (round + 2 * length es ≤ 4294967295) × ((w.desks d).stored.tried ≤ round)
-        × ((w.desks d).seen ≤ round)
-        × ((k : ℕ) → Has desks k → (w.desks k).stored.promised.round ≤ round)
+    go : (number : ℕ) × (number + 2 * length es ≤ 4294967295) × ((w.desks d).stored.tried ≤ number)
+        × ((w.desks d).seen ≤ number)
+        × ((k : ℕ) → Has desks k → (w.desks k).stored.promised.number ≤ number)
         → CanDecide n d desks w es rest
     go r =
         done
@@ -285,7 +288,7 @@ no_queue_is_stuck n past d desks es rest most mine queue room =
           tried = r.2;
           seen = r.3;
           logs = omega arith;
-          rounds = r.1;
+          numbers = r.1;
         }))
       where
         done : AllDecide h (2 * lacking w h.top desks + count * each h) es rest w

@@ -1,5 +1,7 @@
 -- Whatever its role, desk d gets its first entry decided.
-use Rattle.std.proofs.Common.{◌≡◌, ℕ, zero, suc, ◌≤◌, ◌<◌, ◌+◌, ◌*◌, ◌||◌, Bool, true, false, if◌then◌else◌, ◌==◌, List, [], ◌∷◌, inl, Option, Some, None, length, slice_get, refl, sym, ap, ◌∙◌, subst, arith}
+use Rattle.std.proofs.Common.{◌≡◌, ℕ, zero, suc, ◌≤◌, ◌<◌, ◌+◌, ◌*◌, ◌||◌, Bool, true, false}
+use Rattle.std.proofs.Common.{if◌then◌else◌, ◌==◌, List, [], ◌∷◌, inl, Option, Some, None, length}
+use Rattle.std.proofs.Common.{slice_get, refl, sym, ap, ◌∙◌, subst, arith}
 use Rattle.std.proofs.lemmas.Bool.Decides.{nat_tests}
 use Rattle.acceptor.specs.declared.ballot.Ballot.{Ballot}
 use Rattle.acceptor.specs.Ballots.{is_below}
@@ -20,7 +22,8 @@ use Rattle.learner.specs.Steps.{IsDesk}
 use Rattle.learner.specs.Worlds.{World}
 use Rattle.learner.proofs.Quorum.{drop_each, length-drop_each, Has-drop_each, IsDistinct-drop_each}
 use Rattle.learner.proofs.Runs.{after_sound}
-use Rattle.progress.proofs.Aims.{Aim, lack, IsReached, Decides, decides_more, carried, IsPending, pending_new, ticks}
+use Rattle.progress.proofs.Aims.{Aim, lack, IsReached, Decides, decides_more, carried, IsPending}
+use Rattle.progress.proofs.Aims.{pending_new, ticks}
 use Rattle.progress.proofs.Fits.{IsOldOr, Fit, fit_plain}
 use Rattle.progress.proofs.Levels.{desks_same}
 use Rattle.progress.proofs.Votes.{Asks, Yields, Leads, hear_all}
@@ -100,9 +103,9 @@ asked_get from body first (suc count) k hs ne low high =
         let above : suc first ≤ k = grind (arith, nat_tests) in
         let r = ih above in (suc r.0, r.1)
 
--- a desk that leads, by a round that it knows
-lead_decides : (a : Aim) (b : Ballot) (w : World) → Fit a a.round w
-    → (w.desks a.d).role ≡ Leading b → b.round ≤ a.round
+-- a desk that leads, by a number that it knows
+lead_decides : (a : Aim) (b : Ballot) (w : World) → Fit a a.number w
+    → (w.desks a.d).role ≡ Leading b → b.number ≤ a.number
     → Decides a (lack a w + (12 * length a.desks + 9)) w
 lead_decides a b w h role low = go (is_below b (w.desks a.d).stored.promised) refl
   where
@@ -112,26 +115,26 @@ lead_decides a b w h role low = go (is_below b (w.desks a.d).stored.promised) re
     m : ℕ
     m = length (w.desks a.d).log
 
-    yields : (v : World) → Yields a a.round ⊥ v → Decides a (lack a v + all) v
-    yields v y = free_decides a a.round v y.fit (omega arith) (free_idle (v.desks a.d) y.role)
+    yields : (v : World) → Yields a a.number ⊥ v → Decides a (lack a v + all) v
+    yields v y = free_decides a a.number v y.fit (omega arith) (free_idle (v.desks a.d) y.role)
 
     go : (t : Bool) → is_below b (w.desks a.d).stored.promised ≡ t
         → Decides a (lack a w + (12 * length a.desks + 9)) w
     go true t =
         decides_more a (lack a w + all) (lack a w + (12 * length a.desks + 9)) w (omega arith)
-        (free_decides a a.round w h (omega arith)
+        (free_decides a a.number w h (omega arith)
         (subst (λ (r : Role). IsFreeIn (w.desks a.d).stored.promised r) (sym role) t))
     go false t =
         decides_more a (lack a w + suc (3 * length a.desks + all))
         (lack a w + (12 * length a.desks + 9)) w (omega arith)
-        (lead_asks a (3 * length a.desks + all) a.round m ⊥ b w h role t refl low (λ z. absurd z)
-        (λ v g. hear_all a all a.round ⊥ b m a.first yields (λ u l s. absurd (not_other a.first s))
+        (lead_asks a (3 * length a.desks + all) a.number m ⊥ b w h role t refl low (λ z. absurd z)
+        (λ v g. hear_all a all a.number ⊥ b m a.first yields (λ u l s. absurd (not_other a.first s))
         a.desks [] v g))
 
--- a desk that proposes, by a round that it knows
+-- a desk that proposes, by a number that it knows
 proposer_decides : (a : Aim) (b : Ballot) (m : ℕ) (f : Entry) (heard : List ℕ) (w : World)
-    → Fit a a.round w → (w.desks a.d).role ≡ Proposing b m f heard → length (w.desks a.d).log ≡ m
-    → m ≤ a.old → b.round ≤ a.round → is_majority a.n (length heard) ≡ false
+    → Fit a a.number w → (w.desks a.d).role ≡ Proposing b m f heard → length (w.desks a.d).log ≡ m
+    → m ≤ a.old → b.number ≤ a.number → is_majority a.n (length heard) ≡ false
     → Decides a (lack a w + (15 * length a.desks + 10)) w
 proposer_decides a b m f heard w h role own old low few =
     decides_more a (lack a w + suc (3 * length left + all)) (lack a w + (15 * length a.desks + 10))
@@ -139,7 +142,7 @@ proposer_decides a b m f heard w h role own old low few =
     (let l = unheard_short a.desks heard in omega (arith, l))
     (ticks a (3 * length left + all) w plan h.reached
     (ap (λ r. tick_by_role a.n a.d x.stored (length x.log) (passing x) r) role)
-    (λ reached1. hear_all a all a.round ⊥ b m f yields leads left heard v (asks reached1)))
+    (λ reached1. hear_all a all a.number ⊥ b m f yields leads left heard v (asks reached1)))
   where
     most : IsMajority a.n a.desks
     most = a.majority
@@ -162,12 +165,12 @@ proposer_decides a b m f heard w h role own old low few =
     v : World
     v = carried w a.d plan
 
-    yields : (u : World) → Yields a a.round ⊥ u → Decides a (lack a u + all) u
+    yields : (u : World) → Yields a a.number ⊥ u → Decides a (lack a u + all) u
     yields u y =
         decides_more a (lack a u + (9 * length a.desks + 8)) (lack a u + all) u (omega arith)
-        (free_decides a a.round u y.fit (omega arith) (free_idle (u.desks a.d) y.role))
+        (free_decides a a.number u y.fit (omega arith) (free_idle (u.desks a.d) y.role))
 
-    leads : (u : World) → Leads a a.round ⊥ b m u
+    leads : (u : World) → Leads a a.number ⊥ b m u
         → Rattle.acceptor.specs.Entries.is_same_entry a.first f ≡ false
         → Decides a (lack a u + all) u
     leads u l s = lead_decides a b u l.fit l.role low
@@ -181,10 +184,10 @@ proposer_decides a b m f heard w h role own old low few =
         let g = asked_get a.d (Accept b m f) 1 a.n k heard q.1 above (omega (arith, under)) in
         pending_new a w a.d plan g.0 (message a.d k (Accept b m f)) h.late g.1
 
-    asks : IsReached a.n v → Asks a a.round ⊥ b m f left heard v
+    asks : IsReached a.n v → Asks a a.number ⊥ b m f left heard v
     asks reached1 =
         record {
-          fit = fit_plain a a.round w a.d x.seen None ms h a.mine reached1 (λ s. h.seen);
+          fit = fit_plain a a.number w a.d x.seen None ms h a.mine reached1 (λ s. h.seen);
           role = ap (λ z. z.role) (desks_same w a.d ms a.d) ∙ role;
           own = ap (λ z. length z.log) (desks_same w a.d ms a.d) ∙ own;
           asked = asked;
@@ -206,9 +209,9 @@ pub record Begins (a : Aim) (w : World) : Type 0 where
   pub queue : (w.desks a.d).queue ≡ a.first ∷ a.rest
   pub past : a.from ≤ length (w.desks a.d).log
   pub lens : (k : ℕ) → Has a.desks k → length (w.desks k).log ≤ a.old
-  pub promised : (k : ℕ) → Has a.desks k → (w.desks k).stored.promised.round ≤ a.round
-  pub tried : (w.desks a.d).stored.tried ≤ a.round
-  pub seen : (w.desks a.d).seen ≤ a.round
+  pub promised : (k : ℕ) → Has a.desks k → (w.desks k).stored.promised.number ≤ a.number
+  pub tried : (w.desks a.d).stored.tried ≤ a.number
+  pub seen : (w.desks a.d).seen ≤ a.number
 
 old_vote : (a : Aim) (len : ℕ) (v : Option Vote) → len ≤ a.old → IsVotedBy len v → IsOldOr a v
 old_vote a len None l h = tt
@@ -228,7 +231,7 @@ first_decided a w h = by_role (w.desks a.d).role refl
     sound : IsSound a.n w
     sound = subst (λ (u : World). IsSound a.n u) r.same (after_sound a.n r.past)
 
-    fit : Fit a a.round w
+    fit : Fit a a.number w
     fit =
         record {
           reached = r;
@@ -248,7 +251,7 @@ first_decided a w h = by_role (w.desks a.d).role refl
     free f =
         decides_more a (lack a w + (9 * length a.desks + 8)) (lack a w + (15 * length a.desks + 10))
         w (omega arith)
-        (free_decides a a.round w fit (omega arith) f)
+        (free_decides a a.number w fit (omega arith) f)
 
     Stands : Role → Type 0
     Stands role = RoleStands a.n w.sent a.d (w.desks a.d).stored.tried (length (w.desks a.d).log)

@@ -1,13 +1,16 @@
 -- What stands after every list of events: a desk's vote is at its log's length or before, and a
 -- desk that waits for votes has not heard a majority.
-use Rattle.std.proofs.Common.{◌≡◌, ℕ, ◌≤◌, ◌+◌, Bool, true, false, if◌then◌else◌, ◌==◌, nat_lt, List, [], ◌∷◌, ◌++◌, Option, Some, None, Result, Ok, Err, length, slice_get, take, drop, refl, arith, length-append}
+use Rattle.std.proofs.Common.{◌≡◌, ℕ, ◌≤◌, ◌+◌, Bool, true, false, if◌then◌else◌, ◌==◌, nat_lt}
+use Rattle.std.proofs.Common.{List, [], ◌∷◌, ◌++◌, Option, Some, None, Result, Ok, Err, length}
+use Rattle.std.proofs.Common.{slice_get, take, drop, refl, arith, length-append}
 use Rattle.std.proofs.lemmas.Bool.Decides.{nat_tests}
 use Rattle.acceptor.specs.declared.ballot.Ballot.{Ballot}
 use Rattle.acceptor.specs.Ballots.{is_below, is_same}
 use Rattle.acceptor.specs.declared.entry.Entry.{Entry}
 use Rattle.acceptor.specs.declared.message.Report.{Report}
 use Rattle.acceptor.specs.declared.message.Body.{Body}
-use Rattle.acceptor.specs.declared.message.Body.TheVariants.{Prepare, Promise, Accept, Accepted, Nack, Behind, Decided}
+use Rattle.acceptor.specs.declared.message.Body.TheVariants.{Prepare, Promise, Accept, Accepted}
+use Rattle.acceptor.specs.declared.message.Body.TheVariants.{Nack, Behind, Decided}
 use Rattle.acceptor.specs.declared.message.Message.{Message}
 use Rattle.acceptor.specs.Messages.{message, has, to_others}
 use Rattle.acceptor.specs.declared.stored.Vote.{Vote}
@@ -15,22 +18,31 @@ use Rattle.acceptor.specs.declared.stored.Change.{Change}
 use Rattle.acceptor.specs.declared.stored.Change.TheVariants.{Promised, Voted, Tried, Appended}
 use Rattle.acceptor.specs.Storing.{stored_after, log_after}
 use Rattle.acceptor.specs.Answers.{reported, elsewhere, prepare_here, accept_here}
-use Rattle.proposer.specs.declared.faults.Refusal.{Refusal}
-use Rattle.proposer.specs.declared.faults.Refusal.TheVariants.{Busy, LogFull, BallotsSpent}
+use Rattle.proposer.specs.declared.fault.Refusal.{Refusal}
+use Rattle.proposer.specs.declared.fault.Refusal.TheVariants.{Busy, LogFull, BallotsSpent}
 use Rattle.proposer.specs.declared.plan.Plan.{Plan}
 use Rattle.proposer.specs.declared.role.Heard.{Heard}
 use Rattle.proposer.specs.declared.role.Role.{Role}
 use Rattle.proposer.specs.declared.role.Role.TheVariants.{Idle, Gathering, Proposing, Leading}
 use Rattle.proposer.specs.Plans.{Passing, role_after, only_say, become, give_way, append}
-use Rattle.proposer.specs.Proposing.{is_full, is_majority, last_round, gather, new_ballot, is_outbid, ask_next, lead, start, start_by_role, wants_ballot, tell_length, tick_idle, tick, tick_by_role, was_heard, highest, choice, propose, promises_heard, promise_by_role, votes_heard, accepted_by_role, is_ballot_of}
+use Rattle.proposer.specs.Proposing.{is_full, is_majority, last_number, gather, new_ballot}
+use Rattle.proposer.specs.Proposing.{is_outbid, ask_next, lead, start, start_by_role, wants_ballot}
+use Rattle.proposer.specs.Proposing.{tell_length, tick_idle, tick, tick_by_role, was_heard, highest}
+use Rattle.proposer.specs.Proposing.{choice, propose, promises_heard, promise_by_role, votes_heard}
+use Rattle.proposer.specs.Proposing.{accepted_by_role, is_ballot_of}
 use Rattle.learner.specs.Desks.{Desk, adopt, passing, restarted}
 use Rattle.learner.specs.Learning.{told, longest_run}
-use Rattle.learner.specs.Steps.{Done, answered, on_body, is_desk, is_heeded, done, idle, planned, passed, step}
-use Rattle.learner.specs.Worlds.{World, put, world_after, nth_sent, delivered, at_desk, happens, run, after, new_world}
-use Rattle.learner.specs.declared.event.Event.{Event}
-use Rattle.learner.specs.declared.event.Event.TheVariants.{Submit, Start, Tick, Deliver}
+use Rattle.learner.specs.Steps.{Done, answered, on_body, is_desk, is_heeded, done, idle, planned}
+use Rattle.learner.specs.Steps.{passed, step}
+use Rattle.learner.specs.Worlds.{World, put, world_after, nth_sent, delivered, at_desk, happens}
+use Rattle.learner.specs.Worlds.{run, after, new_world}
+use Rattle.learner.specs.declared.event.DeskEvent.{DeskEvent}
+use Rattle.learner.specs.declared.event.DeskEvent.TheVariants.{Submit, Start, Tick, Deliver}
 use Rattle.learner.specs.declared.event.WorldEvent.{WorldEvent}
-use Rattle.learner.specs.declared.event.WorldEvent.TheVariants.{Submit as SubmitAt, Start as StartAt, Tick as TickAt, Deliver as DeliverNth, Restart as RestartAt}
+use Rattle.learner.specs.declared.event.WorldEvent.TheVariants.{Submit as SubmitAt}
+use Rattle.learner.specs.declared.event.WorldEvent.TheVariants.{Start as StartAt, Tick as TickAt}
+use Rattle.learner.specs.declared.event.WorldEvent.TheVariants.{Deliver as DeliverNth}
+use Rattle.learner.specs.declared.event.WorldEvent.TheVariants.{Restart as RestartAt}
 use Rattle.learner.proofs.Goes.{put_all}
 
 -- the vote is at this position or an earlier one
@@ -71,11 +83,11 @@ ResultFits n len (Err why) = Unit {0}
 
 ballot_fits : (n d : ℕ) (x : Desk)
     → ResultFits n (length x.log) (new_ballot n d x.stored (length x.log) (passing x))
-ballot_fits n d x = go (last_round x.stored (passing x) == 4294967295)
+ballot_fits n d x = go (last_number x.stored (passing x) == 4294967295)
   where
     go : (t : Bool) → ResultFits n (length x.log)
         (if t then Err BallotsSpent else Ok
-        (gather n d x.stored (length x.log) (passing x) (last_round x.stored (passing x) + 1)))
+        (gather n d x.stored (length x.log) (passing x) (last_number x.stored (passing x) + 1)))
     go true = tt
     go false = (tt, tt)
 
@@ -259,12 +271,12 @@ body_fits n d x from (Accepted b pos) = accepted_fits n d x from b pos x.role
 body_fits n d x from (Nack b pos promised) = mine (is_ballot_of x.role b)
   where
     higher : (t : Bool) → PlanFits n (length x.log)
-        (if t then give_way (passing x) promised.round else only_say (passing x) [])
+        (if t then give_way (passing x) promised.number else only_say (passing x) [])
     higher true = (tt, tt)
     higher false = (tt, tt)
 
     mine : (t : Bool) → PlanFits n (length x.log)
-        (if t then (if is_below b promised then give_way (passing x) promised.round else only_say
+        (if t then (if is_below b promised then give_way (passing x) promised.number else only_say
         (passing x) []) else only_say (passing x) [])
     mine true = higher (is_below b promised)
     mine false = (tt, tt)
@@ -337,7 +349,7 @@ submit_steady n d x e v = busy (length x.queue == 64)
     busy true = tt
     busy false = full (is_full (length x.log))
 
-step_steady : (n d : ℕ) (x : Desk) (event : Event) → IsSteady n x
+step_steady : (n d : ℕ) (x : Desk) (event : DeskEvent) → IsSteady n x
     → DoneIsSteady n (step n d x event)
 step_steady n d x (Submit e) v = submit_steady n d x e v
 step_steady n d x Start v =
@@ -359,7 +371,7 @@ after_steady : (n : ℕ) (w : World) (d : ℕ) (r : Result Done Refusal) → Don
 after_steady n w d (Ok r) h v = put_all (λ j x. IsSteady n x) w.desks d r.desk h v
 after_steady n w d (Err why) h v = v
 
-at_steady : (n : ℕ) (w : World) (d : ℕ) (event : Event) → AllAreSteady n w
+at_steady : (n : ℕ) (w : World) (d : ℕ) (event : DeskEvent) → AllAreSteady n w
     → AllAreSteady n (at_desk n w d event)
 at_steady n w d event v = go (is_desk n d)
   where

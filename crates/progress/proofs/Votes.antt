@@ -1,5 +1,7 @@
 -- Desk d has asked for votes, and hears the desks one after the other: it gives way, or it leads.
-use Rattle.std.proofs.Common.{◌≡◌, ℕ, suc, ◌≤◌, ◌<◌, ◌+◌, ◌*◌, ◌||◌, max, Bool, true, false, if◌then◌else◌, ◌==◌, nat_lt, List, [], ◌∷◌, ◌++◌, ◌⊎◌, inl, inr, Some, None, length, refl, sym, ap, ◌∙◌, subst, arith, length-append}
+use Rattle.std.proofs.Common.{◌≡◌, ℕ, suc, ◌≤◌, ◌<◌, ◌+◌, ◌*◌, ◌||◌, max, Bool, true, false}
+use Rattle.std.proofs.Common.{if◌then◌else◌, ◌==◌, nat_lt, List, [], ◌∷◌, ◌++◌, ◌⊎◌, inl, inr, Some}
+use Rattle.std.proofs.Common.{None, length, refl, sym, ap, ◌∙◌, subst, arith, length-append}
 use Rattle.std.proofs.lemmas.Bool.Decides.{nat_tests}
 use Rattle.std.proofs.lemmas.Slice.Eq.{bytes_eq-Decides}
 use Rattle.acceptor.specs.declared.ballot.Ballot.{Ballot}
@@ -20,9 +22,12 @@ use Rattle.learner.specs.Order.{IsAtMost, IsBelow}
 use Rattle.learner.specs.Steps.{on_body}
 use Rattle.learner.specs.Worlds.{World}
 use Rattle.learner.proofs.Order.{at_most_self}
-use Rattle.progress.proofs.Aims.{Aim, lack, IsReached, Decides, decides_here, decides_more, carried, put_at, put_same, put_self, IsPending, pending_more, pending_new, comes}
+use Rattle.progress.proofs.Aims.{Aim, lack, IsReached, Decides, decides_here, decides_more, carried}
+use Rattle.progress.proofs.Aims.{put_at, put_same, put_self, IsPending, pending_more, pending_new}
+use Rattle.progress.proofs.Aims.{comes}
 use Rattle.progress.proofs.Fits.{Fit, seen_at, fit_plain, fit_voted, fit_appended, fit_decided}
-use Rattle.progress.proofs.Answers.{refuses, votes_for, tells, gives_up, accept_past, accept_ahead, voted_at, outvoted_at, vote_heard, nack_heard, is_own_proposing}
+use Rattle.progress.proofs.Answers.{refuses, votes_for, tells, gives_up, accept_past, accept_ahead}
+use Rattle.progress.proofs.Answers.{voted_at, outvoted_at, vote_heard, nack_heard, is_own_proposing}
 use Rattle.progress.proofs.Levels.{desks_same, Level, levels, take_one}
 
 -- of the desks none has promised a ballot above this one, and none has a longer log
@@ -69,7 +74,7 @@ pub record Asks (a : Aim) (r : ℕ) (C : Type 0) (b : Ballot) (m : ℕ) (f : Ent
   pub few : is_majority a.n (length heard) ≡ false
   pub enough : a.n < 2 * (length heard + length left)
   pub old : (m ≤ a.old) ⊎ (f ≡ a.first)
-  pub low : b.round ≤ r
+  pub low : b.number ≤ r
   pub clear : C → IsClear a b m w
 
 -- something stood against its ballot, and it is idle
@@ -161,7 +166,7 @@ outbid : (a : Aim) (c r : ℕ) (C : Type 0) (b : Ballot) (m : ℕ) (f : Entry) (
 outbid a c r C b m f k ks heard w g here high yields =
     comes a (suc c) w (message a.d k (Accept b m f)) (refuses x k a.d b m) fit.reached a.mine i
     (g.asked k (inl refl)) (outvoted_at a.n a.d k x b m f here high)
-    (λ reached1. comes a c u (message k a.d (Nack b m q)) (gives_up (u.desks a.d) q.round) reached1
+    (λ reached1. comes a c u (message k a.d (Nack b m q)) (gives_up (u.desks a.d) q.number) reached1
     i a.mine
     (pending_new a w k (refuses x k a.d b m) 0 (message k a.d (Nack b m q)) fit.late refl)
     (nack_heard a.n a.d k (u.desks a.d) b m q
@@ -169,11 +174,11 @@ outbid a c r C b m f k ks heard w g here high yields =
     high)
     (λ reached2. yields v
     (record {
-      fit = fit_plain a r u a.d (max (u.desks a.d).seen q.round) (Some Idle) [] (fit1 reached1)
+      fit = fit_plain a r u a.d (max (u.desks a.d).seen q.number) (Some Idle) [] (fit1 reached1)
           a.mine reached2
           (λ s. let l = fit.promised k i in let o = (fit1 reached1).seen in omega (arith, l, o));
       role = ap (λ z. z.role) (put_self u.desks a.d
-          (adopt (u.desks a.d) (gives_up (u.desks a.d) q.round)));
+          (adopt (u.desks a.d) (gives_up (u.desks a.d) q.number)));
       against = λ z. let l = (g.clear z k i).0 in grind (arith, l, high);
     })))
   where
@@ -196,7 +201,7 @@ outbid a c r C b m f k ks heard w g here high yields =
     u = carried w k (refuses x k a.d b m)
 
     v : World
-    v = carried u a.d (gives_up (u.desks a.d) q.round)
+    v = carried u a.d (gives_up (u.desks a.d) q.number)
 
     fit1 : IsReached a.n u → Fit a r u
     fit1 reached1 = fit_plain a r w k x.seen None ms fit i reached1 (seen_at a r w k fit)

@@ -1,5 +1,5 @@
 -- That no desk is stuck: from every world that any events have led to, every majority of the desks
--- whose logs have room, and that has enough rounds left, can decide what a desk of it has queued,
+-- whose logs have room, and that has enough numbers left, can decide what a desk of it has queued,
 -- by Ticks of that desk and messages that are sent from then on among that majority.
 use Rattle.std.specs.Prelude.{ℕ, suc, ◌≡◌, ◌≤◌, ◌<◌, ◌+◌, ◌-◌, ◌*◌, max, List, [], ◌∷◌, ◌++◌}
 use Rattle.std.specs.Prelude.{Option, Some, None, length, slice_get}
@@ -62,12 +62,12 @@ pub record CanDecide (n d : ℕ) (desks : List ℕ) (w : World) (es rest : List 
   pub decided : StandFrom (length (w.desks d).log) es ((run n w events).desks d).log
   pub queue : ((run n w events).desks d).queue ≡ rest
 
--- each log of these desks has room for twice as many entries, and above the rounds that they have
+-- each log of these desks has room for twice as many entries, and above the numbers that they have
 -- promised, and that desk d has tried or seen, twice as many are left
 pub record HasRoom (d : ℕ) (desks : List ℕ) (w : World) (count : ℕ) : Type 0 where
   pub logs : (k : ℕ) → Has desks k → length (w.desks k).log + 2 * count ≤ 65536
   pub promised : (k : ℕ)
-      → Has desks k → (w.desks k).stored.promised.round + 2 * count ≤ 4294967295
+      → Has desks k → (w.desks k).stored.promised.number + 2 * count ≤ 4294967295
   pub tried : (w.desks d).stored.tried + 2 * count ≤ 4294967295
   pub seen : (w.desks d).seen + 2 * count ≤ 4294967295
 

@@ -10,7 +10,7 @@ ghost use Rattle.progress.specs.Progress.{NoDeskIsStuck, NoQueueIsStuck};
 /// decided 19 for each desk of the majority and 10.
 ///
 /// The logs of the majority need room for two entries more, no desk of it may have promised one of
-/// the last two rounds, and the desk that ticks may neither have tried nor have seen one of them;
+/// the last two numbers, and the desk that ticks may neither have tried nor have seen one of them;
 /// for so many entries, so many times two.
 pub fn no_desk_is_stuck()
     ensures first { NoDeskIsStuck }

@@ -54,12 +54,12 @@ become p role messages =
       messages = messages;
     }
 
--- the desk gives its ballot up, and keeps in mind the round that was shown
+-- the desk gives its ballot up, and keeps in mind the number that was shown
 abbrev pub give_way : Passing → ℕ → Plan
-give_way p round =
+give_way p number =
     record {
       role = Some Idle;
-      seen = max p.seen round;
+      seen = max p.seen number;
       drop_first = false;
       change = None;
       messages = [];

@@ -14,8 +14,8 @@ use Rattle.acceptor.specs.declared.stored.Stored.{Stored}
 use Rattle.acceptor.specs.declared.stored.Change.TheVariants.{Tried}
 use Rattle.acceptor.specs.Ballots.{is_below, is_same}
 use Rattle.acceptor.specs.Messages.{has, desks_from, without, to_each, to_all, to_others}
-use Rattle.proposer.specs.declared.faults.Refusal.{Refusal}
-use Rattle.proposer.specs.declared.faults.Refusal.TheVariants.{Busy, LogFull, BallotsSpent}
+use Rattle.proposer.specs.declared.fault.Refusal.{Refusal}
+use Rattle.proposer.specs.declared.fault.Refusal.TheVariants.{Busy, LogFull, BallotsSpent}
 use Rattle.proposer.specs.declared.role.Heard.{Heard}
 use Rattle.proposer.specs.declared.role.Role.{Role}
 use Rattle.proposer.specs.declared.role.Role.TheVariants.{Idle, Gathering, Proposing, Leading}
@@ -39,27 +39,27 @@ submit len p e =
 abbrev pub is_majority : ℕ → ℕ → Bool
 is_majority n count = nat_lt n (2 * count)
 
--- the greatest round that the desk knows of
-abbrev pub last_round : Stored → Passing → ℕ
-last_round s p = max (max s.tried s.promised.round) p.seen
+-- the greatest number that the desk knows of
+abbrev pub last_number : Stored → Passing → ℕ
+last_number s p = max (max s.tried s.promised.number) p.seen
 
 -- the role, the change and the question of a new ballot
 abbrev pub gather : ℕ → ℕ → Stored → ℕ → Passing → ℕ → Plan
-gather n d s len p round =
+gather n d s len p number =
     record {
-      role = Some (Gathering (record { round = round; desk = d }) len []);
+      role = Some (Gathering (record { number = number; desk = d }) len []);
       seen = p.seen;
       drop_first = false;
-      change = Some (Tried round);
-      messages = to_all n d (Prepare (record { round = round; desk = d }) len);
+      change = Some (Tried number);
+      messages = to_all n d (Prepare (record { number = number; desk = d }) len);
     }
 
--- the next ballot, of a round above all that the desk knows of, where there is one
+-- the next ballot, of a number above all that the desk knows of, where there is one
 abbrev pub new_ballot : ℕ → ℕ → Stored → ℕ → Passing → Result Plan Refusal
 new_ballot n d s len p =
-    if last_round s p == 4294967295
+    if last_number s p == 4294967295
     then Err BallotsSpent
-    else Ok (gather n d s len p (last_round s p + 1))
+    else Ok (gather n d s len p (last_number s p + 1))
 
 -- the desk has promised a ballot above this one of its own
 abbrev pub is_outbid : Stored → Ballot → Bool
@@ -221,5 +221,5 @@ is_ballot_of (Leading own) b = is_same own b
 abbrev pub on_nack : Passing → Ballot → Ballot → Plan
 on_nack p b promised =
     if is_ballot_of p.role b
-    then (if is_below b promised then give_way p promised.round else only_say p [])
+    then (if is_below b promised then give_way p promised.number else only_say p [])
     else only_say p []

@@ -1,8 +1,8 @@
 -- How the answer of a call goes with the step that it stands for.
 use Rattle.std.specs.Prelude.{◌≡◌, ◌↔◌, Result, Ok, Err, IfOk, IsErrOf}
-use Rattle.proposer.specs.declared.faults.Refusal.{Refusal}
-use Rattle.proposer.specs.declared.faults.StepFault.{StepFault}
-use Rattle.proposer.specs.declared.faults.StepFault.TheVariants.{Refused}
+use Rattle.proposer.specs.declared.fault.Refusal.{Refusal}
+use Rattle.proposer.specs.declared.fault.StepFault.{StepFault}
+use Rattle.proposer.specs.declared.fault.StepFault.TheVariants.{Refused}
 use Rattle.proposer.specs.declared.plan.Plan.{Plan}
 
 -- the plan of the call is that of the step

@@ -5,7 +5,7 @@ use Rattle.acceptor.specs.declared.message.Body.TheVariants.{Prepare, Promise, A
 use Rattle.acceptor.specs.declared.message.Body.TheVariants.{Nack, Behind, Decided}
 use Rattle.acceptor.specs.declared.message.Message.{Message}
 use Rattle.acceptor.specs.declared.stored.Stored.{Stored}
-use Rattle.proposer.specs.declared.faults.Refusal.{Refusal}
+use Rattle.proposer.specs.declared.fault.Refusal.{Refusal}
 use Rattle.proposer.specs.declared.plan.Plan.{Plan}
 use Rattle.proposer.specs.Plans.{Passing, only_say}
 use Rattle.proposer.specs.Proposing.{start, tick, on_promise, on_accepted, on_nack}

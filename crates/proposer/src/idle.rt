@@ -1,6 +1,6 @@
 //! An idle desk: how it makes a ballot, and tells its length.
 
-use crate::faults::{Refusal, StepFault};
+use crate::fault::{Refusal, StepFault};
 use crate::plan::Plan;
 use crate::proposer::Proposer;
 use crate::role::{Promises, Role};
@@ -59,20 +59,20 @@ impl Proposer {
         Ok(self.only_say(messages))
     }
 
-    /// The plan of a new ballot, with a round above all that the desk knows of.
+    /// The plan of a new ballot, with a number above all that the desk knows of.
     pub(crate) fn new_ballot(&self, stored: &Stored, len: u32) -> Result<Plan, StepFault>
         ensures plan { let p = self.now in
             PlansAs result (new_ballot p.desks p.desk stored.now len p.passing) }
         ensures refused { let p = self.now in
             RefusesAs result (new_ballot p.desks p.desk stored.now len p.passing) }
     {
-        let last = stored.tried.max(stored.promised.round).max(self.seen());
+        let last = stored.tried.max(stored.promised.number).max(self.seen());
         if last == u32::MAX {
             return Err(StepFault::Refused(Refusal::BallotsSpent));
         }
-        let round = last + 1;
+        let number = last + 1;
         let desk = self.desk();
-        let ballot = Ballot { round, desk };
+        let ballot = Ballot { number, desk };
         let question = Body::Prepare { ballot, pos: len };
         let messages = to_all(self.allocator(), self.desks(), desk, &question)?;
         Ok(Plan {
@@ -83,7 +83,7 @@ impl Proposer {
             }),
             seen: self.seen(),
             drop_first: false,
-            change: Some(Change::Tried(round)),
+            change: Some(Change::Tried(number)),
             messages,
         })
     }

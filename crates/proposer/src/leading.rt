@@ -1,7 +1,7 @@
 //! A desk that leads: a majority has promised its ballot, which serves all later positions until a
 //! higher one is promised.
 
-use crate::faults::{Refusal, StepFault};
+use crate::fault::{Refusal, StepFault};
 use crate::plan::Plan;
 use crate::proposer::Proposer;
 use acceptor::ballot::Ballot;

@@ -1,7 +1,7 @@
 //! How a desk makes ballots and proposes entries.
 #![tactic(auto)]
 
-pub mod faults;
+pub mod fault;
 mod gathering;
 mod idle;
 mod leading;
@@ -13,7 +13,7 @@ pub mod role;
 mod steps;
 pub mod votes;
 
-pub use faults::{Refusal, StepFault};
+pub use fault::{Refusal, StepFault};
 pub use plan::Plan;
 pub use proposer::Proposer;
 pub use role::{Heard, Promises, Role};

@@ -10,7 +10,7 @@ use acceptor::stored::Change;
 pub struct Plan {
     /// The role from now on. `None` keeps the role.
     pub role: Option<Role>,
-    /// The greatest round that a Nack has shown, from now on.
+    /// The greatest number that a Nack has shown, from now on.
     pub seen: u32,
     /// Whether the queue's first leaves it.
     pub drop_first: bool,

@@ -44,13 +44,13 @@ impl Proposer {
         }
     }
 
-    /// The plan by which the desk gives its ballot up, and keeps in mind the round that was shown.
-    pub(crate) fn give_way(&self, round: u32) -> Plan
-        ensures { result ≡ give_way self.now.passing round }
+    /// The plan by which the desk gives its ballot up, and keeps in mind the number that was shown.
+    pub(crate) fn give_way(&self, number: u32) -> Plan
+        ensures { result ≡ give_way self.now.passing number }
     {
         Plan {
             role: Some(Role::Idle),
-            seen: self.seen().max(round),
+            seen: self.seen().max(number),
             drop_first: false,
             change: None,
             messages: self.no_messages(),

@@ -1,6 +1,6 @@
 //! One desk's proposing side: its parts, its queue, and how it takes a plan.
 
-use crate::faults::{Refusal, StepFault};
+use crate::fault::{Refusal, StepFault};
 use crate::plan::Plan;
 use crate::role::Role;
 use acceptor::entry::Entry;
@@ -12,7 +12,7 @@ use std::marker::Model;
 const MOST_QUEUED: usize = 64;
 
 /// One desk's proposing side: what it has in hand, what waits to be proposed, and the greatest
-/// round that a Nack has shown. All of it is lost at a restart.
+/// number that a Nack has shown. All of it is lost at a restart.
 ///
 /// `start`, `tick`, `on_promise`, `on_accepted` and `on_nack` change nothing: each gives the plan
 /// of one step. Once the plan's change is stored, `adopt` takes the plan.
@@ -90,7 +90,7 @@ impl Proposer {
         &self.role
     }
 
-    /// The greatest round that a Nack has shown, first 0.
+    /// The greatest number that a Nack has shown, first 0.
     pub fn seen(&self) -> u32
         ensures { result ≡ self.now.passing.seen }
     {

@@ -1,6 +1,6 @@
 //! What a desk plans at each event that its role answers.
 
-use crate::faults::StepFault;
+use crate::fault::StepFault;
 use crate::plan::Plan;
 use crate::proposer::Proposer;
 use crate::role::Role;
@@ -23,7 +23,7 @@ impl Proposer {
     /// it makes a new one. Any other does nothing.
     ///
     /// A desk that is idle or leads, with 65,536 entries in the log, is LogFull. Else, where a new
-    /// ballot is due and the greatest round that the desk knows of is 2^32 - 1, the answer is
+    /// ballot is due and the greatest number that the desk knows of is 2^32 - 1, the answer is
     /// BallotsSpent. Else, where memory is refused, it is NoMemory; a desk that does nothing takes
     /// none.
     pub fn start(&self, stored: &Stored, len: u32) -> Result<Plan, StepFault>
@@ -44,7 +44,7 @@ impl Proposer {
     /// others how long its log is. One that leads does likewise, but proposes by its own ballot
     /// unless it has promised a higher one. A desk that gathers promises makes a new ballot. One
     /// that proposes asks again those that it has not heard. Where a new ballot is due and the
-    /// greatest round that the desk knows of is 2^32 - 1, the answer is BallotsSpent. Else, where
+    /// greatest number that the desk knows of is 2^32 - 1, the answer is BallotsSpent. Else, where
     /// memory is refused, it is NoMemory.
     pub fn tick(&self, stored: &Stored, len: u32) -> Result<Plan, StepFault>
         ensures plan { PlansAs result (tick_plan self.now stored.now len) }
@@ -132,7 +132,7 @@ impl Proposer {
         } = &message.body
         {
             if self.role().has_ballot(*ballot) && ballot.is_below(*promised) {
-                return Ok(self.give_way(promised.round));
+                return Ok(self.give_way(promised.number));
             }
         }
         Ok(self.nothing())

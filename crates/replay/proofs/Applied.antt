@@ -1,5 +1,7 @@
 -- A replay from line to line, and how it ends, in words on the whole input.
-use Rattle.std.proofs.Common.{◌≡◌, ℕ, ◌+◌, Bool, true, false, List, [], ◌∷◌, ◌++◌, length, fold, unwrap_or, is_some, Option, None, Some, refl, sym, ap, ◌∙◌, append_assoc, append-nil, length-append, subst, add_comm, arith}
+use Rattle.std.proofs.Common.{◌≡◌, ℕ, ◌+◌, Bool, true, false, List, [], ◌∷◌, ◌++◌, length, fold}
+use Rattle.std.proofs.Common.{unwrap_or, is_some, Option, None, Some, refl, sym, ap, ◌∙◌}
+use Rattle.std.proofs.Common.{append_assoc, append-nil, length-append, subst, add_comm, arith}
 use Rattle.std.specs.Prelude.{Result, Ok, Err, IfErr}
 use Rattle.std.proofs.KnownBytes.{Appends-trans, Appends-nil}
 use Rattle.std.specs.Io.KnownBytes.{Appends}
@@ -10,9 +12,13 @@ use Rattle.lines.specs.Lines.{lines_of, is_within, lines_read}
 use Rattle.lines.specs.Reading.{Reading, nothing_read, HasGiven, GivesLine, GivesFault, Gives}
 use Rattle.lines.specs.declared.fault.RunFault.{RunFault}
 use Rattle.lines.specs.declared.fault.RunFault.TheVariants as fault
-use Rattle.lines.proofs.Inputs.{given_of, left_of, left_is, has_read, has_all, part_front, part_after, nothing_written, whole_written, waits_more, all_out, part_out, still_waits, lines_above}
+use Rattle.lines.proofs.Inputs.{given_of, left_of, left_is, has_read, has_all, part_front}
+use Rattle.lines.proofs.Inputs.{part_after, nothing_written, whole_written, waits_more, all_out}
+use Rattle.lines.proofs.Inputs.{part_out, still_waits, lines_above}
 use Rattle.sheets.specs.Sheet.{sheet}
-use Rattle.replay.specs.Replay.{entries, refusal_text, refusals_after, refusals, Run, run_text, run_sheet, Replays, ReplayFails}
+use Rattle.replay.specs.declared.fault.ReplayFault.TheVariants as replay_fault
+use Rattle.replay.specs.Replay.{entries, refusal_text, refusals_after, refusals, Run, run_text}
+use Rattle.replay.specs.Replay.{run_sheet, Replays, ReplayFails}
 use Rattle.replay.specs.model.Applying.{Applies, StopsAmong}
 
 -- ---- lines
@@ -195,7 +201,7 @@ forgotten p meet out given start now old new a =
     part_of_whole p given start now old new a.read
     (still_waits old new (refusals (lines_of given)) a.front out a.written)
 
--- reading ended early, behind lines whose text is written
+-- reading ended early, after lines whose text is written
 pub stops : (e : RunFault) (p : Reading) (meet : History) (out given : List ℕ)
     (start before now old between new : Option (List ℕ))
     → Applied p meet out given start before old between → GivesFault e given start now
@@ -230,7 +236,6 @@ stops fault.NoMemory p meet out given start before now old between new a f last 
     (whole_written old new (refusals (lines_of given))
     (all_out old between new (refusals (lines_of given)) a.front out a.written last))
 stops fault.Write p meet out given start before now old between new a f last = absurd f
-stops fault.NoSuchRound p meet out given start before now old between new a f last = absurd f
 stops fault.BadCount p meet out given start before now old between new a f last = absurd f
 stops (fault.BadLine n) p meet out given start before now old between new a f last = absurd f
 
@@ -238,12 +243,13 @@ stops (fault.BadLine n) p meet out given start before now old between new a f la
 
 -- lines were not all applied
 pub fails_among : (e : RunFault) (r : Run) → StopsAmong e r.input r.left r.old r.new
-    → ReplayFails e r
+    → ReplayFails (replay_fault.Lines e) r
 fails_among fault.InputTooLong r s =
     record {
       above = s.0;
       written =
-          subst (Appends r.old r.new) (sym (append-nil (refusals (lines_read r.input))) ∙ rw s.0 refl) s.1;
+          subst (Appends r.old r.new)
+          (sym (append-nil (refusals (lines_read r.input))) ∙ rw s.0 refl) s.1;
     }
 fails_among fault.Read r s =
     record {
@@ -256,7 +262,6 @@ fails_among fault.Read r s =
     }
 fails_among fault.Write r s = part_front r.old r.new (refusals (lines_read r.input)) _ s
 fails_among fault.NoMemory r s = part_front r.old r.new (refusals (lines_read r.input)) _ s
-fails_among fault.NoSuchRound r s = absurd s
 fails_among fault.BadCount r s = absurd s
 fails_among (fault.BadLine n) r s = absurd s
 
@@ -272,7 +277,7 @@ same_sheet : (r : Run) (meet : History) (count : ℕ) (left mid : Option (List �
     → Applies meet count r.input left r.old mid → sheet_is r meet count ≡ run_sheet r
 same_sheet r meet count left mid a = rw (a.meet_is, a.count_is) refl
 
--- the sheet was written behind the refused lines
+-- the sheet was written after the refused lines
 pub replays : (r : Run) (meet : History) (count : ℕ) (mid : Option (List ℕ)) (text : List ℕ)
     → Applies meet count r.input r.left r.old mid → sheet_is r meet count ≡ Some text
     → Appends mid r.new text → Replays r
@@ -291,7 +296,7 @@ replays r meet count mid text a there written =
 
 -- there is no sheet
 pub lacks : (r : Run) (meet : History) (count : ℕ) → Applies meet count r.input r.left r.old r.new
-    → sheet_is r meet count ≡ None → ReplayFails fault.NoSuchRound r
+    → sheet_is r meet count ≡ None → ReplayFails replay_fault.NoSuchRound r
 lacks r meet count a none =
     let is : run_sheet r ≡ None = sym (same_sheet r meet count r.left r.new a) ∙ none in
     record {
@@ -308,7 +313,7 @@ lacks r meet count a none =
 
 -- there was no memory for the sheet
 pub starves : (r : Run) (meet : History) (count : ℕ) → Applies meet count r.input r.left r.old r.new
-    → ReplayFails fault.NoMemory r
+    → ReplayFails (replay_fault.Lines fault.NoMemory) r
 starves r meet count a =
     subst (AppendsPart r.old r.new) (sym (text_within r a.within))
     (part_front r.old r.new (refusals (lines_of r.input)) _
@@ -317,7 +322,7 @@ starves r meet count a =
 -- the sheet was not written whole
 pub cut_off : (r : Run) (meet : History) (count : ℕ) (mid : Option (List ℕ)) (text : List ℕ)
     → Applies meet count r.input r.left r.old mid → sheet_is r meet count ≡ Some text
-    → AppendsPart mid r.new text → ReplayFails fault.Write r
+    → AppendsPart mid r.new text → ReplayFails (replay_fault.Lines fault.Write) r
 cut_off r meet count mid text a there part =
     let is : run_sheet r ≡ Some text = sym (same_sheet r meet count r.left mid a) ∙ there in
     subst (AppendsPart r.old r.new)

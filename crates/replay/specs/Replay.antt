@@ -11,9 +11,10 @@ use Rattle.texts.specs.declared.answer.Answer.TheVariants.{Done, Refused}
 use Rattle.sheets.specs.declared.Style.{Style}
 use Rattle.sheets.specs.Sheet.{sheet}
 use Rattle.lines.specs.Lines.{whole_lines, lines_of, is_within, lines_read}
-use Rattle.lines.specs.Bytes.{HasLeft, AppendsPart}
-use Rattle.lines.specs.declared.fault.RunFault.{RunFault}
-use Rattle.lines.specs.declared.fault.RunFault.TheVariants as fault
+use Rattle.lines.specs.Bytes.{HasLeft, AppendsPart, Sides}
+use Rattle.lines.specs.declared.fault.RunFault.TheVariants as run_fault
+use Rattle.replay.specs.declared.fault.ReplayFault.{ReplayFault}
+use Rattle.replay.specs.declared.fault.ReplayFault.TheVariants as fault
 
 -- line n is the command text with the id n
 abbrev pub entries : List (List ℕ) → List (ℕ × List ℕ)
@@ -25,7 +26,7 @@ refusal_text n Done = []
 refusal_text n (Refused code) =
     codes "refused " ++ decimal n ++ codes " " ++ code_name code ++ codes "\n"
 
--- what is written for entries behind a history
+-- what is written for entries after a history
 abbrev pub refusals_after : History → List (ℕ × List ℕ) → List ℕ
 refusals_after h [] = []
 refusals_after h (e ∷ es) =
@@ -35,7 +36,7 @@ refusals_after h (e ∷ es) =
 abbrev pub refusals : List (List ℕ) → List ℕ
 refusals lines = refusals_after nothing (entries lines)
 
--- the sheet behind all lines
+-- the sheet after all lines
 abbrev pub sheet_after : Style → Event → ℕ → List (List ℕ) → Option (List ℕ)
 sheet_after style event round lines =
     sheet style (history (entries lines)).accepted event round (length lines)
@@ -95,11 +96,33 @@ pub record ReadsPart (r : Run) : Type 0 where
   pub written : Appends r.old r.new (refusals (whole_lines front))
 
 -- how a replay ends that does not write the whole text with a sheet
-abbrev pub ReplayFails : RunFault → Run → Type 0
+abbrev pub ReplayFails : ReplayFault → Run → Type 0
 ReplayFails fault.NoSuchRound r = LacksRound r
-ReplayFails fault.InputTooLong r = IsTooLong r
-ReplayFails fault.Read r = ReadsPart r
-ReplayFails fault.Write r = AppendsPart r.old r.new (run_text r)
-ReplayFails fault.NoMemory r = AppendsPart r.old r.new (run_text r)
-ReplayFails fault.BadCount r = ⊥
-ReplayFails (fault.BadLine n) r = ⊥
+ReplayFails (fault.Lines run_fault.InputTooLong) r = IsTooLong r
+ReplayFails (fault.Lines run_fault.Read) r = ReadsPart r
+ReplayFails (fault.Lines run_fault.Write) r = AppendsPart r.old r.new (run_text r)
+ReplayFails (fault.Lines run_fault.NoMemory) r = AppendsPart r.old r.new (run_text r)
+ReplayFails (fault.Lines run_fault.BadCount) r = ⊥
+ReplayFails (fault.Lines (run_fault.BadLine n)) r = ⊥
+
+-- the run with this input between these two sides
+abbrev pub run_of : Style → Event → ℕ → List ℕ → Sides → Run
+run_of style event round input s = record {
+  style = style;
+  event = event;
+  round = round;
+  input = input;
+  left = s.left;
+  old = s.old;
+  new = s.new;
+}
+
+-- between these two sides, the input that the reader had was replayed to its end
+abbrev pub ReplaysAll : Style → Event → ℕ → Sides → Type 0
+ReplaysAll style event round s =
+    (input : List ℕ) × HasLeft s.had input × Replays (run_of style event round input s)
+
+-- between these two sides, a replay of the input that the reader had ended early by this fault
+abbrev pub ReplaysPart : Style → Event → ℕ → Sides → ReplayFault → Type 0
+ReplaysPart style event round s fault =
+    (input : List ℕ) × HasLeft s.had input × ReplayFails fault (run_of style event round input s)

@@ -2,14 +2,17 @@
 //! they come to.
 #![tactic(auto)]
 
-ghost use Rattle.std.specs.Prelude.{◌≡◌, ◌++◌, List, ℕ, IfOk, OnOk, IfErr};
+mod fault;
+
+ghost use Rattle.std.specs.Prelude.{◌≡◌, ◌++◌, IfOk, OnOk, IfErr};
 ghost use Rattle.commands.specs.History.{nothing, after, answer_to};
-ghost use Rattle.lines.specs.Bytes.{HasLeft};
-ghost use Rattle.replay.specs.Replay.{refusal_text, Replays, ReplayFails};
-ghost use Rattle.replay.specs.model.Applying.{Applies, StopsAmong};
+ghost use Rattle.lines.specs.Bytes.{sides};
+ghost use Rattle.replay.specs.Replay.{refusal_text, ReplaysAll, ReplaysPart};
+ghost use Rattle.replay.specs.model.Applying.{AppliesAll, AppliesPart};
 
 use attempts::push_decimal;
 use commands::{Answer, Meet};
+pub use fault::ReplayFault;
 use formats::Event;
 use lines::{LineReader, write_long, write_out, write_text};
 pub use lines::{RunFault, lines_are_parted};
@@ -55,12 +58,10 @@ fn apply_lines<R: Read, W: Write>(
     writer: &mut W,
 ) -> Result<u32, RunFault>
     requires { meet.old ≡ nothing }
-    ensures ok { IfOk result (λ count. (input : List ℕ) × HasLeft (R.remaining reader.old) input
-        × Applies meet.new count input (R.remaining reader.new)
-        (W.contents writer.old) (W.contents writer.new)) }
-    ensures err { IfErr result (λ e. (input : List ℕ) × HasLeft (R.remaining reader.old) input
-        × StopsAmong e input (R.remaining reader.new)
-        (W.contents writer.old) (W.contents writer.new)) }
+    ensures ok { IfOk result (AppliesAll meet.new
+        (sides R.remaining W.contents reader.old reader.new writer.old writer.new)) }
+    ensures err { IfErr result (AppliesPart
+        (sides R.remaining W.contents reader.old reader.new writer.old writer.new)) }
 {
     let mut lines = LineReader::new();
     let mut line = Vec::new(alloc);
@@ -87,7 +88,7 @@ fn apply_lines<R: Read, W: Write>(
 ///
 /// Lines are parted by line feeds; a last line without one counts where it is not empty. Line `n`,
 /// counted from 1, is the command with the id `n`. A refused one is written as `refused`, `n` and
-/// the name of the refusal. The sheet stands behind all of them, and its position is the number of
+/// the name of the refusal. The sheet stands after all of them, and its position is the number of
 /// lines.
 ///
 /// # Errors
@@ -95,7 +96,7 @@ fn apply_lines<R: Read, W: Write>(
 /// - `NoSuchRound` where no accepted command opened the round: the refused lines are written.
 /// - `InputTooLong` where the input has more than 65,536 lines, more than 10,000 bytes in a line,
 ///   or more than 39,387,136 bytes: what the whole lines in front of the first byte too many gave
-///   is written.
+///   is written. This fault and those below are of the lines, `ReplayFault::Lines`.
 /// - `Read` where a read fails, an interrupted one too: what the whole lines in front gave is
 ///   written.
 /// - `Write` where a write fails, and `NoMemory` where memory runs out: a front part of the text
@@ -107,37 +108,21 @@ pub fn replay<R: Read, W: Write>(
     event: Event,
     round: u8,
     style: Style,
-) -> Result<(), RunFault>
-    ensures ok { OnOk result ((input : List ℕ) × HasLeft (R.remaining reader.old) input
-        × Replays (record {
-          style = style;
-          event = event;
-          round = round;
-          input = input;
-          left = R.remaining reader.new;
-          old = W.contents writer.old;
-          new = W.contents writer.new;
-        })) }
-    ensures err { IfErr result (λ e. (input : List ℕ) × HasLeft (R.remaining reader.old) input
-        × ReplayFails e (record {
-          style = style;
-          event = event;
-          round = round;
-          input = input;
-          left = R.remaining reader.new;
-          old = W.contents writer.old;
-          new = W.contents writer.new;
-        })) }
+) -> Result<(), ReplayFault>
+    ensures ok { OnOk result (ReplaysAll style event round
+        (sides R.remaining W.contents reader.old reader.new writer.old writer.new)) }
+    ensures err { IfErr result (ReplaysPart style event round
+        (sides R.remaining W.contents reader.old reader.new writer.old writer.new)) }
 {
     let mut meet = Meet::new(alloc)?;
     let position = apply_lines(alloc, &mut meet, reader, writer)?;
     let sheet = match sheet(alloc, &meet, event, round, position, style) {
         Ok(sheet) => sheet,
-        Err(SheetFault::NoSuchRound) => return Err(RunFault::NoSuchRound),
-        Err(SheetFault::NoMemory) => return Err(RunFault::NoMemory),
+        Err(SheetFault::NoSuchRound) => return Err(ReplayFault::NoSuchRound),
+        Err(SheetFault::NoMemory) => return Err(ReplayFault::Lines(RunFault::NoMemory)),
     };
     match write_text(writer, &sheet) {
         Ok(()) => Ok(()),
-        Err(_) => Err(RunFault::Write),
+        Err(_) => Err(ReplayFault::Lines(RunFault::Write)),
     }
 }

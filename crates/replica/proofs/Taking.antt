@@ -1,21 +1,23 @@
 -- What an event is answered, from the plan of its step.
-use Rattle.std.proofs.Common.{◌≡◌, ℕ, ◌↔◌, Bool, true, false, if◌then◌else◌, List, Result, Ok, Err, refl, sym, ap, subst}
+use Rattle.std.proofs.Common.{◌≡◌, ℕ, ◌↔◌, Bool, true, false, if◌then◌else◌, List, Result, Ok, Err}
+use Rattle.std.proofs.Common.{refl, sym, ap, subst}
 use Rattle.acceptor.specs.declared.entry.Entry.{Entry}
 use Rattle.acceptor.specs.declared.message.Message.{Message}
 use Rattle.acceptor.specs.declared.stored.Stored.{Stored}
-use Rattle.proposer.specs.declared.faults.Refusal.{Refusal}
-use Rattle.proposer.specs.declared.faults.Refusal.TheVariants.{Busy, LogFull, BallotsSpent}
-use Rattle.proposer.specs.declared.faults.StepFault.{StepFault}
-use Rattle.proposer.specs.declared.faults.StepFault.TheVariants.{Refused, NoMemory}
+use Rattle.proposer.specs.declared.fault.Refusal.{Refusal}
+use Rattle.proposer.specs.declared.fault.Refusal.TheVariants.{Busy, LogFull, BallotsSpent}
+use Rattle.proposer.specs.declared.fault.StepFault.{StepFault}
+use Rattle.proposer.specs.declared.fault.StepFault.TheVariants.{Refused, NoMemory}
 use Rattle.proposer.specs.declared.plan.Plan.{Plan}
-use Rattle.learner.specs.declared.event.Event.TheVariants.{Deliver}
+use Rattle.learner.specs.declared.event.DeskEvent.TheVariants.{Deliver}
 use Rattle.learner.specs.Desks.{Desk}
 use Rattle.learner.specs.Steps.{Done, done, idle, is_heeded, on_body, step}
-use Rattle.roles.specs.declared.faults.NodeFault.{NodeFault}
-use Rattle.roles.specs.declared.faults.NodeFault.TheVariants as fault
+use Rattle.roles.specs.declared.fault.NodeFault.{NodeFault}
+use Rattle.roles.specs.declared.fault.NodeFault.TheVariants as fault
 use Rattle.roles.specs.Faults.{refused_as, fault_of}
 use Rattle.roles.specs.model.RunningDesks.{RunningDesk}
-use Rattle.replica.specs.Handles.{Takes, HoldsBeforeOrAfter}
+use Rattle.replica.specs.Handles.{Takes}
+use Rattle.replica.specs.Stores.{HoldsBeforeOrAfter}
 use Rattle.replica.specs.model.Planning.{IsPlanned}
 
 same_refusal : (a b : Refusal) → refused_as a ≡ refused_as b → a ≡ b

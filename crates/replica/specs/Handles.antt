@@ -1,26 +1,26 @@
 -- What a call of `Node::handle` answers, and what it leaves.
 use Rattle.std.specs.Prelude.{ℕ, ◌≡◌, ◌↔◌, ◌<◌, ⊤, true, false, if◌then◌else◌, List, [], Result, Ok}
-use Rattle.std.specs.Prelude.{Err, IsOk, IfOk, IsOkAnd, OnErr, IsErrOf}
+use Rattle.std.specs.Prelude.{Err, IsOk, IfOk, OnErr, IsErrOf}
 use Rattle.std.specs.List.{All}
 use Rattle.acceptor.specs.Entries.{IsId, IsText}
 use Rattle.acceptor.specs.declared.entry.Entry.{Entry}
 use Rattle.acceptor.specs.declared.message.Message.{Message}
-use Rattle.acceptor.specs.declared.stored.Stored.{Stored}
-use Rattle.proposer.specs.declared.faults.Refusal.{Refusal}
+use Rattle.proposer.specs.declared.fault.Refusal.{Refusal}
 use Rattle.proposer.specs.declared.plan.Plan.{Plan}
 use Rattle.proposer.specs.Plans.{only_say, IsNothing}
-use Rattle.learner.specs.declared.event.Event.{Event}
-use Rattle.learner.specs.declared.event.Event.TheVariants.{Submit, Start, Tick, Deliver}
+use Rattle.learner.specs.declared.event.DeskEvent.{DeskEvent}
+use Rattle.learner.specs.declared.event.DeskEvent.TheVariants.{Submit, Start, Tick, Deliver}
 use Rattle.learner.specs.Contents.{BodyHolds}
 use Rattle.learner.specs.Desks.{Desk, passing}
 use Rattle.learner.specs.Ranges.{AreInRange}
 use Rattle.learner.specs.Steps.{Done, is_heeded, on_body, step}
-use Rattle.store.specs.Keeping.{HoldsOnly, HoldsEither}
 use Rattle.store.specs.declared.home.Home.{Home}
-use Rattle.roles.specs.declared.faults.NodeFault.{NodeFault}
-use Rattle.roles.specs.declared.faults.NodeFault.TheVariants.{Down}
+use Rattle.store.specs.declared.keeper.Keeper.{Ghosts}
+use Rattle.roles.specs.declared.fault.NodeFault.{NodeFault}
+use Rattle.roles.specs.declared.fault.NodeFault.TheVariants.{Down}
 use Rattle.roles.specs.Faults.{refused_as}
-use Rattle.replica.specs.Nodes.{NodeValue, KeeperWords}
+use Rattle.replica.specs.Nodes.{NodeValue}
+use Rattle.replica.specs.Stores.{HoldsDesk, HoldsStep}
 
 -- What is answered to an event, where desk d of n is x before it and y after it, and this is the
 -- protocol's step for the event: the step's messages, each from the desk and in range, or the
@@ -32,19 +32,13 @@ pub record Takes (step : Result Done Refusal) (n d : ℕ) (x y : Desk)
   pub refused : (why : Refusal) → IsErrOf result (refused_as why) ↔ (step ≡ Err why)
   pub err : OnErr result (y ≡ x)
 
--- a store that is opened again holds the state before the step or the one after it
-abbrev pub HoldsBeforeOrAfter : (Stored → List Entry → Type 0) → Type 0 → Desk
-    → Result Done Refusal → Type 0
-HoldsBeforeOrAfter may_hold may_break x step =
-    IsOkAnd step (λ r. HoldsEither may_hold may_break x.stored x.log r.desk.stored r.desk.log)
-
 -- what desk d of n plans at a message
 abbrev pub plan_at : ℕ → ℕ → Desk → Message → Plan
 plan_at n d x m =
     if is_heeded n d m then on_body n d x m.from m.body else only_say (passing x) []
 
 -- the event is a message at which the desk neither changes nor sends anything
-abbrev pub IsIgnored : ℕ → ℕ → Desk → Event → Type 0
+abbrev pub IsIgnored : ℕ → ℕ → Desk → DeskEvent → Type 0
 IsIgnored n d x (Submit e) = ⊥
 IsIgnored n d x Start = ⊥
 IsIgnored n d x Tick = ⊥
@@ -59,11 +53,11 @@ abbrev pub FitInFrames : List Message → Type 0
 FitInFrames messages = All (λ m. BodyHolds IsInFrame (λ b. ⊤) m.body) messages
 
 -- the protocol's step for the event, of the desk of this home
-abbrev pub step_at : Home → Desk → Event → Result Done Refusal
+abbrev pub step_at : Home → Desk → DeskEvent → Result Done Refusal
 step_at home x event = step home.desks home.desk x event
 
 -- What `handle` answers to an event, and what the node is then.
-pub record Handles {K : Type 0} (k : KeeperWords K) (old : NodeValue K) (event : Event)
+pub record Handles {K : Type 0} (k : Ghosts K) (old : NodeValue K) (event : DeskEvent)
     (result : Result (List Message) NodeFault) (new : NodeValue K) : Type 0 where
   -- once the desk is Down each answer is Down, and nothing changes
   pub ended : old.is_down ≡ true → (result ≡ Err Down) × (new ≡ old)
@@ -83,11 +77,9 @@ pub record Handles {K : Type 0} (k : KeeperWords K) (old : NodeValue K) (event :
       → k.failures_of old.keeper < k.failures_of new.keeper
   pub uncounted : ¬ (result ≡ Err Down) → k.failures_of new.keeper ≡ k.failures_of old.keeper
   -- at every other answer a store that is opened again holds the desk's state alone
-  pub stored : new.is_down ≡ false → k.is_honest new.keeper
-      → HoldsOnly (k.may_hold new.keeper) (k.may_break new.keeper) new.desk.stored new.desk.log
+  pub stored : new.is_down ≡ false → HoldsDesk k new.keeper new.desk
   -- and at the first Down it holds the state before the step or the one after it
-  pub left : old.is_down ≡ false → new.is_down ≡ true → k.is_honest new.keeper
-      → HoldsBeforeOrAfter (k.may_hold new.keeper) (k.may_break new.keeper) old.desk
-      (step_at (k.home_of old.keeper) old.desk event)
+  pub left : old.is_down ≡ false → new.is_down ≡ true
+      → HoldsStep k new.keeper old.desk (step_at (k.home_of old.keeper) old.desk event)
   pub honest : k.is_honest new.keeper → k.is_honest old.keeper
   pub home : k.home_of new.keeper ≡ k.home_of old.keeper

@@ -1,4 +1,5 @@
 pub mod Nodes
+pub mod Stores
 pub mod Handles
 pub mod Opens
 pub mod model

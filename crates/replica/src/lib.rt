@@ -9,6 +9,6 @@ mod entries;
 mod handling;
 mod replica;
 
-pub use learner::event::Event;
+pub use learner::event::DeskEvent;
 pub use replica::Replica;
 pub use roles::NodeFault;

@@ -1,27 +1,24 @@
 //! One desk of a replicated log, over the store that keeps its state.
 
-ghost use Rattle.std.specs.Prelude.{◌≡◌, ◌≢◌, ◌⊎◌, ◌↔◌, ◌≤◌, ◌<◌, List, Err, Result, Some, true};
+ghost use Rattle.std.specs.Prelude.{◌≡◌, ◌≢◌, ◌⊎◌, ◌↔◌, ◌≤◌, ◌<◌, Err, true};
 ghost use Rattle.std.specs.Prelude.{false, IsOk, IfOk, OnOk, IfErr, IsTrue, length};
-ghost use Rattle.acceptor.specs.declared.entry.Entry.{Entry as EntryValue};
-ghost use Rattle.acceptor.specs.declared.stored.Stored.{Stored as State};
-ghost use Rattle.store.specs.Keeping.{HoldsOnly};
 ghost use Rattle.store.specs.Ranges.{IsHome};
 ghost use Rattle.roles.specs.Opening.{opened};
-ghost use Rattle.replica.specs.Nodes.{words};
-ghost use Rattle.replica.specs.Handles.{Handles, Takes, HoldsBeforeOrAfter, IsIgnored, FitInFrames};
-ghost use Rattle.replica.specs.Handles.{step_at};
-ghost use Rattle.replica.specs.Opens.{Opens, GivesBack};
+ghost use Rattle.replica.specs.Handles.{FitInFrames, Handles};
+ghost use Rattle.replica.specs.Opens.{GivesBack, Opens};
+ghost use Rattle.replica.specs.model.Planning.{Ignores, TakesAt, step_of};
+ghost use Rattle.replica.specs.Stores.{HasKept, HoldsDesk, HoldsNoOther, HoldsStep, KeepsStill};
 
 use crate::entries::look_at_all;
 use crate::handling::take_event;
 use acceptor::entry::Entry;
 use acceptor::message::Messages;
-use learner::event::Event;
+use learner::event::DeskEvent;
 use learner::log::Log;
 use roles::{NodeFault, Running};
 use std::alloc::Global;
 use std::marker::Model;
-use store::faults::LoadFault;
+use store::fault::LoadFault;
 use store::home::Home;
 use store::keeper::Keeper;
 
@@ -73,9 +70,7 @@ impl<K: Keeper + Drop> Replica<K> {
     /// or the desk was refused memory. A refusal drops the keeper: `open_or_give_back` says what it
     /// leaves.
     pub fn open(alloc: Global, keeper: K) -> Result<Replica<K>, LoadFault>
-        ensures opened { IfOk result (λ replica. Opens
-            (words K.home_of K.failures_of K.is_down K.is_honest K.keeps K.may_hold K.may_break)
-            keeper replica) }
+        ensures opened { IfOk result (λ replica. Opens K.Keeper keeper replica) }
         ensures refused { IfErr result (λ fault. (fault ≡ LoadFault.NoMemory)
             ⊎ ((k : K) × K.load_gives keeper (Err fault) k)) }
     {
@@ -93,12 +88,8 @@ impl<K: Keeper + Drop> Replica<K> {
     /// store holds nothing that it could not hold before, and is lost only where it could be
     /// before.
     pub fn open_or_give_back(alloc: Global, keeper: K) -> Result<Replica<K>, (LoadFault, K)>
-        ensures opened { IfOk result (λ replica. Opens
-            (words K.home_of K.failures_of K.is_down K.is_honest K.keeps K.may_hold K.may_break)
-            keeper replica) }
-        ensures given_back { IfErr result (λ e. GivesBack
-            (words K.home_of K.failures_of K.is_down K.is_honest K.keeps K.may_hold K.may_break)
-            keeper e.0 e.1) }
+        ensures opened { IfOk result (λ replica. Opens K.Keeper keeper replica) }
+        ensures given_back { IfErr result (λ e. GivesBack K.Keeper keeper e.0 e.1) }
         ensures refused { IfErr result (λ e. (e.0 ≡ LoadFault.NoMemory)
             ⊎ K.load_gives keeper (Err e.0) e.1) }
     {
@@ -111,23 +102,17 @@ impl<K: Keeper + Drop> Replica<K> {
         ensures first { IfOk result (λ node. node.desk ≡ opened node.desk.stored node.desk.log) }
         ensures loaded { IfOk result (λ node. K.is_honest node.keeper
             → K.may_hold keeper node.desk.stored node.desk.log) }
-        ensures same { IfOk result (λ node. K.is_honest node.keeper
-            → (s : State) (log : List EntryValue) → K.keeps keeper s log
-            → (node.desk.stored ≡ s) × (node.desk.log ≡ log)) }
-        ensures stored { IfOk result (λ node. K.is_honest node.keeper
-            → HoldsOnly (K.may_hold node.keeper) (K.may_break node.keeper)
-            node.desk.stored node.desk.log) }
+        ensures same { IfOk result (λ node. HasKept K.Keeper keeper node.keeper node.desk) }
+        ensures stored { IfOk result (λ node. HoldsDesk K.Keeper node.keeper node.desk) }
         ensures honest { IfOk result (λ node. K.is_honest node.keeper → K.is_honest keeper) }
         ensures home { IfOk result (λ node. K.home_of node.keeper ≡ K.home_of keeper) }
         ensures back_honest { IfErr result (λ e. K.is_honest e.1 → K.is_honest keeper) }
         ensures back_home { IfErr result (λ e. K.home_of e.1 ≡ K.home_of keeper) }
-        ensures back_no_other { IfErr result (λ e. K.is_honest e.1
-            → (s : State) (log : List EntryValue)
-            → K.may_hold e.1 s log → K.may_hold keeper s log) }
+        ensures back_no_other { IfErr result (λ e. HoldsNoOther K.Keeper keeper e.1) }
         ensures back_whole { IfErr result (λ e. K.is_honest e.1
             → K.may_break e.1 → K.may_break keeper) }
-        ensures back_memory { IfErr result (λ e. e.0 ≡ LoadFault.NoMemory → K.is_honest e.1
-            → (s : State) (log : List EntryValue) → K.keeps keeper s log → K.keeps e.1 s log) }
+        ensures back_memory { IfErr result (λ e. e.0 ≡ LoadFault.NoMemory
+            → KeepsStill K.Keeper keeper e.1) }
         ensures back_counted { IfErr result (λ e. e.0 ≡ LoadFault.Device
             → K.failures_of keeper < K.failures_of e.1) }
         ensures back_uncounted { IfErr result (λ e. e.0 ≢ LoadFault.Device
@@ -187,42 +172,35 @@ impl<K: Keeper + Drop> Replica<K> {
     /// At a desk that is Down every event is Down. Else a submission is Busy with 64 entries in the
     /// queue, and it is LogFull with 65,536 in the log; a Start is LogFull at an idle or leading
     /// desk with 65,536 in the log; a Start or a Tick that needs a new ballot is BallotsSpent where
-    /// no round is left. Where memory is refused, the answer is NoMemory. Each of these leaves the
+    /// no number is left. Where memory is refused, the answer is NoMemory. Each of these leaves the
     /// desk and its store as they were. Where the save fails by the device, the answer is Down, in
     /// this call and in every later one: nothing is handed out, the desk still shows its state
     /// before that event, and a store that is opened again holds the state before it or the one
     /// after it.
-    pub fn handle(&mut self, event: Event) -> Result<Messages, NodeFault>
-        ensures { Handles
-            (words K.home_of K.failures_of K.is_down K.is_honest K.keeps K.may_hold K.may_break)
-            self.old event result self.new }
+    pub fn handle(&mut self, event: DeskEvent) -> Result<Messages, NodeFault>
+        ensures { Handles K.Keeper self.old event result self.new }
     {
         self.take(event)
     }
 
     /// The same, clause by clause.
-    fn take(&mut self, event: Event) -> Result<Messages, NodeFault>
+    fn take(&mut self, event: DeskEvent) -> Result<Messages, NodeFault>
         ensures ended { self.old.is_down ≡ true
             → (result ≡ Err NodeFault.Down) × (self.new ≡ self.old) }
-        ensures takes { let home = K.home_of self.old.keeper in let x = self.old.desk in
-            self.old.is_down ≡ false
-            → Takes (step_at home x event) home.desks home.desk x self.new.desk result }
+        ensures takes { self.old.is_down ≡ false
+            → TakesAt (K.home_of self.old.keeper) self.old.desk event self.new.desk result }
         ensures entries { IfOk result FitInFrames }
-        ensures ignored { let home = K.home_of self.old.keeper in
-            self.old.is_down ≡ false → IsIgnored home.desks home.desk self.old.desk event
+        ensures ignored { self.old.is_down ≡ false → Ignores K.Keeper self.old event
             → IsOk result × (self.new.keeper ≡ self.old.keeper) }
         ensures down { (result ≡ Err NodeFault.Down) ↔ (self.new.is_down ≡ true) }
         ensures counted { self.old.is_down ≡ false → result ≡ Err NodeFault.Down
             → K.failures_of self.old.keeper < K.failures_of self.new.keeper }
         ensures uncounted { result ≢ Err NodeFault.Down
             → K.failures_of self.new.keeper ≡ K.failures_of self.old.keeper }
-        ensures stored { self.new.is_down ≡ false → K.is_honest self.new.keeper
-            → HoldsOnly (K.may_hold self.new.keeper) (K.may_break self.new.keeper)
-            self.new.desk.stored self.new.desk.log }
-        ensures left { let home = K.home_of self.old.keeper in let x = self.old.desk in
-            self.old.is_down ≡ false → self.new.is_down ≡ true → K.is_honest self.new.keeper
-            → HoldsBeforeOrAfter (K.may_hold self.new.keeper) (K.may_break self.new.keeper) x
-            (step_at home x event) }
+        ensures stored { self.new.is_down ≡ false
+            → HoldsDesk K.Keeper self.new.keeper self.new.desk }
+        ensures left { self.old.is_down ≡ false → self.new.is_down ≡ true
+            → HoldsStep K.Keeper self.new.keeper self.old.desk (step_of K.Keeper self.old event) }
         ensures honest { K.is_honest self.new.keeper → K.is_honest self.old.keeper }
         ensures home { K.home_of self.new.keeper ≡ K.home_of self.old.keeper }
     {

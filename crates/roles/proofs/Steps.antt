@@ -1,18 +1,19 @@
 -- The steps of a desk, as its code plans them.
-use Rattle.std.proofs.Common.{◌≡◌, ℕ, Bool, true, false, if◌then◌else◌, ◌↔◌, length, ◌∙◌, List, [], ◌∷◌, Result, Ok, Err, IfOk, subst, refl, sym, ap}
+use Rattle.std.proofs.Common.{◌≡◌, ℕ, Bool, true, false, if◌then◌else◌, ◌↔◌, length, ◌∙◌, List, []}
+use Rattle.std.proofs.Common.{◌∷◌, Result, Ok, Err, IfOk, subst, refl, sym, ap}
 use Rattle.acceptor.specs.declared.entry.Entry.{Entry}
 use Rattle.acceptor.specs.declared.message.Message.{Message}
-use Rattle.proposer.specs.declared.faults.Refusal.{Refusal}
+use Rattle.proposer.specs.declared.fault.Refusal.{Refusal}
 use Rattle.proposer.specs.declared.plan.Plan.{Plan}
 use Rattle.proposer.specs.Plans.{Passing, queue_after, only_say}
 use Rattle.proposer.specs.Proposing.{start, tick}
 use Rattle.proposer.specs.Refusals.{RefusesAs}
-use Rattle.proposer.specs.declared.faults.StepFault.{StepFault}
+use Rattle.proposer.specs.declared.fault.StepFault.{StepFault}
 use Rattle.learner.specs.Desks.{Desk, adopt, passing}
 use Rattle.learner.specs.Laws.{StepsStayInRange}
 use Rattle.learner.specs.Ranges.{DeskIsInRange, AreInRange, DoneIsInRange}
 use Rattle.learner.specs.Steps.{Done, done, idle, planned, passed, is_heeded, on_body, step}
-use Rattle.learner.specs.declared.event.Event.TheVariants.{Start, Tick, Deliver}
+use Rattle.learner.specs.declared.event.DeskEvent.TheVariants.{Start, Tick, Deliver}
 use Rattle.roles.specs.model.RunningDesks.{RunningDesk, IsRunning, IsStep, delivery}
 
 queue_stays : (es : List Entry) → queue_after es false ≡ es
@@ -49,7 +50,7 @@ delivery_step x m = go (is_heeded x.desks x.number m)
     go true = refl
     go false = ap (λ (r : Done). Ok r) (idle_done x.desk)
 
--- a plan that is refused is a step that is refused, and the other way round
+-- a plan that is refused is a step that is refused, and the other way number
 pub planned_refused : (x : Desk) (r : Result Plan Refusal) (why : Refusal)
     → (r ≡ Err why) ↔ (planned x r ≡ Err why)
 planned_refused x (Ok p) why = (λ e. absurd cc, λ e. absurd cc)

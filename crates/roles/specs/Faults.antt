@@ -1,10 +1,10 @@
 -- How a desk names what keeps it from a step.
-use Rattle.proposer.specs.declared.faults.Refusal.{Refusal}
-use Rattle.proposer.specs.declared.faults.Refusal.TheVariants as refusal
-use Rattle.proposer.specs.declared.faults.StepFault.{StepFault}
-use Rattle.proposer.specs.declared.faults.StepFault.TheVariants as step
-use Rattle.roles.specs.declared.faults.NodeFault.{NodeFault}
-use Rattle.roles.specs.declared.faults.NodeFault.TheVariants.{Busy, LogFull, BallotsSpent, NoMemory}
+use Rattle.proposer.specs.declared.fault.Refusal.{Refusal}
+use Rattle.proposer.specs.declared.fault.Refusal.TheVariants as refusal
+use Rattle.proposer.specs.declared.fault.StepFault.{StepFault}
+use Rattle.proposer.specs.declared.fault.StepFault.TheVariants as step
+use Rattle.roles.specs.declared.fault.NodeFault.{NodeFault}
+use Rattle.roles.specs.declared.fault.NodeFault.TheVariants.{Busy, LogFull, BallotsSpent, NoMemory}
 
 -- the fault for a refusal of the protocol's step
 abbrev pub refused_as : Refusal → NodeFault

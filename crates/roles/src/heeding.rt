@@ -18,7 +18,7 @@ pub fn is_desk(desks: u8, desk: u8) -> bool
 fn is_real(desks: u8, ballot: Ballot) -> bool
     ensures { result ≡ is_real desks ballot }
 {
-    1 <= ballot.round && is_desk(desks, ballot.desk)
+    1 <= ballot.number && is_desk(desks, ballot.desk)
 }
 
 /// Whether the fields are in their ranges: ballots are real, positions below 65,536, lengths no

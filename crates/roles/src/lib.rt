@@ -2,9 +2,9 @@
 //! makes room for it, and takes it. It stores and sends nothing.
 #![tactic(auto)]
 
-pub mod faults;
+pub mod fault;
 pub mod heeding;
 pub mod running;
 
-pub use faults::NodeFault;
+pub use fault::NodeFault;
 pub use running::Running;

@@ -15,7 +15,7 @@ use acceptor::stored::{Change, Stored};
 use learner::laws::steps_stay_in_range;
 use learner::learning::{on_behind, on_decided};
 use learner::log::Log;
-use proposer::faults::StepFault;
+use proposer::fault::StepFault;
 use proposer::plan::Plan;
 use proposer::proposer::Proposer;
 use std::alloc::{AllocError, Global};
@@ -47,7 +47,8 @@ impl Model for Running {
 impl Running {
     ghost use Rattle.std.specs.Prelude.{◌≤◌, ◌⊎◌, [], None, Ok, IsOk, IsOkAnd, OnOk, OnErr, length};
     ghost use Rattle.acceptor.specs.declared.message.Body.TheVariants.{Prepare, Accept};
-    ghost use Rattle.learner.specs.declared.event.Event.TheVariants.{Submit, Start, Tick, Deliver};
+    ghost use Rattle.learner.specs.declared.event.DeskEvent.TheVariants.{Submit, Start, Tick};
+    ghost use Rattle.learner.specs.declared.event.DeskEvent.TheVariants.{Deliver};
     ghost use Rattle.learner.specs.Desks.{adopt, restarted};
     ghost use Rattle.learner.specs.Ranges.{DeskIsInRange};
     ghost use Rattle.learner.specs.Steps.{IsDesk, answered, done, on_body, step};
@@ -118,7 +119,7 @@ impl Running {
         self.proposer.queue()
     }
 
-    /// Loses what is not stored: the role, the queue, and the greatest round that the desk has
+    /// Loses what is not stored: the role, the queue, and the greatest number that the desk has
     /// seen. Where memory is refused, the answer is NoMemory, and nothing changes.
     pub fn restart(&mut self) -> Result<(), NoMemory>
         ensures ok { OnOk result (self.new ≡ record self.old { desk = restarted self.old.desk }) }
@@ -154,7 +155,7 @@ impl Running {
     /// An idle desk makes a new ballot. One that leads asks for votes for the first entry of its
     /// queue, by the ballot that it has; where it has promised a higher one it makes a new ballot.
     /// Any other desk plans nothing. With 65,536 entries in the log an idle or leading desk is
-    /// LogFull. Else, where a new ballot is due and no round is left for one, the answer is
+    /// LogFull. Else, where a new ballot is due and no number is left for one, the answer is
     /// BallotsSpent. Else, where memory is refused, it is NoMemory; a desk that plans nothing takes
     /// none.
     pub fn start(&mut self) -> Result<Plan, StepFault>
@@ -173,7 +174,7 @@ impl Running {
     }
 
     /// What the desk plans from time to time. It makes room for the plan, and changes nothing else.
-    /// Where a new ballot is due and no round is left for one, the answer is BallotsSpent. Else,
+    /// Where a new ballot is due and no number is left for one, the answer is BallotsSpent. Else,
     /// where memory is refused, it is NoMemory.
     pub fn tick(&mut self) -> Result<Plan, StepFault>
         ensures plan { let x = self.old in
@@ -327,7 +328,7 @@ fn make(stored: &mut Stored, log: &mut Log, change: Option<Change>)
             stored.promised = vote.ballot;
             stored.vote = Some(vote);
         }
-        Some(Change::Tried(round)) => stored.tried = round,
+        Some(Change::Tried(number)) => stored.tried = number,
         Some(Change::Appended(entry)) => log.append(entry),
     }
 }

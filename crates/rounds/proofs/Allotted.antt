@@ -1,5 +1,8 @@
 -- Nobody has done more attempts than allotted.
-use Rattle.std.proofs.Common.{◌≡◌, ℕ, ◌-◌, ◌<◌, ◌≤◌, nat_lt, Bool, true, false, cond, not, ◌||◌, ◌&&◌, List, [], ◌∷◌, ◌++◌, length, take, get_or, Option, None, Some, IfSome, zero, suc, refl, sym, ap, ◌∙◌, arith, subst, length-take-le, length-append}
+use Rattle.std.proofs.Common.{◌≡◌, ℕ, ◌-◌, ◌<◌, ◌≤◌, nat_lt, Bool, true, false, cond, not, ◌||◌}
+use Rattle.std.proofs.Common.{◌&&◌, List, [], ◌∷◌, ◌++◌, length, take, get_or, Option, None, Some}
+use Rattle.std.proofs.Common.{IfSome, zero, suc, refl, sym, ap, ◌∙◌, arith, subst, length-take-le}
+use Rattle.std.proofs.Common.{length-append}
 use Rattle.std.specs.List.{list_any}
 use Rattle.std.proofs.lemmas.Bool.{false≢true}
 use Rattle.std.proofs.lemmas.Bool.Decides.{nat_tests}
@@ -7,7 +10,8 @@ use Rattle.std.proofs.lemmas.List.{length-set, take-take}
 use Rattle.attempts.specs.declared.Value.{Value}
 use Rattle.formats.specs.declared.events.Format.{Format}
 use Rattle.formats.specs.Events.{attempts_of}
-use Rattle.rounds.specs.Tables.{Table, IsCutoff, is_below, meets, allotted, KeepsAllotted, replaced, loses_cutoff, without_last}
+use Rattle.rounds.specs.Tables.{Table, IsCutoff, is_below, meets, allotted, KeepsAllotted, replaced}
+use Rattle.rounds.specs.Tables.{loses_cutoff, without_last}
 use Rattle.rounds.specs.CutoffLaw.{OnlyMetGoOn, MetIsBetterIn}
 use Rattle.rounds.proofs.CutoffOrder.{met_is_better}
 
@@ -25,7 +29,7 @@ allotted_most : (format : Format) (k : ℕ) (met : Bool) → k < attempts_of for
 allotted_most format k true h = omega arith
 allotted_most format k false h = omega arith
 
--- a test that one of the first passes stays passed with more behind them
+-- a test that one of the first passes stays passed with more after them
 any_more : (p : Value → Bool) (k : ℕ) (xs ys : List Value) → list_any p (take k xs) ≡ true
     → list_any p (take k (xs ++ ys)) ≡ true
 any_more p zero xs ys h = absurd (false≢true h)

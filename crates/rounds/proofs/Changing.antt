@@ -1,5 +1,7 @@
 -- One entrant has other values: what is kept stays true.
-use Rattle.std.proofs.Common.{◌≡◌, ℕ, ◌+◌, ◌≤◌, Bool, false, cond, List, [], ◌∷◌, map, length, All, count_by, slice_get, Some, zero, suc, refl, sym, ap, ◌∙◌, arith, subst}
+use Rattle.std.proofs.Common.{◌≡◌, ℕ, ◌+◌, ◌≤◌, Bool, false, cond, List, [], ◌∷◌, map, length, All}
+use Rattle.std.proofs.Common.{count_by, slice_get, Some, zero, suc, refl, sym, ap, ◌∙◌, arith}
+use Rattle.std.proofs.Common.{subst}
 use Rattle.std.specs.List.{list_any, AllByRecursion}
 use Rattle.std.specs.Map.{values_of}
 use Rattle.std.proofs.lemmas.List.{length-map}
@@ -11,39 +13,42 @@ use Rattle.formats.specs.Results.{is_better}
 use Rattle.indexmap.specs.IndexMap.{set_value_at}
 use Rattle.rounds.specs.declared.rules.Rules.{Rules}
 use Rattle.rounds.specs.declared.kept.Kept.{Kept}
-use Rattle.rounds.specs.declared.standing.Standing.{Standing}
+use Rattle.rounds.specs.declared.kept_entrant.KeptEntrant.{KeptEntrant}
 use Rattle.rounds.specs.Tables.{allotted, is_started_attempt}
 use Rattle.rounds.specs.model.Field.{set_values_at}
-use Rattle.rounds.specs.model.Ranks.{HasRank}
-use Rattle.rounds.specs.model.Standings.{kept_of, one_if, recounted, passed_by, is_unfinished, place_among}
-use Rattle.rounds.specs.model.Running.{entrant_of, entrants_of, no_result, IsMade, IsPlaced, IsAllotted, IsRanged, Runs}
+use Rattle.rounds.specs.model.PackedKeys.{HasPackedKey}
+use Rattle.rounds.specs.model.KeptEntrants.{kept_of, one_if, recounted, passed_by, is_unfinished}
+use Rattle.rounds.specs.model.KeptEntrants.{place_among}
+use Rattle.rounds.specs.model.UpToDate.{entrant_of, entrants_of, no_result, IsMade, IsPlaced}
+use Rattle.rounds.specs.model.UpToDate.{IsAllotted, IsRanged, AreUpToDate}
 use Rattle.rounds.proofs.CutoffOrder.{not_better}
 use Rattle.rounds.proofs.Passing.{passed, recounts, is_counted_in}
 use Rattle.rounds.proofs.EntrantLines.{part_at}
 
 -- another line at an index
-pub set_all : (P : ℕ × Standing → Type 0) (es : List (ℕ × Standing)) (i : ℕ) (s : Standing)
+pub set_all : (P : ℕ × KeptEntrant → Type 0) (es : List (ℕ × KeptEntrant)) (i : ℕ) (s : KeptEntrant)
     → All P es → ((n : ℕ) → P (n, s)) → All P (set_value_at es i s)
 set_all P es i s h is = All-from_recursion P _ (put es i (recursion_from_All P es h))
   where
-    put : (xs : List (ℕ × Standing)) (j : ℕ) → AllByRecursion P xs
+    put : (xs : List (ℕ × KeptEntrant)) (j : ℕ) → AllByRecursion P xs
         → AllByRecursion P (set_value_at xs j s)
     put [] j h = h
     put (x ∷ xs) zero h = (is x.0, h.1)
     put (x ∷ xs) (suc j) h = (h.0, put xs j h.1)
 
 -- what holds of each line after it was passed by
-pass_each : (P Q : ℕ × Standing → Type 0) (old new : RankKey)
-    → ((e : ℕ × Standing) → P e → Q (passed_by old new e)) → (es : List (ℕ × Standing)) → All P es
+pass_each : (P Q : ℕ × KeptEntrant → Type 0) (old new : RankKey)
+    → ((e : ℕ × KeptEntrant) → P e → Q (passed_by old new e)) → (es : List (ℕ × KeptEntrant))
+    → All P es
     → All Q (map (passed_by old new) es)
 pass_each P Q old new step es h = All-from_recursion Q _ (go es (recursion_from_All P es h))
   where
-    go : (xs : List (ℕ × Standing)) → AllByRecursion P xs
+    go : (xs : List (ℕ × KeptEntrant)) → AllByRecursion P xs
         → AllByRecursion Q (map (passed_by old new) xs)
     go [] h = h
     go (x ∷ xs) h = (step x h.0, go xs h.1)
 
-length-set_value_at : (es : List (ℕ × Standing)) (i : ℕ) (s : Standing)
+length-set_value_at : (es : List (ℕ × KeptEntrant)) (i : ℕ) (s : KeptEntrant)
     → length (set_value_at es i s) ≡ length es
 length-set_value_at [] i s = refl
 length-set_value_at (e ∷ es) zero s = refl
@@ -51,18 +56,18 @@ length-set_value_at (e ∷ es) (suc i) s = ap suc (length-set_value_at es i s)
 
 -- The entrants
 
-rows_passed : (old new : RankKey) (es : List (ℕ × Standing))
+rows_passed : (old new : RankKey) (es : List (ℕ × KeptEntrant))
     → entrants_of (map (passed_by old new) es) ≡ entrants_of es
 rows_passed old new [] = refl
 rows_passed old new (e ∷ es) = ap (λ xs. entrant_of e ∷ xs) (rows_passed old new es)
 
-rows_set : (es : List (ℕ × Standing)) (i : ℕ) (s : Standing)
+rows_set : (es : List (ℕ × KeptEntrant)) (i : ℕ) (s : KeptEntrant)
     → entrants_of (set_value_at es i s) ≡ set_values_at (entrants_of es) i s.row
 rows_set [] i s = refl
 rows_set (e ∷ es) zero s = refl
 rows_set (e ∷ es) (suc i) s = ap (λ xs. entrant_of e ∷ xs) (rows_set es i s)
 
-pub rows_changed : (old new : RankKey) (es : List (ℕ × Standing)) (i : ℕ) (s : Standing)
+pub rows_changed : (old new : RankKey) (es : List (ℕ × KeptEntrant)) (i : ℕ) (s : KeptEntrant)
     → entrants_of (set_value_at (map (passed_by old new) es) i s)
     ≡ set_values_at (entrants_of es) i s.row
 rows_changed old new es i s =
@@ -72,15 +77,15 @@ rows_changed old new es i s =
 -- The counts
 
 -- a count that does not go by places
-same_count : (p : Standing → Bool) (old new : RankKey)
-    → ((s : Standing) → p (passed old new s) ≡ p s) → (es : List (ℕ × Standing))
+same_count : (p : KeptEntrant → Bool) (old new : RankKey)
+    → ((s : KeptEntrant) → p (passed old new s) ≡ p s) → (es : List (ℕ × KeptEntrant))
     → values_of (map (passed_by old new) es) ≡ map (passed old new) (values_of es)
 same_count p old new same [] = refl
 same_count p old new same (e ∷ es) =
     ap (λ ss. passed old new e.1 ∷ ss) (same_count p old new same es)
 
-count_same : (p : Standing → Bool) (old new : RankKey)
-    → ((s : Standing) → p (passed old new s) ≡ p s) → (ss : List Standing)
+count_same : (p : KeptEntrant → Bool) (old new : RankKey)
+    → ((s : KeptEntrant) → p (passed old new s) ≡ p s) → (ss : List KeptEntrant)
     → count_by p (map (passed old new) ss) ≡ count_by p ss
 count_same p old new same [] = refl
 count_same p old new same (s ∷ ss) =
@@ -90,9 +95,10 @@ count_same p old new same (s ∷ ss) =
     ∙ sym (sum_by-cons (λ x. cond (p x) 1 0) s ss)
 
 -- a count over all, once one of them changed and passed the others
-pub counts_after : (p : Standing → Bool) (old new : RankKey)
-    → ((s : Standing) → p (passed old new s) ≡ p s)
-    → (es : List (ℕ × Standing)) (i : ℕ) (e : ℕ × Standing) (s : Standing) → slice_get es i ≡ Some e
+pub counts_after : (p : KeptEntrant → Bool) (old new : RankKey)
+    → ((s : KeptEntrant) → p (passed old new s) ≡ p s)
+    → (es : List (ℕ × KeptEntrant)) (i : ℕ) (e : ℕ × KeptEntrant) (s : KeptEntrant) → slice_get es i
+    ≡ Some e
     → count_by p (values_of (set_value_at (map (passed_by old new) es) i s))
     ≡ recounted (count_by p (values_of es)) (p e.1) (p s)
 counts_after p old new same es i e s at =
@@ -108,8 +114,8 @@ recounted_place : (n : ℕ) (before after : Bool) → one_if before ≤ n
     → recounted (1 + n) before after ≡ 1 + recounted n before after
 recounted_place n before after h = omega (arith, h)
 
-module _ (rules : Rules) (es : List (ℕ × Standing)) (i : ℕ) (e : ℕ × Standing)
-    (at : slice_get es i ≡ Some e) (s : Standing) where
+module _ (rules : Rules) (es : List (ℕ × KeptEntrant)) (i : ℕ) (e : ℕ × KeptEntrant)
+    (at : slice_get es i ≡ Some e) (s : KeptEntrant) where
   abbrev old_key : RankKey
   old_key = e.1.kept.key
 
@@ -117,7 +123,7 @@ module _ (rules : Rules) (es : List (ℕ × Standing)) (i : ℕ) (e : ℕ × Sta
   new_key = s.kept.key
 
   -- the lines after the change
-  abbrev pub changed_lines : List (ℕ × Standing)
+  abbrev pub changed_lines : List (ℕ × KeptEntrant)
   changed_lines = set_value_at (map (passed_by old_key new_key) es) i s
 
   place_after : (k : RankKey)
@@ -152,7 +158,8 @@ module _ (rules : Rules) (es : List (ℕ × Standing)) (i : ℕ) (e : ℕ × Sta
       (λ (k : Kept).
       record k {
         place =
-            recounted x.1.kept.place (is_better old_key x.1.kept.key) (is_better new_key x.1.kept.key);
+            recounted x.1.kept.place (is_better old_key x.1.kept.key)
+            (is_better new_key x.1.kept.key);
       })
       h)
       es made)
@@ -173,30 +180,32 @@ module _ (rules : Rules) (es : List (ℕ × Standing)) (i : ℕ) (e : ℕ × Sta
       (λ n. own)
 
   -- what is kept stays true
-  pub runs_after : (started unfinished ranked ahead : ℕ) → Runs rules es started unfinished ranked
+  pub up_to_date_after : (started unfinished with_result ahead : ℕ)
+      → AreUpToDate rules es started unfinished with_result
       → length s.row ≤ allotted rules.format rules.cutoff s.row
       → All (IsInRangeOf rules.unit) s.row
       → s.kept ≡ kept_of rules s.row s.kept.place
       → ahead ≡ count_by (λ x. is_better x.kept.key new_key) (values_of es)
       → s.kept.place ≡ 1 + recounted ahead (is_better old_key new_key) false
-      → ((n : ℕ) → HasRank (n, s))
-      → Runs rules changed_lines
+      → ((n : ℕ) → HasPackedKey (n, s))
+      → AreUpToDate rules changed_lines
       (recounted started (list_any is_started_attempt e.1.row) (list_any is_started_attempt s.row))
       (recounted unfinished (is_unfinished rules e.1.row) (is_unfinished rules s.row))
-      (recounted ranked (is_better old_key no_result) (is_better new_key no_result))
-  runs_after started unfinished ranked ahead runs few in_range own is_ahead is_place has_rank =
+      (recounted with_result (is_better old_key no_result) (is_better new_key no_result))
+  up_to_date_after started unfinished with_result ahead before few in_range own is_ahead is_place
+      has_packed_key =
       record {
         few =
             omega (
               arith,
-              runs.few,
+              before.few,
               length-set_value_at (map (passed_by old_key new_key) es) i s,
               length-map es (passed_by old_key new_key),
             );
-        cutoff = runs.cutoff;
-        format = runs.format;
-        made = made_after runs.made own;
-        placed = placed_after runs.placed
+        cutoff = before.cutoff;
+        format = before.format;
+        made = made_after before.made own;
+        placed = placed_after before.placed
             (is_place
             ∙ ap (λ m. 1 + recounted m (is_better old_key new_key) false) is_ahead
             ∙ ap
@@ -208,29 +217,29 @@ module _ (rules : Rules) (es : List (ℕ × Standing)) (i : ℕ) (e : ℕ × Sta
             (sym
             (counts_after (λ x. is_better x.kept.key new_key) old_key new_key (λ x. refl) es i e s
             at)));
-        within = within_after runs.within few;
-        ranged = ranged_after runs.ranged in_range;
+        within = within_after before.within few;
+        ranged = ranged_after before.ranged in_range;
         ordered =
-            set_all HasRank (map (passed_by old_key new_key) es) i s
-            (pass_each HasRank HasRank old_key new_key
-            (λ x h. record { rank = h.rank; room = h.room }) es runs.ordered)
-            has_rank;
-        starts =
+            set_all HasPackedKey (map (passed_by old_key new_key) es) i s
+            (pass_each HasPackedKey HasPackedKey old_key new_key
+            (λ x h. record { packed_key = h.packed_key; room = h.room }) es before.ordered)
+            has_packed_key;
+        counts_started =
             ap
             (λ m.
             recounted m (list_any is_started_attempt e.1.row) (list_any is_started_attempt s.row))
-            runs.starts
+            before.counts_started
             ∙ sym
             (counts_after (λ x. list_any is_started_attempt x.row) old_key new_key (λ x. refl) es i
             e s at);
-        unfinishes =
+        counts_unfinished =
             ap (λ m. recounted m (is_unfinished rules e.1.row) (is_unfinished rules s.row))
-            runs.unfinishes
+            before.counts_unfinished
             ∙ sym
             (counts_after (λ x. is_unfinished rules x.row) old_key new_key (λ x. refl) es i e s at);
-        ranks =
+        counts_results =
             ap (λ m. recounted m (is_better old_key no_result) (is_better new_key no_result))
-            runs.ranks
+            before.counts_results
             ∙ sym
             (counts_after (λ x. is_better x.kept.key no_result) old_key new_key (λ x. refl) es i e s
             at);
@@ -239,14 +248,14 @@ module _ (rules : Rules) (es : List (ℕ × Standing)) (i : ℕ) (e : ℕ × Sta
 -- What a call read and worked out
 
 -- the line of what is read at an index
-pub line_read : (es : List (ℕ × Standing)) (i : ℕ) (s : Standing)
+pub line_read : (es : List (ℕ × KeptEntrant)) (i : ℕ) (s : KeptEntrant)
     → slice_get (values_of es) i ≡ Some s → (n : ℕ) × (slice_get es i ≡ Some (n, s))
 line_read [] i s at = cc
 line_read (x ∷ es) zero s at = let same : x.1 ≡ s = cc in (x.0, ap (λ y. Some (x.0, y)) same)
 line_read (x ∷ es) (suc i) s at = line_read es i s at
 
 -- who is counted is in the count
-pub is_in_count : (p : Standing → Bool) (es : List (ℕ × Standing)) (i : ℕ) (s : Standing)
+pub is_in_count : (p : KeptEntrant → Bool) (es : List (ℕ × KeptEntrant)) (i : ℕ) (s : KeptEntrant)
     → slice_get (values_of es) i ≡ Some s → (b : Bool) (n : ℕ) → b ≡ p s
     → n ≡ count_by p (values_of es) → one_if b ≤ n
 is_in_count p es i s at b n test is =
@@ -258,9 +267,11 @@ pub recounted_same : (n : ℕ) (a b x y : Bool) → a ≡ x → b ≡ y → (r :
 recounted_same n a b x y one other r is =
     sym (is ∙ ap (λ z. recounted n z b) one ∙ ap (recounted n x) other)
 
-pub runs_same : (rules : Rules) (es es' : List (ℕ × Standing)) (st st' un un' ra ra' : ℕ) → es ≡ es'
-    → st ≡ st' → un ≡ un' → ra ≡ ra' → Runs rules es st un ra → Runs rules es' st' un' ra'
-runs_same rules es es' st st' un un' ra ra' lines a b c h =
-    subst (λ x. Runs rules x st' un' ra') lines
-    (subst (λ x. Runs rules es x un' ra') a
-    (subst (λ x. Runs rules es st x ra') b (subst (λ x. Runs rules es st un x) c h)))
+pub up_to_date_same : (rules : Rules) (es es' : List (ℕ × KeptEntrant)) (st st' un un' ra ra' : ℕ)
+    → es ≡ es'
+    → st ≡ st' → un ≡ un' → ra ≡ ra' → AreUpToDate rules es st un ra
+    → AreUpToDate rules es' st' un' ra'
+up_to_date_same rules es es' st st' un un' ra ra' lines a b c h =
+    subst (λ x. AreUpToDate rules x st' un' ra') lines
+    (subst (λ x. AreUpToDate rules es x un' ra') a
+    (subst (λ x. AreUpToDate rules es st x ra') b (subst (λ x. AreUpToDate rules es st un x) c h)))

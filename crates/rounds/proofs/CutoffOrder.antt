@@ -1,5 +1,8 @@
 -- Who met the cutoff is better than who did not.
-use Rattle.std.proofs.Common.{◌≡◌, ℕ, ◌+◌, ◌<◌, ◌≤◌, ◌==◌, nat_lt, min, Bool, true, false, cond, ◌||◌, ◌&&◌, List, [], ◌∷◌, length, take, drop, find, fold, count_by, Option, None, Some, ◌⊎◌, inl, inr, refl, sym, ap, ◌∙◌, arith, subst, take-append-drop}
+use Rattle.std.proofs.Common.{◌≡◌, ℕ, ◌+◌, ◌<◌, ◌≤◌, ◌==◌, nat_lt, min, Bool, true, false, cond}
+use Rattle.std.proofs.Common.{◌||◌, ◌&&◌, List, [], ◌∷◌, length, take, drop, find, fold, count_by}
+use Rattle.std.proofs.Common.{Option, None, Some, ◌⊎◌, inl, inr, refl, sym, ap, ◌∙◌, arith, subst}
+use Rattle.std.proofs.Common.{take-append-drop}
 use Rattle.std.specs.List.{list_any, AllByRecursion}
 use Rattle.std.proofs.lemmas.Bool.Decides.{nat_tests}
 use Rattle.std.proofs.lemmas.Bool.{false≢true}
@@ -14,7 +17,9 @@ use Rattle.formats.specs.declared.events.Format.{Format}
 use Rattle.formats.specs.declared.events.Format.TheVariants.{Ao5, Mo3, Bo1, Bo2, Bo3}
 use Rattle.formats.specs.declared.results.RankKey.{RankKey}
 use Rattle.formats.specs.Events.{attempts_of}
-use Rattle.formats.specs.Results.{number_of, is_dnf, numbers, least, number_or, without_number, best_of, averaged_number, average_of, key_of, is_less, is_same, is_better}
+use Rattle.formats.specs.Results.{number_of, is_dnf, numbers, least, number_or, without_number}
+use Rattle.formats.specs.Results.{best_of, averaged_number, average_of, key_of, is_less, is_same}
+use Rattle.formats.specs.Results.{is_better}
 use Rattle.rounds.specs.Tables.{Entrant, is_below, meets, has_number, key}
 use Rattle.rounds.specs.CutoffLaw.{MetIsBetter}
 

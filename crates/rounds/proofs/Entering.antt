@@ -1,9 +1,12 @@
 -- One entrant more: what is kept stays true.
-use Rattle.std.proofs.Common.{◌≡◌, ℕ, ◌+◌, ◌<◌, ◌≤◌, Bool, true, false, cond, ◌&&◌, List, [], ◌∷◌, ◌++◌, length, All, count_by, nat_lt, Option, None, Some, refl, sym, ap, ◌∙◌, arith, subst, length-append}
+use Rattle.std.proofs.Common.{◌≡◌, ℕ, ◌+◌, ◌<◌, ◌≤◌, Bool, true, false, cond, ◌&&◌, List, [], ◌∷◌}
+use Rattle.std.proofs.Common.{◌++◌, length, All, count_by, nat_lt, Option, None, Some, refl, sym}
+use Rattle.std.proofs.Common.{ap, ◌∙◌, arith, subst, length-append}
 use Rattle.std.specs.List.{list_any, AllByRecursion}
 use Rattle.std.specs.Map.{values_of}
 use Rattle.std.proofs.lemmas.Bool.Decides.{nat_tests}
-use Rattle.std.proofs.lemmas.List.Elements.{All-from_recursion, recursion_from_All, All-nil, All-push}
+use Rattle.std.proofs.lemmas.List.Elements.{All-from_recursion, recursion_from_All, All-nil}
+use Rattle.std.proofs.lemmas.List.Elements.{All-push}
 use Rattle.std.proofs.lemmas.List.Sums.{sum_by-cons}
 use Rattle.attempts.specs.declared.Value.{Value}
 use Rattle.attempts.specs.Attempts.{IsInRangeOf}
@@ -16,11 +19,12 @@ use Rattle.rounds.specs.declared.rules.Rules.{Rules}
 use Rattle.rounds.specs.declared.kept.Kept.{Kept}
 use Rattle.attempts.specs.declared.Value.TheVariants.{Dns}
 use Rattle.formats.specs.declared.results.Averaged.TheVariants.{Missing}
-use Rattle.rounds.specs.declared.standing.Standing.{Standing}
+use Rattle.rounds.specs.declared.kept_entrant.KeptEntrant.{KeptEntrant}
 use Rattle.rounds.specs.Tables.{IsCutoff, allotted, meets, is_started_attempt}
-use Rattle.rounds.specs.model.Ranks.{HasRank}
-use Rattle.rounds.specs.model.Standings.{kept_of, one_if, is_unfinished, place_among}
-use Rattle.rounds.specs.model.Running.{no_result, IsMade, IsPlaced, IsAllotted, IsRanged, Runs}
+use Rattle.rounds.specs.model.PackedKeys.{HasPackedKey}
+use Rattle.rounds.specs.model.KeptEntrants.{kept_of, one_if, is_unfinished, place_among}
+use Rattle.rounds.specs.model.UpToDate.{no_result, IsMade, IsPlaced, IsAllotted, IsRanged}
+use Rattle.rounds.specs.model.UpToDate.{AreUpToDate}
 
 -- nobody without a result is better than anyone
 none_better : (k : RankKey) → is_better no_result k ≡ false
@@ -50,7 +54,7 @@ less_than : (m : ℕ) → 0 < m → nat_lt 0 m ≡ true
 less_than m h = grind (arith, nat_tests)
 
 -- a count with one more
-count_push : (p : Standing → Bool) (es : List (ℕ × Standing)) (n : ℕ) (s : Standing)
+count_push : (p : KeptEntrant → Bool) (es : List (ℕ × KeptEntrant)) (n : ℕ) (s : KeptEntrant)
     → count_by p (values_of (es ++ (n, s) ∷ [])) ≡ count_by p (values_of es) + one_if (p s)
 count_push p [] n s =
     let one : count_by p (s ∷ []) ≡ one_if (p s) + count_by p [] =
@@ -65,23 +69,23 @@ count_push p (e ∷ es) n s =
     omega (arith, more, before, count_push p es n s)
 
 -- who is not counted changes no count
-count_push_none : (p : Standing → Bool) (es : List (ℕ × Standing)) (n : ℕ) (s : Standing)
+count_push_none : (p : KeptEntrant → Bool) (es : List (ℕ × KeptEntrant)) (n : ℕ) (s : KeptEntrant)
     → p s ≡ false → count_by p (values_of (es ++ (n, s) ∷ [])) ≡ count_by p (values_of es)
 count_push_none p es n s not = omega (arith, count_push p es n s, ap one_if not)
 
-count_push_one : (p : Standing → Bool) (es : List (ℕ × Standing)) (n : ℕ) (s : Standing)
+count_push_one : (p : KeptEntrant → Bool) (es : List (ℕ × KeptEntrant)) (n : ℕ) (s : KeptEntrant)
     → p s ≡ true → count_by p (values_of (es ++ (n, s) ∷ [])) ≡ count_by p (values_of es) + 1
 count_push_one p es n s is = omega (arith, count_push p es n s, ap one_if is)
 
-all_step : (P Q : ℕ × Standing → Type 0) → ((e : ℕ × Standing) → P e → Q e)
-    → (es : List (ℕ × Standing)) → All P es → All Q es
+all_step : (P Q : ℕ × KeptEntrant → Type 0) → ((e : ℕ × KeptEntrant) → P e → Q e)
+    → (es : List (ℕ × KeptEntrant)) → All P es → All Q es
 all_step P Q step es h = All-from_recursion Q es (go es (recursion_from_All P es h))
   where
-    go : (xs : List (ℕ × Standing)) → AllByRecursion P xs → AllByRecursion Q xs
+    go : (xs : List (ℕ × KeptEntrant)) → AllByRecursion P xs → AllByRecursion Q xs
     go [] h = h
     go (x ∷ xs) h = (step x h.0, go xs h.1)
 
-module _ (rules : Rules) (es : List (ℕ × Standing)) (n : ℕ) (s : Standing)
+module _ (rules : Rules) (es : List (ℕ × KeptEntrant)) (n : ℕ) (s : KeptEntrant)
     (new : s.kept.key ≡ no_result) where
   place_stays : (k : RankKey)
       → place_among (values_of (es ++ (n, s) ∷ [])) k ≡ place_among (values_of es) k
@@ -90,47 +94,48 @@ module _ (rules : Rules) (es : List (ℕ × Standing)) (n : ℕ) (s : Standing)
       (count_push_none (λ x. is_better x.kept.key k) es n s
       (ap (λ x. is_better x k) new ∙ none_better k))
 
-  pub runs_entered : (started unfinished ranked : ℕ) → Runs rules es started unfinished ranked
+  pub up_to_date_entered : (started unfinished with_result : ℕ)
+      → AreUpToDate rules es started unfinished with_result
       → length es < 999 → s.row ≡ [] → s.kept ≡ kept_of rules s.row s.kept.place
-      → s.kept.place ≡ ranked + 1 → HasRank (n, s)
-      → Runs rules (es ++ (n, s) ∷ []) started (unfinished + 1) ranked
-  runs_entered started unfinished ranked runs room none own is_place has_rank =
+      → s.kept.place ≡ with_result + 1 → HasPackedKey (n, s)
+      → AreUpToDate rules (es ++ (n, s) ∷ []) started (unfinished + 1) with_result
+  up_to_date_entered started unfinished with_result before room none own is_place has_packed_key =
       record {
         few = omega (arith, room, length-append es ((n, s) ∷ []));
-        cutoff = runs.cutoff;
-        format = runs.format;
-        made = All-push (IsMade rules) es (n, s) runs.made own;
+        cutoff = before.cutoff;
+        format = before.format;
+        made = All-push (IsMade rules) es (n, s) before.made own;
         placed = All-push (IsPlaced (values_of (es ++ (n, s) ∷ []))) es (n, s)
             (all_step (IsPlaced (values_of es)) (IsPlaced (values_of (es ++ (n, s) ∷ [])))
-            (λ x h. h ∙ sym (place_stays x.1.kept.key)) es runs.placed)
-            (let ranks : ranked + 1 ≡ place_among (values_of es) no_result =
-            omega (arith, runs.ranks) in
-            is_place ∙ ranks ∙ ap (place_among (values_of es)) (sym new)
+            (λ x h. h ∙ sym (place_stays x.1.kept.key)) es before.placed)
+            (let counts_results : with_result + 1 ≡ place_among (values_of es) no_result =
+            omega (arith, before.counts_results) in
+            is_place ∙ counts_results ∙ ap (place_among (values_of es)) (sym new)
             ∙ sym (place_stays s.kept.key));
         within =
-            All-push (IsAllotted rules) es (n, s) runs.within
+            All-push (IsAllotted rules) es (n, s) before.within
             (subst (λ vs. length vs ≤ allotted rules.format rules.cutoff vs) (sym none)
             (omega arith));
         ranged =
-            All-push (IsRanged rules) es (n, s) runs.ranged
+            All-push (IsRanged rules) es (n, s) before.ranged
             (subst (λ vs. All (IsInRangeOf rules.unit) vs) (sym none)
             (All-nil (IsInRangeOf rules.unit)));
-        ordered = All-push HasRank es (n, s) runs.ordered has_rank;
-        starts =
-            runs.starts
+        ordered = All-push HasPackedKey es (n, s) before.ordered has_packed_key;
+        counts_started =
+            before.counts_started
             ∙ sym
             (count_push_none (λ x. list_any is_started_attempt x.row) es n s
             (ap (list_any is_started_attempt) none));
-        unfinishes =
+        counts_unfinished =
             (let few : nat_lt 0 (allotted rules.format rules.cutoff []) ≡ true =
             less_than (allotted rules.format rules.cutoff [])
-            (some_allotted rules.format rules.cutoff runs.cutoff) in
-            ap (λ m. m + 1) runs.unfinishes
+            (some_allotted rules.format rules.cutoff before.cutoff) in
+            ap (λ m. m + 1) before.counts_unfinished
             ∙ sym
             (count_push_one (λ x. is_unfinished rules x.row) es n s
             (ap (is_unfinished rules) none ∙ few)));
-        ranks =
-            runs.ranks
+        counts_results =
+            before.counts_results
             ∙ sym
             (count_push_none (λ x. is_better x.kept.key no_result) es n s
             (ap (λ x. is_better x no_result) new ∙ none_better no_result));

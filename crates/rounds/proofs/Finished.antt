@@ -1,15 +1,16 @@
 -- All are finished where nobody is counted as unfinished.
-use Rattle.std.proofs.Common.{◌≡◌, ℕ, ◌+◌, Bool, true, false, ◌&&◌, List, [], ◌∷◌, length, count_by, nat_eq, nat_le, nat_lt, refl, sym, ap, ◌∙◌, arith, cond}
+use Rattle.std.proofs.Common.{◌≡◌, ℕ, ◌+◌, Bool, true, false, ◌&&◌, List, [], ◌∷◌, length, count_by}
+use Rattle.std.proofs.Common.{nat_eq, nat_le, nat_lt, refl, sym, ap, ◌∙◌, arith, cond}
 use Rattle.std.specs.List.{list_all}
 use Rattle.std.specs.Map.{values_of}
 use Rattle.std.proofs.lemmas.Bool.Decides.{nat_tests}
 use Rattle.std.proofs.lemmas.List.Sums.{sum_by-cons}
 use Rattle.rounds.specs.declared.rules.Rules.{Rules}
-use Rattle.rounds.specs.declared.standing.Standing.{Standing}
+use Rattle.rounds.specs.declared.kept_entrant.KeptEntrant.{KeptEntrant}
 use Rattle.rounds.specs.Tables.{Entrant, allotted, is_finished}
 use Rattle.rounds.specs.model.Field.{as_table}
-use Rattle.rounds.specs.model.Standings.{one_if, is_unfinished}
-use Rattle.rounds.specs.model.Running.{entrants_of}
+use Rattle.rounds.specs.model.KeptEntrants.{one_if, is_unfinished}
+use Rattle.rounds.specs.model.UpToDate.{entrants_of}
 use Rattle.rounds.proofs.EntrantLines.{field_with}
 
 one_or_more : (done may rest : ℕ) (all : Bool) → nat_eq rest 0 ≡ all
@@ -26,7 +27,7 @@ one_or_more done may rest all h = step (nat_lt done may) refl
         let same : 0 + rest ≡ rest = omega arith in
         ap (λ m. nat_eq m 0) same ∙ h ∙ ap (λ (x : Bool). x && all) (sym is)
 
-by_lines : (rules : Rules) (es : List (ℕ × Standing))
+by_lines : (rules : Rules) (es : List (ℕ × KeptEntrant))
     → nat_eq (count_by (λ s. is_unfinished rules s.row) (values_of es)) 0
     ≡ list_all
     (λ (e : Entrant). nat_le (allotted rules.format rules.cutoff e.values) (length e.values))
@@ -34,11 +35,11 @@ by_lines : (rules : Rules) (es : List (ℕ × Standing))
 by_lines rules [] = refl
 by_lines rules (e ∷ es) =
     ap (λ m. nat_eq m 0)
-    (sum_by-cons (λ (s : Standing). cond (is_unfinished rules s.row) 1 0) e.1 (values_of es))
+    (sum_by-cons (λ (s : KeptEntrant). cond (is_unfinished rules s.row) 1 0) e.1 (values_of es))
     ∙ one_or_more (length e.1.row) (allotted rules.format rules.cutoff e.1.row)
     (count_by (λ s. is_unfinished rules s.row) (values_of es)) _ (by_lines rules es)
 
-pub finished_is : (rules : Rules) (es : List (ℕ × Standing)) (unfinished : ℕ)
+pub finished_is : (rules : Rules) (es : List (ℕ × KeptEntrant)) (unfinished : ℕ)
     → unfinished ≡ count_by (λ s. is_unfinished rules s.row) (values_of es)
     → nat_eq unfinished 0 ≡ is_finished (as_table false (field_with rules es))
 finished_is rules es unfinished is = ap (λ m. nat_eq m 0) is ∙ by_lines rules es

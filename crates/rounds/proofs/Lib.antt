@@ -6,8 +6,8 @@ pub mod EntrantLines
 pub mod Finished
 pub mod InOrder
 pub mod KeyOrder
+pub mod PackedKeys
 pub mod Passing
-pub mod Ranked
 pub mod Refusals
 pub mod SlotLines
 pub mod StandingOrder

@@ -11,18 +11,18 @@ use Rattle.attempts.specs.declared.Value.TheVariants as value
 use Rattle.attempts.specs.declared.Unit.{Unit as Measure}
 use Rattle.formats.specs.declared.events.Format.{Format}
 use Rattle.formats.specs.declared.results.RankKey.{RankKey}
-use Rattle.formats.specs.Events.{attempts_of}
+use Rattle.formats.specs.Events.{attempts_of, most_entrants}
 use Rattle.formats.specs.Results.{key_of, is_better}
-use Rattle.rounds.specs.declared.faults.EnterFault.{EnterFault}
-use Rattle.rounds.specs.declared.faults.EnterFault.TheVariants as enter
-use Rattle.rounds.specs.declared.faults.PutFault.{PutFault}
-use Rattle.rounds.specs.declared.faults.PutFault.TheVariants as put
-use Rattle.rounds.specs.declared.faults.CorrectFault.{CorrectFault}
-use Rattle.rounds.specs.declared.faults.CorrectFault.TheVariants as correct
-use Rattle.rounds.specs.declared.faults.StrikeFault.{StrikeFault}
-use Rattle.rounds.specs.declared.faults.StrikeFault.TheVariants as strike
-use Rattle.rounds.specs.declared.faults.CloseFault.{CloseFault}
-use Rattle.rounds.specs.declared.faults.CloseFault.TheVariants as close
+use Rattle.rounds.specs.declared.fault.EnterFault.{EnterFault}
+use Rattle.rounds.specs.declared.fault.EnterFault.TheVariants as enter
+use Rattle.rounds.specs.declared.fault.PutFault.{PutFault}
+use Rattle.rounds.specs.declared.fault.PutFault.TheVariants as put
+use Rattle.rounds.specs.declared.fault.CorrectFault.{CorrectFault}
+use Rattle.rounds.specs.declared.fault.CorrectFault.TheVariants as correct
+use Rattle.rounds.specs.declared.fault.StrikeFault.{StrikeFault}
+use Rattle.rounds.specs.declared.fault.StrikeFault.TheVariants as strike
+use Rattle.rounds.specs.declared.fault.CloseFault.{CloseFault}
+use Rattle.rounds.specs.declared.fault.CloseFault.TheVariants as close
 
 -- a competitor's number, and the values of the attempts in order
 pub record Entrant : Type 0 where
@@ -83,7 +83,7 @@ abbrev pub enter_fault : Table → ℕ → Option EnterFault
 enter_fault t n =
     if t.is_closed then Some enter.Closed
     else if is_entered t n then Some enter.Already
-    else if nat_le 999 (length t.entrants) then Some enter.Full
+    else if nat_le most_entrants (length t.entrants) then Some enter.Full
     else None
 
 -- an entry is refused for this cause, or for want of memory where there is no other

@@ -13,19 +13,19 @@ ghost use Rattle.rounds.specs.Tables.{standings, started};
 ghost use Rattle.rounds.specs.CutoffLaw.{MetIsBetterIn};
 ghost use Rattle.rounds.specs.Positions.{place_at};
 ghost use Rattle.rounds.specs.model.Field.{as_table, with_newcomer, with_values_at, IsEntrantAt};
-ghost use Rattle.rounds.specs.model.Field.{IsStandingOf};
-ghost use Rattle.rounds.specs.model.Standings.{is_unfinished};
+ghost use Rattle.rounds.specs.model.Field.{IsKeptEntrantOf};
+ghost use Rattle.rounds.specs.model.KeptEntrants.{is_unfinished};
 
 use crate::cutoff::{allotted, has_started};
 use crate::kept::Kept;
-use crate::rank::rank_of;
-use crate::ranking::{order_of, place_at};
+use crate::kept_entrant::KeptEntrant;
+use crate::packed_key::packed_key_of;
+use crate::recount::{move_places, recounted};
 use crate::rules::Rules;
-use crate::running::{pass_all, recounted};
-use crate::standing::Standing;
+use crate::standings::{order_of, place_at};
 use crate::value_row::ValueRow;
 use attempts::{NoMemory, Value};
-use formats::{Averaged, RankKey, better};
+use formats::{Averaged, MOST_ENTRANTS, RankKey, better};
 use indexmap::IndexMap;
 use std::alloc::Global;
 use std::marker::Model;
@@ -36,15 +36,15 @@ const NO_RESULT: RankKey = RankKey {
     tie: None,
 };
 
-/// The entrants in order of entry. The counts are of those who have started, of those who have not
-/// done all allotted attempts, and of those who are better than an entrant without a result.
+/// The entrants by number, in order of entry. The counts are of those who have started, of those
+/// who have not done all allotted attempts, and of those who have a result.
 #[derive(Drop)]
 pub(crate) struct Entrants {
     rules: Rules,
-    standings: IndexMap<u16, Standing>,
+    by_number: IndexMap<u16, KeptEntrant>,
     started: u16,
     unfinished: u16,
-    ranked: u16,
+    with_result: u16,
 }
 
 impl Model for Entrants {
@@ -53,11 +53,11 @@ impl Model for Entrants {
 
     ghost Value = { Field };
 
-    ghost use Rattle.rounds.specs.model.Running.{field_of, IsRunning};
+    ghost use Rattle.rounds.specs.model.UpToDate.{field_of, IsUpToDate};
 
     ghost view = { field_of };
 
-    ghost invariant = { IsRunning };
+    ghost invariant = { IsUpToDate };
 }
 
 impl Entrants {
@@ -68,10 +68,10 @@ impl Entrants {
     {
         Ok(Entrants {
             rules,
-            standings: IndexMap::with_capacity(alloc, 16)?,
+            by_number: IndexMap::with_capacity(alloc, 16)?,
             started: 0,
             unfinished: 0,
-            ranked: 0,
+            with_result: 0,
         })
     }
 
@@ -85,14 +85,14 @@ impl Entrants {
     pub(crate) fn len(&self) -> usize
         ensures { result ≡ length self.now.entrants }
     {
-        self.standings.len()
+        self.by_number.len()
     }
 
     /// Whether a competitor is entered.
     pub(crate) fn contains(&self, number: u16) -> bool
         ensures { result ≡ list_any (has_number number) self.now.entrants }
     {
-        self.standings.contains_key(&number)
+        self.by_number.contains_key(&number)
     }
 
     /// The index of an entrant.
@@ -100,7 +100,7 @@ impl Entrants {
         ensures { MatchOption result (find (has_number number) self.now.entrants ≡ None)
             (IsEntrantAt number self.now) }
     {
-        self.standings.get_index_of(&number)
+        self.by_number.get_index_of(&number)
     }
 
     /// The values of the entrant at an index.
@@ -109,27 +109,27 @@ impl Entrants {
         ensures { (e : Entrant) → slice_get self.now.entrants index ≡ Some e
             → result.now ≡ e.values }
     {
-        &self.standings[index].row
+        &self.by_number[index].row
     }
 
     /// Adds an entrant without attempts. Nobody's place changes, since nobody is worse.
     pub(crate) fn enter(&mut self, number: u16) -> Result<(), NoMemory>
         requires absent { list_any (has_number number) self.old.entrants ≡ false }
-        requires room { length self.old.entrants < 999 }
+        requires room { length self.old.entrants < MOST_ENTRANTS }
         ensures entered { OnOk result (self.new ≡ with_newcomer self.old number) }
         ensures unchanged { OnErr result (self.new ≡ self.old) }
     {
-        let newcomer = Standing {
+        let newcomer = KeptEntrant {
             row: ValueRow::new(),
             kept: Kept {
                 best: Value::Dns,
                 average: Averaged::Missing,
                 key: NO_RESULT,
-                place: self.ranked + 1,
+                place: self.with_result + 1,
             },
-            rank: rank_of(NO_RESULT),
+            packed_key: packed_key_of(NO_RESULT),
         };
-        self.standings.insert(number, newcomer)?;
+        self.by_number.insert(number, newcomer)?;
         self.unfinished += 1;
         Ok(())
     }
@@ -142,10 +142,10 @@ impl Entrants {
         requires in_range { All (IsInRangeOf self.old.rules.unit) row }
         ensures { self.new ≡ with_values_at self.old index row }
     {
-        let before = &self.standings[index];
+        let before = &self.by_number[index];
         let mut kept = Kept::of(self.rules, row.values(), 0);
         let (old, new) = (before.kept.key, kept.key);
-        let rank = rank_of(new);
+        let packed_key = packed_key_of(new);
         self.started = recounted(
             self.started,
             has_started(before.row.values()),
@@ -156,18 +156,26 @@ impl Entrants {
             is_unfinished(self.rules, before.row.values()),
             is_unfinished(self.rules, row.values()),
         );
-        self.ranked = recounted(self.ranked, better(old, NO_RESULT), better(new, NO_RESULT));
-        let ahead = pass_all(&mut self.standings, old, new);
+        self.with_result = recounted(
+            self.with_result,
+            better(old, NO_RESULT),
+            better(new, NO_RESULT),
+        );
+        let ahead = move_places(&mut self.by_number, old, new);
         kept.place = 1 + recounted(ahead, better(old, new), false);
-        self.standings[index] = Standing { row, kept, rank };
+        self.by_number[index] = KeptEntrant {
+            row,
+            kept,
+            packed_key,
+        };
     }
 
     /// What is kept of an entrant.
-    pub(crate) fn get(&self, number: u16) -> Option<&Standing>
+    pub(crate) fn get(&self, number: u16) -> Option<&KeptEntrant>
         ensures { MatchOption result (find (has_number number) self.now.entrants ≡ None)
-            (λ s. (e : Entrant) × IsStandingOf self.now number e s.now) }
+            (λ s. (e : Entrant) × IsKeptEntrantOf self.now number e s.now) }
     {
-        self.standings.get(&number)
+        self.by_number.get(&number)
     }
 
     pub(crate) fn started(&self) -> u16
@@ -189,16 +197,16 @@ impl Entrants {
         ensures all { IfOk result
             (λ order. IsPermutation (map number_of_entrant self.now.entrants) order.items) }
         ensures each_once { IfOk result (λ order. IsDistinct nat_eq order.items) }
-        ensures few { IfOk result (λ order. length order.items ≤ 999) }
+        ensures few { IfOk result (λ order. length order.items ≤ MOST_ENTRANTS) }
     {
-        order_of(&self.standings)
+        order_of(&self.by_number)
     }
 
     /// The greatest place that is not above a position; 0 where there is none.
     pub(crate) fn place_at(&self, position: u16) -> u16
         ensures { result ≡ place_at (as_table false self.now) position }
     {
-        place_at(&self.standings, position)
+        place_at(&self.by_number, position)
     }
 
     /// The cutoff of the round.

@@ -3,7 +3,7 @@
 ghost use Rattle.std.specs.Prelude.{◌≡◌, All};
 ghost use Rattle.attempts.specs.Attempts.{IsInRangeOf};
 ghost use Rattle.formats.specs.Results.{IsFormatOf};
-ghost use Rattle.rounds.specs.model.Standings.{kept_of};
+ghost use Rattle.rounds.specs.model.KeptEntrants.{kept_of};
 
 use crate::rules::Rules;
 use attempts::Value;

@@ -3,19 +3,19 @@
 
 mod cutoff;
 mod entrants;
-mod faults;
+mod fault;
 mod kept;
+mod kept_entrant;
 mod laws;
-mod rank;
-mod ranking;
+mod packed_key;
+mod recount;
 mod rules;
-mod running;
 mod slots;
-mod standing;
+mod standings;
 mod table;
 mod value_row;
 
-pub use faults::{CloseFault, CorrectFault, EnterFault, PutFault, StrikeFault};
+pub use fault::{CloseFault, CorrectFault, EnterFault, PutFault, StrikeFault};
 pub use kept::Kept;
 pub use laws::who_met_the_cutoff_is_better;
 pub use table::{RoundTable, Row};

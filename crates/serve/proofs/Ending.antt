@@ -1,10 +1,11 @@
 -- A desk that serves, from its first line to its last.
-use Rattle.std.proofs.Common.{◌≡◌, ◌⊎◌, inl, inr, refl, sym, ap, ap₂, subst, ◌∙◌, ℕ, List, ◌++◌, append_assoc, Option, Result, Ok, Err, OnOk, OnErr, IfErr}
+use Rattle.std.proofs.Common.{◌≡◌, ◌⊎◌, inl, inr, refl, sym, ap, ap₂, subst, ◌∙◌, ℕ, List, ◌++◌}
+use Rattle.std.proofs.Common.{append_assoc, Option, Result, Ok, Err, OnOk, OnErr, IfErr}
 use Rattle.std.specs.Io.KnownBytes.{Appends}
 use Rattle.std.proofs.KnownBytes.{Appends-trans}
 use Rattle.lines.specs.Bytes.{AppendsPart}
 use Rattle.serving.specs.Making.{Way}
-use Rattle.sockets.specs.Visits.{Standing}
+use Rattle.sockets.specs.Visits.{AtRest}
 use Rattle.sockets.specs.declared.serving_all.AllEnd.{AllEnd}
 use Rattle.sockets.specs.declared.serving_all.AllEnd.TheVariants as all
 use Rattle.sockets.specs.declared.serving_all.ServedAll.{ServedAll}
@@ -31,7 +32,7 @@ told_first a b h home n len here long =
     subst (λ (t : List ℕ). Appends a b t) (ap₂ first_line here long)
 
 -- the first line was cut off
-pub first_cut : {V : Type 0} {way : Way V} (t : Turn) (a : Standing way) (f : ServeFault)
+pub first_cut : {V : Type 0} {way : Way V} (t : Turn) (a : AtRest way) (f : ServeFault)
     → IsOfLine f → t.heard.old ≡ t.heard.new
     → AppendsPart t.out.old t.out.new (first_line t.home t.len) → FailsServing f t a a
 first_cut t a f (inl is) same h =
@@ -40,7 +41,7 @@ first_cut t a f (inr is) same h =
     subst (λ (f : ServeFault). FailsServing f t a a) (sym is) (inl (refl, same, h))
 
 -- the last line was
-pub last_cut : {V : Type 0} {way : Way V} (t : Turn) (a b : Standing way) (f : ServeFault)
+pub last_cut : {V : Type 0} {way : Way V} (t : Turn) (a b : AtRest way) (f : ServeFault)
     (served : ServedAll) (mid : Option (List ℕ))
     → IsOfLine f → HasServed served t a b → Appends t.out.old mid (first_line t.home t.len)
     → AppendsPart mid t.out.new (last_line served.connections) → FailsServing f t a b
@@ -52,7 +53,7 @@ last_cut t a b f served mid (inr is) h first last =
     (inr (served, h, append_part _ mid _ _ _ first last))
 
 -- both lines are there
-pub ends_well : {V : Type 0} {way : Way V} (t : Turn) (a b : Standing way) (count : ℕ)
+pub ends_well : {V : Type 0} {way : Way V} (t : Turn) (a b : AtRest way) (count : ℕ)
     (end : AllEnd) (r : Result (Unit {0}) ServeFault)
     → HasServed (record { connections = count; end = end }) t a b
     → Appends t.out.old t.out.new (both_lines t.home t.len count) → r ≡ ends_by end
@@ -66,7 +67,7 @@ ends_well t a b count all.Down r h w is =
 ends_well t a b count all.CannotListen r h w is =
     subst (λ (r : Result (Unit {0}) ServeFault). OnOk r (Serves t a b)) (sym is) tt
 
-pub ends_ill : {V : Type 0} {way : Way V} (t : Turn) (a b : Standing way) (count : ℕ)
+pub ends_ill : {V : Type 0} {way : Way V} (t : Turn) (a b : AtRest way) (count : ℕ)
     (end : AllEnd) (r : Result (Unit {0}) ServeFault)
     → HasServed (record { connections = count; end = end }) t a b
     → Appends t.out.old t.out.new (both_lines t.home t.len count) → r ≡ ends_by end

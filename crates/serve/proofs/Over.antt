@@ -1,25 +1,29 @@
 -- The desk over its file, and what was printed.
-use Rattle.std.proofs.Common.{◌≡◌, ◌⊎◌, inl, inr, refl, sym, ap, subst, ◌∙◌, ℕ, ◌≤◌, List, ◌++◌, append_assoc, length, Option, Result, OnOk, IfErr, arith}
+use Rattle.std.proofs.Common.{◌≡◌, ◌⊎◌, inl, inr, refl, sym, ap, subst, ◌∙◌, ℕ, ◌≤◌, List, ◌++◌}
+use Rattle.std.proofs.Common.{append_assoc, length, Option, Result, OnOk, IfErr, arith}
 use Rattle.std.proofs.lemmas.Result.{IfErr-weaker, on_ok_weaker}
 use Rattle.std.specs.Io.KnownBytes.{Keeps, Appends}
 use Rattle.lines.specs.Bytes.{AppendsPart}
 use Rattle.serving.specs.Making.{Way}
-use Rattle.sockets.specs.Visits.{Standing}
+use Rattle.sockets.specs.Visits.{AtRest}
 use Rattle.sockets.specs.declared.serving_all.AllEnd.{AllEnd}
 use Rattle.sockets.specs.declared.serving_all.ServedAll.{ServedAll}
 use Rattle.store.specs.Ranges.{IsHome}
 use Rattle.store.specs.declared.home.Home.{Home}
-use Rattle.serve.specs.Printing.{Hinders, IsAllowed, IsOfListener, IsOfStore, IsRefused, Output, Prints, PrintsAt, PrintsPart, both_lines, first_line, home_of, last_line}
-use Rattle.serve.specs.Serves.{FailsServing, HasServed, IsCutOff, Serves, ServesTo, Turn, turn, unheard}
+use Rattle.serve.specs.Printing.{Hinders, IsAllowed, IsOfListener, IsOfStore, IsRefused, Output}
+use Rattle.serve.specs.Printing.{Prints, PrintsAt, PrintsPart, both_lines, first_line, home_of}
+use Rattle.serve.specs.Printing.{last_line}
+use Rattle.serve.specs.Serves.{FailsServing, HasServed, IsCutOff, Serves, ServesTo, Turn, turn}
+use Rattle.serve.specs.Serves.{unheard}
 use Rattle.serve.specs.declared.fault.ServeFault.{ServeFault}
 use Rattle.serve.specs.declared.fault.ServeFault.TheVariants as fault
 use Rattle.service.specs.declared.Service.{Service}
 
-few_served : {V : Type 0} {way : Way V} (t : Turn) (a b : Standing way) (served : ServedAll)
+few_served : {V : Type 0} {way : Way V} (t : Turn) (a b : AtRest way) (served : ServedAll)
     → HasServed served t a b → served.connections ≤ t.most
 few_served t a b served h = omega (arith, h.1.counted, h.1.few)
 
-prints_to : {V : Type 0} {way : Way V} (s : Service) (len : ℕ) (o : Output) (a b : Standing way)
+prints_to : {V : Type 0} {way : Way V} (s : Service) (len : ℕ) (o : Output) (a b : AtRest way)
     (end : AllEnd)
     → IsAllowed s → ServesTo end (turn (home_of s) s.connections len o unheard) a b → Prints s o
 prints_to s len o a b end allowed h = record {
@@ -30,7 +34,7 @@ prints_to s len o a b end allowed h = record {
   written = h.2;
 }
 
-pub prints : {V : Type 0} {way : Way V} (s : Service) (len : ℕ) (o : Output) (a b : Standing way)
+pub prints : {V : Type 0} {way : Way V} (s : Service) (len : ℕ) (o : Output) (a b : AtRest way)
     → IsAllowed s → Serves (turn (home_of s) s.connections len o unheard) a b → Prints s o
 prints s len o a b allowed (inl h) = prints_to s len o a b _ allowed h
 prints s len o a b allowed (inr h) = prints_to s len o a b _ allowed h
@@ -45,7 +49,7 @@ more_of a c xs ys p = (
   },
 )
 
-prints_part : {V : Type 0} {way : Way V} (s : Service) (len : ℕ) (o : Output) (a b : Standing way)
+prints_part : {V : Type 0} {way : Way V} (s : Service) (len : ℕ) (o : Output) (a b : AtRest way)
     → IsAllowed s → IsCutOff (turn (home_of s) s.connections len o unheard) a b → PrintsPart s o
 prints_part s len o a b allowed (inl h) = record {
   allowed = allowed;
@@ -63,7 +67,7 @@ prints_part s len o a b allowed (inr h) = record {
 }
 
 pub prints_at : {V : Type 0} {way : Way V} (f : ServeFault) (s : Service) (len : ℕ) (o : Output)
-    (a b : Standing way)
+    (a b : AtRest way)
     → IsAllowed s → FailsServing f (turn (home_of s) s.connections len o unheard) a b
     → PrintsAt f s o
 prints_at fault.Down s len o a b allowed h = prints_to s len o a b _ allowed h
@@ -120,15 +124,15 @@ by_listener f s (inr is) allowed = subst (λ (f : ServeFault). Hinders f s) (sym
 pub allowed_of : (s : Service) (home : Home) → home ≡ home_of s → IsHome home → IsAllowed s
 allowed_of s home is h = subst (λ (h : Home). IsHome h) is h
 
-pub printed : {V : Type 0} {way : Way V} (s : Service) (place home : Home) (len : ℕ) (o : Output)
-    (a b : Standing way) (r : Result (Unit {0}) ServeFault)
-    → place ≡ home → home ≡ home_of s → IsHome home
-    → OnOk r (Serves (turn place s.connections len o unheard) a b) → OnOk r (Prints s o)
-printed s place home len o a b r there is h =
-    on_ok_weaker r (λ served. prints s len o a b (allowed_of s home is h)
-    (subst (λ (p : Home). Serves (turn p s.connections len o unheard) a b) (there ∙ is) served))
+pub printed : {V : Type 0} {way : Way V} (s : Service) (home : Home) (len : ℕ) (o : Output)
+    (a b : AtRest way) (r : Result (Unit {0}) ServeFault)
+    → home ≡ home_of s → IsAllowed s
+    → OnOk r (Serves (turn home s.connections len o unheard) a b) → OnOk r (Prints s o)
+printed s home len o a b r is allowed h =
+    on_ok_weaker r (λ served. prints s len o a b allowed
+    (subst (λ (p : Home). Serves (turn p s.connections len o unheard) a b) is served)) h
 
-ends_printed : {V : Type 0} {way : Way V} (s : Service) (len : ℕ) (o : Output) (a b : Standing way)
+ends_printed : {V : Type 0} {way : Way V} (s : Service) (len : ℕ) (o : Output) (a b : AtRest way)
     (f : ServeFault) → IsAllowed s
     → (IsOfListener f × Keeps o.old o.new)
     ⊎ FailsServing f (turn (home_of s) s.connections len o unheard) a b
@@ -136,13 +140,13 @@ ends_printed : {V : Type 0} {way : Way V} (s : Service) (len : ℕ) (o : Output)
 ends_printed s len o a b f allowed (inl e) = hindered f s o (by_listener f s e.0 allowed) e.1
 ends_printed s len o a b f allowed (inr e) = prints_at f s len o a b allowed e
 
-pub printed_fault : {V : Type 0} {way : Way V} (s : Service) (place home : Home) (len : ℕ)
-    (o : Output) (a b : Standing way) (r : Result (Unit {0}) ServeFault)
-    → place ≡ home → home ≡ home_of s → IsHome home
+pub printed_fault : {V : Type 0} {way : Way V} (s : Service) (home : Home) (len : ℕ)
+    (o : Output) (a b : AtRest way) (r : Result (Unit {0}) ServeFault)
+    → home ≡ home_of s → IsAllowed s
     → IfErr r (λ f. (IsOfListener f × Keeps o.old o.new)
-    ⊎ FailsServing f (turn place s.connections len o unheard) a b)
+    ⊎ FailsServing f (turn home s.connections len o unheard) a b)
     → IfErr r (λ f. PrintsAt f s o)
-printed_fault s place home len o a b r there is h =
-    IfErr-weaker r _ _ (λ f ends. ends_printed s len o a b f (allowed_of s home is h)
+printed_fault s home len o a b r is allowed h =
+    IfErr-weaker r _ _ (λ f ends. ends_printed s len o a b f allowed
     (subst (λ (p : Home). (IsOfListener f × Keeps o.old o.new)
-    ⊎ FailsServing f (turn p s.connections len o unheard) a b) (there ∙ is) ends))
+    ⊎ FailsServing f (turn p s.connections len o unheard) a b) is ends)) h

@@ -3,10 +3,8 @@ use Rattle.std.specs.Prelude.{◌≡◌, ◌⊎◌, ◌≤◌, ℕ, List, ◌++�
 use Rattle.std.specs.Io.KnownBytes.{Keeps, Appends}
 use Rattle.lines.specs.Bytes.{AppendsPart}
 use Rattle.store.specs.Ranges.{IsHome, home_at}
-use Rattle.store.specs.declared.faults.LoadFault.{LoadFault}
-use Rattle.store.specs.declared.faults.LoadFault.TheVariants as loading
-use Rattle.store.specs.declared.faults.OpenFault.{OpenFault}
-use Rattle.store.specs.declared.faults.OpenFault.TheVariants as opening
+use Rattle.store.specs.declared.fault.OpenFault.{OpenFault}
+use Rattle.store.specs.declared.fault.OpenFault.TheVariants as opening
 use Rattle.store.specs.declared.home.Home.{Home}
 use Rattle.serve.specs.declared.fault.ServeFault.{ServeFault}
 use Rattle.serve.specs.declared.fault.ServeFault.TheVariants as fault
@@ -56,11 +54,6 @@ opening_fault opening.WrongDesk = fault.WrongDesk
 opening_fault opening.Damaged = fault.Damaged
 opening_fault opening.Device = fault.Device
 opening_fault opening.NoMemory = fault.NoMemory
-
-abbrev pub loading_fault : LoadFault → ServeFault
-loading_fault loading.Damaged = fault.Damaged
-loading_fault loading.Device = fault.Device
-loading_fault loading.NoMemory = fault.NoMemory
 
 -- those of the address
 abbrev pub IsOfListener : ServeFault → Type 0

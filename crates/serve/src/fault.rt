@@ -1,9 +1,9 @@
 //! Why a desk does not serve, or ends early.
 
 ghost use Rattle.std.specs.Prelude.{◌≡◌};
-ghost use Rattle.serve.specs.Printing.{IsOfStore, loading_fault, opening_fault};
+ghost use Rattle.serve.specs.Printing.{IsOfStore, opening_fault};
 
-use store::faults::{LoadFault, OpenFault};
+use store::fault::OpenFault;
 
 /// Why a desk does not serve, or ends early.
 #[derive(Clone, Copy, Debug, PartialEq, Eq)]
@@ -28,7 +28,7 @@ pub enum ServeFault {
     NoMemory,
 }
 
-/// The fault of a store that was not opened.
+/// The fault of a file that was not opened as a desk's store, or not loaded.
 pub fn fault_of_open(fault: OpenFault) -> ServeFault
     ensures same { result ≡ opening_fault fault }
     ensures of_store { IsOfStore result }
@@ -38,17 +38,5 @@ pub fn fault_of_open(fault: OpenFault) -> ServeFault
         OpenFault::Damaged => ServeFault::Damaged,
         OpenFault::Device => ServeFault::Device,
         OpenFault::NoMemory => ServeFault::NoMemory,
-    }
-}
-
-/// The fault of a store that was not loaded.
-pub fn fault_of_load(fault: LoadFault) -> ServeFault
-    ensures same { result ≡ loading_fault fault }
-    ensures of_store { IsOfStore result }
-{
-    match fault {
-        LoadFault::Damaged => ServeFault::Damaged,
-        LoadFault::Device => ServeFault::Device,
-        LoadFault::NoMemory => ServeFault::NoMemory,
     }
 }

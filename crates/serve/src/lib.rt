@@ -4,7 +4,6 @@
 
 mod fault;
 mod home;
-mod opening;
 mod running;
 mod telling;
 

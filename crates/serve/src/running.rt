@@ -1,22 +1,16 @@
 //! A desk that serves.
 
-ghost use Rattle.std.specs.Prelude.{◌≡◌, ◌⊎◌, None, length, IfErr, OnOk};
-ghost use Rattle.std.specs.Io.KnownBytes.{Keeps};
-ghost use Rattle.node.specs.Seeing.{seen_of};
-ghost use Rattle.replica.specs.Handles.{Handles};
-ghost use Rattle.replica.specs.Nodes.{words};
-ghost use Rattle.serving.specs.Making.{speaking, spoken};
-ghost use Rattle.sockets.specs.Visits.{standing_of};
-ghost use Rattle.wire.specs.Laws.{IsVersion};
-ghost use Rattle.serve.specs.Printing.{IsOfListener, Prints, PrintsAt, output};
-ghost use Rattle.serve.specs.Serves.{FailsServing, IsHindered, IsRun, Serves, ends_by, heard};
-ghost use Rattle.serve.specs.Serves.{standing, turn, unheard};
+ghost use Rattle.std.specs.Prelude.{◌≡◌, IfErr, OnOk};
 ghost use Rattle.sqlite.specs.WalFiles.{image_at};
+ghost use Rattle.wire.specs.Laws.{IsVersion};
+ghost use Rattle.serve.specs.Printing.{IsAllowed, IsOfListener, Prints, PrintsAt, home_of, output};
+ghost use Rattle.serve.specs.Serves.{FailsDesk, FailsKept, FailsNode, FailsThere, RunsDesk};
+ghost use Rattle.serve.specs.Serves.{RunsKept, ServesNode, ServesThere, ends_by, stage};
 
-use crate::fault::ServeFault;
+use crate::fault::{ServeFault, fault_of_open};
 use crate::home::home_of;
-use crate::opening::open_desk;
 use crate::telling::{tell_first, tell_last};
+use desk_file::{fault_of_load, open_keeper};
 use node::Node;
 use service::Service;
 use serving::Peers;
@@ -60,24 +54,12 @@ pub fn serve_node<K: Keeper + Drop, A: Accept, P: Peers, W: Write>(
     writer: &mut W,
 ) -> Result<(), ServeFault>
     requires version { IsVersion wire }
-    ensures ok { let way = speaking (Handles
-        (words K.home_of K.failures_of K.is_down K.is_honest K.keeps K.may_hold K.may_break))
-        (spoken wire) in
-        OnOk result (Serves
-        (turn (K.home_of node.old.keeper) most (length node.old.desk.log)
-        (output (W.contents writer.old) (W.contents writer.new))
-        (heard (A.listened listener.old) (A.listened listener.new)))
-        (standing_of way seen_of node.old (P.handed peers.old))
-        (standing_of way seen_of node.new (P.handed peers.new))) }
-    ensures err { let way = speaking (Handles
-        (words K.home_of K.failures_of K.is_down K.is_honest K.keeps K.may_hold K.may_break))
-        (spoken wire) in
-        IfErr result (λ f. FailsServing f
-        (turn (K.home_of node.old.keeper) most (length node.old.desk.log)
-        (output (W.contents writer.old) (W.contents writer.new))
-        (heard (A.listened listener.old) (A.listened listener.new)))
-        (standing_of way seen_of node.old (P.handed peers.old))
-        (standing_of way seen_of node.new (P.handed peers.new))) }
+    ensures ok { OnOk result (ServesNode K.Keeper P.Peers A.listened W.Write wire most
+        (stage node.old peers.old listener.old writer.old)
+        (stage node.new peers.new listener.new writer.new)) }
+    ensures err { IfErr result (FailsNode K.Keeper P.Peers A.listened W.Write wire most
+        (stage node.old peers.old listener.old writer.old)
+        (stage node.new peers.new listener.new writer.new)) }
 {
     if let Err(fault) = tell_first(alloc, writer, node.home(), node.log().len()) {
         return Err(fault);
@@ -142,19 +124,10 @@ fn serve_there<K: Keeper + Drop, W: Write>(
     writer: &mut W,
 ) -> Result<(), ServeFault>
     requires version { IsVersion service.wire }
-    ensures ok { let k =
-        words K.home_of K.failures_of K.is_down K.is_honest K.keeps K.may_hold K.may_break in
-        OnOk result (Serves
-        (turn (K.home_of node.old.keeper) service.entry.connections (length node.old.desk.log)
-        (output (W.contents writer.old) (W.contents writer.new)) unheard)
-        (standing k service.entry.wire node.old) (standing k service.entry.wire node.new)) }
-    ensures err { let k =
-        words K.home_of K.failures_of K.is_down K.is_honest K.keeps K.may_hold K.may_break in
-        IfErr result (λ f. (IsOfListener f × Keeps (W.contents writer.old) (W.contents writer.new))
-        ⊎ FailsServing f
-        (turn (K.home_of node.old.keeper) service.entry.connections (length node.old.desk.log)
-        (output (W.contents writer.old) (W.contents writer.new)) unheard)
-        (standing k service.entry.wire node.old) (standing k service.entry.wire node.new)) }
+    ensures ok { OnOk result (ServesThere K.Keeper W.Write service.entry node.old node.new
+        writer.old writer.new) }
+    ensures err { IfErr result (FailsThere K.Keeper W.Write service.entry node.old node.new
+        writer.old writer.new) }
 {
     let mut listener = match listen(rt, service) {
         Ok(listener) => listener,
@@ -171,6 +144,32 @@ fn serve_there<K: Keeper + Drop, W: Write>(
         service.wire,
         writer,
     )
+}
+
+/// Opens the desk that a keeper keeps, which listens at its address and serves.
+fn serve_kept<K: Keeper + Drop, W: Write>(
+    rt: &HostRuntime,
+    service: Service<'_>,
+    keeper: K,
+    writer: &mut W,
+) -> Result<(), ServeFault>
+    requires version { IsVersion service.wire }
+    requires allowed { IsAllowed service }
+    requires place { K.home_of keeper ≡ home_of service }
+    ensures ok { OnOk result
+        (Prints service.entry (output (W.contents writer.old) (W.contents writer.new))) }
+    ensures err { IfErr result
+        (λ f. PrintsAt f service.entry (output (W.contents writer.old) (W.contents writer.new))) }
+    ensures serves { OnOk result (RunsKept K.Keeper keeper service.entry
+        (output (W.contents writer.old) (W.contents writer.new))) }
+    ensures fails { IfErr result (FailsKept K.Keeper keeper service.entry
+        (output (W.contents writer.old) (W.contents writer.new))) }
+{
+    let mut node = match Node::open(rt.alloc(), keeper) {
+        Ok(node) => node,
+        Err(fault) => return Err(fault_of_open(fault_of_load(fault))),
+    };
+    serve_there(rt, service, &mut node, writer)
 }
 
 /// Opens a desk's file, listens at the desk's address, and serves the clients that come, one after
@@ -204,24 +203,20 @@ pub fn serve<S: Start, W: Write>(
         (Prints service.entry (output (W.contents writer.old) (W.contents writer.new))) }
     ensures err { IfErr result
         (λ f. PrintsAt f service.entry (output (W.contents writer.old) (W.contents writer.new))) }
-    ensures serves { let k = ⟦<SqlKeeper<FileStore<FileFrom<S>>> as Keeper>⟧ in
-        OnOk result (IsRun (words k.home_of k.failures_of k.is_down k.is_honest k.keeps
-        k.may_hold k.may_break) (image_at S.Start) service.entry
-        (output (W.contents writer.old) (W.contents writer.new)) Serves) }
-    ensures fails { let k = ⟦<SqlKeeper<FileStore<FileFrom<S>>> as Keeper>⟧ in
-        IfErr result (λ f. IsHindered f service.entry
-        (output (W.contents writer.old) (W.contents writer.new))
-        ⊎ IsRun (words k.home_of k.failures_of k.is_down k.is_honest k.keeps
-        k.may_hold k.may_break) (image_at S.Start) service.entry
-        (output (W.contents writer.old) (W.contents writer.new)) (FailsServing f)) }
+    ensures serves { OnOk result
+        (RunsDesk ⟦<SqlKeeper<FileStore<FileFrom<S>>> as Keeper>⟧ (image_at S.Start)
+        service.entry (output (W.contents writer.old) (W.contents writer.new))) }
+    ensures fails { IfErr result
+        (FailsDesk ⟦<SqlKeeper<FileStore<FileFrom<S>>> as Keeper>⟧ (image_at S.Start)
+        service.entry (output (W.contents writer.old) (W.contents writer.new))) }
 {
     let home = match home_of(service) {
         Ok(home) => home,
         Err(fault) => return Err(fault),
     };
-    let mut node = match open_desk(rt, home, service.store, start) {
-        Ok(node) => node,
-        Err(fault) => return Err(fault),
+    let keeper = match open_keeper(rt, home, service.store, start) {
+        Ok(keeper) => keeper,
+        Err(fault) => return Err(fault_of_open(fault)),
     };
-    serve_there(rt, service, &mut node, writer)
+    serve_kept(rt, service, keeper, writer)
 }

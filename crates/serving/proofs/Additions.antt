@@ -2,13 +2,14 @@
 use Rattle.std.proofs.Common.{refl, sym, ap, ◌∙◌, ℕ, zero, suc, List, [], ◌∷◌, ◌++◌, map}
 use Rattle.std.proofs.lemmas.List.{append-nil, append_assoc}
 use Rattle.acceptor.specs.declared.message.Message.{Message}
-use Rattle.learner.specs.declared.event.Event.{Event}
-use Rattle.learner.specs.declared.event.Event.TheVariants.{Deliver}
+use Rattle.learner.specs.declared.event.DeskEvent.{DeskEvent}
+use Rattle.learner.specs.declared.event.DeskEvent.TheVariants.{Deliver}
 use Rattle.store.specs.declared.home.Home.{Home}
 use Rattle.serving.specs.model.Reaching.{OnlyAdds}
-use Rattle.serving.specs.Serving.{Called, Pushed, Service, reply_to, call, settle_by, deliver, waits, push_all, in_front, from_own, to_others}
+use Rattle.serving.specs.Serving.{Called, Pushed, Service, reply_to, call, settle_by, deliver}
+use Rattle.serving.specs.Serving.{waits, push_all, in_front, from_own, to_others}
 
-pub adds_call : (home : Home) (event : Event) → OnlyAdds (call home event)
+pub adds_call : (home : Home) (event : DeskEvent) → OnlyAdds (call home event)
 unfolding call
 adds_call home event s = (Called event (reply_to home event s).result ∷ [], refl)
 

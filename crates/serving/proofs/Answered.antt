@@ -1,21 +1,25 @@
 -- What the code did for a request is what the request asks.
-use Rattle.std.proofs.Common.{◌≡◌, refl, sym, ap, subst, ◌∙◌, ℕ, List, [], ◌∷◌, ◌++◌, Option, None, Some}
+use Rattle.std.proofs.Common.{◌≡◌, refl, sym, ap, subst, ◌∙◌, ℕ, List, [], ◌∷◌, ◌++◌, Option, None}
+use Rattle.std.proofs.Common.{Some}
 use Rattle.std.proofs.lemmas.List.{append-nil}
 use Rattle.acceptor.specs.declared.message.Message.{Message}
-use Rattle.learner.specs.declared.event.Event.TheVariants.{Deliver, Tick}
+use Rattle.learner.specs.declared.event.DeskEvent.TheVariants.{Deliver, Tick}
 use Rattle.wire.specs.declared.frame.What.{What}
 use Rattle.wire.specs.declared.frame.What.TheVariants as what
 use Rattle.store.specs.declared.home.Home.{Home}
 use Rattle.serving.specs.Making.{Way, Outside, outside_of, Makes}
-use Rattle.serving.specs.Answering.{answer_of, answer_first, standing, told_what, printed}
+use Rattle.serving.specs.Answering.{answer_of, answer_first, state, told_what, printed}
 use Rattle.serving.specs.model.Requests.{Answers, AnswersSome, FailsToAnswer}
 use Rattle.answers.specs.Seen.{Seen}
 use Rattle.serving.specs.Nodes.{Fate, reply}
 use Rattle.serving.specs.model.Reaching.{at, service, Reaches, DoesPart, DoesTake}
-use Rattle.serving.specs.Serving.{Act, Service, first_fate, take, begun, served, answer, pushes_of, seen_after}
-use Rattle.serving.specs.declared.calling.Answer.{Answer}
+use Rattle.serving.specs.Serving.{Act, Service, first_fate, take, begun, served, answer, pushes_of}
+use Rattle.serving.specs.Serving.{seen_after}
+use Rattle.serving.specs.declared.calls.Answer.{Answer}
 use Rattle.serving.specs.declared.request.Request.{Request}
 use Rattle.serving.specs.declared.request.Request.TheVariants.{Heard, Ticked, Asked, Printed}
+use Rattle.serving.specs.declared.request.Request.TheVariants.{Stopped, Strange, Ignored}
+use Rattle.wire.specs.declared.values.ClientRefusal.TheVariants as refusal
 use Rattle.formats.specs.declared.events.Event.{Event as EventOf}
 use Rattle.wire.specs.declared.values.SheetStyle.{SheetStyle as Style}
 use Rattle.serving.proofs.Makings.{Makes-nil}
@@ -36,7 +40,8 @@ took_calls home f x y left acts past r =
     ∙ ap (λ z. seen_after home x acts z) (append-nil past)
 
 -- the calls and pushes of a request, and the node behind it; the answer is another matter
-pub answers_by : {V : Type 0} {way : Way V} (home : Home) (r : Request) (x y : Seen) (left : ℕ) (acts : List Act)
+pub answers_by : {V : Type 0} {way : Way V} (home : Home) (r : Request) (x y : Seen) (left : ℕ)
+    (acts : List Act)
     (past : List Fate) (w : Option What) (a b : Outside way)
     → (served home x past r ≡ service (at y [] left) acts []) → (y ≡ seen_after home x acts past)
     → Makes home.hall a b acts
@@ -51,7 +56,8 @@ answers_by home r x y left acts past w a b all calls made is = record {
 }
 
 -- a message of a desk
-pub hears : {V : Type 0} {way : Way V} (home : Home) (m : Message) (x y : Seen) (left : ℕ) (answer : Answer) (acts : List Act)
+pub hears : {V : Type 0} {way : Way V} (home : Home) (m : Message) (x y : Seen) (left : ℕ)
+    (answer : Answer) (acts : List Act)
     (past : List Fate) (a b : Outside way)
     → DoesTake home left (Deliver m) answer x y acts past a b
     → AnswersSome home x y (Heard m) None a b
@@ -63,7 +69,8 @@ hears home m x y left answer acts past a b h = (
 )
 
 -- a Tick
-pub ticks : {V : Type 0} {way : Way V} (home : Home) (x y : Seen) (left : ℕ) (answer : Answer) (acts : List Act)
+pub ticks : {V : Type 0} {way : Way V} (home : Home) (x y : Seen) (left : ℕ) (answer : Answer)
+    (acts : List Act)
     (past : List Fate) (w : What) (a b : Outside way)
     → DoesTake home left Tick answer x y acts past a b → w ≡ answer_first what.Fine answer y
     → AnswersSome home x y Ticked (Some w) a b
@@ -87,7 +94,8 @@ ticks home x y left answer acts past w a b h is =
 
 -- a front part of an event: what was done begins what would have been done, and the node is the one
 -- after it
-part_acts : {V : Type 0} {way : Way V} (home : Home) (f : Service → Service) (x shown : Seen) (a b : Outside way)
+part_acts : {V : Type 0} {way : Way V} (home : Home) (f : Service → Service) (x shown : Seen)
+    (a b : Outside way)
     (d : DoesPart home f (at x [] 16) shown a b)
     → (more : List Act) × ((f (begun x d.1)).done ≡ d.0 ++ more)
 part_acts home f x shown a b d =
@@ -97,7 +105,8 @@ part_acts home f x shown a b d =
           ∙ ap (λ (z : Service). z.done) (d.4.reaches.steps [] []) ∙ more.1,
     )
 
-part_seen : {V : Type 0} {way : Way V} (home : Home) (f : Service → Service) (x shown : Seen) (a b : Outside way)
+part_seen : {V : Type 0} {way : Way V} (home : Home) (f : Service → Service) (x shown : Seen)
+    (a b : Outside way)
     (d : DoesPart home f (at x [] 16) shown a b)
     → shown ≡ seen_after home x d.0 d.1
 part_seen home f x shown a b d =
@@ -106,7 +115,8 @@ part_seen home f x shown a b d =
     ∙ ap (λ z. seen_after home x d.0 z) (append-nil d.1)
 
 -- memory was refused on the way of a request
-pub fails : {V : Type 0} {way : Way V} (home : Home) (f : Service → Service) (r : Request) (x shown : Seen)
+pub fails : {V : Type 0} {way : Way V} (home : Home) (f : Service → Service) (r : Request)
+    (x shown : Seen)
     (a b : Outside way)
     → ((fates : List Fate) → served home x fates r ≡ f (begun x fates))
     → DoesPart home f (at x [] 16) shown a b → FailsToAnswer home x shown r a b
@@ -123,16 +133,24 @@ fails home f r x shown a b is d =
     )
 
 -- what became of a command, and a sheet: the node is asked, and is as it was
-pub asks : {V : Type 0} {way : Way V} (home : Home) (r : Request) (id : ℕ) (x : Seen) (w : What) (a : Outside way)
+pub asks : {V : Type 0} {way : Way V} (home : Home) (r : Request) (id : ℕ) (x : Seen) (w : What)
+    (a : Outside way)
     → r ≡ Asked id
-    → (fate : Fate) × (w ≡ told_what id fate (standing x id)) → AnswersSome home x x r (Some w) a a
+    → (fate : Fate) × (w ≡ told_what id fate (state x id)) → AnswersSome home x x r (Some w) a a
 asks home r id x w a is h =
     subst (λ z. AnswersSome home x x z (Some w) a a) (sym is) (
       h.0 ∷ [],
-      record { answer_is = ap (λ z. Some z) h.1; made = Makes-nil home.hall a; node = refl; calls = refl },
+      record {
+        answer_is = ap
+            (λ z. Some z) h.1;
+        made = Makes-nil home.hall a;
+        node = refl;
+        calls = refl;
+      },
     )
 
-pub prints : {V : Type 0} {way : Way V} (home : Home) (r : Request) (event : EventOf) (round position : ℕ) (style : Style)
+pub prints : {V : Type 0} {way : Way V} (home : Home) (r : Request) (event : EventOf)
+    (round position : ℕ) (style : Style)
     (x : Seen) (w : What) (a : Outside way)
     → r ≡ Printed event round position style
     → (fate : Fate) × (w ≡ printed x fate event round position style)
@@ -140,5 +158,36 @@ pub prints : {V : Type 0} {way : Way V} (home : Home) (r : Request) (event : Eve
 prints home r event round position style x w a is h =
     subst (λ z. AnswersSome home x x z (Some w) a a) (sym is) (
       h.0 ∷ [],
-      record { answer_is = ap (λ z. Some z) h.1; made = Makes-nil home.hall a; node = refl; calls = refl },
+      record {
+        answer_is = ap
+            (λ z. Some z) h.1;
+        made = Makes-nil home.hall a;
+        node = refl;
+        calls = refl;
+      },
+    )
+
+-- a Stop, a frame for another desk, and one that is ignored: nothing is called or pushed
+pub stops : {V : Type 0} {way : Way V} (home : Home) (r : Request) (x : Seen) (a : Outside way)
+    → r ≡ Stopped → AnswersSome home x x r (Some what.Fine) a a
+stops home r x a is =
+    subst (λ z. AnswersSome home x x z (Some what.Fine) a a) (sym is) (
+      [],
+      record { answer_is = refl; made = Makes-nil home.hall a; node = refl; calls = refl },
+    )
+
+pub estranges : {V : Type 0} {way : Way V} (home : Home) (r : Request) (x : Seen) (a : Outside way)
+    → r ≡ Strange → AnswersSome home x x r (Some (what.Refused refusal.Foreign)) a a
+estranges home r x a is =
+    subst (λ z. AnswersSome home x x z (Some (what.Refused refusal.Foreign)) a a) (sym is) (
+      [],
+      record { answer_is = refl; made = Makes-nil home.hall a; node = refl; calls = refl },
+    )
+
+pub ignores : {V : Type 0} {way : Way V} (home : Home) (r : Request) (x : Seen) (a : Outside way)
+    → r ≡ Ignored → AnswersSome home x x r None a a
+ignores home r x a is =
+    subst (λ z. AnswersSome home x x z None a a) (sym is) (
+      [],
+      record { answer_is = refl; made = Makes-nil home.hall a; node = refl; calls = refl },
     )

@@ -1,11 +1,12 @@
 -- One frame after the other.
-use Rattle.std.proofs.Common.{◌≡◌, refl, sym, ap, subst, ◌∙◌, ℕ, ◌+◌, ◌<◌, List, [], ◌∷◌, ◌++◌, length, length-append, Option, None, Some, arith}
+use Rattle.std.proofs.Common.{◌≡◌, refl, sym, ap, subst, ◌∙◌, ℕ, ◌+◌, List, [], ◌∷◌, ◌++◌}
+use Rattle.std.proofs.Common.{length, length-append, Option, None, Some, arith}
 use Rattle.std.proofs.lemmas.List.{append-nil, append_assoc}
 use Rattle.std.proofs.KnownBytes.{Appends-nil, Appends-trans}
 use Rattle.std.specs.Io.KnownBytes.{Appends}
 use Rattle.wire.specs.declared.frame.Frame.{Frame}
 use Rattle.wire.specs.Spelling.{spelling}
-use Rattle.serving.specs.Making.{Way, Outside, outside_of, Makes}
+use Rattle.serving.specs.Making.{Way, Makes}
 use Rattle.store.specs.declared.home.Home.{Home}
 use Rattle.serving.specs.declared.ends.Close.{Close}
 use Rattle.serving.specs.declared.ends.Close.TheVariants as close
@@ -16,9 +17,10 @@ use Rattle.serving.specs.declared.ends.FrameFault.TheVariants as fault
 use Rattle.answers.specs.Seen.{Seen}
 use Rattle.serving.specs.Nodes.{Fate}
 use Rattle.serving.specs.Serving.{Act}
-use Rattle.serving.specs.Connection.{Begun, frames_of, Outcome, serve_frame, serve_frames, close_of, then_others, StaysOpen, answer_bytes, Sides, FailsIn, IsServed, Serves, Closes, Fails}
-use Rattle.serving.specs.model.Requests.{ServesOne}
-use Rattle.serving.specs.model.Pieces.{EndsInFrames, EndsBatch, IsBatch}
+use Rattle.serving.specs.Connection.{Begun, frames_of, Outcome, serve_frame, serve_frames, close_of}
+use Rattle.serving.specs.Connection.{then_others, StaysOpen, answer_bytes, Sides, FailsIn, IsServed}
+use Rattle.serving.specs.Connection.{ServesOne, Serves, Closes, Fails}
+use Rattle.serving.specs.model.Pieces.{EndsInFrames}
 use Rattle.serving.proofs.Makings.{Makes-nil, Makes-trans}
 
 then_assoc : (a b c : Outcome) → then_others a (then_others b c) ≡ then_others (then_others a b) c
@@ -64,11 +66,16 @@ pub serves_none : {V : Type 0} {way : Way V} (home : Home) (a : Sides way) → S
 serves_none home a =
     record {
       stays = tt;
-      served = record { answered = Appends-nil a.written; made = Makes-nil home.hall a.outside; node = refl };
+      served = record {
+        answered = Appends-nil a.written;
+        made = Makes-nil home.hall a.outside;
+        node = refl;
+      };
     }
 
 -- one frame after those served so far
-pub serves_one : {V : Type 0} {way : Way V} (home : Home) (a m b : Sides way) (bs : List Begun) (one : Begun) (ends : Option Close)
+pub serves_one : {V : Type 0} {way : Way V} (home : Home) (a m b : Sides way) (bs : List Begun)
+    (one : Begun) (ends : Option Close)
     → Serves home a m bs → ServesOne home m b one ends → IsServed home a b (bs ++ one ∷ [])
 serves_one home a m b bs one ends h k =
     let x = (serve_frames home a.seen bs).seen in
@@ -97,7 +104,8 @@ serves_one home a m b bs one ends h k =
       node = k.node ∙ ap (λ (z : Outcome). z.seen) (sym is);
     }
 
-pub serves_more : {V : Type 0} {way : Way V} (home : Home) (a m b : Sides way) (bs : List Begun) (one : Begun)
+pub serves_more : {V : Type 0} {way : Way V} (home : Home) (a m b : Sides way) (bs : List Begun)
+    (one : Begun)
     (ends : Option Close)
     → Serves home a m bs → ServesOne home m b one ends → ends ≡ None
     → Serves home a b (bs ++ one ∷ [])
@@ -108,7 +116,8 @@ serves_more home a m b bs one ends h k none = record {
   served = serves_one home a m b bs one ends h k;
 }
 
-pub serves_last : {V : Type 0} {way : Way V} (home : Home) (a m b : Sides way) (bs : List Begun) (one : Begun)
+pub serves_last : {V : Type 0} {way : Way V} (home : Home) (a m b : Sides way) (bs : List Begun)
+    (one : Begun)
     (ends : Option Close) (last : Close)
     → Serves home a m bs → ServesOne home m b one ends → ends ≡ Some last
     → Closes last home a b (bs ++ one ∷ [])
@@ -123,7 +132,8 @@ serves_last home a m b bs one ends last h k some = (
   },
 )
 
-pub fails_last : {V : Type 0} {way : Way V} (why e : FrameFault) (home : Home) (a m b : Sides way) (bs : List Begun) (one : Begun)
+pub fails_last : {V : Type 0} {way : Way V} (why e : FrameFault) (home : Home) (a m b : Sides way)
+    (bs : List Begun) (one : Begun)
     → e ≡ why → Serves home a m bs → FailsIn e home m b one → Fails why home a b (bs ++ one ∷ [])
 fails_last why e home a m b bs one is h k = (
   bs,
@@ -133,7 +143,8 @@ fails_last why e home a m b bs one is h k = (
 )
 
 -- frames and then more of them
-pub served_then : {V : Type 0} {way : Way V} (home : Home) (a m b : Sides way) (bs cs : List Begun) → IsServed home a m bs
+pub served_then : {V : Type 0} {way : Way V} (home : Home) (a m b : Sides way) (bs cs : List Begun)
+    → IsServed home a m bs
     → IsServed home m b cs → IsServed home a b (bs ++ cs)
 served_then home a m b bs cs h k =
     let first = serve_frames home a.seen bs in
@@ -149,11 +160,13 @@ served_then home a m b bs cs h k =
           (Appends-trans a.written m.written b.written _ _ h.answered k.answered));
       made =
           subst (λ (z : Outcome). Makes home.hall a.outside b.outside z.acts) (sym is)
-          (Makes-trans home.hall a.outside m.outside b.outside first.acts second.acts h.made k.made);
+          (Makes-trans home.hall a.outside m.outside b.outside first.acts second.acts h.made
+          k.made);
       node = k.node ∙ ap (λ (z : Outcome). z.seen) (sym is);
     }
 
-pub serves_then : {V : Type 0} {way : Way V} (home : Home) (a m b : Sides way) (bs cs : List Begun) → Serves home a m bs
+pub serves_then : {V : Type 0} {way : Way V} (home : Home) (a m b : Sides way) (bs cs : List Begun)
+    → Serves home a m bs
     → Serves home m b cs → Serves home a b (bs ++ cs)
 serves_then home a m b bs cs h k = record {
   stays =
@@ -165,7 +178,8 @@ last_of : (bs cs front : List Begun) (last : Begun) → cs ≡ front ++ last ∷
     → bs ++ cs ≡ (bs ++ front) ++ last ∷ []
 last_of bs cs front last e = ap (λ z. bs ++ z) e ∙ sym (append_assoc bs front (last ∷ []))
 
-closes_then : {V : Type 0} {way : Way V} (ends : Close) (home : Home) (a m b : Sides way) (bs cs : List Begun) → Serves home a m bs
+closes_then : {V : Type 0} {way : Way V} (ends : Close) (home : Home) (a m b : Sides way)
+    (bs cs : List Begun) → Serves home a m bs
     → Closes ends home m b cs → Closes ends home a b (bs ++ cs)
 closes_then ends home a m b bs cs h k =
     let s = k.2 in
@@ -185,7 +199,8 @@ closes_then ends home a m b bs cs h k =
       },
     )
 
-fails_then : {V : Type 0} {way : Way V} (why : FrameFault) (home : Home) (a m b : Sides way) (bs cs : List Begun)
+fails_then : {V : Type 0} {way : Way V} (why : FrameFault) (home : Home) (a m b : Sides way)
+    (bs cs : List Begun)
     → Serves home a m bs → Fails why home m b cs → Fails why home a b (bs ++ cs)
 fails_then why home a m b bs cs h k = (
   bs ++ k.0,
@@ -199,7 +214,8 @@ fails_then why home a m b bs cs h k = (
 )
 
 -- frames, and then others, of which one ends the connection
-pub ends_then : {V : Type 0} {way : Way V} (e : End) (home : Home) (a m b : Sides way) (bs cs : List Begun) (count : ℕ)
+pub ends_then : {V : Type 0} {way : Way V} (e : End) (home : Home) (a m b : Sides way)
+    (bs cs : List Begun) (count : ℕ)
     → Serves home a m bs → EndsInFrames e home m b cs count
     → EndsInFrames e home a b (bs ++ cs) count
 ends_then end.Stopped home a m b bs cs count h k = closes_then close.Stopped home a m b bs cs h k
@@ -225,19 +241,3 @@ begun_more all rest after f fates begun parts first =
 pub counts_more : (before count : ℕ) (begun : List Begun) (one : Begun)
     → count ≡ before + length begun → count + 1 ≡ before + length (begun ++ one ∷ [])
 counts_more before count begun one h = omega (arith, h, length-append begun (one ∷ []))
-
-pub batch_of : {V : Type 0} {way : Way V} (how : Option End) (home : Home) (a b : Sides way) (given all rest after : List Frame)
-    (f : Frame) (fates : List Fate) (begun : List Begun) (before count : ℕ)
-    → all ≡ given → all ≡ frames_of begun ++ rest → rest ≡ f ∷ after → count ≡ before + length begun
-    → count < 64
-    → EndsBatch how home a b (begun ++ record { frame = f; fates = fates } ∷ []) after (count + 1)
-    → IsBatch how home a b given (begun ++ record { frame = f; fates = fates } ∷ []) after before
-    (count + 1)
-batch_of how home a b given all rest after f fates begun before count is parts first counted few
-    ends =
-    record {
-      parts = sym is ∙ begun_more all rest after f fates begun parts first;
-      counted = counts_more before count begun (record { frame = f; fates = fates }) counted;
-      few = omega (arith, few);
-      ends = ends;
-    }

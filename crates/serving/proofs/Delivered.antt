@@ -1,5 +1,6 @@
 -- Entries that are delivered one after the other, and what comes of the last one.
-use Rattle.std.proofs.Common.{◌≡◌, refl, sym, ap, subst, ◌∙◌, ℕ, ◌+◌, Bool, true, false, cond, List, [], ◌∷◌, ◌++◌, Option, None, Result, Ok, Err}
+use Rattle.std.proofs.Common.{◌≡◌, refl, sym, ap, subst, ◌∙◌, ℕ, ◌+◌, Bool, true, false, cond, List}
+use Rattle.std.proofs.Common.{[], ◌∷◌, ◌++◌, Option, None, Result, Ok, Err}
 use Rattle.std.proofs.lemmas.List.{append-nil}
 use Rattle.acceptor.specs.declared.entry.Entry.{Entry}
 use Rattle.acceptor.specs.declared.message.Message.{Message}
@@ -8,12 +9,14 @@ use Rattle.serving.specs.Adding.{Push}
 use Rattle.serving.specs.Making.{Way, Outside, outside_of, Makes}
 use Rattle.answers.specs.Seen.{Seen}
 use Rattle.serving.specs.Nodes.{Fate, reply}
-use Rattle.serving.specs.declared.calling.Answer.{Answer}
+use Rattle.serving.specs.declared.calls.Answer.{Answer}
 use Rattle.serving.specs.declared.request.Run.{Run}
 use Rattle.serving.specs.declared.request.Request.TheVariants.{Learned}
 use Rattle.serving.specs.model.Calling.{Calls, IsCall, LosesMessages}
-use Rattle.serving.specs.model.Reaching.{Place, at, service, Reaches, did_call, OnlyAdds, Did, Does, DoesPart}
-use Rattle.serving.specs.Serving.{Act, Service, waits, call, decided, unless_down, learn, learn_all, settle_by}
+use Rattle.serving.specs.model.Reaching.{Place, at, service, Reaches, did_call, OnlyAdds, Did, Does}
+use Rattle.serving.specs.model.Reaching.{DoesPart}
+use Rattle.serving.specs.Serving.{Act, Service, waits, call, decided, unless_down, learn, learn_all}
+use Rattle.serving.specs.Serving.{settle_by}
 use Rattle.serving.proofs.Additions.{adds_both, adds_call, adds_settle}
 use Rattle.serving.proofs.Makings.{Makes-nil, Makes-call, makes_then}
 use Rattle.serving.proofs.Parts.{part_of, part_first, part_both, lost}
@@ -35,7 +38,8 @@ unfolding learn
 first_entry home from to pos left e es x ms = record {
   steps = λ done later.
       ap
-      (λ z. others home from to pos es (call home (decided from to pos e) (service (at x [] left) z later)))
+      (λ z. others home from to pos es
+      (call home (decided from to pos e) (service (at x [] left) z later)))
       (sym (append-nil done));
   calls = λ more later. refl;
 }
@@ -291,6 +295,7 @@ delivers_part home f x shown empty a b none d =
 abbrev pub settled : Home → Run → Service → Service
 settled home run s = settle_by home 16 (learn home run.from run.to run.pos run.entries s)
 
-pub learned_so : (home : Home) (run : Run) (x : Seen) → IsSaid home (settled home run) (Learned run) x
+pub learned_so : (home : Home) (run : Run) (x : Seen) → IsSaid home (settled home run)
+    (Learned run) x
 unfolding learn_all
 learned_so home run x = record { served_so = λ fates. refl; silent = λ fates. refl }

@@ -1,12 +1,13 @@
 -- An entry that is handed in, and Start behind it.
-use Rattle.std.proofs.Common.{◌≡◌, refl, sym, ap, subst, ◌∙◌, ℕ, List, [], ◌∷◌, ◌++◌, Option, Some, Result, Ok, Err}
+use Rattle.std.proofs.Common.{◌≡◌, refl, sym, ap, subst, ◌∙◌, ℕ, List, [], ◌∷◌, ◌++◌, Option, Some}
+use Rattle.std.proofs.Common.{Result, Ok, Err}
 use Rattle.std.proofs.lemmas.List.{append-nil}
 use Rattle.acceptor.specs.declared.entry.Entry.{Entry}
 use Rattle.acceptor.specs.declared.message.Message.{Message}
-use Rattle.learner.specs.declared.event.Event.{Event}
-use Rattle.learner.specs.declared.event.Event.TheVariants.{Submit, Start}
-use Rattle.roles.specs.declared.faults.NodeFault.{NodeFault}
-use Rattle.roles.specs.declared.faults.NodeFault.TheVariants as fault
+use Rattle.learner.specs.declared.event.DeskEvent.{DeskEvent}
+use Rattle.learner.specs.declared.event.DeskEvent.TheVariants.{Submit, Start}
+use Rattle.roles.specs.declared.fault.NodeFault.{NodeFault}
+use Rattle.roles.specs.declared.fault.NodeFault.TheVariants as fault
 use Rattle.store.specs.declared.home.Home.{Home}
 use Rattle.wire.specs.declared.frame.What.{What}
 use Rattle.wire.specs.declared.frame.What.TheVariants as what
@@ -17,10 +18,12 @@ use Rattle.serving.specs.model.Calling.{Calls, IsCall, LosesMessages}
 use Rattle.serving.specs.model.Requests.{AnswersSome}
 use Rattle.answers.specs.Seen.{Seen}
 use Rattle.serving.specs.Nodes.{Fate, reply}
-use Rattle.serving.specs.model.Reaching.{Place, at, service, Reaches, did_call, OnlyAdds, Did, Does, DoesPart}
-use Rattle.serving.specs.Serving.{Act, Called, Service, first_fate, call, settle_by, settle, entered_by, enter, begun, pushes_of, waiting_after}
-use Rattle.serving.specs.declared.calling.Answer.{Answer}
-use Rattle.serving.specs.declared.calling.Answer.TheVariants.{Taken, Refused}
+use Rattle.serving.specs.model.Reaching.{Place, at, service, Reaches, did_call, OnlyAdds, Did, Does}
+use Rattle.serving.specs.model.Reaching.{DoesPart}
+use Rattle.serving.specs.Serving.{Act, Called, Service, first_fate, call, settle_by, settle}
+use Rattle.serving.specs.Serving.{entered_by, enter, begun, pushes_of, waiting_after}
+use Rattle.serving.specs.declared.calls.Answer.{Answer}
+use Rattle.serving.specs.declared.calls.Answer.TheVariants.{Taken, Refused}
 use Rattle.serving.specs.declared.request.Request.TheVariants.{Entered}
 use Rattle.serving.proofs.Additions.{adds_both, adds_call, adds_settle}
 use Rattle.serving.proofs.Makings.{Makes-nil, Makes-trans, Makes-call}
@@ -33,7 +36,7 @@ abbrev pub starts : Home → Service → Service
 starts home s = settle_by home 16 (call home Start s)
 
 -- a call behind messages that wait, and then all that comes of them
-pub does_behind : {V : Type 0} (way : Way V) (home h : Home) (x y z : Seen) (event : Event)
+pub does_behind : {V : Type 0} (way : Way V) (home h : Home) (x y z : Seen) (event : DeskEvent)
     (ms more rest : List Message) (left last : ℕ) (answer : Answer) (u v : V)
     (p : Option (List Push)) (b : Outside way)
     → h ≡ home
@@ -58,7 +61,7 @@ does_behind way home h x y z event ms more rest left last answer u v p b same fa
     )
 
 -- memory was refused in the call, or in what comes of it
-pub part_at_behind : {V : Type 0} (way : Way V) (home h : Home) (x y : Seen) (event : Event)
+pub part_at_behind : {V : Type 0} (way : Way V) (home h : Home) (x y : Seen) (event : DeskEvent)
     (ms : List Message) (left : ℕ) (u v : V) (p : Option (List Push))
     → h ≡ home
     → (fate : Fate) × LosesMessages h event fate x y × IsCall way.handles h event fate x u v
@@ -71,7 +74,7 @@ part_at_behind way home h x y event ms left u v p same l =
     (Makes-nil home.hall (outside_of way u p)) l
 
 pub part_after_behind : {V : Type 0} (way : Way V) (home h : Home) (x y shown : Seen)
-    (event : Event) (ms more : List Message) (left : ℕ) (answer : Answer) (u v : V)
+    (event : DeskEvent) (ms more : List Message) (left : ℕ) (answer : Answer) (u v : V)
     (p : Option (List Push)) (b : Outside way)
     → h ≡ home
     → (fate : Fate) → Calls h event fate x y ms more answer → IsCall way.handles h event fate x u v
@@ -104,7 +107,8 @@ refused_of (Err why) e = (why, refl)
 enters : (home : Home) (e : Entry) (fate : Fate) (x y : Seen) (more ms : List Message)
     (answer : Answer)
     → Calls home (Submit e) fate x y [] more answer → (reply home x (Submit e) fate).result ≡ Ok ms
-    → Reaches home (enter home e) (at x [] 16) (starts home) (at y more 16) (did_call home (Submit e) fate x ∷ [])
+    → Reaches home (enter home e) (at x [] 16) (starts home) (at y more 16)
+    (did_call home (Submit e) fate x ∷ [])
     (fate ∷ [])
 unfolding enter call
 enters home e fate x y more ms answer c is =
@@ -125,7 +129,8 @@ stays_out : (home : Home) (e : Entry) (fate : Fate) (x y : Seen) (more : List Me
     (why : NodeFault) (answer : Answer)
     → Calls home (Submit e) fate x y [] more answer
     → (reply home x (Submit e) fate).result ≡ Err why
-    → Reaches home (enter home e) (at x [] 16) (λ s. s) (at y more 16) (did_call home (Submit e) fate x ∷ [])
+    → Reaches home (enter home e) (at x [] 16) (λ s. s) (at y more 16)
+    (did_call home (Submit e) fate x ∷ [])
     (fate ∷ [])
 unfolding enter call
 stays_out home e fate x y more why answer c is =
@@ -176,7 +181,8 @@ enters_part way home h e fate x y u v p same l made =
 pub entered_lost : {V : Type 0} (way : Way V) (home h : Home) (e : Entry) (x y : Seen) (u v : V)
     (p : Option (List Push))
     → h ≡ home
-    → (fate : Fate) × LosesMessages h (Submit e) fate x y × IsCall way.handles h (Submit e) fate x u v
+    → (fate : Fate) × LosesMessages h (Submit e) fate x y × IsCall way.handles h
+    (Submit e) fate x u v
     → DoesPart home (enter home e) (at x [] 16) y (outside_of way u p) (outside_of way v p)
 entered_lost way home h e x y u v p same l =
     enters_part way home h e l.0 x y u v p same

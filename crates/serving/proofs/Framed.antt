@@ -1,9 +1,11 @@
 -- A message in its ranges is a frame in its ranges.
-use Rattle.std.proofs.Common.{◌≡◌, refl, nat_lt, true, false, Bool, ◌&&◌, ℕ, ◌≤◌, ◌<◌, ◌^◌, None, Some, arith}
+use Rattle.std.proofs.Common.{◌≡◌, refl, nat_lt, true, false, Bool, ◌&&◌, ℕ, ◌≤◌, ◌<◌, ◌^◌, None}
+use Rattle.std.proofs.Common.{Some, arith}
 use Rattle.std.proofs.lemmas.Bool.{ltb-true, leb-true}
 use Rattle.acceptor.specs.declared.ballot.Ballot.{Ballot}
 use Rattle.acceptor.specs.declared.message.Body.{Body}
-use Rattle.acceptor.specs.declared.message.Body.TheVariants.{Prepare, Promise, Accept, Accepted, Nack, Behind, Decided}
+use Rattle.acceptor.specs.declared.message.Body.TheVariants.{Prepare, Promise, Accept, Accepted}
+use Rattle.acceptor.specs.declared.message.Body.TheVariants.{Nack, Behind, Decided}
 use Rattle.acceptor.specs.declared.message.Message.{Message}
 use Rattle.learner.specs.Ranges.{IsInRange}
 use Rattle.learner.specs.Steps.{is_real, is_in_range}
@@ -17,7 +19,7 @@ both : (a b : Bool) → (a && b) ≡ true → (a ≡ true) × (b ≡ true)
 both true b h = (refl, h)
 both false b h = absurd cc
 
-is_ballot : (n : ℕ) (b : Ballot) → n ≤ 5 → is_real n b ≡ true → b.round < 2 ^ 32 → IsBallot b
+is_ballot : (n : ℕ) (b : Ballot) → n ≤ 5 → is_real n b ≡ true → b.number < 2 ^ 32 → IsBallot b
 is_ballot n b few h small =
     let parts = both _ _ h in
     let desk = both _ _ parts.1 in
@@ -63,7 +65,8 @@ goes n (Nack b pos q) from to x y = (x, y)
 goes n (Behind len) from to x y = (x, y)
 goes n (Decided pos e) from to x y = (x, y)
 
-pub is_frame : (v : Version) (hall n : ℕ) (m : Message) → hall < 2 ^ 32 → n ≤ 5 → IsInRange n m → IsTyped m.body
+pub is_frame : (v : Version) (hall n : ℕ) (m : Message) → hall < 2 ^ 32 → n ≤ 5 → IsInRange n m
+    → IsTyped m.body
     → IsFrame (framed v hall m)
 is_frame v hall n m small few h t =
     record {

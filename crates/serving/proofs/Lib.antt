@@ -7,6 +7,9 @@ pub mod Reached
 pub mod Additions
 pub mod Connecting
 pub mod Pieces
+pub mod Turning
+pub mod Waiting
+pub mod TurnLaws
 pub mod Parts
 pub mod Started
 pub mod Answered

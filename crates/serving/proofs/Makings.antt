@@ -2,7 +2,7 @@
 use Rattle.std.proofs.Common.{◌≡◌, refl, sym, ap, subst, ◌∙◌, ℕ, List, [], ◌∷◌, ◌++◌, map, Option}
 use Rattle.std.proofs.lemmas.List.{append-nil}
 use Rattle.acceptor.specs.declared.message.Message.{Message}
-use Rattle.learner.specs.declared.event.Event.{Event}
+use Rattle.learner.specs.declared.event.DeskEvent.{DeskEvent}
 use Rattle.store.specs.declared.home.Home.{Home}
 use Rattle.serving.specs.Adding.{Push, Hands}
 use Rattle.wire.specs.declared.values.Version.{Version}
@@ -79,7 +79,8 @@ Makes-pushes {V} {way} hall a u b c acts ms h k =
     })
 
 -- a call hands nothing over
-pub Makes-call : {V : Type 0} (way : Way V) (home h : Home) (event : Event) (fate : Fate) (x : Seen)
+pub Makes-call : {V : Type 0} (way : Way V) (home h : Home) (event : DeskEvent) (fate : Fate)
+    (x : Seen)
     (u v : V) (p : Option (List Push))
     → h ≡ home → IsCall way.handles h event fate x u v
     → Makes home.hall (outside_of way u p) (outside_of way v p) (did_call home event fate x ∷ [])

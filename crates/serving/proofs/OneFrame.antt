@@ -1,24 +1,25 @@
 -- A frame: its request, the answer, and how it ends the connection.
-use Rattle.std.proofs.Common.{◌≡◌, ◌≢◌, refl, sym, ap, subst, ◌∙◌, arith, ℕ, ◌^◌, ◌<◌, ◌≤◌, List, [], ◌∷◌, ◌++◌, Option, None, Some}
+use Rattle.std.proofs.Common.{◌≡◌, ◌≢◌, refl, sym, ap, subst, ◌∙◌, arith, ℕ, ◌^◌, ◌<◌, ◌≤◌, List}
+use Rattle.std.proofs.Common.{[], Option, None, Some}
 use Rattle.std.proofs.lemmas.List.{append-nil}
 use Rattle.std.specs.Io.KnownBytes.{Appends}
 use Rattle.store.specs.declared.home.Home.{Home}
 use Rattle.learner.specs.Steps.{IsDesk}
 use Rattle.wire.specs.Ranges.{IsFrame, Goes, Way as Direction}
-use Rattle.wire.specs.Spelling.{spelling}
 use Rattle.wire.specs.declared.values.Version.{Version}
 use Rattle.wire.specs.declared.frame.Frame.{Frame}
 use Rattle.wire.specs.declared.frame.What.{What}
-use Rattle.serving.specs.Making.{Way, Outside, outside_of}
+use Rattle.serving.specs.Making.{Way, Outside}
 use Rattle.serving.specs.Answering.{IsAnswer}
 use Rattle.serving.specs.Asking.{request, ending, close_by}
 use Rattle.lines.specs.Bytes.{AppendsPart}
 use Rattle.serving.specs.model.Writing.{WriteEnds}
-use Rattle.serving.specs.Connection.{FailsIn, serve_frame, close_of, answer_frame, framed_answer, answer_bytes, sides}
-use Rattle.serving.specs.model.Requests.{Answers, AnswersSome, AnswersPart, FailsToAnswer, ServesOne}
+use Rattle.serving.specs.Connection.{FailsIn, serve_frame, close_of, answer_frame, framed_answer}
+use Rattle.serving.specs.Connection.{ServesOne, answer_bytes, sides}
+use Rattle.serving.specs.model.Requests.{Answers, AnswersSome, AnswersPart, FailsToAnswer}
 use Rattle.answers.specs.Seen.{Seen}
 use Rattle.serving.specs.Nodes.{Fate}
-use Rattle.serving.specs.Serving.{Act, served, answer}
+use Rattle.serving.specs.Serving.{served, answer}
 use Rattle.serving.specs.declared.ends.Close.{Close}
 use Rattle.serving.specs.declared.ends.FrameFault.{FrameFault}
 use Rattle.serving.specs.declared.ends.FrameFault.TheVariants as fault
@@ -35,10 +36,12 @@ answer_is_frame v home w small ours few h = record {
 }
 
 -- the frame was served whole
-pub serves : {V : Type 0} {way : Way V} (home : Home) (f : Frame) (r : Request) (x y : Seen) (w : Option What)
+pub serves : {V : Type 0} {way : Way V} (home : Home) (f : Frame) (r : Request) (x y : Seen)
+    (w : Option What)
     (close : Option Close) (o n : Option (List ℕ)) (a b : Outside way)
     → r ≡ request home f → AnswersSome home x y r w a b
-    → Appends o n (answer_bytes (framed_answer f.version home w)) → close ≡ close_by (ending r) y.is_down
+    → Appends o n (answer_bytes (framed_answer f.version home w)) → close ≡ close_by
+    (ending r) y.is_down
     → (fates : List Fate)
     × ServesOne home (sides x o a) (sides y n b) (record { frame = f; fates = fates }) close
 unfolding serve_frame close_of
@@ -50,31 +53,21 @@ serves home f r x y w close o n a b is h written c =
             c ∙ ap (λ z. close_by (ending z) y.is_down) is
             ∙ ap (λ (z : Seen). close_by (ending (request home f)) z.is_down) g.node;
         answered =
-            subst (λ z. Appends o n (answer_bytes (framed_answer f.version home z))) g.answer_is written;
+            subst (λ z. Appends o n (answer_bytes (framed_answer f.version home z))) g.answer_is
+            written;
         made = g.made;
         node = g.node;
       },
     )
 
--- the answer's bytes are one frame
-pub one_frame : (v : Version) (home : Home) (w : What) (o n : Option (List ℕ))
-    → Appends o n (spelling (answer_frame v home w))
-    → Appends o n (answer_bytes (framed_answer v home (Some w)))
-one_frame v home w o n h =
-    subst (λ z. Appends o n z) (sym (append-nil (spelling (answer_frame v home w)))) h
-
-pub one_frame_fails : (v : Version) (home : Home) (w : What) (why : FrameFault) (o n : Option (List ℕ))
-    → WriteEnds why o n (spelling (answer_frame v home w))
-    → WriteEnds why o n (answer_bytes (framed_answer v home (Some w)))
-one_frame_fails v home w why o n h =
-    subst (λ z. WriteEnds why o n z) (sym (append-nil (spelling (answer_frame v home w)))) h
-
-answer_is_due : (v : Version) (home : Home) (w : Option What) → w ≢ None → framed_answer v home w ≢ []
+answer_is_due : (v : Version) (home : Home) (w : Option What) → w ≢ None
+    → framed_answer v home w ≢ []
 answer_is_due v home None some none = some refl
 answer_is_due v home (Some w) some none = absurd cc
 
 -- the answer could not be written whole
-pub answer_fails : {V : Type 0} {way : Way V} (home : Home) (f : Frame) (r : Request) (x y : Seen) (w : Option What)
+pub answer_fails : {V : Type 0} {way : Way V} (home : Home) (f : Frame) (r : Request) (x y : Seen)
+    (w : Option What)
     (why : FrameFault) (o n : Option (List ℕ)) (a b : Outside way)
     → r ≡ request home f → AnswersSome home x y r w a b → w ≢ None
     → WriteEnds why o n (answer_bytes (framed_answer f.version home w))
@@ -89,7 +82,8 @@ answer_fails home f r x y w fault.Write o n a b is h some part =
             answer_is_due f.version home (answer home x h.0 (request home f))
             (λ none. some (g.answer_is ∙ none));
         answered =
-            subst (λ z. AppendsPart o n (answer_bytes (framed_answer f.version home z))) g.answer_is part;
+            subst (λ z. AppendsPart o n (answer_bytes (framed_answer f.version home z))) g.answer_is
+            part;
         made = g.made;
         node = g.node;
       },
@@ -110,7 +104,8 @@ answer_fails home f r x y w fault.NoMemory o n a b is h some none =
     )
 
 -- memory was refused in its calls and pushes
-pub request_fails : {V : Type 0} {way : Way V} (home : Home) (f : Frame) (r : Request) (x y : Seen) (o n : Option (List ℕ))
+pub request_fails : {V : Type 0} {way : Way V} (home : Home) (f : Frame) (r : Request) (x y : Seen)
+    (o n : Option (List ℕ))
     (a b : Outside way)
     → r ≡ request home f → FailsToAnswer home x y r a b → Appends o n []
     → (fates : List Fate)

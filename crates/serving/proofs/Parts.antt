@@ -1,19 +1,22 @@
 -- A front part of what was to be done, where memory is refused.
-use Rattle.std.proofs.Common.{◌≡◌, refl, sym, ap, subst, ◌∙◌, ℕ, zero, suc, List, [], ◌∷◌, ◌++◌, map, Option, Result, Ok, Err, OnErr}
+use Rattle.std.proofs.Common.{◌≡◌, refl, sym, ap, subst, ◌∙◌, ℕ, zero, suc, List, [], ◌∷◌, ◌++◌}
+use Rattle.std.proofs.Common.{map, Option, Result, Ok, Err, OnErr}
 use Rattle.std.proofs.lemmas.List.{append_assoc, map-append}
 use Rattle.acceptor.specs.declared.message.Message.{Message}
-use Rattle.learner.specs.declared.event.Event.{Event}
+use Rattle.learner.specs.declared.event.DeskEvent.{DeskEvent}
 use Rattle.serving.specs.Adding.{Push}
 use Rattle.serving.specs.Making.{Way, Outside, outside_of, Makes}
 use Rattle.serving.specs.model.Calling.{Calls, IsCall, LosesMessages}
 use Rattle.serving.specs.Answering.{answer_of}
-use Rattle.serving.specs.declared.calling.Answer.{Answer}
+use Rattle.serving.specs.declared.calls.Answer.{Answer}
 use Rattle.store.specs.declared.home.Home.{Home}
 use Rattle.answers.specs.Seen.{Seen}
 use Rattle.serving.specs.Nodes.{Fate, reply}
 use Rattle.serving.specs.model.Pushing.{PushesPart}
-use Rattle.serving.specs.model.Reaching.{Place, at, service, Reaches, did_call, OnlyAdds, Did, DoesPart}
-use Rattle.serving.specs.Serving.{Act, Called, Pushed, Service, pushes_of, call, settle_by, deliver, push_all, in_front, from_own, to_others, waiting_after}
+use Rattle.serving.specs.model.Reaching.{Place, at, service, Reaches, did_call, OnlyAdds, Did}
+use Rattle.serving.specs.model.Reaching.{DoesPart}
+use Rattle.serving.specs.Serving.{Act, Called, Pushed, Service, pushes_of, call, settle_by, deliver}
+use Rattle.serving.specs.Serving.{push_all, in_front, from_own, to_others, waiting_after}
 use Rattle.serving.proofs.Additions.{adds_both, adds_deliver, adds_settle}
 use Rattle.serving.proofs.Makings.{Makes-nil, Makes-trans, Makes-pushes, Makes-call}
 use Rattle.serving.proofs.Reached.{stays, goes_on, calls_once, pushes_see}
@@ -67,7 +70,8 @@ some_last home x ms front more left e = record {
 }
 
 -- so far all was done, and then a front part of what was left
-pub part_of : {V : Type 0} {way : Way V} (home : Home) (all g rest : Service → Service) (first mid second : Place)
+pub part_of : {V : Type 0} {way : Way V} (home : Home) (all g rest : Service → Service)
+    (first mid second : Place)
     (xs ys : List Act) (past more : List Fate) (shown : Seen) (a c : Outside way)
     → Reaches home all first g mid xs past → Reaches home g mid rest second ys more → OnlyAdds rest
     → second.seen ≡ shown → Makes home.hall a c (xs ++ ys)
@@ -118,7 +122,8 @@ part_both home f g first second xs past shown a b c d e =
     })
     e.4.reaches e.4.adds e.4.last (Makes-trans home.hall a b c xs e.0 d.made e.4.made)
 
-pub part_front : {V : Type 0} {way : Way V} (home : Home) (all : Service → Service) (first : Place) (left k : ℕ) (x : Seen)
+pub part_front : {V : Type 0} {way : Way V} (home : Home) (all : Service → Service) (first : Place)
+    (left k : ℕ) (x : Seen)
     (ms : List Message) (xs : List Act) (past : List Fate) (a : Outside way) (u : V)
     (b c : Option (List Push))
     → left ≡ suc k → Reaches home all first (settle_by home left) (at x ms left) xs past
@@ -135,11 +140,13 @@ part_front {V} {way} home all first left k x ms xs past a u b c is h made part =
     (sym is)
     (some_front home k x ms part.0 part.1 left part.2.parts) in
     part_of home all (settle_by home left) (rest_in_front home k (from_own home.desk ms) part.1)
-    first (at x ms left) (at x ms left) xs (map (λ m. Pushed m) part.0) past [] x a (outside_of way u c) h reach
+    first (at x ms left) (at x ms left) xs (map (λ m. Pushed m) part.0) past [] x a
+    (outside_of way u c) h reach
     (adds_front home k (from_own home.desk ms) part.1) refl
     (Makes-pushes home.hall a u b c xs part.0 made part.2.handed)
 
-pub part_last : {V : Type 0} {way : Way V} (home : Home) (all : Service → Service) (first : Place) (left : ℕ) (x : Seen)
+pub part_last : {V : Type 0} {way : Way V} (home : Home) (all : Service → Service) (first : Place)
+    (left : ℕ) (x : Seen)
     (ms : List Message) (xs : List Act) (past : List Fate) (a : Outside way) (u : V)
     (b c : Option (List Push))
     → left ≡ 0 → Reaches home all first (settle_by home left) (at x ms left) xs past
@@ -159,11 +166,12 @@ part_last {V} {way} home all first left x ms xs past a u b c is h made part =
     (adds_push part.1 []) refl (Makes-pushes home.hall a u b c xs part.0 made part.2.handed)
 
 -- the node took the event, and its messages were lost
-pub lost : (home : Home) (g : Service → Service) (event : Event) (fate : Fate) (x y : Seen)
+pub lost : (home : Home) (g : Service → Service) (event : DeskEvent) (fate : Fate) (x y : Seen)
     (ms : List Message) (left : ℕ)
     → LosesMessages home event fate x y
     → Reaches home (λ s. g (call home event s)) (at x ms left) g
-    (at y (waiting_after ms (reply home x event fate).result) left) (did_call home event fate x ∷ []) (fate ∷ [])
+    (at y (waiting_after ms (reply home x event fate).result) left)
+    (did_call home event fate x ∷ []) (fate ∷ [])
 lost home g event fate x y ms left h =
     calls_once home g event fate x y ms (waiting_after ms (reply home x event fate).result) left
     (answer_of (reply home x event fate).result) (record {
@@ -174,7 +182,7 @@ lost home g event fate x y ms left h =
     })
 
 pub part_call : {V : Type 0} (way : Way V) (home h : Home) (all : Service → Service) (first : Place)
-    (k left : ℕ) (event : Event) (x y : Seen) (ms : List Message) (xs : List Act)
+    (k left : ℕ) (event : DeskEvent) (x y : Seen) (ms : List Message) (xs : List Act)
     (past : List Fate) (a : Outside way) (u v : V) (p : Option (List Push))
     → h ≡ home
     → Reaches home all first (λ s. settle_by home k (call home event s)) (at x ms left) xs past
@@ -192,7 +200,8 @@ part_call way home h all first k left event x y ms xs past a u v p same r made l
     (did_call home event l.0 x ∷ []) made (Makes-call way home h event l.0 x u v p same l.2))
 
 -- a call, and then a front part of what comes of it
-pub part_after_call : {V : Type 0} (way : Way V) (home h : Home) (x y shown : Seen) (event : Event)
+pub part_after_call : {V : Type 0} (way : Way V) (home h : Home) (x y shown : Seen)
+    (event : DeskEvent)
     (ms more : List Message) (left : ℕ) (answer : Answer) (u v : V) (p : Option (List Push))
     (b : Outside way)
     → h ≡ home → ms ≡ []
@@ -213,7 +222,7 @@ part_after_call way home h x y shown event ms more left answer u v p b same none
     (Makes-trans home.hall a m b (did_call home event fate x ∷ []) d.0
     (Makes-call way home h event fate x u v p same made) d.4.made)
 
-pub part_at_call : {V : Type 0} (way : Way V) (home h : Home) (x y : Seen) (event : Event)
+pub part_at_call : {V : Type 0} (way : Way V) (home h : Home) (x y : Seen) (event : DeskEvent)
     (ms : List Message) (left : ℕ) (u v : V) (p : Option (List Push))
     → h ≡ home → ms ≡ []
     → (fate : Fate) × LosesMessages h event fate x y × IsCall way.handles h event fate x u v

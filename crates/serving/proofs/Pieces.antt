@@ -1,25 +1,28 @@
 -- Pieces of the stream, one after the other.
-use Rattle.std.proofs.Common.{◌≡◌, inl, inr, refl, sym, ap, subst, ◌∙◌, ℕ, ◌+◌, ◌<◌, ◌≤◌, List, [], ◌∷◌, ◌++◌, length, length-append, Option, None, Some, arith}
+use Rattle.std.proofs.Common.{◌≡◌, inl, inr, refl, sym, ap, subst, ◌∙◌, ℕ, ◌+◌, ◌<◌, ◌≤◌, List, []}
+use Rattle.std.proofs.Common.{◌∷◌, ◌++◌, length, length-append, Option, None, Some, arith}
 use Rattle.std.proofs.lemmas.List.{append-nil, append_assoc}
 use Rattle.std.specs.Io.KnownBytes.{Consumes, Keeps}
 use Rattle.std.proofs.KnownBytes.{Consumes-nil, Consumes-trans, Consumes-kept}
 use Rattle.std.specs.List.{flat_map, AllByRecursion}
 use Rattle.wire.specs.declared.fault.WireFault.{WireFault}
-use Rattle.wire.specs.declared.fault.WireFault.TheVariants as wire
 use Rattle.wire.specs.declared.frame.Frame.{Frame}
 use Rattle.wire.specs.Ranges.{IsFrame}
 use Rattle.wire.specs.Spelling.{spelling}
-use Rattle.wire.specs.Stream.{Front, Waits, Begins, Breaks, front, keeps, IsBegun, Reader, holding, Feeds, RefusesFault, Refuses, IsOfStream, IsKept}
+use Rattle.wire.specs.Stream.{Front, Waits, Begins, Breaks, front, keeps, IsBegun, Reader, holding}
+use Rattle.wire.specs.Stream.{Feeds, IsKept}
 use Rattle.store.specs.declared.home.Home.{Home}
 use Rattle.serving.specs.Making.{Way}
 use Rattle.serving.specs.declared.ends.End.{End}
 use Rattle.serving.specs.declared.ends.End.TheVariants as end
-use Rattle.serving.specs.Connection.{Begun, frames_of, AreBegun, Sides, Serves, IsOpen, EndsAt, IsConnection}
+use Rattle.serving.specs.Connection.{Begun, frames_of, AreBegun, Sides, Serves, IsOpen, EndsAt}
+use Rattle.serving.specs.Connection.{IsConnection}
 use Rattle.serving.specs.model.Pieces.{EndsInFrames, EndsBatch, IsBatch, EndsPiece, IsPiece}
-use Rattle.serving.proofs.Connecting.{bytes_then, serves_none, serves_then, ends_then, frames_of_both}
+use Rattle.serving.proofs.Connecting.{bytes_then, serves_none, serves_then, ends_then}
+use Rattle.serving.proofs.Connecting.{frames_of_both}
 
 -- what a reader that gave frames keeps
-keeps_fault : (at : Front) (rest : List ℕ) (reader : Reader) (e : WireFault) → (IsBegun at → ⊥)
+pub keeps_fault : (at : Front) (rest : List ℕ) (reader : Reader) (e : WireFault) → (IsBegun at → ⊥)
     → reader ≡ keeps at rest → reader.fault ≡ Some e → at ≡ Breaks e
 keeps_fault Waits rest reader e other is h =
     let k : Some e ≡ None = sym h ∙ ap (λ (z : Reader). z.fault) is in absurd cc
@@ -30,7 +33,7 @@ keeps_fault (Breaks d) rest reader e other is h =
     some_of : {d e : WireFault} → Some d ≡ Some e → d ≡ e
     some_of h = cc
 
-keeps_none : (at : Front) (rest : List ℕ) (reader : Reader) → (IsBegun at → ⊥)
+pub keeps_none : (at : Front) (rest : List ℕ) (reader : Reader) → (IsBegun at → ⊥)
     → reader ≡ keeps at rest → reader.fault ≡ None → (reader ≡ holding rest) × (at ≡ Waits)
 keeps_none Waits rest reader other is h = (is, refl)
 keeps_none (Begins f more) rest reader other is h = absurd (other tt)
@@ -54,7 +57,8 @@ begins_batch stream given left begun reader r parts = record {
   each = all_front (frames_of begun) left (subst (λ z. AllByRecursion IsFrame z) parts r.each);
 }
 
-ends_piece : {V : Type 0} {way : Way V} (e : End) (home : Home) (a b : Sides way) (begun : List Begun) (rest : List ℕ) (count : ℕ)
+ends_piece : {V : Type 0} {way : Way V} (e : End) (home : Home) (a b : Sides way)
+    (begun : List Begun) (rest : List ℕ) (count : ℕ)
     (new : Reader)
     → EndsInFrames e home a b begun count → EndsPiece (Some e) home a b begun rest count new
 ends_piece end.Stopped home a b begun rest count new h = h
@@ -68,7 +72,8 @@ ends_piece (end.Fault e) home a b begun rest count new h = absurd h
 ends_piece end.Read home a b begun rest count new h = absurd h
 
 -- a frame of the piece ended the connection
-pub piece_ends : {V : Type 0} {way : Way V} (how : Option End) (e : End) (home : Home) (a b : Sides way) (stream : List ℕ)
+pub piece_ends : {V : Type 0} {way : Way V} (how : Option End) (e : End) (home : Home)
+    (a b : Sides way) (stream : List ℕ)
     (given left : List Frame) (begun : List Begun) (before count : ℕ) (reader : Reader)
     → how ≡ Some e → Feeds stream given reader → IsBatch how home a b given begun left before count
     → (begun : List Begun) × (rest : List ℕ)
@@ -87,7 +92,8 @@ piece_ends how e home a b stream given left begun before count reader is r h = (
 )
 
 -- all frames of the piece were served, and a fault stands behind them
-pub piece_breaks : {V : Type 0} {way : Way V} (how : Option End) (e : WireFault) (fault : Option WireFault) (home : Home)
+pub piece_breaks : {V : Type 0} {way : Way V} (how : Option End) (e : WireFault)
+    (fault : Option WireFault) (home : Home)
     (a b : Sides way) (stream : List ℕ) (given left : List Frame) (begun : List Begun)
     (before count : ℕ) (reader : Reader)
     → how ≡ None → fault ≡ Some e → fault ≡ reader.fault → IsKept fault → Feeds stream given reader
@@ -116,7 +122,8 @@ piece_breaks how e fault home a b stream given left begun before count reader is
     )
 
 -- all frames of the piece were served, and what is left waits for more
-pub piece_waits : {V : Type 0} {way : Way V} (how : Option End) (fault : Option WireFault) (home : Home) (a b : Sides way)
+pub piece_waits : {V : Type 0} {way : Way V} (how : Option End) (fault : Option WireFault)
+    (home : Home) (a b : Sides way)
     (stream : List ℕ) (given left : List Frame) (begun : List Begun) (before count : ℕ)
     (reader : Reader)
     → how ≡ None → fault ≡ None → fault ≡ reader.fault → Feeds stream given reader
@@ -139,65 +146,14 @@ piece_waits how fault home a b stream given left begun before count reader is no
       },
     )
 
-nothing_begun : (stream : List ℕ) → AreBegun stream [] stream
+pub nothing_begun : (stream : List ℕ) → AreBegun stream [] stream
 nothing_begun stream = record { whole = refl; each = tt }
-
--- memory was refused before a frame was begun
-pub piece_starves : {V : Type 0} {way : Way V} (home : Home) (a : Sides way) (stream : List ℕ) (count : ℕ) (reader : Reader)
-    → count < 64
-    → (begun : List Begun) × (rest : List ℕ)
-    × IsPiece (Some end.NoMemory) home a a stream begun rest count count reader
-piece_starves home a stream count reader few = (
-  [],
-  stream,
-  record {
-    begins = nothing_begun stream;
-    counted = omega arith;
-    few = omega (arith, few);
-    ends = inl (serves_none home a, few);
-  },
-)
-
-refuses_front : (e : WireFault) (piece : List ℕ) (old new : Reader) → old.fault ≡ None
-    → RefusesFault e piece old new → front (old.held ++ piece) ≡ Breaks e
-refuses_front e piece old new none (inl h) = let k : None ≡ Some e = sym none ∙ h.0 in absurd cc
-refuses_front e piece old new none (inr h) = h.1
-
-refused_front : (e : WireFault) (piece : List ℕ) (old new : Reader) → (e ≡ wire.NoMemory → ⊥)
-    → old.fault ≡ None → Refuses e piece old new
-    → (front (old.held ++ piece) ≡ Breaks e) × IsOfStream e
-refused_front wire.BadLength piece old new other none h =
-    (refuses_front wire.BadLength piece old new none h, tt)
-refused_front wire.BadVersion piece old new other none h =
-    (refuses_front wire.BadVersion piece old new none h, tt)
-refused_front wire.BadKind piece old new other none h =
-    (refuses_front wire.BadKind piece old new none h, tt)
-refused_front wire.BadBody piece old new other none h =
-    (refuses_front wire.BadBody piece old new none h, tt)
-refused_front wire.NoMemory piece old new other none h = absurd (other refl)
-
--- a fault stands at the front
-pub piece_refused : {V : Type 0} {way : Way V} (e : WireFault) (home : Home) (a : Sides way) (piece : List ℕ) (old new : Reader)
-    (count : ℕ)
-    → count < 64 → (e ≡ wire.NoMemory → ⊥) → old.fault ≡ None → Refuses e piece old new
-    → (begun : List Begun) × (rest : List ℕ)
-    × IsPiece (Some (end.Fault e)) home a a (old.held ++ piece) begun rest count count new
-piece_refused e home a piece old new count few other none h =
-    let found = refused_front e piece old new other none h in (
-      [],
-      old.held ++ piece,
-      record {
-        begins = nothing_begun (old.held ++ piece);
-        counted = omega arith;
-        few = omega (arith, few);
-        ends = (serves_none home a, few, found.0, found.1);
-      },
-    )
 
 -- ---- the connection
 
 -- all frames of the bytes read so far are served, and the reader holds the rest
-pub record SoFar {V : Type 0} {way : Way V} (home : Home) (a b : Sides way) (bytes : List ℕ) (begun : List Begun) (rest : List ℕ)
+pub record SoFar {V : Type 0} {way : Way V} (home : Home) (a b : Sides way) (bytes : List ℕ)
+    (begun : List Begun) (rest : List ℕ)
     (read left : Option (List ℕ)) (count : ℕ) (reader : Reader) : Type 0 where
   pub consumed : Consumes read left bytes
   pub begins : AreBegun bytes begun rest
@@ -207,11 +163,12 @@ pub record SoFar {V : Type 0} {way : Way V} (home : Home) (a b : Sides way) (byt
   pub holds : reader ≡ holding rest
   pub waits : front rest ≡ Waits
 
-front_none : front [] ≡ Waits
+pub front_none : front [] ≡ Waits
 unfolding front
 front_none = refl
 
-pub nothing_yet : {V : Type 0} {way : Way V} (home : Home) (a : Sides way) (read : Option (List ℕ)) (reader : Reader)
+pub nothing_yet : {V : Type 0} {way : Way V} (home : Home) (a : Sides way) (read : Option (List ℕ))
+    (reader : Reader)
     → reader ≡ holding [] → SoFar home a a [] [] [] read read 0 reader
 nothing_yet home a read reader h = record {
   consumed = Consumes-nil read;
@@ -223,7 +180,7 @@ nothing_yet home a read reader h = record {
   waits = front_none;
 }
 
-all_both : (xs ys : List Frame) → AllByRecursion IsFrame xs → AllByRecursion IsFrame ys
+pub all_both : (xs ys : List Frame) → AllByRecursion IsFrame xs → AllByRecursion IsFrame ys
     → AllByRecursion IsFrame (xs ++ ys)
 all_both [] ys h k = k
 all_both (x ∷ xs) ys h k = (h.0, all_both xs ys h.1 k)
@@ -255,7 +212,8 @@ fed_rest : (reader : Reader) (rest piece stream : List ℕ) → reader ≡ holdi
 fed_rest reader rest piece stream h is = is ∙ ap (λ (z : Reader). z.held ++ piece) h
 
 -- a piece more is served
-pub so_far_more : {V : Type 0} {way : Way V} (home : Home) (a m b : Sides way) (bytes piece rest last : List ℕ)
+pub so_far_more : {V : Type 0} {way : Way V} (home : Home) (a m b : Sides way)
+    (bytes piece rest last : List ℕ)
     (bs cs : List Begun) (read left later : Option (List ℕ)) (before count : ℕ) (old new : Reader)
     → SoFar home a m bytes bs rest read left before old → Consumes left later piece
     → IsPiece None home m b (old.held ++ piece) cs last before count new
@@ -274,7 +232,8 @@ so_far_more home a m b bytes piece rest last bs cs read left later before count 
     }
 
 -- a read that failed changes nothing
-pub so_far_kept : {V : Type 0} {way : Way V} (home : Home) (a b : Sides way) (bytes rest : List ℕ) (bs : List Begun)
+pub so_far_kept : {V : Type 0} {way : Way V} (home : Home) (a b : Sides way) (bytes rest : List ℕ)
+    (bs : List Begun)
     (read left later : Option (List ℕ)) (count : ℕ) (reader : Reader)
     → SoFar home a b bytes bs rest read left count reader → Keeps left later
     → SoFar home a b bytes bs rest read later count reader
@@ -289,7 +248,8 @@ so_far_kept home a b bytes rest bs read left later count reader h k = record {
 }
 
 -- so does one of no bytes
-pub so_far_still : {V : Type 0} {way : Way V} (home : Home) (a b : Sides way) (bytes rest none : List ℕ) (bs : List Begun)
+pub so_far_still : {V : Type 0} {way : Way V} (home : Home) (a b : Sides way)
+    (bytes rest none : List ℕ) (bs : List Begun)
     (read left later : Option (List ℕ)) (count : ℕ) (reader : Reader)
     → none ≡ []
     → SoFar home a b bytes bs rest read left count reader → Consumes left later none
@@ -310,14 +270,16 @@ few_of : (begun : List Begun) (count : ℕ) → count ≡ length begun → count
 few_of begun count h few = omega (arith, h, few)
 
 -- with all frames served the connection is open
-pub is_open : {V : Type 0} {way : Way V} (home : Home) (a b : Sides way) (bytes rest : List ℕ) (bs : List Begun)
+pub is_open : {V : Type 0} {way : Way V} (home : Home) (a b : Sides way) (bytes rest : List ℕ)
+    (bs : List Begun)
     (read left : Option (List ℕ)) (count : ℕ) (reader : Reader)
     → SoFar home a b bytes bs rest read left count reader → IsOpen home a b bs
 is_open home a b bytes rest bs read left count reader h =
     record { serves = h.serves; few = few_of bs count h.counted h.few }
 
 -- a connection that ends where all frames read are served
-pub stops_so_far : {V : Type 0} {way : Way V} (e : End) (home : Home) (a b : Sides way) (bytes rest : List ℕ) (bs : List Begun)
+pub stops_so_far : {V : Type 0} {way : Way V} (e : End) (home : Home) (a b : Sides way)
+    (bytes rest : List ℕ) (bs : List Begun)
     (read left : Option (List ℕ)) (count reads : ℕ) (reader : Reader)
     → SoFar home a b bytes bs rest read left count reader → reads ≤ 19200256
     → EndsAt e home a b bs rest left reads
@@ -338,7 +300,8 @@ stops_so_far e home a b bytes rest bs read left count reads reader h bounded end
 )
 
 -- the end of a piece is one of the connection
-ends_at : {V : Type 0} {way : Way V} (e : End) (home : Home) (a m b : Sides way) (bs cs : List Begun) (rest : List ℕ)
+ends_at : {V : Type 0} {way : Way V} (e : End) (home : Home) (a m b : Sides way)
+    (bs cs : List Begun) (rest : List ℕ)
     (left : Option (List ℕ)) (count reads : ℕ) (new : Reader)
     → Serves home a m bs → count ≡ length (bs ++ cs) → EndsPiece (Some e) home m b cs rest count new
     → EndsAt e home a b (bs ++ cs) rest left reads
@@ -375,7 +338,8 @@ few_then : (bs cs : List Begun) (before count : ℕ) → before ≡ length bs �
 few_then bs cs before count h k few = omega (arith, h, k, few, length-append bs cs)
 
 -- a connection that a piece ends
-pub stops_at_piece : {V : Type 0} {way : Way V} (e : End) (how : Option End) (home : Home) (a m b : Sides way)
+pub stops_at_piece : {V : Type 0} {way : Way V} (e : End) (how : Option End) (home : Home)
+    (a m b : Sides way)
     (bytes piece rest last : List ℕ) (bs cs : List Begun) (read left later : Option (List ℕ))
     (before count reads : ℕ) (old new : Reader)
     → how ≡ Some e → SoFar home a m bytes bs rest read left before old → Consumes left later piece

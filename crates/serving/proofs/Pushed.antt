@@ -1,5 +1,6 @@
 -- One more message is pushed.
-use Rattle.std.proofs.Common.{◌≡◌, refl, sym, ap, subst, ◌∙◌, ℕ, ◌==◌, true, false, List, [], ◌∷◌, ◌++◌, Option}
+use Rattle.std.proofs.Common.{◌≡◌, refl, sym, ap, subst, ◌∙◌, ℕ, ◌==◌, true, false, List, [], ◌∷◌}
+use Rattle.std.proofs.Common.{◌++◌, Option}
 use Rattle.std.proofs.lemmas.List.{append_assoc}
 use Rattle.acceptor.specs.declared.message.Message.{Message}
 use Rattle.wire.specs.declared.values.Version.{Version}
@@ -27,7 +28,8 @@ pushed_so v hall m f bytes slice a b is spelled same h =
     subst (λ (z : List ℕ). Hands a b (record { to = m.to; bytes = z } ∷ []))
     (same ∙ spelled ∙ ap (λ (z : Frame). spelling z) is) h
 
-one_more : (v : Version) (hall d : ℕ) (all rest front : List Message) (m : Message) (a b c : Option (List Push))
+one_more : (v : Version) (hall d : ℕ) (all rest front : List Message) (m : Message)
+    (a b c : Option (List Push))
     → (m.to == d) ≡ false
     → PushesUntil v hall d all (m ∷ rest) front a b → Hands b c (pushed v hall m ∷ [])
     → PushesUntil v hall d all rest (front ++ m ∷ []) a c
@@ -45,7 +47,8 @@ pub pushes_more : (v : Version) (hall d : ℕ) (all left rest front : List Messa
     → PushesUntil v hall d all left front a b → Hands b c (pushed v hall m ∷ [])
     → PushesUntil v hall d all rest (front ++ m ∷ []) a c
 pushes_more v hall d all left rest front m a b c is e h k =
-    one_more v hall d all rest front m a b c e (subst (λ z. PushesUntil v hall d all z front a b) is h)
+    one_more v hall d all rest front m a b c e
+    (subst (λ z. PushesUntil v hall d all z front a b) is h)
     k
 
 others_of : (d : ℕ) (m : Message) (rest : List Message) → (m.to == d) ≡ false
@@ -56,7 +59,8 @@ others_skip : (d : ℕ) (m : Message) (rest : List Message) → (m.to == d) ≡ 
     → to_others d (m ∷ rest) ≡ to_others d rest
 others_skip d m rest e = rw e refl
 
-one_other : (v : Version) (hall d : ℕ) (all rest front : List Message) (m : Message) (a b c : Option (List Push))
+one_other : (v : Version) (hall d : ℕ) (all rest front : List Message) (m : Message)
+    (a b c : Option (List Push))
     → (m.to == d) ≡ false
     → PushesOthers v hall d all (m ∷ rest) front a b → Hands b c (pushed v hall m ∷ [])
     → PushesOthers v hall d all rest (front ++ m ∷ []) a c
@@ -76,7 +80,8 @@ others_more v hall d all left rest front m a b c is e h k =
     one_other v hall d all rest front m a b c e
     (subst (λ z. PushesOthers v hall d all z front a b) is h) k
 
-one_own : (v : Version) (hall d : ℕ) (all rest front : List Message) (m : Message) (a b : Option (List Push))
+one_own : (v : Version) (hall d : ℕ) (all rest front : List Message) (m : Message)
+    (a b : Option (List Push))
     → (m.to == d) ≡ true
     → PushesOthers v hall d all (m ∷ rest) front a b → PushesOthers v hall d all rest front a b
 one_own v hall d all rest front m a b e h = record {
@@ -89,4 +94,5 @@ pub others_same : (v : Version) (hall d : ℕ) (all left rest front : List Messa
     → left ≡ m ∷ rest → (m.to == d) ≡ true
     → PushesOthers v hall d all left front a b → PushesOthers v hall d all rest front a b
 others_same v hall d all left rest front m a b is e h =
-    one_own v hall d all rest front m a b e (subst (λ z. PushesOthers v hall d all z front a b) is h)
+    one_own v hall d all rest front m a b e
+    (subst (λ z. PushesOthers v hall d all z front a b) is h)

@@ -1,19 +1,21 @@
 -- One step after the other.
-use Rattle.std.proofs.Common.{◌≡◌, refl, sym, ap, subst, ◌∙◌, ℕ, zero, suc, List, [], ◌∷◌, ◌++◌, map, Option, None, Some, Result, Ok, Err, OnOk}
+use Rattle.std.proofs.Common.{◌≡◌, refl, sym, ap, subst, ◌∙◌, ℕ, zero, suc, List, [], ◌∷◌, ◌++◌}
+use Rattle.std.proofs.Common.{map, Option, None, Some, Result, Ok, Err, OnOk}
 use Rattle.std.proofs.lemmas.List.{append-nil, append_assoc}
 use Rattle.acceptor.specs.declared.message.Message.{Message}
-use Rattle.learner.specs.declared.event.Event.{Event}
-use Rattle.learner.specs.declared.event.Event.TheVariants.{Deliver}
+use Rattle.learner.specs.declared.event.DeskEvent.{DeskEvent}
+use Rattle.learner.specs.declared.event.DeskEvent.TheVariants.{Deliver}
 use Rattle.serving.specs.Adding.{Push}
 use Rattle.serving.specs.Making.{Way, Outside, outside_of, Makes}
 use Rattle.serving.specs.model.Calling.{Calls, IsCall}
-use Rattle.serving.specs.declared.calling.Answer.{Answer}
+use Rattle.serving.specs.declared.calls.Answer.{Answer}
 use Rattle.store.specs.declared.home.Home.{Home}
 use Rattle.answers.specs.Seen.{Seen}
 use Rattle.serving.specs.Nodes.{Fate}
 use Rattle.serving.specs.model.Pushing.{Leads}
 use Rattle.serving.specs.model.Reaching.{Place, at, service, Reaches, did_call, Did, Does, DoesCall}
-use Rattle.serving.specs.Serving.{Act, Called, Pushed, Service, pushed, pushes_of, seen_after, call, settle_by, deliver, push_all, in_front, from_own, to_others}
+use Rattle.serving.specs.Serving.{Act, Called, Pushed, Service, pushed, pushes_of, seen_after, call}
+use Rattle.serving.specs.Serving.{settle_by, deliver, push_all, in_front, from_own, to_others}
 use Rattle.serving.proofs.Makings.{Makes-trans, Makes-call}
 
 pub stays : (home : Home) (f : Service → Service) (p : Place) → Reaches home f p f p [] []
@@ -64,7 +66,8 @@ does_both home f g first second third a b c d e = (
 )
 
 -- a call
-pub calls_once : (home : Home) (g : Service → Service) (event : Event) (fate : Fate) (x y : Seen)
+pub calls_once : (home : Home) (g : Service → Service) (event : DeskEvent) (fate : Fate)
+    (x y : Seen)
     (ms more : List Message) (left : ℕ) (answer : Answer)
     → Calls home event fate x y ms more answer
     → Reaches home (λ s. g (call home event s)) (at x ms left) g (at y more left)
@@ -186,7 +189,7 @@ pub on_ok : {T E : Type 0} {A B C : Type 0} (r : Result T E) → (A → B → C)
 on_ok (Ok x) f a b = f a b
 on_ok (Err e) f a b = tt
 
-does_call_at : {V : Type 0} {way : Way V} (home : Home) (x y z : Seen) (event : Event)
+does_call_at : {V : Type 0} {way : Way V} (home : Home) (x y z : Seen) (event : DeskEvent)
     (more : List Message) (left last : ℕ) (answer : Answer) (a m b : Outside way) (fate : Fate)
     (acts : List Act) (past : List Fate)
     → Calls home event fate x y [] more answer
@@ -202,7 +205,7 @@ does_call_at home x y z event more left last answer a m b fate acts past c made 
 }
 
 -- a call, and then all that comes of it
-pub does_call : {V : Type 0} (way : Way V) (home h : Home) (x y z : Seen) (event : Event)
+pub does_call : {V : Type 0} (way : Way V) (home h : Home) (x y z : Seen) (event : DeskEvent)
     (ms more rest : List Message) (left last : ℕ) (answer : Answer) (u v : V)
     (p : Option (List Push)) (b : Outside way)
     → h ≡ home → ms ≡ [] → rest ≡ []

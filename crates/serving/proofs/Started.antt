@@ -1,14 +1,16 @@
 -- Start where the log grew.
-use Rattle.std.proofs.Common.{◌≡◌, refl, sym, ap, subst, ◌∙◌, ℕ, Bool, true, false, cond, List, [], ◌++◌, length}
+use Rattle.std.proofs.Common.{◌≡◌, refl, sym, ap, subst, ◌∙◌, ℕ, Bool, true, false, cond, List, []}
+use Rattle.std.proofs.Common.{◌++◌, length}
 use Rattle.std.proofs.lemmas.List.{append-nil}
-use Rattle.learner.specs.declared.event.Event.{Event}
-use Rattle.learner.specs.declared.event.Event.TheVariants.{Start}
+use Rattle.learner.specs.declared.event.DeskEvent.{DeskEvent}
+use Rattle.learner.specs.declared.event.DeskEvent.TheVariants.{Start}
 use Rattle.serving.specs.Making.{Way, Outside}
-use Rattle.serving.specs.declared.calling.Answer.{Answer}
+use Rattle.serving.specs.declared.calls.Answer.{Answer}
 use Rattle.store.specs.declared.home.Home.{Home}
 use Rattle.answers.specs.Seen.{Seen}
 use Rattle.serving.specs.Nodes.{Fate}
-use Rattle.serving.specs.model.Reaching.{Place, at, service, Reaches, OnlyAdds, Did, Does, DoesPart, DoesCall, DoesTake}
+use Rattle.serving.specs.model.Reaching.{Place, at, service, Reaches, OnlyAdds, Did, Does, DoesPart}
+use Rattle.serving.specs.model.Reaching.{DoesCall, DoesTake}
 use Rattle.serving.specs.Serving.{Act, Service, call, settle_by, settle, grew, start_if_grown, take}
 use Rattle.serving.proofs.Additions.{adds_both, adds_call, adds_settle}
 use Rattle.serving.proofs.Makings.{Makes-nil}
@@ -186,10 +188,10 @@ then_part home f before x shown second xs past a b c is d e =
 
 -- ---- behind an event and all that comes of it
 
-abbrev pub settled_call : Home → Event → Service → Service
+abbrev pub settled_call : Home → DeskEvent → Service → Service
 settled_call home event s = settle_by home 16 (call home event s)
 
-take_so : (home : Home) (event : Event) (x : Seen) (rest : Service → Service) (second : Place)
+take_so : (home : Home) (event : DeskEvent) (x : Seen) (rest : Service → Service) (second : Place)
     (acts : List Act) (past : List Fate)
     → Reaches home (then_start home (settled_call home event)) (at x [] 16) rest second acts past
     → Reaches home (take home event) (at x [] 16) rest second acts past
@@ -199,7 +201,7 @@ take_so home event x rest second acts past r = record {
   calls = r.calls;
 }
 
-take_part_so : {V : Type 0} {way : Way V} (home : Home) (event : Event) (x shown : Seen)
+take_part_so : {V : Type 0} {way : Way V} (home : Home) (event : DeskEvent) (x shown : Seen)
     (a b : Outside way)
     → DoesPart home (then_start home (settled_call home event)) (at x [] 16) shown a b
     → DoesPart home (take home event) (at x [] 16) shown a b
@@ -217,7 +219,7 @@ take_part_so home event x shown a b d = (
 )
 
 -- memory was refused in the event
-pub take_not : {V : Type 0} {way : Way V} (home : Home) (event : Event) (x shown : Seen)
+pub take_not : {V : Type 0} {way : Way V} (home : Home) (event : DeskEvent) (x shown : Seen)
     (a b : Outside way)
     → DoesPart home (settled_call home event) (at x [] 16) shown a b
     → DoesPart home (take home event) (at x [] 16) shown a b
@@ -225,7 +227,7 @@ take_not home event x shown a b d =
     take_part_so home event x shown a b (then_not home (settled_call home event) x shown a b d)
 
 -- memory was refused in Start
-pub take_part : {V : Type 0} {way : Way V} (home : Home) (event : Event) (answer : Answer)
+pub take_part : {V : Type 0} {way : Way V} (home : Home) (event : DeskEvent) (answer : Answer)
     (before : ℕ) (x y shown : Seen) (left : ℕ) (xs : List Act) (past : List Fate)
     (a b c : Outside way)
     → before ≡ length x.desk.log → DoesCall home 16 left event answer x y xs past a b
@@ -237,7 +239,7 @@ take_part home event answer before x y shown left xs past a b c is h d =
     d)
 
 -- both were done
-pub takes : {V : Type 0} {way : Way V} (home : Home) (event : Event) (answer : Answer)
+pub takes : {V : Type 0} {way : Way V} (home : Home) (event : DeskEvent) (answer : Answer)
     (before : ℕ) (x y z : Seen) (left last : ℕ) (xs : List Act) (past : List Fate)
     (a b c : Outside way)
     → before ≡ length x.desk.log → DoesCall home 16 left event answer x y xs past a b

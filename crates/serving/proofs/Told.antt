@@ -1,5 +1,7 @@
 -- A run of entries: what is gathered, the frame that it is, and what comes of it.
-use Rattle.std.proofs.Common.{◌≡◌, refl, sym, ap, subst, ◌∙◌, ℕ, zero, suc, ◌+◌, ◌≤◌, ◌<◌, ◌^◌, Bool, true, false, cond, eqb, ltb, List, [], ◌∷◌, ◌++◌, length, take, Option, None, Some, append_assoc, arith}
+use Rattle.std.proofs.Common.{◌≡◌, refl, sym, ap, subst, ◌∙◌, ℕ, zero, suc, ◌+◌, ◌≤◌, ◌<◌, ◌^◌}
+use Rattle.std.proofs.Common.{Bool, true, false, cond, eqb, ltb, List, [], ◌∷◌, ◌++◌, length, take}
+use Rattle.std.proofs.Common.{Option, None, Some, append_assoc, arith}
 use Rattle.std.specs.List.{AllByRecursion}
 use Rattle.std.proofs.lemmas.Bool.{eqb-true, ltb-true}
 use Rattle.std.proofs.lemmas.List.{append-nil}
@@ -9,8 +11,8 @@ use Rattle.acceptor.specs.declared.message.Body.TheVariants as body
 use Rattle.acceptor.specs.declared.message.Message.{Message}
 use Rattle.learner.specs.Ranges.{AreInRange, IsInRange}
 use Rattle.learner.specs.Steps.{is_in_range}
-use Rattle.learner.specs.declared.event.Event.{Event}
-use Rattle.learner.specs.declared.event.Event.TheVariants.{Deliver}
+use Rattle.learner.specs.declared.event.DeskEvent.{DeskEvent}
+use Rattle.learner.specs.declared.event.DeskEvent.TheVariants.{Deliver}
 use Rattle.store.specs.declared.home.Home.{Home}
 use Rattle.wire.specs.declared.frame.Frame.{Frame}
 use Rattle.wire.specs.declared.values.Version.{Version}
@@ -21,14 +23,17 @@ use Rattle.serving.specs.Adding.{Push, Hands}
 use Rattle.serving.specs.Making.{Way, Outside, outside_of, Makes}
 use Rattle.answers.specs.Seen.{Seen}
 use Rattle.serving.specs.Nodes.{Fate}
-use Rattle.serving.specs.Serving.{Act, Answered, Service, call, settle_by, settle, hand_out, answer_out, tell}
-use Rattle.serving.specs.Telling.{with_entry, decided_at, entry_told, entries_told, entries_said, run_of, run_frame, run_pushed}
-use Rattle.serving.specs.declared.calling.Answer.{Answer}
+use Rattle.serving.specs.Serving.{Act, Answered, Service, call, settle_by, settle, hand_out}
+use Rattle.serving.specs.Serving.{answer_out, tell}
+use Rattle.serving.specs.Telling.{with_entry, decided_at, entry_told, entries_told, entries_said}
+use Rattle.serving.specs.Telling.{run_of, run_frame, run_pushed}
+use Rattle.serving.specs.declared.calls.Answer.{Answer}
 use Rattle.serving.specs.declared.request.Run.{Run}
 use Rattle.serving.specs.declared.request.Request.TheVariants.{Lagging}
 use Rattle.serving.specs.model.Calling.{Calls, IsCall, LosesMessages}
 use Rattle.serving.specs.model.Gathering.{Gathers, IsRun}
-use Rattle.serving.specs.model.Reaching.{Place, at, service, Reaches, did_call, OnlyAdds, Did, Does, DoesPart}
+use Rattle.serving.specs.model.Reaching.{Place, at, service, Reaches, did_call, OnlyAdds, Did, Does}
+use Rattle.serving.specs.model.Reaching.{DoesPart}
 use Rattle.serving.proofs.Additions.{adds_settle}
 use Rattle.serving.proofs.Makings.{Makes-nil, Makes-trans, Makes-call}
 use Rattle.serving.proofs.Parts.{part_of, lost}
@@ -177,7 +182,8 @@ run_is_frame v hall n run small few h each = record {
 pub run_so : (v : Version) (hall : ℕ) (run : Run) (f : Frame) (bytes slice : List ℕ)
     (a b : Option (List Push))
     → f ≡ run_frame v hall run → bytes ≡ spelling f → slice ≡ bytes
-    → Hands a b (record { to = run.to; bytes = slice } ∷ []) → Hands a b (run_pushed v hall run ∷ [])
+    → Hands a b (record { to = run.to; bytes = slice } ∷ []) → Hands a b
+    (run_pushed v hall run ∷ [])
 run_so v hall run f bytes slice a b is spelled same h =
     subst (λ (z : List ℕ). Hands a b (record { to = run.to; bytes = z } ∷ []))
     (same ∙ spelled ∙ ap (λ (z : Frame). spelling z) is) h

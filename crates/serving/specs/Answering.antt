@@ -6,24 +6,24 @@ use Rattle.formats.specs.declared.events.Event.{Event}
 use Rattle.answers.specs.Answers.{told, sheet_at}
 use Rattle.answers.specs.declared.answers.Told.{Told}
 use Rattle.answers.specs.declared.answers.Told.TheVariants as tells
-use Rattle.roles.specs.declared.faults.NodeFault.{NodeFault}
-use Rattle.roles.specs.declared.faults.NodeFault.TheVariants as fault
+use Rattle.roles.specs.declared.fault.NodeFault.{NodeFault}
+use Rattle.roles.specs.declared.fault.NodeFault.TheVariants as fault
 use Rattle.sheets.specs.declared.Style.{Style as SheetStyle}
 use Rattle.sheets.specs.declared.Style.TheVariants as layout
 use Rattle.wire.specs.Ranges.{IsBody, ToClient, way_of}
 use Rattle.wire.specs.declared.values.ClientRefusal.{ClientRefusal as Refusal}
 use Rattle.wire.specs.declared.values.ClientRefusal.TheVariants as refusal
 use Rattle.wire.specs.declared.values.Version.{Version}
-use Rattle.wire.specs.declared.values.Standing.{Standing}
-use Rattle.wire.specs.declared.values.Standing.TheVariants.{Unknown, Pending, Done}
+use Rattle.wire.specs.declared.values.CommandState.{CommandState}
+use Rattle.wire.specs.declared.values.CommandState.TheVariants.{Unknown, Pending, Done}
 use Rattle.wire.specs.declared.values.SheetStyle.{SheetStyle as Style}
 use Rattle.wire.specs.declared.values.SheetStyle.TheVariants as asked
 use Rattle.wire.specs.declared.frame.What.{What}
 use Rattle.wire.specs.declared.frame.What.TheVariants as what
 use Rattle.answers.specs.Seen.{Seen}
 use Rattle.serving.specs.Nodes.{Fate, Goes, Starves, Breaks}
-use Rattle.serving.specs.declared.calling.Answer.{Answer}
-use Rattle.serving.specs.declared.calling.Answer.TheVariants.{Taken, Refused}
+use Rattle.serving.specs.declared.calls.Answer.{Answer}
+use Rattle.serving.specs.declared.calls.Answer.TheVariants.{Taken, Refused}
 
 -- how the node answered
 abbrev pub answer_of : Result (List Message) NodeFault → Answer
@@ -42,16 +42,16 @@ abbrev pub answer_first : What → Answer → Seen → What
 answer_first good Taken x = if x.is_down then what.Refused refusal.Down else good
 answer_first good (Refused why) x = what.Refused (refusal_of why)
 
-abbrev pub standing_of : Told → Standing
-standing_of (tells.Done pos answer) = Done pos answer
-standing_of tells.Pending = Pending
-standing_of tells.Unknown = Unknown
+abbrev pub state_of : Told → CommandState
+state_of (tells.Done pos answer) = Done pos answer
+state_of tells.Pending = Pending
+state_of tells.Unknown = Unknown
 
 -- what has become of an id at this desk
-abbrev pub standing : Seen → ℕ → Standing
-standing x id = standing_of (told x.desk.log x.desk.queue id)
+abbrev pub state : Seen → ℕ → CommandState
+state x id = state_of (told x.desk.log x.desk.queue id)
 
-abbrev pub told_what : ℕ → Fate → Standing → What
+abbrev pub told_what : ℕ → Fate → CommandState → What
 told_what id Goes s = what.Told id s
 told_what id Starves s = what.Refused refusal.NoMemory
 told_what id Breaks s = what.Refused refusal.NoMemory

@@ -103,7 +103,7 @@ AsksInRange Stopped = Unit {0}
 AsksInRange Strange = Unit {0}
 AsksInRange Ignored = Unit {0}
 
--- how a request ends the connection of itself: where the desk is down behind it, or at a Stop
+-- how a request ends the connection of itself: where the desk is down after it, or at a Stop
 abbrev pub ending : Request → Ending
 ending (Heard m) = ends.IfDown
 ending (Lagging m) = ends.IfDown

@@ -105,6 +105,14 @@ sides x written outside = record { seen = x; written = written; outside = outsid
 
 -- ---- one frame
 
+-- the frame was served whole
+pub record ServesOne {V : Type 0} {way : Way V} (home : Home) (a b : Sides way) (one : Begun)
+    (ends : Option Close) : Type 0 where
+  pub close : ends ≡ close_of home a.seen one
+  pub answered : Appends a.written b.written (answer_bytes (serve_frame home a.seen one).answers)
+  pub made : Makes home.hall a.outside b.outside (serve_frame home a.seen one).acts
+  pub node : b.seen ≡ (serve_frame home a.seen one).seen
+
 -- it has an answer, and all was done for it but that this was not written whole
 pub record BreaksOff {V : Type 0} {way : Way V} (home : Home) (a b : Sides way)
     (one : Begun) : Type 0 where
@@ -182,7 +190,7 @@ pub record IsOpen {V : Type 0} {way : Way V} (home : Home) (a b : Sides way)
 
 -- ---- the connection
 
--- The cause of each end. `rest` is what was read behind the frames begun, `left` is what the reader
+-- The cause of each end. `rest` is what was read after the frames begun, `left` is what the reader
 -- has left, and `reads` is how often it was read from.
 abbrev pub EndsAt : {V : Type 0} → {way : Way V} → End → Home → Sides way → Sides way → List Begun
     → List ℕ → Option (List ℕ) → ℕ → Type 0

@@ -6,4 +6,7 @@ pub mod Telling
 pub mod Serving
 pub mod Making
 pub mod Connection
+pub mod Sessions
+pub mod Turns
+pub mod TurnLaw
 pub mod model

@@ -1,17 +1,17 @@
 -- Calls of a node and pushes to other desks as they are made.
 use Rattle.std.specs.Prelude.{◌≡◌, ℕ, ◌==◌, if◌then◌else◌, List, [], ◌∷◌, Option, Result}
 use Rattle.acceptor.specs.declared.message.Message.{Message}
-use Rattle.learner.specs.declared.event.Event.{Event}
-use Rattle.roles.specs.declared.faults.NodeFault.{NodeFault}
+use Rattle.learner.specs.declared.event.DeskEvent.{DeskEvent}
+use Rattle.roles.specs.declared.fault.NodeFault.{NodeFault}
 use Rattle.wire.specs.declared.values.Version.{Version}
 use Rattle.wire.specs.declared.values.Version.TheVariants.{One, Two}
 use Rattle.serving.specs.Adding.{Push, Hands}
 use Rattle.serving.specs.Serving.{Act, Called, Pushed, Answered, pushes_of}
 
 -- what is said of a call of a node of a kind: the node before it, the event, the answer, and the
--- node behind it
+-- node after it
 abbrev pub Handling : Type 0 → Type 1
-Handling V = V → Event → Result (List Message) NodeFault → V → Type 0
+Handling V = V → DeskEvent → Result (List Message) NodeFault → V → Type 0
 
 -- how a node of a kind is served: what is said of its calls, and the version in which frames are
 -- pushed
@@ -28,7 +28,7 @@ spoken n = if n == 2 then Two else One
 
 -- a call of a node
 pub record Call : Type 0 where
-  pub event : Event
+  pub event : DeskEvent
   pub answer : Result (List Message) NodeFault
 
 -- the calls among what was done, in order

@@ -1,13 +1,13 @@
 -- What is seen of a desk while it serves, and what a call of it may come to.
 use Rattle.std.specs.Prelude.{Bool, true, if◌then◌else◌, List, Result, Ok, Err}
 use Rattle.acceptor.specs.declared.message.Message.{Message}
-use Rattle.proposer.specs.declared.faults.Refusal.{Refusal}
-use Rattle.learner.specs.declared.event.Event.{Event}
+use Rattle.proposer.specs.declared.fault.Refusal.{Refusal}
+use Rattle.learner.specs.declared.event.DeskEvent.{DeskEvent}
 use Rattle.answers.specs.Seen.{Seen}
 use Rattle.learner.specs.Steps.{Done, step}
 use Rattle.roles.specs.Faults.{refused_as}
-use Rattle.roles.specs.declared.faults.NodeFault.{NodeFault}
-use Rattle.roles.specs.declared.faults.NodeFault.TheVariants.{NoMemory, Down}
+use Rattle.roles.specs.declared.fault.NodeFault.{NodeFault}
+use Rattle.roles.specs.declared.fault.NodeFault.TheVariants.{NoMemory, Down}
 use Rattle.store.specs.declared.home.Home.{Home}
 
 -- what happens to a call: it is taken as the protocol has it, memory is refused, or the device
@@ -27,13 +27,13 @@ by_step x (Ok r) =
     record { result = Ok r.messages; seen = record { desk = r.desk; is_down = x.is_down } }
 by_step x (Err why) = record { result = Err (refused_as why); seen = x }
 
-abbrev pub by_fate : Home → Seen → Event → Fate → Reply
+abbrev pub by_fate : Home → Seen → DeskEvent → Fate → Reply
 by_fate home x event Goes = by_step x (step home.desks home.desk x.desk event)
 by_fate home x event Starves = record { result = Err NoMemory; seen = x }
 by_fate home x event Breaks =
     record { result = Err Down; seen = record { desk = x.desk; is_down = true } }
 
 -- a node that is down answers Down
-abbrev pub reply : Home → Seen → Event → Fate → Reply
+abbrev pub reply : Home → Seen → DeskEvent → Fate → Reply
 reply home x event fate =
     if x.is_down then record { result = Err Down; seen = x } else by_fate home x event fate

@@ -4,8 +4,8 @@ use Rattle.std.specs.Prelude.{[], ◌∷◌, ◌++◌, length, map, Option, None
 use Rattle.acceptor.specs.declared.message.Message.{Message}
 use Rattle.acceptor.specs.declared.message.Body.{Body}
 use Rattle.acceptor.specs.declared.message.Body.TheVariants as body
-use Rattle.learner.specs.declared.event.Event.{Event}
-use Rattle.learner.specs.declared.event.Event.TheVariants.{Submit, Start, Tick, Deliver}
+use Rattle.learner.specs.declared.event.DeskEvent.{DeskEvent}
+use Rattle.learner.specs.declared.event.DeskEvent.TheVariants.{Submit, Start, Tick, Deliver}
 use Rattle.wire.specs.declared.values.Version.{Version}
 use Rattle.wire.specs.declared.frame.Frame.{Frame}
 use Rattle.wire.specs.declared.values.ClientRefusal.TheVariants as refusal
@@ -14,12 +14,12 @@ use Rattle.wire.specs.declared.frame.What.{What}
 use Rattle.wire.specs.declared.frame.What.TheVariants as what
 use Rattle.wire.specs.Spelling.{spelling}
 use Rattle.store.specs.declared.home.Home.{Home}
-use Rattle.roles.specs.declared.faults.NodeFault.{NodeFault}
-use Rattle.roles.specs.declared.faults.NodeFault.TheVariants as fault
+use Rattle.roles.specs.declared.fault.NodeFault.{NodeFault}
+use Rattle.roles.specs.declared.fault.NodeFault.TheVariants as fault
 use Rattle.serving.specs.Adding.{Push}
 use Rattle.answers.specs.Seen.{Seen}
 use Rattle.serving.specs.Nodes.{Fate, Goes, Reply, reply}
-use Rattle.serving.specs.Answering.{answer_of, answer_first, standing, told_what, printed}
+use Rattle.serving.specs.Answering.{answer_of, answer_first, state, told_what, printed}
 use Rattle.serving.specs.Telling.{run_of, run_pushed}
 use Rattle.serving.specs.declared.request.Run.{Run}
 use Rattle.serving.specs.declared.request.Request.{Request}
@@ -48,9 +48,9 @@ pushed version hall m = record { to = m.to; bytes = spelling (framed version hal
 -- ---- one frame
 
 -- what is done while a frame is served: the node is called, with an event and its answer to it, a
--- message is pushed to another desk, or a desk that is behind is answered by a run of entries
+-- message is pushed to another desk, or a desk that lacks entries is answered by a run of entries
 pub data Act : Type 0 where
-  Called : Event → Result (List Message) NodeFault → Act
+  Called : DeskEvent → Result (List Message) NodeFault → Act
   Pushed : Message → Act
   Answered : Run → Act
 
@@ -72,7 +72,7 @@ abbrev pub later_fates : List Fate → List Fate
 later_fates [] = []
 later_fates (f ∷ fs) = fs
 
--- an answer's messages go behind those that wait; a refusal other than Down adds none, and at Down
+-- an answer's messages go after those that wait; a refusal other than Down adds none, and at Down
 -- those that wait are dropped
 abbrev pub waiting_after : List Message → Result (List Message) NodeFault → List Message
 waiting_after ms (Ok more) = ms ++ more
@@ -83,7 +83,7 @@ waiting_after ms (Err fault.BallotsSpent) = ms
 waiting_after ms (Err fault.NoMemory) = ms
 
 -- the node is called
-abbrev pub answered : Service → Event → Reply → Service
+abbrev pub answered : Service → DeskEvent → Reply → Service
 answered s event r =
     record {
       seen = r.seen;
@@ -93,13 +93,13 @@ answered s event r =
       fates = later_fates s.fates;
     }
 
-abbrev pub reply_to : Home → Event → Service → Reply
+abbrev pub reply_to : Home → DeskEvent → Service → Reply
 reply_to home event s = reply home s.seen event (first_fate s.fates)
 
-unfoldable pub call : Home → Event → Service → Service
+unfoldable pub call : Home → DeskEvent → Service → Service
 call home event s = answered s event (reply_to home event s)
 
--- the messages in front of the first one to desk d, and that one with those behind it
+-- the messages in front of the first one to desk d, and that one with those after it
 abbrev pub in_front : ℕ → List Message → List Message
 in_front d [] = []
 in_front d (m ∷ ms) = if m.to == d then [] else m ∷ in_front d ms
@@ -113,7 +113,7 @@ abbrev pub to_others : ℕ → List Message → List Message
 to_others d [] = []
 to_others d (m ∷ ms) = if m.to == d then to_others d ms else m ∷ to_others d ms
 
--- these are pushed, and these wait behind them
+-- these are pushed, and these wait after them
 abbrev pub push_all : List Message → List Message → Service → Service
 push_all ms waiting s =
     record {
@@ -136,7 +136,7 @@ deliver home next k [] s = s
 deliver home next k (m ∷ ms) s = next (call home (Deliver m) (waits ms k s))
 
 -- The messages that wait are taken in order: pushed, or delivered where they are to the desk
--- itself; what comes of these goes behind the rest. Where no more may be delivered, those to the
+-- itself; what comes of these goes after the rest. Where no more may be delivered, those to the
 -- desk itself are dropped.
 unfoldable pub settle_by : Home → ℕ → Service → Service
 settle_by home zero s = push_all (to_others home.desk s.waiting) [] s
@@ -177,12 +177,12 @@ unfoldable pub start_if_grown : Home → ℕ → Service → Service
 start_if_grown home before s = if grew before s.seen then settle home (call home Start s) else s
 
 -- an event, all that comes of it, and Start where the log grew
-unfoldable pub take : Home → Event → Service → Service
+unfoldable pub take : Home → DeskEvent → Service → Service
 take home event s =
     start_if_grown home (length s.seen.desk.log) (settle home (call home event s))
 
 -- a desk says what was decided at a position
-abbrev pub decided : ℕ → ℕ → ℕ → Entry → Event
+abbrev pub decided : ℕ → ℕ → ℕ → Entry → DeskEvent
 decided from to pos e =
     Deliver (record { from = from; to = to; body = body.Decided pos e })
 
@@ -205,8 +205,8 @@ learn_all home run s =
     start_if_grown home (length s.seen.desk.log)
     (settle_by home s.left (learn home run.from run.to run.pos run.entries s))
 
--- The answer to a desk that is behind: a run of entries goes out as one, and anything else as what
--- comes of other messages.
+-- The answer to a desk that lacks entries: a run of entries goes out as one, and anything else as
+-- what comes of other messages.
 abbrev pub hand_out : Home → Option Run → Service → Service
 hand_out home None s = settle home s
 hand_out home (Some run) s =
@@ -259,7 +259,7 @@ answer home x fates (Entered e) =
     Some (answer_first (what.Taken e.id)
     (answer_of (reply_to home (Submit e) (begun x fates)).result)
     (served home x fates (Entered e)).seen)
-answer home x fates (Asked id) = Some (told_what id (first_fate fates) (standing x id))
+answer home x fates (Asked id) = Some (told_what id (first_fate fates) (state x id))
 answer home x fates (Printed event round position style) =
     Some (printed x (first_fate fates) event round position style)
 answer home x fates Ticked =

@@ -1,4 +1,4 @@
--- The run of entries that a desk is told which is behind.
+-- The run of entries that a desk is told which lacks them.
 use Rattle.std.specs.Prelude.{ℕ, ◌+◌, ◌==◌, ◌||◌, nat_lt, if◌then◌else◌, List, [], ◌∷◌, length}
 use Rattle.std.specs.Prelude.{take, Option, None, Some}
 use Rattle.acceptor.specs.declared.entry.Entry.{Entry}
@@ -55,7 +55,7 @@ run_from m ms None = None
 run_from m ms (Some pos) = run_by m pos (entries_told m.to pos (m ∷ ms))
 
 -- Messages of desk d are a run where they are at most 16, to one other desk, and each says what was
--- decided at the position behind that of the one before.
+-- decided at the position after that of the one before.
 unfoldable pub run_of : ℕ → List Message → Option Run
 run_of d [] = None
 run_of d (m ∷ ms) =

@@ -8,3 +8,5 @@ pub mod Calling
 pub mod Reaching
 pub mod Requests
 pub mod Pieces
+pub mod Turning
+pub mod Sessions

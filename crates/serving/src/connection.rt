@@ -1,125 +1,244 @@
-//! A connection.
+//! A connection that is served by turns, and neither reads nor writes of itself.
 
-ghost use Rattle.std.specs.Prelude.{◌≡◌, ℕ, List, Option};
-ghost use Rattle.wire.specs.Laws.{IsVersion};
-ghost use Rattle.serving.specs.Making.{outside_of, speaking, spoken};
-ghost use Rattle.serving.specs.Connection.{Begun, IsConnection, sides};
+ghost use Rattle.std.specs.Prelude.{◌≡◌, ◌≢◌, ◌≤◌, ◌↔◌, [], length, IfOk, OnOk, OnErr, IsTrue};
+ghost use Rattle.lines.specs.Bytes.{AppendsPart};
+ghost use Rattle.std.specs.Io.KnownBytes.{Appends};
+ghost use Rattle.serving.specs.Turns.{Advances, IsFree, Receives, WantsRead, after_sent, moment};
+ghost use Rattle.serving.specs.Turns.{new_talk};
+ghost use Rattle.serving.specs.model.Turning.{end_after};
 
-use crate::ends::{End, Served};
+use crate::ends::{Close, End, Served};
 use crate::peers::Peers;
-use crate::piece::serve_piece;
-use crate::source::{Counted, MOST_READS, Source};
+use crate::session::Session;
+use acceptor::NoMemory;
 use answers::Desk;
+use lines::{WriteFailed, write_text};
 use std::alloc::Global;
-use std::io::{ErrorKind, Read, Write};
-use wire::{FrameReader, Version};
+use std::collections::VecDeque;
+use std::io::Write;
+use std::marker::Model;
+use wire::{Frame, FrameReader, Version, WireFault};
 
-/// Serves a connection over a reader that counts its reads, frame by frame, until one of its ends.
-pub fn serve_source<D: Desk, S: Source, W: Write, P: Peers>(
-    alloc: Global,
-    source: &mut S,
-    writer: &mut W,
-    node: &mut D,
-    peers: &mut P,
-    wire: Version,
-) -> Served
-    requires fresh { S.reads source.old ≡ 0 }
-    ensures served { (bytes : List ℕ) × (begun : List Begun) × (rest : List ℕ) × IsConnection result
-        (D.home_of node.old)
-        (sides (D.seen node.old) (W.contents writer.old)
-        (outside_of (speaking D.handles wire) node.old (P.handed peers.old)))
-        (sides (D.seen node.new)
-        (W.contents writer.new)
-        (outside_of (speaking D.handles wire) node.new (P.handed peers.new)))
-        bytes begun rest (S.remaining source.old) (S.remaining source.new) (S.reads source.new) }
-    ensures home { D.home_of node.new ≡ D.home_of node.old }
+/// The most frames of a connection.
+const MOST_FRAMES: u32 = 64;
+
+/// How a frame that was served leaves its connection, of which it is the frame with this number.
+fn end_after(close: Option<Close>, number: u32) -> Option<End>
+    ensures { result ≡ end_after close number }
 {
-    let home = node.home();
-    let mut frames = 0;
-    let Ok(mut stream) = FrameReader::new(alloc) else {
-        return Served {
-            frames,
-            end: End::NoMemory,
-        };
-    };
-    let mut buffer = [0; 4096];
-    let mut reads: u32 = 0;
-    while reads < MOST_READS {
-        reads += 1;
-        match source.read_once(&mut buffer) {
-            Ok(0) => {
-                return Served {
-                    frames,
-                    end: End::End,
-                };
-            }
-            Ok(count) => {
-                let piece = &buffer[..count];
-                if let Some(end) = serve_piece(
-                    alloc,
-                    home,
-                    wire,
-                    node,
-                    writer,
-                    peers,
-                    &mut stream,
-                    piece,
-                    &mut frames,
-                ) {
-                    return Served { frames, end };
-                }
-            }
-            Err(error) => {
-                if error.kind() != ErrorKind::Interrupted {
-                    return Served {
-                        frames,
-                        end: End::Read,
-                    };
-                }
+    match close {
+        Some(Close::Stopped) => Some(End::Stopped),
+        Some(Close::Down) => Some(End::Down),
+        None => {
+            if number == MOST_FRAMES {
+                Some(End::Frames)
+            } else {
+                None
             }
         }
     }
-    Served {
-        frames,
-        end: End::Reads,
-    }
 }
 
-/// The version that has this number.
-fn spoken(wire: u8) -> Version
-    ensures { result ≡ spoken wire }
-{
-    if wire == 2 {
-        Version::Two
-    } else {
-        Version::One
-    }
+/// A connection of a desk, served by turns: `receive` takes a piece of what came, `advance` serves
+/// the next frame, and `output` is what is to be sent. It makes no system call, so one thread can
+/// serve many connections of one desk, each as far as it has come.
+///
+/// A frame is begun only once the answer before it was taken whole. So it holds at most the
+/// beginning of a frame (300,004 bytes are reserved for it), the frames that the last piece made
+/// whole, and one answer, which is one frame.
+///
+/// A contract sees what it has between two turns.
+#[derive(Drop)]
+pub struct Connection {
+    session: Session,
+    stream: FrameReader,
+    /// The frames that are whole and were not begun.
+    waiting: VecDeque<Frame>,
+    /// How many frames were begun.
+    frames: u32,
+    /// The last answer, and how many bytes of it were taken.
+    answer: Vec<u8>,
+    taken: usize,
+    end: Option<End>,
 }
 
-/// Serves a connection of a desk, frame by frame, until one of its ends: the stream's end, a Stop,
-/// 64 frames, 19,200,256 reads, a fault of the stream, a read or a write that fails, a store that
-/// fails, or want of memory. Each frame's answer is written before the next frame is begun, in the
-/// version of that frame. What is said to other desks is pushed in the version `wire`, 1 or 2; both
-/// are read.
-pub fn serve_connection<D: Desk, R: Read + Drop, W: Write, P: Peers>(
-    alloc: Global,
-    reader: R,
-    writer: &mut W,
-    node: &mut D,
-    peers: &mut P,
-    wire: u8,
-) -> Served
-    requires version { IsVersion wire }
-    ensures served { (left : Option (List ℕ)) × (reads : ℕ) × (bytes : List ℕ) ×
-        (begun : List Begun) × (rest : List ℕ)
-        × IsConnection result (D.home_of node.old)
-        (sides (D.seen node.old) (W.contents writer.old)
-        (outside_of (speaking D.handles (spoken wire)) node.old (P.handed peers.old)))
-        (sides (D.seen node.new) (W.contents writer.new)
-        (outside_of (speaking D.handles (spoken wire)) node.new (P.handed peers.new)))
-        bytes begun rest (R.remaining reader) left reads }
-    ensures home { D.home_of node.new ≡ D.home_of node.old }
-{
-    let mut source = Counted::new(reader);
-    serve_source(alloc, &mut source, writer, node, peers, spoken(wire))
+impl Model for Connection {
+    ghost use Rattle.std.specs.Prelude.{◌≡◌, ◌≤◌, ◌<◌, None, drop, length};
+    ghost use Rattle.std.specs.List.{AllByRecursion};
+    ghost use Rattle.wire.specs.Ranges.{IsFrame};
+    ghost use Rattle.serving.specs.Turns.{Talk};
+
+    ghost Value = { Talk };
+
+    ghost view = { λ c. record {
+      home = c.session.home;
+      wire = c.session.wire;
+      stream = c.stream;
+      waiting = c.waiting.items;
+      frames = c.frames;
+      pending = drop c.taken c.answer.items;
+      end = c.end;
+    } };
+
+    ghost invariant = { λ c. AllByRecursion IsFrame c.waiting.items
+        × (c.taken ≤ length c.answer.items) × (c.frames ≤ 64)
+        × (c.end ≡ None → c.frames < 64) };
+}
+
+impl Connection {
+    /// A connection with this desk that brought nothing yet. What is said to other desks is pushed
+    /// in the version `wire`; both versions are read.
+    pub fn new<D: Desk>(alloc: Global, node: &D, wire: Version) -> Result<Connection, NoMemory>
+        ensures { IfOk result (λ c. c ≡ new_talk (D.home_of node.now) wire) }
+    {
+        let home = node.home();
+        let stream = FrameReader::new(alloc)?;
+        Ok(Connection {
+            session: Session { alloc, home, wire },
+            stream,
+            waiting: VecDeque::new(alloc),
+            frames: 0,
+            answer: Vec::new(alloc),
+            taken: 0,
+            end: None,
+        })
+    }
+
+    /// Whether a frame may be begun: neither did it end, nor is anything of an answer still to be
+    /// taken.
+    fn is_free(&self) -> bool
+        ensures { IsTrue result ↔ IsFree self.now }
+    {
+        match self.end {
+            Some(_) => false,
+            None => self.output().is_empty(),
+        }
+    }
+
+    /// Whether the next piece of the stream may come: the connection is open, and all that came
+    /// before is served and its answers are taken.
+    pub fn wants_read(&self) -> bool
+        ensures { IsTrue result ↔ WantsRead self.now }
+    {
+        match self.stream.fault() {
+            Some(_) => false,
+            None => self.waiting.is_empty() && self.is_free(),
+        }
+    }
+
+    /// Takes the next piece of the stream. The frames that are whole with it wait for their turns.
+    /// Where a fault stands at the front, or memory is refused, that is the connection's end.
+    pub fn receive(&mut self, piece: &[u8])
+        requires { WantsRead self.old }
+        ensures { Receives piece.now self.old self.new }
+    {
+        match self.stream.feed(piece) {
+            Ok(frames) => self.waiting = VecDeque::from(frames),
+            Err(WireFault::NoMemory) => self.end = Some(End::NoMemory),
+            Err(fault) => self.end = Some(End::Fault(fault)),
+        }
+    }
+
+    /// Serves the next frame, if one waits, the connection is open, and nothing of an answer is
+    /// still to be taken, and returns whether it did: its calls and pushes are made, and its answer
+    /// is to be sent. Once all that came is served, a fault that stands after it ends the
+    /// connection. Call it after each piece, and each time that an answer was taken whole, until it
+    /// returns false.
+    pub fn advance<D: Desk, P: Peers>(&mut self, node: &mut D, peers: &mut P) -> bool
+        requires home { D.home_of node.old ≡ self.old.home }
+        ensures turn { Advances D.Desk P.Peers result
+            (moment node.old peers.old self.old) (moment node.new peers.new self.new) }
+        ensures home { D.home_of node.new ≡ D.home_of node.old }
+    {
+        if !self.is_free() {
+            return false;
+        }
+        let Some(frame) = self.waiting.pop_front() else {
+            if let Some(fault) = self.stream.fault() {
+                self.end = Some(End::Fault(fault));
+            }
+            return false;
+        };
+        self.frames += 1;
+        match self.session.serve_frame(node, peers, frame) {
+            Ok(reply) => {
+                self.answer = reply.bytes;
+                self.taken = 0;
+                self.end = end_after(reply.close, self.frames);
+            }
+            Err(NoMemory) => self.end = Some(End::NoMemory),
+        }
+        true
+    }
+
+    /// What of the answer is still to be sent.
+    pub fn output(&self) -> &[u8]
+        ensures { result.now ≡ self.now.pending }
+    {
+        &self.answer[self.taken..]
+    }
+
+    /// Whether something is to be sent.
+    pub fn wants_write(&self) -> bool
+        ensures { IsTrue result ↔ (self.now.pending ≢ []) }
+    {
+        !self.output().is_empty()
+    }
+
+    /// Says that so many bytes of the output were sent.
+    pub fn sent(&mut self, count: usize)
+        requires { count ≤ length self.old.pending }
+        ensures { self.new ≡ after_sent self.old count }
+    {
+        self.taken += count;
+    }
+
+    /// Writes all of the output, if there is any. Where that fails, a front part of it was written.
+    pub fn write_out<W: Write>(&mut self, writer: &mut W) -> Result<(), WriteFailed>
+        ensures ok { OnOk result
+            (Appends (W.contents writer.old) (W.contents writer.new) self.old.pending) }
+        ensures taken { OnOk result (self.new ≡ after_sent self.old (length self.old.pending)) }
+        ensures err { OnErr result
+            (AppendsPart (W.contents writer.old) (W.contents writer.new) self.old.pending) }
+        ensures due { OnErr result (self.old.pending ≢ []) }
+        ensures kept { OnErr result (self.new ≡ self.old) }
+    {
+        if !self.wants_write() {
+            return Ok(());
+        }
+        let output = self.output();
+        let count = output.len();
+        write_text(writer, output)?;
+        self.sent(count);
+        Ok(())
+    }
+
+    /// What became of the connection, where it ended so.
+    pub fn served(&self, end: End) -> Served
+        ensures { result ≡ record { frames = self.now.frames; end = end } }
+    {
+        Served {
+            frames: self.frames,
+            end,
+        }
+    }
+
+    /// The end, where it came: by a frame, of which the answer may still have to be sent, by the
+    /// 64th frame, by a fault of the stream, or for want of memory. How reading and writing ended
+    /// is the caller's to say.
+    pub fn end(&self) -> Option<End>
+        ensures { result ≡ self.now.end }
+    {
+        self.end
+    }
+
+    /// Whether nothing is to be done any more: it ended, and all was sent.
+    pub fn is_done(&self) -> bool
+        ensures { IsTrue result ↔ ((self.now.end ≢ None) × (self.now.pending ≡ [])) }
+    {
+        match self.end {
+            Some(_) => self.output().is_empty(),
+            None => false,
+        }
+    }
 }

@@ -4,27 +4,25 @@
 //! pushed to them as frames, and what it says to itself it hears at once.
 #![tactic(auto)]
 
-mod answering;
-mod batch;
-mod calling;
+mod calls;
 mod connection;
 mod ends;
-mod frame;
-mod framing;
-mod learning;
+mod events;
+mod frames;
+pub mod laws;
 mod peers;
-mod piece;
-mod pushing;
+mod pushes;
+mod replies;
 mod request;
 mod requests;
-mod settling;
+mod runs;
+mod session;
 mod source;
-mod taking;
-mod telling;
-mod writing;
+mod streams;
 
 pub use answers::Desk;
-pub use connection::{serve_connection, serve_source};
+pub use connection::Connection;
 pub use ends::{End, Served};
 pub use peers::Peers;
 pub use source::Source;
+pub use streams::{serve_connection, serve_source};

@@ -67,7 +67,7 @@ pub enum Request {
 pub enum Ending {
     /// It does not.
     Never,
-    /// Where the desk is down behind it.
+    /// Where the desk is down after it.
     IfDown,
     /// It is a Stop.
     AtStop,

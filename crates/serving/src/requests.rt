@@ -1,200 +1,153 @@
 //! A request: its calls, its pushes and its answer.
 
-ghost use Rattle.std.specs.Prelude.{◌≡◌, ◌≤◌, ℕ, [], None, Some, IfOk, OnOk, OnErr, IfSome};
-ghost use Rattle.serving.specs.Making.{outside_of, speaking};
+ghost use Rattle.std.specs.Prelude.{◌≡◌, [], IfOk, OnOk, OnErr, IfSome};
 ghost use Rattle.learner.specs.Ranges.{AreInRange};
-ghost use Rattle.learner.specs.declared.event.Event.TheVariants.{Start};
-ghost use Rattle.serving.specs.model.Reaching.{Does, DoesPart, at};
-ghost use Rattle.serving.specs.Serving.{call, settle_by};
 ghost use Rattle.wire.specs.Ranges.{IsEntry};
 ghost use Rattle.serving.specs.Answering.{IsAnswer};
 ghost use Rattle.serving.specs.Asking.{AsksInRange};
-ghost use Rattle.serving.specs.model.Requests.{AnswersSome, FailsToAnswer};
+ghost use Rattle.serving.specs.model.Sessions.{Enters, EntersPart, Hears, HearsPart, Serves};
+ghost use Rattle.serving.specs.model.Sessions.{ServesPart, StartsNext, StartsNextPart, Ticks};
+ghost use Rattle.serving.specs.model.Sessions.{TicksPart, desks};
 
-use crate::answering::{answer_first, asked, printed};
-use crate::calling::{Answer, call};
-use crate::learning::learn;
+use crate::calls::{Answer, call};
+use crate::events::MOST_OWN;
 use crate::peers::Peers;
+use crate::replies::{answer_first, asked, printed};
 use crate::request::Request;
-use crate::settling::settle;
-use crate::taking::{MOST_OWN, take};
-use crate::telling::tell;
+use crate::session::Session;
 use acceptor::NoMemory;
 use acceptor::entry::Entry;
 use acceptor::message::Message;
 use answers::Desk;
-use learner::event::Event;
-use std::alloc::Global;
+use learner::event::DeskEvent;
 use std::collections::VecDeque;
-use store::home::Home;
-use wire::{ClientRefusal as Refusal, Version, What};
+use wire::{ClientRefusal as Refusal, What};
 
-/// A desk says something: it is delivered.
-fn hear<D: Desk, P: Peers>(
-    alloc: Global,
-    home: Home,
-    wire: Version,
-    node: &mut D,
-    peers: &mut P,
-    message: Message,
-) -> Result<(), NoMemory>
-    requires few { home.desks ≤ 5 }
-    requires home { D.home_of node.old ≡ home }
-    ensures ok { IfOk result
-        (λ _.
-        AnswersSome home (D.seen node.old) (D.seen node.new) (Request.Heard message) None
-        (outside_of (speaking D.handles wire) node.old (P.handed peers.old))
-        (outside_of (speaking D.handles wire) node.new (P.handed peers.new))) }
-    ensures err { OnErr result
-        (FailsToAnswer home (D.seen node.old) (D.seen node.new) (Request.Heard message)
-        (outside_of (speaking D.handles wire) node.old (P.handed peers.old))
-        (outside_of (speaking D.handles wire) node.new (P.handed peers.new))) }
-    ensures home { D.home_of node.new ≡ D.home_of node.old }
-{
-    take(alloc, home, wire, node, peers, Event::Deliver(message))?;
-    Ok(())
-}
-
-/// A client gives the desk a tick.
-fn tick<D: Desk, P: Peers>(
-    alloc: Global,
-    home: Home,
-    wire: Version,
-    node: &mut D,
-    peers: &mut P,
-) -> Result<What, NoMemory>
-    requires few { home.desks ≤ 5 }
-    requires home { D.home_of node.old ≡ home }
-    ensures ok { IfOk result
-        (λ w.
-        AnswersSome home (D.seen node.old) (D.seen node.new) Request.Ticked (Some w)
-        (outside_of (speaking D.handles wire) node.old (P.handed peers.old))
-        (outside_of (speaking D.handles wire) node.new (P.handed peers.new))) }
-    ensures err { OnErr result
-        (FailsToAnswer home (D.seen node.old) (D.seen node.new) Request.Ticked
-        (outside_of (speaking D.handles wire) node.old (P.handed peers.old))
-        (outside_of (speaking D.handles wire) node.new (P.handed peers.new))) }
-    ensures in_range { IfOk result IsAnswer }
-    ensures home { D.home_of node.new ≡ D.home_of node.old }
-{
-    let answer = take(alloc, home, wire, node, peers, Event::Tick)?;
-    Ok(answer_first(What::Fine, answer, node))
-}
-
-/// Start, and all that comes of it and of the messages that wait.
-fn start<D: Desk, P: Peers>(
-    alloc: Global,
-    home: Home,
-    wire: Version,
-    node: &mut D,
-    waiting: &mut VecDeque<Message>,
-    peers: &mut P,
-) -> Result<(), NoMemory>
-    requires few { home.desks ≤ 5 }
-    requires home { D.home_of node.old ≡ home }
-    requires in_range { AreInRange home.desks home.desk waiting.old.items }
-    ensures ok { OnOk result ((last : ℕ) × Does home (λ s. settle_by home 16 (call home Start s))
-        (at (D.seen node.old) waiting.old.items 16)
-        (at (D.seen node.new) waiting.new.items last)
-        (outside_of (speaking D.handles wire) node.old (P.handed peers.old))
-        (outside_of (speaking D.handles wire) node.new (P.handed peers.new))) }
-    ensures err { OnErr result (DoesPart home (λ s. settle_by home 16 (call home Start s))
-        (at (D.seen node.old) waiting.old.items 16)
-        (D.seen node.new) (outside_of (speaking D.handles wire) node.old (P.handed peers.old))
-        (outside_of (speaking D.handles wire) node.new (P.handed peers.new))) }
-    ensures empty { OnOk result (waiting.new.items ≡ []) }
-    ensures home { D.home_of node.new ≡ D.home_of node.old }
-{
-    let mut left = MOST_OWN;
-    call(node, waiting, Event::Start)?;
-    settle(alloc, home, wire, node, waiting, &mut left, peers)?;
-    Ok(())
-}
-
-/// A client enters a command: where the desk takes it, Start follows.
-fn enter<D: Desk, P: Peers>(
-    alloc: Global,
-    home: Home,
-    wire: Version,
-    node: &mut D,
-    peers: &mut P,
-    entry: Entry,
-) -> Result<What, NoMemory>
-    requires few { home.desks ≤ 5 }
-    requires home { D.home_of node.old ≡ home }
-    requires in_range { IsEntry entry }
-    ensures ok { IfOk result
-        (λ w.
-        AnswersSome home (D.seen node.old) (D.seen node.new) (Request.Entered entry) (Some w)
-        (outside_of (speaking D.handles wire) node.old (P.handed peers.old))
-        (outside_of (speaking D.handles wire) node.new (P.handed peers.new))) }
-    ensures err { OnErr result
-        (FailsToAnswer home (D.seen node.old) (D.seen node.new) (Request.Entered entry)
-        (outside_of (speaking D.handles wire) node.old (P.handed peers.old))
-        (outside_of (speaking D.handles wire) node.new (P.handed peers.new))) }
-    ensures in_range { IfOk result IsAnswer }
-    ensures home { D.home_of node.new ≡ D.home_of node.old }
-{
-    let id = entry.id();
-    let mut waiting = VecDeque::new(alloc);
-    let answer = call(node, &mut waiting, Event::Submit(entry))?;
-    if answer != Answer::Taken {
-        return Ok(answer_first(What::Taken { id }, answer, node));
+impl Session {
+    /// A desk says something: it is delivered.
+    fn hear<D: Desk, P: Peers>(
+        self,
+        node: &mut D,
+        peers: &mut P,
+        message: Message,
+    ) -> Result<(), NoMemory>
+        requires home { D.home_of node.old ≡ self.home }
+        ensures ok { OnOk result (Hears D.Desk P.Peers self message
+            (desks node.old peers.old) (desks node.new peers.new)) }
+        ensures err { OnErr result (HearsPart D.Desk P.Peers self message
+            (desks node.old peers.old) (desks node.new peers.new)) }
+        ensures home { D.home_of node.new ≡ D.home_of node.old }
+    {
+        self.take(node, peers, DeskEvent::Deliver(message))?;
+        Ok(())
     }
-    start(alloc, home, wire, node, &mut waiting, peers)?;
-    Ok(answer_first(What::Taken { id }, answer, node))
-}
 
-/// Makes the calls and pushes of a request, and gives its answer, where it has one.
-pub fn serve_request<D: Desk, P: Peers>(
-    alloc: Global,
-    home: Home,
-    wire: Version,
-    node: &mut D,
-    peers: &mut P,
-    request: Request,
-) -> Result<Option<What>, NoMemory>
-    requires few { home.desks ≤ 5 }
-    requires home { D.home_of node.old ≡ home }
-    requires in_range { AsksInRange request }
-    ensures ok { IfOk result
-        (λ w.
-        AnswersSome home (D.seen node.old) (D.seen node.new) request w
-        (outside_of (speaking D.handles wire) node.old (P.handed peers.old))
-        (outside_of (speaking D.handles wire) node.new (P.handed peers.new))) }
-    ensures err { OnErr result
-        (FailsToAnswer home (D.seen node.old) (D.seen node.new) request
-        (outside_of (speaking D.handles wire) node.old (P.handed peers.old))
-        (outside_of (speaking D.handles wire) node.new (P.handed peers.new))) }
-    ensures in_range { IfOk result (λ w. IfSome w IsAnswer) }
-    ensures home { D.home_of node.new ≡ D.home_of node.old }
-{
-    match request {
-        Request::Heard { message } => {
-            hear(alloc, home, wire, node, peers, message)?;
-            Ok(None)
+    /// A client gives the desk a tick.
+    fn tick<D: Desk, P: Peers>(self, node: &mut D, peers: &mut P) -> Result<What, NoMemory>
+        requires home { D.home_of node.old ≡ self.home }
+        ensures ok { IfOk result (Ticks D.Desk P.Peers self
+            (desks node.old peers.old) (desks node.new peers.new)) }
+        ensures err { OnErr result (TicksPart D.Desk P.Peers self
+            (desks node.old peers.old) (desks node.new peers.new)) }
+        ensures in_range { IfOk result IsAnswer }
+        ensures home { D.home_of node.new ≡ D.home_of node.old }
+    {
+        let answer = self.take(node, peers, DeskEvent::Tick)?;
+        Ok(answer_first(What::Fine, answer, node))
+    }
+
+    /// Start, and all that comes of it and of the messages that wait.
+    fn start<D: Desk, P: Peers>(
+        self,
+        node: &mut D,
+        peers: &mut P,
+        waiting: &mut VecDeque<Message>,
+    ) -> Result<(), NoMemory>
+        requires home { D.home_of node.old ≡ self.home }
+        requires in_range { AreInRange self.home.desks self.home.desk waiting.old.items }
+        ensures ok { OnOk result (StartsNext D.Desk P.Peers self
+            (desks node.old peers.old) (desks node.new peers.new)
+            waiting.old.items waiting.new.items) }
+        ensures err { OnErr result (StartsNextPart D.Desk P.Peers self
+            (desks node.old peers.old) (desks node.new peers.new) waiting.old.items) }
+        ensures empty { OnOk result (waiting.new.items ≡ []) }
+        ensures home { D.home_of node.new ≡ D.home_of node.old }
+    {
+        let mut left = MOST_OWN;
+        call(node, waiting, DeskEvent::Start)?;
+        self.settle(node, peers, waiting, &mut left)?;
+        Ok(())
+    }
+
+    /// A client enters a command: where the desk accepts it, Start follows.
+    fn enter<D: Desk, P: Peers>(
+        self,
+        node: &mut D,
+        peers: &mut P,
+        entry: Entry,
+    ) -> Result<What, NoMemory>
+        requires home { D.home_of node.old ≡ self.home }
+        requires in_range { IsEntry entry }
+        ensures ok { IfOk result (Enters D.Desk P.Peers self entry
+            (desks node.old peers.old) (desks node.new peers.new)) }
+        ensures err { OnErr result (EntersPart D.Desk P.Peers self entry
+            (desks node.old peers.old) (desks node.new peers.new)) }
+        ensures in_range { IfOk result IsAnswer }
+        ensures home { D.home_of node.new ≡ D.home_of node.old }
+    {
+        let id = entry.id();
+        let mut waiting = VecDeque::new(self.alloc);
+        let answer = call(node, &mut waiting, DeskEvent::Submit(entry))?;
+        if answer != Answer::Taken {
+            return Ok(answer_first(What::Taken { id }, answer, node));
         }
-        Request::Lagging { message } => {
-            tell(alloc, home, wire, node, peers, message)?;
-            Ok(None)
+        self.start(node, peers, &mut waiting)?;
+        Ok(answer_first(What::Taken { id }, answer, node))
+    }
+
+    /// Makes the calls and pushes of a request, and gives its answer, where it has one.
+    pub fn serve_request<D: Desk, P: Peers>(
+        self,
+        node: &mut D,
+        peers: &mut P,
+        request: Request,
+    ) -> Result<Option<What>, NoMemory>
+        requires home { D.home_of node.old ≡ self.home }
+        requires in_range { AsksInRange request }
+        ensures ok { IfOk result (Serves D.Desk P.Peers self request
+            (desks node.old peers.old) (desks node.new peers.new)) }
+        ensures err { OnErr result (ServesPart D.Desk P.Peers self request
+            (desks node.old peers.old) (desks node.new peers.new)) }
+        ensures in_range { IfOk result (λ w. IfSome w IsAnswer) }
+        ensures home { D.home_of node.new ≡ D.home_of node.old }
+    {
+        match request {
+            Request::Heard { message } => {
+                self.hear(node, peers, message)?;
+                Ok(None)
+            }
+            Request::Lagging { message } => {
+                self.tell(node, peers, message)?;
+                Ok(None)
+            }
+            Request::Learned { run } => {
+                self.learn(node, peers, run)?;
+                Ok(None)
+            }
+            Request::Entered { entry } => Ok(Some(self.enter(node, peers, entry)?)),
+            Request::Ticked => Ok(Some(self.tick(node, peers)?)),
+            Request::Asked { id } => Ok(Some(asked(node, id))),
+            Request::Printed {
+                event,
+                round,
+                position,
+                style,
+            } => Ok(Some(printed(node, event, round, position, style))),
+            Request::Stopped => Ok(Some(What::Fine)),
+            Request::Strange => Ok(Some(What::Refused {
+                refusal: Refusal::Foreign,
+            })),
+            Request::Ignored => Ok(None),
         }
-        Request::Learned { run } => {
-            learn(alloc, home, wire, node, peers, run)?;
-            Ok(None)
-        }
-        Request::Entered { entry } => Ok(Some(enter(alloc, home, wire, node, peers, entry)?)),
-        Request::Ticked => Ok(Some(tick(alloc, home, wire, node, peers)?)),
-        Request::Asked { id } => Ok(Some(asked(node, id))),
-        Request::Printed {
-            event,
-            round,
-            position,
-            style,
-        } => Ok(Some(printed(node, event, round, position, style))),
-        Request::Stopped => Ok(Some(What::Fine)),
-        Request::Strange => Ok(Some(What::Refused {
-            refusal: Refusal::Foreign,
-        })),
-        Request::Ignored => Ok(None),
     }
 }

@@ -6,7 +6,7 @@ use acceptor::message::{Body, Message, Report};
 use acceptor::stored::Stored;
 use hall_laws::{calls_are_happenings, headline, stops_make_a_run};
 use learner::log::Log;
-use node::{Event, Node, NodeFault, Told};
+use node::{DeskEvent, Node, NodeFault, Told};
 use std::alloc::Global;
 use std::process::Abort;
 use std::test::Fail;
@@ -19,8 +19,8 @@ pub(crate) fn ann(alloc: Global) -> Result<Entry, Fail> {
 }
 
 /// A message from desk 2 to desk 1.
-fn heard(body: Body) -> Event {
-    Event::Deliver(Message {
+fn heard(body: Body) -> DeskEvent {
+    DeskEvent::Deliver(Message {
         from: 2,
         to: 1,
         body,
@@ -28,14 +28,14 @@ fn heard(body: Body) -> Event {
 }
 
 /// A Prepare of this ballot.
-fn prepare(round: u32, desk: u8) -> Event {
-    let ballot = Ballot { round, desk };
+fn prepare(number: u32, desk: u8) -> DeskEvent {
+    let ballot = Ballot { number, desk };
     heard(Body::Prepare { ballot, pos: 0 })
 }
 
 /// The vote for the entry by the first ballot of desk 2.
 fn first_vote(alloc: Global) -> Result<Report, Fail> {
-    let ballot = Ballot { round: 1, desk: 2 };
+    let ballot = Ballot { number: 1, desk: 2 };
     let entry = ann(alloc)?;
     Ok(Report { ballot, entry })
 }
@@ -53,7 +53,7 @@ fn check_failure<K: Keeper + Drop>(
         entry,
     }));
     assert!(rt; matches!(asked, Err(NodeFault::Down)));
-    assert!(rt; matches!(node.handle(Event::Start), Err(NodeFault::Down)));
+    assert!(rt; matches!(node.handle(DeskEvent::Start), Err(NodeFault::Down)));
     assert!(rt; node.is_down());
     assert!(rt; node.answer(7)? == Told::Unknown);
     Ok(())
@@ -65,7 +65,7 @@ fn check_promise<K: Keeper + Drop>(
     node: &mut Node<K>,
     vote: Option<Report>,
 ) -> Result<(), Fail> {
-    let ballot = Ballot { round: 2, desk: 2 };
+    let ballot = Ballot { number: 2, desk: 2 };
     let promise = Message {
         from: 1,
         to: 2,
@@ -100,7 +100,7 @@ fn failed_save_leaves_the_state_before_or_after(rt: HostRuntime) -> Result<(), F
 }
 
 /// The node takes the event, and hands out nothing.
-fn is_quiet<K: Keeper + Drop>(node: &mut Node<K>, event: Event) -> Result<bool, Fail> {
+fn is_quiet<K: Keeper + Drop>(node: &mut Node<K>, event: DeskEvent) -> Result<bool, Fail> {
     Ok(node.handle(event)?.as_slice().is_empty())
 }
 
@@ -110,7 +110,7 @@ fn check_spent<K: Keeper + Drop>(
     alloc: Global,
     node: &mut Node<K>,
 ) -> Result<(), Fail> {
-    assert!(rt; matches!(node.handle(Event::Start), Err(NodeFault::BallotsSpent)));
+    assert!(rt; matches!(node.handle(DeskEvent::Start), Err(NodeFault::BallotsSpent)));
     assert!(rt; is_quiet(node, prepare(0, 1))?);
     let entry = ann(alloc)?;
     assert!(rt; is_quiet(node, heard(Body::Decided { pos: 65536, entry }))?);

@@ -3,7 +3,7 @@
 
 use crate::desks::ann;
 use acceptor::message::{Body, Message};
-use node::{Event, Node};
+use node::{DeskEvent, Node};
 use sqlite::{Alter, Connection, Error, MemStore};
 use std::alloc::Global;
 use std::process::Abort;
@@ -59,7 +59,7 @@ pub(crate) fn open<S: Alter + Drop>(
 fn take<K: Keeper + Drop>(
     nodes: &mut [Node<K>],
     desk: u8,
-    event: Event,
+    event: DeskEvent,
     sent: &mut Vec<Message>,
 ) -> Result<(), Fail> {
     let Some(node) = nodes.get_mut(usize::from(desk).wrapping_sub(1)) else {
@@ -86,7 +86,7 @@ fn deliver<K: Keeper + Drop>(
             to: message.to,
             body: message.body.copy()?,
         };
-        take(nodes, message.to, Event::Deliver(message), sent)?;
+        take(nodes, message.to, DeskEvent::Deliver(message), sent)?;
     }
     Ok(())
 }
@@ -97,10 +97,10 @@ fn catch_up<K: Keeper + Drop>(
     nodes: &mut [Node<K>],
     sent: &mut Vec<Message>,
 ) -> Result<(), Fail> {
-    take(nodes, 1, Event::Submit(ann(alloc)?), sent)?;
-    take(nodes, 1, Event::Start, sent)?;
+    take(nodes, 1, DeskEvent::Submit(ann(alloc)?), sent)?;
+    take(nodes, 1, DeskEvent::Start, sent)?;
     deliver(nodes, sent, &[1, 2, 4, 5, 6, 7, 9, 10, 11])?;
-    take(nodes, 3, Event::Tick, sent)?;
+    take(nodes, 3, DeskEvent::Tick, sent)?;
     deliver(nodes, sent, &[14, 16])
 }
 

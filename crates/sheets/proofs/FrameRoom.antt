@@ -1,5 +1,6 @@
 -- A sheet of a round that a list of entries opens fits into a frame.
-use Rattle.std.proofs.Common.{◌≡◌, ℕ, ◌≤◌, List, length, Option, Some, None, IfSome, option_map, subst}
+use Rattle.std.proofs.Common.{◌≡◌, ℕ, ◌≤◌, List, length, Option, Some, None, IfSome, option_map}
+use Rattle.std.proofs.Common.{subst}
 use Rattle.rounds.specs.Tables.{Table}
 use Rattle.texts.specs.declared.command.Settings.{Settings}
 use Rattle.commands.specs.History.{history}

@@ -1,5 +1,6 @@
 -- One more number of a range.
-use Rattle.std.proofs.Common.{◌≡◌, ℕ, ◌+◌, zero, suc, List, [], ◌∷◌, ◌++◌, flat_map, map, ap, sym, ◌∙◌, add-zero, zero-add, add-one, append-nil, append_assoc, arith}
+use Rattle.std.proofs.Common.{◌≡◌, ℕ, ◌+◌, zero, suc, List, [], ◌∷◌, ◌++◌, flat_map, map, ap, sym}
+use Rattle.std.proofs.Common.{◌∙◌, add-zero, zero-add, add-one, append-nil, append_assoc, arith}
 use Rattle.std.specs.List.{range_with_len}
 use Rattle.std.proofs.lemmas.List.{map-append}
 use Rattle.std.proofs.lemmas.Grind.{flat_map-append}

@@ -1,5 +1,7 @@
 -- The table of a sheet reads back as the fields that were written.
-use Rattle.std.proofs.Common.{◌≡◌, ◌∙◌, ℕ, Bool, true, false, cond, ◌==◌, List, [], ◌∷◌, ◌++◌, map, filter, flat_map, find, Some, None, option_map, unwrap_or, length, refl, sym, ap, subst, eqb-true}
+use Rattle.std.proofs.Common.{◌≡◌, ◌∙◌, ℕ, Bool, true, false, cond, ◌==◌, List, [], ◌∷◌, ◌++◌, map}
+use Rattle.std.proofs.Common.{flat_map, find, Some, None, option_map, unwrap_or, length}
+use Rattle.std.proofs.Common.{refl, sym, ap, subst, eqb-true}
 use Rattle.std.proofs.lemmas.Bool.{eq-eqb}
 use Rattle.std.specs.List.{AllByRecursion, range_with_len}
 use Rattle.csv.specs.Machine.{next_record}
@@ -9,9 +11,11 @@ use Rattle.csv.specs.declared.parser.State.TheVariants as st
 use Rattle.csv.proofs.RoundTrip.{read-write, rows_text}
 use Rattle.formats.specs.declared.events.Event.{Event}
 use Rattle.formats.specs.Events.{attempts_of, unit_of}
-use Rattle.rounds.specs.Tables.{Entrant, Table, at_place, entrant, has_number, number_of_entrant, place, standings}
+use Rattle.rounds.specs.Tables.{Entrant, Table, at_place, entrant, has_number, number_of_entrant}
+use Rattle.rounds.specs.Tables.{place, standings}
 use Rattle.texts.specs.declared.command.Command.{Command}
 use Rattle.texts.specs.declared.command.Settings.{Settings}
+use Rattle.commands.proofs.Sizes.{all_filter, all_flat_map}
 use Rattle.sheets.specs.Sheet.{entrant_record, header, name_text, record_of, table_of_round}
 use Rattle.sheets.specs.ReadingBack.{TableReadsBack, fields_of_entrant}
 
@@ -22,31 +26,10 @@ all_weaker : {X : Type 0} (P Q : X → Type 0) → ((x : X) → P x → Q x) →
 all_weaker P Q each [] h = tt
 all_weaker P Q each (x ∷ xs) h = (each x h.0, all_weaker P Q each xs h.1)
 
-all_append : {X : Type 0} (P : X → Type 0) (xs ys : List X) → AllByRecursion P xs
-    → AllByRecursion P ys → AllByRecursion P (xs ++ ys)
-all_append P [] ys h k = k
-all_append P (x ∷ xs) ys h k = (h.0, all_append P xs ys h.1 k)
-
 all_map : {X Y : Type 0} (P : Y → Type 0) (f : X → Y) (xs : List X)
     → AllByRecursion (λ x. P (f x)) xs → AllByRecursion P (map f xs)
 all_map P f [] h = tt
 all_map P f (x ∷ xs) h = (h.0, all_map P f xs h.1)
-
-all_filter : {X : Type 0} (P : X → Type 0) (p : X → Bool) (xs : List X) → AllByRecursion P xs
-    → AllByRecursion P (filter p xs)
-all_filter P p [] h = tt
-all_filter {X} P p (x ∷ xs) h = step (p x) (all_filter P p xs h.1)
-  where
-    step : (b : Bool) → AllByRecursion P (filter p xs)
-        → AllByRecursion P (cond b (x ∷ filter p xs) (filter p xs))
-    step true rest = (h.0, rest)
-    step false rest = rest
-
-all_flat_map : {X Y : Type 0} (P : Y → Type 0) (f : X → List Y) → ((x : X) → AllByRecursion P (f x))
-    → (xs : List X) → AllByRecursion P (flat_map f xs)
-all_flat_map P f each [] = tt
-all_flat_map P f each (x ∷ xs) =
-    all_append P (f x) (flat_map f xs) (each x) (all_flat_map P f each xs)
 
 -- Entrants
 

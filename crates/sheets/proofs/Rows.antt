@@ -12,7 +12,8 @@ use Rattle.texts.specs.declared.command.Settings.{Settings}
 use Rattle.rounds.specs.declared.table.Row.{Row}
 use Rattle.rounds.specs.Tables.{Entrant, Table, place}
 use Rattle.rounds.specs.Rows.{IsRow}
-use Rattle.sheets.specs.Sheet.{name_text, is_marked, results, attempts, person, entrant_line, line_of, entrant_fields, entrant_record, record_of}
+use Rattle.sheets.specs.Sheet.{name_text, is_marked, results, attempts, person, entrant_line}
+use Rattle.sheets.specs.Sheet.{line_of, entrant_fields, entrant_record, record_of}
 
 pub line_of_row : (unit : Measure) (cs : List Command) (settings : Settings) (t : Table) (n : ℕ)
     (e : Entrant) (row : Row) (shown : Measure) (count : ℕ) (marked : Bool) (name : List ℕ)

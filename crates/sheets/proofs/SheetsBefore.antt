@@ -1,5 +1,6 @@
 -- Without `EDITION 2` every sheet is as edition 1 had it.
-use Rattle.std.proofs.Common.{◌≡◌, ℕ, true, false, List, [], ◌∷◌, ◌++◌, flat_map, Option, Some, None, option_map, unwrap_or, refl, sym, ap, ◌∙◌}
+use Rattle.std.proofs.Common.{◌≡◌, ℕ, true, false, List, [], ◌∷◌, ◌++◌, flat_map, Option, Some}
+use Rattle.std.proofs.Common.{None, option_map, unwrap_or, refl, sym, ap, ◌∙◌}
 use Rattle.std.proofs.lemmas.Bool.{false≢true}
 use Rattle.csv.specs.Writing.{row_text, default_writer}
 use Rattle.attempts.specs.declared.Unit.{Unit as Measure}
@@ -12,12 +13,14 @@ use Rattle.rounds.specs.Tables.{Entrant, Table, entrant, standings}
 use Rattle.commands.specs.Accepted.{round_of, is_multi}
 use Rattle.commands.specs.FirstEdition as commands
 use Rattle.commands.specs.History.{history}
-use Rattle.commands.proofs.Before.{IsFirstEvent, first_event, AreFirst, round_alike, history_alike, history_first}
+use Rattle.commands.proofs.Before.{IsFirstEvent, first_event, AreFirst, round_alike, history_alike}
+use Rattle.commands.proofs.Before.{history_first}
 use Rattle.sheets.specs.declared.Style.{Style}
 use Rattle.sheets.specs.declared.Style.TheVariants as style
 use Rattle.sheets.specs.EditionLaw.{PrintsAsBefore}
 use Rattle.sheets.specs.FirstEdition as first
-use Rattle.sheets.specs.Sheet.{name_text, header, first_line, second_line, entrant_line, line_of, text_of_round, entrant_record, record_of, table_of_round, sheet}
+use Rattle.sheets.specs.Sheet.{name_text, header, first_line, second_line, entrant_line, line_of}
+use Rattle.sheets.specs.Sheet.{text_of_round, entrant_record, record_of, table_of_round, sheet}
 
 flat_alike : (f g : ℕ → List ℕ) → ((n : ℕ) → f n ≡ g n) → (ns : List ℕ)
     → flat_map f ns ≡ flat_map g ns

@@ -1,5 +1,8 @@
 -- What is printed of values and numbers is short, and no byte of it calls for quotes in a table.
-use Rattle.std.proofs.Common.{◌≡◌, ℕ, zero, suc, ◌+◌, ◌-◌, ◌*◌, ◌/◌, ◌%◌, ◌^◌, ◌<◌, ◌≤◌, Bool, true, false, ◌==◌, cond, min, nat_lt, nat_le, List, [], ◌∷◌, ◌++◌, length, fold, sum, unwrap_or, codes, decimal, Option, Some, None, IfSome, refl, arith, length-append, eqb-true}
+use Rattle.std.proofs.Common.{◌≡◌, ℕ, zero, suc, ◌+◌, ◌-◌, ◌*◌, ◌/◌, ◌%◌, ◌^◌, ◌<◌, ◌≤◌, Bool, true}
+use Rattle.std.proofs.Common.{false, ◌==◌, cond, min, nat_lt, nat_le, List, [], ◌∷◌, ◌++◌, length}
+use Rattle.std.proofs.Common.{fold, sum, unwrap_or, codes, decimal, Option, Some, None, IfSome}
+use Rattle.std.proofs.Common.{refl, arith, length-append, eqb-true}
 use Rattle.std.specs.Char.{is_ascii_digit}
 use Rattle.std.specs.List.{AllByRecursion, list_all, list_any}
 use Rattle.std.proofs.lemmas.Bool.Decides.{nat_tests}
@@ -11,13 +14,16 @@ use Rattle.attempts.specs.declared.Value.TheVariants as value
 use Rattle.attempts.specs.declared.Unit.{Unit as Measure}
 use Rattle.attempts.specs.declared.Unit.TheVariants.{Time, Moves, Multi}
 use Rattle.attempts.specs.Attempts.{IsInRangeOf}
-use Rattle.attempts.specs.Texts.{two_digits, time_text, clock_text, points_in, unsolved_in, solved_in, attempted_in, seconds_in, multi_text, value_text}
+use Rattle.attempts.specs.Texts.{two_digits, time_text, clock_text, points_in, unsolved_in}
+use Rattle.attempts.specs.Texts.{solved_in, attempted_in, seconds_in, multi_text, value_text}
 use Rattle.csv.specs.Writing.{default_writer, needs_byte}
 use Rattle.formats.specs.declared.events.Format.{Format}
 use Rattle.formats.specs.declared.events.Format.TheVariants.{Ao5, Mo3, Bo1, Bo2, Bo3}
 use Rattle.formats.specs.declared.results.Averaged.{Averaged}
 use Rattle.formats.specs.declared.results.Averaged.TheVariants as averaged
-use Rattle.formats.specs.Results.{numbers, least, greatest, number_or, without_number, is_dnf, best_of, third_of, without_least, trimmed, mean_of, average_of, moves_text, averaged_text, average_text}
+use Rattle.formats.specs.Results.{numbers, least, greatest, number_or, without_number, is_dnf}
+use Rattle.formats.specs.Results.{best_of, third_of, without_least, trimmed, mean_of, average_of}
+use Rattle.formats.specs.Results.{moves_text, averaged_text, average_text}
 use Rattle.texts.proofs.Cuts.{and-true}
 use Rattle.texts.proofs.FieldSpellings.{decimal_digits}
 use Rattle.sheets.specs.Sheet.{best_text, attempt_text}

@@ -1,8 +1,11 @@
 -- How long a sheet is as a table.
-use Rattle.std.proofs.Common.{◌≡◌, ℕ, zero, suc, ◌+◌, ◌*◌, ◌≤◌, Bool, true, false, ◌==◌, cond, List, [], ◌∷◌, ◌++◌, length, map, flat_map, codes, decimal, Option, Some, None, IfSome, option_map, unwrap_or, refl, arith, length-append}
+use Rattle.std.proofs.Common.{◌≡◌, ℕ, zero, suc, ◌+◌, ◌*◌, ◌≤◌, Bool, true, false, ◌==◌, cond, List}
+use Rattle.std.proofs.Common.{[], ◌∷◌, ◌++◌, length, map, flat_map, codes, decimal, Option, Some}
+use Rattle.std.proofs.Common.{None, IfSome, option_map, unwrap_or, refl, arith, length-append}
 use Rattle.std.specs.List.{AllByRecursion, range_with_len}
 use Rattle.std.proofs.lemmas.List.FromFn.{length-range_with_len}
-use Rattle.csv.specs.Writing.{default_writer, needs_quotes, escaped, quoted, field_text, fields_text, is_blank, row_text}
+use Rattle.csv.specs.Writing.{default_writer, needs_quotes, escaped, quoted, field_text}
+use Rattle.csv.specs.Writing.{fields_text, is_blank, row_text}
 use Rattle.attempts.specs.declared.Unit.{Unit as Measure}
 use Rattle.attempts.specs.declared.Value.{Value}
 use Rattle.formats.specs.declared.events.Event.{Event}
@@ -14,9 +17,12 @@ use Rattle.texts.specs.declared.command.Command.{Command}
 use Rattle.texts.specs.declared.command.Settings.{Settings}
 use Rattle.commands.specs.Accepted.{name_of}
 use Rattle.commands.proofs.Sizes.{IsSmall, IsSmallRound, IsSmallEntrant, standings_few}
-use Rattle.sheets.specs.Sheet.{attempt_text, best_text, is_marked, name_text, yes_or_no, header, entrant_fields, entrant_record, record_of, table_of_round}
-use Rattle.sheets.proofs.ShortTexts.{IsPlain, IsBare, IsSmallValue, plain_decimal, plain_attempt, plain_best, plain_average}
-use Rattle.sheets.proofs.Lengths.{append_short, each_short, IsShown, shown, place_small, name_given_short, at_most_five}
+use Rattle.sheets.specs.Sheet.{attempt_text, best_text, is_marked, name_text, yes_or_no, header}
+use Rattle.sheets.specs.Sheet.{entrant_fields, entrant_record, record_of, table_of_round}
+use Rattle.sheets.proofs.ShortTexts.{IsPlain, IsBare, IsSmallValue, plain_decimal, plain_attempt}
+use Rattle.sheets.proofs.ShortTexts.{plain_best, plain_average}
+use Rattle.sheets.proofs.Lengths.{append_short, each_short, IsShown, shown, place_small}
+use Rattle.sheets.proofs.Lengths.{name_given_short, at_most_five}
 
 -- Fields
 

@@ -1,5 +1,7 @@
 -- How long a sheet is as text.
-use Rattle.std.proofs.Common.{ℕ, ◌^◌, ◌<◌, ◌≤◌, Bool, true, false, List, [], ◌++◌, length, flat_map, codes, decimal, Option, Some, None, IfSome, option_map, unwrap_or, arith}
+use Rattle.std.proofs.Common.{ℕ, ◌^◌, ◌<◌, ◌≤◌, Bool, true, false, List, [], ◌++◌, length, flat_map}
+use Rattle.std.proofs.Common.{codes, decimal, Option, Some, None, IfSome, option_map, unwrap_or}
+use Rattle.std.proofs.Common.{arith}
 use Rattle.std.specs.List.{AllByRecursion, range_with_len}
 use Rattle.std.proofs.lemmas.Fmt.{length-decimal-le}
 use Rattle.std.proofs.lemmas.List.FromFn.{length-range_with_len}
@@ -16,11 +18,16 @@ use Rattle.texts.specs.declared.command.Command.{Command}
 use Rattle.texts.specs.declared.command.Settings.{Settings}
 use Rattle.commands.specs.Accepted.{name_of}
 use Rattle.texts.specs.Spelling.{IsFitSettings, cutoff_text, limit_text, advance_text}
-use Rattle.texts.proofs.FieldSpellings.{event_short, format_short, cutoff_short, limit_short, advance_short}
+use Rattle.texts.proofs.FieldSpellings.{event_short, format_short, cutoff_short, limit_short}
+use Rattle.texts.proofs.FieldSpellings.{advance_short}
 use Rattle.commands.proofs.Sizes.{IsSmall, IsSmallRound, IsSmallEntrant, standings_few}
-use Rattle.sheets.specs.Sheet.{state_text, right, columns, mark, title, standing, first_line, second_line, results, attempts, person, attempt_text, best_text, is_marked, name_text, entrant_line, line_of, text_of_round}
-use Rattle.sheets.proofs.ShortTexts.{IsPlain, IsSmallValue, plain_attempt, plain_best, plain_average}
-use Rattle.sheets.proofs.Lengths.{append_short, right_short, each_short, IsShown, shown, place_small, name_given_short, at_most_five}
+use Rattle.sheets.specs.Sheet.{state_text, right, columns, mark, title, standing, first_line}
+use Rattle.sheets.specs.Sheet.{second_line, results, attempts, person, attempt_text, best_text}
+use Rattle.sheets.specs.Sheet.{is_marked, name_text, entrant_line, line_of, text_of_round}
+use Rattle.sheets.proofs.ShortTexts.{IsPlain, IsSmallValue, plain_attempt, plain_best}
+use Rattle.sheets.proofs.ShortTexts.{plain_average}
+use Rattle.sheets.proofs.Lengths.{append_short, right_short, each_short, IsShown, shown}
+use Rattle.sheets.proofs.Lengths.{place_small, name_given_short, at_most_five}
 
 state_short : (closed : Bool) → length (state_text closed) ≤ 6
 state_short true = omega arith

@@ -134,12 +134,16 @@ header n =
     ++ map decimal (range_with_len 1 n)
     ++ codes "advances" ∷ []
 
+-- the average and the best of an entrant
+abbrev pub result_fields : Measure → Averaged → List Value → List (List ℕ)
+result_fields unit average vs = average_text unit average ∷ best_text unit vs ∷ []
+
 -- the fields of an entrant
 abbrev pub entrant_fields : Measure → ℕ → ℕ → ℕ → List ℕ → Averaged → List Value → Bool
     → List (List ℕ)
 entrant_fields unit n place number name average vs marked =
     decimal place ∷ decimal number ∷ name ∷ []
-    ++ average_text unit average ∷ best_text unit vs ∷ []
+    ++ result_fields unit average vs
     ++ map (attempt_text unit vs) (range_with_len 0 n)
     ++ yes_or_no marked ∷ []
 

@@ -1,18 +1,15 @@
 //! The sheet as a table of comma-separated values.
 
-ghost use Rattle.std.specs.Prelude.{◌≡◌, ◌++◌, ◌∷◌, [], IfOk, OnOk, IfErr, Some, map, decimal};
-ghost use Rattle.std.specs.Prelude.{flat_map};
-ghost use Rattle.advancement.specs.Advancing.{IsBorder};
-ghost use Rattle.formats.specs.Results.{average_text};
+ghost use Rattle.std.specs.Prelude.{◌≡◌, ◌∷◌, [], IfOk, OnOk, IfErr, Some, map, decimal, flat_map};
 ghost use Rattle.std.specs.List.{range_with_len};
 ghost use Rattle.csv.specs.Writing.{row_text, default_writer};
 ghost use Rattle.csv.specs.Records.{fields_of, partial_of};
 ghost use Rattle.formats.specs.Results.{best_of};
-ghost use Rattle.formats.specs.Events.{attempts_of, unit_of};
-ghost use Rattle.sheets.specs.Sheet.{name_text, attempt_text, best_text, yes_or_no, header};
-ghost use Rattle.sheets.specs.Sheet.{entrant_fields, record_of, table_of_round, table_sheet};
+ghost use Rattle.advancement.specs.Advancing.{IsBorder};
+ghost use Rattle.sheets.specs.Sheet.{attempt_text, yes_or_no, header, result_fields, table_sheet};
 ghost use Rattle.sheets.specs.Faults.{NoSheet};
-ghost use Rattle.sheets.specs.model.Output.{HasFields, IsReady, Adds, held};
+ghost use Rattle.sheets.specs.model.Output.{AddsFields, IsReady, Adds, held};
+ghost use Rattle.sheets.specs.model.Shown.{fields_shown, record_shown, table_shown};
 
 use crate::SheetFault;
 use crate::shown::{
@@ -20,7 +17,7 @@ use crate::shown::{
 };
 use attempts::{NoMemory, Unit, Value};
 use commands::Meet;
-use csv::{ByteRecord, ErrorKind, Writer};
+use csv::{ByteRecord, Writer};
 use formats::{Event, attempts_of, print_average, unit_of};
 use rounds::Row;
 use std::alloc::Global;
@@ -28,7 +25,7 @@ use std::alloc::Global;
 /// Adds a field.
 fn push_field(fields: &mut ByteRecord, text: &[u8]) -> Result<(), NoMemory>
     requires { partial_of fields.old ≡ [] }
-    ensures { OnOk result (HasFields fields.new (fields_of fields.old ++ text.now ∷ [])) }
+    ensures { OnOk result (AddsFields fields.old fields.new (text.now ∷ [])) }
 {
     fields.push_field(text)
 }
@@ -36,8 +33,8 @@ fn push_field(fields: &mut ByteRecord, text: &[u8]) -> Result<(), NoMemory>
 /// Adds the names of the attempts' columns: 1, 2, and so on.
 fn push_attempt_names(fields: &mut ByteRecord, alloc: Global, count: u8) -> Result<(), NoMemory>
     requires { partial_of fields.old ≡ [] }
-    ensures { OnOk result (HasFields fields.new (fields_of fields.old
-        ++ map decimal (range_with_len 1 count))) }
+    ensures { OnOk result
+        (AddsFields fields.old fields.new (map decimal (range_with_len 1 count))) }
 {
     for place in 0..count {
         let digits = decimal_text(alloc, u32::from(place) + 1)?;
@@ -70,8 +67,8 @@ fn push_attempts(
     unit: Unit,
 ) -> Result<(), NoMemory>
     requires { partial_of fields.old ≡ [] }
-    ensures { OnOk result (HasFields fields.new (fields_of fields.old
-        ++ map (attempt_text unit values.now) (range_with_len 0 count))) }
+    ensures { OnOk result (AddsFields fields.old fields.new
+        (map (attempt_text unit values.now) (range_with_len 0 count))) }
 {
     for place in 0..count {
         let text = attempt_text(alloc, values, place as usize, unit)?;
@@ -83,7 +80,7 @@ fn push_attempts(
 /// Adds whether an entrant advances.
 fn push_advances(fields: &mut ByteRecord, marked: bool) -> Result<(), NoMemory>
     requires { partial_of fields.old ≡ [] }
-    ensures { OnOk result (HasFields fields.new (fields_of fields.old ++ yes_or_no marked ∷ [])) }
+    ensures { OnOk result (AddsFields fields.old fields.new (yes_or_no marked ∷ [])) }
 {
     if marked {
         push_field(fields, b"yes")
@@ -101,8 +98,8 @@ fn push_person(
     name: &[u8],
 ) -> Result<(), NoMemory>
     requires { partial_of fields.old ≡ [] }
-    ensures { OnOk result (HasFields fields.new
-        (fields_of fields.old ++ decimal place ∷ decimal number ∷ name.now ∷ [])) }
+    ensures { OnOk result
+        (AddsFields fields.old fields.new (decimal place ∷ decimal number ∷ name.now ∷ [])) }
 {
     let place = decimal_text(alloc, u32::from(place))?;
     push_field(fields, &place)?;
@@ -120,8 +117,8 @@ fn push_results(
 ) -> Result<(), NoMemory>
     requires best { row.best ≡ best_of row.values.now }
     requires whole { partial_of fields.old ≡ [] }
-    ensures { OnOk result (HasFields fields.new (fields_of fields.old
-        ++ average_text unit row.entry.average ∷ best_text unit row.entry.values.now ∷ [])) }
+    ensures { OnOk result (AddsFields fields.old fields.new
+        (result_fields unit row.entry.average row.entry.values.now)) }
 {
     let average = print_average(alloc, row.average, unit)?;
     push_field(fields, &average)?;
@@ -138,10 +135,8 @@ fn entrant_fields(
     marked: bool,
 ) -> Result<ByteRecord, NoMemory>
     requires { row.best ≡ best_of row.values.now }
-    ensures { IfOk result (λ fields. fields_of fields
-        ≡ entrant_fields (unit_of shown.entry.event) (attempts_of shown.entry.settings.format)
-        row.entry.place number (name_text shown.entry.meet.now.accepted number)
-        row.entry.average row.entry.values.now marked) }
+    ensures { IfOk result
+        (λ fields. fields_of fields ≡ fields_shown shown.entry row.entry number marked) }
 {
     let unit = unit_of(shown.event);
     let count = attempts_of(shown.settings.format);
@@ -159,17 +154,12 @@ fn entrant_fields(
     Ok(fields)
 }
 
-/// Why a table is not written. The writer stands over memory, so it fails where a growth is
-/// refused. The other errors can't come: of lengths, since each record has as many fields as the
-/// header, and of texts and of values, since records of bytes are written.
-fn cause_of(error: csv::Error) -> NoMemory {
-    match error.into_kind() {
-        ErrorKind::Io(_) | ErrorKind::OutOfMemory => NoMemory,
-        ErrorKind::UnequalLengths { .. }
-        | ErrorKind::Utf8 { .. }
-        | ErrorKind::Serialize(_)
-        | ErrorKind::Deserialize { .. } => NoMemory,
-    }
+/// Why a table is not written: memory ran out. The writer writes to memory, so that it fails only
+/// where a growth is refused. `csv` has other faults, of lengths, texts and values. None of them
+/// comes, since records of bytes are written, each of as many fields as the header; no clause of
+/// `csv` says so.
+fn cause_of(_any: csv::Error) -> NoMemory {
+    NoMemory
 }
 
 /// Writes a record.
@@ -193,8 +183,7 @@ fn write_entrant(
 ) -> Result<(), NoMemory>
     requires ready { IsReady writer.old }
     requires border { IsBorder shown.table.now shown.settings.advance shown.border }
-    ensures { OnOk result (Adds writer.old writer.new (record_of (unit_of shown.entry.event)
-        shown.entry.meet.now.accepted shown.entry.settings shown.entry.table.now number)) }
+    ensures { OnOk result (Adds writer.old writer.new (record_shown shown.entry number)) }
 {
     let Some(row) = shown.table.row(number) else {
         return Ok(());
@@ -213,9 +202,8 @@ fn write_entrants(
 ) -> Result<(), NoMemory>
     requires ready { IsReady writer.old }
     requires border { IsBorder shown.table.now shown.settings.advance shown.border }
-    ensures { OnOk result (Adds writer.old writer.new
-        (flat_map (record_of (unit_of shown.entry.event) shown.entry.meet.now.accepted
-        shown.entry.settings shown.entry.table.now) numbers.now)) }
+    ensures { OnOk result
+        (Adds writer.old writer.new (flat_map (record_shown shown.entry) numbers.now)) }
 {
     for number in numbers {
         write_entrant(writer, alloc, shown, *number)?;
@@ -236,8 +224,7 @@ fn text_held(writer: Writer<Vec<u8>>) -> Result<Vec<u8>, NoMemory>
 /// The table of a round.
 fn table_of(alloc: Global, shown: Shown<'_>) -> Result<Vec<u8>, NoMemory>
     requires { IsBorder shown.table.now shown.settings.advance shown.border }
-    ensures { IfOk result (λ text. text.items ≡ table_of_round shown.entry.meet.now.accepted
-        shown.entry.event (shown.entry.settings, shown.entry.table.now)) }
+    ensures { IfOk result (λ text. text.items ≡ table_shown shown.entry) }
 {
     let numbers = shown.table.standings()?;
     let names = header(alloc, attempts_of(shown.settings.format))?;
@@ -247,7 +234,7 @@ fn table_of(alloc: Global, shown: Shown<'_>) -> Result<Vec<u8>, NoMemory>
     text_held(writer)
 }
 
-/// The result sheet of a round as comma-separated values, a line feed behind each record.
+/// The result sheet of a round as comma-separated values, a line feed after each record.
 ///
 /// The header names the columns: place, number, name, average, best, one for each attempt of the
 /// format, and advances. Then each entrant has a record, in order of place, and at one place in

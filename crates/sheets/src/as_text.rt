@@ -3,11 +3,10 @@
 ghost use Rattle.std.specs.Prelude.{◌≡◌, ◌++◌, IfOk, OnOk, IfErr, flat_map, codes, Some};
 ghost use Rattle.advancement.specs.Advancing.{IsBorder};
 ghost use Rattle.formats.specs.Results.{best_of};
-ghost use Rattle.formats.specs.Events.{attempts_of, unit_of};
 ghost use Rattle.sheets.specs.Sheet.{right, columns, mark, state_text, title, standing, first_line};
-ghost use Rattle.sheets.specs.Sheet.{second_line, results, attempts, person, line_of};
-ghost use Rattle.sheets.specs.Sheet.{text_of_round, text_sheet};
+ghost use Rattle.sheets.specs.Sheet.{second_line, results, attempts, person, text_sheet};
 ghost use Rattle.sheets.specs.Faults.{NoSheet};
+ghost use Rattle.sheets.specs.model.Shown.{line_shown, text_shown};
 
 use crate::SheetFault;
 use crate::shown::{
@@ -181,9 +180,7 @@ fn push_line(
     number: u16,
 ) -> Result<(), NoMemory>
     requires { IsBorder shown.table.now shown.settings.advance shown.border }
-    ensures { OnOk result (out.new.items ≡ out.old.items
-        ++ line_of (unit_of shown.entry.event) shown.entry.meet.now.accepted
-        shown.entry.settings shown.entry.table.now number) }
+    ensures { OnOk result (out.new.items ≡ out.old.items ++ line_shown shown.entry number) }
 {
     let Some(row) = shown.table.row(number) else {
         return Ok(());
@@ -210,9 +207,8 @@ fn push_lines(
     numbers: &[u16],
 ) -> Result<(), NoMemory>
     requires { IsBorder shown.table.now shown.settings.advance shown.border }
-    ensures { OnOk result (out.new.items ≡ out.old.items
-        ++ flat_map (line_of (unit_of shown.entry.event) shown.entry.meet.now.accepted
-        shown.entry.settings shown.entry.table.now) numbers.now) }
+    ensures { OnOk result
+        (out.new.items ≡ out.old.items ++ flat_map (line_shown shown.entry) numbers.now) }
 {
     for number in numbers {
         push_line(out, alloc, shown, *number)?;
@@ -223,9 +219,7 @@ fn push_lines(
 /// The sheet of a round.
 fn text_of(alloc: Global, shown: Shown<'_>, round: u8, position: u32) -> Result<Vec<u8>, NoMemory>
     requires { IsBorder shown.table.now shown.settings.advance shown.border }
-    ensures { IfOk result (λ text. text.items
-        ≡ text_of_round shown.entry.meet.now.accepted shown.entry.event round position
-        (shown.entry.settings, shown.entry.table.now)) }
+    ensures { IfOk result (λ text. text.items ≡ text_shown shown.entry round position) }
 {
     let numbers = shown.table.standings()?;
     let mut out = Vec::new(alloc);

@@ -1,11 +1,14 @@
 -- One connection after the other.
-use Rattle.std.proofs.Common.{◌≡◌, refl, sym, ap, subst, ◌∙◌, ℕ, ◌+◌, ◌≤◌, ◌<◌, List, [], ◌∷◌, ◌++◌, append_assoc, append-nil, length, length-append, Option, None, Some, arith}
+use Rattle.std.proofs.Common.{◌≡◌, refl, sym, ap, subst, ◌∙◌, ℕ, ◌+◌, ◌≤◌, ◌<◌, List, [], ◌∷◌, ◌++◌}
+use Rattle.std.proofs.Common.{append_assoc, append-nil, length, length-append, Option, None, Some}
+use Rattle.std.proofs.Common.{arith}
 use Rattle.serving.specs.Making.{Way}
 use Rattle.serving.specs.declared.ends.End.{End}
 use Rattle.serving.specs.declared.ends.End.TheVariants as end
 use Rattle.store.specs.declared.home.Home.{Home}
 use Rattle.sockets.specs.Listening.{Listened, Came, Failed, Ended, Tells}
-use Rattle.sockets.specs.Visits.{Standing, Visit, IsVisit, AreVisits, listened_of, GoOn, EndsAll, IsServedAll, end_behind, listened_at}
+use Rattle.sockets.specs.Visits.{AtRest, Visit, IsVisit, AreVisits, listened_of, GoOn, EndsAll}
+use Rattle.sockets.specs.Visits.{IsServedAll, end_behind, listened_at}
 use Rattle.sockets.specs.declared.serving_all.AllEnd.{AllEnd}
 use Rattle.sockets.specs.declared.serving_all.AllEnd.TheVariants as all
 
@@ -47,7 +50,7 @@ tells_no_more a b xs h = subst (λ (t : List Listened). Tells a b t) (sym (appen
 -- ---- connections
 
 -- the connections so far, behind which the next client has its turn
-pub record SoFar {V : Type 0} {way : Way V} (home : Home) (most count : ℕ) (a b : Standing way)
+pub record SoFar {V : Type 0} {way : Way V} (home : Home) (most count : ℕ) (a b : AtRest way)
     (old new : Option (List Listened))
     (each : List Visit) : Type 0 where
   pub visits : AreVisits home a each b
@@ -56,7 +59,7 @@ pub record SoFar {V : Type 0} {way : Way V} (home : Home) (most count : ℕ) (a 
   pub goes : GoOn each
   pub listened : Tells old new (listened_of each)
 
-pub none_yet : {V : Type 0} {way : Way V} (home : Home) (most : ℕ) (a : Standing way)
+pub none_yet : {V : Type 0} {way : Way V} (home : Home) (most : ℕ) (a : AtRest way)
     (old : Option (List Listened)) → SoFar home most 0 a a old old []
 none_yet home most a old = record {
   visits = refl;
@@ -66,7 +69,7 @@ none_yet home most a old = record {
   listened = Tells-nil old;
 }
 
-visits_more : {V : Type 0} {way : Way V} (home : Home) (a m b : Standing way) (vs : List Visit)
+visits_more : {V : Type 0} {way : Way V} (home : Home) (a m b : AtRest way) (vs : List Visit)
     (v : Visit)
     → AreVisits home a vs m → IsVisit home v m b → AreVisits home a (vs ++ v ∷ []) b
 visits_more home a m b [] v h k = (b, subst (λ z. IsVisit home v z b) (sym h) k, refl)
@@ -82,7 +85,7 @@ counts : (vs : List Visit) (v : Visit) (count : ℕ) → count ≡ length vs
 counts vs v count h = omega (arith, h, length-append vs (v ∷ []))
 
 -- a client came, was served, and its answers were ended
-pub record OneServed {V : Type 0} {way : Way V} (home : Home) (m b : Standing way)
+pub record OneServed {V : Type 0} {way : Way V} (home : Home) (m b : AtRest way)
     (mid new : Option (List Listened))
     (v : Visit) : Type 0 where
   pub visit : IsVisit home v m b
@@ -91,7 +94,7 @@ pub record OneServed {V : Type 0} {way : Way V} (home : Home) (m b : Standing wa
   pub ended : Tells between new (Ended v.behind ∷ [])
 
 -- one more, and the next client has its turn
-pub one_more : {V : Type 0} {way : Way V} (home h : Home) (most count : ℕ) (a m b : Standing way)
+pub one_more : {V : Type 0} {way : Way V} (home h : Home) (most count : ℕ) (a m b : AtRest way)
     (old mid new : Option (List Listened))
     (each : List Visit) (v : Visit)
     → h ≡ home → count < most → SoFar home most count a m old mid each
@@ -132,7 +135,7 @@ ends_behind e end.Down most vs v h is k =
 
 -- one more, which is the last
 pub one_last : {V : Type 0} {way : Way V} (e : AllEnd) (home h : Home) (most count : ℕ)
-    (a m b : Standing way) (old mid new : Option (List Listened)) (each : List Visit) (v : Visit)
+    (a m b : AtRest way) (old mid new : Option (List Listened)) (each : List Visit) (v : Visit)
     → h ≡ home → count < most → SoFar home most count a m old mid each
     → OneServed h m b mid new v → end_behind v.served.end ≡ Some e
     → (each : List Visit)
@@ -155,7 +158,7 @@ one_last e home h most count a m b old mid new each v same more k one behind =
     )
 
 -- the next client could not be accepted
-pub deaf : {V : Type 0} {way : Way V} (home : Home) (most count : ℕ) (a b : Standing way)
+pub deaf : {V : Type 0} {way : Way V} (home : Home) (most count : ℕ) (a b : AtRest way)
     (old mid new : Option (List Listened)) (each : List Visit)
     → count < most → SoFar home most count a b old mid each → Tells mid new (Failed ∷ [])
     → (each : List Visit)
@@ -173,7 +176,7 @@ deaf home most count a b old mid new each more k failed = (
 )
 
 -- all were served
-pub whole : {V : Type 0} {way : Way V} (home : Home) (most count : ℕ) (a b : Standing way)
+pub whole : {V : Type 0} {way : Way V} (home : Home) (most count : ℕ) (a b : AtRest way)
     (old new : Option (List Listened)) (each : List Visit)
     → most ≤ count → SoFar home most count a b old new each
     → (each : List Visit)

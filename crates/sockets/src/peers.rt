@@ -12,7 +12,7 @@ use std::time::Duration;
 /// How long a push waits for a connection, in milliseconds.
 const MOST_WAIT: u64 = 100;
 
-/// How many pushes to a desk are dropped behind one that waited so long.
+/// How many pushes to a desk are dropped after one that waited so long.
 const MOST_SKIPPED: u8 = 16;
 
 /// Where a desk is, and how many pushes to it are still to be dropped.
@@ -23,7 +23,7 @@ struct Receiver {
 }
 
 /// The desks of a hall by their addresses. Each push is a connection of its own, which is closed
-/// behind its frame; nothing is awaited.
+/// after its frame; nothing is awaited.
 ///
 /// A frame is lost where its desk can't be reached. A desk that doesn't answer at all makes a push
 /// wait for 100 milliseconds; the next 16 pushes to it are then dropped at once, so that an absent
@@ -36,7 +36,7 @@ pub struct SocketPeers<'a, R> {
 
 impl<'a, R: Net> SocketPeers<'a, R> {
     /// The desks at these addresses: desk 1 at the first one, and so on. Frames to a desk without
-    /// an address are lost. Addresses behind the fifth are left out.
+    /// an address are lost. Addresses after the fifth are left out.
     pub fn new(net: &'a R, addresses: &[Option<SocketAddr>]) -> SocketPeers<'a, R> {
         let nowhere = Receiver {
             address: None,
@@ -80,7 +80,7 @@ fn push_to<R: Net>(net: &R, receiver: &mut Receiver, frame: &[u8])
     receiver.skips = skips_behind(send(net, &address, frame));
 }
 
-/// How many pushes are dropped behind one that ended so: some where nobody answered in time.
+/// How many pushes are dropped after one that ended so: some where nobody answered in time.
 fn skips_behind(sent: io::Result<()>) -> u8
     ensures done { OnOk sent (result ≡ 0) }
     ensures late { IfErr sent (λ e. error_kind e ≡ ErrorKind.TimedOut → result ≡ 16) }

@@ -1,10 +1,9 @@
 //! Clients that are served one after the other.
 
-ghost use Rattle.std.specs.Prelude.{◌≡◌, ◌∷◌, [], ℕ, List, Option};
-ghost use Rattle.serving.specs.Making.{speaking, spoken};
+ghost use Rattle.std.specs.Prelude.{◌≡◌};
+ghost use Rattle.serving.specs.Making.{spoken};
 ghost use Rattle.wire.specs.Laws.{IsVersion};
-ghost use Rattle.sockets.specs.Listening.{Ended, Tells};
-ghost use Rattle.sockets.specs.Visits.{Visit, IsVisit, IsServedAll, end_behind, standing_of, visit};
+ghost use Rattle.sockets.specs.Visits.{ServesAll, ServesClient, door, end_behind};
 
 use crate::accepting::Accept;
 use answers::Desk;
@@ -43,11 +42,9 @@ fn serve_client<D: Desk, A: Accept, P: Peers>(
     wire: u8,
 ) -> Served
     requires version { IsVersion wire }
-    ensures visit { (behind : Option (List ℕ)) × IsVisit (D.home_of node.old)
-        (visit result (A.Reader.remaining reader) (A.Writer.contents writer) behind)
-        (standing_of (speaking D.handles (spoken wire)) D.seen node.old (P.handed peers.old))
-        (standing_of (speaking D.handles (spoken wire)) D.seen node.new (P.handed peers.new))
-        × Tells (A.listened listener.old) (A.listened listener.new) (Ended behind ∷ []) }
+    ensures visit { ServesClient D.Desk P.Peers A.listened (spoken wire) result
+        (door node.old peers.old listener.old) (door node.new peers.new listener.new)
+        (A.Reader.remaining reader) (A.Writer.contents writer) }
     ensures home { D.home_of node.new ≡ D.home_of node.old }
 {
     let mut writer = writer;
@@ -69,11 +66,8 @@ pub fn serve_all<D: Desk, A: Accept, P: Peers>(
     wire: u8,
 ) -> ServedAll
     requires version { IsVersion wire }
-    ensures served { (each : List Visit) × IsServedAll result (D.home_of node.old) most
-        (standing_of (speaking D.handles (spoken wire)) D.seen node.old (P.handed peers.old))
-        (standing_of (speaking D.handles (spoken wire)) D.seen node.new (P.handed peers.new))
-        (A.listened listener.old) (A.listened listener.new)
-        each }
+    ensures served { ServesAll D.Desk P.Peers A.listened (spoken wire) most result
+        (door node.old peers.old listener.old) (door node.new peers.new listener.new) }
     ensures home { D.home_of node.new ≡ D.home_of node.old }
 {
     let mut connections = 0;
@@ -96,7 +90,7 @@ pub fn serve_all<D: Desk, A: Accept, P: Peers>(
     }
 }
 
-/// Why no client is served behind a connection that ended so, if none is.
+/// Why no client is served after a connection that ended so, if none is.
 fn end_behind(end: End) -> Option<AllEnd>
     ensures { result ≡ end_behind end }
 {

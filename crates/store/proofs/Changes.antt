@@ -1,5 +1,6 @@
 -- What each change leaves.
-use Rattle.std.proofs.Common.{◌≡◌, ℕ, List, [], ◌∷◌, ◌++◌, length, Some, None, Ok, Result, subst, ◌∙◌, ap, sym, map, IsPermutation}
+use Rattle.std.proofs.Common.{◌≡◌, ℕ, List, [], ◌∷◌, ◌++◌, length, Some, None, Ok, Result, subst}
+use Rattle.std.proofs.Common.{◌∙◌, ap, sym, map, IsPermutation}
 use Rattle.sqlite.specs.declared.error.Error.{Error}
 use Rattle.sqlite.specs.State.{State, HasCleanDisk, Survives, Executes, CommitsBy}
 use Rattle.acceptor.specs.declared.entry.Entry.{Entry}
@@ -10,7 +11,9 @@ use Rattle.acceptor.specs.declared.stored.Stored.{Stored}
 use Rattle.store.specs.Holding.{shown_desk, shown_entry, log_values}
 use Rattle.store.specs.Kept.{Keeps, Saved}
 use Rattle.store.proofs.SqlTexts.{promise_text, vote_text, try_text, append_text}
-use Rattle.store.proofs.Texts.{updates, promise_is, promise_plain, promise_terms, vote_is, vote_plain, vote_terms, try_is, try_plain, try_terms, append_is, append_plain, append_terms}
+use Rattle.store.proofs.Texts.{updates, promise_is, promise_plain, promise_terms, vote_is}
+use Rattle.store.proofs.Texts.{vote_plain, vote_terms, try_is, try_plain, try_terms, append_is}
+use Rattle.store.proofs.Texts.{append_plain, append_terms}
 use Rattle.store.proofs.Rewriting.{promises, promise_params, votes, vote_params, tries, try_params}
 use Rattle.store.proofs.Saving.{Settles, saves, update_makes, Makes}
 use Rattle.store.proofs.Inserting.{append_params, appends, inserted}

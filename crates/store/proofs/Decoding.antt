@@ -1,5 +1,7 @@
 -- One more entry is read.
-use Rattle.std.proofs.Common.{◌≡◌, ℕ, pos, ◌+◌, ◌<◌, ◌≤◌, List, [], ◌∷◌, ◌++◌, map, take, length, get_or, subst₂, IsPermutation, refl, sym, ap, ◌∙◌, arith, zero-add, ◌≢◌, length-append}
+use Rattle.std.proofs.Common.{◌≡◌, ℕ, pos, ◌+◌, ◌<◌, ◌≤◌, List, [], ◌∷◌, ◌++◌, map, take, length}
+use Rattle.std.proofs.Common.{get_or, subst₂, IsPermutation, refl, sym, ap, ◌∙◌, arith, zero-add}
+use Rattle.std.proofs.Common.{◌≢◌, length-append}
 use Rattle.std.proofs.lemmas.List.{map-append, take_more}
 use Rattle.sqlite.specs.declared.types.Value.TheVariants.{Int, Blob}
 use Rattle.sqlite.specs.Order.{Row, column}
@@ -7,7 +9,8 @@ use Rattle.sqlite_trees.proofs.ListLemmas.{all-append}
 use Rattle.acceptor.specs.Entries.{IsId, IsText}
 use Rattle.store.specs.Whole.{LogIsWhole}
 use Rattle.acceptor.specs.declared.entry.Entry.{Entry}
-use Rattle.store.specs.Holding.{entry_values, log_values, entry_columns, shown_entry, shown_desk, desk_values, desk_columns}
+use Rattle.store.specs.Holding.{entry_values, log_values, entry_columns, shown_entry, shown_desk}
+use Rattle.store.specs.Holding.{desk_values, desk_columns}
 use Rattle.std.proofs.lemmas.List.Sorted.{IsPermutation-map, IsPermutation-sym}
 use Rattle.sqlite.proofs.Callers.{one_permutation}
 use Rattle.acceptor.specs.declared.stored.Stored.{Stored}

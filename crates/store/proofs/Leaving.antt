@@ -3,8 +3,8 @@ use Rattle.std.proofs.Common.{List, Result, Ok, Err}
 use Rattle.acceptor.specs.declared.entry.Entry.{Entry}
 use Rattle.acceptor.specs.declared.stored.Stored.{Stored}
 use Rattle.acceptor.specs.declared.stored.Change.{Change}
-use Rattle.store.specs.declared.faults.SaveFault.{SaveFault}
-use Rattle.store.specs.declared.faults.SaveFault.TheVariants.{Device, NoMemory, Down}
+use Rattle.store.specs.declared.fault.SaveFault.{SaveFault}
+use Rattle.store.specs.declared.fault.SaveFault.TheVariants.{Device, NoMemory, Down}
 use Rattle.store.specs.Keeping.{HoldsOnly, Leaves}
 
 module _ (keeps may_hold : Stored → List Entry → Type 0) (may_break : Type 0) (s : Stored)

@@ -4,6 +4,7 @@ pub mod Updating
 pub mod Rewriting
 pub mod Inserting
 pub mod Saving
+pub mod Refusing
 pub mod Changes
 pub mod Probing
 pub mod Queries

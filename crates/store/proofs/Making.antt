@@ -1,5 +1,6 @@
 -- What the three statements that make a store leave.
-use Rattle.std.proofs.Common.{◌≡◌, ℕ, pos, [], ◌∷◌, map, IsPermutation, false, None, Ok, refl, sym, ap, subst, ◌∙◌, arith}
+use Rattle.std.proofs.Common.{◌≡◌, ℕ, pos, [], ◌∷◌, map, IsPermutation, false, None, Ok, refl, sym}
+use Rattle.std.proofs.Common.{ap, subst, ◌∙◌, arith}
 use Rattle.sqlite.specs.declared.types.Value.TheVariants.{Int}
 use Rattle.sqlite.specs.Order.{Row}
 use Rattle.sqlite.specs.Tree.{Trees}
@@ -22,7 +23,9 @@ use Rattle.acceptor.specs.Storing.{first_stored}
 use Rattle.store.specs.Kept.{Keeps}
 use Rattle.std.proofs.lemmas.List.Sorted.{IsPermutation-refl}
 use Rattle.store.proofs.SqlTexts.{create_desk_text, create_entries_text, first_text}
-use Rattle.store.proofs.Texts.{half_schema, create_desk_is, create_entries_is, make_desk_is, make_desk_plain, make_entries_is, make_entries_plain, first_is, first_plain, first_terms}
+use Rattle.store.proofs.Texts.{half_schema, create_desk_is, create_entries_is, make_desk_is}
+use Rattle.store.proofs.Texts.{make_desk_plain, make_entries_is, make_entries_plain, first_is}
+use Rattle.store.proofs.Texts.{first_plain, first_terms}
 use Rattle.store.proofs.Updating.{went, same_value}
 use Rattle.store.proofs.Rewriting.{cast_int, cast_null}
 

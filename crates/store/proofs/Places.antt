@@ -1,5 +1,8 @@
 -- The rows that go by their first column are those of a log, in its order.
-use Rattle.std.proofs.Common.{◌≡◌, ℕ, zero, suc, pos, ◌+◌, ◌<◌, ◌≤◌, false, List, [], ◌∷◌, map, length, get_or, slice_get, Option, Some, None, refl, sym, ap, ap₂, subst, ◌∙◌, arith, add-zero, zero-add, int_cmp, take, length-take-le, ◌^◌, IsPermutation, IsSorted}
+use Rattle.std.proofs.Common.{◌≡◌, ℕ, zero, suc, pos, ◌+◌, ◌<◌, ◌≤◌, false, List, [], ◌∷◌, map}
+use Rattle.std.proofs.Common.{length, get_or, slice_get, Option, Some, None, refl, sym, ap, ap₂}
+use Rattle.std.proofs.Common.{subst, ◌∙◌, arith, add-zero, zero-add, int_cmp, take, length-take-le}
+use Rattle.std.proofs.Common.{◌^◌, IsPermutation, IsSorted}
 use Rattle.std.specs.List.{AllByRecursion}
 use Rattle.std.specs.declared.cmp.Ordering.{Ordering}
 use Rattle.std.specs.declared.cmp.Ordering.TheVariants.{Less, Equal, Greater}
@@ -19,7 +22,8 @@ use Rattle.acceptor.specs.declared.stored.Vote.{Vote}
 use Rattle.acceptor.specs.declared.stored.Stored.{Stored}
 use Rattle.store.specs.declared.home.Home.{Home}
 use Rattle.sqlite.proofs.Callers.{one_permutation}
-use Rattle.store.specs.Holding.{entry_values, log_values, entry_columns, shown_entry, by_first, desk_values, desk_columns, shown_desk}
+use Rattle.store.specs.Holding.{entry_values, log_values, entry_columns, shown_entry, by_first}
+use Rattle.store.specs.Holding.{desk_values, desk_columns, shown_desk}
 use Rattle.store.specs.model.Unique.{at_of, rises, length_values}
 
 -- the first column is a position

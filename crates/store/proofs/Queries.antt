@@ -1,5 +1,6 @@
 -- What the two queries give, and what they leave.
-use Rattle.std.proofs.Common.{◌≡◌, inl, inr, ℕ, List, [], ◌∷◌, map, IsPermutation, false, IsTrue, OnOk, IfErr, Result, Ok, Err, refl, sym, ap, subst, subst₂, ◌∙◌}
+use Rattle.std.proofs.Common.{◌≡◌, inl, inr, ℕ, List, [], ◌∷◌, map, IsPermutation, false, IsTrue}
+use Rattle.std.proofs.Common.{OnOk, IfErr, Result, Ok, Err, refl, sym, ap, subst, subst₂, ◌∙◌}
 use Rattle.std.specs.List.{flat_map}
 use Rattle.std.proofs.lemmas.List.Sorted.{IsPermutation-map}
 use Rattle.sqlite.specs.Order.{Row}
@@ -30,7 +31,8 @@ use Rattle.sqlite.specs.Term.{col}
 use Rattle.sqlite.specs.Collation.TheVariants.{Binary}
 use Rattle.store.specs.Kept.{Keeps, Spares}
 use Rattle.store.proofs.SqlTexts.{desk_text, log_text}
-use Rattle.store.proofs.Texts.{sorted, desk_is, desk_plain, desk_listing, desk_terms, log_is, log_plain, log_listing, log_terms}
+use Rattle.store.proofs.Texts.{sorted, desk_is, desk_plain, desk_listing, desk_terms, log_is}
+use Rattle.store.proofs.Texts.{log_plain, log_listing, log_terms}
 use Rattle.store.proofs.Saving.{kept_unchanged, kept_back}
 
 -- every row of the table, shown by the terms, in some order

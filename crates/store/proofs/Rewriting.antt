@@ -1,5 +1,6 @@
 -- What each UPDATE makes of the desk's row.
-use Rattle.std.proofs.Common.{◌≡◌, ℕ, ℤ, pos, List, [], ◌∷◌, ◌++◌, map, Bool, true, false, cond, Option, Some, None, refl, ap, ◌∙◌, drop, take}
+use Rattle.std.proofs.Common.{◌≡◌, ℕ, ℤ, pos, List, [], ◌∷◌, ◌++◌, map, Bool, true, false, cond}
+use Rattle.std.proofs.Common.{Option, Some, None, refl, ap, ◌∙◌, drop, take}
 use Rattle.sqlite.specs.declared.types.Value.{Value}
 use Rattle.sqlite.specs.declared.types.Value.TheVariants.{Null, Int, Blob}
 use Rattle.sqlite.specs.Order.{Row, column, value_cmp}
@@ -86,14 +87,14 @@ rewrites trees only home s t values one shows is =
     ap (map shown_desk) put ∙ ap (λ r. r ∷ []) (shown_stored home t)
 
 abbrev pub promise_params : Ballot → Row
-promise_params b = Int (pos b.round) ∷ Int (pos b.desk) ∷ []
+promise_params b = Int (pos b.number) ∷ Int (pos b.desk) ∷ []
 
 abbrev pub try_params : ℕ → Row
 try_params n = Int (pos n) ∷ []
 
 abbrev pub vote_params : Vote → Row
 vote_params v =
-    Int (pos v.pos) ∷ Int (pos v.ballot.round) ∷ Int (pos v.ballot.desk) ∷ Int (pos v.entry.id) ∷
+    Int (pos v.pos) ∷ Int (pos v.ballot.number) ∷ Int (pos v.ballot.desk) ∷ Int (pos v.entry.id) ∷
     Blob v.entry.text ∷ []
 
 -- The terms read what a row shows and nothing else.

@@ -1,5 +1,7 @@
 -- From the meaning of a statement to what it leaves.
-use Rattle.std.proofs.Common.{◌≡◌, inl, inr, ℕ, List, [], ◌∷◌, map, IsPermutation, false, cond, Option, None, Ok, Err, Result, OnOk, OnErr, IsTrue, sym, ap, subst, subst₂, ◌∙◌, append-nil}
+use Rattle.std.proofs.Common.{◌≡◌, inl, inr, ℕ, List, [], ◌∷◌, map, IsPermutation, false, cond}
+use Rattle.std.proofs.Common.{Option, None, Ok, Err, Result, OnOk, OnErr, IsTrue, sym, ap, subst}
+use Rattle.std.proofs.Common.{subst₂, ◌∙◌, append-nil}
 use Rattle.sqlite.specs.Order.{Row}
 use Rattle.sqlite.specs.Tree.{Trees}
 use Rattle.sqlite.specs.Term.{Term, eval_all}
@@ -14,7 +16,9 @@ use Rattle.sqlite.specs.Command.TheVariants.{Commit, Release}
 use Rattle.sqlite.specs.Does.{Tally, Does}
 use Rattle.sqlite.specs.Effect.{Database}
 use Rattle.sqlite.specs.Listing.{understood}
-use Rattle.sqlite.specs.State.{State, HasCleanDisk, mode_of, IsUnchanged, IsRolledBack, IsNotRun, Runs, Writes, text_of, Survives, ExecutesIn, Executes, CommitsBy, shows_rows}
+use Rattle.sqlite.specs.State.{State, HasCleanDisk, mode_of, IsUnchanged, IsRolledBack, IsNotRun}
+use Rattle.sqlite.specs.State.{Runs, Writes, text_of, Survives, ExecutesIn, Executes, CommitsBy}
+use Rattle.sqlite.specs.State.{shows_rows}
 use Rattle.std.proofs.lemmas.Bool.{cases_Bool}
 use Rattle.sqlite.proofs.Callers.{IsPlain, command_of, statement_of, runs_as}
 use Rattle.acceptor.specs.declared.entry.Entry.{Entry}

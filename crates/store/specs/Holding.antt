@@ -9,6 +9,7 @@ use Rattle.sqlite.specs.Order.{Row, column}
 use Rattle.sqlite.specs.Collation.TheVariants.{Binary}
 use Rattle.sqlite_sql.specs.Query.{key_cmp}
 use Rattle.sqlite.specs.Tree.{Trees}
+use Rattle.acceptor.specs.declared.ballot.Ballot.{Ballot}
 use Rattle.acceptor.specs.declared.entry.Entry.{Entry}
 use Rattle.store.specs.declared.home.Home.{Home}
 use Rattle.acceptor.specs.declared.stored.Vote.{Vote}
@@ -18,14 +19,14 @@ use Rattle.acceptor.specs.declared.stored.Stored.{Stored}
 abbrev pub vote_values : Option Vote → Row
 vote_values None = Null ∷ Null ∷ Null ∷ Null ∷ Null ∷ []
 vote_values (Some v) =
-    Int (pos v.pos) ∷ Int (pos v.ballot.round) ∷ Int (pos v.ballot.desk) ∷ Int (pos v.entry.id) ∷
+    Int (pos v.pos) ∷ Int (pos v.ballot.number) ∷ Int (pos v.ballot.desk) ∷ Int (pos v.entry.id) ∷
     Blob v.entry.text ∷ []
 
 -- the columns of the one row of `desk`
 abbrev pub desk_values : Home → Stored → Row
 desk_values home s =
     Int (pos 1) ∷ Int (pos home.hall) ∷ Int (pos home.desk) ∷ Int (pos home.desks)
-    ∷ Int (pos s.promised.round) ∷ Int (pos s.promised.desk) ∷ Int (pos s.tried) ∷ vote_values
+    ∷ Int (pos s.promised.number) ∷ Int (pos s.promised.desk) ∷ Int (pos s.tried) ∷ vote_values
     s.vote
 
 -- the columns of the rows of `entries`, from a position on
@@ -58,10 +59,33 @@ desk_columns r =
 abbrev pub entry_columns : Row → Row
 entry_columns r = column r 0 ∷ column r 1 ∷ column r 2 ∷ []
 
--- the two tables, as trees 0 and 1, have this state and nothing else
+-- the table `desk`, which is tree 0, has one row, of this desk with this state
+abbrev pub HasRow : Home → Stored → Trees → Type 0
+HasRow home s db = map shown_desk (db 0) ≡ desk_values home s ∷ []
+
+-- the table `entries`, which is tree 1, has the rows of this log, in some order
+abbrev pub HasLog : List Entry → Trees → Type 0
+HasLog log db = IsPermutation (log_values 0 log) (map shown_entry (db 1))
+
+-- the two tables have this state and nothing else
 pub record Holds (home : Home) (db : Trees) (s : Stored) (log : List Entry) : Type 0 where
-  pub desk : map shown_desk (db 0) ≡ desk_values home s ∷ []
-  pub entries : IsPermutation (log_values 0 log) (map shown_entry (db 1))
+  pub desk : HasRow home s db
+  pub entries : HasLog log db
+
+-- a row that a query gives begins with the columns of this desk
+abbrev pub IsRowOf : Row → Home → Type 0
+IsRowOf row home =
+    (column row 0 ≡ Int (pos 1)) × (column row 1 ≡ Int (pos home.hall))
+    × (column row 2 ≡ Int (pos home.desk)) × (column row 3 ≡ Int (pos home.desks))
+
+-- a row that a query gives has a ballot in two columns from a place on
+abbrev pub HasBallot : Row → ℕ → Ballot → Type 0
+HasBallot row at b =
+    (column row at ≡ Int (pos b.number)) × (column row (at + 1) ≡ Int (pos b.desk))
+
+-- and an entry
+abbrev pub HasEntry : Row → ℕ → Entry → Type 0
+HasEntry row at e = (column row at ≡ Int (pos e.id)) × (column row (at + 1) ≡ Blob e.text)
 
 -- rows go by the first column, as ORDER BY has it
 abbrev pub by_first : Row → Row → Ordering

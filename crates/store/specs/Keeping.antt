@@ -5,8 +5,8 @@ use Rattle.acceptor.specs.declared.entry.Entry.{Entry}
 use Rattle.acceptor.specs.declared.stored.Stored.{Stored}
 use Rattle.acceptor.specs.declared.stored.Change.{Change}
 use Rattle.acceptor.specs.Storing.{stored_after, log_after}
-use Rattle.store.specs.declared.faults.SaveFault.{SaveFault}
-use Rattle.store.specs.declared.faults.SaveFault.TheVariants.{Device, NoMemory, Down}
+use Rattle.store.specs.declared.fault.SaveFault.{SaveFault}
+use Rattle.store.specs.declared.fault.SaveFault.TheVariants.{Device, NoMemory, Down}
 use Rattle.store.specs.Ranges.{IsFit}
 
 -- the count at which a keeper ends
@@ -74,3 +74,16 @@ Leaves keeps may_hold may_break s log change (Err Device) =
     HoldsEither may_hold may_break s log (stored_after s (Some change))
     (log_after log (Some change))
 Leaves keeps may_hold may_break s log change (Err Down) = ⊥
+
+-- Whatever state a keeper kept whose change is in its ranges, a save leaves what `Leaves` says.
+abbrev pub LeavesOf : ℕ → (Stored → List Entry → Type 0) → (Stored → List Entry → Type 0)
+    → (Stored → List Entry → Type 0) → Type 0 → Change → Result (Unit {0}) SaveFault → Type 0
+LeavesOf n kept keeps may_hold may_break change r =
+    (s : Stored) (log : List Entry) → kept s log → IsFitAfter n s log change
+    → Leaves keeps may_hold may_break s log change r
+
+-- the same of what an opening finds: to keep a state is to hold that one and no other
+abbrev pub LeavesFound : ℕ → (Stored → List Entry → Type 0) → (Stored → List Entry → Type 0)
+    → Type 0 → Change → Result (Unit {0}) SaveFault → Type 0
+LeavesFound n kept may_hold may_break =
+    LeavesOf n kept (HoldsOnly may_hold may_break) may_hold may_break

@@ -1,15 +1,18 @@
 -- What a connection keeps of a desk, and what a statement that saves leaves.
-use Rattle.std.specs.Prelude.{◌≡◌, ◌⊎◌, false, List, [], ◌∷◌, map, Result, OnOk, OnErr, IsTrue}
+use Rattle.std.specs.Prelude.{◌≡◌, ◌≢◌, ◌⊎◌, ℕ, false, List, [], length, Some, Result}
+use Rattle.std.specs.Prelude.{OnOk, OnErr, IsTrue}
 use Rattle.sqlite.specs.Tree.{Trees}
 use Rattle.sqlite.specs.declared.error.Error.{Error}
-use Rattle.sqlite.specs.State.{State}
+use Rattle.sqlite.specs.State.{State, HasCleanDisk}
 use Rattle.acceptor.specs.declared.entry.Entry.{Entry}
 use Rattle.store.specs.declared.home.Home.{Home}
 use Rattle.acceptor.specs.declared.stored.Stored.{Stored}
+use Rattle.acceptor.specs.declared.stored.Change.{Change}
+use Rattle.acceptor.specs.Storing.{stored_after, log_after}
 use Rattle.store.specs.Ranges.{IsHome, StoredIsFit}
-use Rattle.store.specs.Whole.{IsWhole}
-use Rattle.store.specs.Layout.{IsOurs}
-use Rattle.store.specs.Holding.{Holds, shown_desk, desk_values}
+use Rattle.store.specs.Whole.{IsWhole, IsSound}
+use Rattle.store.specs.Layout.{IsOurs, no_schema}
+use Rattle.store.specs.Holding.{Holds, HasRow}
 
 -- It is open, between transactions, and the two tables have this state
 pub record Keeps (home : Home) (s : Stored) (log : List Entry) (c : State) : Type 0 where
@@ -27,16 +30,54 @@ pub record Saved {X : Type 0} (home : Home) (s t : Stored) (log more : List Entr
   pub err : OnErr r (IsTrue new.is_open → Keeps home s log new)
   pub crash : (db : Trees) → new.may_leave db → Holds home db s log ⊎ Holds home db t more
 
+-- Whatever state the connection keeps, with a log of this length, the statement saves the change.
+abbrev pub SavesAt : {X : Type 0} → ℕ → Change → State → State → Result X Error → Type 0
+SavesAt len change old new r =
+    HasCleanDisk new → (home : Home) (s : Stored) (log : List Entry) → Keeps home s log old
+    → len ≡ length log
+    → Saved home s (stored_after s (Some change)) log (log_after log (Some change)) new r
+
+-- the same of a change that leaves the log as it is
+abbrev pub Saves : {X : Type 0} → Change → State → State → Result X Error → Type 0
+Saves change old new r =
+    HasCleanDisk new → (home : Home) (s : Stored) (log : List Entry) → Keeps home s log old
+    → Saved home s (stored_after s (Some change)) log (log_after log (Some change)) new r
+
 -- It is between transactions, the tables are there, and the row has this desk and this state, whole
 -- and in their ranges.
 pub record HasDesk (home : Home) (s : Stored) (c : State) : Type 0 where
   pub ours : IsOurs c.now.schema
   pub autocommit : c.in_transaction ≡ false
   pub settled : IsTrue c.is_open → c.now ≡ c.committed
-  pub row : map shown_desk (c.now.trees 0) ≡ desk_values home s ∷ []
+  pub row : HasRow home s c.now.trees
   pub whole : IsWhole home s
   pub place : IsHome home
   pub in_range : StoredIsFit home.desks s
+
+-- no desk's row is there, whole and in its ranges
+abbrev pub HasNoDesk : State → Type 0
+HasNoDesk c = (away : Home) (s : Stored) → ¬ HasDesk away s c
+
+-- and none but this desk's
+abbrev pub HasNoOther : Home → State → Type 0
+HasNoOther home c = (away : Home) (s : Stored) → HasDesk away s c → away ≡ home
+
+-- the row is another desk's
+abbrev pub HasOther : Home → State → Type 0
+HasOther home c = (away : Home) × (s : Stored) × HasDesk away s c × (away ≢ home)
+
+-- no desk's state is there with all of it in its ranges
+abbrev pub HasNoState : State → Type 0
+HasNoState c =
+    (away : Home) (s : Stored) (log : List Entry) → IsSound away s log → ¬ Keeps away s log c
+
+-- the database has nothing at all
+abbrev pub IsBare : State → Type 0
+IsBare c = c.now.schema ≡ no_schema
+
+-- the connection keeps some state of this desk
+abbrev pub KeepsSome : Home → State → Type 0
+KeepsSome home c = (s : Stored) × (log : List Entry) × Keeps home s log c
 
 -- what an open after a crash at this moment may find
 abbrev pub MayLeave : State → Home → Stored → List Entry → Type 0

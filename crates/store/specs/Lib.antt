@@ -5,5 +5,7 @@ pub mod Opening
 pub mod Layout
 pub mod Holding
 pub mod Kept
+pub mod Reads
+pub mod Refusals
 pub mod model
 pub mod Whole

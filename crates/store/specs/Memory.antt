@@ -1,17 +1,17 @@
 -- What a keeper in memory has, and what a save and a load make of it.
 use Rattle.std.specs.Prelude.{ℕ, ◌≡◌, ◌⊎◌, ◌+◌, ◌-◌, ◌==◌, ◌||◌, Bool, true, false, IsTrue}
-use Rattle.std.specs.Prelude.{if◌then◌else◌, List, Option, Some, None, Result, Ok, Err, nat_lt}
+use Rattle.std.specs.Prelude.{if◌then◌else◌, List, [], Option, Some, None, Result, Ok, Err, nat_lt}
 use Rattle.acceptor.specs.declared.entry.Entry.{Entry}
 use Rattle.acceptor.specs.declared.stored.Stored.{Stored}
 use Rattle.acceptor.specs.declared.stored.Change.{Change}
-use Rattle.acceptor.specs.Storing.{stored_after, log_after}
+use Rattle.acceptor.specs.Storing.{first_stored, stored_after, log_after}
 use Rattle.learner.specs.Logs.{LogValue}
 use Rattle.store.specs.declared.home.Home.{Home}
 use Rattle.store.specs.declared.failing.Failing.{Failing}
-use Rattle.store.specs.declared.faults.SaveFault.{SaveFault}
-use Rattle.store.specs.declared.faults.SaveFault.TheVariants.{Device, NoMemory, Down}
-use Rattle.store.specs.declared.faults.LoadFault.{LoadFault}
-use Rattle.store.specs.declared.faults.LoadFault.TheVariants as load
+use Rattle.store.specs.declared.fault.SaveFault.{SaveFault}
+use Rattle.store.specs.declared.fault.SaveFault.TheVariants.{Device, NoMemory, Down}
+use Rattle.store.specs.declared.fault.LoadFault.{LoadFault}
+use Rattle.store.specs.declared.fault.LoadFault.TheVariants as load
 use Rattle.store.specs.Keeping.{most_failures}
 use Rattle.store.specs.Ranges.{IsFit}
 
@@ -23,6 +23,17 @@ pub record MemoryState : Type 0 where
   pub failing : Option Failing
   pub failures : ℕ
   pub down : Bool
+
+-- a keeper that was made for this desk, with the first state and the empty log
+abbrev pub first_memory : Home → MemoryState
+first_memory home = record {
+  home = home;
+  stored = first_stored;
+  log = [];
+  failing = None;
+  failures = 0;
+  down = false;
+}
 
 abbrev pub is_stopped : MemoryState → Bool
 is_stopped m = m.down || (m.failures == most_failures)

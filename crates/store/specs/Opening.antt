@@ -1,5 +1,5 @@
 -- What an opening gives, and what a refusal tells and leaves.
-use Rattle.std.specs.Prelude.{◌≡◌, ◌≢◌, ◌⊎◌, List, [], IsTrue}
+use Rattle.std.specs.Prelude.{◌≡◌, ◌⊎◌, ℕ, List, [], length, Result, IfOk, IsTrue}
 use Rattle.sqlite.specs.Tree.{Trees}
 use Rattle.sqlite.specs.State.{State, HasCleanDisk}
 use Rattle.sqlite.specs.declared.error.Error.{Error}
@@ -10,11 +10,11 @@ use Rattle.acceptor.specs.declared.entry.Entry.{Entry}
 use Rattle.acceptor.specs.declared.stored.Stored.{Stored}
 use Rattle.acceptor.specs.Storing.{first_stored}
 use Rattle.store.specs.declared.home.Home.{Home}
-use Rattle.store.specs.declared.faults.OpenFault.{OpenFault}
-use Rattle.store.specs.declared.faults.OpenFault.TheVariants.{NoMemory, Device, Damaged, WrongDesk}
-use Rattle.store.specs.Layout.{no_schema}
+use Rattle.store.specs.declared.fault.OpenFault.{OpenFault}
+use Rattle.store.specs.declared.fault.OpenFault.TheVariants.{NoMemory, Device, Damaged, WrongDesk}
 use Rattle.store.specs.Holding.{Holds}
-use Rattle.store.specs.Kept.{Keeps, HasDesk}
+use Rattle.store.specs.Kept.{Keeps, HasNoOther, HasOther, HasNoState, IsBare, KeepsSome}
+use Rattle.store.specs.Ranges.{IsFit}
 use Rattle.store.specs.Whole.{IsSound}
 
 -- What a refusal of `sqlite` to open a file means for a desk's store: memory and the device are
@@ -27,6 +27,37 @@ refusal_of (SqliteFailure CannotOpen) = Device
 refusal_of (SqliteFailure DatabaseBusy) = Device
 refusal_of _ = Damaged
 
+-- a look at the tables finds this state, and the length of its log
+abbrev pub FindsThis : Home → Stored → List Entry → State → ℕ → Type 0
+FindsThis home s log c len = (len ≡ length log) × IsFit home.desks s log × Keeps home s log c
+
+-- it finds a state of this desk with all of it in its ranges
+abbrev pub FindsSound : Home → State → ℕ → Type 0
+FindsSound home c len =
+    (s : Stored) × (log : List Entry) × (len ≡ length log) × IsFit home.desks s log
+    × IsSound home s log × Keeps home s log c
+
+-- it finds what was kept before
+abbrev pub FindsAgain : Home → State → State → Result ℕ OpenFault → Type 0
+FindsAgain home old new r =
+    HasCleanDisk new → (s : Stored) (log : List Entry) → Keeps home s log old
+    → IfOk r (FindsThis home s log new)
+
+-- over nothing at all it finds the first state
+abbrev pub FindsFirst : Home → State → State → Result ℕ OpenFault → Type 0
+FindsFirst home old new r =
+    HasCleanDisk new → IsBare old → IfOk r (FindsThis home first_stored [] new)
+
+-- After a stop over nothing at all there is what was there, or both tables with the first row.
+abbrev pub MakesBoth : Home → State → State → Type 0
+MakesBoth home old new =
+    HasCleanDisk new → IsBare old → (db : Trees) → new.may_leave db
+    → old.may_leave db ⊎ Holds home db first_stored []
+
+-- there was nothing at all, or a state of this desk
+abbrev pub WasBareOrOurs : Home → State → Type 0
+WasBareOrOurs home c = IsBare c ⊎ KeepsSome home c
+
 -- What a keeper keeps that was opened for a desk over a connection.
 pub record Opens (home : Home) (old : State) (keeps : Stored → List Entry → Type 0) : Type 0 where
   -- the connection had been given back what was written
@@ -34,28 +65,26 @@ pub record Opens (home : Home) (old : State) (keeps : Stored → List Entry → 
   -- it is a state with all of it in its ranges
   pub kept : (s : Stored) × (log : List Entry) × IsSound home s log × keeps s log
   -- there was nothing at all, or a state of this desk
-  pub found : (old.now.schema ≡ no_schema)
-      ⊎ ((s : Stored) × (log : List Entry) × Keeps home s log old)
+  pub found : WasBareOrOurs home old
   -- over nothing at all it is the first state
-  pub made : old.now.schema ≡ no_schema → keeps first_stored []
+  pub made : IsBare old → keeps first_stored []
   -- and over a state of this desk it is that one
   pub same : (s : Stored) (log : List Entry) → Keeps home s log old → keeps s log
 
 -- What the two refusals that speak of the tables tell of the connection as it was.
 pub record Tells (home : Home) (old : State) (IsDamaged IsWrongDesk : Type 0) : Type 0 where
   -- no desk's state was there with all of it in its ranges
-  pub damaged : IsDamaged → (away : Home) (s : Stored) (log : List Entry) → IsSound away s log
-      → ¬ Keeps away s log old
+  pub damaged : IsDamaged → HasNoState old
   -- nor a whole row of another desk
-  pub own : IsDamaged → (away : Home) (s : Stored) → HasDesk away s old → away ≡ home
+  pub own : IsDamaged → HasNoOther home old
   -- a whole row of another desk was there
-  pub wrong : IsWrongDesk → (away : Home) × (s : Stored) × HasDesk away s old × (away ≢ home)
+  pub wrong : IsWrongDesk → HasOther home old
 
 -- What an opening that was refused leaves.
 pub record Remains (home : Home) (old new : State) : Type 0 where
   -- after a stop there is what was there or, where nothing was, both tables with the first row
   pub crash : (db : Trees) → new.may_leave db
-      → old.may_leave db ⊎ ((old.now.schema ≡ no_schema) × Holds home db first_stored [])
+      → old.may_leave db ⊎ (IsBare old × Holds home db first_stored [])
   -- a connection that is still open keeps what it kept
   pub kept : IsTrue new.is_open → (away : Home) (s : Stored) (log : List Entry)
       → Keeps away s log old → Keeps away s log new
@@ -66,5 +95,5 @@ pub record Refuses (home : Home) (old new : State) (fault : OpenFault) : Type 0 
   pub honest : HasCleanDisk old
   pub tells : Tells home old (fault ≡ Damaged) (fault ≡ WrongDesk)
   -- nothing at all is not damaged
-  pub fresh : fault ≡ Damaged → old.now.schema ≢ no_schema
+  pub fresh : fault ≡ Damaged → ¬ IsBare old
   pub remains : Remains home old new

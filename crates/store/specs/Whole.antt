@@ -6,28 +6,28 @@ use Rattle.acceptor.specs.declared.entry.Entry.{Entry}
 use Rattle.acceptor.specs.declared.stored.Vote.{Vote}
 use Rattle.acceptor.specs.declared.stored.Stored.{Stored}
 use Rattle.store.specs.declared.home.Home.{Home}
-use Rattle.store.specs.Ranges.{IsHome, StoredIsFit}
+use Rattle.store.specs.Ranges.{IsHome, StoredIsFit, most_entries}
 
--- the position and the round are of 32 bits, the desk of 8, and the entry is one
+-- the position and the number are of 32 bits, the desk of 8, and the entry is one
 abbrev pub VoteIsWhole : Option Vote → Type 0
 VoteIsWhole None = Unit {0}
 VoteIsWhole (Some v) =
-    (v.pos < 2 ^ 32) × (v.ballot.round < 2 ^ 32) × (v.ballot.desk < 256) × IsId v.entry.id
+    (v.pos < 2 ^ 32) × (v.ballot.number < 2 ^ 32) × (v.ballot.desk < 256) × IsId v.entry.id
     × IsText v.entry.text
 
--- the hall and the rounds are of 32 bits, and the desks of 8
+-- the hall and the ballot numbers are of 32 bits, and the desks of 8
 pub record IsWhole (home : Home) (s : Stored) : Type 0 where
   pub hall : home.hall < 2 ^ 32
   pub desk : home.desk < 256
   pub desks : home.desks < 256
-  pub round : s.promised.round < 2 ^ 32
+  pub number : s.promised.number < 2 ^ 32
   pub promised : s.promised.desk < 256
   pub tried : s.tried < 2 ^ 32
   pub vote : VoteIsWhole s.vote
 
--- each entry is one, and there are at most 65,536
+-- each entry is one, and there are no more than a log may have
 abbrev pub LogIsWhole : List Entry → Type 0
-LogIsWhole log = AllByRecursion (λ e. IsId e.id × IsText e.text) log × (length log ≤ 65536)
+LogIsWhole log = AllByRecursion (λ e. IsId e.id × IsText e.text) log × (length log ≤ most_entries)
 
 -- a desk's state and log with all of it in its ranges
 pub record IsSound (home : Home) (s : Stored) (entries : List Entry) : Type 0 where

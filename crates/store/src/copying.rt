@@ -1,6 +1,7 @@
 //! Equal copies of a vote, a state and a log.
 
 ghost use Rattle.std.specs.Prelude.{◌≡◌, ◌≤◌, IfOk, length};
+ghost use Rattle.store.specs.Ranges.{most_entries};
 
 use crate::NoMemory;
 use acceptor::stored::{Stored, Vote};
@@ -37,7 +38,7 @@ pub fn copy_stored(alloc: Global, stored: &Stored) -> Result<Stored, NoMemory>
 /// A log with equal entries.
 pub fn copy_log(alloc: Global, log: &Log) -> Result<Log, NoMemory>
     ensures copy { IfOk result (λ copy. copy.entries ≡ log.now.entries) }
-    ensures long { length log.now.entries ≤ 65536 }
+    ensures long { length log.now.entries ≤ most_entries }
 {
     let len = log.len();
     let mut copy = Log::new(alloc)?;

@@ -7,14 +7,14 @@ ghost use Rattle.acceptor.specs.declared.stored.Stored.{Stored as State};
 ghost use Rattle.acceptor.specs.declared.stored.Change.{Change as Step};
 ghost use Rattle.learner.specs.Logs.{LogValue};
 ghost use Rattle.store.specs.declared.home.Home.{Home as Place};
-ghost use Rattle.store.specs.declared.faults.SaveFault.{SaveFault as Refusal};
-ghost use Rattle.store.specs.declared.faults.LoadFault.{LoadFault as Unloaded};
+ghost use Rattle.store.specs.declared.fault.SaveFault.{SaveFault as Refusal};
+ghost use Rattle.store.specs.declared.fault.LoadFault.{LoadFault as Unloaded};
 ghost use Rattle.store.specs.Ranges.{IsHome, IsFit};
 ghost use Rattle.store.specs.Whole.{IsSound};
-ghost use Rattle.store.specs.Keeping.{most_failures, HoldsOnly, Leaves, IsFitAfter, Counts};
+ghost use Rattle.store.specs.Keeping.{most_failures, HoldsOnly, LeavesOf, Counts};
 ghost use Rattle.store.specs.Keeping.{IsLoaded, FindsNoMore, IsDamaged};
 
-use crate::faults::{LoadFault, SaveFault};
+use crate::fault::{LoadFault, SaveFault};
 use crate::home::Home;
 use acceptor::stored::{Change, Stored};
 use learner::log::Log;
@@ -71,10 +71,8 @@ pub trait Keeper {
             × (home_of self.new ≡ home_of self.old) }
 
         // What the store holds.
-        ensures leaves { is_honest self.new → (s : State) (log : List Entry)
-            → keeps self.old s log → IsFitAfter (home_of self.old).desks s log change.now
-            → Leaves (keeps self.new) (may_hold self.new) (may_break self.new) s log
-            change.now result }
+        ensures leaves { is_honest self.new → LeavesOf (home_of self.old).desks (keeps self.old)
+            (keeps self.new) (may_hold self.new) (may_break self.new) change.now result }
 
         // When it is Down, and what counts.
         ensures down { (result ≡ Err SaveFault.Down) ↔ IsTrue (is_down self.old) }

@@ -1,11 +1,9 @@
 //! A keeper that is lent is a keeper, and what a save leaves, said in one place.
 
-ghost use Rattle.std.specs.Prelude.{◌≡◌, ◌↔◌, ◌<◌, List, Err, IsTrue};
-ghost use Rattle.acceptor.specs.Entries.{EntryValue};
-ghost use Rattle.acceptor.specs.declared.stored.Stored.{Stored as State};
-ghost use Rattle.store.specs.Keeping.{HoldsOnly, Leaves, IsFitAfter};
+ghost use Rattle.std.specs.Prelude.{◌≡◌, ◌↔◌, ◌<◌, Err, IsTrue};
+ghost use Rattle.store.specs.Keeping.{LeavesFound};
 
-use crate::faults::{LoadFault, SaveFault};
+use crate::fault::{LoadFault, SaveFault};
 use crate::home::Home;
 use crate::keeper::Keeper;
 use acceptor::stored::{Change, Stored};
@@ -18,10 +16,9 @@ use std::alloc::Global;
 /// Device comes only where the count of failures has risen, and Down exactly where the keeper was
 /// Down.
 pub fn save_to<K: Keeper>(keeper: &mut K, change: &Change) -> Result<(), SaveFault>
-    ensures leaves { K.is_honest keeper.new → (s : State) (log : List EntryValue)
-        → K.keeps keeper.old s log → IsFitAfter (K.home_of keeper.old).desks s log change.now
-        → Leaves (HoldsOnly (K.may_hold keeper.new) (K.may_break keeper.new))
-        (K.may_hold keeper.new) (K.may_break keeper.new) s log change.now result }
+    ensures leaves { K.is_honest keeper.new
+        → LeavesFound (K.home_of keeper.old).desks (K.keeps keeper.old) (K.may_hold keeper.new)
+        (K.may_break keeper.new) change.now result }
     ensures down { (result ≡ Err SaveFault.Down) ↔ IsTrue (K.is_down keeper.old) }
     ensures counted { result ≡ Err SaveFault.Device
         → K.failures_of keeper.old < K.failures_of keeper.new }

@@ -1,13 +1,13 @@
 //! A desk's store: what it has committed, it finds again.
 //!
 //! A keeper keeps what a desk stores ('Paxos Made Simple', section 2.5): the promised ballot, the
-//! last vote, the round that was tried, and the log. One keeper stands over two tables of a
+//! last vote, the number that was tried, and the log. One keeper stands over two tables of a
 //! database, and one in memory, for tests. Code above is written over any keeper.
 #![tactic(auto)]
 
 mod copying;
 pub mod failing;
-pub mod faults;
+pub mod fault;
 pub mod home;
 pub mod keeper;
 pub mod lent_keeper;

@@ -1,17 +1,14 @@
 //! What the two tables have: the row of the desk, and then the log.
 
-ghost use Rattle.std.specs.Prelude.{◌≡◌, ◌≢◌, List, [], ◌∷◌, map, IsPermutation, IfOk, IfSome};
-ghost use Rattle.std.specs.Prelude.{OnOk, None, length};
+ghost use Rattle.std.specs.Prelude.{◌≡◌, ◌≢◌, [], ◌∷◌, IfOk, IfSome, OnOk, None, length};
 ghost use Rattle.sqlite.specs.State.{HasCleanDisk, IsUnchanged};
 ghost use Rattle.sqlite.specs.Held.{state};
-ghost use Rattle.acceptor.specs.Entries.{EntryValue};
-ghost use Rattle.acceptor.specs.declared.stored.Stored.{Stored as State};
-ghost use Rattle.store.specs.declared.home.Home.{Home as Place};
 ghost use Rattle.store.specs.Ranges.{IsHome, IsFit, StoredIsFit};
 ghost use Rattle.store.specs.Whole.{IsWhole, LogIsWhole, IsSound};
-ghost use Rattle.store.specs.Layout.{IsOurs};
-ghost use Rattle.store.specs.Holding.{shown_desk, shown_entry, desk_values, log_values};
-ghost use Rattle.store.specs.Kept.{Keeps, HasDesk, Spares};
+ghost use Rattle.store.specs.Kept.{Keeps, HasDesk, HasNoDesk, Spares};
+ghost use Rattle.store.specs.Reads.{GivesDesk, GivesLog, FindsNoDesk, FindsNoLog, StaysAsItWas};
+ghost use Rattle.store.specs.Reads.{SparesOurs, FindsNoState, FindsNoOther, FindsOther};
+ghost use Rattle.store.specs.Refusals.{NamesWant, ReadNamesWant};
 
 use crate::home::Home;
 use crate::ranges::is_fit;
@@ -47,20 +44,14 @@ fn only_row(rows: &[Row]) -> Option<&Row>
 /// The one row of `desk`.
 fn read_desk<S: Alter>(conn: &mut Connection<S>, alloc: Global) -> Result<(Home, Stored), ReadFault>
     ensures clean { HasCleanDisk (state S.Store conn.new) → HasCleanDisk (state S.Store conn.old) }
-    ensures damaged { result ≡ Err ReadFault.Damaged → HasCleanDisk (state S.Store conn.new)
-        → IsOurs (state S.Store conn.old).now.schema → (home : Place) (s : State) → IsWhole home s
-        → map shown_desk ((state S.Store conn.old).now.trees 0) ≢ desk_values home s ∷ [] }
+    ensures damaged { result ≡ Err ReadFault.Damaged
+        → FindsNoDesk (state S.Store conn.old) (state S.Store conn.new) }
     ensures own_desk { result ≢ Err ReadFault.WrongDesk }
-    ensures found { HasCleanDisk (state S.Store conn.new)
-        → IsOurs (state S.Store conn.old).now.schema → IfOk result
-        (λ r. map shown_desk ((state S.Store conn.old).now.trees 0) ≡ desk_values r.0 r.1 ∷ []) }
+    ensures found { GivesDesk (state S.Store conn.old) (state S.Store conn.new) result }
     ensures whole { IfOk result (λ r. IsWhole r.0 r.1) }
-    ensures same { HasCleanDisk (state S.Store conn.new)
-        → IsOurs (state S.Store conn.old).now.schema → OnOk result
-        (IsUnchanged (state S.Store conn.old) (state S.Store conn.new)) }
-    ensures spares { HasCleanDisk (state S.Store conn.new)
-        → IsOurs (state S.Store conn.old).now.schema → Spares
-        (state S.Store conn.old) (state S.Store conn.new) }
+    ensures same { StaysAsItWas (state S.Store conn.old) (state S.Store conn.new) result }
+    ensures spares { SparesOurs (state S.Store conn.old) (state S.Store conn.new) }
+    ensures memory { NamesWant (state S.Store conn.old) (state S.Store conn.new) result }
 {
     let rows = match desk_rows(conn) {
         Ok(rows) => rows,
@@ -79,22 +70,14 @@ fn read_desk<S: Alter>(conn: &mut Connection<S>, alloc: Global) -> Result<(Home,
 /// The rows of `entries`.
 fn read_log<S: Alter>(conn: &mut Connection<S>, alloc: Global) -> Result<Log, ReadFault>
     ensures clean { HasCleanDisk (state S.Store conn.new) → HasCleanDisk (state S.Store conn.old) }
-    ensures damaged { result ≡ Err ReadFault.Damaged → HasCleanDisk (state S.Store conn.new)
-        → IsOurs (state S.Store conn.old).now.schema → (log : List EntryValue) → LogIsWhole log
-        → ¬ IsPermutation (log_values 0 log)
-        (map shown_entry ((state S.Store conn.old).now.trees 1)) }
+    ensures damaged { result ≡ Err ReadFault.Damaged
+        → FindsNoLog (state S.Store conn.old) (state S.Store conn.new) }
     ensures own_desk { result ≢ Err ReadFault.WrongDesk }
-    ensures found { HasCleanDisk (state S.Store conn.new)
-        → IsOurs (state S.Store conn.old).now.schema → IfOk result
-        (λ log. IsPermutation (log_values 0 log.entries)
-        (map shown_entry ((state S.Store conn.old).now.trees 1))) }
+    ensures found { GivesLog (state S.Store conn.old) (state S.Store conn.new) result }
     ensures whole { IfOk result (λ log. LogIsWhole log.entries) }
-    ensures same { HasCleanDisk (state S.Store conn.new)
-        → IsOurs (state S.Store conn.old).now.schema → OnOk result
-        (IsUnchanged (state S.Store conn.old) (state S.Store conn.new)) }
-    ensures spares { HasCleanDisk (state S.Store conn.new)
-        → IsOurs (state S.Store conn.old).now.schema → Spares
-        (state S.Store conn.old) (state S.Store conn.new) }
+    ensures same { StaysAsItWas (state S.Store conn.old) (state S.Store conn.new) result }
+    ensures spares { SparesOurs (state S.Store conn.old) (state S.Store conn.new) }
+    ensures memory { NamesWant (state S.Store conn.old) (state S.Store conn.new) result }
 {
     let rows = match log_rows(conn) {
         Ok(rows) => rows,
@@ -121,15 +104,14 @@ fn read_home<S: Alter>(
     ensures whole { IfOk result (λ s. IsWhole home s) }
     ensures place { IfOk result (λ _. IsHome home) }
     ensures same { HasCleanDisk (state S.Store conn.new)
-        → OnOk result
-        (IsUnchanged (state S.Store conn.old) (state S.Store conn.new)) }
+        → OnOk result (IsUnchanged (state S.Store conn.old) (state S.Store conn.new)) }
     ensures spares { HasCleanDisk (state S.Store conn.new)
-        → Spares
-        (state S.Store conn.old) (state S.Store conn.new) }
+        → Spares (state S.Store conn.old) (state S.Store conn.new) }
     ensures damaged { result ≡ Err ReadFault.Damaged → HasCleanDisk (state S.Store conn.new)
-        → (away : Place) (s : State) → ¬ HasDesk away s (state S.Store conn.old) }
-    ensures wrong { result ≡ Err ReadFault.WrongDesk → HasCleanDisk (state S.Store conn.new)
-        → (away : Place) × (s : State) × HasDesk away s (state S.Store conn.old) × (away ≢ home) }
+        → HasNoDesk (state S.Store conn.old) }
+    ensures wrong { result ≡ Err ReadFault.WrongDesk
+        → FindsOther home (state S.Store conn.old) (state S.Store conn.new) }
+    ensures memory { NamesWant (state S.Store conn.old) (state S.Store conn.new) result }
 {
     if !is_ours(conn.schema()) || !conn.is_autocommit() {
         return Err(ReadFault::Damaged);
@@ -161,15 +143,14 @@ pub fn read_all<S: Alter>(
     ensures in_range { IfOk result (λ r. IsFit home.desks r.0 r.1.entries) }
     ensures sound { IfOk result (λ r. IsSound home r.0 r.1.entries) }
     ensures spares { HasCleanDisk (state S.Store conn.new)
-        → Spares
-        (state S.Store conn.old) (state S.Store conn.new) }
-    ensures damaged { result ≡ Err ReadFault.Damaged → HasCleanDisk (state S.Store conn.new)
-        → (away : Place) (s : State) (log : List EntryValue) → IsSound away s log
-        → ¬ Keeps away s log (state S.Store conn.old) }
-    ensures own { result ≡ Err ReadFault.Damaged → HasCleanDisk (state S.Store conn.new)
-        → (away : Place) (s : State) → HasDesk away s (state S.Store conn.old) → away ≡ home }
-    ensures wrong { result ≡ Err ReadFault.WrongDesk → HasCleanDisk (state S.Store conn.new)
-        → (away : Place) × (s : State) × HasDesk away s (state S.Store conn.old) × (away ≢ home) }
+        → Spares (state S.Store conn.old) (state S.Store conn.new) }
+    ensures damaged { result ≡ Err ReadFault.Damaged
+        → FindsNoState (state S.Store conn.old) (state S.Store conn.new) }
+    ensures own { result ≡ Err ReadFault.Damaged
+        → FindsNoOther home (state S.Store conn.old) (state S.Store conn.new) }
+    ensures wrong { result ≡ Err ReadFault.WrongDesk
+        → FindsOther home (state S.Store conn.old) (state S.Store conn.new) }
+    ensures memory { ReadNamesWant (state S.Store) conn.old conn.new result }
 {
     let stored = match read_home(conn, alloc, home) {
         Ok(stored) => stored,
@@ -177,7 +158,7 @@ pub fn read_all<S: Alter>(
     };
     match read_log(conn, alloc) {
         Ok(log) => {
-            // This call says that a log has at most 65,536 entries, as its range asks.
+            // The contract of `len` says that a log is no longer than its range asks.
             let _len = log.len();
             Ok((stored, log))
         }

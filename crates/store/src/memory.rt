@@ -1,16 +1,17 @@
 //! The keeper in memory, for tests, which fails where it was told to.
 
-ghost use Rattle.std.specs.Prelude.{◌≡◌, ◌≤◌, ◌||◌, ◌==◌, [], Option, Some, None, Bool, true};
+ghost use Rattle.std.specs.Prelude.{◌≡◌, ◌≤◌, ◌||◌, ◌==◌, Option, Some, None, Bool, true};
 ghost use Rattle.std.specs.Prelude.{false, IfOk, OnOk, OnErr, IfSome};
 ghost use Rattle.std.proofs.Common.{sym, ◌∙◌};
-ghost use Rattle.acceptor.specs.Storing.{stored_after, log_after, first_stored};
-ghost use Rattle.store.specs.Ranges.{IsHome, IsFit};
-ghost use Rattle.store.specs.Memory.{MemoryState, is_stopped, nearer, MemorySaves, MemoryLoads};
+ghost use Rattle.acceptor.specs.Storing.{stored_after, log_after};
+ghost use Rattle.store.specs.Ranges.{IsHome, IsFit, home_at};
+ghost use Rattle.store.specs.Memory.{MemoryState, first_memory, is_stopped, nearer};
+ghost use Rattle.store.specs.Memory.{MemorySaves, MemoryLoads};
 
 use crate::NoMemory;
 use crate::copying::{copy_log, copy_stored, copy_vote};
 use crate::failing::Failing;
-use crate::faults::{LoadFault, SaveFault};
+use crate::fault::{LoadFault, SaveFault};
 use crate::home::Home;
 use crate::keeper::Keeper;
 use crate::ranges::is_fit;
@@ -64,7 +65,7 @@ fn apply(alloc: Global, stored: &mut Stored, log: &mut Log, change: &Change) -> 
             stored.promised = vote.ballot;
             stored.vote = Some(vote);
         }
-        Change::Tried(round) => stored.tried = *round,
+        Change::Tried(number) => stored.tried = *number,
         Change::Appended(entry) => {
             let entry = entry.copy_in(alloc)?;
             match log.reserve() {
@@ -105,17 +106,8 @@ fn due(failing: Option<Failing>) -> Option<bool>
 impl MemoryKeeper {
     /// A keeper of the first state and the empty log, for this desk of a hall of 3 or 5 desks.
     pub fn new(alloc: Global, hall: u32, desk: u8, desks: u8) -> Result<MemoryKeeper, NoMemory>
-        requires { IsHome (record { hall = hall; desk = desk; desks = desks }) }
-        ensures { IfOk result
-            (λ k. k
-            ≡ record {
-              home = record { hall = hall; desk = desk; desks = desks };
-              stored = first_stored;
-              log = [];
-              failing = None;
-              failures = 0;
-              down = false;
-            }) }
+        requires { IsHome (home_at hall desk desks) }
+        ensures { IfOk result (λ k. k ≡ first_memory (home_at hall desk desks)) }
     {
         Ok(MemoryKeeper {
             alloc,

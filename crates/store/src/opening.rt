@@ -1,21 +1,16 @@
 //! Opening a store: the tables are made where there is nothing at all, and then looked at.
 
-ghost use Rattle.std.specs.Prelude.{◌≡◌, ◌⊎◌, ◌≢◌, [], List, length, false, IfOk};
+ghost use Rattle.std.specs.Prelude.{◌≡◌, ◌⊎◌, false, IfOk};
 ghost use Rattle.sqlite.specs.State.{HasCleanDisk};
-ghost use Rattle.sqlite.specs.Tree.{Trees};
 ghost use Rattle.sqlite.specs.Held.{state};
-ghost use Rattle.acceptor.specs.Entries.{EntryValue};
-ghost use Rattle.acceptor.specs.Storing.{first_stored};
-ghost use Rattle.acceptor.specs.declared.stored.Stored.{Stored as State};
-ghost use Rattle.store.specs.declared.home.Home.{Home as Place};
-ghost use Rattle.store.specs.Layout.{no_schema};
-ghost use Rattle.store.specs.Holding.{Holds};
-ghost use Rattle.store.specs.Ranges.{IsHome, IsFit};
-ghost use Rattle.store.specs.Kept.{Keeps, HasDesk, Spares};
-ghost use Rattle.store.specs.Whole.{IsSound};
-ghost use Rattle.store.specs.Opening.{refusal_of, Remains};
+ghost use Rattle.store.specs.Ranges.{IsHome};
+ghost use Rattle.store.specs.Kept.{Spares, IsBare, KeepsSome};
+ghost use Rattle.store.specs.Reads.{FindsNoState, FindsNoOther, FindsOther};
+ghost use Rattle.store.specs.Refusals.{no_memory};
+ghost use Rattle.store.specs.Opening.{refusal_of, Remains, FindsSound, FindsAgain, FindsFirst};
+ghost use Rattle.store.specs.Opening.{MakesBoth, WasBareOrOurs};
 
-use crate::faults::OpenFault;
+use crate::fault::OpenFault;
 use crate::home::Home;
 use crate::loading::{ReadFault, read_all};
 use crate::schema::{is_bare_schema, make_tables};
@@ -46,6 +41,7 @@ pub fn open_fault(error: Error) -> OpenFault
 fn fault_of<S: Alter>(conn: &mut Connection<S>, error: Error) -> OpenFault
     ensures clean { HasCleanDisk (state S.Store conn.new) → HasCleanDisk (state S.Store conn.old) }
     ensures fault { (result ≡ OpenFault.NoMemory) ⊎ (result ≡ OpenFault.Device) }
+    ensures memory { result ≡ OpenFault.NoMemory → error ≡ no_memory }
     ensures spares { HasCleanDisk (state S.Store conn.new)
         → Spares (state S.Store conn.old) (state S.Store conn.new) }
 {
@@ -60,24 +56,18 @@ fn fault_of<S: Alter>(conn: &mut Connection<S>, error: Error) -> OpenFault
 fn examine<S: Alter>(conn: &mut Connection<S>, alloc: Global, home: Home) -> Result<u32, OpenFault>
     ensures clean { HasCleanDisk (state S.Store conn.new) → HasCleanDisk (state S.Store conn.old) }
     ensures found { HasCleanDisk (state S.Store conn.new)
-        → IfOk result (λ len. (s : State) × (log : List EntryValue) × (len ≡ length log)
-        × IsFit home.desks s log × IsSound home s log × Keeps home s log (state S.Store conn.new)) }
+        → IfOk result (FindsSound home (state S.Store conn.new)) }
     ensures before { HasCleanDisk (state S.Store conn.new)
-        → IfOk result (λ _. (s : State) × (log : List EntryValue)
-        × Keeps home s log (state S.Store conn.old)) }
-    ensures same { HasCleanDisk (state S.Store conn.new) → (s : State) (log : List EntryValue)
-        → Keeps home s log (state S.Store conn.old) → IfOk result
-        (λ len. (len ≡ length log) × IsFit home.desks s log
-        × Keeps home s log (state S.Store conn.new)) }
+        → IfOk result (λ _. KeepsSome home (state S.Store conn.old)) }
+    ensures same { FindsAgain home (state S.Store conn.old) (state S.Store conn.new) result }
     ensures spares { HasCleanDisk (state S.Store conn.new)
         → Spares (state S.Store conn.old) (state S.Store conn.new) }
-    ensures damaged { result ≡ Err OpenFault.Damaged → HasCleanDisk (state S.Store conn.new)
-        → (away : Place) (s : State) (log : List EntryValue) → IsSound away s log
-        → ¬ Keeps away s log (state S.Store conn.old) }
-    ensures own { result ≡ Err OpenFault.Damaged → HasCleanDisk (state S.Store conn.new)
-        → (away : Place) (s : State) → HasDesk away s (state S.Store conn.old) → away ≡ home }
-    ensures wrong { result ≡ Err OpenFault.WrongDesk → HasCleanDisk (state S.Store conn.new)
-        → (away : Place) × (s : State) × HasDesk away s (state S.Store conn.old) × (away ≢ home) }
+    ensures damaged { result ≡ Err OpenFault.Damaged
+        → FindsNoState (state S.Store conn.old) (state S.Store conn.new) }
+    ensures own { result ≡ Err OpenFault.Damaged
+        → FindsNoOther home (state S.Store conn.old) (state S.Store conn.new) }
+    ensures wrong { result ≡ Err OpenFault.WrongDesk
+        → FindsOther home (state S.Store conn.old) (state S.Store conn.new) }
 {
     match read_all(conn, alloc, home) {
         Ok((_, log)) => Ok(log.len()),
@@ -95,22 +85,14 @@ fn make_store<S: Alter>(
 ) -> Result<u32, OpenFault>
     requires { conn.old.in_transaction ≡ false }
     ensures clean { HasCleanDisk (state S.Store conn.new) → HasCleanDisk (state S.Store conn.old) }
-    ensures made { HasCleanDisk (state S.Store conn.new)
-        → (state S.Store conn.old).now.schema ≡ no_schema → IfOk result
-        (λ len. (len ≡ 0) × IsFit home.desks first_stored []
-        × Keeps home first_stored [] (state S.Store conn.new)) }
+    ensures made { FindsFirst home (state S.Store conn.old) (state S.Store conn.new) result }
     ensures found { HasCleanDisk (state S.Store conn.new)
-        → IfOk result (λ len. (s : State) × (log : List EntryValue) × (len ≡ length log)
-        × IsFit home.desks s log × IsSound home s log × Keeps home s log (state S.Store conn.new)) }
+        → IfOk result (FindsSound home (state S.Store conn.new)) }
     ensures fresh { result ≡ Err OpenFault.Damaged → HasCleanDisk (state S.Store conn.new)
-        → IsHome home
-        → (state S.Store conn.old).now.schema ≢ no_schema }
+        → IsHome home → ¬ IsBare (state S.Store conn.old) }
     ensures ours { result ≡ Err OpenFault.WrongDesk → HasCleanDisk (state S.Store conn.new)
-        → (state S.Store conn.old).now.schema ≢ no_schema }
-    ensures crash { HasCleanDisk (state S.Store conn.new)
-        → (state S.Store conn.old).now.schema ≡ no_schema
-        → (db : Trees) → (state S.Store conn.new).may_leave db
-        → (state S.Store conn.old).may_leave db ⊎ Holds home db first_stored [] }
+        → ¬ IsBare (state S.Store conn.old) }
+    ensures crash { MakesBoth home (state S.Store conn.old) (state S.Store conn.new) }
 {
     match make_tables(conn, home) {
         Ok(()) => examine(conn, alloc, home),
@@ -126,35 +108,25 @@ pub(crate) fn prepare<S: Alter>(
 ) -> Result<u32, OpenFault>
     ensures clean { HasCleanDisk (state S.Store conn.new) → HasCleanDisk (state S.Store conn.old) }
     ensures found { HasCleanDisk (state S.Store conn.new)
-        → IfOk result (λ len. (s : State) × (log : List EntryValue) × (len ≡ length log)
-        × IsFit home.desks s log × IsSound home s log × Keeps home s log (state S.Store conn.new)) }
+        → IfOk result (FindsSound home (state S.Store conn.new)) }
     ensures before { HasCleanDisk (state S.Store conn.new)
-        → IfOk result (λ _. ((state S.Store conn.old).now.schema ≡ no_schema)
-        ⊎ ((s : State) × (log : List EntryValue) × Keeps home s log (state S.Store conn.old))) }
-    ensures made { HasCleanDisk (state S.Store conn.new)
-        → (state S.Store conn.old).now.schema ≡ no_schema
-        → (state S.Store conn.old).in_transaction ≡ false → IfOk result
-        (λ len. (len ≡ 0) × IsFit home.desks first_stored []
-        × Keeps home first_stored [] (state S.Store conn.new)) }
-    ensures same { HasCleanDisk (state S.Store conn.new) → (s : State) (log : List EntryValue)
-        → Keeps home s log (state S.Store conn.old) → IfOk result
-        (λ len. (len ≡ length log) × IsFit home.desks s log
-        × Keeps home s log (state S.Store conn.new)) }
-    ensures damaged { result ≡ Err OpenFault.Damaged → HasCleanDisk (state S.Store conn.new)
-        → (away : Place) (s : State) (log : List EntryValue) → IsSound away s log
-        → ¬ Keeps away s log (state S.Store conn.old) }
-    ensures own { result ≡ Err OpenFault.Damaged → HasCleanDisk (state S.Store conn.new)
-        → (away : Place) (s : State) → HasDesk away s (state S.Store conn.old) → away ≡ home }
-    ensures wrong { result ≡ Err OpenFault.WrongDesk → HasCleanDisk (state S.Store conn.new)
-        → (away : Place) × (s : State) × HasDesk away s (state S.Store conn.old) × (away ≢ home) }
+        → IfOk result (λ _. WasBareOrOurs home (state S.Store conn.old)) }
+    ensures made { (state S.Store conn.old).in_transaction ≡ false
+        → FindsFirst home (state S.Store conn.old) (state S.Store conn.new) result }
+    ensures same { FindsAgain home (state S.Store conn.old) (state S.Store conn.new) result }
+    ensures damaged { result ≡ Err OpenFault.Damaged
+        → FindsNoState (state S.Store conn.old) (state S.Store conn.new) }
+    ensures own { result ≡ Err OpenFault.Damaged
+        → FindsNoOther home (state S.Store conn.old) (state S.Store conn.new) }
+    ensures wrong { result ≡ Err OpenFault.WrongDesk
+        → FindsOther home (state S.Store conn.old) (state S.Store conn.new) }
     ensures fresh { result ≡ Err OpenFault.Damaged → HasCleanDisk (state S.Store conn.new)
-        → IsHome home
-        → (state S.Store conn.old).in_transaction ≡ false
-        → (state S.Store conn.old).now.schema ≢ no_schema }
+        → IsHome home → (state S.Store conn.old).in_transaction ≡ false
+        → ¬ IsBare (state S.Store conn.old) }
     ensures remains { HasCleanDisk (state S.Store conn.new)
         → Remains home (state S.Store conn.old) (state S.Store conn.new) }
 {
-    // The empty statement takes its memory here, so that a refusal behind it, which runs it again,
+    // The empty statement takes its memory here, so that a refusal after it, which runs it again,
     // is not taken for the device's for want of that memory. A connection that is shut ends here.
     if let Err(error) = run_nothing(conn) {
         return Err(fault_of(conn, error));

@@ -4,13 +4,14 @@ ghost use Rattle.std.specs.Prelude.{◌↔◌, IsTrue};
 ghost use Rattle.store.specs.Ranges.{StoredIsFit, VoteIsFit};
 ghost use Rattle.learner.specs.Ranges.{IsReal};
 
+use acceptor::MOST_ENTRIES;
 use acceptor::ballot::Ballot;
 use acceptor::stored::{Stored, Vote};
 
 fn is_real(desks: u8, ballot: Ballot) -> bool
     ensures { IsTrue result ↔ IsReal desks ballot }
 {
-    ballot.round >= 1 && ballot.desk >= 1 && ballot.desk <= desks
+    ballot.number >= 1 && ballot.desk >= 1 && ballot.desk <= desks
 }
 
 fn vote_is_fit(desks: u8, promised: Ballot, vote: &Option<Vote>) -> bool
@@ -19,7 +20,9 @@ fn vote_is_fit(desks: u8, promised: Ballot, vote: &Option<Vote>) -> bool
     match vote {
         None => true,
         Some(vote) => {
-            vote.pos < 65_536 && is_real(desks, vote.ballot) && !promised.is_below(vote.ballot)
+            vote.pos < MOST_ENTRIES
+                && is_real(desks, vote.ballot)
+                && !promised.is_below(vote.ballot)
         }
     }
 }

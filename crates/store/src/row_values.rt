@@ -1,12 +1,12 @@
 //! The values of a row that a query gives, decoded: a desk with its state, and the log.
 
-ghost use Rattle.std.specs.Prelude.{◌≡◌, ◌≢◌, ◌+◌, ◌<◌, ◌^◌, ℕ, pos, List, [], map, true, Option};
+ghost use Rattle.std.specs.Prelude.{◌≡◌, ◌≢◌, ◌<◌, ◌^◌, ℕ, pos, List, map, true, Option};
 ghost use Rattle.std.specs.Prelude.{Some, None, IfOk, IfSome};
-ghost use Rattle.sqlite.specs.declared.types.Value.TheVariants.{Null, Int, Blob};
+ghost use Rattle.sqlite.specs.declared.types.Value.TheVariants.{Null, Int};
 ghost use Rattle.sqlite.specs.Order.{column};
 ghost use Rattle.sqlite.specs.Value.{owned};
 ghost use Rattle.store.specs.Holding.{desk_values, vote_values, log_values, desk_columns};
-ghost use Rattle.store.specs.Holding.{vote_columns, entry_columns};
+ghost use Rattle.store.specs.Holding.{vote_columns, entry_columns, IsRowOf, HasBallot, HasEntry};
 ghost use Rattle.acceptor.specs.Entries.{EntryValue, IsId, IsText};
 ghost use Rattle.acceptor.specs.declared.ballot.Ballot.{Ballot as Round};
 ghost use Rattle.acceptor.specs.declared.stored.Vote.{Vote as Given};
@@ -71,17 +71,14 @@ fn long_at(row: &Row, at: usize) -> Option<u64>
 
 fn ballot_at(row: &Row, at: usize) -> Option<Ballot>
     requires { at < 100 }
-    ensures none { result ≡ None → (b : Round) → b.round < 2 ^ 32 → b.desk < 256
-        → ¬ ((column row.now at ≡ Int (pos b.round))
-        × (column row.now (at + 1) ≡ Int (pos b.desk))) }
-    ensures some { IfSome result
-        (λ b. (column row.now at ≡ Int (pos b.round))
-        × (column row.now (at + 1) ≡ Int (pos b.desk))) }
-    ensures in_range { IfSome result (λ b. (b.round < 2 ^ 32) × (b.desk < 256)) }
+    ensures none { result ≡ None → (b : Round) → b.number < 2 ^ 32 → b.desk < 256
+        → ¬ HasBallot row.now at b }
+    ensures some { IfSome result (HasBallot row.now at) }
+    ensures in_range { IfSome result (λ b. (b.number < 2 ^ 32) × (b.desk < 256)) }
 {
-    let round = number_at(row, at)?;
+    let number = number_at(row, at)?;
     let desk = small_at(row, at + 1)?;
-    Some(Ballot { round, desk })
+    Some(Ballot { number, desk })
 }
 
 /// An entry, or none where the two columns have none.
@@ -89,11 +86,8 @@ fn entry_at(alloc: Global, row: &Row, at: usize) -> Result<Option<Entry>, AllocE
     requires { at < 100 }
     ensures none { IfOk result
         (λ o. o ≡ None → (e : EntryValue) → IsId e.id → IsText e.text
-        → ¬ ((column row.now at ≡ Int (pos e.id)) × (column row.now (at + 1) ≡ Blob e.text))) }
-    ensures some { IfOk result
-        (λ o.
-        IfSome o
-        (λ e. (column row.now at ≡ Int (pos e.id)) × (column row.now (at + 1) ≡ Blob e.text))) }
+        → ¬ HasEntry row.now at e) }
+    ensures some { IfOk result (λ o. IfSome o (HasEntry row.now at)) }
     ensures in_range { IfOk result (λ o. IfSome o (λ e. IsId e.id × IsText e.text)) }
 {
     let Some(id) = long_at(row, at) else {
@@ -129,8 +123,8 @@ fn has_no_vote(row: &Row) -> bool
 /// A vote, none, or neither.
 fn vote_of(alloc: Global, row: &Row) -> Result<Option<Option<Vote>>, AllocError>
     ensures none { IfOk result
-        (λ o. o ≡ None → (vote : Option Given) → VoteIsWhole vote
-        → vote_columns row.now ≢ vote_values vote) }
+        (λ o. o ≡ None → (v : Option Given) → VoteIsWhole v
+        → vote_columns row.now ≢ vote_values v) }
     ensures some { IfOk result (λ o. IfSome o (λ vote. vote_columns row.now ≡ vote_values vote)) }
     ensures in_range { IfOk result (λ o. IfSome o (λ vote. VoteIsWhole vote)) }
 {
@@ -151,11 +145,8 @@ fn vote_of(alloc: Global, row: &Row) -> Result<Option<Option<Vote>>, AllocError>
 
 fn home_of(row: &Row) -> Option<Home>
     ensures none { result ≡ None → (h : Place) → h.hall < 2 ^ 32 → h.desk < 256 → h.desks < 256
-        → ¬ ((column row.now 0 ≡ Int (pos 1)) × (column row.now 1 ≡ Int (pos h.hall))
-        × (column row.now 2 ≡ Int (pos h.desk)) × (column row.now 3 ≡ Int (pos h.desks))) }
-    ensures some { IfSome result
-        (λ h. (column row.now 0 ≡ Int (pos 1)) × (column row.now 1 ≡ Int (pos h.hall))
-        × (column row.now 2 ≡ Int (pos h.desk)) × (column row.now 3 ≡ Int (pos h.desks))) }
+        → ¬ IsRowOf row.now h }
+    ensures some { IfSome result (IsRowOf row.now) }
     ensures in_range { IfSome result (λ h. (h.hall < 2 ^ 32) × (h.desk < 256) × (h.desks < 256)) }
 {
     if number_at(row, 0)? != 1 {
@@ -198,7 +189,7 @@ pub fn desk_of(alloc: Global, row: &Row) -> Result<Option<(Home, Stored)>, Alloc
 }
 
 /// The entries, or none where the positions are not 0 and on, a row is not whole, or there are more
-/// than 65,536.
+/// than a log may have.
 pub fn log_of(alloc: Global, rows: &[Row]) -> Result<Option<Log>, AllocError>
     ensures none { IfOk result
         (λ o. o ≡ None → (log : List EntryValue) → LogIsWhole log

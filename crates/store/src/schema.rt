@@ -1,16 +1,14 @@
 //! The schema of a store: the texts that make its two tables, and the columns that they have to
 //! have.
 
-ghost use Rattle.std.specs.Prelude.{◌≡◌, ◌↔◌, ◌⊎◌, [], ◌∷◌, take, drop, true, false, Some, IsTrue};
-ghost use Rattle.std.specs.Prelude.{OnOk};
+ghost use Rattle.std.specs.Prelude.{◌≡◌, ◌↔◌, [], ◌∷◌, take, drop, true, false, IsTrue, OnOk};
 ghost use Rattle.sqlite.specs.State.{HasCleanDisk};
-ghost use Rattle.sqlite.specs.Tree.{Trees};
 ghost use Rattle.sqlite.specs.Held.{state};
 ghost use Rattle.acceptor.specs.Storing.{first_stored};
 ghost use Rattle.store.specs.Layout.{strict_column, keyed_table, desk_table, entries_table};
-ghost use Rattle.store.specs.Layout.{IsOurs, HasNoKey, no_schema};
-ghost use Rattle.store.specs.Holding.{Holds};
-ghost use Rattle.store.specs.Kept.{Keeps};
+ghost use Rattle.store.specs.Layout.{IsOurs, HasNoKey, HasNoRule, IsKeyed, no_schema};
+ghost use Rattle.store.specs.Kept.{Keeps, IsBare};
+ghost use Rattle.store.specs.Opening.{MakesBoth};
 
 use crate::home::Home;
 use crate::statements::{number, small};
@@ -24,13 +22,9 @@ use sqlite_value::value::Value;
 pub fn make_tables<S: Alter>(conn: &mut Connection<S>, home: Home) -> Result<(), Error>
     requires { conn.old.in_transaction ≡ false }
     ensures clean { HasCleanDisk (state S.Store conn.new) → HasCleanDisk (state S.Store conn.old) }
-    ensures made { HasCleanDisk (state S.Store conn.new)
-        → (state S.Store conn.old).now.schema ≡ no_schema
+    ensures made { HasCleanDisk (state S.Store conn.new) → IsBare (state S.Store conn.old)
         → OnOk result (Keeps home first_stored [] (state S.Store conn.new)) }
-    ensures crash { HasCleanDisk (state S.Store conn.new)
-        → (state S.Store conn.old).now.schema ≡ no_schema
-        → (db : Trees) → (state S.Store conn.new).may_leave db
-        → (state S.Store conn.old).may_leave db ⊎ Holds home db first_stored [] }
+    ensures crash { MakesBoth home (state S.Store conn.old) (state S.Store conn.new) }
 {
     let mut tx = conn.transaction();
     tx.execute(
@@ -90,12 +84,8 @@ fn is_first(places: &[usize]) -> bool
 }
 
 fn has_no_rule(table: &Table) -> bool
-    ensures is { result ≡ true
-        → (table.now.uniques ≡ []) × (table.now.orders ≡ []) × (table.now.checks ≡ [])
-        × (table.now.references ≡ []) × (table.now.computed ≡ []) }
-    ensures only { ((table.now.uniques ≡ []) × (table.now.orders ≡ []) × (table.now.checks ≡ [])
-        × (table.now.references ≡ []) × (table.now.computed ≡ []))
-        → result ≡ true }
+    ensures is { result ≡ true → HasNoRule table.now }
+    ensures only { HasNoRule table.now → result ≡ true }
 {
     table.uniques.is_empty()
         && table.orders.is_empty()
@@ -105,14 +95,8 @@ fn has_no_rule(table: &Table) -> bool
 }
 
 fn is_keyed(table: &Table) -> bool
-    ensures is { result ≡ true
-        → (table.now.key ≡ Some 0) × (table.now.primary ≡ 0 ∷ [])
-        × (table.now.stamps ≡ record { places = []; terms = []; formats = [] })
-        × (table.now.is_counted ≡ false) }
-    ensures only { ((table.now.key ≡ Some 0) × (table.now.primary ≡ 0 ∷ [])
-        × (table.now.stamps ≡ record { places = []; terms = []; formats = [] })
-        × (table.now.is_counted ≡ false))
-        → result ≡ true }
+    ensures is { result ≡ true → IsKeyed table.now }
+    ensures only { IsKeyed table.now → result ≡ true }
 {
     table.key == Some(0)
         && is_first(table.primary.as_slice())
@@ -145,7 +129,7 @@ fn are_promise_columns(columns: &[Column]) -> bool
     ensures only { columns.now ≡ take 3 (drop 4 (desk_table 0).columns) → result ≡ true }
 {
     match columns {
-        [round, desk, tried] => is_column(round, b"promised_round", Kind::Integer, true)
+        [number, desk, tried] => is_column(number, b"promised_round", Kind::Integer, true)
             && is_column(desk, b"promised_desk", Kind::Integer, true)
             && is_column(tried, b"tried", Kind::Integer, true),
         _ => false,
@@ -157,11 +141,11 @@ fn are_ballot_columns(columns: &[Column]) -> bool
     ensures only { columns.now ≡ take 3 (drop 7 (desk_table 0).columns) → result ≡ true }
 {
     match columns {
-        [pos, round, desk] => {
+        [pos, number, desk] => {
             let has_pos = is_column(pos, b"vote_pos", Kind::Integer, false);
-            let has_round = is_column(round, b"vote_round", Kind::Integer, false);
+            let has_number = is_column(number, b"vote_round", Kind::Integer, false);
             let has_desk = is_column(desk, b"vote_desk", Kind::Integer, false);
-            has_pos && has_round && has_desk
+            has_pos && has_number && has_desk
         }
         _ => false,
     }

@@ -5,22 +5,22 @@ ghost use Rattle.std.specs.Prelude.{List, Some, Result, Err, IsTrue, IfOk, IfErr
 ghost use Rattle.sqlite.specs.State.{HasCleanDisk};
 ghost use Rattle.sqlite.specs.Held.{state};
 ghost use Rattle.acceptor.specs.Entries.{EntryValue};
-ghost use Rattle.acceptor.specs.Storing.{stored_after, log_after};
+ghost use Rattle.acceptor.specs.Storing.{log_after};
 ghost use Rattle.acceptor.specs.declared.stored.Stored.{Stored as State};
-ghost use Rattle.store.specs.declared.home.Home.{Home as Place};
-ghost use Rattle.store.specs.Ranges.{IsHome, IsFit, is_housed, home_at};
+ghost use Rattle.store.specs.Ranges.{IsHome, IsFit, is_housed, home_at, most_entries};
 ghost use Rattle.store.specs.Whole.{IsSound};
 ghost use Rattle.store.specs.Keeping.{most_failures, CountsOne};
 ghost use Rattle.store.specs.model.Unique.{alone};
-ghost use Rattle.store.specs.Kept.{Keeps, Saved, MayLeave, MayBreak};
+ghost use Rattle.store.specs.Kept.{Keeps, SavesAt, MayLeave, MayBreak};
+ghost use Rattle.store.specs.Refusals.{NamesRefusal, SaveLacksMemory, LoadLacksMemory};
 ghost use Rattle.store.specs.Opening.{Opens, Refuses};
 
-use crate::faults::{LoadFault, OpenFault, SaveFault};
+use crate::fault::{LoadFault, OpenFault, SaveFault};
 use crate::home::Home;
 use crate::keeper::Keeper;
 use crate::loading::{ReadFault, read_all};
 use crate::opening::prepare;
-use crate::statements::{append, promise, try_round, vote};
+use crate::statements::{append, promise, try_number, vote};
 use crate::still_open::is_harmless;
 use acceptor::stored::{Change, Stored};
 use learner::log::Log;
@@ -58,23 +58,21 @@ impl<S: Alter + Drop> Drop for SqlKeeper<S> {
 /// One statement, which makes the change.
 fn make<S: Alter>(conn: &mut Connection<S>, len: u32, change: &Change) -> Result<usize, Error>
     ensures clean { HasCleanDisk (state S.Store conn.new) → HasCleanDisk (state S.Store conn.old) }
-    ensures saves { HasCleanDisk (state S.Store conn.new)
-        → (home : Place) (s : State) (log : List EntryValue)
-        → Keeps home s log (state S.Store conn.old) → len ≡ length log
-        → Saved home s (stored_after s (Some change.now)) log (log_after log (Some change.now))
+    ensures saves { SavesAt len change.now (state S.Store conn.old)
         (state S.Store conn.new) result }
+    ensures refused { NamesRefusal (state S.Store conn.old) (state S.Store conn.new) result }
 {
     match change {
         Change::Promised(ballot) => promise(conn, *ballot),
         Change::Voted(new) => vote(conn, new),
-        Change::Tried(round) => try_round(conn, *round),
+        Change::Tried(number) => try_number(conn, *number),
         Change::Appended(entry) => append(conn, len, entry),
     }
 }
 
 fn length_after(len: u32, change: &Change) -> u32
     ensures { (log : List EntryValue) → len ≡ length log
-        → length (log_after log (Some change.now)) ≤ 65536
+        → length (log_after log (Some change.now)) ≤ most_entries
         → result ≡ length (log_after log (Some change.now)) }
 {
     match change {
@@ -84,8 +82,8 @@ fn length_after(len: u32, change: &Change) -> u32
 }
 
 impl<S: Alter> Keeper for SqlKeeper<S> {
-    ghost use Rattle.store.specs.declared.faults.LoadFault.TheVariants.{Device, Damaged};
-    ghost use Rattle.store.specs.declared.faults.SaveFault.TheVariants as saving;
+    ghost use Rattle.store.specs.declared.fault.LoadFault.TheVariants.{Device, Damaged, NoMemory};
+    ghost use Rattle.store.specs.declared.fault.SaveFault.TheVariants as saving;
 
     ghost is_honest = { λ k. HasCleanDisk (state S.Store k.conn) };
 
@@ -103,19 +101,25 @@ impl<S: Alter> Keeper for SqlKeeper<S> {
 
     ghost home_of = { λ k. k.home };
 
-    /// Device counts exactly one failure.
-    ghost save_gives = { λ k _ r after. r ≡ Err saving.Device
-        → CountsOne k.failures after.failures };
+    /// Device counts exactly one failure. NoMemory comes only where SQLite refused memory to the
+    /// change's statement.
+    ghost save_gives = { λ k _ r after.
+        (r ≡ Err saving.Device → CountsOne k.failures after.failures)
+        × (r ≡ Err saving.NoMemory → HasCleanDisk (state S.Store after.conn)
+        → SaveLacksMemory (state S.Store) k.conn after.conn) };
 
     /// Once it is down, a load counts a failure and is Device, as long as the count is not at its
     /// end. Below that end it is Damaged only where the tables hold no state of this desk that is
-    /// in its ranges. Device counts exactly one failure.
+    /// in its ranges. Device counts exactly one failure. NoMemory comes only where SQLite refused
+    /// memory to a query, or the values of a query's rows had none.
     ghost load_gives = { λ k r after.
         (IsTrue k.down → ((k.failures ≡ most_failures) ⊎ (r ≡ Err Device)))
         × (r ≡ Err Damaged → k.failures ≢ most_failures → HasCleanDisk (state S.Store after.conn)
         → (s : State) (log : List EntryValue) → IsSound k.home s log
         → ¬ Keeps k.home s log (state S.Store k.conn))
-        × (r ≡ Err Device → CountsOne k.failures after.failures) };
+        × (r ≡ Err Device → CountsOne k.failures after.failures)
+        × (r ≡ Err NoMemory → HasCleanDisk (state S.Store after.conn)
+        → LoadLacksMemory (state S.Store) k.conn after.conn) };
 
     #[tactic(auto, using(crate::proofs::Homes::to_home))]
     fn home(&self) -> Home {

@@ -1,9 +1,10 @@
 //! Whether a connection still answers: it is asked the empty statement.
 
-ghost use Rattle.std.specs.Prelude.{IsTrue, OnOk};
+ghost use Rattle.std.specs.Prelude.{◌≡◌, IsTrue, OnOk};
 ghost use Rattle.sqlite.specs.State.{HasCleanDisk, IsUnchanged};
 ghost use Rattle.sqlite.specs.Held.{state};
 ghost use Rattle.store.specs.Kept.{Spares};
+ghost use Rattle.store.specs.Refusals.{no_memory};
 
 use sqlite::{Alter, Connection, Error, ErrorCode};
 
@@ -37,6 +38,7 @@ fn is_open<S: Alter>(conn: &mut Connection<S>) -> bool
 
 /// Whether the refusal was want of memory alone, and the connection still works.
 pub fn is_harmless<S: Alter>(conn: &mut Connection<S>, error: Error) -> bool
+    ensures memory { IsTrue result → error ≡ no_memory }
     ensures clean { HasCleanDisk (state S.Store conn.new) → HasCleanDisk (state S.Store conn.old) }
     ensures same { HasCleanDisk (state S.Store conn.new)
         → IsTrue result → IsUnchanged (state S.Store conn.old) (state S.Store conn.new) }

@@ -1,11 +1,14 @@
 -- A log that was read from a desk's files.
-use Rattle.std.proofs.Common.{◌≡◌, ◌⊎◌, inl, inr, ◌∙◌, sym, ap, subst, ℕ, List, [], Option, Some, None, Result, Ok, Err, IfOk, IsTrue, true, ◌≢◌}
+use Rattle.std.proofs.Common.{◌≡◌, ◌⊎◌, inl, inr, ◌∙◌, sym, ap, subst, ℕ, List, [], Option, Some}
+use Rattle.std.proofs.Common.{None, Result, Ok, Err, IfOk, IsTrue, true, ◌≢◌}
 use Rattle.std.proofs.lemmas.Result.{IfOk-weaker}
 use Rattle.sqlite.specs.Effect.{Database}
 use Rattle.sqlite.specs.Order.{Row}
 use Rattle.sqlite.specs.Recovery.{Image}
 use Rattle.sqlite.specs.Start.{FindsIn}
-use Rattle.sqlite.specs.State.{State, HasCleanDisk, IsLive, IsRolledBack, Opens as IsFresh, Fails, FailsToQuery, FailsToShow, IsNotRun, QueriesRow, QueriesRowInside, Shown, ShowsRows}
+use Rattle.sqlite.specs.State.{State, HasCleanDisk, IsLive, IsRolledBack, Opens as IsFresh, Fails}
+use Rattle.sqlite.specs.State.{FailsToQuery, FailsToShow, IsNotRun, QueriesRow, QueriesRowInside}
+use Rattle.sqlite.specs.State.{Shown, ShowsRows}
 use Rattle.sqlite.specs.declared.error.Error.{Error}
 use Rattle.sqlite_resolve.specs.declared.compiled.Compiled.{Compiled}
 use Rattle.sqlite_schema.specs.declared.command.Returning.{Returning}

@@ -13,10 +13,8 @@ use Rattle.lines.specs.Bytes.{AppendsPart}
 use Rattle.store.specs.Holding.{Holds}
 use Rattle.store.specs.Layout.{IsOurs}
 use Rattle.store.specs.Ranges.{IsHome}
-use Rattle.store.specs.declared.faults.LoadFault.{LoadFault}
-use Rattle.store.specs.declared.faults.LoadFault.TheVariants as loading
-use Rattle.store.specs.declared.faults.OpenFault.{OpenFault}
-use Rattle.store.specs.declared.faults.OpenFault.TheVariants as opening
+use Rattle.store.specs.declared.fault.OpenFault.{OpenFault}
+use Rattle.store.specs.declared.fault.OpenFault.TheVariants as opening
 use Rattle.store.specs.declared.home.Home.{Home}
 use Rattle.stored_log.specs.declared.fault.LogFault.{LogFault}
 use Rattle.stored_log.specs.declared.fault.LogFault.TheVariants as fault
@@ -84,15 +82,9 @@ abbrev pub IsOfFile : LogFault → Type 0
 IsOfFile fault.Write = ⊥
 IsOfFile _ = Unit {0}
 
--- a store that was not opened, where another desk's row is as good as none
+-- a store that was not opened or not loaded, where another desk's row is as good as none
 abbrev pub opening_fault : OpenFault → LogFault
 opening_fault opening.WrongDesk = fault.Damaged
 opening_fault opening.Damaged = fault.Damaged
 opening_fault opening.Device = fault.Device
 opening_fault opening.NoMemory = fault.NoMemory
-
--- one that was not loaded
-abbrev pub loading_fault : LoadFault → LogFault
-loading_fault loading.Damaged = fault.Damaged
-loading_fault loading.Device = fault.Device
-loading_fault loading.NoMemory = fault.NoMemory

@@ -2,10 +2,10 @@
 
 ghost use Rattle.std.specs.Prelude.{◌≡◌};
 ghost use Rattle.lines.specs.declared.fault.RunFault.TheVariants as run_fault;
-ghost use Rattle.stored_log.specs.StoredLogs.{IsOfFile, loading_fault, opening_fault};
+ghost use Rattle.stored_log.specs.StoredLogs.{IsOfFile, opening_fault};
 
 use lines::RunFault;
-use store::faults::{LoadFault, OpenFault};
+use store::fault::OpenFault;
 
 /// Why a stored log is not written, or not whole.
 #[derive(Clone, Copy, Debug, PartialEq, Eq)]
@@ -20,7 +20,7 @@ pub enum LogFault {
     NoMemory,
 }
 
-/// The fault of a store that was not opened.
+/// The fault of a file that was not opened as a desk's store, or not loaded.
 pub fn fault_of_open(fault: OpenFault) -> LogFault
     ensures same { result ≡ opening_fault fault }
     ensures of_file { IsOfFile result }
@@ -29,18 +29,6 @@ pub fn fault_of_open(fault: OpenFault) -> LogFault
         OpenFault::WrongDesk | OpenFault::Damaged => LogFault::Damaged,
         OpenFault::Device => LogFault::Device,
         OpenFault::NoMemory => LogFault::NoMemory,
-    }
-}
-
-/// The fault of a store that was not loaded.
-pub fn fault_of_load(fault: LoadFault) -> LogFault
-    ensures same { result ≡ loading_fault fault }
-    ensures of_file { IsOfFile result }
-{
-    match fault {
-        LoadFault::Damaged => LogFault::Damaged,
-        LoadFault::Device => LogFault::Device,
-        LoadFault::NoMemory => LogFault::NoMemory,
     }
 }
 

@@ -1,21 +1,21 @@
 //! A desk's file, and the log that it holds.
 
-ghost use Rattle.std.specs.Prelude.{◌≡◌, ◌≢◌, false, List, IfOk, IfErr, IfSome, IsTrue, OnOk};
+ghost use Rattle.std.specs.Prelude.{◌≡◌, ◌≢◌, false, IfOk, IfErr, IfSome, IsTrue, OnOk};
 ghost use Rattle.std.specs.Prelude.{OnErr};
 ghost use Rattle.sqlite.specs.Files.{file_state};
 ghost use Rattle.sqlite.specs.Held.{state};
 ghost use Rattle.sqlite.specs.State.{HasCleanDisk};
 ghost use Rattle.sqlite.specs.WalFiles.{image_at};
-ghost use Rattle.acceptor.specs.Entries.{EntryValue};
-ghost use Rattle.acceptor.specs.declared.stored.Stored.{Stored as State};
 ghost use Rattle.store.specs.Layout.{no_schema};
 ghost use Rattle.store.specs.Ranges.{IsHome};
-ghost use Rattle.stored_log.specs.StoredLogs.{FailsLog, HasLog, IsFound, IsOfFile, IsReadFrom};
+ghost use Rattle.stored_log.specs.StoredLogs.{FailsLog, IsFound, IsOfFile, IsReadFrom};
 ghost use Rattle.stored_log.specs.StoredLogs.{PrintsHeld, PrintsLog, PrintsLogPart};
 ghost use Rattle.stored_log.specs.model.Back.{IsBack};
+ghost use Rattle.stored_log.specs.model.Kept.{IsKeptBy, IsLogOf};
 
-use crate::fault::{LogFault, fault_of_load, fault_of_open, fault_of_run};
+use crate::fault::{LogFault, fault_of_open, fault_of_run};
 use archive::write_log;
+use desk_file::{fault_of_load, open_file};
 use learner::log::Log;
 use sqlite::{Alter, Connection, Error, FileFrom, FileStore, Row, Start};
 use std::alloc::Global;
@@ -115,22 +115,20 @@ fn home_in<S: Alter>(conn: &mut Connection<S>) -> Result<Home, LogFault>
 
 /// The log that a keeper keeps.
 fn kept_log<K: Keeper + Drop>(alloc: Global, mut keeper: K) -> Result<Log, LogFault>
-    ensures log { IfOk result (λ log. (last : _) × (K.is_honest last → K.is_honest keeper
-        × ((s : State) (kept : List EntryValue) → K.keeps keeper s kept → log.entries ≡ kept))) }
+    ensures log { IfOk result (λ log. IsKeptBy K.Keeper keeper log.entries) }
     ensures err { IfErr result IsOfFile }
 {
     match keeper.load(alloc) {
         Ok((_, log)) => Ok(log),
-        Err(fault) => Err(fault_of_load(fault)),
+        Err(fault) => Err(fault_of_open(fault_of_load(fault))),
     }
 }
 
 /// The log that the store over a connection holds.
 fn log_in<S: Alter + Drop>(rt: &HostRuntime, mut conn: Connection<S>) -> Result<Log, LogFault>
     requires { conn.in_transaction ≡ false }
-    ensures log { IfOk result (λ log. (last : _) × (⟦<SqlKeeper<S> as Keeper>⟧.is_honest last
-        → HasCleanDisk (state S.Store conn)
-        × HasLog (state S.Store conn).committed log.entries)) }
+    ensures log { IfOk result
+        (λ log. IsLogOf ⟦<SqlKeeper<S> as Keeper>⟧ (state S.Store conn) log.entries) }
     ensures err { IfErr result IsOfFile }
 {
     let home = match home_in(&mut conn) {
@@ -159,9 +157,9 @@ fn open<S: Start>(
         Ok(false) => return Err(LogFault::Damaged),
         Err(fault) => return Err(fault),
     }
-    match Connection::open_from(rt, path, false, start) {
+    match open_file(rt, path, start) {
         Ok(conn) => Ok(conn),
-        Err((error, _)) => Err(fault_of_open(open_fault(error))),
+        Err(fault) => Err(fault_of_open(fault)),
     }
 }
 

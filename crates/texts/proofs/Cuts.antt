@@ -1,5 +1,7 @@
 -- A text is cut at the first of a byte.
-use Rattle.std.proofs.Common.{◌≡◌, ℕ, Bool, true, false, ◌&&◌, ◌==◌, not, nat_lt, List, [], ◌∷◌, ◌++◌, length, take, get_or, position, Option, Some, None, refl, sym, ap, ◌∙◌, arith, rules, take-append-drop, drop-cons, add-one}
+use Rattle.std.proofs.Common.{◌≡◌, ℕ, Bool, true, false, ◌&&◌, ◌==◌, not, nat_lt, List, [], ◌∷◌}
+use Rattle.std.proofs.Common.{◌++◌, length, take, get_or, position, Option, Some, None, refl, sym}
+use Rattle.std.proofs.Common.{ap, ◌∙◌, arith, rules, take-append-drop, drop-cons, add-one}
 use Rattle.std.specs.List.{list_all, prefix_len, position_or_len}
 use Rattle.std.proofs.Math.Seq.{take-append_seam, drop-append-add}
 use Rattle.std.proofs.lemmas.List.Folds.{prefix_len-append}
@@ -14,7 +16,7 @@ abbrev pub behind : ℕ → Option (List ℕ) → List ℕ
 behind by None = []
 behind by (Some bytes) = by ∷ bytes
 
--- a text is what stands before the byte, and what is left behind that
+-- a text is what stands before the byte, and what is left after that
 pub cut_spelled : (by : ℕ) (bytes : List ℕ) → bytes ≡ (cut by bytes).0 ++ behind by (cut by bytes).1
 unfolding cut
 cut_spelled by bytes = step (position (λ b. b == by) bytes) refl
@@ -47,7 +49,7 @@ prefix_len-all p (b ∷ bytes) h =
 eqb-same : (n : ℕ) → (n == n) ≡ true
 eqb-same n = grind (arith, nat_tests)
 
--- a byte that is not in front is the first behind it
+-- a byte that is not in front is the first after it
 pub cut-behind : (by : ℕ) (bytes : List ℕ) (left : Option (List ℕ)) → lacks by bytes ≡ true
     → cut by (bytes ++ behind by left) ≡ (bytes, left)
 unfolding cut

@@ -1,5 +1,7 @@
 -- When a text is too long, and when it is no command: no field is at fault then.
-use Rattle.std.proofs.Common.{◌≡◌, ℕ, ◌<◌, ◌≤◌, ◌⊎◌, inl, inr, Bool, true, false, ◌||◌, cond, nat_lt, List, length, codes, bytes_eq, Option, Some, None, Result, Ok, Err, refl, sym, ◌∙◌, subst, arith, ◌↔◌}
+use Rattle.std.proofs.Common.{◌≡◌, ℕ, ◌<◌, ◌≤◌, ◌⊎◌, inl, inr, Bool, true, false, ◌||◌, cond}
+use Rattle.std.proofs.Common.{nat_lt, List, length, codes, bytes_eq, Option, Some, None, Result, Ok}
+use Rattle.std.proofs.Common.{Err, refl, sym, ◌∙◌, subst, arith, ◌↔◌}
 use Rattle.std.specs.Option.{ok_or}
 use Rattle.std.proofs.lemmas.Bool.{false≢true}
 use Rattle.std.proofs.lemmas.Bool.Decides.{nat_tests}
@@ -7,7 +9,10 @@ use Rattle.texts.specs.declared.command.Command.{Command}
 use Rattle.texts.specs.declared.reading.CommandFault.{CommandFault}
 use Rattle.texts.specs.declared.reading.CommandFault.TheVariants as fault
 use Rattle.texts.specs.Fields.{cut}
-use Rattle.texts.specs.Reading.{◌>>=◌, field, last_field, no_field, register_of, round_of, open_of, enter_of, scramble_of, entry_of, attempt_of, correct_of, strike_of, set_advance_of, close_of, set_edition_of, is_word, by_word, command_of, TakesMemory, Gives}
+use Rattle.texts.specs.Reading.{◌>>=◌, field, last_field, no_field, register_of, round_of, open_of}
+use Rattle.texts.specs.Reading.{enter_of, scramble_of, entry_of, attempt_of, correct_of, strike_of}
+use Rattle.texts.specs.Reading.{set_advance_of, close_of, set_edition_of, is_word, by_word}
+use Rattle.texts.specs.Reading.{command_of, TakesMemory, Gives}
 
 -- what is read of fields: a value, or a field at fault
 abbrev IsOfFields : {A : Type 0} → Result A CommandFault → Type 0

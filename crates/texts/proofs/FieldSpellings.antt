@@ -1,5 +1,8 @@
 -- A field is read from its one spelling.
-use Rattle.std.proofs.Common.{◌≡◌, ◌↔◌, ℕ, ◌+◌, ◌<◌, ◌≤◌, Bool, true, false, ◌&&◌, ◌==◌, not, cond, nat_le, IsTrue, List, [], ◌∷◌, ◌++◌, length, take, drop, codes, decimal, bytes_eq, Option, Some, None, refl, sym, ap, ◌∙◌, subst, arith, append_assoc, eqb-true, take-append-drop, length-append}
+use Rattle.std.proofs.Common.{◌≡◌, ◌↔◌, ℕ, ◌+◌, ◌<◌, ◌≤◌, Bool, true, false, ◌&&◌, ◌==◌, not, cond}
+use Rattle.std.proofs.Common.{nat_le, IsTrue, List, [], ◌∷◌, ◌++◌, length, take, drop, codes}
+use Rattle.std.proofs.Common.{decimal, bytes_eq, Option, Some, None, refl, sym, ap, ◌∙◌, subst}
+use Rattle.std.proofs.Common.{arith, append_assoc, eqb-true, take-append-drop, length-append}
 use Rattle.std.specs.Char.{is_ascii_digit}
 use Rattle.std.specs.List.{list_all}
 use Rattle.std.specs.Option.{option_map, option_and_then}
@@ -7,15 +10,21 @@ use Rattle.std.proofs.lemmas.Bool.{false≢true}
 use Rattle.std.proofs.lemmas.Bool.Decides.{nat_tests}
 use Rattle.std.proofs.lemmas.Fmt.{digits_decimal, length-decimal-le, decimal_nonempty}
 use Rattle.formats.specs.declared.events.Event.{Event}
-use Rattle.formats.specs.declared.events.Event.TheVariants.{Cube3, Cube2, Cube4, Cube5, Cube6, Cube7, Blind3, FewestMoves, OneHanded, Clock, Megaminx, Pyraminx, Skewb, Square1, Blind4, Blind5, MultiBlind}
+use Rattle.formats.specs.declared.events.Event.TheVariants.{Cube3, Cube2, Cube4, Cube5, Cube6}
+use Rattle.formats.specs.declared.events.Event.TheVariants.{Cube7, Blind3, FewestMoves, OneHanded}
+use Rattle.formats.specs.declared.events.Event.TheVariants.{Clock, Megaminx, Pyraminx, Skewb}
+use Rattle.formats.specs.declared.events.Event.TheVariants.{Square1, Blind4, Blind5, MultiBlind}
 use Rattle.formats.specs.declared.events.Format.{Format}
 use Rattle.formats.specs.declared.events.Format.TheVariants.{Ao5, Mo3, Bo1, Bo2, Bo3}
-use Rattle.formats.specs.Events.{all_events, event_name, event_of_name, formats, format_name, format_named}
+use Rattle.formats.specs.Events.{all_events, event_name, event_of_name, formats, format_name}
+use Rattle.formats.specs.Events.{format_named}
 use Rattle.formats.specs.declared.advance.Advance.{Advance}
 use Rattle.formats.specs.declared.advance.Advance.TheVariants.{Final, Top, Percent}
 use Rattle.texts.specs.Numerals.{digits_value, within}
-use Rattle.texts.specs.Spelling.{is_name, IsWithin, IsFitCutoff, IsFitLimit, IsFitAdvance, cutoff_text, limit_text, advance_text}
-use Rattle.texts.specs.Fields.{number_between, name_of, cutoff_of, limit_of, advance_of, cut, pair_with, second_number, two_numbers}
+use Rattle.texts.specs.Spelling.{is_name, IsWithin, IsFitCutoff, IsFitLimit, IsFitAdvance}
+use Rattle.texts.specs.Spelling.{cutoff_text, limit_text, advance_text}
+use Rattle.texts.specs.Fields.{number_between, name_of, cutoff_of, limit_of, advance_of, cut}
+use Rattle.texts.specs.Fields.{pair_with, second_number, two_numbers}
 use Rattle.texts.proofs.Numerals.{own, number_between-decimal}
 use Rattle.texts.proofs.Cuts.{and-true, lacks, behind, cut_spelled, cut-behind}
 use Rattle.texts.proofs.Spelled.{IsSpelled, chosen, bytes_eq-equal, find-only}
@@ -369,7 +378,7 @@ percent = number_spelled 1 75 (omega arith)
 abbrev IsAdvance : List ℕ → Advance → Type 0
 IsAdvance bytes x = IsFitAdvance x × (bytes ≡ advance_text x)
 
--- a number behind four bytes that say what it is of
+-- a number after four bytes that say what it is of
 behind_word : (make : ℕ → Advance) (word bytes : List ℕ) (of : List ℕ → Option ℕ) (x : Advance)
     → bytes_eq (take 4 bytes) word ≡ true → ((n : ℕ) → word ++ decimal n ≡ advance_text (make n))
     → ((n : ℕ) → of (drop 4 bytes) ≡ Some n → IsFitAdvance (make n) × (drop 4 bytes ≡ decimal n))

@@ -5,7 +5,7 @@ use Rattle.texts.specs.declared.command.RoundId.{RoundId}
 use Rattle.texts.specs.declared.command.AttemptEntry.{AttemptEntry}
 use Rattle.texts.specs.declared.command.Command.{Command}
 use Rattle.texts.specs.declared.reading.CommandFault.{CommandFault}
-use Rattle.texts.specs.Spelling.{last_round}
+use Rattle.formats.specs.Events.{last_round}
 use Rattle.texts.specs.Fields.{number_between, entered_of, round_id, attempt_entry}
 use Rattle.texts.specs.Reading.{◌>>=◌, field, last_field, round_of, entry_of}
 
@@ -26,7 +26,7 @@ round_flat left f =
     regroup (field 1 event_of_name left) _ f _
     (λ e. regroup (field 2 (number_between 1 last_round) e.1) _ f _ (λ r. refl))
 
--- the fields of an attempt behind its round
+-- the fields of an attempt after its round
 abbrev behind_round : (AttemptEntry → Result Command CommandFault) → RoundId × Option (List ℕ)
     → Result Command CommandFault
 behind_round f id =

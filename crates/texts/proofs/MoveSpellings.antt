@@ -1,5 +1,7 @@
 -- Moves are read from their one spelling: their tokens, with one space between neighbours.
-use Rattle.std.proofs.Common.{◌≡◌, ℕ, zero, suc, ◌<◌, ◌≤◌, inl, inr, Bool, true, false, not, ◌==◌, nat_lt, nat_le, List, [], ◌∷◌, ◌++◌, length, map, replicate, Option, Some, None, Ok, Err, refl, sym, ap, ◌∙◌, subst, arith}
+use Rattle.std.proofs.Common.{◌≡◌, ℕ, zero, suc, ◌<◌, ◌≤◌, inl, inr, Bool, true, false, not, ◌==◌}
+use Rattle.std.proofs.Common.{nat_lt, nat_le, List, [], ◌∷◌, ◌++◌, length, map, replicate, Option}
+use Rattle.std.proofs.Common.{Some, None, Ok, Err, refl, sym, ap, ◌∙◌, subst, arith}
 use Rattle.std.specs.List.{list_all, slice_split, join_with_byte}
 use Rattle.std.specs.Option.{option_and_then, option_map}
 use Rattle.std.proofs.lemmas.Bool.{false≢true}
@@ -202,7 +204,7 @@ spelled_single : (moves : List Move) → AreMoves moves → has_single_spaces (m
 spelled_single [] fits = absurd (let none : 1 ≤ 0 = fits.0 in omega arith)
 spelled_single (move ∷ moves) fits = rw (parts-spelled move moves) (tokens-some (move ∷ moves))
 
--- behind a part, the rest has single spaces too
+-- after a part, the rest has single spaces too
 single-behind : (front more : List ℕ) → lacks 32 front ≡ true
     → has_single_spaces (front ++ 32 ∷ more) ≡ true → has_single_spaces more ≡ true
 single-behind front more none h =

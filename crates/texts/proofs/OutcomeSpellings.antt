@@ -1,5 +1,7 @@
 -- What a judge enters is read from its one spelling.
-use Rattle.std.proofs.Common.{◌≡◌, ℕ, ◌≤◌, Bool, true, false, cond, nat_le, List, ◌++◌, take, drop, codes, decimal, bytes_eq, Option, Some, None, refl, sym, ap, ◌∙◌, subst, arith, append_assoc, take-append-drop}
+use Rattle.std.proofs.Common.{◌≡◌, ℕ, ◌≤◌, Bool, true, false, cond, nat_le, List, ◌++◌, take, drop}
+use Rattle.std.proofs.Common.{codes, decimal, bytes_eq, Option, Some, None, refl, sym, ap, ◌∙◌}
+use Rattle.std.proofs.Common.{subst, arith, append_assoc, take-append-drop}
 use Rattle.std.specs.Option.{option_map, option_and_then}
 use Rattle.std.proofs.lemmas.Bool.Decides.{nat_tests}
 use Rattle.cube.specs.declared.moves.Move.{Move}
@@ -7,7 +9,8 @@ use Rattle.notation.specs.Notation.{spelling as moves_text}
 use Rattle.texts.specs.declared.command.Entered.{Entered}
 use Rattle.texts.specs.declared.command.Entered.TheVariants.{Time, Solution, Multi, Dnf, Dns}
 use Rattle.texts.specs.Spelling.{IsWithin, IsEntered, entered_text}
-use Rattle.texts.specs.Fields.{number_between, cut, two_numbers, moves_of, time_with, time_of, multi_with, attempted_of, multi_of, entered_of}
+use Rattle.texts.specs.Fields.{number_between, cut, two_numbers, moves_of, time_with, time_of}
+use Rattle.texts.specs.Fields.{multi_with, attempted_of, multi_of, entered_of}
 use Rattle.texts.proofs.Cuts.{behind, cut_spelled, cut-behind}
 use Rattle.texts.proofs.Spelled.{IsSpelled, bytes_eq-equal}
 use Rattle.texts.proofs.MoveSpellings.{moves_spelled}
@@ -21,7 +24,7 @@ hundredths = number_spelled 1 999999 (omega arith)
 penalties : IsSpelled (number_between 0 9) decimal (IsWithin 0 9)
 penalties = number_spelled 0 9 (omega arith)
 
--- a time and its penalties, behind `T:`
+-- a time and its penalties, after `T:`
 abbrev IsTime : List ℕ × Option (List ℕ) → Entered → Type 0
 IsTime parts x = IsEntered x × (codes "T:" ++ (parts.0 ++ behind 58 parts.1) ≡ entered_text x)
 
@@ -52,7 +55,7 @@ seconds = number_spelled 1 5999 (omega arith)
 abbrev attempted_pair : List ℕ → Option (ℕ × ℕ)
 attempted_pair bytes = two_numbers (number_between 2 99) (number_between 1 5999) (cut 58 bytes)
 
--- solved cubes, attempted ones and seconds, behind `M:`
+-- solved cubes, attempted ones and seconds, after `M:`
 abbrev IsMulti : List ℕ × Option (List ℕ) → Entered → Type 0
 IsMulti parts x = IsEntered x × (codes "M:" ++ (parts.0 ++ behind 58 parts.1) ≡ entered_text x)
 

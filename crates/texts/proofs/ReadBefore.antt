@@ -1,5 +1,7 @@
 -- What edition 1 reads is what both read, but for what edition 2 adds.
-use Rattle.std.proofs.Common.{◌≡◌, ◌↔◌, ◌⊎◌, inl, inr, ℕ, Bool, true, false, ◌==◌, cond, nat_lt, List, [], ◌∷◌, ◌++◌, length, take, drop, find, codes, bytes_eq, Option, Some, None, Result, Ok, Err, refl, sym, ap, ◌∙◌, subst, arith}
+use Rattle.std.proofs.Common.{◌≡◌, ◌↔◌, ◌⊎◌, inl, inr, ℕ, Bool, true, false, ◌==◌, cond, nat_lt}
+use Rattle.std.proofs.Common.{List, [], ◌∷◌, ◌++◌, length, take, drop, find, codes, bytes_eq}
+use Rattle.std.proofs.Common.{Option, Some, None, Result, Ok, Err, refl, sym, ap, ◌∙◌, subst, arith}
 use Rattle.std.specs.Prelude.{max, nat_le}
 use Rattle.std.specs.List.{list_all}
 use Rattle.std.specs.Fmt.{digits}
@@ -10,7 +12,8 @@ use Rattle.std.proofs.lemmas.Bool.Decides.{nat_tests}
 use Rattle.cube.specs.declared.moves.Move.{Move}
 use Rattle.formats.specs.declared.events.Event.{Event}
 use Rattle.formats.specs.declared.events.Event.TheVariants.{MultiBlind}
-use Rattle.formats.specs.Events.{events, event_name, event_named, event_of_name, event_edition, format_named}
+use Rattle.formats.specs.Events.{events, event_name, event_named, event_of_name, event_edition}
+use Rattle.formats.specs.Events.{format_named}
 use Rattle.texts.specs.declared.command.Command.{Command}
 use Rattle.texts.specs.declared.command.Command.TheVariants.{Attempt, Correct, SetEdition}
 use Rattle.texts.specs.declared.command.RoundId.{RoundId}
@@ -19,11 +22,15 @@ use Rattle.texts.specs.declared.command.Entered.{Entered}
 use Rattle.texts.specs.declared.command.Entered.TheVariants.{Solution, Multi, Dnf, Dns}
 use Rattle.texts.specs.declared.reading.CommandFault.{CommandFault}
 use Rattle.texts.specs.declared.reading.CommandFault.TheVariants as fault
-use Rattle.texts.specs.Spelling.{last_round}
+use Rattle.formats.specs.Events.{last_round}
 use Rattle.texts.specs.Editions.{edition_of, entered_edition}
 use Rattle.texts.specs.EditionLaws.{ReadsAsBefore}
-use Rattle.texts.specs.Fields.{cut, number_between, name_of, cutoff_of, limit_of, advance_of, two_numbers, moves_of, time_with, time_of, multi_with, attempted_of, multi_of, entered_of, round_id, attempt_entry}
-use Rattle.texts.specs.Reading.{◌>>=◌, field, last_field, no_field, register_of, round_of, open_of, enter_of, scramble_of, entry_of, attempt_of, correct_of, strike_of, set_advance_of, close_of, set_edition_of, by_word, command_of}
+use Rattle.texts.specs.Fields.{cut, number_between, name_of, cutoff_of, limit_of, advance_of}
+use Rattle.texts.specs.Fields.{two_numbers, moves_of, time_with, time_of, multi_with, attempted_of}
+use Rattle.texts.specs.Fields.{multi_of, entered_of, round_id, attempt_entry}
+use Rattle.texts.specs.Reading.{◌>>=◌, field, last_field, no_field, register_of, round_of, open_of}
+use Rattle.texts.specs.Reading.{enter_of, scramble_of, entry_of, attempt_of, correct_of, strike_of}
+use Rattle.texts.specs.Reading.{set_advance_of, close_of, set_edition_of, by_word, command_of}
 use Rattle.texts.specs.FirstEdition as first
 use Rattle.texts.proofs.Cuts.{behind, cut_spelled, and-true}
 use Rattle.texts.proofs.Spelled.{bytes_eq-equal}
@@ -100,7 +107,7 @@ named : (text : List ℕ) → Named (event_named text) (event_of_name text)
 unfolding event_named event_of_name
 named text = named_in (λ e. bytes_eq (event_name e) text) events refl
 
--- an event's field, and what is read behind it: of the event's edition or a later one
+-- an event's field, and what is read after it: of the event's edition or a later one
 event_field : (left : Option (List ℕ)) (f g : Event × Option (List ℕ) → Result Command CommandFault)
     → ((x : Event × Option (List ℕ)) → event_edition x.0 ≡ 1 → Alike (f x) (g x))
     → ((rest : Option (List ℕ)) (c : Command) → g (MultiBlind, rest) ≡ Ok c → edition_of c ≡ 1 → ⊥)

@@ -1,5 +1,7 @@
 -- A text is read as a command exactly where it is the spelling of the command.
-use Rattle.std.proofs.Common.{◌≡◌, ℕ, ◌+◌, ◌*◌, ◌≤◌, Bool, true, false, cond, nat_lt, List, [], ◌∷◌, ◌++◌, length, codes, decimal, bytes_eq, Option, Some, Result, Ok, Err, refl, sym, ap, ◌∙◌, subst, arith, length-append}
+use Rattle.std.proofs.Common.{◌≡◌, ℕ, ◌+◌, ◌*◌, ◌≤◌, Bool, true, false, cond, nat_lt, List, [], ◌∷◌}
+use Rattle.std.proofs.Common.{◌++◌, length, codes, decimal, bytes_eq, Option, Some, Result, Ok, Err}
+use Rattle.std.proofs.Common.{refl, sym, ap, ◌∙◌, subst, arith, length-append}
 use Rattle.std.specs.List.{join_with_byte}
 use Rattle.std.specs.Result.{IfOk}
 use Rattle.std.proofs.lemmas.Bool.Decides.{nat_tests}
@@ -10,22 +12,35 @@ use Rattle.formats.specs.declared.advance.Advance.{Advance}
 use Rattle.cube.specs.declared.moves.Move.{Move}
 use Rattle.notation.specs.Notation.{spelling as moves_text}
 use Rattle.texts.specs.declared.command.Command.{Command}
-use Rattle.texts.specs.declared.command.Command.TheVariants.{Register, Open, Enter, Scramble, Attempt, Correct, Strike, SetAdvance, Close, SetEdition}
+use Rattle.texts.specs.declared.command.Command.TheVariants.{Register, Open, Enter, Scramble}
+use Rattle.texts.specs.declared.command.Command.TheVariants.{Attempt, Correct, Strike, SetAdvance}
+use Rattle.texts.specs.declared.command.Command.TheVariants.{Close, SetEdition}
 use Rattle.texts.specs.declared.command.RoundId.{RoundId}
 use Rattle.texts.specs.declared.command.AttemptEntry.{AttemptEntry}
 use Rattle.texts.specs.declared.command.Settings.{Settings}
 use Rattle.texts.specs.declared.reading.CommandFault.{CommandFault}
 use Rattle.texts.specs.declared.reading.CommandFault.TheVariants as fault
-use Rattle.texts.specs.Spelling.{entry_words, spelling, IsFit, IsWithin, IsEntered, last_round, last_edition, cutoff_text, limit_text, advance_text, entered_text}
+use Rattle.texts.specs.Spelling.{entry_words, spelling, IsFit, IsWithin, IsEntered}
+use Rattle.formats.specs.Events.{last_round}
+use Rattle.texts.specs.Spelling.{last_edition, cutoff_text, limit_text, advance_text, entered_text}
 use Rattle.texts.specs.Fields.{cut, number_between, round_id, attempt_entry}
-use Rattle.texts.specs.Reading.{◌>>=◌, field, register_of, round_of, open_of, enter_of, scramble_of, entry_of, attempt_of, correct_of, strike_of, set_advance_of, close_of, set_edition_of, moves_field, by_word, command_of, Gives, ReadsAs}
+use Rattle.texts.specs.Reading.{◌>>=◌, field, register_of, round_of, open_of, enter_of, scramble_of}
+use Rattle.texts.specs.Reading.{entry_of, attempt_of, correct_of, strike_of, set_advance_of}
+use Rattle.texts.specs.Reading.{close_of, set_edition_of, moves_field, by_word, command_of, Gives}
+use Rattle.texts.specs.Reading.{ReadsAs}
 use Rattle.texts.proofs.Cuts.{behind, cut_spelled, cut-behind, lacks}
 use Rattle.texts.proofs.Spelled.{IsSpelled, bytes_eq-equal}
 use Rattle.texts.proofs.MoveSpellings.{moves_spelled}
-use Rattle.texts.proofs.FieldSpellings.{number_spelled, number_short, decimal_no_space, name_spelled, name_short, event_spelled, event_short, event_no_space, format_spelled, format_short, format_no_space, cutoff_spelled, cutoff_short, cutoff_no_space, limit_spelled, limit_short, limit_no_space, advance_spelled, advance_short, advance_no_space}
+use Rattle.texts.proofs.FieldSpellings.{number_spelled, number_short, decimal_no_space}
+use Rattle.texts.proofs.FieldSpellings.{name_spelled, name_short, event_spelled, event_short}
+use Rattle.texts.proofs.FieldSpellings.{event_no_space, format_spelled, format_short}
+use Rattle.texts.proofs.FieldSpellings.{format_no_space, cutoff_spelled, cutoff_short}
+use Rattle.texts.proofs.FieldSpellings.{cutoff_no_space, limit_spelled, limit_short, limit_no_space}
+use Rattle.texts.proofs.FieldSpellings.{advance_spelled, advance_short, advance_no_space}
 use Rattle.texts.proofs.OutcomeSpellings.{entered_spelled}
 use Rattle.texts.proofs.Flat.{round_flat, entry_flat}
-use Rattle.texts.proofs.TakenFields.{field_only, last_only, none_only, field_then, field_last, ok_equal}
+use Rattle.texts.proofs.TakenFields.{field_only, last_only, none_only, field_then, field_last}
+use Rattle.texts.proofs.TakenFields.{ok_equal}
 
 -- What the words take.
 
@@ -394,7 +409,7 @@ event_then : (e : Event) (left : List ℕ)
     → field 1 event_of_name (Some (event_name e ++ 32 ∷ left)) ≡ Ok (e, Some left)
 event_then e left = field_then event_spelled 1 e (Some left) tt (event_no_space e)
 
--- the first two, a round, with more behind them
+-- the first two, a round, with more after them
 round_then : (e : Event) (r : ℕ) (left : List ℕ) → IsWithin 1 last_round r
     → round_of (Some (event_name e ++ 32 ∷ (decimal r ++ 32 ∷ left)))
     ≡ Ok (round_id e r, Some left)

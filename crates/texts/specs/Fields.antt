@@ -22,7 +22,7 @@ use Rattle.texts.specs.declared.command.Entered.TheVariants as entered
 use Rattle.texts.specs.Numerals.{digits_value, within}
 use Rattle.texts.specs.Spelling.{is_name}
 
--- What stands before the first of a byte, and what stands behind it, where it is there.
+-- What stands before the first of a byte, and what stands after it, where it is there.
 abbrev pub cut_at : List ℕ → Option ℕ → List ℕ × Option (List ℕ)
 cut_at bytes None = (bytes, None)
 cut_at bytes (Some i) = (take i bytes, Some (drop (i + 1) bytes))

@@ -3,7 +3,7 @@
 use Rattle.std.specs.Prelude.{ℕ, nat_lt, if◌then◌else◌, List, take, drop, length, bytes_eq, codes}
 use Rattle.std.specs.Prelude.{Option, Some, None, Result, Ok, Err}
 use Rattle.std.specs.Option.{option_map}
-use Rattle.formats.specs.Events.{event_named, format_named}
+use Rattle.formats.specs.Events.{event_named, format_named, last_round}
 use Rattle.texts.specs.declared.command.Command.{Command}
 use Rattle.texts.specs.declared.command.Command.TheVariants.{Open, Enter, Scramble, Attempt}
 use Rattle.texts.specs.declared.command.Command.TheVariants.{Correct, Strike, SetAdvance, Close}
@@ -11,7 +11,6 @@ use Rattle.texts.specs.declared.command.Entered.{Entered}
 use Rattle.texts.specs.declared.command.Entered.TheVariants as entered
 use Rattle.texts.specs.declared.reading.CommandFault.{CommandFault}
 use Rattle.texts.specs.declared.reading.CommandFault.TheVariants as fault
-use Rattle.texts.specs.Spelling.{last_round}
 use Rattle.texts.specs.Fields.{cut, number_between, cutoff_of, limit_of, advance_of, moves_of}
 use Rattle.texts.specs.Fields.{time_of, round_id, attempt_entry}
 use Rattle.texts.specs.Reading.{◌>>=◌, field, last_field, no_field, register_of}

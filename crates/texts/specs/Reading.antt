@@ -11,8 +11,8 @@ use Rattle.texts.specs.declared.command.RoundId.{RoundId}
 use Rattle.texts.specs.declared.command.AttemptEntry.{AttemptEntry}
 use Rattle.texts.specs.declared.reading.CommandFault.{CommandFault}
 use Rattle.texts.specs.declared.reading.CommandFault.TheVariants as fault
-use Rattle.texts.specs.Spelling.{last_round, last_edition, IsFit, spelling}
-use Rattle.formats.specs.Events.{event_of_name, format_named}
+use Rattle.texts.specs.Spelling.{last_edition, IsFit, spelling}
+use Rattle.formats.specs.Events.{event_of_name, format_named, last_round}
 use Rattle.texts.specs.Fields.{cut, number_between, name_of, cutoff_of, limit_of, advance_of}
 use Rattle.texts.specs.Fields.{moves_of, entered_of, round_id, attempt_entry, IsSolution}
 
@@ -22,14 +22,14 @@ abbrev pub ◌>>=◌ : {A B : Type 0} → Result A CommandFault → (A → Resul
 (Ok x) >>= f = f x
 (Err e) >>= f = Err e
 
--- The texts. What is left of a text stands behind a space; where nothing is left the next field is
+-- The texts. What is left of a text stands after a space; where nothing is left the next field is
 -- missing.
 
 abbrev pub front : ℕ → Option (List ℕ) → Result (List ℕ × Option (List ℕ)) CommandFault
 front index None = Err (fault.BadField index)
 front index (Some bytes) = Ok (cut 32 bytes)
 
--- the next field, and what is left behind it
+-- the next field, and what is left after it
 abbrev pub field : {A : Type 0} → ℕ → (List ℕ → Option A) → Option (List ℕ)
     → Result (A × Option (List ℕ)) CommandFault
 field index of left = do
@@ -57,7 +57,7 @@ register_of left = do
   name ← last_field 2 name_of number.1
   Ok (Register number.0 name)
 
--- the event and the round that stand in front, and what is left behind them
+-- the event and the round that stand in front, and what is left after them
 unfoldable pub round_of : Option (List ℕ) → Result (RoundId × Option (List ℕ)) CommandFault
 round_of left = do
   event ← field 1 event_of_name left

@@ -4,7 +4,7 @@ use Rattle.std.specs.Prelude.{◌≤◌, ℕ, Bool, ◌==◌, ◌&&◌, not, nat
 use Rattle.std.specs.Prelude.{◌++◌, length, codes, decimal, Option, None, Some}
 use Rattle.std.specs.List.{list_all, slice_split, join_with_byte}
 use Rattle.std.specs.Str.{is_utf8}
-use Rattle.formats.specs.Events.{event_name, format_name}
+use Rattle.formats.specs.Events.{event_name, format_name, last_round}
 use Rattle.cube.specs.declared.moves.Move.{Move}
 use Rattle.notation.specs.Notation.{spelling as moves_text}
 use Rattle.formats.specs.declared.advance.Advance.{Advance}
@@ -50,12 +50,21 @@ entry_words entry =
     event_name entry.id.event ∷ decimal entry.id.round ∷ decimal entry.attempt
     ∷ decimal entry.number ∷ entered_text entry.outcome ∷ []
 
+-- the fields of a round's settings
+abbrev pub settings_words : Settings → List (List ℕ)
+settings_words settings =
+    format_name settings.format ∷ cutoff_text settings.cutoff ∷ limit_text settings.limit
+    ∷ advance_text settings.advance ∷ []
+
+-- fields as they stand after others: a space, and a space between each two
+abbrev pub further : List (List ℕ) → List ℕ
+further fields = codes " " ++ join_with_byte 32 fields
+
 -- the words of a command: its own, and its fields
 abbrev pub words_of : Command → List (List ℕ)
 words_of (Register number name) = codes "REG" ∷ decimal number ∷ name ∷ []
 words_of (Open id settings) =
-    codes "OPEN" ∷ event_name id.event ∷ decimal id.round ∷ format_name settings.format
-    ∷ cutoff_text settings.cutoff ∷ limit_text settings.limit ∷ advance_text settings.advance ∷ []
+    codes "OPEN" ∷ event_name id.event ∷ decimal id.round ∷ settings_words settings
 words_of (Enter event number) = codes "ENT" ∷ event_name event ∷ decimal number ∷ []
 words_of (Scramble id attempt moves) =
     codes "SCR" ∷ event_name id.event ∷ decimal id.round ∷ decimal attempt ∷ moves_text moves ∷ []
@@ -76,9 +85,6 @@ spelling c = join_with_byte 32 (words_of c)
 
 abbrev pub IsWithin : ℕ → ℕ → ℕ → Type 0
 IsWithin low high n = (low ≤ n) × (n ≤ high)
-
-abbrev pub last_round : ℕ
-last_round = 4
 
 abbrev pub last_edition : ℕ
 last_edition = 2

@@ -46,7 +46,7 @@ pub enum Code {
     NoMoreAttempts,
     /// There is no such attempt.
     NoSuchAttempt,
-    /// The change would unmeet the cutoff with attempts behind it.
+    /// The cutoff would no longer be met, and attempts after it are done.
     CutoffLost,
     /// An entrant has not done all attempts that are allotted.
     Unfinished,

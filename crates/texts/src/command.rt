@@ -50,7 +50,7 @@ impl Name {
 pub struct Settings {
     /// How many attempts there are, and what counts of them.
     pub format: Format,
-    /// The number of attempts (1 to 4) behind which only those go on who have one below the second
+    /// The number of attempts (1 to 4) after which only those go on who have one below the second
     /// number (1 to 360,000): of hundredths of a second, or of moves in fewest moves.
     pub cutoff: Option<(u8, u32)>,
     /// The hundredths of a second (1 to 360,000) at which an attempt is too long.

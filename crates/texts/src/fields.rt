@@ -1,7 +1,7 @@
 //! The fields of commands, each from its bytes.
 
 ghost use Rattle.std.specs.Prelude.{◌≡◌, ◌==◌, ◌<◌, length, option_map, IfOk, IfSome, OnErr};
-ghost use Rattle.std.specs.Prelude.{position};
+ghost use Rattle.std.specs.Prelude.{◌-◌, position};
 ghost use Rattle.std.specs.List.{list_all};
 ghost use Rattle.std.specs.Str.{is_utf8};
 ghost use Rattle.texts.specs.Spelling.{is_name, is_name_byte, has_single_spaces};
@@ -11,16 +11,43 @@ ghost use Rattle.texts.specs.Fields.{entered_of};
 ghost use Rattle.texts.specs.model.Returned.{MayBeSolution};
 
 use crate::command::Entered;
-use crate::numbers::number_between;
-use formats::Advance;
+use crate::numbers::{u8_between, u16_between, u32_between};
+use formats::{Advance, MOST_ENTRANTS};
 use notation::{Moves, NoMemory, ReadFault, printed_is_spelled};
 use std::alloc::Global;
 
-/// The last round that commands name.
-pub const LAST_ROUND: u64 = 4;
-
 /// The last edition that commands name.
-pub const LAST_EDITION: u64 = 2;
+pub const LAST_EDITION: u8 = 2;
+
+/// The greatest number of a competitor.
+pub const LAST_NUMBER: u16 = 9999;
+
+/// The last attempt of a round, in the formats that have the most.
+pub const LAST_ATTEMPT: u8 = 5;
+
+/// The most bytes of a name.
+const MOST_NAME: usize = 80;
+
+/// The greatest border of a cutoff and the longest time limit: an hour in hundredths of a second.
+const MOST_LIMIT: u32 = 360_000;
+
+/// The most competitors in a hundred who advance.
+const MOST_PERCENT: u8 = 75;
+
+/// The longest measured time, in hundredths of a second.
+const MOST_TIME: u32 = 999_999;
+
+/// The most penalties of an attempt.
+const MOST_PENALTIES: u8 = 9;
+
+/// The fewest cubes that are attempted in multi-blind.
+const LEAST_CUBES: u8 = 2;
+
+/// The most cubes that are attempted in multi-blind.
+const MOST_CUBES: u8 = 99;
+
+/// The longest attempt of multi-blind, in seconds.
+const MOST_SECONDS: u16 = 5999;
 
 /// Where the first of a byte stands.
 fn place_of(bytes: &[u8], by: u8) -> Option<usize>
@@ -30,7 +57,7 @@ fn place_of(bytes: &[u8], by: u8) -> Option<usize>
     bytes.iter().position(|byte| *byte == by)
 }
 
-/// What stands in front of the first of a byte, and what stands behind it, where it is there.
+/// What stands in front of the first of a byte, and what stands after it, where it is there.
 #[tactic(auto, unfolding(crate::specs::Fields::cut))]
 pub fn cut(bytes: &[u8], by: u8) -> (&[u8], Option<&[u8]>)
     ensures { (result.0.now, option_map (λ s. s.now) result.1) ≡ cut by bytes.now }
@@ -70,7 +97,7 @@ pub fn is_name(bytes: &[u8]) -> bool
     ensures { result ≡ is_name bytes.now }
 {
     !bytes.is_empty()
-        && bytes.len() <= 80
+        && bytes.len() <= MOST_NAME
         && is_text(bytes)
         && is_printable(bytes)
         && has_single_spaces(bytes)
@@ -80,12 +107,13 @@ pub fn is_name(bytes: &[u8]) -> bool
 #[tactic(auto, unfolding(crate::specs::Fields::cut))]
 fn below_of(bytes: &[u8]) -> Option<(u8, u32)>
     ensures { result
-        ≡ two_numbers (number_between 1 4) (number_between 1 360000) (cut 58 bytes.now) }
+        ≡ two_numbers (number_between 1 (LAST_ATTEMPT - 1)) (number_between 1 MOST_LIMIT)
+        (cut 58 bytes.now) }
 {
     let (attempts, left) = cut(bytes, b':');
-    let attempts = number_between(1, 4, attempts)?;
-    let below = number_between(1, 360_000, left?)?;
-    Some((attempts as u8, below as u32))
+    let attempts = u8_between(1, LAST_ATTEMPT - 1, attempts)?;
+    let below = u32_between(1, MOST_LIMIT, left?)?;
+    Some((attempts, below))
 }
 
 /// A cutoff, or `-` for none.
@@ -95,10 +123,7 @@ pub fn cutoff_of(bytes: &[u8]) -> Option<Option<(u8, u32)>>
     if bytes == b"-".as_slice() {
         Some(None)
     } else {
-        match below_of(bytes) {
-            Some(cutoff) => Some(Some(cutoff)),
-            None => None,
-        }
+        Some(Some(below_of(bytes)?))
     }
 }
 
@@ -109,10 +134,7 @@ pub fn limit_of(bytes: &[u8]) -> Option<Option<u32>>
     if bytes == b"-".as_slice() {
         Some(None)
     } else {
-        match number_between(1, 360_000, bytes) {
-            Some(limit) => Some(Some(limit as u32)),
-            None => None,
-        }
+        Some(Some(u32_between(1, MOST_LIMIT, bytes)?))
     }
 }
 
@@ -121,8 +143,7 @@ fn percent_of(bytes: &[u8]) -> Option<Advance>
     ensures { result ≡ percent_of bytes.now }
 {
     let digits = bytes.strip_prefix(b"pct:".as_slice())?;
-    let percent = number_between(1, 75, digits)?;
-    Some(Advance::Percent(percent as u8))
+    Some(Advance::Percent(u8_between(1, MOST_PERCENT, digits)?))
 }
 
 /// Who advances: `final`, `top:` and a number of 1 to 999, or `pct:` and a percentage of 1 to 75.
@@ -132,8 +153,7 @@ pub fn advance_of(bytes: &[u8]) -> Option<Advance>
     if bytes == b"final".as_slice() {
         Some(Advance::Final)
     } else if let Some(digits) = bytes.strip_prefix(b"top:".as_slice()) {
-        let number = number_between(1, 999, digits)?;
-        Some(Advance::Top(number as u16))
+        Some(Advance::Top(u16_between(1, MOST_ENTRANTS, digits)?))
     } else {
         percent_of(bytes)
     }
@@ -163,11 +183,11 @@ fn time_of(bytes: &[u8]) -> Option<Entered>
     ensures { result ≡ time_of (cut 58 bytes.now) }
 {
     let (time, left) = cut(bytes, b':');
-    let hundredths = number_between(1, 999_999, time)?;
-    let penalties = number_between(0, 9, left?)?;
+    let hundredths = u32_between(1, MOST_TIME, time)?;
+    let penalties = u8_between(0, MOST_PENALTIES, left?)?;
     Some(Entered::Time {
-        hundredths: hundredths as u32,
-        penalties: penalties as u8,
+        hundredths,
+        penalties,
     })
 }
 
@@ -175,12 +195,13 @@ fn time_of(bytes: &[u8]) -> Option<Entered>
 #[tactic(auto, unfolding(crate::specs::Fields::cut))]
 fn attempted_of(bytes: &[u8]) -> Option<(u8, u16)>
     ensures { result
-        ≡ two_numbers (number_between 2 99) (number_between 1 5999) (cut 58 bytes.now) }
+        ≡ two_numbers (number_between LEAST_CUBES MOST_CUBES) (number_between 1 MOST_SECONDS)
+        (cut 58 bytes.now) }
 {
     let (attempted, left) = cut(bytes, b':');
-    let attempted = number_between(2, 99, attempted)?;
-    let seconds = number_between(1, 5999, left?)?;
-    Some((attempted as u8, seconds as u16))
+    let attempted = u8_between(LEAST_CUBES, MOST_CUBES, attempted)?;
+    let seconds = u16_between(1, MOST_SECONDS, left?)?;
+    Some((attempted, seconds))
 }
 
 /// How many cubes of multi-blind were solved, of how many, and in how many seconds.
@@ -189,7 +210,7 @@ fn multi_of(bytes: &[u8]) -> Option<Entered>
     ensures { result ≡ multi_of (cut 58 bytes.now) }
 {
     let (solved, left) = cut(bytes, b':');
-    let solved = number_between(0, 99, solved)? as u8;
+    let solved = u8_between(0, MOST_CUBES, solved)?;
     let (attempted, seconds) = attempted_of(left?)?;
     if solved <= attempted {
         Some(Entered::Multi {
@@ -202,7 +223,7 @@ fn multi_of(bytes: &[u8]) -> Option<Entered>
     }
 }
 
-/// Cubes of multi-blind, behind their letter.
+/// Cubes of multi-blind, after their letter.
 fn cubes_of(bytes: &[u8]) -> Option<Entered>
     ensures { result ≡ cubes_of bytes.now }
 {

@@ -57,3 +57,27 @@ pub fn number_between(low: u64, high: u64, bytes: &[u8]) -> Option<u64>
         None
     }
 }
+
+/// The same, of a number that is a `u8`.
+pub(crate) fn u8_between(low: u8, high: u8, bytes: &[u8]) -> Option<u8>
+    ensures { result ≡ number_between low high bytes.now }
+{
+    let number = number_between(u64::from(low), u64::from(high), bytes)?;
+    Some(number as u8)
+}
+
+/// The same, of a number that is a `u16`.
+pub(crate) fn u16_between(low: u16, high: u16, bytes: &[u8]) -> Option<u16>
+    ensures { result ≡ number_between low high bytes.now }
+{
+    let number = number_between(u64::from(low), u64::from(high), bytes)?;
+    Some(number as u16)
+}
+
+/// The same, of a number that is a `u32`.
+pub(crate) fn u32_between(low: u32, high: u32, bytes: &[u8]) -> Option<u32>
+    ensures { result ≡ number_between low high bytes.now }
+{
+    let number = number_between(u64::from(low), u64::from(high), bytes)?;
+    Some(number as u32)
+}

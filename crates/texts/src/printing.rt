@@ -1,10 +1,10 @@
 //! Commands as texts.
 
 ghost use Rattle.std.specs.Prelude.{◌≡◌, ◌++◌, IfOk, OnOk, codes, decimal};
-ghost use Rattle.formats.specs.Events.{event_name, format_name};
+ghost use Rattle.formats.specs.Events.{event_name};
 ghost use Rattle.notation.specs.Notation.{spelling as moves_text};
 ghost use Rattle.texts.specs.Spelling.{cutoff_text, limit_text, advance_text, entered_text};
-ghost use Rattle.texts.specs.Spelling.{spelling};
+ghost use Rattle.texts.specs.Spelling.{entry_words, further, settings_words, spelling};
 ghost use Rattle.texts.specs.declared.command.Command.TheVariants.{Register as RegisterOf};
 ghost use Rattle.texts.specs.declared.command.Command.TheVariants.{Open as OpenOf};
 ghost use Rattle.texts.specs.declared.command.Command.TheVariants.{Enter as EnterOf};
@@ -169,9 +169,7 @@ fn push_round(out: &mut Vec<u8>, id: RoundId) -> Result<(), NoMemory>
 }
 
 fn push_settings(out: &mut Vec<u8>, settings: Settings) -> Result<(), NoMemory>
-    ensures { OnOk result (out.new.items ≡ out.old.items
-        ++ codes " " ++ format_name settings.format ++ codes " " ++ cutoff_text settings.cutoff
-        ++ codes " " ++ limit_text settings.limit ++ codes " " ++ advance_text settings.advance) }
+    ensures { OnOk result (out.new.items ≡ out.old.items ++ further (settings_words settings)) }
 {
     push_field(out, settings.format.name().as_bytes())?;
     out.extend_from_slice(b" ")?;
@@ -225,10 +223,7 @@ fn push_scramble(
 
 /// The fields of an attempt.
 fn push_entry(alloc: Global, out: &mut Vec<u8>, entry: &AttemptEntry) -> Result<(), NoMemory>
-    ensures { OnOk result (out.new.items ≡ out.old.items
-        ++ codes " " ++ event_name entry.now.id.event ++ codes " " ++ decimal entry.now.id.round
-        ++ codes " " ++ decimal entry.now.attempt ++ codes " " ++ decimal entry.now.number
-        ++ codes " " ++ entered_text entry.now.outcome) }
+    ensures { OnOk result (out.new.items ≡ out.old.items ++ further (entry_words entry.now)) }
 {
     push_round(out, entry.id)?;
     push_number(out, u32::from(entry.attempt))?;
@@ -301,7 +296,7 @@ fn push_command(alloc: Global, out: &mut Vec<u8>, command: &Command) -> Result<(
     }
 }
 
-/// The spelling of a command. `read` takes it where the fields are in their ranges and it has at
+/// The spelling of a command. `read` accepts it where the fields are in their ranges and it has at
 /// most 600 bytes, which only moves can exceed. It is `NoMemory` only where a growth was refused.
 pub fn print(alloc: Global, command: &Command) -> Result<Vec<u8>, NoMemory>
     ensures { IfOk result (λ text. text.items ≡ spelling command.now) }

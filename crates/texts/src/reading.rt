@@ -1,26 +1,32 @@
 //! Commands from their texts.
 
 ghost use Rattle.std.specs.Prelude.{◌≡◌, ◌<◌, ◌≤◌, ◌↔◌, false, nat_lt, length, option_map, ok_or};
+ghost use Rattle.std.specs.Option.{option_copied};
 ghost use Rattle.std.specs.Prelude.{Option, Some, None, IfOk};
 ghost use Rattle.texts.specs.Spelling.{IsFit, spelling};
-ghost use Rattle.texts.specs.Fields.{cut};
+ghost use Rattle.formats.specs.Events.{event_of_name};
+ghost use Rattle.texts.specs.Fields.{advance_of, cut, number_between};
 ghost use Rattle.texts.specs.Reading.{Gives, moves_field, is_word, ReadsAs};
-ghost use Rattle.texts.specs.Reading.{front, no_field, register_of, round_of, open_of};
+ghost use Rattle.texts.specs.Reading.{front, field, no_field, register_of, round_of, open_of};
 ghost use Rattle.texts.specs.Reading.{enter_of, scramble_of, entry_of, attempt_of, correct_of};
 ghost use Rattle.texts.specs.Reading.{strike_of, set_advance_of, close_of, set_edition_of, by_word};
 ghost use Rattle.texts.specs.Reading.{command_of, ReadsWhatIsSpelled, SpellsWhatIsRead};
 ghost use Rattle.texts.specs.Reading.{SpellsOneCommand, SpellsShort};
-ghost use Rattle.texts.specs.model.Returned.{Reads, ReadsFields, GivesEntry};
+ghost use Rattle.texts.specs.model.Returned.{Reads, ReadsFields, GivesEntry, with_rest};
 ghost use Rattle.texts.specs.declared.reading.CommandFault.TheVariants.{NoMemory as OutOfMemory};
 ghost use Rattle.texts.specs.declared.reading.CommandFault.TheVariants.{BadField as BadFieldAt};
 
 use crate::command::{AttemptEntry, Command, Name, RoundId, Settings};
 use crate::fields::{
-    LAST_EDITION, LAST_ROUND, advance_of, cut, cutoff_of, entered_of, is_name, limit_of, moves_of,
+    LAST_ATTEMPT, LAST_EDITION, LAST_NUMBER, advance_of, cut, cutoff_of, entered_of, is_name,
+    limit_of, moves_of,
 };
-use crate::numbers::number_between;
-use formats::{Event, Format};
+use crate::numbers::{u8_between, u16_between};
+use formats::{Advance, Event, Format, LAST_ROUND};
 use std::alloc::{AllocError, Global};
+
+/// The most bytes of a command's text.
+const MOST_TEXT: usize = 600;
 
 /// Why a text is no command.
 #[derive(Clone, Copy, Debug, PartialEq, Eq)]
@@ -44,10 +50,10 @@ impl From<AllocError> for CommandFault {
     }
 }
 
-/// The next field, and what is left behind it.
+/// The next field, and what is left after it.
 fn field(index: u8, left: Option<&[u8]>) -> Result<(&[u8], Option<&[u8]>), CommandFault>
-    ensures { Reads (λ x. (x.0.now, option_map (λ s. s.now) x.1)) result
-        (front index (option_map (λ s. s.now) left.entry)) }
+    ensures { Reads (λ x. (x.0.now, option_copied x.1)) result
+        (front index (option_copied left.entry)) }
 {
     match left {
         Some(bytes) => Ok(cut(bytes, b' ')),
@@ -58,7 +64,7 @@ fn field(index: u8, left: Option<&[u8]>) -> Result<(&[u8], Option<&[u8]>), Comma
 /// All that is left, as the last field.
 fn last_field(index: u8, left: Option<&[u8]>) -> Result<&[u8], CommandFault>
     ensures { Reads (λ x. x.now) result
-        (ok_or (option_map (λ s. s.now) left.entry) (BadFieldAt index)) }
+        (ok_or (option_copied left.entry) (BadFieldAt index)) }
 {
     match left {
         Some(bytes) => Ok(bytes),
@@ -68,7 +74,7 @@ fn last_field(index: u8, left: Option<&[u8]>) -> Result<&[u8], CommandFault>
 
 /// Nothing is left.
 fn no_field(index: u8, left: Option<&[u8]>) -> Result<(), CommandFault>
-    ensures { result ≡ no_field index (option_map (λ s. s.now) left.entry) }
+    ensures { result ≡ no_field index (option_copied left.entry) }
 {
     match left {
         Some(_) => Err(CommandFault::BadField { index }),
@@ -76,55 +82,90 @@ fn no_field(index: u8, left: Option<&[u8]>) -> Result<(), CommandFault>
     }
 }
 
+/// The value of a field. Where its bytes spell none, the field is at fault.
+fn value_of<T: Drop>(index: u8, value: Option<T>) -> Result<T, CommandFault>
+    ensures { result ≡ ok_or value (BadFieldAt index) }
+{
+    value.ok_or(CommandFault::BadField { index })
+}
+
+/// The next field as an event, and what is left after it.
+fn event_field(index: u8, left: Option<&[u8]>) -> Result<(Event, Option<&[u8]>), CommandFault>
+    ensures { ReadsFields with_rest result
+        (field index event_of_name (option_copied left.entry)) }
+{
+    let (bytes, left) = field(index, left)?;
+    Ok((value_of(index, Event::from_name(bytes))?, left))
+}
+
+/// The next field as an attempt, and what is left after it.
+fn attempt_field(index: u8, left: Option<&[u8]>) -> Result<(u8, Option<&[u8]>), CommandFault>
+    ensures { ReadsFields with_rest result
+        (field index (number_between 1 5) (option_copied left.entry)) }
+{
+    let (bytes, left) = field(index, left)?;
+    Ok((value_of(index, u8_between(1, LAST_ATTEMPT, bytes))?, left))
+}
+
+/// The next field as a competitor's number, and what is left after it.
+fn number_field(index: u8, left: Option<&[u8]>) -> Result<(u16, Option<&[u8]>), CommandFault>
+    ensures { ReadsFields with_rest result
+        (field index (number_between 1 9999) (option_copied left.entry)) }
+{
+    let (bytes, left) = field(index, left)?;
+    Ok((value_of(index, u16_between(1, LAST_NUMBER, bytes))?, left))
+}
+
+/// The next field as an advance, and what is left after it.
+fn advance_field(index: u8, left: Option<&[u8]>) -> Result<(Advance, Option<&[u8]>), CommandFault>
+    ensures { ReadsFields with_rest result (field index advance_of (option_copied left.entry)) }
+{
+    let (bytes, left) = field(index, left)?;
+    Ok((value_of(index, advance_of(bytes))?, left))
+}
+
 /// `REG`: number, name.
 #[tactic(auto, unfolding(crate::specs::Reading::register_of, crate::specs::Fields::name_of))]
 fn register_of(alloc: Global, left: Option<&[u8]>) -> Result<Command, CommandFault>
-    ensures { Gives 0 result (register_of (option_map (λ s. s.now) left.entry)) }
+    ensures { Gives 0 result (register_of (option_copied left.entry)) }
 {
-    let (bytes, left) = field(1, left)?;
-    let number = number_between(1, 9999, bytes).ok_or(CommandFault::BadField { index: 1 })?;
+    let (number, left) = number_field(1, left)?;
     let bytes = last_field(2, left)?;
     if !is_name(bytes) {
         return Err(CommandFault::BadField { index: 2 });
     }
     let name = Vec::from_slice(alloc, bytes)?;
     Ok(Command::Register {
-        number: number as u16,
+        number,
         name: Name::new(name),
     })
 }
 
-/// The event and the round that stand in front, and what is left behind them.
+/// The event and the round that stand in front, and what is left after them.
 #[tactic(auto, unfolding(crate::specs::Reading::round_of))]
 fn round_of(left: Option<&[u8]>) -> Result<(RoundId, Option<&[u8]>), CommandFault>
-    ensures { ReadsFields (λ x. (x.0, option_map (λ s. s.now) x.1)) result
-        (round_of (option_map (λ s. s.now) left.entry)) }
+    ensures { ReadsFields with_rest result
+        (round_of (option_copied left.entry)) }
 {
-    let (bytes, left) = field(1, left)?;
-    let event = Event::from_name(bytes).ok_or(CommandFault::BadField { index: 1 })?;
+    let (event, left) = event_field(1, left)?;
     let (bytes, left) = field(2, left)?;
-    let round = number_between(1, LAST_ROUND, bytes).ok_or(CommandFault::BadField { index: 2 })?;
-    let id = RoundId {
-        event,
-        round: round as u8,
-    };
-    Ok((id, left))
+    let round = value_of(2, u8_between(1, LAST_ROUND, bytes))?;
+    Ok((RoundId { event, round }, left))
 }
 
 /// `OPEN`: event, round, format, cutoff, limit, advance.
 #[tactic(auto, unfolding(crate::specs::Reading::open_of))]
 fn open_of(left: Option<&[u8]>) -> Result<Command, CommandFault>
-    ensures { Gives 0 result (open_of (option_map (λ s. s.now) left.entry)) }
+    ensures { Gives 0 result (open_of (option_copied left.entry)) }
 {
     let (id, left) = round_of(left)?;
     let (bytes, left) = field(3, left)?;
-    let format = Format::from_name(bytes).ok_or(CommandFault::BadField { index: 3 })?;
+    let format = value_of(3, Format::from_name(bytes))?;
     let (bytes, left) = field(4, left)?;
-    let cutoff = cutoff_of(bytes).ok_or(CommandFault::BadField { index: 4 })?;
+    let cutoff = value_of(4, cutoff_of(bytes))?;
     let (bytes, left) = field(5, left)?;
-    let limit = limit_of(bytes).ok_or(CommandFault::BadField { index: 5 })?;
-    let (bytes, left) = field(6, left)?;
-    let advance = advance_of(bytes).ok_or(CommandFault::BadField { index: 6 })?;
+    let limit = value_of(5, limit_of(bytes))?;
+    let (advance, left) = advance_field(6, left)?;
     no_field(7, left)?;
     Ok(Command::Open {
         id,
@@ -140,52 +181,40 @@ fn open_of(left: Option<&[u8]>) -> Result<Command, CommandFault>
 /// `ENT`: event, number.
 #[tactic(auto, unfolding(crate::specs::Reading::enter_of))]
 fn enter_of(left: Option<&[u8]>) -> Result<Command, CommandFault>
-    ensures { Gives 0 result (enter_of (option_map (λ s. s.now) left.entry)) }
+    ensures { Gives 0 result (enter_of (option_copied left.entry)) }
 {
-    let (bytes, left) = field(1, left)?;
-    let event = Event::from_name(bytes).ok_or(CommandFault::BadField { index: 1 })?;
-    let (bytes, left) = field(2, left)?;
-    let number = number_between(1, 9999, bytes).ok_or(CommandFault::BadField { index: 2 })?;
+    let (event, left) = event_field(1, left)?;
+    let (number, left) = number_field(2, left)?;
     no_field(3, left)?;
-    Ok(Command::Enter {
-        event,
-        number: number as u16,
-    })
+    Ok(Command::Enter { event, number })
 }
 
 /// `SCR`: event, round, attempt, moves.
 #[tactic(auto, unfolding(crate::specs::Reading::scramble_of))]
 fn scramble_of(alloc: Global, left: Option<&[u8]>) -> Result<Command, CommandFault>
-    ensures { Gives 4 result (scramble_of (option_map (λ s. s.now) left.entry)) }
+    ensures { Gives 4 result (scramble_of (option_copied left.entry)) }
 {
     let (id, left) = round_of(left)?;
-    let (bytes, left) = field(3, left)?;
-    let attempt = number_between(1, 5, bytes).ok_or(CommandFault::BadField { index: 3 })?;
+    let (attempt, left) = attempt_field(3, left)?;
     let bytes = last_field(4, left)?;
-    let moves = moves_of(alloc, bytes)?.ok_or(CommandFault::BadField { index: 4 })?;
-    Ok(Command::Scramble {
-        id,
-        attempt: attempt as u8,
-        moves,
-    })
+    let moves = value_of(4, moves_of(alloc, bytes)?)?;
+    Ok(Command::Scramble { id, attempt, moves })
 }
 
 /// The fields of an attempt: event, round, attempt, number, outcome.
 #[tactic(auto, unfolding(crate::specs::Reading::entry_of))]
 fn entry_of(alloc: Global, left: Option<&[u8]>) -> Result<AttemptEntry, CommandFault>
-    ensures { GivesEntry result (entry_of (option_map (λ s. s.now) left.entry)) }
+    ensures { GivesEntry result (entry_of (option_copied left.entry)) }
 {
     let (id, left) = round_of(left)?;
-    let (bytes, left) = field(3, left)?;
-    let attempt = number_between(1, 5, bytes).ok_or(CommandFault::BadField { index: 3 })?;
-    let (bytes, left) = field(4, left)?;
-    let number = number_between(1, 9999, bytes).ok_or(CommandFault::BadField { index: 4 })?;
+    let (attempt, left) = attempt_field(3, left)?;
+    let (number, left) = number_field(4, left)?;
     let bytes = last_field(5, left)?;
-    let outcome = entered_of(alloc, bytes)?.ok_or(CommandFault::BadField { index: 5 })?;
+    let outcome = value_of(5, entered_of(alloc, bytes)?)?;
     Ok(AttemptEntry {
         id,
-        attempt: attempt as u8,
-        number: number as u16,
+        attempt,
+        number,
         outcome,
     })
 }
@@ -193,7 +222,7 @@ fn entry_of(alloc: Global, left: Option<&[u8]>) -> Result<AttemptEntry, CommandF
 /// `ATT`: the fields of an attempt.
 #[tactic(auto, unfolding(crate::specs::Reading::attempt_of))]
 fn attempt_of(alloc: Global, left: Option<&[u8]>) -> Result<Command, CommandFault>
-    ensures { Gives 5 result (attempt_of (option_map (λ s. s.now) left.entry)) }
+    ensures { Gives 5 result (attempt_of (option_copied left.entry)) }
 {
     Ok(Command::Attempt(entry_of(alloc, left)?))
 }
@@ -201,7 +230,7 @@ fn attempt_of(alloc: Global, left: Option<&[u8]>) -> Result<Command, CommandFaul
 /// `COR`: the fields of an attempt.
 #[tactic(auto, unfolding(crate::specs::Reading::correct_of))]
 fn correct_of(alloc: Global, left: Option<&[u8]>) -> Result<Command, CommandFault>
-    ensures { Gives 5 result (correct_of (option_map (λ s. s.now) left.entry)) }
+    ensures { Gives 5 result (correct_of (option_copied left.entry)) }
 {
     Ok(Command::Correct(entry_of(alloc, left)?))
 }
@@ -209,26 +238,21 @@ fn correct_of(alloc: Global, left: Option<&[u8]>) -> Result<Command, CommandFaul
 /// `STR`: event, round, number.
 #[tactic(auto, unfolding(crate::specs::Reading::strike_of))]
 fn strike_of(left: Option<&[u8]>) -> Result<Command, CommandFault>
-    ensures { Gives 0 result (strike_of (option_map (λ s. s.now) left.entry)) }
+    ensures { Gives 0 result (strike_of (option_copied left.entry)) }
 {
     let (id, left) = round_of(left)?;
-    let (bytes, left) = field(3, left)?;
-    let number = number_between(1, 9999, bytes).ok_or(CommandFault::BadField { index: 3 })?;
+    let (number, left) = number_field(3, left)?;
     no_field(4, left)?;
-    Ok(Command::Strike {
-        id,
-        number: number as u16,
-    })
+    Ok(Command::Strike { id, number })
 }
 
 /// `ADV`: event, round, advance.
 #[tactic(auto, unfolding(crate::specs::Reading::set_advance_of))]
 fn set_advance_of(left: Option<&[u8]>) -> Result<Command, CommandFault>
-    ensures { Gives 0 result (set_advance_of (option_map (λ s. s.now) left.entry)) }
+    ensures { Gives 0 result (set_advance_of (option_copied left.entry)) }
 {
     let (id, left) = round_of(left)?;
-    let (bytes, left) = field(3, left)?;
-    let advance = advance_of(bytes).ok_or(CommandFault::BadField { index: 3 })?;
+    let (advance, left) = advance_field(3, left)?;
     no_field(4, left)?;
     Ok(Command::SetAdvance { id, advance })
 }
@@ -236,7 +260,7 @@ fn set_advance_of(left: Option<&[u8]>) -> Result<Command, CommandFault>
 /// `CLOSE`: event, round.
 #[tactic(auto, unfolding(crate::specs::Reading::close_of))]
 fn close_of(left: Option<&[u8]>) -> Result<Command, CommandFault>
-    ensures { Gives 0 result (close_of (option_map (λ s. s.now) left.entry)) }
+    ensures { Gives 0 result (close_of (option_copied left.entry)) }
 {
     let (id, left) = round_of(left)?;
     no_field(3, left)?;
@@ -246,22 +270,18 @@ fn close_of(left: Option<&[u8]>) -> Result<Command, CommandFault>
 /// `EDITION`: the edition.
 #[tactic(auto, unfolding(crate::specs::Reading::set_edition_of))]
 fn set_edition_of(left: Option<&[u8]>) -> Result<Command, CommandFault>
-    ensures { Gives 0 result (set_edition_of (option_map (λ s. s.now) left.entry)) }
+    ensures { Gives 0 result (set_edition_of (option_copied left.entry)) }
 {
     let (bytes, left) = field(1, left)?;
-    let edition = number_between(2, LAST_EDITION, bytes).ok_or(CommandFault::BadField {
-        index: 1,
-    })?;
+    let edition = value_of(1, u8_between(2, LAST_EDITION, bytes))?;
     no_field(2, left)?;
-    Ok(Command::SetEdition {
-        edition: edition as u8,
-    })
+    Ok(Command::SetEdition { edition })
 }
 
-/// The command of a word and what is left behind it.
+/// The command of a word and what is left after it.
 fn command_of_word(alloc: Global, word: &[u8], left: Option<&[u8]>) -> Result<Command, CommandFault>
     ensures { Gives (moves_field word.now) result
-        (by_word (word.now, option_map (λ s. s.now) left.entry)) }
+        (by_word (word.now, option_copied left.entry)) }
 {
     if word == b"REG".as_slice() {
         register_of(alloc, left)
@@ -292,7 +312,7 @@ fn command_of_word(alloc: Global, word: &[u8], left: Option<&[u8]>) -> Result<Co
 fn is_too_long(text: &[u8]) -> bool
     ensures { result ≡ nat_lt 600 (length text.now) }
 {
-    text.len() > 600
+    text.len() > MOST_TEXT
 }
 
 /// The command that a text spells: a word and its fields, parted by one space each, of at most 600

@@ -1,13 +1,17 @@
 -- The fields of each kind: what is read is spelled so and in its ranges, and what is spelled so is
 -- read.
-use Rattle.std.proofs.Common.{◌≡◌, ℕ, zero, suc, ◌^◌, ◌<◌, ◌≤◌, Bool, true, false, cond, eqb, leb, List, [], ◌∷◌, ◌++◌, Some, None, refl, ap, subst, arith}
+use Rattle.std.proofs.Common.{◌≡◌, ℕ, zero, suc, ◌^◌, ◌<◌, ◌≤◌, Bool, true, false, cond, eqb, leb}
+use Rattle.std.proofs.Common.{List, [], ◌∷◌, ◌++◌, Some, None, refl, ap, subst, arith}
 use Rattle.std.proofs.lemmas.Bool.{leb-true, le-leb}
 use Rattle.std.specs.Prelude.{find, map}
 use Rattle.std.specs.Option.{option_map}
 use Rattle.std.specs.Int.{w32, w64, to_be_bytes}
 use Rattle.texts.specs.Codes.{code_number}
 use Rattle.formats.specs.declared.events.Event.{Event}
-use Rattle.formats.specs.declared.events.Event.TheVariants.{Cube3, Cube2, Cube4, Cube5, Cube6, Cube7, Blind3, FewestMoves, OneHanded, Clock, Megaminx, Pyraminx, Skewb, Square1, Blind4, Blind5, MultiBlind}
+use Rattle.formats.specs.declared.events.Event.TheVariants.{Cube3, Cube2, Cube4, Cube5, Cube6}
+use Rattle.formats.specs.declared.events.Event.TheVariants.{Cube7, Blind3, FewestMoves, OneHanded}
+use Rattle.formats.specs.declared.events.Event.TheVariants.{Clock, Megaminx, Pyraminx, Skewb}
+use Rattle.formats.specs.declared.events.Event.TheVariants.{Square1, Blind4, Blind5, MultiBlind}
 use Rattle.formats.specs.Events.{all_events, event_number}
 use Rattle.texts.specs.declared.answer.Answer.{Answer}
 use Rattle.texts.specs.declared.answer.Answer.TheVariants as answer
@@ -15,18 +19,24 @@ use Rattle.texts.specs.declared.answer.Code.{Code}
 use Rattle.texts.specs.declared.answer.Code.TheVariants as code
 use Rattle.wire.specs.declared.values.ClientRefusal.{ClientRefusal}
 use Rattle.wire.specs.declared.values.ClientRefusal.TheVariants as refusal
-use Rattle.wire.specs.declared.values.Standing.{Standing}
-use Rattle.wire.specs.declared.values.Standing.TheVariants.{Unknown, Pending, Done}
+use Rattle.wire.specs.declared.values.CommandState.{CommandState}
+use Rattle.wire.specs.declared.values.CommandState.TheVariants.{Unknown, Pending, Done}
 use Rattle.wire.specs.declared.values.SheetStyle.{SheetStyle}
 use Rattle.wire.specs.declared.values.SheetStyle.TheVariants.{Text, Table}
 use Rattle.wire.specs.Fields.{byte_at, number_at, two, numbered}
 use Rattle.wire.specs.declared.values.Version.{Version}
-use Rattle.wire.specs.Numbers.{last_event, answers, answer_number, refusals, refusal_number, styles, style_number}
-use Rattle.wire.specs.Ranges.{IsBallot, IsPosition, IsId, IsEntry, IsReport, IsStanding, IsEventOf}
-use Rattle.wire.specs.Reading.{ballot_at, limited_at, position_at, id_at, entry_at, report_at, member_at, event_at, standing_at}
-use Rattle.wire.specs.Spelling.{ballot_bytes, entry_bytes, report_bytes, standing_bytes}
-use Rattle.wire.proofs.Taking.{IsBytes, IsBytes-rest, bind_some, passed, some_is, Takes, wide32, number_takes, number_again, byte_takes}
-use Rattle.wire.proofs.FieldLaws.{ballot_takes, ballot_again, limited_takes, limited_again, id_takes, id_again, entry_takes, entry_again, report_takes, report_again}
+use Rattle.wire.specs.Numbers.{last_event, answers, answer_number, refusals, refusal_number, styles}
+use Rattle.wire.specs.Numbers.{style_number}
+use Rattle.wire.specs.Ranges.{IsBallot, IsPosition, IsId, IsEntry, IsReport, IsCommandState}
+use Rattle.wire.specs.Ranges.{IsEventOf}
+use Rattle.wire.specs.Reading.{ballot_at, limited_at, position_at, id_at, entry_at, report_at}
+use Rattle.wire.specs.Reading.{member_at, event_at, state_at}
+use Rattle.wire.specs.Spelling.{ballot_bytes, entry_bytes, report_bytes, state_bytes}
+use Rattle.wire.proofs.Taking.{IsBytes, IsBytes-rest, bind_some, passed, some_is, Takes, wide32}
+use Rattle.wire.proofs.Taking.{number_takes, number_again, byte_takes}
+use Rattle.wire.proofs.FieldLaws.{ballot_takes, ballot_again, limited_takes, limited_again}
+use Rattle.wire.proofs.FieldLaws.{id_takes, id_again, entry_takes, entry_again, report_takes}
+use Rattle.wire.proofs.FieldLaws.{report_again}
 use Rattle.wire.proofs.Sequences.{IsField, two_fields, member_field}
 
 abbrev pub u32 : ℕ → List ℕ
@@ -182,12 +192,13 @@ abbrev done_field : IsField (λ (p : ℕ × Answer). u32 p.0 ++ answer_number p.
 done_field = two_fields u32 IsPosition position_at (λ (x : Answer). answer_number x ∷ [])
     (λ (x : Answer). Unit {0}) (member_at answer_number answers) position_field answer_field
 
-standing_takes : (bytes : List ℕ) (x : Standing × List ℕ) → IsBytes bytes
-    → standing_at bytes ≡ Some x → Takes bytes (standing_bytes x.0) x.1 × IsStanding x.0
-unfolding standing_at
-standing_takes [] x fits e = absurd cc
-standing_takes (zero ∷ rest) x fits e =
-    subst (λ (y : Standing × List ℕ). Takes (0 ∷ rest) (standing_bytes y.0) y.1 × IsStanding y.0)
+state_takes : (bytes : List ℕ) (x : CommandState × List ℕ) → IsBytes bytes
+    → state_at bytes ≡ Some x → Takes bytes (state_bytes x.0) x.1 × IsCommandState x.0
+unfolding state_at
+state_takes [] x fits e = absurd cc
+state_takes (zero ∷ rest) x fits e =
+    subst (λ (y : CommandState × List ℕ). Takes (0 ∷ rest) (state_bytes y.0) y.1
+    × IsCommandState y.0)
     (some_is (Unknown, rest) x e) (
       record {
         parts = refl;
@@ -196,8 +207,9 @@ standing_takes (zero ∷ rest) x fits e =
       },
       tt,
     )
-standing_takes (suc zero ∷ rest) x fits e =
-    subst (λ (y : Standing × List ℕ). Takes (1 ∷ rest) (standing_bytes y.0) y.1 × IsStanding y.0)
+state_takes (suc zero ∷ rest) x fits e =
+    subst (λ (y : CommandState × List ℕ). Takes (1 ∷ rest) (state_bytes y.0) y.1
+    × IsCommandState y.0)
     (some_is (Pending, rest) x e) (
       record {
         parts = refl;
@@ -206,22 +218,23 @@ standing_takes (suc zero ∷ rest) x fits e =
       },
       tt,
     )
-standing_takes (suc (suc zero) ∷ rest) x fits e =
+state_takes (suc (suc zero) ∷ rest) x fits e =
     let a = bind_some (two position_at (member_at answer_number answers) rest)
     (λ p. Some (Done p.0.0 p.0.1, p.1)) x e in
     let t = done_field.takes rest a.0 (IsBytes-rest 2 rest fits) a.1 in
-    let made : Standing × List ℕ = (Done a.0.0.0 a.0.0.1, a.0.1) in
-    subst (λ (y : Standing × List ℕ). Takes (2 ∷ rest) (standing_bytes y.0) y.1 × IsStanding y.0)
+    let made : CommandState × List ℕ = (Done a.0.0.0 a.0.0.1, a.0.1) in
+    subst (λ (y : CommandState × List ℕ). Takes (2 ∷ rest) (state_bytes y.0) y.1
+    × IsCommandState y.0)
     (some_is made x a.2)
     (record { parts = ap (λ (w : List ℕ). 2 ∷ w) t.0.parts; are_bytes = t.0.are_bytes }, t.1.0)
-standing_takes (suc (suc (suc k)) ∷ rest) x fits e = absurd cc
+state_takes (suc (suc (suc k)) ∷ rest) x fits e = absurd cc
 
-standing_again : (x : Standing) (rest : List ℕ) → IsStanding x
-    → standing_at (standing_bytes x ++ rest) ≡ Some (x, rest)
-unfolding standing_at
-standing_again Unknown rest fits = refl
-standing_again Pending rest fits = refl
-standing_again (Done pos a) rest fits = rw (done_field.again (pos, a) rest (fits, tt)) refl
+state_again : (x : CommandState) (rest : List ℕ) → IsCommandState x
+    → state_at (state_bytes x ++ rest) ≡ Some (x, rest)
+unfolding state_at
+state_again Unknown rest fits = refl
+state_again Pending rest fits = refl
+state_again (Done pos a) rest fits = rw (done_field.again (pos, a) rest (fits, tt)) refl
 
-pub standing_field : IsField standing_bytes IsStanding standing_at
-standing_field = record { takes = standing_takes; again = standing_again }
+pub standing_field : IsField state_bytes IsCommandState state_at
+standing_field = record { takes = state_takes; again = state_again }

@@ -1,24 +1,29 @@
 -- Which fault stands at the front of bytes.
-use Rattle.std.proofs.Common.{◌≡◌, ℕ, ◌+◌, ◌<◌, ◌≤◌, Bool, true, false, cond, ltb, not, List, [], ◌∷◌, length, get_or, take, drop, Option, Some, None, Result, Ok, Err, refl, sym, ap, subst, ◌∙◌, arith, inl, inr}
+use Rattle.std.proofs.Common.{◌≡◌, ℕ, ◌+◌, ◌<◌, ◌≤◌, Bool, true, false, cond, ltb, not, List, []}
+use Rattle.std.proofs.Common.{◌∷◌, length, get_or, take, drop, Option, Some, None, Result, Ok, Err}
+use Rattle.std.proofs.Common.{refl, sym, ap, subst, ◌∙◌, arith, inl, inr}
 use Rattle.std.specs.Int.{w32, from_be_bytes}
 use Rattle.std.proofs.lemmas.Bool.{ltb-true, ltb-false}
 use Rattle.std.proofs.lemmas.List.{length-drop, length-take, get_or-take, get_or-drop}
 use Rattle.wire.specs.declared.fault.WireFault.{WireFault}
-use Rattle.wire.specs.declared.fault.WireFault.TheVariants.{BadLength, BadVersion, BadKind, BadBody, NoMemory}
+use Rattle.wire.specs.declared.fault.WireFault.TheVariants.{BadLength, BadVersion, BadKind, BadBody}
+use Rattle.wire.specs.declared.fault.WireFault.TheVariants.{NoMemory}
 use Rattle.wire.specs.declared.frame.Frame.{Frame}
 use Rattle.wire.specs.declared.frame.What.{What}
 use Rattle.wire.specs.declared.values.Version.{Version}
 use Rattle.wire.specs.declared.values.Version.TheVariants.{One, Two}
 use Rattle.wire.specs.Numbers.{versions, version_number}
 use Rattle.wire.proofs.Sequences.{numbered_is}
-use Rattle.wire.specs.Laws.{AreBytes, IsVersion, length_at, IsLength, IsWhole, BeginsWithFrame, IsFirstFault, IsFaultWhereFirst}
+use Rattle.wire.specs.Laws.{AreBytes, IsVersion, length_at, IsLength, IsWhole, BeginsWithFrame}
+use Rattle.wire.specs.Laws.{IsFirstFault, IsFaultWhereFirst}
 use Rattle.wire.specs.Ranges.{way_of}
-use Rattle.wire.specs.Reading.{between, what_of, is_kind, goes, frame_from, frame_in, version_of, frame_of}
+use Rattle.wire.specs.Reading.{between, what_of, is_kind, goes, frame_from, frame_in, version_of}
+use Rattle.wire.specs.Reading.{frame_of}
 use Rattle.wire.specs.Stream.{Front, Waits, Begins, Breaks, by_frame, by_length, front}
 use Rattle.wire.proofs.FieldLaws.{between_is, between_holds}
 use Rattle.wire.proofs.Streams.{front_takes, front_again}
 
--- ---- the bytes behind a length: the version and the kind that a fault, or a frame, shows
+-- ---- the bytes after a length: the version and the kind that a fault, or a frame, shows
 
 abbrev Shows : Result Frame WireFault → ℕ → ℕ → Type 0
 Shows (Ok f) version kind = IsVersion version × (is_kind kind ≡ true)
@@ -102,7 +107,7 @@ by_frame_tells (Err BadKind) rest bytes whole s = (whole, s.0, s.1)
 by_frame_tells (Err BadBody) rest bytes whole s = (whole, s.0, s.1)
 by_frame_tells (Err NoMemory) rest bytes whole s = absurd s
 
--- a byte behind the length
+-- a byte after the length
 behind_at : (bytes : List ℕ) (n i : ℕ) → i < n → get_or (take n (drop 4 bytes)) i 0 ≡ get_or bytes
     (4 + i) 0
 behind_at bytes n i lt = get_or-take n (drop 4 bytes) i 0 lt ∙ get_or-drop 4 bytes i 0

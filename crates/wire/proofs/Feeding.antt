@@ -1,15 +1,18 @@
 -- A stream from the front: one more frame, and what is left.
-use Rattle.std.proofs.Common.{◌≡◌, ℕ, ◌+◌, ◌≤◌, List, [], ◌∷◌, ◌++◌, length, drop, Option, Some, None, refl, sym, ap, subst, ◌∙◌, append_assoc, arith, inl}
+use Rattle.std.proofs.Common.{◌≡◌, ℕ, ◌+◌, ◌≤◌, List, [], ◌∷◌, ◌++◌, length, drop, Option, Some}
+use Rattle.std.proofs.Common.{None, refl, sym, ap, subst, ◌∙◌, append_assoc, arith, inl}
 use Rattle.std.specs.List.{flat_map, AllByRecursion}
 use Rattle.std.proofs.lemmas.Grind.{flat_map-append}
 use Rattle.std.proofs.lemmas.List.{drop-drop, append-nil, length-drop}
 use Rattle.std.proofs.lemmas.List.Concat.{flat_map-cons}
 use Rattle.wire.specs.declared.fault.WireFault.{WireFault}
-use Rattle.wire.specs.declared.fault.WireFault.TheVariants.{BadLength, BadVersion, BadKind, BadBody, NoMemory}
+use Rattle.wire.specs.declared.fault.WireFault.TheVariants.{BadLength, BadVersion, BadKind, BadBody}
+use Rattle.wire.specs.declared.fault.WireFault.TheVariants.{NoMemory}
 use Rattle.wire.specs.declared.frame.Frame.{Frame}
 use Rattle.wire.specs.Ranges.{IsFrame}
 use Rattle.wire.specs.Spelling.{spelling}
-use Rattle.wire.specs.Stream.{Front, Begins, front, IsBegun, Ends, IsOfStream, IsKept, Reader, holding, broken, keeps, RefusesFault, Refuses}
+use Rattle.wire.specs.Stream.{Front, Begins, front, IsBegun, Ends, IsOfStream, IsKept, Reader}
+use Rattle.wire.specs.Stream.{holding, broken, keeps, RefusesFault, Refuses}
 use Rattle.wire.specs.model.Steps.{AreFirst, IsTaken, ReadsOn}
 use Rattle.wire.proofs.Taking.{IsBytes, IsBytes-drop}
 use Rattle.wire.proofs.Streams.{front_takes, front_again}
@@ -71,7 +74,7 @@ reads_on stream before after size fault taken = record {
   };
 }
 
--- where a whole frame stands behind the first ones, one stands at the front
+-- where a whole frame stands after the first ones, one stands at the front
 pub first_begun : (bytes : List ℕ) (frames : List Frame) (size : ℕ) → AreFirst bytes frames size
     → IsBegun (front (drop size bytes)) → IsBegun (front bytes)
 first_begun bytes [] size first begun =

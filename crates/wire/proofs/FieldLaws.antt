@@ -1,5 +1,7 @@
 -- Each field: what is read is spelled so and in its range, and what is spelled so is read.
-use Rattle.std.proofs.Common.{◌≡◌, ℕ, zero, suc, ◌^◌, ◌<◌, ◌≤◌, Bool, true, false, cond, leb, ◌&&◌, List, [], ◌∷◌, ◌++◌, length, take, drop, Option, Some, None, refl, sym, ap, subst, ◌∙◌, append_assoc, arith}
+use Rattle.std.proofs.Common.{◌≡◌, ℕ, zero, suc, ◌^◌, ◌<◌, ◌≤◌, Bool, true, false, cond, leb, ◌&&◌}
+use Rattle.std.proofs.Common.{List, [], ◌∷◌, ◌++◌, length, take, drop, Option, Some, None, refl}
+use Rattle.std.proofs.Common.{sym, ap, subst, ◌∙◌, append_assoc, arith}
 use Rattle.std.specs.Int.{w16, w32, w64, to_be_bytes}
 use Rattle.std.proofs.lemmas.Bool.{leb-true, le-leb}
 use Rattle.std.proofs.lemmas.List.{take_at, drop_at, take-append-drop, length-append, length-take}
@@ -7,10 +9,13 @@ use Rattle.acceptor.specs.declared.ballot.Ballot.{Ballot}
 use Rattle.acceptor.specs.declared.entry.Entry.{Entry}
 use Rattle.acceptor.specs.declared.message.Report.{Report}
 use Rattle.wire.specs.Fields.{◌>>=◌, number_at, byte_at}
-use Rattle.wire.specs.Reading.{between, is_ballot, ballot_at, limited_at, id_at, text_at, entry_at, report_at}
+use Rattle.wire.specs.Reading.{between, is_ballot, ballot_at, limited_at, id_at, text_at, entry_at}
+use Rattle.wire.specs.Reading.{report_at}
 use Rattle.wire.specs.Spelling.{ballot_bytes, text_bytes, entry_bytes, report_bytes}
 use Rattle.wire.specs.Ranges.{IsBallot, IsId, IsEntry, IsReport}
-use Rattle.wire.proofs.Taking.{IsBytes, IsBytes-drop, IsBytes-rest, bind_some, passed, some_is, Takes, Takes-then, wide16, wide32, wide64, number_takes, number_again, byte_takes}
+use Rattle.wire.proofs.Taking.{IsBytes, IsBytes-drop, IsBytes-rest, bind_some, passed, some_is}
+use Rattle.wire.proofs.Taking.{Takes, Takes-then, wide16, wide32, wide64, number_takes}
+use Rattle.wire.proofs.Taking.{number_again, byte_takes}
 
 -- ---- tests of ranges
 
@@ -37,11 +42,11 @@ unfolding ballot_at
 ballot_takes bytes x fits e =
     let a = bind_some (number_at w32 bytes)
     (λ round. byte_at round.1 >>= λ desk. cond (is_ballot round.0 desk.0)
-    (Some (record { round = round.0; desk = desk.0 }, desk.1)) None) x e in
+    (Some (record { number = round.0; desk = desk.0 }, desk.1)) None) x e in
     let b = bind_some (byte_at a.0.1)
     (λ desk. cond (is_ballot a.0.0 desk.0)
-    (Some (record { round = a.0.0; desk = desk.0 }, desk.1)) None) x a.2 in
-    let made : Ballot × List ℕ = (record { round = a.0.0; desk = b.0.0 }, b.0.1) in
+    (Some (record { number = a.0.0; desk = desk.0 }, desk.1)) None) x a.2 in
+    let made : Ballot × List ℕ = (record { number = a.0.0; desk = b.0.0 }, b.0.1) in
     let c = passed (is_ballot a.0.0 b.0.0) made x b.2 in
     let t0 = number_takes w32 (2 ^ 32) wide32 bytes a.0 fits a.1 in
     let t1 = byte_takes a.0.1 b.0 t0.0.are_bytes b.1 in
@@ -56,12 +61,12 @@ pub ballot_again : (b : Ballot) (rest : List ℕ) → IsBallot b
     → ballot_at (ballot_bytes b ++ rest) ≡ Some (b, rest)
 unfolding ballot_at byte_at
 ballot_again b rest fits =
-    let regrouped : ballot_bytes b ++ rest ≡ to_be_bytes w32 b.round ++ (b.desk ∷ rest) =
-    append_assoc (to_be_bytes w32 b.round) (b.desk ∷ []) rest in
-    let test : is_ballot b.round b.desk ≡ true = both_true (leb 1 b.round) (between 1 5 b.desk)
+    let regrouped : ballot_bytes b ++ rest ≡ to_be_bytes w32 b.number ++ (b.desk ∷ rest) =
+    append_assoc (to_be_bytes w32 b.number) (b.desk ∷ []) rest in
+    let test : is_ballot b.number b.desk ≡ true = both_true (leb 1 b.number) (between 1 5 b.desk)
     (le-leb _ _ fits.0) (between_holds 1 5 b.desk fits.2.0 fits.2.1) in
     ap ballot_at regrouped ∙ rw (
-      number_again w32 (2 ^ 32) wide32 b.round (b.desk ∷ rest) fits.1,
+      number_again w32 (2 ^ 32) wide32 b.number (b.desk ∷ rest) fits.1,
       test,
     ) refl
 

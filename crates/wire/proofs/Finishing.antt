@@ -1,11 +1,16 @@
--- A held beginning of a frame, with bytes of a piece put behind it.
-use Rattle.std.proofs.Common.{◌≡◌, ◌⊎◌, ℕ, ◌+◌, ◌<◌, ◌≤◌, Bool, true, false, ltb, List, [], ◌++◌, length, take, drop, Some, Result, Ok, Err, refl, sym, ap, subst, ◌∙◌, append_assoc, arith, inl, inr}
+-- A held beginning of a frame, with bytes of a piece put after it.
+use Rattle.std.proofs.Common.{◌≡◌, ◌⊎◌, ℕ, ◌+◌, ◌<◌, ◌≤◌, Bool, true, false, ltb, List, [], ◌++◌}
+use Rattle.std.proofs.Common.{length, take, drop, Some, Result, Ok, Err, refl, sym, ap, subst, ◌∙◌}
+use Rattle.std.proofs.Common.{append_assoc, arith, inl, inr}
 use Rattle.std.specs.Prelude.{IsOk}
 use Rattle.std.specs.Int.{w32, from_be_bytes}
 use Rattle.std.proofs.lemmas.Bool.{ltb-true, ltb-false, lt-ltb, le-ltb}
-use Rattle.std.proofs.lemmas.List.{take_at, drop_at, drop_all, take-append-le, drop-append-le, take-append-drop, drop-drop, append-nil, length-append, length-drop}
+use Rattle.std.proofs.lemmas.List.{take_at, drop_at, drop_all, take-append-le, drop-append-le}
+use Rattle.std.proofs.lemmas.List.{take-append-drop, drop-drop, append-nil, length-append}
+use Rattle.std.proofs.lemmas.List.{length-drop}
 use Rattle.wire.specs.declared.fault.WireFault.{WireFault}
-use Rattle.wire.specs.declared.fault.WireFault.TheVariants.{BadLength, BadVersion, BadKind, BadBody, NoMemory}
+use Rattle.wire.specs.declared.fault.WireFault.TheVariants.{BadLength, BadVersion, BadKind, BadBody}
+use Rattle.wire.specs.declared.fault.WireFault.TheVariants.{NoMemory}
 use Rattle.wire.specs.declared.frame.Frame.{Frame}
 use Rattle.wire.specs.Laws.{length_at, IsLength}
 use Rattle.wire.specs.Reading.{between, frame_of}
@@ -97,7 +102,7 @@ fault_given BadBody read y bytes gives at = at ∙ ap (λ (x : Result Frame Wire
 fault_given NoMemory read y bytes gives at =
     subst (λ (x : Front). IsBegun x) (sym at) (begun_by read y gives)
 
--- ---- bytes put behind the held ones
+-- ---- bytes put after the held ones
 
 pub joined : (size : ℕ) (piece old new : List ℕ) (added : ℕ) → IsToppedUp size piece old new added
     → new ++ drop added piece ≡ old ++ piece

@@ -1,25 +1,36 @@
 -- What is read as a frame is spelled so, and what is spelled so is read.
-use Rattle.std.proofs.Common.{◌≡◌, ℕ, ◌^◌, ◌<◌, List, [], ◌∷◌, ◌++◌, Option, Some, refl, sym, subst, arith}
+use Rattle.std.proofs.Common.{◌≡◌, ℕ, ◌^◌, ◌<◌, List, [], ◌∷◌, ◌++◌, Option, Some, refl, sym, subst}
+use Rattle.std.proofs.Common.{arith}
 use Rattle.std.specs.Int.{w32}
 use Rattle.acceptor.specs.declared.ballot.Ballot.{Ballot}
 use Rattle.acceptor.specs.declared.entry.Entry.{Entry}
 use Rattle.acceptor.specs.declared.message.Report.{Report}
 use Rattle.formats.specs.declared.events.Event.{Event}
 use Rattle.formats.specs.Events.{event_number}
-use Rattle.wire.specs.declared.values.Standing.{Standing}
+use Rattle.wire.specs.declared.values.CommandState.{CommandState}
 use Rattle.wire.specs.declared.values.SheetStyle.{SheetStyle}
 use Rattle.wire.specs.declared.values.Version.{Version}
 use Rattle.wire.specs.declared.frame.What.{What}
-use Rattle.wire.specs.declared.frame.What.TheVariants.{Prepare, Promise, Accept, Accepted, Nack, Behind, Decided, Submit, Ask, Sheet, Tick, Stop, Taken, Told, SheetText, Refused, Fine}
+use Rattle.wire.specs.declared.frame.What.TheVariants.{Prepare, Promise, Accept, Accepted, Nack}
+use Rattle.wire.specs.declared.frame.What.TheVariants.{Behind, Decided, Submit, Ask, Sheet, Tick}
+use Rattle.wire.specs.declared.frame.What.TheVariants.{Stop, Taken, Told, SheetText, Refused, Fine}
 use Rattle.wire.specs.Fields.{byte_at, number_at, two, all_of}
 use Rattle.wire.specs.Numbers.{refusals, refusal_number, styles, style_number}
-use Rattle.wire.specs.Ranges.{IsBallot, IsPosition, IsId, IsEntry, IsReport, IsStanding, IsEventOf, IsBody}
-use Rattle.wire.specs.Reading.{ballot_at, limited_at, position_at, id_at, entry_at, report_at, member_at, event_at, standing_at, prepare_of, promise_of, accept_of, accepted_of, nack_of, behind_of, decided_of, submit_of, ask_of, sheet_of, taken_of, told_of, refused_of, what_of}
-use Rattle.wire.specs.Spelling.{ballot_bytes, entry_bytes, report_bytes, standing_bytes, kind_of, body}
+use Rattle.wire.specs.Ranges.{IsBallot, IsPosition, IsId, IsEntry, IsReport, IsCommandState}
+use Rattle.wire.specs.Ranges.{IsEventOf}
+use Rattle.wire.specs.Ranges.{IsBody}
+use Rattle.wire.specs.Reading.{ballot_at, limited_at, position_at, id_at, entry_at, report_at}
+use Rattle.wire.specs.Reading.{member_at, event_at, state_at, prepare_of, promise_of, accept_of}
+use Rattle.wire.specs.Reading.{accepted_of, nack_of, behind_of, decided_of, submit_of, ask_of}
+use Rattle.wire.specs.Reading.{sheet_of, taken_of, told_of, refused_of, what_of}
+use Rattle.wire.specs.Spelling.{ballot_bytes, entry_bytes, report_bytes, state_bytes, kind_of}
+use Rattle.wire.specs.Spelling.{body}
 use Rattle.wire.proofs.Taking.{IsBytes, bind_some, some_is}
 use Rattle.wire.proofs.Sequences.{IsField, two_fields, all_takes, all_again}
 use Rattle.wire.proofs.Runs.{run_takes, run_again}
-use Rattle.wire.proofs.Bodies.{u32, u64, ballot_field, limited_field, position_field, any_field, byte_field, id_field, entry_field, report_field, event_field, style_field, refusal_field, standing_field}
+use Rattle.wire.proofs.Bodies.{u32, u64, ballot_field, limited_field, position_field, any_field}
+use Rattle.wire.proofs.Bodies.{byte_field, id_field, entry_field, report_field, event_field}
+use Rattle.wire.proofs.Bodies.{style_field, refusal_field, standing_field}
 
 -- the bytes are the fields of this kind, in this version
 pub record IsWhat (v : Version) (kind : ℕ) (bytes : List ℕ) (w : What) : Type 0 where
@@ -71,9 +82,9 @@ bpb_field = two_fields ballot_bytes IsBallot ballot_at
     (λ (p : ℕ × Ballot). u32 p.0 ++ ballot_bytes p.1) (λ (p : ℕ × Ballot). IsPosition p.0
     × IsBallot p.1) (two position_at ballot_at) ballot_field pb_field
 
-is_field : IsField (λ (p : ℕ × Standing). u64 p.0 ++ standing_bytes p.1)
-    (λ (p : ℕ × Standing). IsId p.0 × IsStanding p.1) (two id_at standing_at)
-is_field = two_fields u64 IsId id_at standing_bytes IsStanding standing_at id_field standing_field
+is_field : IsField (λ (p : ℕ × CommandState). u64 p.0 ++ state_bytes p.1)
+    (λ (p : ℕ × CommandState). IsId p.0 × IsCommandState p.1) (two id_at state_at)
+is_field = two_fields u64 IsId id_at state_bytes IsCommandState state_at id_field standing_field
 
 ps_field : IsField (λ (p : ℕ × SheetStyle). u32 p.0 ++ style_number p.1 ∷ [])
     (λ (p : ℕ × SheetStyle). (p.0 < 2 ^ 32) × Unit {0})
@@ -91,7 +102,8 @@ rps_field = two_fields (λ (b : ℕ). b ∷ []) (λ (b : ℕ). b < 256) byte_at
     (λ (p : ℕ × SheetStyle). (p.0 < 2 ^ 32) × Unit {0})
     (two (number_at w32) (member_at style_number styles)) byte_field ps_field
 
-erps_field : (v : Version) → IsField (λ (p : Event × (ℕ × (ℕ × SheetStyle))). (event_number p.0 ∷ []) ++
+erps_field : (v : Version)
+    → IsField (λ (p : Event × (ℕ × (ℕ × SheetStyle))). (event_number p.0 ∷ []) ++
     ((p.1.0 ∷ []) ++ (u32 p.1.1.0 ++ style_number p.1.1.1 ∷ [])))
     (λ (p : Event × (ℕ × (ℕ × SheetStyle))). IsEventOf v p.0
     × ((p.1.0 < 256) × ((p.1.1.0 < 2 ^ 32) × Unit {0})))
@@ -202,7 +214,7 @@ taken_takes v bytes w fits e =
 pub told_takes : (v : Version) (bytes : List ℕ) (w : What) → IsBytes bytes
     → told_of bytes ≡ Some w → IsWhat v 33 bytes w
 told_takes v bytes w fits e =
-    let a = bind_some (all_of (two id_at standing_at) bytes) (λ x. Some (Told x.0 x.1)) w e in
+    let a = bind_some (all_of (two id_at state_at) bytes) (λ x. Some (Told x.0 x.1)) w e in
     let t = all_takes _ _ _ is_field bytes a.0 fits a.1 in
     subst (λ (y : What). IsWhat v 33 bytes y) (some_is (Told a.0.0 a.0.1) w a.2)
     (record { number = refl; spelled = t.0; fits = t.1 })

@@ -1,13 +1,17 @@
 -- What a reader keeps of a stream.
-use Rattle.std.proofs.Common.{◌≡◌, ℕ, zero, suc, get_or, ◌<◌, ◌≤◌, List, [], ◌∷◌, ◌++◌, length, drop, Option, Some, None, Result, Ok, Err, refl, sym, ap, subst, ◌∙◌, append_assoc, arith, inr}
+use Rattle.std.proofs.Common.{◌≡◌, ℕ, zero, suc, get_or, ◌<◌, ◌≤◌, List, [], ◌∷◌, ◌++◌, length}
+use Rattle.std.proofs.Common.{drop, Option, Some, None, Result, Ok, Err, refl, sym, ap, subst, ◌∙◌}
+use Rattle.std.proofs.Common.{append_assoc, arith, inr}
 use Rattle.std.specs.Prelude.{IsSome, OnErr}
 use Rattle.std.specs.List.{flat_map}
 use Rattle.std.proofs.lemmas.List.Concat.{flat_map-cons}
 use Rattle.wire.specs.declared.fault.WireFault.{WireFault}
-use Rattle.wire.specs.declared.fault.WireFault.TheVariants.{BadLength, BadVersion, BadKind, BadBody, NoMemory}
+use Rattle.wire.specs.declared.fault.WireFault.TheVariants.{BadLength, BadVersion, BadKind, BadBody}
+use Rattle.wire.specs.declared.fault.WireFault.TheVariants.{NoMemory}
 use Rattle.wire.specs.declared.frame.Frame.{Frame}
 use Rattle.wire.specs.Spelling.{spelling}
-use Rattle.wire.specs.Stream.{Front, Waits, Begins, Breaks, front, IsBegun, Ends, IsOfStream, IsKept, Reader, holding, broken, keeps, Feeds, RefusesFault, Refuses}
+use Rattle.wire.specs.Stream.{Front, Waits, Begins, Breaks, front, IsBegun, Ends, IsOfStream}
+use Rattle.wire.specs.Stream.{IsKept, Reader, holding, broken, keeps, Feeds, RefusesFault, Refuses}
 use Rattle.wire.specs.model.Steps.{IsTaken, ReadsOn}
 use Rattle.wire.proofs.Taking.{IsBytes}
 use Rattle.wire.proofs.Streams.{front_takes}
@@ -150,7 +154,7 @@ refused_at_once piece old new frames e none fed empty some =
     let at : front (old.held ++ piece) ≡ Breaks e = ap front stream ∙ b.0 in
     of_stream e piece old new (breaks_of_stream (old.held ++ piece) e at) (inr (none, at, b.1))
 
--- the rest behind the last whole frame fits the room
+-- the rest after the last whole frame fits the room
 pub short_rest : (bytes : List ℕ) (before after : List Frame) (size : ℕ) (fault : Option WireFault)
     → IsTaken bytes before after size fault → fault ≡ None → length (drop size bytes) ≤ 300003
 short_rest bytes before after size fault taken none =
@@ -161,7 +165,7 @@ pub on_err : {T E P : Type 0} (r : Result T E) → P → OnErr r P
 on_err (Ok x) p = tt
 on_err (Err e) p = p
 
--- bytes, and bytes behind them
+-- bytes, and bytes after them
 cons_bytes : (x : ℕ) (xs : List ℕ) → x < 256 → IsBytes xs → IsBytes (x ∷ xs)
 cons_bytes x xs h k zero = h
 cons_bytes x xs h k (suc i) = k i

@@ -1,18 +1,25 @@
 -- A stream in pieces: what was read so far, one more piece, and the one way to read a stream.
-use Rattle.std.proofs.Common.{◌≡◌, ℕ, suc, ◌<◌, ◌≤◌, Bool, true, false, cond, ltb, not, List, [], ◌∷◌, ◌++◌, length, take, drop, Option, Some, None, Result, Ok, Err, refl, sym, ap, subst, ◌∙◌, append_assoc, arith, inl, inr, get_or, drop-cons}
+use Rattle.std.proofs.Common.{◌≡◌, ℕ, suc, ◌<◌, ◌≤◌, Bool, true, false, cond, ltb, not, List, []}
+use Rattle.std.proofs.Common.{◌∷◌, ◌++◌, length, take, drop, Option, Some, None, Result, Ok, Err}
+use Rattle.std.proofs.Common.{refl, sym, ap, subst, ◌∙◌, append_assoc, arith, inl, inr, get_or}
+use Rattle.std.proofs.Common.{drop-cons}
 use Rattle.std.specs.List.{flat_map, AllByRecursion}
 use Rattle.std.specs.Int.{w32, from_be_bytes}
 use Rattle.std.proofs.lemmas.Bool.{ltb-false, le-ltb}
 use Rattle.std.proofs.lemmas.Grind.{flat_map-append}
-use Rattle.std.proofs.lemmas.List.{length-append, take-append-le, drop-append-le, take-append-drop, take_all}
+use Rattle.std.proofs.lemmas.List.{length-append, take-append-le, drop-append-le, take-append-drop}
+use Rattle.std.proofs.lemmas.List.{take_all}
 use Rattle.std.proofs.lemmas.List.Concat.{flat_map-cons}
 use Rattle.wire.specs.declared.fault.WireFault.{WireFault}
-use Rattle.wire.specs.declared.fault.WireFault.TheVariants.{BadLength, BadVersion, BadKind, BadBody, NoMemory}
+use Rattle.wire.specs.declared.fault.WireFault.TheVariants.{BadLength, BadVersion, BadKind, BadBody}
+use Rattle.wire.specs.declared.fault.WireFault.TheVariants.{NoMemory}
 use Rattle.wire.specs.declared.frame.Frame.{Frame}
 use Rattle.wire.specs.Ranges.{IsFrame}
 use Rattle.wire.specs.Reading.{between, frame_of}
 use Rattle.wire.specs.Spelling.{spelling}
-use Rattle.wire.specs.Stream.{Front, Waits, Begins, Breaks, by_frame, by_length, front, IsBegun, Ends, IsOfStream, IsKept, Reader, holding, keeps, Feeds, RefusesFault, Refuses, Splits}
+use Rattle.wire.specs.Stream.{Front, Waits, Begins, Breaks, by_frame, by_length, front, IsBegun}
+use Rattle.wire.specs.Stream.{Ends, IsOfStream, IsKept, Reader, holding, keeps, Feeds, RefusesFault}
+use Rattle.wire.specs.Stream.{Refuses, Splits}
 use Rattle.wire.proofs.Streams.{prefix_free, front_again}
 
 -- ---- a fault at the front stays there when bytes come
@@ -87,7 +94,7 @@ held_is : (s : List ℕ) (frames : List Frame) (old : Reader) → Feeds s frames
 held_is s frames old fed none = fed.whole ∙ ap (λ (x : List ℕ). flat_map spelling frames ++ x)
     (sym (held_at (front fed.rest) fed.rest old fed.keeps none))
 
--- a kept fault stands behind the frames
+-- a kept fault stands after the frames
 fault_at : (at : Front) (rest : List ℕ) (old : Reader) (e : WireFault) → old ≡ keeps at rest
     → old.fault ≡ Some e → at ≡ Breaks e
 fault_at Waits rest old e k some = let bad : None ≡ Some e = sym (ap (λ (r : Reader). r.fault) k)
@@ -122,7 +129,7 @@ all_read s frames old fault fed is kept =
           ends_at fault (front fed.rest) fed.rest old fed.ends fed.keeps (sym is) kept;
     }
 
--- a piece was refused: the fault stands behind the frames, whatever comes
+-- a piece was refused: the fault stands after the frames, whatever comes
 pub fault_found : (s piece later : List ℕ) (frames : List Frame) (old new : Reader) (e : WireFault)
     → Feeds s frames old → IsOfStream e → RefusesFault e piece old new
     → Splits (s ++ (piece ++ later)) frames (Some e)
@@ -194,7 +201,7 @@ read_alike stream fs gs a b p q = one_way fs gs p.rest q.rest a b p.each q.each
 
 -- ---- pieces of a list
 
--- the pieces in front of one, that one, and those behind it
+-- the pieces in front of one, that one, and those after it
 cut_at : {X : Type 0} (f : X → List ℕ) (ps : List X) (i : ℕ) (p : X) → i < length ps
     → p ≡ get_or ps i p → flat_map f ps ≡ flat_map f
     (take i ps) ++ (f p ++ flat_map f (drop (suc i) ps))

@@ -1,6 +1,8 @@
 -- The fields of a Decided: what is read is spelled so and in its ranges, and what is spelled so is
 -- read.
-use Rattle.std.proofs.Common.{◌≡◌, ℕ, zero, suc, ◌+◌, ◌*◌, ◌<◌, ◌≤◌, cond, leb, List, [], ◌∷◌, ◌++◌, length, get_or, take, Some, None, Result, Ok, Err, OnOk, refl, sym, ap, subst, ◌∙◌, append_assoc, arith}
+use Rattle.std.proofs.Common.{◌≡◌, ℕ, zero, suc, ◌+◌, ◌*◌, ◌<◌, ◌≤◌, cond, leb, List, [], ◌∷◌, ◌++◌}
+use Rattle.std.proofs.Common.{length, get_or, take, Some, None, Result, Ok, Err, OnOk, refl, sym}
+use Rattle.std.proofs.Common.{ap, subst, ◌∙◌, append_assoc, arith}
 use Rattle.std.specs.List.{flat_map, AllByRecursion}
 use Rattle.std.proofs.lemmas.Bool.{leb-true, le-leb}
 use Rattle.std.proofs.lemmas.List.{length-append, append-nil, take_more, flat_map_more}
@@ -39,7 +41,7 @@ unfolding count_at byte_at
 count_again One n rest fits = ap (λ (k : ℕ). Some (k, rest)) (sym fits)
 count_again Two n rest fits = rw (between_holds 1 16 n fits.0 fits.1) refl
 
--- ---- entries, one behind the other
+-- ---- entries, one after the other
 
 abbrev AreSoMany : ℕ → List Entry → Type 0
 AreSoMany n es = (length es ≡ n) × AllByRecursion IsEntry es
@@ -186,7 +188,7 @@ put_more es i e out lt is =
     flat_map_more entry_bytes out (take i es) e
     ∙ ap (λ (x : List Entry). out ++ flat_map entry_bytes x) (sym more)
 
--- a ballot and a position were put, and then what stands behind them
+-- a ballot and a position were put, and then what stands after them
 placed : (out b p e : List ℕ) → (out ++ (b ++ p)) ++ e ≡ out ++ (b ++ (p ++ e))
 placed out b p e = append_assoc out (b ++ p) e ∙ ap (λ (x : List ℕ). out ++ x) (append_assoc b p e)
 
@@ -196,7 +198,7 @@ put_behind (Ok x) new mid old b p e is h =
     h ∙ ap (λ (z : List ℕ). z ++ e) is ∙ placed old b p e
 put_behind (Err x) new mid old b p e is h = tt
 
--- no entry was put behind others
+-- no entry was put after others
 pub none_pushed : (n : ℕ) (bytes : List ℕ) (es : List Entry) → n ≡ 0
     → (x : List Entry) × (rest : List ℕ) × (entries_at n bytes ≡ Some (x, rest)) × (es ≡ es ++ x)
 unfolding entries_at

@@ -1,5 +1,6 @@
 -- Fields one after the other, all of the bytes, and a byte that numbers a member of a list.
-use Rattle.std.proofs.Common.{◌≡◌, ℕ, Bool, true, false, cond, eqb, List, [], ◌∷◌, ◌++◌, length, Some, None, refl, sym, ap, subst, ◌∙◌, append_assoc}
+use Rattle.std.proofs.Common.{◌≡◌, ℕ, Bool, true, false, cond, eqb, List, [], ◌∷◌, ◌++◌, length}
+use Rattle.std.proofs.Common.{Some, None, refl, sym, ap, subst, ◌∙◌, append_assoc}
 use Rattle.std.proofs.lemmas.Bool.{eqb-true}
 use Rattle.std.proofs.lemmas.List.{append-nil, nil_from_length}
 use Rattle.wire.specs.Fields.{Read, ◌>>=◌, byte_at, two, all_of, numbered}
@@ -57,7 +58,8 @@ pub numbered_is : {A : Type 0} (number_of : A → ℕ) (members : List A) (n : �
 numbered_is number_of [] n x e = absurd cc
 numbered_is {A} number_of (m ∷ ms) n x e = go (eqb (number_of m) n) refl
     (numbered_is number_of ms n x) e where
-      go : (b : Bool) → eqb (number_of m) n ≡ b → (numbered number_of ms n ≡ Some x → number_of x ≡ n)
+      go : (b : Bool) → eqb (number_of m) n ≡ b
+          → (numbered number_of ms n ≡ Some x → number_of x ≡ n)
           → cond b (Some m) (numbered number_of ms n) ≡ Some x → number_of x ≡ n
       go true t later h = subst (λ (y : A). number_of y ≡ n) (some_is m x h) (eqb-true _ _ t)
       go false t later h = later h

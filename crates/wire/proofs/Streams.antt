@@ -1,5 +1,7 @@
 -- The front of a stream: a frame begins it exactly where its spelling does.
-use Rattle.std.proofs.Common.{◌≡◌, ℕ, ◌≤◌, Bool, true, false, cond, ltb, not, List, ◌++◌, length, take, drop, Option, Some, None, Result, Ok, Err, refl, sym, ap, subst, ◌∙◌, append_assoc, arith}
+use Rattle.std.proofs.Common.{◌≡◌, ℕ, ◌≤◌, Bool, true, false, cond, ltb, not, List, ◌++◌, length}
+use Rattle.std.proofs.Common.{take, drop, Option, Some, None, Result, Ok, Err, refl, sym, ap, subst}
+use Rattle.std.proofs.Common.{◌∙◌, append_assoc, arith}
 use Rattle.std.specs.Int.{w32, to_be_bytes, from_be_bytes}
 use Rattle.std.proofs.lemmas.Bool.{ltb-false, le-ltb}
 use Rattle.std.proofs.lemmas.List.{take_at, drop_at, take-append-drop, length-append, length-take}
@@ -7,14 +9,16 @@ use Rattle.acceptor.specs.declared.message.Report.{Report}
 use Rattle.wire.specs.declared.fault.WireFault.{WireFault}
 use Rattle.wire.specs.declared.fault.WireFault.TheVariants.{BadLength}
 use Rattle.wire.specs.declared.frame.Frame.{Frame}
-use Rattle.wire.specs.declared.values.Standing.{Standing}
-use Rattle.wire.specs.declared.values.Standing.TheVariants as standings
+use Rattle.wire.specs.declared.values.CommandState.{CommandState}
+use Rattle.wire.specs.declared.values.CommandState.TheVariants as states
 use Rattle.wire.specs.declared.values.Version.{Version}
 use Rattle.wire.specs.declared.frame.What.{What}
-use Rattle.wire.specs.declared.frame.What.TheVariants.{Prepare, Promise, Accept, Accepted, Nack, Behind, Decided, Submit, Ask, Sheet, Tick, Stop, Taken, Told, SheetText, Refused, Fine}
+use Rattle.wire.specs.declared.frame.What.TheVariants.{Prepare, Promise, Accept, Accepted, Nack}
+use Rattle.wire.specs.declared.frame.What.TheVariants.{Behind, Decided, Submit, Ask, Sheet, Tick}
+use Rattle.wire.specs.declared.frame.What.TheVariants.{Stop, Taken, Told, SheetText, Refused, Fine}
 use Rattle.wire.specs.Ranges.{IsReport, IsBody, IsFrame}
 use Rattle.wire.specs.Reading.{between, frame_of}
-use Rattle.wire.specs.Spelling.{report_bytes, standing_bytes, body, inside, spelling}
+use Rattle.wire.specs.Spelling.{report_bytes, state_bytes, body, inside, spelling}
 use Rattle.wire.specs.Stream.{Front, Waits, Begins, Breaks, by_frame, by_length, front}
 use Rattle.wire.proofs.Taking.{IsBytes, IsBytes-take, IsBytes-drop, wide32}
 use Rattle.wire.proofs.FieldLaws.{between_is, between_holds}
@@ -27,10 +31,10 @@ report_short : (vote : Option Report) → IsReport vote → length (report_bytes
 report_short None h = omega arith
 report_short (Some r) h = omega (arith, h.1.1)
 
-standing_short : (s : Standing) → length (standing_bytes s) ≤ 6
-standing_short standings.Unknown = omega arith
-standing_short standings.Pending = omega arith
-standing_short (standings.Done pos a) = omega arith
+state_short : (s : CommandState) → length (state_bytes s) ≤ 6
+state_short states.Unknown = omega arith
+state_short states.Pending = omega arith
+state_short (states.Done pos a) = omega arith
 
 body_short : (v : Version) (w : What) → IsBody v w → length (body v w) ≤ 299992
 body_short v (Prepare b pos) h = omega arith
@@ -46,7 +50,7 @@ body_short v (Sheet event round position style) h = omega arith
 body_short v Tick h = omega arith
 body_short v Stop h = omega arith
 body_short v (Taken id) h = omega arith
-body_short v (Told id s) h = omega (arith, standing_short s)
+body_short v (Told id s) h = omega (arith, state_short s)
 body_short v (SheetText bytes) h = h
 body_short v (Refused refusal) h = omega arith
 body_short v Fine h = omega arith
@@ -80,7 +84,7 @@ by_frame_is (Ok g) rest f more e = let same : g ≡ f = cc in
     (ap (λ (x : Frame). let r : Result Frame WireFault = Ok x in r) same, cc)
 by_frame_is (Err x) rest f more e = absurd cc
 
--- a frame stands at the front: its bytes, and those behind it
+-- a frame stands at the front: its bytes, and those after it
 pub record IsBegun (bytes : List ℕ) (f : Frame) (rest : List ℕ) : Type 0 where
   pub fits : IsFrame f
   pub spelled : bytes ≡ spelling f ++ rest

@@ -1,17 +1,21 @@
 -- The kind of what was read.
-use Rattle.std.proofs.Common.{◌≡◌, ℕ, ◌+◌, ◌≤◌, Bool, true, false, cond, eqb, leb, List, [], ◌∷◌, length, get_or, drop, Option, Some, None, Result, Ok, Err, refl, sym, ap, subst, ◌∙◌, arith}
+use Rattle.std.proofs.Common.{◌≡◌, ℕ, ◌+◌, ◌≤◌, Bool, true, false, cond, eqb, leb, List, [], ◌∷◌}
+use Rattle.std.proofs.Common.{length, get_or, drop, Option, Some, None, Result, Ok, Err, refl, sym}
+use Rattle.std.proofs.Common.{ap, subst, ◌∙◌, arith}
 use Rattle.std.specs.Prelude.{IsOk}
 use Rattle.std.specs.Int.{w32, from_be_bytes}
 use Rattle.std.proofs.lemmas.Bool.{eqb-true}
 use Rattle.wire.specs.declared.fault.WireFault.{WireFault}
-use Rattle.wire.specs.declared.fault.WireFault.TheVariants.{BadLength, BadVersion, BadKind, BadBody, NoMemory}
+use Rattle.wire.specs.declared.fault.WireFault.TheVariants.{BadLength, BadVersion, BadKind, BadBody}
+use Rattle.wire.specs.declared.fault.WireFault.TheVariants.{NoMemory}
 use Rattle.wire.specs.declared.frame.Frame.{Frame}
 use Rattle.wire.specs.declared.frame.What.{What}
 use Rattle.wire.specs.Fields.{◌>>=◌, all_of}
 use Rattle.wire.specs.Ranges.{way_of_kind, way_of}
 use Rattle.wire.specs.declared.frame.What.TheVariants.{Decided}
 use Rattle.wire.specs.declared.values.Version.{Version}
-use Rattle.wire.specs.Reading.{position_at, count_at, entries_at, decided_of, what_of, is_kind, goes, frame_from, frame_in, version_of, frame_of}
+use Rattle.wire.specs.Reading.{position_at, count_at, entries_at, decided_of, what_of, is_kind}
+use Rattle.wire.specs.Reading.{goes, frame_from, frame_in, version_of, frame_of}
 use Rattle.wire.specs.Spelling.{kind_of}
 use Rattle.wire.proofs.Taking.{bind_some, some_is}
 use Rattle.wire.specs.model.Gives.{LacksBody, GivesFrame}
@@ -173,7 +177,8 @@ lacking v hall from to kind NoMemory (Some w) read fits lacks =
     subst (λ (x : Result Frame WireFault). IsOk x) (sym there) refl
 
 pub good_lacks : (v : Version) (bytes : List ℕ) (e : WireFault) → IsGood v bytes
-    → LacksBody e (what_of v (get_or bytes 7 0) (drop 8 bytes)) → GivesFrame (Err e) (frame_of bytes)
+    → LacksBody e (what_of v (get_or bytes 7 0) (drop 8 bytes))
+    → GivesFrame (Err e) (frame_of bytes)
 good_lacks v bytes e g lacks =
     subst (λ (x : Result Frame WireFault). GivesFrame (Err e) x) (sym (good_is v bytes g))
     (lacking v (hall_at bytes) (get_or bytes 5 0) (get_or bytes 6 0) (get_or bytes 7 0) e

@@ -1,5 +1,7 @@
 -- A whole frame: what is read is spelled so, and what is spelled so is read.
-use Rattle.std.proofs.Common.{◌≡◌, ℕ, suc, ◌^◌, ◌<◌, ◌≤◌, Bool, true, false, cond, eqb, not, List, [], ◌∷◌, ◌++◌, length, Option, Some, None, Result, Ok, Err, refl, sym, ap, subst, ◌∙◌, arith}
+use Rattle.std.proofs.Common.{◌≡◌, ℕ, suc, ◌^◌, ◌<◌, ◌≤◌, Bool, true, false, cond, eqb, not, List}
+use Rattle.std.proofs.Common.{[], ◌∷◌, ◌++◌, length, Option, Some, None, Result, Ok, Err, refl, sym}
+use Rattle.std.proofs.Common.{ap, subst, ◌∙◌, arith}
 use Rattle.std.specs.Int.{w32, to_be_bytes, from_be_bytes}
 use Rattle.std.proofs.lemmas.Bool.{eqb-true}
 use Rattle.std.proofs.lemmas.List.{nil_from_length}
@@ -7,17 +9,22 @@ use Rattle.wire.specs.declared.fault.WireFault.{WireFault}
 use Rattle.wire.specs.declared.fault.WireFault.TheVariants.{BadKind, BadBody}
 use Rattle.wire.specs.declared.frame.Frame.{Frame}
 use Rattle.wire.specs.declared.frame.What.{What}
-use Rattle.wire.specs.declared.frame.What.TheVariants.{Prepare, Promise, Accept, Accepted, Nack, Behind, Decided, Submit, Ask, Sheet, Tick, Stop, Taken, Told, SheetText, Refused, Fine}
+use Rattle.wire.specs.declared.frame.What.TheVariants.{Prepare, Promise, Accept, Accepted, Nack}
+use Rattle.wire.specs.declared.frame.What.TheVariants.{Behind, Decided, Submit, Ask, Sheet, Tick}
+use Rattle.wire.specs.declared.frame.What.TheVariants.{Stop, Taken, Told, SheetText, Refused, Fine}
 use Rattle.wire.specs.Ranges.{Way, Between, FromClient, ToClient, way_of, Goes, IsBody, IsFrame}
 use Rattle.wire.specs.declared.values.Version.{Version}
 use Rattle.wire.specs.declared.values.Version.TheVariants.{One, Two}
 use Rattle.wire.specs.Numbers.{versions, version_number}
-use Rattle.wire.specs.Reading.{empty_of, what_of, is_kind, is_desk, goes, frame_from, frame_in, version_of, frame_of}
+use Rattle.wire.specs.Reading.{empty_of, what_of, is_kind, is_desk, goes, frame_from, frame_in}
+use Rattle.wire.specs.Reading.{version_of, frame_of}
 use Rattle.wire.specs.Spelling.{kind_of, body, inside}
 use Rattle.wire.proofs.Taking.{IsBytes, IsBytes-take, passed, wide32}
 use Rattle.wire.proofs.FieldLaws.{and_true, both_true, between_is, between_holds}
 use Rattle.wire.proofs.Sequences.{numbered_is}
-use Rattle.wire.proofs.Frames.{IsWhat, prepare_takes, promise_takes, accept_takes, accepted_takes, nack_takes, behind_takes, decided_takes, submit_takes, ask_takes, sheet_takes, taken_takes, told_takes, refused_takes, what_again}
+use Rattle.wire.proofs.Frames.{IsWhat, prepare_takes, promise_takes, accept_takes, accepted_takes}
+use Rattle.wire.proofs.Frames.{nack_takes, behind_takes, decided_takes, submit_takes, ask_takes}
+use Rattle.wire.proofs.Frames.{sheet_takes, taken_takes, told_takes, refused_takes, what_again}
 
 -- a kind without fields
 empty_takes : (v : Version) (kind : ℕ) (what : What) (bytes : List ℕ) (w : What)
@@ -68,7 +75,7 @@ what_takes v kind bytes w fits short e =
     (pick v kind 36 bytes w _ _ (empty_takes v 36 Fine bytes w refl refl tt)
     (λ h. absurd cc))))))))))))))))) e
 
--- ---- the bytes behind a length
+-- ---- the bytes after a length
 
 goes_is : (way : Way) (from to : ℕ) → goes way from to ≡ true → Goes way from to
 goes_is Between from to e = let h = and_true (is_desk from) (is_desk to) e in
@@ -119,7 +126,7 @@ granted : {A : Type 0} (b : Bool) (x : WireFault) (y z : A) → cond b (Ok y) (E
 granted true x y z e = (refl, cc)
 granted false x y z e = absurd cc
 
--- the bytes behind a length are those of the frame
+-- the bytes after a length are those of the frame
 pub record IsInside (bytes : List ℕ) (f : Frame) : Type 0 where
   pub fits : IsFrame f
   pub spelled : bytes ≡ inside f
@@ -139,7 +146,8 @@ from_takes v hall from to kind bytes (Some w) f small taken e =
     } in
     let g = granted (goes (way_of w) from to) BadBody made f e in
     let t = taken w refl in
-    let spelled : version_number v ∷ to_be_bytes w32 hall ++ from ∷ to ∷ kind ∷ bytes ≡ inside made =
+    let spelled :
+    version_number v ∷ to_be_bytes w32 hall ++ from ∷ to ∷ kind ∷ bytes ≡ inside made =
     rw (← t.number, t.spelled) refl in
     subst (λ (y : Frame). IsFrame y
     × (version_number v ∷ to_be_bytes w32 hall ++ from ∷ to ∷ kind ∷ bytes ≡ inside y)) g.1

@@ -1,9 +1,9 @@
--- Reading fields one after the other: each gives a value and the bytes behind it, or nothing.
+-- Reading fields one after the other: each gives a value and the bytes after it, or nothing.
 use Rattle.std.specs.Prelude.{ℕ, ◌==◌, List, [], ◌∷◌, length, take, drop, find, Option, Some, None}
 use Rattle.std.specs.Prelude.{nat_lt, if◌then◌else◌}
 use Rattle.std.specs.Int.{Width, byte_len, from_be_bytes}
 
--- a value and what stands behind it
+-- a value and what stands after it
 abbrev pub Read : Type 0 → Type 0
 Read A = Option (A × List ℕ)
 

@@ -16,16 +16,16 @@ abbrev pub AreBytes : List ℕ → Type 0
 AreBytes bytes = (i : ℕ) → slice_index bytes i < 256
 
 -- a frame stands at the front of bytes exactly where they begin with its spelling, and what stands
--- behind it is the rest
+-- after it comes the rest
 abbrev pub IsReadWhereSpelled : List ℕ → Frame → List ℕ → Type 0
 IsReadWhereSpelled bytes f rest =
     (front bytes ≡ Begins f rest) ↔ (IsFrame f × (bytes ≡ spelling f ++ rest))
 
--- where one frame's spelling begins another's, the frames are one, and nothing stands behind
+-- where one frame's spelling begins another's, the frames are one, and nothing comes after
 abbrev pub BeginsNoOther : Frame → Frame → List ℕ → Type 0
 BeginsNoOther f g more = spelling g ≡ spelling f ++ more → (f ≡ g) × (more ≡ [])
 
--- the number in the first four bytes: how many bytes stand behind them
+-- the number in the first four bytes: how many bytes stand after them
 abbrev pub length_at : List ℕ → ℕ
 length_at bytes = from_be_bytes w32 (take 4 bytes)
 

@@ -6,8 +6,8 @@ use Rattle.acceptor.specs.declared.ballot.Ballot.{Ballot}
 use Rattle.acceptor.specs.declared.entry.Entry.{Entry}
 use Rattle.acceptor.specs.declared.message.Report.{Report}
 use Rattle.wire.specs.declared.frame.Frame.{Frame}
-use Rattle.wire.specs.declared.values.Standing.{Standing}
-use Rattle.wire.specs.declared.values.Standing.TheVariants.{Unknown, Pending, Done}
+use Rattle.wire.specs.declared.values.CommandState.{CommandState}
+use Rattle.wire.specs.declared.values.CommandState.TheVariants.{Unknown, Pending, Done}
 use Rattle.wire.specs.declared.frame.What.{What}
 use Rattle.wire.specs.declared.frame.What.TheVariants.{Prepare, Promise, Accept, Accepted, Nack}
 use Rattle.wire.specs.declared.frame.What.TheVariants.{Behind, Decided, Submit, Ask, Sheet, Tick}
@@ -29,7 +29,7 @@ IsClient d = d ≡ 0
 
 -- a ballot that a desk has made
 abbrev pub IsBallot : Ballot → Type 0
-IsBallot b = (1 ≤ b.round) × (b.round < 2 ^ 32) × IsDesk b.desk
+IsBallot b = (1 ≤ b.number) × (b.number < 2 ^ 32) × IsDesk b.desk
 
 abbrev pub IsPosition : ℕ → Type 0
 IsPosition pos = pos ≤ 65535
@@ -38,10 +38,10 @@ abbrev pub IsReport : Option Report → Type 0
 IsReport None = Unit {0}
 IsReport (Some r) = IsBallot r.ballot × IsEntry r.entry
 
-abbrev pub IsStanding : Standing → Type 0
-IsStanding Unknown = Unit {0}
-IsStanding Pending = Unit {0}
-IsStanding (Done pos answer) = IsPosition pos
+abbrev pub IsCommandState : CommandState → Type 0
+IsCommandState Unknown = Unit {0}
+IsCommandState Pending = Unit {0}
+IsCommandState (Done pos answer) = IsPosition pos
 
 -- how many entries a Decided has in a version
 abbrev pub IsCount : Version → ℕ → Type 0
@@ -75,7 +75,7 @@ IsBody v (Sheet event round position style) =
 IsBody v Tick = Unit {0}
 IsBody v Stop = Unit {0}
 IsBody v (Taken id) = IsId id
-IsBody v (Told id s) = IsId id × IsStanding s
+IsBody v (Told id s) = IsId id × IsCommandState s
 IsBody v (SheetText bytes) = length bytes ≤ 299992
 IsBody v (Refused refusal) = Unit {0}
 IsBody v Fine = Unit {0}

@@ -11,8 +11,8 @@ use Rattle.formats.specs.Events.{all_events, event_number}
 use Rattle.wire.specs.declared.fault.WireFault.{WireFault}
 use Rattle.wire.specs.declared.fault.WireFault.TheVariants.{BadVersion, BadKind, BadBody}
 use Rattle.wire.specs.declared.frame.Frame.{Frame}
-use Rattle.wire.specs.declared.values.Standing.{Standing}
-use Rattle.wire.specs.declared.values.Standing.TheVariants.{Unknown, Pending, Done}
+use Rattle.wire.specs.declared.values.CommandState.{CommandState}
+use Rattle.wire.specs.declared.values.CommandState.TheVariants.{Unknown, Pending, Done}
 use Rattle.wire.specs.declared.frame.What.{What}
 use Rattle.wire.specs.declared.frame.What.TheVariants.{Prepare, Promise, Accept, Accepted, Nack}
 use Rattle.wire.specs.declared.frame.What.TheVariants.{Behind, Decided, Submit, Ask, Sheet, Tick}
@@ -35,7 +35,7 @@ ballot_at bytes = do
   round ← number_at w32 bytes
   desk ← byte_at round.1
   if is_ballot round.0 desk.0
-      then Some (record { round = round.0; desk = desk.0 }, desk.1)
+      then Some (record { number = round.0; desk = desk.0 }, desk.1)
       else None
 
 -- a number of four bytes, at most this
@@ -80,14 +80,14 @@ member_at number_of members bytes = do
   member ← numbered number_of members n.0
   Some (member, n.1)
 
-unfoldable pub standing_at : List ℕ → Read Standing
-standing_at [] = None
-standing_at (zero ∷ rest) = Some (Unknown, rest)
-standing_at (suc zero ∷ rest) = Some (Pending, rest)
-standing_at (suc (suc zero) ∷ rest) = do
+unfoldable pub state_at : List ℕ → Read CommandState
+state_at [] = None
+state_at (zero ∷ rest) = Some (Unknown, rest)
+state_at (suc zero ∷ rest) = Some (Pending, rest)
+state_at (suc (suc zero) ∷ rest) = do
   done ← two position_at (member_at answer_number answers) rest
   Some (Done done.0.0 done.0.1, done.1)
-standing_at (suc (suc (suc b)) ∷ rest) = None
+state_at (suc (suc (suc b)) ∷ rest) = None
 
 -- how many entries a Decided has: one in version 1; in version 2 a byte says it
 unfoldable pub count_at : Version → List ℕ → Read ℕ
@@ -96,7 +96,7 @@ count_at Two bytes = do
   n ← byte_at bytes
   if between 1 16 n.0 then Some n else None
 
--- so many entries, one behind the other
+-- so many entries, one after the other
 unfoldable pub entries_at : ℕ → List ℕ → Read (List Entry)
 entries_at zero bytes = Some ([], bytes)
 entries_at (suc n) bytes = do
@@ -159,7 +159,7 @@ abbrev pub taken_of : List ℕ → Option What
 taken_of bytes = all_of id_at bytes >>= λ x. Some (Taken x)
 
 abbrev pub told_of : List ℕ → Option What
-told_of bytes = all_of (two id_at standing_at) bytes >>= λ x. Some (Told x.0 x.1)
+told_of bytes = all_of (two id_at state_at) bytes >>= λ x. Some (Told x.0 x.1)
 
 abbrev pub refused_of : List ℕ → Option What
 refused_of bytes = all_of (member_at refusal_number refusals) bytes >>= λ x. Some (Refused x)
@@ -212,7 +212,7 @@ frame_from version hall from to (Some what) =
     then Ok (record { version = version; hall = hall; from = from; to = to; what = what })
     else Err BadBody
 
--- what stands behind the version, where it is one
+-- what stands after the version, where it is one
 abbrev pub frame_in : Option Version → ℕ → ℕ → ℕ → ℕ → List ℕ → Result Frame WireFault
 frame_in None hall from to kind bytes = Err BadVersion
 frame_in (Some version) hall from to kind bytes =
@@ -222,7 +222,7 @@ frame_in (Some version) hall from to kind bytes =
 abbrev pub version_of : ℕ → Option Version
 version_of n = numbered version_number versions n
 
--- what stands behind a length: the frame, or the first fault
+-- what stands after a length: the frame, or the first fault
 unfoldable pub frame_of : List ℕ → Result Frame WireFault
 frame_of (version ∷ a ∷ b ∷ c ∷ d ∷ from ∷ to ∷ kind ∷ bytes) =
     frame_in (version_of version) (from_be_bytes w32 (a ∷ b ∷ c ∷ d ∷ [])) from to kind bytes

@@ -7,8 +7,8 @@ use Rattle.acceptor.specs.declared.entry.Entry.{Entry}
 use Rattle.acceptor.specs.declared.message.Report.{Report}
 use Rattle.formats.specs.Events.{event_number}
 use Rattle.wire.specs.declared.frame.Frame.{Frame}
-use Rattle.wire.specs.declared.values.Standing.{Standing}
-use Rattle.wire.specs.declared.values.Standing.TheVariants.{Unknown, Pending, Done}
+use Rattle.wire.specs.declared.values.CommandState.{CommandState}
+use Rattle.wire.specs.declared.values.CommandState.TheVariants.{Unknown, Pending, Done}
 use Rattle.wire.specs.declared.frame.What.{What}
 use Rattle.wire.specs.declared.frame.What.TheVariants.{Prepare, Promise, Accept, Accepted, Nack}
 use Rattle.wire.specs.declared.frame.What.TheVariants.{Behind, Decided, Submit, Ask, Sheet, Tick}
@@ -18,7 +18,7 @@ use Rattle.wire.specs.declared.values.Version.TheVariants.{One, Two}
 use Rattle.wire.specs.Numbers.{answer_number, refusal_number, style_number, version_number}
 
 abbrev pub ballot_bytes : Ballot → List ℕ
-ballot_bytes b = to_be_bytes w32 b.round ++ b.desk ∷ []
+ballot_bytes b = to_be_bytes w32 b.number ++ b.desk ∷ []
 
 abbrev pub text_bytes : List ℕ → List ℕ
 text_bytes bytes = to_be_bytes w16 (length bytes) ++ bytes
@@ -31,10 +31,10 @@ abbrev pub report_bytes : Option Report → List ℕ
 report_bytes None = 0 ∷ []
 report_bytes (Some r) = 1 ∷ ballot_bytes r.ballot ++ entry_bytes r.entry
 
-abbrev pub standing_bytes : Standing → List ℕ
-standing_bytes Unknown = 0 ∷ []
-standing_bytes Pending = 1 ∷ []
-standing_bytes (Done pos answer) = 2 ∷ to_be_bytes w32 pos ++ answer_number answer ∷ []
+abbrev pub state_bytes : CommandState → List ℕ
+state_bytes Unknown = 0 ∷ []
+state_bytes Pending = 1 ∷ []
+state_bytes (Done pos answer) = 2 ∷ to_be_bytes w32 pos ++ answer_number answer ∷ []
 
 -- the number of a kind of frame
 abbrev pub kind_of : What → ℕ
@@ -81,12 +81,12 @@ body v (Sheet event round position style) =
 body v Tick = []
 body v Stop = []
 body v (Taken id) = to_be_bytes w64 id
-body v (Told id s) = to_be_bytes w64 id ++ standing_bytes s
+body v (Told id s) = to_be_bytes w64 id ++ state_bytes s
 body v (SheetText bytes) = bytes
 body v (Refused refusal) = refusal_number refusal ∷ []
 body v Fine = []
 
--- what stands behind the length: version, hall, sender, receiver, kind, fields
+-- what stands after the length: version, hall, sender, receiver, kind, fields
 abbrev pub inside : Frame → List ℕ
 inside f =
     version_number f.version ∷ to_be_bytes w32 f.hall ++ f.from ∷ f.to ∷ kind_of f.what ∷

@@ -12,7 +12,7 @@ use Rattle.wire.specs.Ranges.{IsFrame}
 use Rattle.wire.specs.Reading.{between, frame_of}
 use Rattle.wire.specs.Spelling.{spelling}
 
--- no whole frame and no fault yet; a frame and the bytes behind it; or a fault
+-- no whole frame and no fault yet; a frame and the bytes after it; or a fault
 pub data Front : Type 0 where
   Waits : Front
   Begins : Frame → List ℕ → Front
@@ -22,7 +22,7 @@ abbrev pub by_frame : Result Frame WireFault → List ℕ → Front
 by_frame (Ok f) rest = Begins f rest
 by_frame (Err e) rest = Breaks e
 
--- a length, and the bytes behind it
+-- a length, and the bytes after it
 abbrev pub by_length : ℕ → List ℕ → Front
 by_length n bytes =
     if not (between 8 300000 n) then Breaks BadLength

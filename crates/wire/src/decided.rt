@@ -9,10 +9,11 @@ use crate::fault::WireFault;
 use crate::fields::{byte_of, end, entry_of, position_of};
 use crate::frame::What;
 use crate::values::Version;
+use acceptor::MOST_ENTRIES;
 use std::alloc::Global;
 
 /// The most entries of a Decided of version 2.
-const MOST_ENTRIES: u8 = 16;
+const MOST_TOLD: u8 = 16;
 
 /// How many entries there are: one in version 1; in version 2 a byte says it, 1 to 16.
 #[tactic(auto, unfolding(crate::specs::Reading::count_at))]
@@ -23,7 +24,7 @@ fn count_of(version: Version, bytes: &[u8]) -> Result<(u8, &[u8]), WireFault>
         Version::One => Ok((1, bytes)),
         Version::Two => {
             let (count, rest) = byte_of(bytes)?;
-            if 1 <= count && count <= MOST_ENTRIES {
+            if 1 <= count && count <= MOST_TOLD {
                 Ok((count, rest))
             } else {
                 Err(WireFault::BadBody)
@@ -32,7 +33,7 @@ fn count_of(version: Version, bytes: &[u8]) -> Result<(u8, &[u8]), WireFault>
     }
 }
 
-/// What stands behind so many entries. It takes no memory.
+/// What stands after so many entries. It takes no memory.
 #[tactic(auto, unfolding(crate::specs::Reading::entries_at))]
 fn pass_entries(count: u8, bytes: &[u8]) -> Result<&[u8], WireFault>
     ensures { GivesField (λ x. x.now) result
@@ -45,7 +46,7 @@ fn pass_entries(count: u8, bytes: &[u8]) -> Result<&[u8], WireFault>
     pass_entries(count - 1, rest)
 }
 
-/// Puts so many entries behind others.
+/// Puts so many entries after others.
 #[tactic(auto, unfolding(crate::specs::Reading::entries_at))]
 fn push_entries(
     alloc: Global,
@@ -70,7 +71,7 @@ pub(crate) fn decided_of(alloc: Global, version: Version, bytes: &[u8]) -> Resul
     let (pos, rest) = position_of(bytes)?;
     let (count, rest) = count_of(version, rest)?;
     end(pass_entries(count, rest)?)?;
-    if 65_536 - u32::from(count) < pos {
+    if MOST_ENTRIES - u32::from(count) < pos {
         return Err(WireFault::BadBody);
     }
     let mut entries = Entries::none(alloc);

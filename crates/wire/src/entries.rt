@@ -5,7 +5,7 @@ use acceptor::entry::Entry;
 use std::alloc::Global;
 use std::marker::Model;
 
-/// Entries that stand in a log one behind the other.
+/// Entries that stand in a log one after the other.
 #[derive(Debug, Drop)]
 pub struct Entries {
     items: Vec<Entry>,
@@ -70,11 +70,12 @@ impl Entries {
         Ok(entries)
     }
 
-    /// Puts an entry behind the others. NoMemory leaves them as they were.
+    /// Puts an entry after the others. NoMemory leaves them as they were.
     pub fn push(&mut self, entry: Entry) -> Result<(), NoMemory>
         ensures pushed { OnOk result (self.new ≡ self.old ++ entry ∷ []) }
         ensures refused { OnErr result (self.new ≡ self.old) }
     {
+        // The id and the text are in their ranges: the contracts of these two calls say so.
         let _id = entry.id();
         let _text = entry.text();
         self.items.push(entry)?;

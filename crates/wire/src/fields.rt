@@ -1,4 +1,4 @@
-//! The fields of a frame, from bytes: each gives a value and what stands behind it. None takes
+//! The fields of a frame, from bytes: each gives a value and what stands after it. None takes
 //! memory.
 
 ghost use Rattle.std.specs.Prelude.{◌≡◌, IfOk, IfErr, IfSome, option_map};
@@ -9,13 +9,14 @@ ghost use Rattle.wire.specs.Fields.{number_at, byte_at, numbered, ended};
 ghost use Rattle.wire.specs.Numbers.{answers, answer_number, refusals, refusal_number, styles};
 ghost use Rattle.wire.specs.Numbers.{style_number};
 ghost use Rattle.wire.specs.Reading.{ballot_at, limited_at, position_at, id_at, text_at, entry_at};
-ghost use Rattle.wire.specs.Reading.{report_at, member_at, event_at, standing_at};
+ghost use Rattle.wire.specs.Reading.{report_at, member_at, event_at, state_at};
 ghost use Rattle.wire.specs.declared.fault.WireFault.TheVariants.{NoMemory};
 ghost use Rattle.wire.specs.model.Gives.{GivesField};
 ghost use Rattle.wire.specs.model.Parts.{part_entry, part_report, IsPart};
 
 use crate::fault::WireFault;
-use crate::values::{ClientRefusal, SheetStyle, Standing, Version};
+use crate::values::{ClientRefusal, CommandState, SheetStyle, Version};
+use acceptor::MOST_ENTRIES;
 use acceptor::ballot::Ballot;
 use acceptor::entry::{Entry, EntryFault};
 use acceptor::message::Report;
@@ -74,10 +75,10 @@ pub(crate) fn byte_of(bytes: &[u8]) -> Result<(u8, &[u8]), WireFault>
 pub(crate) fn ballot_of(bytes: &[u8]) -> Result<(Ballot, &[u8]), WireFault>
     ensures { GivesField (λ x. (x.0, x.1.now)) result (ballot_at bytes.now) }
 {
-    let (round, rest) = u32_of(bytes)?;
+    let (number, rest) = u32_of(bytes)?;
     let (desk, rest) = byte_of(rest)?;
-    if 1 <= round && 1 <= desk && desk <= 5 {
-        Ok((Ballot { round, desk }, rest))
+    if 1 <= number && 1 <= desk && desk <= 5 {
+        Ok((Ballot { number, desk }, rest))
     } else {
         Err(WireFault::BadBody)
     }
@@ -99,7 +100,7 @@ pub(crate) fn limited_of(limit: u32, bytes: &[u8]) -> Result<(u32, &[u8]), WireF
 pub(crate) fn position_of(bytes: &[u8]) -> Result<(u32, &[u8]), WireFault>
     ensures { GivesField (λ x. (x.0, x.1.now)) result (position_at bytes.now) }
 {
-    limited_of(65_535, bytes)
+    limited_of(MOST_ENTRIES - 1, bytes)
 }
 
 #[tactic(auto, unfolding(crate::specs::Reading::id_at))]
@@ -284,17 +285,17 @@ fn answer_of(bytes: &[u8]) -> Result<(Answer, &[u8]), WireFault>
     Ok((answer, rest))
 }
 
-#[tactic(auto, unfolding(crate::specs::Reading::standing_at))]
-pub(crate) fn standing_of(bytes: &[u8]) -> Result<(Standing, &[u8]), WireFault>
-    ensures { GivesField (λ x. (x.0, x.1.now)) result (standing_at bytes.now) }
+#[tactic(auto, unfolding(crate::specs::Reading::state_at))]
+pub(crate) fn state_of(bytes: &[u8]) -> Result<(CommandState, &[u8]), WireFault>
+    ensures { GivesField (λ x. (x.0, x.1.now)) result (state_at bytes.now) }
 {
     match bytes {
-        [0, rest @ ..] => Ok((Standing::Unknown, rest)),
-        [1, rest @ ..] => Ok((Standing::Pending, rest)),
+        [0, rest @ ..] => Ok((CommandState::Unknown, rest)),
+        [1, rest @ ..] => Ok((CommandState::Pending, rest)),
         [2, rest @ ..] => {
             let (pos, rest) = position_of(rest)?;
             let (answer, rest) = answer_of(rest)?;
-            Ok((Standing::Done { pos, answer }, rest))
+            Ok((CommandState::Done { pos, answer }, rest))
         }
         _ => Err(WireFault::BadBody),
     }

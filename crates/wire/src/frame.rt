@@ -4,7 +4,7 @@ ghost use Rattle.std.specs.Prelude.{◌≡◌};
 
 use crate::bytes::Bytes;
 use crate::entries::Entries;
-use crate::values::{ClientRefusal, SheetStyle, Standing, Version};
+use crate::values::{ClientRefusal, CommandState, SheetStyle, Version};
 use acceptor::ballot::Ballot;
 use acceptor::entry::Entry;
 use acceptor::message::Report;
@@ -100,7 +100,7 @@ pub enum What {
     /// What became of the command with this id.
     Told {
         id: u64,
-        standing: Standing,
+        state: CommandState,
     },
     /// The bytes of a sheet, at most 299,992.
     SheetText {

@@ -23,5 +23,5 @@ pub use fault::WireFault;
 pub use frame::{Frame, What};
 pub use reader::{FrameReader, Received, read_pieces};
 pub use std::alloc::AllocError as NoMemory;
-pub use values::{ClientRefusal, SheetStyle, Standing, Version};
+pub use values::{ClientRefusal, CommandState, SheetStyle, Version};
 pub use writing::encode;

@@ -17,11 +17,11 @@ use std::marker::Model;
 pub struct Received {
     /// Its frames, in order, up to the fault.
     pub frames: Vec<Frame>,
-    /// The fault behind them. None: less than a whole frame is left, and no fault.
+    /// The fault after them. None: less than a whole frame is left, and no fault.
     pub fault: Option<WireFault>,
 }
 
-/// Puts the frames of the bytes behind those that were taken before, and holds what is left of the
+/// Puts the frames of the bytes after those that were taken before, and holds what is left of the
 /// bytes in place of what was held.
 fn read_on(held: &mut Vec<u8>, before: Vec<Frame>, bytes: &[u8]) -> Result<Received, NoMemory>
     requires { 300004 ≤ vec_capacity held.old }
@@ -43,7 +43,7 @@ fn read_on(held: &mut Vec<u8>, before: Vec<Frame>, bytes: &[u8]) -> Result<Recei
     })
 }
 
-/// The frames of the held bytes and the piece, and the fault behind them, if one stands there. What
+/// The frames of the held bytes and the piece, and the fault after them, if one stands there. What
 /// is left is held.
 fn read(held: &mut Vec<u8>, piece: &[u8]) -> Result<Received, NoMemory>
     requires room { 300004 ≤ vec_capacity held.old }

@@ -1,4 +1,4 @@
-//! One frame, from the bytes behind its length.
+//! One frame, from the bytes after its length.
 
 ghost use Rattle.std.specs.Prelude.{◌≡◌, IfOk, IfErr};
 ghost use Rattle.wire.specs.declared.fault.WireFault.TheVariants.{NoMemory};
@@ -15,10 +15,11 @@ use crate::decided::decided_of;
 use crate::fault::WireFault;
 use crate::fields::{
     ballot_of, byte_of, end, entry_of, event_of, id_of, limited_of, position_of, refusal_of,
-    report_of, standing_of, style_of, u32_of,
+    report_of, state_of, style_of, u32_of,
 };
 use crate::frame::{Frame, What};
 use crate::values::Version;
+use acceptor::MOST_ENTRIES;
 use std::alloc::Global;
 
 fn prepare_of(bytes: &[u8]) -> Result<What, WireFault>
@@ -81,7 +82,7 @@ fn nack_of(bytes: &[u8]) -> Result<What, WireFault>
 fn behind_of(bytes: &[u8]) -> Result<What, WireFault>
     ensures { GivesBody result (behind_of bytes.now) }
 {
-    let (len, rest) = limited_of(65_536, bytes)?;
+    let (len, rest) = limited_of(MOST_ENTRIES, bytes)?;
     end(rest)?;
     Ok(What::Behind { len })
 }
@@ -131,9 +132,9 @@ fn told_of(bytes: &[u8]) -> Result<What, WireFault>
     ensures { GivesBody result (told_of bytes.now) }
 {
     let (id, rest) = id_of(bytes)?;
-    let (standing, rest) = standing_of(rest)?;
+    let (state, rest) = state_of(rest)?;
     end(rest)?;
-    Ok(What::Told { id, standing })
+    Ok(What::Told { id, state })
 }
 
 fn refused_of(bytes: &[u8]) -> Result<What, WireFault>
@@ -213,7 +214,7 @@ fn goes(kind: u8, from: u8, to: u8) -> bool
     }
 }
 
-/// The frame that the bytes behind a length spell, or the first fault: BadVersion, BadKind,
+/// The frame that the bytes after a length spell, or the first fault: BadVersion, BadKind,
 /// BadBody. Memory is taken only for a frame that is good.
 #[tactic(auto, unfolding(crate::specs::Reading::frame_of), using(crate::proofs::WhatKind::kind_is))]
 pub(crate) fn frame_of(alloc: Global, bytes: &[u8]) -> Result<Frame, WireFault>

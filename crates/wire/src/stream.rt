@@ -1,4 +1,4 @@
-//! The frames at the front of a stream, where a part of the stream is held and a piece comes behind
+//! The frames at the front of a stream, where a part of the stream is held and a piece comes after
 //! it.
 
 ghost use Rattle.std.specs.Prelude.{◌≡◌, ◌≤◌, IfOk, OnErr, length, vec_capacity, Option};
@@ -15,7 +15,7 @@ use std::alloc::Global;
 /// The bytes of a length.
 const LENGTH: usize = 4;
 
-/// The least and the most bytes behind a length.
+/// The least and the most bytes after a length.
 const LEAST: usize = 8;
 
 const MOST: usize = 300_000;
@@ -23,7 +23,7 @@ const MOST: usize = 300_000;
 /// The most bytes of a frame.
 pub(crate) const MOST_BYTES: usize = 300_004;
 
-/// How many bytes the frame at the front has behind its length. None: the length is not there yet.
+/// How many bytes the frame at the front has after its length. None: the length is not there yet.
 fn counted(bytes: &[u8]) -> Result<Option<usize>, WireFault>
     ensures { GivesLength result bytes.now }
 {
@@ -55,7 +55,7 @@ fn front(alloc: Global, bytes: &[u8]) -> Result<Option<(Frame, usize)>, WireFaul
     Ok(Some((frame, size)))
 }
 
-/// The frames at the front of a stream, the number of their bytes, and the fault that stands behind
+/// The frames at the front of a stream, the number of their bytes, and the fault that stands after
 /// them, if one does.
 #[derive(Drop)]
 pub(crate) struct Taken {
@@ -64,7 +64,7 @@ pub(crate) struct Taken {
     pub(crate) fault: Option<WireFault>,
 }
 
-/// Puts the frames at the front of a stream behind those that were taken before.
+/// Puts the frames at the front of a stream after those that were taken before.
 pub(crate) fn take_frames(
     alloc: Global,
     before: Vec<Frame>,
@@ -111,7 +111,7 @@ pub(crate) fn hold(held: &mut Vec<u8>, bytes: &[u8])
     held.extend_from_slice(bytes).unwrap();
 }
 
-/// Puts bytes of the piece behind the held ones, to `size` of them if the piece goes so far, and
+/// Puts bytes of the piece after the held ones, to `size` of them if the piece goes so far, and
 /// gives their number.
 fn top_up(held: &mut Vec<u8>, size: usize, piece: &[u8]) -> usize
     requires { size ≤ vec_capacity held.old }

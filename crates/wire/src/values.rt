@@ -3,7 +3,14 @@
 
 ghost use Rattle.std.specs.Prelude.{◌≡◌};
 
+use formats::Event;
 use texts::Answer;
+
+/// The last event whose sheets can be asked for in version 1.
+const LAST_OF_ONE: Event = Event::Blind5;
+
+/// The last event whose sheets can be asked for in version 2.
+const LAST_OF_TWO: Event = Event::MultiBlind;
 
 /// The version of the wire in which a frame is spelled.
 #[derive(Clone, Copy, Debug, PartialEq, Eq)]
@@ -25,7 +32,7 @@ pub enum SheetStyle {
 
 /// What became of a command at a desk.
 #[derive(Clone, Copy, Debug, PartialEq, Eq)]
-pub enum Standing {
+pub enum CommandState {
     /// It is neither in the log nor in the queue.
     Unknown,
     /// It waits in the queue.
@@ -62,7 +69,7 @@ impl Version {
     /// All versions.
     pub const ALL: [Version; 2] = [Version::One, Version::Two];
 
-    /// The version's number, with which what stands behind a frame's length begins.
+    /// The version's number, with which what stands after a frame's length begins.
     pub fn number(self) -> u8
         ensures { result ≡ version_number self }
     {
@@ -87,8 +94,8 @@ impl Version {
         ensures { result ≡ last_event self }
     {
         match self {
-            Version::One => 16,
-            Version::Two => 17,
+            Version::One => LAST_OF_ONE.number(),
+            Version::Two => LAST_OF_TWO.number(),
         }
     }
 }

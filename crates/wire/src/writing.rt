@@ -6,12 +6,12 @@ ghost use Rattle.wire.specs.Numbers.{answer_number};
 ghost use Rattle.wire.specs.Ranges.{IsFrame, IsBody};
 ghost use Rattle.std.specs.List.{flat_map};
 ghost use Rattle.wire.specs.Spelling.{ballot_bytes, text_bytes, entry_bytes, count_bytes};
-ghost use Rattle.wire.specs.Spelling.{report_bytes, standing_bytes, body, inside};
+ghost use Rattle.wire.specs.Spelling.{report_bytes, state_bytes, body, inside};
 ghost use Rattle.wire.specs.Spelling.{spelling};
 
 use crate::NoMemory;
 use crate::frame::{Frame, What};
-use crate::values::{Standing, Version};
+use crate::values::{CommandState, Version};
 use acceptor::ballot::Ballot;
 use acceptor::entry::Entry;
 use acceptor::message::Report;
@@ -33,7 +33,7 @@ fn put_u64(out: &mut Vec<u8>, number: u64) -> Result<(), NoMemory>
 fn put_ballot(out: &mut Vec<u8>, ballot: Ballot) -> Result<(), NoMemory>
     ensures { OnOk result (out.new.items ≡ out.old.items ++ ballot_bytes ballot) }
 {
-    put_u32(out, ballot.round)?;
+    put_u32(out, ballot.number)?;
     out.push(ballot.desk)?;
     Ok(())
 }
@@ -87,13 +87,13 @@ fn number_of(answer: Answer) -> u8
     }
 }
 
-fn put_standing(out: &mut Vec<u8>, standing: Standing) -> Result<(), NoMemory>
-    ensures { OnOk result (out.new.items ≡ out.old.items ++ standing_bytes standing) }
+fn put_state(out: &mut Vec<u8>, state: CommandState) -> Result<(), NoMemory>
+    ensures { OnOk result (out.new.items ≡ out.old.items ++ state_bytes state) }
 {
-    match standing {
-        Standing::Unknown => out.push(0)?,
-        Standing::Pending => out.push(1)?,
-        Standing::Done { pos, answer } => {
+    match state {
+        CommandState::Unknown => out.push(0)?,
+        CommandState::Pending => out.push(1)?,
+        CommandState::Done { pos, answer } => {
             out.push(2)?;
             put_u32(out, pos)?;
             out.push(number_of(answer))?;
@@ -170,9 +170,9 @@ fn put_body(out: &mut Vec<u8>, version: Version, what: &What) -> Result<(), NoMe
             out.push(style.number())?;
             Ok(())
         }
-        What::Told { id, standing } => {
+        What::Told { id, state } => {
             put_u64(out, *id)?;
-            put_standing(out, *standing)
+            put_state(out, *state)
         }
         What::SheetText { text } => out.extend_from_slice(text.as_slice()),
         What::Refused { refusal } => {
@@ -183,7 +183,7 @@ fn put_body(out: &mut Vec<u8>, version: Version, what: &What) -> Result<(), NoMe
     }
 }
 
-/// What stands behind the length.
+/// What stands after the length.
 fn put_inside(out: &mut Vec<u8>, frame: &Frame) -> Result<(), NoMemory>
     requires { IsFrame frame.now }
     ensures { OnOk result (out.new.items ≡ out.old.items ++ inside frame.now) }

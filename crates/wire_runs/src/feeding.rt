@@ -51,7 +51,7 @@ pub fn show_answers(rt: &HostRuntime, text: &str) -> io::Result<()> {
     show_each(rt, &mut reader, text)
 }
 
-/// Puts the kinds of frames behind those of others.
+/// Puts the kinds of frames after those of others.
 fn push_kinds(kinds: &mut Vec<u8>, frames: &[Frame]) -> Result<(), NoMemory> {
     for frame in frames {
         kinds.push(frame.what.kind())?;

@@ -1,6 +1,6 @@
 //! Readers of frames over streams of bytes, one for each line of standard input.
 //!
-//! Bytes are written as tokens of hexadecimal digits with spaces between them, and `*N` behind a
+//! Bytes are written as tokens of hexadecimal digits with spaces between them, and `*N` after a
 //! token stands for N times its bytes. A line is one of these:
 //!
 //! - `frames BYTES`: the frames of a stream that is made of whole frames, each as a value, what is

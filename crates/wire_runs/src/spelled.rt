@@ -5,7 +5,7 @@ ghost use Rattle.wire.specs.Ranges.{IsFrame};
 
 use wire::{Frame, NoMemory, encode};
 
-/// Puts the spellings of frames behind those of others.
+/// Puts the spellings of frames after those of others.
 pub fn push_spelled(spelled: &mut Vec<u8>, frames: &[Frame]) -> Result<(), NoMemory>
     requires { AllByRecursion IsFrame frames.now }
 {

@@ -4,7 +4,7 @@ use std::alloc::Global;
 use std::io;
 use std::io::{Error, ErrorKind};
 
-/// Puts the bytes of a token behind others.
+/// Puts the bytes of a token after others.
 fn push_token(alloc: Global, bytes: &mut Vec<u8>, token: &str) -> io::Result<()> {
     let (digits, times) = token.split_once('*').unwrap_or((token, "1"));
     let Ok(times) = times.parse::<u32>() else {

@@ -1,17 +1,21 @@
 -- What one event makes of a hall.
-use Rattle.std.proofs.Common.{◌≡◌, ℕ, suc, zero, ◌+◌, ◌==◌, inl, ◌-◌, Bool, true, false, if◌then◌else◌, List, [], ◌∷◌, ◌++◌, Option, Some, None, Result, Ok, Err, IfOk, OnOk, OnErr, set, slice_get, take, length, ◌≤◌, refl, sym, ap, ◌∙◌, subst, arith, append_assoc}
+use Rattle.std.proofs.Common.{◌≡◌, ℕ, suc, zero, ◌+◌, ◌==◌, inl, ◌-◌, Bool, true, false}
+use Rattle.std.proofs.Common.{if◌then◌else◌, List, [], ◌∷◌, ◌++◌, Option, Some, None, Result, Ok}
+use Rattle.std.proofs.Common.{Err, IfOk, OnOk, OnErr, set, slice_get, take, length, ◌≤◌, refl, sym}
+use Rattle.std.proofs.Common.{ap, ◌∙◌, subst, arith, append_assoc}
 use Rattle.std.proofs.lemmas.List.{append-nil}
 use Rattle.acceptor.specs.declared.entry.Entry.{Entry}
 use Rattle.acceptor.specs.declared.message.Message.{Message}
-use Rattle.proposer.specs.declared.faults.Refusal.{Refusal}
-use Rattle.learner.specs.declared.event.Event.{Event}
+use Rattle.proposer.specs.declared.fault.Refusal.{Refusal}
+use Rattle.learner.specs.declared.event.DeskEvent.{DeskEvent}
 use Rattle.learner.specs.declared.event.WorldEvent.{WorldEvent}
 use Rattle.std.proofs.Math.Path.{fun_ext}
 use Rattle.learner.specs.Ranges.{DeskIsInRange}
 use Rattle.learner.specs.Desks.{first_desk, restarted}
 use Rattle.learner.specs.Steps.{Done, done, idle, is_desk, is_heeded, on_body, step}
-use Rattle.learner.specs.declared.event.Event.TheVariants.{Submit, Deliver}
-use Rattle.learner.specs.Worlds.{World, new_world, put, world_after, at_desk, nth_sent, delivered, restart_at, happens, run, after}
+use Rattle.learner.specs.declared.event.DeskEvent.TheVariants.{Submit, Deliver}
+use Rattle.learner.specs.Worlds.{World, new_world, put, world_after, at_desk, nth_sent, delivered}
+use Rattle.learner.specs.Worlds.{restart_at, happens, run, after}
 use Rattle.roles.specs.model.RunningDesks.{RunningDesk}
 use Rattle.world.specs.model.Halls.{HallValue, desk_from, known_by, world_of, AreNumbered, Does}
 use Rattle.world.specs.WorldValues.{refusal_of, refusal_at, refusal}
@@ -66,18 +70,18 @@ does_refused x y sent more r (Ok q) h = h.2
 does_refused x y sent more r (Err why) h = h.2
 
 -- the event at a desk that there is
-at_there : (n d : ℕ) (w : World) (event : Event) → is_desk n d ≡ true
+at_there : (n d : ℕ) (w : World) (event : DeskEvent) → is_desk n d ≡ true
     → at_desk n w d event ≡ world_after w d (step n d (w.desks d) event)
 at_there n d w event ours =
     ap (λ t. if t then world_after w d (step n d (w.desks d) event) else w) ours
 
-refusal_there : (n d : ℕ) (w : World) (event : Event) → is_desk n d ≡ true
+refusal_there : (n d : ℕ) (w : World) (event : DeskEvent) → is_desk n d ≡ true
     → refusal_at n w d event ≡ refusal_of (step n d (w.desks d) event)
 refusal_there n d w event ours =
     ap (λ t. if t then refusal_of (step n d (w.desks d) event) else None) ours
 
 -- the step of the code at a place is that of the desk with its number
-same_step : (n d : ℕ) (places : List RunningDesk) (x : RunningDesk) (event : Event)
+same_step : (n d : ℕ) (places : List RunningDesk) (x : RunningDesk) (event : DeskEvent)
     → AreNumbered n 1 places → is_desk n d ≡ true → slice_get places (d - 1) ≡ Some x
     → step x.desks x.number x.desk event ≡ step n d (desk_from 1 (known_by places) d) event
 same_step n d places x event numbered ours here =
@@ -86,7 +90,7 @@ same_step n d places x event numbered ours here =
     λ i. step (s.desks i) (s.number i) (known i) event
 
 event_follows : {E : Type 0} (n d : ℕ) (places : List RunningDesk) (x y : RunningDesk)
-    (sent more : List Message) (result : Result (Option Refusal) E) (event : Event)
+    (sent more : List Message) (result : Result (Option Refusal) E) (event : DeskEvent)
     → AreNumbered n 1 places → is_desk n d ≡ true → slice_get places (d - 1) ≡ Some x
     → (y.number ≡ x.number) × (y.desks ≡ x.desks)
     → IfOk result (λ r. Does x y sent more r (step x.desks x.number x.desk event))
@@ -123,7 +127,7 @@ event_follows n d places x y sent more result event numbered ours here same ok e
 
 -- the same, from the hall as its contract shows it
 pub seen_follows : {E : Type 0} (n d : ℕ) (places : List RunningDesk) (x y : RunningDesk)
-    (sent more : List Message) (result : Result (Option Refusal) E) (event : Event)
+    (sent more : List Message) (result : Result (Option Refusal) E) (event : DeskEvent)
     (old : HallValue)
     → hall_of n places sent ≡ old → AreNumbered n 1 places → is_desk n d ≡ true
     → slice_get places (d - 1) ≡ Some x → (y.number ≡ x.number) × (y.desks ≡ x.desks)
@@ -234,12 +238,12 @@ does_refuse x y sent more why s e desk same =
     subst (λ q. Does x y sent more (Some why) q) (sym e) (desk, same, refl)
 
 -- an event at a number that no desk has
-pub nobody_world : (n d : ℕ) (w : World) (event : Event) → is_desk n d ≡ false
+pub nobody_world : (n d : ℕ) (w : World) (event : DeskEvent) → is_desk n d ≡ false
     → w ≡ at_desk n w d event
 nobody_world n d w event none =
     sym (ap (λ t. if t then world_after w d (step n d (w.desks d) event) else w) none)
 
-pub nobody_refused : (n d : ℕ) (w : World) (event : Event) → is_desk n d ≡ false
+pub nobody_refused : (n d : ℕ) (w : World) (event : DeskEvent) → is_desk n d ≡ false
     → None ≡ refusal_at n w d event
 nobody_refused n d w event none =
     sym (ap (λ t. if t then refusal_of (step n d (w.desks d) event) else None) none)

@@ -3,9 +3,9 @@
 use Rattle.std.specs.Prelude.{ℕ, if◌then◌else◌, List, [], ◌∷◌, ◌++◌, Option, Some, None, Result, Ok}
 use Rattle.std.specs.Prelude.{Err}
 use Rattle.std.specs.Option.{option_map}
-use Rattle.proposer.specs.declared.faults.Refusal.{Refusal}
-use Rattle.learner.specs.declared.event.Event.{Event}
-use Rattle.learner.specs.declared.event.Event.TheVariants.{Submit, Start, Tick}
+use Rattle.proposer.specs.declared.fault.Refusal.{Refusal}
+use Rattle.learner.specs.declared.event.DeskEvent.{DeskEvent}
+use Rattle.learner.specs.declared.event.DeskEvent.TheVariants.{Submit, Start, Tick}
 use Rattle.learner.specs.declared.event.WorldEvent.{WorldEvent}
 use Rattle.learner.specs.declared.event.WorldEvent.TheVariants.{Submit as SubmitAt}
 use Rattle.learner.specs.declared.event.WorldEvent.TheVariants.{Start as StartAt, Tick as TickAt}
@@ -14,7 +14,7 @@ use Rattle.learner.specs.declared.event.WorldEvent.TheVariants.{Restart as Resta
 use Rattle.learner.specs.Steps.{Done, is_desk, step}
 use Rattle.learner.specs.Worlds.{World, new_world, happens}
 use Rattle.roles.specs.Faults.{refused_as}
-use Rattle.roles.specs.declared.faults.NodeFault.{NodeFault}
+use Rattle.roles.specs.declared.fault.NodeFault.{NodeFault}
 
 -- so many desks, and the events that were done, in order
 pub record WorldValue : Type 0 where
@@ -30,7 +30,7 @@ refusal_of (Ok r) = None
 refusal_of (Err why) = Some why
 
 -- why desk d refuses the event, where there is such a desk and it refuses
-abbrev pub refusal_at : ℕ → World → ℕ → Event → Option Refusal
+abbrev pub refusal_at : ℕ → World → ℕ → DeskEvent → Option Refusal
 refusal_at n w d event =
     if is_desk n d then refusal_of (step n d (w.desks d) event) else None
 

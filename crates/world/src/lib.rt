@@ -4,7 +4,7 @@
 //! agree: on their logs, on what they answer from them, and on the sheets.
 #![tactic(auto)]
 
-mod hall;
+mod desks;
 pub mod laws;
 mod world;
 

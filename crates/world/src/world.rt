@@ -2,13 +2,13 @@
 
 ghost use Rattle.std.specs.Prelude.{◌≡◌, IfOk};
 
-use crate::hall::Hall;
+use crate::desks::Desks;
 use crate::laws::headline;
 use acceptor::NoMemory;
 use acceptor::message::Message;
 use learner::event::WorldEvent;
 use learner::log::Log;
-use proposer::faults::{Refusal, StepFault};
+use proposer::fault::{Refusal, StepFault};
 use roles::NodeFault;
 use std::alloc::{AllocError, Global};
 use std::marker::Model;
@@ -41,7 +41,7 @@ impl From<AllocError> for WorldFault {
 #[derive(Drop)]
 pub struct World {
     alloc: Global,
-    hall: Hall,
+    hall: Desks,
     events: Vec<WorldEvent>,
     refused: Option<Refusal>,
 }
@@ -75,7 +75,7 @@ impl World {
         }
         Ok(World {
             alloc,
-            hall: Hall::new(alloc, desks)?,
+            hall: Desks::new(alloc, desks)?,
             events: Vec::new(alloc),
             refused: None,
         })

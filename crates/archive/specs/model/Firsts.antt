@@ -1,7 +1,15 @@
--- Where an id stands first.
-use Rattle.std.specs.Prelude.{ℕ, ◌==◌, Bool, false, Option, None, Some}
+-- Where an id stands first, and the line that is written for a position.
+use Rattle.std.specs.Prelude.{◌≡◌, ℕ, ◌==◌, Bool, false, Option, None, Some, List, [], ◌∷◌, ◌++◌}
+use Rattle.std.specs.Prelude.{slice_get, take}
+use Rattle.acceptor.specs.declared.entry.Entry.{Entry}
+use Rattle.archive.specs.Archive.{line_of}
 
 -- the place that was found is this one
 abbrev pub is_at : ℕ → Option ℕ → Bool
 is_at pos None = false
 is_at pos (Some first) = first == pos
+
+-- where the log has this entry at the position, its line and a line feed were put behind the text
+abbrev pub AddsLine : List Entry → ℕ → Entry → (old new : List ℕ) → Type 0
+AddsLine log pos entry old new =
+    slice_get log pos ≡ Some entry → new ≡ old ++ (line_of (take pos log) entry ++ 10 ∷ [])

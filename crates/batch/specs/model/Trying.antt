@@ -5,8 +5,10 @@ use Rattle.wire.specs.declared.frame.Frame.{Frame}
 use Rattle.wire.specs.declared.frame.What.{What}
 use Rattle.client.specs.declared.fault.ClientFault.TheVariants.{Refused}
 use Rattle.wire.specs.declared.values.ClientRefusal.TheVariants.{Busy}
-use Rattle.batch.specs.Asking.{AreAllTries, Asked, IsAnswer, IsDecided, IsFull, IsTicked}
-use Rattle.batch.specs.Asking.{IsUnknown, IsWaiting, ask_of, tick_of}
+use Rattle.batch.specs.Asking.{AreAllTries, AreKnown, Asked, IsAnswer, IsForgotten, IsFull}
+use Rattle.batch.specs.Asking.{IsPending, IsTicked, IsUnknown, IsWaiting, ask_of, submit_of}
+use Rattle.batch.specs.Asking.{tick_of}
+use Rattle.batch.specs.Entering.{IsOther}
 use Rattle.batch.specs.declared.fault.BatchFault.{BatchFault}
 use Rattle.batch.specs.declared.fault.BatchFault.TheVariants as fault
 use Rattle.batch.specs.declared.asking.Receiver.{Receiver}
@@ -18,7 +20,7 @@ IsFor r request a = (a.request ≡ request) ⊎ (a.request ≡ tick_of r)
 abbrev pub AreFor : Receiver → Frame → List Asked → Type 0
 AreFor r request = AllByRecursion (IsFor r request)
 
--- the ticks behind a try, counted from 0: one behind every 32nd, and none behind others
+-- the ticks after a try, counted from 0: one after every 32nd, and none after others
 abbrev pub AreTicks : Receiver → ℕ → List Asked → Type 0
 AreTicks r tries asked =
     AllByRecursion (IsTicked r) asked × (tries / 32 + length asked ≡ (tries + 1) / 32)
@@ -37,17 +39,33 @@ IsLastOf f r request asked =
     (front : List Asked) × (last : Asked) × (asked ≡ front ++ last ∷ []) × (last.answer ≡ Err f)
     × IsFor r request last
 
--- Why it isn't asked further for an id: a request failed, or nothing was known of it, or 10,000
--- times that it isn't decided yet.
+-- Asking for an id ended: a request failed, or 10,000 times it wasn't decided yet.
+abbrev pub IsUnanswered : BatchFault → Receiver → ℕ → List Asked → Type 0
+IsUnanswered f r id asked =
+    IsLastOf f r (ask_of r id) asked
+    ⊎ ((f ≡ fault.StillPending) × AreAllTries (IsWaiting (ask_of r id)) r asked)
+
+-- each request was for the id, or a tick, and it isn't asked further: no answer says that nothing
+-- is known of the id, or the last one does, and the fault is Lost
 abbrev pub EndsWaiting : BatchFault → Receiver → ℕ → List Asked → Type 0
 EndsWaiting f r id asked =
-    IsLastOf f r (ask_of r id) asked
-    ⊎ ((f ≡ fault.Lost)
-    ⊎ ((f ≡ fault.StillPending) × AreAllTries (IsWaiting (ask_of r id)) r asked))
+    AreFor r (ask_of r id) asked
+    × ((AreKnown r id asked × IsUnanswered f r id asked)
+    ⊎ ((f ≡ fault.Lost) × IsForgotten r id asked))
+
+-- each request was this one, or a tick, and the last one failed by this fault
+abbrev pub IsTurnedOff : BatchFault → Receiver → Frame → List Asked → Type 0
+IsTurnedOff f r submit asked = AreFor r submit asked × IsLastTry f r submit asked
+
+-- so it was of the request that enters the text, or the fault is none of a request
+abbrev pub StopsTaking : BatchFault → Receiver → ℕ → List ℕ → List Asked → Type 0
+StopsTaking f r id text asked =
+    AreFor r (submit_of r id text) asked
+    × (IsLastTry f r (submit_of r id text) asked ⊎ IsOther f)
 
 -- the desk knew nothing of the command, or did not decide it
 abbrev pub IsUndecided : BatchFault → Receiver → ℕ → Type 0
 IsUndecided fault.Lost r id = (told : What) × IsAnswer (ask_of r id) told × IsUnknown told
 IsUndecided fault.StillPending r id =
-    (told : What) × IsAnswer (ask_of r id) told × ¬ IsDecided told
+    (told : What) × IsAnswer (ask_of r id) told × IsPending told
 IsUndecided _ r id = ⊥

@@ -9,7 +9,7 @@ use Rattle.learner.specs.declared.event.WorldEvent.TheVariants.{Restart}
 use Rattle.texts.specs.Fields.{cut, number_between}
 use Rattle.hall.specs.Scripts.{most_delivered}
 
--- The fields of a line stand behind a space; where nothing is left the next field is missing.
+-- The fields of a line stand after a space; where nothing is left the next field is missing.
 
 infixl 10 ◌>>=◌
 abbrev pub ◌>>=◌ : {A B : Type 0} → Option A → (A → Option B) → Option B
@@ -32,7 +32,7 @@ submit_of n left = do
   entry ← entry_of id text
   Some (Submit desk entry)
 
--- one number, and nothing behind it
+-- one number, and nothing after it
 abbrev pub number_of : ℕ → (ℕ → WorldEvent) → Option (List ℕ) → Option WorldEvent
 number_of most event left = option_map event (option_and_then (number_between 1 most) left)
 

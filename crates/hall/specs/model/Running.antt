@@ -5,14 +5,14 @@ use Rattle.std.specs.Io.KnownBytes.{Appends, IsAtEnd}
 use Rattle.learner.specs.declared.event.WorldEvent.{WorldEvent}
 use Rattle.world.specs.WorldValues.{WorldValue, extended}
 use Rattle.lines.specs.Lines.{is_within, lines_read}
-use Rattle.lines.specs.Bytes.{AppendsPart}
+use Rattle.lines.specs.Bytes.{AppendsPart, HasLeft, Sides}
 use Rattle.lines.specs.declared.fault.RunFault.{RunFault}
 use Rattle.lines.specs.declared.fault.RunFault.TheVariants as fault
 use Rattle.hall.specs.Scripts.{Spells, SpellsNone}
-use Rattle.hall.specs.Halls.{Run, RunFails, event_text, script_text, logs_text}
+use Rattle.hall.specs.Halls.{Run, RunFails, event_text, script_text, logs_text, run_of}
 use Rattle.hall.specs.model.Events.{are_events, events_of}
 
--- the line spells this event, which was done, and what is printed for it stands behind the rest
+-- the line spells this event, which was done, and what is printed for it stands after the rest
 pub record DoesLine (n : ℕ) (line : List ℕ) (old new : WorldValue) (before after : List ℕ) : Type 0
   where
     pub event : WorldEvent
@@ -60,8 +60,17 @@ StopsAmong (fault.BadLine line) r = RunFails (fault.BadLine line) r
 StopsAmong fault.Read r = RunFails fault.Read r
 StopsAmong fault.Write r = AppendsPart r.old r.new (hall_text r.desks r.input)
 StopsAmong fault.NoMemory r = AppendsPart r.old r.new (hall_text r.desks r.input)
-StopsAmong fault.NoSuchRound r = ⊥
 StopsAmong fault.BadCount r = ⊥
+
+-- between these two sides, all lines of the script that the reader had were done
+abbrev pub DoesScript : ℕ → WorldValue → Sides → Type 0
+DoesScript n world s =
+    (input : List ℕ) × HasLeft s.had input × DoesAll n world input s.left s.old s.new
+
+-- between these two sides, not all of them were, by this fault
+abbrev pub StopsScript : ℕ → Sides → RunFault → Type 0
+StopsScript n s fault =
+    (input : List ℕ) × HasLeft s.had input × StopsAmong fault (run_of n input s)
 
 -- what waited was written and this is the fault, or a write failed
 abbrev pub EndsBy : RunFault → RunFault → (old new : Option (List ℕ)) → List ℕ → Type 0

@@ -1,7 +1,8 @@
 -- How a reader of lines goes on, byte by byte and by runs of bytes.
 use Rattle.std.specs.Prelude.{◌≡◌, ◌≢◌, ◌<◌, ◌≤◌, ◌+◌, ℕ, slice_index, Bool, true, false, not}
-use Rattle.std.specs.Prelude.{nat_lt, List, [], ◌∷◌, ◌++◌, length, Option}
+use Rattle.std.specs.Prelude.{nat_lt, List, [], ◌∷◌, ◌++◌, length, Option, MatchOption}
 use Rattle.std.specs.Io.KnownBytes.{Consumes, IsAtEnd}
+use Rattle.lines.specs.Lines.{most_bytes, most_lines, most_in_line}
 use Rattle.lines.specs.Reading.{Reading}
 
 -- one of the bytes that were read was taken, or there was none
@@ -34,14 +35,19 @@ pub record MeetsEnd (old new : Reading) (before now : Option (List ℕ)) : Type 
   pub end : IsAtEnd now
   pub same : new ≡ record old { over = true }
 
--- behind so many bytes of a line, so many more are within the limits
+-- the next byte, where there is one
+abbrev pub GivesByte : Reading → Reading → (before now : Option (List ℕ)) → Option ℕ → Type 0
+GivesByte old new before now byte =
+    MatchOption byte (MeetsEnd old new before now) (λ b. TakesByte old new b before now)
+
+-- after so many bytes of a line, so many more are within the limits
 pub record IsRoomFor (p : Reading) (in_line count : ℕ) : Type 0 where
-  pub bytes : p.bytes + count ≤ 39387136
-  pub lines : p.lines < 65536
-  pub line : in_line + count ≤ 10000
+  pub bytes : p.bytes + count ≤ most_bytes
+  pub lines : p.lines < most_lines
+  pub line : in_line + count ≤ most_in_line
 
 -- the bytes up to a line feed, as far as the limits have room, were taken out of what was read, put
--- behind the line, and counted
+-- after the line, and counted
 pub record TakesRun (old new : Reading) (before now : List ℕ) : Type 0 where
   pub run : List ℕ
   pub line : now ≡ before ++ run

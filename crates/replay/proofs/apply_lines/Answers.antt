@@ -6,7 +6,8 @@ use Rattle.lines.specs.declared.fault.RunFault.TheVariants as fault
 use Rattle.replay.proofs.Applied.{gives_true, one_more, forgotten, unwritten, stops, fails_by}
 use Rattle.replay.proofs.apply_lines.Goals as goal
 
-pub returns-in_err-apply_line-in-Ok-true-clause-err : goal.returns-in_err-apply_line-in-Ok-true-clause-err
+pub returns-in_err-apply_line-in-Ok-true-clause-err :
+    goal.returns-in_err-apply_line-in-Ok-true-clause-err
 returns-in_err-apply_line-in-Ok-true-clause-err g c =
     fails_by _ c.from_residual.result fault.NoMemory (search rules)
     (forgotten _ _ _ c.loop-meet.invariant.0 _ _ _ _ c.loop-meet.invariant.1)
@@ -36,7 +37,8 @@ loop-meet-preserved g c =
           i.1 line meet said c.in_ok-write_long-in-Ok-true.ensures.ok,
     )
 
-pub returns-in_err-write_long-in-Ok-true-clause-err : goal.returns-in_err-write_long-in-Ok-true-clause-err
+pub returns-in_err-write_long-in-Ok-true-clause-err :
+    goal.returns-in_err-write_long-in-Ok-true-clause-err
 returns-in_err-write_long-in-Ok-true-clause-err g c =
     let i = c.loop-meet.invariant in
     let line = gives_true c.in-Ok-true.field-0 c.read_line.new.self c.read_line.new.line.items i.0

@@ -3,7 +3,7 @@ use Rattle.std.specs.Prelude.{◌≡◌, ℕ, true, false, List, ◌++◌, lengt
 use Rattle.std.specs.Io.KnownBytes.{Appends, IsAtEnd}
 use Rattle.commands.specs.History.{History, history}
 use Rattle.lines.specs.Lines.{whole_lines, lines_of, is_within, lines_read}
-use Rattle.lines.specs.Bytes.{HasLeft, AppendsPart}
+use Rattle.lines.specs.Bytes.{HasLeft, AppendsPart, Sides}
 use Rattle.lines.specs.declared.fault.RunFault.{RunFault}
 use Rattle.lines.specs.declared.fault.RunFault.TheVariants as fault
 use Rattle.replay.specs.Replay.{entries, refusals}
@@ -33,6 +33,15 @@ StopsAmong fault.InputTooLong input left old new =
 StopsAmong fault.Read input left old new = BreaksOff input left old new
 StopsAmong fault.Write input left old new = AppendsPart old new (refusals (lines_read input))
 StopsAmong fault.NoMemory input left old new = AppendsPart old new (refusals (lines_read input))
-StopsAmong fault.NoSuchRound input left old new = ⊥
 StopsAmong fault.BadCount input left old new = ⊥
 StopsAmong (fault.BadLine n) input left old new = ⊥
+
+-- between these two sides, all lines of the input that the reader had were applied
+abbrev pub AppliesAll : History → Sides → ℕ → Type 0
+AppliesAll meet s count =
+    (input : List ℕ) × HasLeft s.had input × Applies meet count input s.left s.old s.new
+
+-- between these two sides, not all of them were, by this fault
+abbrev pub AppliesPart : Sides → RunFault → Type 0
+AppliesPart s fault =
+    (input : List ℕ) × HasLeft s.had input × StopsAmong fault input s.left s.old s.new

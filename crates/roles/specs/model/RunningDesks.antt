@@ -5,7 +5,7 @@ use Rattle.acceptor.specs.declared.message.Message.{Message}
 use Rattle.acceptor.specs.declared.stored.Change.{Change}
 use Rattle.acceptor.specs.declared.stored.Change.TheVariants.{Promised, Voted, Tried, Appended}
 use Rattle.acceptor.specs.declared.stored.Stored.{Stored}
-use Rattle.proposer.specs.declared.faults.Refusal.{Refusal}
+use Rattle.proposer.specs.declared.fault.Refusal.{Refusal}
 use Rattle.proposer.specs.declared.plan.Plan.{Plan}
 use Rattle.proposer.specs.Plans.{only_say}
 use Rattle.proposer.specs.Proposing.{start, tick}
@@ -14,7 +14,7 @@ use Rattle.learner.specs.Desks.{Desk, adopt, passing}
 use Rattle.learner.specs.Logs.{LogValue}
 use Rattle.learner.specs.Ranges.{DeskIsInRange, AreInRange}
 use Rattle.learner.specs.Steps.{IsDesk, is_heeded, on_body, done, step}
-use Rattle.learner.specs.declared.event.Event.{Event}
+use Rattle.learner.specs.declared.event.DeskEvent.{DeskEvent}
 
 -- this desk of so many, all that it knows, and the room that its log has for the next entry
 pub record RunningDesk : Type 0 where
@@ -56,7 +56,7 @@ HasRoom room (Some (Appended e)) = 0 < room
 
 -- the plan is that of a step
 abbrev pub IsStep : RunningDesk → Plan → Type 0
-IsStep x plan = (event : Event) × (step x.desks x.number x.desk event ≡ Ok (done x.desk plan))
+IsStep x plan = (event : DeskEvent) × (step x.desks x.number x.desk event ≡ Ok (done x.desk plan))
 
 -- there is room for the plan's change, the desk after it is in range, and its messages are from
 -- this desk and in range

@@ -4,9 +4,9 @@ use Rattle.std.specs.Prelude.{◌∷◌, ◌++◌, Some, find, length, map, slic
 use Rattle.attempts.specs.declared.Value.{Value}
 use Rattle.attempts.specs.Attempts.{IsInRangeOf}
 use Rattle.rounds.specs.declared.rules.Rules.{Rules}
-use Rattle.rounds.specs.declared.standing.Standing.{Standing}
+use Rattle.rounds.specs.declared.kept_entrant.KeptEntrant.{KeptEntrant}
 use Rattle.rounds.specs.Tables.{Entrant, Table, IsCutoff, allotted, has_number, place}
-use Rattle.rounds.specs.model.Standings.{kept_of}
+use Rattle.rounds.specs.model.KeptEntrants.{kept_of}
 
 -- what the round was opened with, and the entrants in order of entry
 pub record Field : Type 0 where
@@ -53,7 +53,7 @@ pub record IsEntrantAt (n : ℕ) (f : Field) (i : ℕ) : Type 0 where
       → set_values_at f.entrants i (change entrant.values) ≡ map (with_change n change) f.entrants
 
 -- what is kept of the entrant with a number
-pub record IsStandingOf (f : Field) (n : ℕ) (e : Entrant) (s : Standing) : Type 0 where
+pub record IsKeptEntrantOf (f : Field) (n : ℕ) (e : Entrant) (s : KeptEntrant) : Type 0 where
   pub found : find (has_number n) f.entrants ≡ Some e
   pub row : s.row ≡ e.values
   pub kept : s.kept ≡ kept_of f.rules e.values (place (as_table false f) e)

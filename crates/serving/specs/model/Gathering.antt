@@ -5,7 +5,7 @@ use Rattle.acceptor.specs.declared.entry.Entry.{Entry}
 use Rattle.learner.specs.Steps.{IsDesk}
 use Rattle.serving.specs.declared.request.Run.{Run}
 
--- all entries were put behind others, or there is none
+-- all entries were put after others, or there is none
 abbrev pub Gathers : Bool → List Entry → List Entry → Option (List Entry) → Type 0
 Gathers true old new told = (es : List Entry) × (told ≡ Some es) × (new ≡ old ++ es)
 Gathers false old new told = told ≡ None

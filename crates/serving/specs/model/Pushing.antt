@@ -5,7 +5,7 @@ use Rattle.wire.specs.declared.values.Version.{Version}
 use Rattle.serving.specs.Adding.{Push, Hands}
 use Rattle.serving.specs.Serving.{pushed, in_front, from_own, to_others}
 
--- the first of these messages, if there is one, and those behind it
+-- the first of these messages, if there is one, and those after it
 abbrev pub Leads : Option Message → List Message → List Message → Type 0
 Leads None ms rest = (ms ≡ []) × (rest ≡ [])
 Leads (Some m) ms rest = ms ≡ m ∷ rest

@@ -1,11 +1,11 @@
 -- How the code's steps are those of serving.
 use Rattle.std.specs.Prelude.{◌≡◌, ℕ, List, [], ◌∷◌, ◌++◌}
 use Rattle.acceptor.specs.declared.message.Message.{Message}
-use Rattle.learner.specs.declared.event.Event.{Event}
+use Rattle.learner.specs.declared.event.DeskEvent.{DeskEvent}
 use Rattle.store.specs.declared.home.Home.{Home}
 use Rattle.answers.specs.Seen.{Seen}
 use Rattle.serving.specs.Nodes.{Fate, reply}
-use Rattle.serving.specs.declared.calling.Answer.{Answer}
+use Rattle.serving.specs.declared.calls.Answer.{Answer}
 use Rattle.serving.specs.Answering.{answer_of}
 use Rattle.serving.specs.Making.{Way, Outside, Makes}
 use Rattle.serving.specs.Serving.{Act, Called, Service, seen_after, call, settle_by, take}
@@ -34,7 +34,7 @@ pub record Reaches (home : Home) (all : Service → Service) (first : Place)
       ≡ seen_after home second.seen more later
 
 -- the call that comes to this fate
-abbrev pub did_call : Home → Event → Fate → Seen → Act
+abbrev pub did_call : Home → DeskEvent → Fate → Seen → Act
 did_call home event fate x = Called event (reply home x event fate).result
 
 -- acts are only added
@@ -72,7 +72,7 @@ DoesPart home all first last old new =
     × DidPart home all first last acts past rest second old new
 
 -- an event was taken with all that comes of it, and the node's answer is that of the first fate
-pub record DoesCall {V : Type 0} {way : Way V} (home : Home) (left last : ℕ) (event : Event)
+pub record DoesCall {V : Type 0} {way : Way V} (home : Home) (left last : ℕ) (event : DeskEvent)
     (answer : Answer) (x y : Seen)
     (acts : List Act) (past : List Fate) (old new : Outside way) : Type 0 where
   pub did : Did home (λ s. settle_by home left (call home event s)) (at x [] left) (at y [] last)
@@ -83,7 +83,7 @@ pub record DoesCall {V : Type 0} {way : Way V} (home : Home) (left last : ℕ) (
   pub answer_is : answer ≡ answer_of (reply home x event fate).result
 
 -- the same, with Start where the log grew
-pub record DoesTake {V : Type 0} {way : Way V} (home : Home) (last : ℕ) (event : Event)
+pub record DoesTake {V : Type 0} {way : Way V} (home : Home) (last : ℕ) (event : DeskEvent)
     (answer : Answer) (x y : Seen)
     (acts : List Act) (past : List Fate) (old new : Outside way) : Type 0 where
   pub did : Did home (take home event) (at x [] 16) (at y [] last) acts past old new

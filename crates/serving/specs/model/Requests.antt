@@ -1,11 +1,8 @@
 -- How a request and a frame are served.
 use Rattle.std.specs.Prelude.{◌≡◌, List, ◌++◌, Option}
-use Rattle.std.specs.Io.KnownBytes.{Appends}
 use Rattle.wire.specs.declared.frame.What.{What}
 use Rattle.store.specs.declared.home.Home.{Home}
-use Rattle.serving.specs.declared.ends.Close.{Close}
 use Rattle.serving.specs.declared.request.Request.{Request}
-use Rattle.serving.specs.Connection.{Begun, Sides, serve_frame, close_of, answer_bytes}
 use Rattle.serving.specs.Making.{Way, Outside, Makes}
 use Rattle.answers.specs.Seen.{Seen}
 use Rattle.serving.specs.Nodes.{Fate}
@@ -40,11 +37,3 @@ abbrev pub FailsToAnswer : {V : Type 0} → {way : Way V} → Home → Seen → 
 FailsToAnswer home x y r old new =
     (fates : List Fate) × (acts : List Act) × (rest : List Act)
     × AnswersPart home x y fates r acts rest old new
-
--- the frame was served whole
-pub record ServesOne {V : Type 0} {way : Way V} (home : Home) (a b : Sides way) (one : Begun)
-    (ends : Option Close) : Type 0 where
-  pub close : ends ≡ close_of home a.seen one
-  pub answered : Appends a.written b.written (answer_bytes (serve_frame home a.seen one).answers)
-  pub made : Makes home.hall a.outside b.outside (serve_frame home a.seen one).acts
-  pub node : b.seen ≡ (serve_frame home a.seen one).seen

@@ -10,6 +10,10 @@ use Rattle.csv.specs.Writing.{writer_under, writer_pending}
 abbrev pub HasFields : ByteRecord → List (List ℕ) → Type 0
 HasFields r fields = (fields_of r ≡ fields) × (partial_of r ≡ [])
 
+-- a record has more fields, and no other has begun
+abbrev pub AddsFields : ByteRecord → ByteRecord → List (List ℕ) → Type 0
+AddsFields old new more = HasFields new (fields_of old ++ more)
+
 -- the writer is between records, and writes as the crate's defaults have it
 pub record IsReady {A : Type 0} (w : Writer (Vec ℕ A)) : Type 0 where
   pub setup : writer_setup w ≡ default_writer

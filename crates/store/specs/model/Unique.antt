@@ -86,10 +86,10 @@ same_log a b same =
     (log_values 0 b) (rises 0 a) same (in_order b)))
 
 abbrev vote_of : ℕ → ℕ → ℕ → ℕ → List ℕ → Vote
-vote_of at round desk id text =
+vote_of at number desk id text =
     record {
       pos = at;
-      ballot = record { round = round; desk = desk };
+      ballot = record { number = number; desk = desk };
       entry = record { id = id; text = text };
     }
 
@@ -99,32 +99,32 @@ same_vote None (Some w) e = absurd cc
 same_vote (Some v) None e = absurd cc
 same_vote (Some v) (Some w) e =
     let p : v.pos ≡ w.pos = cc in
-    let r : v.ballot.round ≡ w.ballot.round = cc in
+    let r : v.ballot.number ≡ w.ballot.number = cc in
     let d : v.ballot.desk ≡ w.ballot.desk = cc in
     let i : v.entry.id ≡ w.entry.id = cc in
     let t : v.entry.text ≡ w.entry.text = cc in
     ap Some
-    (ap (λ n. vote_of n v.ballot.round v.ballot.desk v.entry.id v.entry.text) p
+    (ap (λ n. vote_of n v.ballot.number v.ballot.desk v.entry.id v.entry.text) p
     ∙ ap (λ n. vote_of w.pos n v.ballot.desk v.entry.id v.entry.text) r
-    ∙ ap (λ n. vote_of w.pos w.ballot.round n v.entry.id v.entry.text) d
-    ∙ ap (λ n. vote_of w.pos w.ballot.round w.ballot.desk n v.entry.text) i
-    ∙ ap (vote_of w.pos w.ballot.round w.ballot.desk w.entry.id) t)
+    ∙ ap (λ n. vote_of w.pos w.ballot.number n v.entry.id v.entry.text) d
+    ∙ ap (λ n. vote_of w.pos w.ballot.number w.ballot.desk n v.entry.text) i
+    ∙ ap (vote_of w.pos w.ballot.number w.ballot.desk w.entry.id) t)
 
 abbrev stored_of : ℕ → ℕ → Option Vote → ℕ → Stored
-stored_of round desk vote tried =
-    record { promised = record { round = round; desk = desk }; vote = vote; tried = tried }
+stored_of number desk vote tried =
+    record { promised = record { number = number; desk = desk }; vote = vote; tried = tried }
 
 pub same_stored : (home away : Home) (s t : Stored) → desk_values home s ≡ desk_values away t
     → s ≡ t
 same_stored home away s t e =
-    let r : s.promised.round ≡ t.promised.round = cc in
+    let r : s.promised.number ≡ t.promised.number = cc in
     let d : s.promised.desk ≡ t.promised.desk = cc in
     let n : s.tried ≡ t.tried = cc in
     let v : s.vote ≡ t.vote = same_vote s.vote t.vote (ap (drop 7) e) in
     ap (λ m. stored_of m s.promised.desk s.vote s.tried) r
-    ∙ ap (λ m. stored_of t.promised.round m s.vote s.tried) d
-    ∙ ap (λ m. stored_of t.promised.round t.promised.desk m s.tried) v
-    ∙ ap (stored_of t.promised.round t.promised.desk t.vote) n
+    ∙ ap (λ m. stored_of t.promised.number m s.vote s.tried) d
+    ∙ ap (λ m. stored_of t.promised.number t.promised.desk m s.tried) v
+    ∙ ap (stored_of t.promised.number t.promised.desk t.vote) n
 
 abbrev home_of : ℕ → ℕ → ℕ → Home
 home_of hall desk desks = record { hall = hall; desk = desk; desks = desks }

@@ -1,5 +1,7 @@
 -- A model of the code: what its readers of fields returned, beside what the fields are.
-use Rattle.std.specs.Prelude.{◌≡◌, Option, Some, None, Result, Ok, Err}
+use Rattle.std.specs.Prelude.{◌≡◌, ℕ, List, Option, Some, None, Result, Ok, Err}
+use Rattle.std.specs.Borrow.{Bor}
+use Rattle.std.specs.Option.{option_copied}
 use Rattle.texts.specs.declared.command.AttemptEntry.{AttemptEntry}
 use Rattle.texts.specs.declared.command.Entered.{Entered}
 use Rattle.texts.specs.declared.reading.CommandFault.{CommandFault}
@@ -17,6 +19,10 @@ abbrev pub ReadsFields : {X Y : Type 0} → (X → Y) → Result X CommandFault 
 ReadsFields view (Ok x) said = said ≡ Ok (view x)
 ReadsFields view (Err (fault.BadField index)) said = said ≡ Err (fault.BadField index)
 ReadsFields _ _ _ = ⊥
+
+-- what was read, and what is left of the text after it
+abbrev pub with_rest : {A : Type 0} → A × Option (Bor (List ℕ)) → A × Option (List ℕ)
+with_rest read = (read.0, option_copied read.1)
 
 -- memory is taken for a solution; where it is misspelt, memory may run out first
 abbrev pub MayBeSolution : Option Entered → Type 0

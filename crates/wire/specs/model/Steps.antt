@@ -42,7 +42,7 @@ pub record AreFirst (bytes : List ℕ) (frames : List Frame) (size : ℕ) : Type
   pub whole : bytes ≡ flat_map spelling frames ++ drop size bytes
   pub each : AllByRecursion IsFrame frames
 
--- all of them, behind those that were taken before
+-- all of them, after those that were taken before
 pub record IsTaken (bytes : List ℕ) (before after : List Frame) (size : ℕ)
     (fault : Option WireFault) : Type 0 where
   pub frames : List Frame
@@ -50,7 +50,7 @@ pub record IsTaken (bytes : List ℕ) (before after : List Frame) (size : ℕ)
   pub first : AreFirst bytes frames size
   pub ends : Ends fault (front (drop size bytes))
 
--- bytes of the piece were put behind the held ones, to this number of bytes if they go so far
+-- bytes of the piece were put after the held ones, to this number of bytes if they go so far
 pub record IsToppedUp (size : ℕ) (piece old new : List ℕ) (added : ℕ) : Type 0 where
   pub within : added ≤ length piece
   pub held : new ≡ old ++ take added piece
@@ -69,7 +69,7 @@ Finishes (Err BadKind) old piece new = front (old ++ piece) ≡ Breaks BadKind
 Finishes (Err BadBody) old piece new = front (old ++ piece) ≡ Breaks BadBody
 Finishes (Err NoMemory) old piece new = IsBegun (front (old ++ piece))
 
--- the frames of the bytes, behind those that were taken before, and what is kept
+-- the frames of the bytes, after those that were taken before, and what is kept
 pub record ReadsOn (bytes : List ℕ) (before after : List Frame) (reader : Reader) : Type 0 where
   pub frames : List Frame
   pub added : after ≡ before ++ frames

@@ -3,7 +3,7 @@
 use Rattle.std.specs.Prelude.{ℕ, suc, ◌≡◌, ◌+◌, ◌==◌, if◌then◌else◌, List, [], ◌∷◌, ◌++◌, Option}
 use Rattle.std.specs.Prelude.{Some, None, Result, Ok, Err}
 use Rattle.acceptor.specs.declared.message.Message.{Message}
-use Rattle.proposer.specs.declared.faults.Refusal.{Refusal}
+use Rattle.proposer.specs.declared.fault.Refusal.{Refusal}
 use Rattle.learner.specs.declared.event.WorldEvent.{WorldEvent}
 use Rattle.learner.specs.Desks.{Desk, first_desk}
 use Rattle.learner.specs.Steps.{Done}

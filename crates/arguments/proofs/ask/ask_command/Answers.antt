@@ -1,4 +1,4 @@
-use Rattle.arguments.proofs.Building.{added_last}
+use Rattle.replay_arguments.proofs.Building.{added_last}
 use Rattle.arguments.proofs.ask.ask_command.Goals as goal
 
 pub returns : goal.returns

@@ -1,6 +1,6 @@
 use Rattle.std.proofs.Common.{◌∙◌, ap, Some, codes}
 use Rattle.arguments.specs.Arguments.{value_rule}
-use Rattle.arguments.proofs.Building.{added, added_last}
+use Rattle.replay_arguments.proofs.Building.{added, added_last}
 use Rattle.arguments.proofs.enter.enter_command.Goals as goal
 
 pub returns : goal.returns

@@ -1,19 +1,19 @@
 use Rattle.std.proofs.lemmas.Result.{IfOk-weaker}
-use Rattle.arguments.proofs.Building.{subbed}
+use Rattle.replay_arguments.proofs.Building.{subbed}
 use Rattle.arguments.proofs.parsing.command.Goals as goal
 
-pub with-requires : goal.with-requires
-with-requires c = c.in_ok-replay_command.ensures.1.1
+pub with_subcommand-requires : goal.with_subcommand-requires
+with_subcommand-requires c = c.in_ok-replay_command.ensures.1.1
 
-pub with-requires-8 : goal.with-requires-8
-with-requires-8 c = c.in_ok-sheet_command.ensures.1.1
+pub with_subcommand-requires-8 : goal.with_subcommand-requires-8
+with_subcommand-requires-8 c = c.in_ok-sheet_command.ensures.1.1
 
 pub returns : goal.returns
 returns c =
     let replay = c.in_ok-replay_command.ensures in
     let sheet = c.in_ok-sheet_command.ensures in
     let one =
-    subbed _ _ _ _ _ c.own_command-command.ensures replay.1.0 c.in_ok-command.ensures in
+    subbed _ _ _ _ _ c.desk_command-command.ensures replay.1.0 c.in_ok-command.ensures in
     let two =
     subbed _ _ _ _ _ one c.in_ok-hall_command.ensures.0 c.in_ok-command-2.ensures in
     let three =
@@ -29,9 +29,9 @@ returns c =
     let eight = subbed _ _ _ _ _ seven sheet.1.0 c.in_ok-command-8.ensures in
     let nine =
     subbed _ _ _ _ _ eight c.in_ok-tick_command.ensures.0 c.in_ok-command-9.ensures in
-    IfOk-weaker c.with-10.result _ _
+    IfOk-weaker c.with_subcommand-10.result _ _
     (λ command made. (
       record { replay = replay.0; sheet = sheet.0 },
       subbed _ _ _ _ _ nine c.in_ok-stop_command.ensures.0 made,
     ))
-    c.with-10.ensures
+    c.with_subcommand-10.ensures

@@ -1,7 +1,7 @@
 use Rattle.std.proofs.Common.{◌∙◌, ap, Some, codes}
 use Rattle.std.proofs.lemmas.Result.{IfOk-weaker}
 use Rattle.arguments.specs.Arguments.{value_rule}
-use Rattle.arguments.proofs.Building.{added, added_last}
+use Rattle.replay_arguments.proofs.Building.{added, added_last}
 use Rattle.arguments.proofs.sheet.sheet_command.Goals as goal
 
 pub returns : goal.returns

@@ -11,7 +11,7 @@ returns-in-hall c =
 pub returns-in-replay : goal.returns-in-replay
 returns-in-replay c =
     task_renamed c.args.name.now (codes "replay") (rows_of (found_of c.args.found.now))
-    c.replay_of.result c.in-replay.is c.replay_of.ensures
+    c.replayed.result c.in-replay.is c.replayed.ensures
 
 pub returns-in-text : goal.returns-in-text
 returns-in-text c =

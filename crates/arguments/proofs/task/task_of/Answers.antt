@@ -1,4 +1,5 @@
-use Rattle.arguments.proofs.Found.{entered_rows, finds_named}
+use Rattle.arguments.proofs.Found.{finds_named}
+use Rattle.replay_arguments.proofs.Found.{entered_rows}
 use Rattle.arguments.proofs.task.task_of.Goals as goal
 
 pub returns : goal.returns

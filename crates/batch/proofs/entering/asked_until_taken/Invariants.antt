@@ -2,7 +2,7 @@ use Rattle.std.proofs.Common.{◌/◌}
 use Rattle.batch.specs.Asking.{Asks, Counts, IsFull, IsTicked}
 use Rattle.batch.proofs.entering.asked_until_taken.Given as goal
 
--- the desk's queue was full each time, and it was ticked behind every 32nd
+-- the desk's queue was full each time, and it was ticked after every 32nd
 abbrev pub invariant-loop-tries : goal.invariant-loop-tries
 invariant-loop-tries g l =
     Asks (g.A.Ask.asked l.initial.desk) (g.A.Ask.asked l.desk)

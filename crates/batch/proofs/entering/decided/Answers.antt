@@ -1,69 +1,72 @@
-use Rattle.std.proofs.Common.{◌≡◌, ◌<◌, ◌/◌, inl, inr, refl, subst, Err, Ok, [], arith}
+use Rattle.std.proofs.Common.{◌≡◌, ◌<◌, ◌/◌, inr, refl, subst, Err, Ok, [], arith, rules}
 use Rattle.wire.specs.declared.frame.Frame.{Frame}
-use Rattle.batch.specs.Asking.{IsAnswer, IsTicked, IsWaiting, ask_of}
-use Rattle.batch.specs.declared.fault.BatchFault.TheVariants as fault
-use Rattle.batch.specs.model.Trying.{EndsWaiting}
-use Rattle.batch.proofs.Trying.{adds_none, asked_so, asks_last, awaits, goes_on, put_off_for, tick_last, tick_last_asked, told_of, told_once, tries_of, waits_on}
+use Rattle.batch.specs.Asking.{IsAnswer, IsTicked, IsWaiting, ask_of, asked_so}
+use Rattle.batch.proofs.Trying.{Ends, adds_none, asks_failed, asks_lost, awaits, fails_by, goes_on}
+use Rattle.batch.proofs.Trying.{put_off_for, tick_last, tick_last_asked, told_of, told_once}
+use Rattle.batch.proofs.Trying.{tries_of, waits_on}
 use Rattle.batch.proofs.entering.decided.Goals as goal
 
 pub loop-tries-init : goal.loop-tries-init
 loop-tries-init g c = ([], adds_none _, (refl, refl))
 
-pub returns-in-Err-clause-err : goal.returns-in-Err-clause-err
-returns-in-Err-clause-err g c =
-    asks_last c.args.receiver c.args.id c.in-Err.fault c.loop-tries.tries (c.loop-tries.tries / 32)
-    _ _ _ (Err c.in-Err.fault) (inl refl) c.loop-tries.invariant
-    (told_of _ _ _ (ask_of c.args.receiver c.args.id) (Err c.in-Err.fault)
-    c.request_to-ask.ensures c.in-Err.ensures.told)
+pub returns-in_err-told-clause-err : goal.returns-in_err-told-clause-err
+returns-in_err-told-clause-err g c =
+    let f = c.in_err-told.field-0.0 in
+    fails_by _ c.from_residual.result f (search rules)
+    (asks_failed c.args.receiver c.args.id f c.loop-tries.tries (c.loop-tries.tries / 32) _ _ _
+    (Err f) refl c.loop-tries.invariant
+    (told_of _ _ _ (ask_of c.args.receiver c.args.id) (Err f) c.request_to-ask.ensures
+    c.in_err-told.ensures.told))
 
 pub returns-in-Decided-clause-ok : goal.returns-in-Decided-clause-ok
 returns-in-Decided-clause-ok g c =
     let ask = ask_of c.args.receiver c.args.id in
-    awaits c.args.receiver c.args.id _ _ _ c.in-Ok.told
+    awaits c.args.receiver c.args.id _ _ _ c.in_ok-told.told
     (tries_of (IsWaiting ask) (IsTicked c.args.receiver) c.loop-tries.tries
     (c.loop-tries.tries / 32) _ _ c.loop-tries.invariant)
-    (told_of _ _ _ ask (Ok c.in-Ok.told) c.request_to-ask.ensures c.in-Ok.ensures.told)
+    (told_of _ _ _ ask (Ok c.in_ok-told.told) c.request_to-ask.ensures c.in_ok-told.ensures.told)
     (c.fate_of.ensures.decided c.in-Decided.is)
 
 pub returns-in-Unknown-clause-err : goal.returns-in-Unknown-clause-err
 returns-in-Unknown-clause-err g c =
-    asks_last c.args.receiver c.args.id fault.Lost c.loop-tries.tries (c.loop-tries.tries / 32)
-    _ _ _ (Ok c.in-Ok.told) (inr refl) c.loop-tries.invariant
-    (told_of _ _ _ (ask_of c.args.receiver c.args.id) (Ok c.in-Ok.told) c.request_to-ask.ensures
-    c.in-Ok.ensures.told)
+    asks_lost c.args.receiver c.args.id c.loop-tries.tries (c.loop-tries.tries / 32) _ _ _
+    c.in_ok-told.told (c.fate_of.ensures.unknown c.in-Unknown.is) c.loop-tries.invariant
+    (told_of _ _ _ (ask_of c.args.receiver c.args.id) (Ok c.in_ok-told.told)
+    c.request_to-ask.ensures c.in_ok-told.ensures.told)
 
-pub returns-in-Err-rest_behind-clause-err : goal.returns-in-Err-rest_behind-clause-err
-returns-in-Err-rest_behind-clause-err g c =
+pub returns-in_err-rest_behind-clause-err : goal.returns-in_err-rest_behind-clause-err
+returns-in_err-rest_behind-clause-err g c =
     let r = c.args.receiver in
     let ask = ask_of r c.args.id in
-    let f = c.in-Err-rest_behind.fault in
-    tick_last (IsWaiting ask) r ask c.loop-tries.tries (c.loop-tries.tries / 32) _ _ _ _
-    (asked_so ask (Ok c.in-Ok.told)) f (EndsWaiting f r c.args.id) (put_off_for r ask)
+    let f = c.in_err-rest_behind.field-0.0 in
+    fails_by _ c.from_residual-in_err-rest_behind.result f (search rules)
+    (tick_last (IsWaiting ask) r ask c.loop-tries.tries (c.loop-tries.tries / 32) _ _ _ _
+    (asked_so ask (Ok c.in_ok-told.told)) f (Ends r c.args.id f) (put_off_for r ask)
     (tick_last_asked r c.args.id f) c.loop-tries.invariant
-    (told_of _ _ _ ask (Ok c.in-Ok.told) c.request_to-ask.ensures c.in-Ok.ensures.told) (
+    (told_of _ _ _ ask (Ok c.in_ok-told.told) c.request_to-ask.ensures c.in_ok-told.ensures.told) (
       refl,
       (
-        subst (λ (q : Frame). IsAnswer q c.in-Ok.told) c.request_to-ask.ensures
-            c.in-Ok.ensures.answered,
+        subst (λ (q : Frame). IsAnswer q c.in_ok-told.told) c.request_to-ask.ensures
+            c.in_ok-told.ensures.answered,
         c.fate_of.ensures.waits c.in-Waits.is,
       ),
     )
-    c.in-Err-rest_behind.ensures.err
+    c.in_err-rest_behind.ensures.err)
 
 pub loop-tries-preserved : goal.loop-tries-preserved
 loop-tries-preserved g c =
     let ask = ask_of c.args.receiver c.args.id in
     goes_on (IsWaiting ask) c.args.receiver c.loop-tries.tries _ _ _ _
-    (asked_so ask (Ok c.in-Ok.told)) c.loop-tries.invariant
-    (told_of _ _ _ ask (Ok c.in-Ok.told) c.request_to-ask.ensures c.in-Ok.ensures.told) (
+    (asked_so ask (Ok c.in_ok-told.told)) c.loop-tries.invariant
+    (told_of _ _ _ ask (Ok c.in_ok-told.told) c.request_to-ask.ensures c.in_ok-told.ensures.told) (
       refl,
       (
-        subst (λ (q : Frame). IsAnswer q c.in-Ok.told) c.request_to-ask.ensures
-            c.in-Ok.ensures.answered,
+        subst (λ (q : Frame). IsAnswer q c.in_ok-told.told) c.request_to-ask.ensures
+            c.in_ok-told.ensures.answered,
         c.fate_of.ensures.waits c.in-Waits.is,
       ),
     )
-    c.in_default.ensures.ok
+    c.in_ok-rest_behind.ensures.ok
 
 pub returns-clause-err : goal.returns-clause-err
 returns-clause-err g c =

@@ -2,7 +2,7 @@ use Rattle.std.proofs.Common.{◌/◌}
 use Rattle.batch.specs.Asking.{Asks, Counts, IsTicked, IsWaiting, ask_of}
 use Rattle.batch.proofs.entering.decided.Given as goal
 
--- the command wasn't decided each time, and the desk was ticked behind every 32nd
+-- the command wasn't decided each time, and the desk was ticked after every 32nd
 abbrev pub invariant-loop-tries : goal.invariant-loop-tries
 invariant-loop-tries g l =
     Asks (g.A.Ask.asked l.initial.desk) (g.A.Ask.asked l.desk)

@@ -1,17 +1,19 @@
-use Rattle.std.proofs.Common.{◌≡◌, ◌∙◌, inr, ap, []}
+use Rattle.std.proofs.Common.{◌≡◌, ◌∙◌, inr, ap, [], rules}
 use Rattle.acceptor.specs.declared.entry.Entry.{Entry}
 use Rattle.wire.specs.declared.frame.What.TheVariants as what
 use Rattle.batch.specs.Asking.{request_to}
-use Rattle.batch.proofs.Trying.{adds_none, if_asks_text}
+use Rattle.batch.proofs.Trying.{adds_none, fails_by, if_asks_text}
 use Rattle.batch.proofs.entering.submitted.Goals as goal
 
-pub returns-in-Err-clause-err : goal.returns-in-Err-clause-err
-returns-in-Err-clause-err g c = ([], adds_none _, (tt, inr c.in-Err.ensures.other))
+pub returns-in_err-entry-clause-err : goal.returns-in_err-entry-clause-err
+returns-in_err-entry-clause-err g c =
+    fails_by _ c.from_residual.result c.in_err-entry.field-0.0 (search rules)
+    ([], adds_none _, (tt, inr c.in_err-entry.ensures.other))
 
 pub returns-clause-err : goal.returns-clause-err
 returns-clause-err g c =
     if_asks_text c.args.receiver c.args.id c.args.text.now c.request_to-submit.result _ _
     c.asked_until_taken.result
     (c.request_to-submit.ensures
-    ∙ ap (λ (e : Entry). request_to c.args.receiver (what.Submit e)) c.in-Ok.ensures.made)
+    ∙ ap (λ (e : Entry). request_to c.args.receiver (what.Submit e)) c.in_ok-entry.ensures.made)
     c.asked_until_taken.ensures.err

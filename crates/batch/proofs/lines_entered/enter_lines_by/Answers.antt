@@ -1,24 +1,28 @@
-use Rattle.std.proofs.Common.{◌∙◌, subst, refl, ◌+◌, ◌++◌}
+use Rattle.std.proofs.Common.{◌∙◌, subst, refl, ◌+◌, ◌++◌, rules}
 use Rattle.client.specs.Printing.{reply_text}
 use Rattle.batch.specs.Asking.{Asks}
 use Rattle.batch.specs.Entering.{EnteredBy, IsEntered, IsSaid}
 use Rattle.batch.specs.declared.fault.BatchFault.TheVariants as fault
 use Rattle.batch.proofs.Asked.{asks_all, asks_at, asks_in, made_more}
 use Rattle.batch.proofs.Entered.{front_read, gives_false, gives_true, one_more}
+use Rattle.batch.proofs.Trying.{fails_by}
 use Rattle.batch.proofs.lines_entered.enter_lines_by.Goals as goal
 
-pub returns-in-Err-enter_line-clause-err : goal.returns-in-Err-enter_line-clause-err
-returns-in-Err-enter_line-clause-err g c =
+pub returns-in_err-enter_line-in-Ok-true-clause-err :
+    goal.returns-in_err-enter_line-in-Ok-true-clause-err
+returns-in_err-enter_line-in-Ok-true-clause-err g c =
     let i = c.loop-desk.invariant in
     let line = gives_true c.in-Ok-true.field-0 c.read_line.new.self c.read_line.new.line.items i.0
     (g.R.Read.remaining c.args.reader.now) (g.R.Read.remaining c.read_line.new.reader)
     c.in-Ok-true.field-0-test (c.in-Ok-true.ensures i.0 _ i.3.read) in
-    let part = c.in-Err-enter_line.ensures.err in
-    asks_in g.A.Ask.fails c.in-Err-enter_line.fault c.args.batch c.loop-desk.lines
-    c.read_line.new.self c.read_line.new.line.items c.deref.result.now i.0 i.1 part.0 i.2
-    c.count-number.result _ _ _ _ _ _ _ _ _ i.3 line part.1 part.2 i.4
+    let part = c.in_err-enter_line-in-Ok-true.ensures.err in
+    let f = c.in_err-enter_line-in-Ok-true.field-0.0 in
+    fails_by _ c.from_residual.result f (search rules)
+    (asks_in g.A.Ask.fails f c.args.batch c.loop-desk.lines c.read_line.new.self
+    c.read_line.new.line.items c.deref.result.now i.0 i.1 part.said i.2 c.count-number.result _ _
+    _ _ _ _ _ _ _ i.3 line part.written part.stops i.4
     (c.count-number.ensures ∙ i.3.read.lines) c.deref.ensures.value
-    c.in-Err-enter_line.ensures.asked
+    c.in_err-enter_line-in-Ok-true.ensures.asked)
 
 pub loop-desk-preserved : goal.loop-desk-preserved
 loop-desk-preserved g c =
@@ -27,12 +31,12 @@ loop-desk-preserved g c =
     (g.R.Read.remaining c.args.reader.now) (g.R.Read.remaining c.read_line.new.reader)
     c.in-Ok-true.field-0-test (c.in-Ok-true.ensures i.0 _ i.3.read) in
     let b = c.args.batch in
-    let entered = c.in_default.ensures.ok in
-    let last = entered.0 in
+    let entered = c.in_ok-enter_line-in-Ok-true.ensures.ok in
+    let last = entered.last in
     let is : IsEntered b.waits b.receiver (b.first_id + c.count-number.result)
     c.read_line.new.line.items last =
     subst (λ text. IsEntered b.waits b.receiver (b.first_id + c.count-number.result) text last)
-    c.deref.ensures.value entered.1 in
+    c.deref.ensures.value entered.entered in
     let said : IsSaid b (b.first_id + c.loop-desk.lines.lines) c.read_line.new.line.items
     (reply_text last) =
     subst (λ n. IsSaid b (b.first_id + n) c.read_line.new.line.items (reply_text last))
@@ -42,12 +46,12 @@ loop-desk-preserved g c =
     c.read_line.new.line.items last) =
     subst (λ text. Asks (g.A.Ask.asked c.loop-desk.desk) (g.A.Ask.asked c.enter_line.new.desk)
     (EnteredBy b.waits b.receiver (b.first_id + c.count-number.result) text last))
-    c.deref.ensures.value entered.2 in (
+    c.deref.ensures.value entered.asked in (
       i.0 ++ line.more,
       i.1 ++ reply_text last,
       i.2 ++ asked.0,
       one_more b c.loop-desk.lines c.read_line.new.self c.read_line.new.line.items i.0 i.1
-          (reply_text last) _ _ _ _ _ _ i.3 line said entered.3,
+          (reply_text last) _ _ _ _ _ _ i.3 line said entered.written,
       made_more b c.read_line.new.self c.read_line.new.line.items i.0 i.1 last i.2
           c.count-number.result _ _ _ _ _ i.4 line (c.count-number.ensures ∙ i.3.read.lines) asked,
     )

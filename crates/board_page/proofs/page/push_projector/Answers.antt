@@ -1,4 +1,4 @@
-use Rattle.std.proofs.Common.{codes}
+use Rattle.std.proofs.Common.{codes, refl}
 use Rattle.board_page.specs.Escaped.{escaped}
 use Rattle.board_page.specs.Page.{end, projector, projector_start, status}
 use Rattle.board_page.proofs.Steps.{six_parts}
@@ -8,8 +8,8 @@ pub returns : goal.returns
 unfolding projector
 returns c =
     let shown = c.in_ok-push_sheets.ensures in (
-      shown.0,
-      shown.1,
+      projector c.args.refresh.now (status c.args.class.now c.args.text.now) shown.0,
+      (shown.0, shown.1, refl),
       six_parts c.args.out.now.items projector_start (escaped c.args.refresh.now)
           (codes "\">\n</head>\n<body class=\"hall\"><main>\n")
           (status c.args.class.now c.args.text.now) shown.0 end _ _ _ _ _ _

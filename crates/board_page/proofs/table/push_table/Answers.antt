@@ -1,4 +1,5 @@
-use Rattle.std.proofs.Common.{◌≡◌, ◌++◌, ◌∷◌, ◌∙◌, List, OnOk, ap, codes, drop, flat_map, map, subst, sym}
+use Rattle.std.proofs.Common.{◌≡◌, ◌++◌, ◌∷◌, ◌∙◌, List, OnOk, ap, codes, drop, flat_map, map}
+use Rattle.std.proofs.Common.{subst, sym}
 use Rattle.csv.specs.Records.{Row, fields_of}
 use Rattle.board_page.specs.Table.{headings, line, table}
 use Rattle.board_page.proofs.Steps.{first_and_rest, no_items, rest_whole, three_parts, when_ok}

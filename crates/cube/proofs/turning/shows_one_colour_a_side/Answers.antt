@@ -1,4 +1,5 @@
-use Rattle.std.proofs.Common.{IsTrue, ◌≡◌, Bool, true, false, not, refl, sym, ◌∙◌, rules, arith, below_more}
+use Rattle.std.proofs.Common.{IsTrue, ◌≡◌, Bool, true, false, not, refl, sym, ◌∙◌, rules, arith}
+use Rattle.std.proofs.Common.{below_more}
 use denote.Enum.Bare.{same_true, same_false}
 use Rattle.cube.specs.contracts.moves.Colour.{the_type}
 use Rattle.cube.proofs.Solved.{solved_from, one_colour_from}

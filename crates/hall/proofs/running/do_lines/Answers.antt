@@ -1,7 +1,8 @@
 use Rattle.std.proofs.Common.{◌++◌, [], List, ℕ, refl, subst}
 use Rattle.std.proofs.KnownBytes.{Appends-nil}
 use Rattle.hall.specs.model.Running.{HandlesLine}
-use Rattle.hall.proofs.Ran.{gives_true, does_it, leaves_it, one_more, forgotten, unwritten, ended, ended_bad}
+use Rattle.hall.proofs.Ran.{gives_true, does_it, leaves_it, one_more, forgotten, unwritten, ended}
+use Rattle.hall.proofs.Ran.{ended_bad}
 use Rattle.hall.proofs.running.do_lines.Goals as goal
 
 pub returns-in_default-clause-err : goal.returns-in_default-clause-err

@@ -1,5 +1,6 @@
 use Rattle.hall_laws.proofs.Calls.{answer_is_event, openings_are_restarts}
-use Rattle.hall_laws.proofs.Stopping.{stops_make_a_run as law, real_logs_agree, real_entries_are_submitted}
+use Rattle.hall_laws.proofs.Stopping.{stops_make_a_run as law, real_logs_agree}
+use Rattle.hall_laws.proofs.Stopping.{real_entries_are_submitted}
 use Rattle.hall_laws.proofs.stops.stops_make_a_run.Goals as goal
 
 pub returns-clause-run : goal.returns-clause-run

@@ -1,7 +1,8 @@
 use Rattle.learner.proofs.Runs.{after_sound}
 use Rattle.learner.proofs.Origins.{contents_stand}
 use Rattle.learner.proofs.InRange.{messages_are_in_range, desks_are_in_range}
-use Rattle.learner.proofs.Parts.{has_one_entry, votes_stand, promises_stand, accepts_are_backed, decisions_are_chosen, roles_stand}
+use Rattle.learner.proofs.Parts.{has_one_entry, votes_stand, promises_stand, accepts_are_backed}
+use Rattle.learner.proofs.Parts.{decisions_are_chosen, roles_stand}
 use Rattle.learner.proofs.laws.invariant.Goals as goal
 
 pub returns-clause-sound : goal.returns-clause-sound

@@ -1,6 +1,7 @@
 use Rattle.std.proofs.Common.{◌≢◌, [], sym, ◌∙◌, subst}
 use Rattle.notation.specs.Notation.{Spells, IsTooMany}
-use Rattle.notation.proofs.Scanning.{told_moves, told_bad, told_many, told_empty, reads_as, spells_scan, bad_scan, many_scan, empty_spells, empty_many}
+use Rattle.notation.proofs.Scanning.{told_moves, told_bad, told_many, told_empty, reads_as}
+use Rattle.notation.proofs.Scanning.{spells_scan, bad_scan, many_scan, empty_spells, empty_many}
 use Rattle.notation.proofs.Steps.{empty_from, some_from}
 use Rattle.notation.proofs.reading.read.Goals as goal
 

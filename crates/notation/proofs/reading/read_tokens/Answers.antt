@@ -1,7 +1,9 @@
-use Rattle.std.proofs.Common.{◌+◌, ◌-◌, ◌∙◌, sym, ap, [], ◌∷◌, ◌++◌, length, take, drop, inl, Ok, arith, length-drop}
+use Rattle.std.proofs.Common.{◌+◌, ◌-◌, ◌∙◌, sym, ap, [], ◌∷◌, ◌++◌, length, take, drop, inl, Ok}
+use Rattle.std.proofs.Common.{arith, length-drop}
 use Rattle.notation.specs.model.Scan.{space_len, behind_spaces, move_named, scan}
 use Rattle.notation.proofs.Joined.{with_moves}
-use Rattle.notation.proofs.Steps.{empty_from, some_from, read_none, read_last, read_more, read_end, read_too_many}
+use Rattle.notation.proofs.Steps.{empty_from, some_from, read_none, read_last, read_more, read_end}
+use Rattle.notation.proofs.Steps.{read_too_many}
 use Rattle.notation.proofs.reading.read_tokens.Goals as goal
 
 pub returns-in_default : goal.returns-in_default

@@ -18,8 +18,8 @@ returns g c =
           (appended_bytes old c.read_to_end.new.buf.items))
           c.new-text.ensures.items c.in_ok-read_to_end.ensures.none_lost,
       subst
-          (λ (text : List ℕ). IsSheetOf c.args.anchor.now c.args.title.now c.args.position.now text
-          made.0)
+          (λ (text : List ℕ). IsSheetOf c.args.labels.now.anchor.now c.args.labels.now.title.now
+          c.args.labels.now.position.now text made.0)
           read made.1,
       subst
           (λ (text : List ℕ). Appends (g.W.Write.contents c.args.writer.now)

@@ -1,5 +1,5 @@
 use Rattle.std.proofs.Common.{ap}
-use Rattle.learner.specs.declared.event.Event.TheVariants.{Submit, Start, Tick, Deliver}
+use Rattle.learner.specs.declared.event.DeskEvent.TheVariants.{Submit, Start, Tick, Deliver}
 use Rattle.learner.specs.Steps.{step}
 use Rattle.roles.specs.model.RunningDesks.{RunningDesk}
 use Rattle.replica.proofs.Taking.{takes_refused, takes_as, left_as}
@@ -28,7 +28,7 @@ returns-in-Start-clause-left g c down honest =
     rw c.in-Start.is
     (left_as x c.start-planned.new.self c.start-planned.result (step x.desks x.number x.desk Start)
     _ _ s.same (record { plan = s.plan; refused = s.refused })
-    (λ t p. c.carry_out.ensures.left t p down honest))
+    (λ t p. c.carry_out.ensures.left down t p honest))
 
 pub returns-in-Tick-clause-takes : goal.returns-in-Tick-clause-takes
 returns-in-Tick-clause-takes g c =
@@ -45,7 +45,7 @@ returns-in-Tick-clause-left g c down honest =
     rw c.in-Tick.is
     (left_as x c.tick-planned.new.self c.tick-planned.result (step x.desks x.number x.desk Tick) _ _
     s.same (record { plan = s.plan; refused = s.refused })
-    (λ t p. c.carry_out-in-Tick.ensures.left t p down honest))
+    (λ t p. c.carry_out-in-Tick.ensures.left down t p honest))
 
 pub returns-in-Deliver-clause-takes : goal.returns-in-Deliver-clause-takes
 returns-in-Deliver-clause-takes g c =
@@ -64,4 +64,4 @@ returns-in-Deliver-clause-left g c down honest =
     (left_as x c.plan_message-planned.new.desk c.plan_message-planned.result
     (step x.desks x.number x.desk (Deliver c.in-Deliver.message)) _ _ s.same
     (record { plan = s.plan; refused = s.refused })
-    (λ t p. c.carry_out-in-Deliver.ensures.left t p down honest))
+    (λ t p. c.carry_out-in-Deliver.ensures.left down t p honest))

@@ -6,7 +6,8 @@ use Rattle.serve.proofs.running.serve_node.Goals as goal
 pub returns-in-Err-tell_last-clause-err : goal.returns-in-Err-tell_last-clause-err
 returns-in-Err-tell_last-clause-err g c =
     last_cut _ _ _ c.in-Err-tell_last.fault c.serve_all-served.result _
-    c.in-Err-tell_last.ensures.fault c.serve_all-served.ensures.served (told_first _ _ _ _ _ _ c.home.ensures.home
+    c.in-Err-tell_last.ensures.fault c.serve_all-served.ensures.served
+    (told_first _ _ _ _ _ _ c.home.ensures.home
     (c.len.ensures.len ∙ ap length c.log.ensures.entries) c.in_default.ensures.ok)
     c.in-Err-tell_last.ensures.err
 
@@ -15,7 +16,8 @@ returns-clause-ok g c =
     ends_well _ _ _ c.serve_all-served.result.connections c.serve_all-served.result.end _
     c.serve_all-served.ensures.served
     (Appends-trans _ _ _ _ _ (told_first _ _ _ _ _ _ c.home.ensures.home
-    (c.len.ensures.len ∙ ap length c.log.ensures.entries) c.in_default.ensures.ok) c.in_default-tell_last.ensures.ok)
+    (c.len.ensures.len ∙ ap length c.log.ensures.entries) c.in_default.ensures.ok)
+    c.in_default-tell_last.ensures.ok)
     c.told_end.ensures
 
 pub returns-clause-err : goal.returns-clause-err
@@ -23,5 +25,6 @@ returns-clause-err g c =
     ends_ill _ _ _ c.serve_all-served.result.connections c.serve_all-served.result.end _
     c.serve_all-served.ensures.served
     (Appends-trans _ _ _ _ _ (told_first _ _ _ _ _ _ c.home.ensures.home
-    (c.len.ensures.len ∙ ap length c.log.ensures.entries) c.in_default.ensures.ok) c.in_default-tell_last.ensures.ok)
+    (c.len.ensures.len ∙ ap length c.log.ensures.entries) c.in_default.ensures.ok)
+    c.in_default-tell_last.ensures.ok)
     c.told_end.ensures

@@ -12,4 +12,5 @@ returns c =
     (line_of_row
     (unit_of c.args.shown.event) c.args.shown.meet.now.accepted c.args.shown.settings
     c.args.shown.table.now c.args.number is.0 c.in-Some.row _ _ _ _ is.1 c.unit_of-unit.ensures
-    c.attempts_of.ensures.value (c.is_marked-marked.ensures c.args.number is.0 is.1) c.name_text.ensures)
+    c.attempts_of.ensures.value
+    (c.is_marked-marked.ensures c.args.number is.0 is.1) c.name_text.ensures)

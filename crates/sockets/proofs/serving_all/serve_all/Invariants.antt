@@ -1,6 +1,6 @@
 use Rattle.std.proofs.Common.{◌≡◌, List, ◌-◌}
 use Rattle.serving.specs.Making.{speaking, spoken}
-use Rattle.sockets.specs.Visits.{Visit, standing_of}
+use Rattle.sockets.specs.Visits.{Visit, at_rest}
 use Rattle.sockets.proofs.Visiting.{SoFar}
 use Rattle.sockets.proofs.serving_all.serve_all.Given as goal
 
@@ -13,8 +13,8 @@ invariant-loop-connections g l =
       home : d.home_of l.node ≡ d.home_of l.initial.node;
       so_far : (each : List Visit)
           × SoFar (d.home_of l.initial.node) l.most l.connections
-          (standing_of way d.seen l.initial.node (g.P.Peers.handed l.initial.peers))
-          (standing_of way d.seen l.node (g.P.Peers.handed l.peers))
+          (at_rest way d.seen l.initial.node (g.P.Peers.handed l.initial.peers))
+          (at_rest way d.seen l.node (g.P.Peers.handed l.peers))
           (g.A.Accept.listened l.initial.listener) (g.A.Accept.listened l.listener) each;
     }
 

@@ -2,6 +2,7 @@ use Rattle.std.proofs.Common.{inl, inr}
 use Rattle.std.proofs.lemmas.Result.{IfOk-weaker}
 use Rattle.sqlite.specs.Held.{state}
 use Rattle.store.proofs.Queries.{log_shown, log_spares, log_commits}
+use Rattle.store.proofs.Refusing.{asked}
 use Rattle.store.proofs.reading.log_rows.Goals as goal
 
 pub returns-clause-rows : goal.returns-clause-rows
@@ -39,3 +40,8 @@ returns-clause-sorted g c clean ours =
     (log_shown (state g.S.Store c.args.conn.now) (state g.S.Store c.query_all.new.self) rows.items
     ours h).2)
     (c.query_all.ensures.ok clean)
+
+pub returns-clause-asked : goal.returns-clause-asked
+returns-clause-asked g c clean =
+    asked _ _ (state g.S.Store c.args.conn.now) (state g.S.Store c.query_all.new.self)
+    c.query_all.result (c.query_all.ensures.ok clean) (c.query_all.ensures.err clean)

@@ -13,7 +13,8 @@ returns-clause-same g c clean =
     let end = c.rollback.new.self.0 in
     let same : end ≡ c.conn-1.given.0 = search rules in
     let late : HasCleanDisk (state g.S.Store end) = search rules in
-    let clean1 : HasCleanDisk (state g.S.Store read) = omega (arith, c.rollback.ensures.survives.clean) in
+    let clean1 : HasCleanDisk (state g.S.Store read) = omega
+    (arith, c.rollback.ensures.survives.clean) in
     let row = (rw c.transaction-reading.ensures.begun at (c.query_row-row.ensures.row clean1)) in
     let undone = c.rollback.ensures.undone late in
     subst (λ h. IsBack old (state g.S.Store h)) same

@@ -25,4 +25,5 @@ returns c =
       goes = search rules;
     } in
     let read = rw take_rest at c.in_ok-what.ensures in
-    rw c.from_be_bytes-hall.ensures (good_read c.in-Some.version c.args.bytes.now c.in_ok-what.what good read)
+    rw c.from_be_bytes-hall.ensures
+    (good_read c.in-Some.version c.args.bytes.now c.in_ok-what.what good read)

@@ -1,5 +1,6 @@
 use Rattle.std.proofs.Common.{Result, Ok, Err, OnErr, ◌∙◌}
-use Rattle.commands.proofs.Registrations.{AreCompetitors-register, AreCompetitors-same, names_put, untaken}
+use Rattle.commands.proofs.Registrations.{AreCompetitors-register, AreCompetitors-same, names_put}
+use Rattle.commands.proofs.Registrations.{untaken}
 use Rattle.commands.proofs.competitors.Competitors.add.Goals as goal
 
 on_err : {T E P : Type 0} (r : Result T E) → P → OnErr r P

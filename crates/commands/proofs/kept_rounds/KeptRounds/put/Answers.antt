@@ -1,27 +1,17 @@
-use Rattle.std.proofs.Common.{refl, sym}
-use Rattle.commands.proofs.KeptLemmas.{round_changed_to, refused_unfit, kept_is}
-use Rattle.commands.proofs.Units.{outcome_fits}
+use Rattle.std.proofs.Common.{refl}
+use Rattle.std.specs.Option.{option_copied}
+use Rattle.commands.proofs.SettledLemmas.{changed, value_is}
 use Rattle.commands.proofs.kept_rounds.KeptRounds.put.Goals as goal
 
-pub returns-in-Some-refusal-clause-code : goal.returns-in-Some-refusal-clause-code
-returns-in-Some-refusal-clause-code c =
-    refused_unfit _ _ _ _ _ _ (rw c.deref.ensures.value at c.in-Some.ensures.there)
-    (sym c.in-Some-refusal.ensures)
-
-pub returns-in-Ok-clause-done : goal.returns-in-Ok-clause-done
-returns-in-Ok-clause-done c =
-    let id = c.args.entry.now.id in
-    round_changed_to c.args.self.now.opened.items id.event id.round c.in-Some.place
-    c.index_mut-kept.result.now _ _ (rw c.deref.ensures.value at c.in-Some.ensures)
-    c.index_mut-kept.ensures.value refl refl refl
-    (rw (c.in-Ok.ensures.put, c.settle-value.ensures.value, c.outcome_of.ensures.value) refl)
-
-pub put-requires : goal.put-requires
-put-requires c =
-    let id = c.args.entry.now.id in
-    c.settle-value.ensures.in_range c.index_mut-kept.result.now.table.unit
-    (outcome_fits id.event _ c.args.entry.now.outcome _ _ _ c.requires.unit
-    (kept_is c.args.self.now.opened.items id.event id.round c.in-Some.place
-    c.index_mut-kept.result.now (rw c.deref.ensures.value at c.in-Some.ensures)
-    c.index_mut-kept.ensures.value)
-    c.in_default-refusal.ensures c.outcome_of.ensures.of_unit)
+pub returns-in-Ok-put-clause-done : goal.returns-in-Ok-put-clause-done
+returns-in-Ok-put-clause-done c =
+    let found = c.in-Ok.found in
+    changed c.args.entry.now (option_copied c.args.scramble) c.args.self.now found.0 found.1
+    c.in-Ok.ensures.settled c.index_mut-kept.result.now c.index_mut-kept.ensures.value _ _ refl
+    refl refl
+    (rw (
+      c.in-Ok-put.ensures.put,
+      value_is c.args.entry.now (option_copied c.args.scramble) c.args.self.now found.0 found.1
+          c.in-Ok.ensures.settled c.index_mut-kept.result.now c.index_mut-kept.ensures.value,
+    )
+    refl)

@@ -1,4 +1,5 @@
-use Rattle.std.proofs.Common.{◌≡◌, ◌<◌, ℕ, Bool, false, true, ◌++◌, ◌∷◌, [], Result, Ok, Err, is_some, nat_eq, length, sym, ◌∙◌, subst, arith, IsOk, OnOk}
+use Rattle.std.proofs.Common.{◌≡◌, ◌<◌, ℕ, Bool, false, true, ◌++◌, ◌∷◌, [], Result, Ok, Err}
+use Rattle.std.proofs.Common.{is_some, nat_eq, length, sym, ◌∙◌, subst, arith, IsOk, OnOk}
 use Rattle.std.proofs.lemmas.Grind.{common_steps}
 use Rattle.std.specs.HashMap.{get, spare}
 use Rattle.learner.proofs.Positions.{indexed_again, indexed_new}

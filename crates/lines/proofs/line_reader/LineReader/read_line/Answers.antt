@@ -1,8 +1,10 @@
-use Rattle.std.proofs.Common.{rules, ◌≡◌, sym, true, false, length, ◌==◌, ◌++◌, ◌∷◌, [], Err, subst, arith}
+use Rattle.std.proofs.Common.{rules, ◌≡◌, sym, true, false, length, ◌==◌, ◌++◌, ◌∷◌, [], Err, subst}
+use Rattle.std.proofs.Common.{arith}
 use Rattle.std.proofs.lemmas.Bool.Decides.{nat_tests}
 use Rattle.lines.specs.declared.fault.RunFault.TheVariants as run_fault
 use Rattle.lines.specs.Reading.{has_room, Gives, IsBroken}
-use Rattle.lines.proofs.Given.{Midway, byte_is, is_above, ends_line, goes_on, starves, room_lines, is_broken, ends_within}
+use Rattle.lines.proofs.Given.{Midway, byte_is, is_above, ends_line, goes_on, starves, room_lines}
+use Rattle.lines.proofs.Given.{is_broken, ends_within}
 use Rattle.lines.proofs.Runs.{run_on, still_going}
 use Rattle.lines.proofs.line_reader.LineReader.read_line.Goals as goal
 
@@ -85,7 +87,7 @@ returns-in_err-byte g c = λ given start h.
     (g.R.Read.remaining c.next_byte.new.reader) =
     is_broken c.take_run.new.self c.take_run.new.line.items given start
     (g.R.Read.remaining c.loop-self.reader) (g.R.Read.remaining c.next_byte.new.reader) m
-    c.in_err-byte.ensures.err.1 c.in_err-byte.ensures.err.2 in
+    c.in_err-byte.ensures.held c.in_err-byte.ensures.kept in
     let is : c.from_residual-in_err-byte.result ≡ Err run_fault.Read = search rules in
     subst
     (λ r. Gives r c.next_byte.new.self c.take_run.new.line.items given start

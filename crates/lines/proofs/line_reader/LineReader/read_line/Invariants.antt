@@ -3,7 +3,7 @@ use Rattle.lines.specs.Reading.{HasGiven}
 use Rattle.lines.proofs.Given.{Midway}
 use Rattle.lines.proofs.line_reader.LineReader.read_line.Given as goal
 
--- the bytes behind the lines that were given are those of the line so far
+-- the bytes after the lines that were given are those of the line so far
 abbrev pub invariant-loop-self : goal.invariant-loop-self
 invariant-loop-self g l = record {
   midway : (given : List ℕ) (start : Option (List ℕ))

@@ -1,4 +1,5 @@
-use Rattle.std.proofs.Common.{rules, ◌≡◌, ◌≤◌, ◌<◌, ◌+◌, ◌-◌, ◌++◌, List, ℕ, ◌∙◌, ap, sym, take, drop, drop-drop, length, slice_index, subst, arith}
+use Rattle.std.proofs.Common.{rules, ◌≡◌, ◌≤◌, ◌<◌, ◌+◌, ◌-◌, ◌++◌, List, ℕ, ◌∙◌, ap, sym, take}
+use Rattle.std.proofs.Common.{drop, drop-drop, length, slice_index, subst, arith}
 use Rattle.lines.specs.Reading.{Reading}
 use Rattle.lines.specs.model.Stepping.{IsRoomFor}
 use Rattle.lines.proofs.Runs.{held_front, takes}

@@ -1,5 +1,5 @@
 use Rattle.std.proofs.Common.{◌∙◌}
-use Rattle.learner.specs.declared.event.Event.TheVariants.{Deliver}
+use Rattle.learner.specs.declared.event.DeskEvent.TheVariants.{Deliver}
 use Rattle.roles.proofs.Steps.{delivery_is_step, if_ok_map}
 use Rattle.roles.proofs.running.Running.deliver.Goals as goal
 

@@ -5,4 +5,4 @@ use Rattle.rounds.proofs.entrants.Entrants.contains.Goals as goal
 pub returns : goal.returns
 returns c =
     rw (← c.self.view_is)
-    (c.contains_key.ensures ∙ sym (is_some_lookup c.args.number c.self.inside.standings.entries))
+    (c.contains_key.ensures ∙ sym (is_some_lookup c.args.number c.self.inside.by_number.entries))

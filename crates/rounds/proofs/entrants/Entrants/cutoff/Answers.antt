@@ -2,7 +2,7 @@ use Rattle.std.proofs.Common.{◌≤◌, false, length, refl}
 use Rattle.std.proofs.lemmas.List.Elements.{All-map}
 use Rattle.rounds.specs.Tables.{Entrant, allotted}
 use Rattle.rounds.specs.model.Field.{as_table}
-use Rattle.rounds.specs.model.Running.{field_of, entrant_of}
+use Rattle.rounds.specs.model.UpToDate.{field_of, entrant_of}
 use Rattle.rounds.proofs.Allotted.{met_in}
 use Rattle.rounds.proofs.entrants.Entrants.cutoff.Goals as goal
 
@@ -12,7 +12,7 @@ returns-clause-allotted c =
     (All-map
     (λ (e : Entrant).
     length e.values ≤ allotted c.self.inside.rules.format c.self.inside.rules.cutoff e.values)
-    entrant_of c.self.inside.standings.entries c.self.invariant.within)
+    entrant_of c.self.inside.by_number.entries c.self.invariant.within)
 
 pub returns-clause-met : goal.returns-clause-met
 returns-clause-met c =
@@ -22,4 +22,4 @@ returns-clause-met c =
     (All-map
     (λ (e : Entrant).
     length e.values ≤ allotted c.self.inside.rules.format c.self.inside.rules.cutoff e.values)
-    entrant_of c.self.inside.standings.entries c.self.invariant.within))
+    entrant_of c.self.inside.by_number.entries c.self.invariant.within))

@@ -5,4 +5,4 @@ pub returns : goal.returns
 returns c =
     rw (← c.self.view_is)
     (λ e at.
-    row_there c.self.inside.standings.entries c.args.index c.index.result.now e c.index.ensures at)
+    row_there c.self.inside.by_number.entries c.args.index c.index.result.now e c.index.ensures at)

@@ -8,7 +8,7 @@ returns-in-Ok-clause-opened g c clean = record {
       let all = c.in-Ok.ensures.found clean in (all.0, all.1, all.4, (refl, all.2, all.3, all.5));
   found = c.in-Ok.ensures.before clean;
   made =
-      λ bare. let all = c.in-Ok.ensures.made clean bare c.requires.autocommit in
+      λ bare. let all = c.in-Ok.ensures.made c.requires.autocommit clean bare in
       (refl, all.0, all.1, all.2);
   same = λ s log k. let all = c.in-Ok.ensures.same clean s log k in (refl, all.0, all.1, all.2);
 }

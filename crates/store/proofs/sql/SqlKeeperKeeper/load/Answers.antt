@@ -1,3 +1,4 @@
+use Rattle.std.proofs.Common.{rules}
 use Rattle.sqlite.specs.Held.{state}
 use Rattle.store.specs.model.Unique.{one_state, alone}
 use Rattle.store.proofs.Saving.{kept_unchanged}
@@ -29,4 +30,19 @@ returns-in-Ok-clause-loaded g c clean =
           let later = (c.read_all.ensures.spares clean).kept found.is_open home s log k.3 in
           one_state home home (state g.S.Store end).now.trees c.in-Ok.stored s c.in-Ok.log.entries
           log found.holds later.holds,
+    )
+
+pub returns-then-is_harmless-clause-more : goal.returns-then-is_harmless-clause-more
+returns-then-is_harmless-clause-more g c =
+    let short = c.is_harmless.ensures.memory c.if-is_harmless.true in
+    let is = c.in-Err-Sql.is in
+    let what = c.in-Err-Sql.field-0-is in (
+      λ down. search rules,
+      λ other. absurd cc,
+      λ other. absurd cc,
+      λ _ clean. (
+        c.read_all.new.conn,
+        c.read_all.ensures.memory (let e = is in cc) (c.is_harmless.ensures.clean clean),
+        c.is_harmless.ensures.same clean c.if-is_harmless.true,
+      ),
     )

@@ -24,7 +24,10 @@ pub returns-in-Some-fault-clause-refused : goal.returns-in-Some-fault-clause-ref
 returns-in-Some-fault-clause-refused c =
     let fed = c.in-Ok.ensures.read in
     let zero : vec_len c.in-Ok.received.frames ≡ 0 =
-    first_of (grind (arith, c.if-is_empty.ensures), omega (arith, eqb-true _ _ (sym c.if-is_empty.ensures))) in
+    first_of (
+      grind (arith, c.if-is_empty.ensures),
+      omega (arith, eqb-true _ _ (sym c.if-is_empty.ensures)),
+    ) in
     let empty : c.in-Ok.received.frames.items ≡ [] =
     nil_from_length c.in-Ok.received.frames.items (omega (arith, zero)) in
     rw (← c.self.view_is)

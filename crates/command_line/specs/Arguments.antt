@@ -1,0 +1,8 @@
+-- The arguments of a program.
+use Rattle.std.specs.Prelude.{List, map}
+use Rattle.std.specs.Borrow.{Bor}
+use Rattle.clap.specs.Words.{Text}
+
+-- the texts of borrowed arguments
+abbrev pub argument_texts : List (Bor Text) → List Text
+argument_texts given = map (λ text. text.now) given

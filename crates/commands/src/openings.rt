@@ -1,0 +1,100 @@
+//! How a round is opened: with those in it who advance from the one before.
+
+ghost use Rattle.std.specs.Prelude.{◌≡◌, ◌≤◌, ◌-◌, IfOk, OnOk, OnErr, None, length, nat_eq};
+ghost use Rattle.std.specs.List.{IsDistinct};
+ghost use Rattle.formats.specs.Events.{unit_of};
+ghost use Rattle.formats.specs.Results.{IsFormatOf};
+ghost use Rattle.rounds.specs.Tables.{IsCutoff, enter_fault, with_entrant};
+ghost use Rattle.texts.specs.Fields.{round_id};
+ghost use Rattle.commands.specs.Accepted.{who_advance};
+ghost use Rattle.commands.specs.model.Kept.{kept_by, table_opened, Opens};
+
+use crate::kept_rounds::{KeptRound, KeptRounds};
+use advancement::advancing;
+use attempts::NoMemory;
+use formats::{Event, unit_of};
+use rounds::{EnterFault, RoundTable};
+use std::alloc::{AllocError, Global};
+use texts::{RoundId, Settings};
+
+/// The round before a round. None is ever opened before the first.
+pub(crate) fn round_before(id: RoundId) -> RoundId
+    requires { 1 ≤ id.round }
+    ensures { result ≡ round_id id.event (id.round - 1) }
+{
+    RoundId {
+        event: id.event,
+        round: id.round - 1,
+    }
+}
+
+/// Enters a competitor whom nothing but want of memory keeps out.
+fn enter_next(table: &mut RoundTable, number: u16) -> Result<(), NoMemory>
+    requires { enter_fault table.old number ≡ None }
+    ensures { OnOk result (table.new ≡ with_entrant table.old number) }
+{
+    match table.enter(number) {
+        Ok(()) => Ok(()),
+        Err(EnterFault::NoMemory) => Err(AllocError),
+        Err(EnterFault::Closed | EnterFault::Already | EnterFault::Full) => unreachable!(),
+    }
+}
+
+/// A table into which these were entered, in order.
+fn table_with(
+    alloc: Global,
+    event: Event,
+    settings: Settings,
+    numbers: &[u16],
+) -> Result<RoundTable, NoMemory>
+    requires cutoff { IsCutoff settings.format settings.cutoff }
+    requires format { IsFormatOf (unit_of event) settings.format }
+    requires each_once { IsDistinct nat_eq numbers.now }
+    requires few { length numbers.now ≤ 999 }
+    ensures { IfOk result (λ table. table ≡ table_opened event settings numbers.now) }
+{
+    let mut table = RoundTable::new(alloc, settings.format, unit_of(event), settings.cutoff)?;
+    for number in numbers {
+        enter_next(&mut table, *number)?;
+    }
+    Ok(table)
+}
+
+/// Those who advance from a round, in order of its standings; nobody where it was not opened.
+fn who_advance(alloc: Global, rounds: &KeptRounds, id: RoundId) -> Result<Vec<u16>, NoMemory>
+    ensures order { IfOk result
+        (λ numbers. numbers.items ≡ who_advance (kept_by id rounds.now)) }
+    ensures each_once { IfOk result (λ numbers. IsDistinct nat_eq numbers.items) }
+    ensures few { IfOk result (λ numbers. length numbers.items ≤ 999) }
+{
+    match rounds.get(id) {
+        Some(kept) => advancing(alloc, &kept.table, kept.settings.advance),
+        None => Ok(Vec::new(alloc)),
+    }
+}
+
+impl KeptRounds {
+    /// Adds a round, with those in it who advance from the one before.
+    pub(crate) fn add(
+        &mut self,
+        alloc: Global,
+        id: RoundId,
+        settings: Settings,
+    ) -> Result<(), NoMemory>
+        requires cutoff { IsCutoff settings.format settings.cutoff }
+        requires format { IsFormatOf (unit_of id.event) settings.format }
+        requires round { 1 ≤ id.round }
+        ensures ok { OnOk result (Opens id settings self.old self.new) }
+        ensures err { OnErr result (self.new.opened.items ≡ self.old.opened.items) }
+    {
+        let numbers = who_advance(alloc, self, round_before(id))?;
+        let table = table_with(alloc, id.event, settings, &numbers)?;
+        self.opened.push(KeptRound {
+            id,
+            settings,
+            table,
+            scrambles: [None; 5],
+        })?;
+        Ok(())
+    }
+}

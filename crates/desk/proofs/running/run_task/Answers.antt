@@ -1,0 +1,39 @@
+use Rattle.std.proofs.Common.{inr, sym, subst, ap, ◌∙◌}
+use Rattle.std.proofs.KnownBytes.{Keeps-refl}
+use Rattle.desk.specs.Statuses.{Ends}
+use Rattle.errands.specs.Statuses.{status_of}
+use Rattle.desk.proofs.Endings.{prints_at_most}
+use Rattle.desk.proofs.running.run_task.Goals as goal
+
+pub returns-in-Err-write_stored_log-clause-ends : goal.returns-in-Err-write_stored_log-clause-ends
+returns-in-Err-write_stored_log-clause-ends g c =
+    let had = g.R.Read.remaining c.args.reader.now in
+    let old = g.W.Write.contents c.args.writer.now in
+    let new = g.W.Write.contents c.write_stored_log.new.writer in
+    let status = c.tell-in-Err-write_stored_log.result in
+    subst (λ t. Ends t status (record { had = had; left = had; old = old; new = new }))
+    (sym c.in-Log.is) (
+      Keeps-refl had,
+      inr (
+        c.in-Err-write_stored_log.fault,
+        c.tell-in-Err-write_stored_log.ensures ∙ ap status_of c.fault_of_log.ensures,
+        prints_at_most c.in-Err-write_stored_log.fault _ _ old new
+            c.in-Err-write_stored_log.ensures.fails c.in-Err-write_stored_log.ensures.err,
+      ),
+    )
+
+pub returns-in-Err-serve-clause-ends : goal.returns-in-Err-serve-clause-ends
+returns-in-Err-serve-clause-ends g c =
+    let had = g.R.Read.remaining c.args.reader.now in
+    let old = g.W.Write.contents c.args.writer.now in
+    let new = g.W.Write.contents c.serve.new.writer in
+    let status = c.tell-in-Err-serve.result in
+    subst (λ t. Ends t status (record { had = had; left = had; old = old; new = new }))
+    (sym c.in-Serve.is) (
+      Keeps-refl had,
+      inr (
+        c.in-Err-serve.fault,
+        c.tell-in-Err-serve.ensures ∙ ap status_of c.fault_of_serve.ensures,
+        c.in-Err-serve.ensures.err,
+      ),
+    )

@@ -1,0 +1,111 @@
+-- The keeper that is opened on a desk's files.
+use Rattle.std.proofs.Common.{◌≡◌, ◌⊎◌, inl, inr, ◌∙◌, refl, sym, ap, subst, List, [], Result, Ok}
+use Rattle.std.proofs.Common.{Err, IfOk, IfErr}
+use Rattle.sqlite.specs.Effect.{Database, IsDatabase}
+use Rattle.sqlite.specs.Recovery.{Image}
+use Rattle.sqlite.specs.Start.{FindsIn}
+use Rattle.sqlite.specs.State.{HasCleanDisk, State, Opens as IsFresh, IsLive}
+use Rattle.acceptor.specs.Storing.{first_stored}
+use Rattle.acceptor.specs.declared.entry.Entry.{Entry}
+use Rattle.acceptor.specs.declared.stored.Stored.{Stored}
+use Rattle.store.specs.Holding.{HasRow, Holds}
+use Rattle.store.specs.Kept.{HasOther, Keeps}
+use Rattle.store.specs.Layout.{no_schema}
+use Rattle.store.specs.Opening.{Opens, Refuses}
+use Rattle.store.specs.declared.fault.OpenFault.{OpenFault}
+use Rattle.store.specs.declared.fault.OpenFault.TheVariants.{WrongDesk}
+use Rattle.store.specs.declared.home.Home.{Home}
+use Rattle.store.specs.declared.keeper.Keeper.{Ghosts}
+use Rattle.desk_file.specs.Files.{HasNoTable, HeldBy, HeldOther, IsFirst, KeepsHeld, TellsOther}
+
+-- what a connection holds that is new is the last commit
+bare_before : (c : State) → IsFresh c → IsLive c → c.now.schema ≡ no_schema
+    → HasNoTable c.committed.trees
+bare_before c fresh live bare =
+    subst (λ schema. IsDatabase (record { schema = schema; trees = c.committed.trees }))
+    (ap (λ (d : Database). d.schema) (sym fresh.clean) ∙ bare) (live fresh.is_open).1
+
+held_before : (c : State) (home : Home) (s : Stored) (log : List Entry) → Keeps home s log c
+    → Holds home c.committed.trees s log
+held_before c home s log k =
+    subst (λ (d : Database). Holds home d.trees s log) k.settled k.holds
+
+-- what a keeper keeps that was opened over such a connection was held by the files
+held : (files : Image) (home : Home) (c : State) (keeps : Stored → List Entry → Type 0)
+    → (HasCleanDisk c → IsFresh c × IsLive c) → (HasCleanDisk c → FindsIn files c)
+    → Opens home c keeps
+    → (s : Stored) × (log : List Entry) × keeps s log × HeldBy files home s log
+held files home c keeps fresh found opens = from opens.found
+  where
+    new : IsFresh c × IsLive c
+    new = fresh opens.honest
+
+    by : (s : Stored) (log : List Entry)
+        → Holds home c.committed.trees s log ⊎ IsFirst c.committed.trees s log
+        → HeldBy files home s log
+    by s log state = record {
+      trees = c.committed.trees;
+      found = (found opens.honest).reads;
+      only = (found opens.honest).holds;
+      state = state;
+    }
+
+    from : (c.now.schema ≡ no_schema) ⊎ ((s : Stored) × (log : List Entry) × Keeps home s log c)
+        → (s : Stored) × (log : List Entry) × keeps s log × HeldBy files home s log
+    from (inl bare) = (
+      first_stored,
+      [],
+      opens.made bare,
+      by first_stored []
+          (inr (record { bare = bare_before c new.0 new.1 bare; state = refl; empty = refl })),
+    )
+    from (inr there) = (
+      there.0,
+      there.1,
+      opens.same there.0 there.1 there.2,
+      by there.0 there.1 (inl (held_before c home there.0 there.1 there.2)),
+    )
+
+pub opened_on : {K E : Type 0} (k : Ghosts K) (files : Image) (home : Home) (c : State)
+    (r : Result K E)
+    → (HasCleanDisk c → IsFresh c × IsLive c) → (HasCleanDisk c → FindsIn files c)
+    → IfOk r (λ keeper. k.home_of keeper ≡ home) → IfOk r (λ keeper. k.failures_of keeper ≡ 0)
+    → IfOk r (λ keeper. k.is_honest keeper → Opens home c (k.keeps keeper))
+    → IfOk r (KeepsHeld k files home)
+opened_on k files home c (Ok keeper) fresh found place none opens = record {
+  place = place;
+  fresh = none;
+  held = λ honest. held files home c (k.keeps keeper) fresh found (opens honest);
+}
+opened_on k files home c (Err e) fresh found place none opens = tt
+
+-- a connection over the files that has another desk's row
+other_row : (files : Image) (home : Home) (c : State) → IsFresh c → FindsIn files c
+    → HasOther home c → HeldOther files home
+other_row files home c fresh finds has = record {
+  trees = c.committed.trees;
+  found = finds.reads;
+  only = finds.holds;
+  away = has.0;
+  place = has.2.place;
+  other = has.3;
+  state = has.1;
+  row = subst (λ (d : Database). HasRow has.0 has.1 d.trees) fresh.clean has.2.row;
+}
+
+-- so it was where a connection that was dropped tells that the row is another desk's
+pub other_on : {D K : Type 0} (state_of : D → State) (files : Image) (home : Home) (c : State)
+    (r : Result K OpenFault)
+    → (HasCleanDisk c → IsFresh c × IsLive c) → (HasCleanDisk c → FindsIn files c)
+    → IfErr r (λ fault. (dropped : D)
+    × (HasCleanDisk (state_of dropped) → Refuses home c (state_of dropped) fault))
+    → r ≡ Err WrongDesk
+    → TellsOther state_of files home
+other_on state_of files home c (Ok keeper) fresh found told is = absurd cc
+other_on state_of files home c (Err fault) fresh found told is = (
+  told.0,
+  λ clean.
+      let refused = told.1 clean in
+      let new = fresh refused.honest in
+      other_row files home c new.0 (found refused.honest) (refused.tells.wrong cc),
+)

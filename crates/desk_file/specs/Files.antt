@@ -1,0 +1,69 @@
+-- What a desk's files held, and the store that is opened on them.
+use Rattle.std.specs.Prelude.{◌≡◌, ◌≢◌, ◌⊎◌, List, []}
+use Rattle.sqlite.specs.Effect.{IsDatabase}
+use Rattle.sqlite.specs.Files.{AreFoundIn, HoldsDatabase}
+use Rattle.sqlite.specs.Recovery.{Image}
+use Rattle.sqlite.specs.State.{HasCleanDisk, State}
+use Rattle.sqlite.specs.Tree.{Trees}
+use Rattle.acceptor.specs.Storing.{first_stored}
+use Rattle.acceptor.specs.declared.entry.Entry.{Entry}
+use Rattle.acceptor.specs.declared.stored.Stored.{Stored}
+use Rattle.store.specs.Holding.{HasRow, Holds}
+use Rattle.store.specs.Layout.{no_schema}
+use Rattle.store.specs.Ranges.{IsHome}
+use Rattle.store.specs.declared.fault.LoadFault.{LoadFault}
+use Rattle.store.specs.declared.fault.LoadFault.TheVariants as loading
+use Rattle.store.specs.declared.fault.OpenFault.{OpenFault}
+use Rattle.store.specs.declared.fault.OpenFault.TheVariants as opening
+use Rattle.store.specs.declared.home.Home.{Home}
+use Rattle.store.specs.declared.keeper.Keeper.{Ghosts}
+
+-- a database that has no table
+abbrev pub HasNoTable : Trees → Type 0
+HasNoTable trees = IsDatabase (record { schema = no_schema; trees = trees })
+
+-- it has no table, and the state is a desk's first one, with an empty log
+pub record IsFirst (trees : Trees) (s : Stored) (log : List Entry) : Type 0 where
+  pub bare : HasNoTable trees
+  pub state : s ≡ first_stored
+  pub empty : log ≡ []
+
+-- A database file and its write-ahead log held this state of a desk: it stands in the database that
+-- SQLite recovers from the two, or that database has no table yet.
+pub record HeldBy (files : Image) (home : Home) (s : Stored) (log : List Entry) : Type 0 where
+  pub trees : Trees
+  pub found : AreFoundIn files trees
+  pub only : (db : Trees) → HoldsDatabase files db → trees ≡ db
+  pub state : Holds home trees s log ⊎ IsFirst trees s log
+
+-- The keeper of this desk that is opened on two files: no failure is counted, and, where the files
+-- have given back what was written to them, it keeps a state and a log that they held.
+pub record KeepsHeld {K : Type 0} (k : Ghosts K) (files : Image) (home : Home) (keeper : K)
+    : Type 0 where
+  pub place : k.home_of keeper ≡ home
+  pub fresh : k.failures_of keeper ≡ 0
+  pub held : k.is_honest keeper
+      → (s : Stored) × (log : List Entry) × k.keeps keeper s log × HeldBy files home s log
+
+-- A database file and its write-ahead log held the row of another desk: it stands in the database
+-- that SQLite recovers from the two.
+pub record HeldOther (files : Image) (home : Home) : Type 0 where
+  pub trees : Trees
+  pub found : AreFoundIn files trees
+  pub only : (db : Trees) → HoldsDatabase files db → trees ≡ db
+  pub away : Home
+  pub place : IsHome away
+  pub other : away ≢ home
+  pub state : Stored
+  pub row : HasRow away state trees
+
+-- so it was where a connection that has been dropped had been given back what was written
+abbrev pub TellsOther : {C : Type 0} → (C → State) → Image → Home → Type 0
+TellsOther {C} state files home =
+    (dropped : C) × (HasCleanDisk (state dropped) → HeldOther files home)
+
+-- the fault of a load, by its own name among those of an opening
+abbrev pub loading_fault : LoadFault → OpenFault
+loading_fault loading.Damaged = opening.Damaged
+loading_fault loading.Device = opening.Device
+loading_fault loading.NoMemory = opening.NoMemory

@@ -1,0 +1,8 @@
+//! The file of a desk: opened as a database, and as the store of its desk.
+#![tactic(auto)]
+
+mod fault;
+mod opening;
+
+pub use fault::fault_of_load;
+pub use opening::{open_file, open_keeper};

@@ -1,0 +1,64 @@
+//! A desk's file, opened.
+
+ghost use Rattle.std.specs.Prelude.{◌≡◌, ◌≢◌, false, Err, IfOk, IfErr};
+ghost use Rattle.sqlite.specs.Files.{file_state, IsOpened};
+ghost use Rattle.sqlite.specs.Held.{state};
+ghost use Rattle.sqlite.specs.Start.{FindsIn};
+ghost use Rattle.sqlite.specs.State.{HasCleanDisk};
+ghost use Rattle.sqlite.specs.WalFiles.{image_at};
+ghost use Rattle.store.specs.Ranges.{IsHome};
+ghost use Rattle.desk_file.specs.Files.{KeepsHeld, TellsOther};
+
+use sqlite::{Connection, FileFrom, FileStore, Start};
+use sqlite_trees::store::Store;
+use store::fault::OpenFault;
+use store::home::Home;
+use store::keeper::Keeper;
+use store::opening::open_fault;
+use store::sql::SqlKeeper;
+
+/// Opens the file, which is made where it is not there. Who has it open holds its lock until it
+/// ends, so that no second program opens it. `S` stands for what the file and its log held.
+///
+/// Device: it cannot be opened, read or made, or another program has it open. Damaged: it is no
+/// database, or a damaged one. NoMemory: memory was refused.
+pub fn open_file<S: Start>(
+    rt: &HostRuntime,
+    path: &str,
+    start: S,
+) -> Result<Connection<FileStore<FileFrom<S>>>, OpenFault>
+    ensures autocommit { IfOk result (λ conn. conn.in_transaction ≡ false) }
+    ensures opened { IfOk result (λ conn. HasCleanDisk (file_state conn) → IsOpened conn) }
+    ensures found { IfOk result (λ conn. HasCleanDisk (file_state conn)
+        → FindsIn (image_at S.Start) (file_state conn)) }
+    ensures err { IfErr result (λ fault. fault ≢ OpenFault.WrongDesk) }
+{
+    match Connection::open_from(rt, path, false, start) {
+        Ok(conn) => Ok(conn),
+        Err((error, _)) => Err(open_fault(error)),
+    }
+}
+
+/// Opens the store of this desk in the file: the keeper keeps the state and the log that the file
+/// and its log held. `S` stands for what they held.
+///
+/// WrongDesk: the file is the store of another desk or hall, or of a hall of another number of
+/// desks, as the connection tells that was dropped. Damaged: what it holds is no desk's store,
+/// whole and in its ranges. Device and NoMemory come where they happen.
+pub fn open_keeper<S: Start>(
+    rt: &HostRuntime,
+    home: Home,
+    path: &str,
+    start: S,
+) -> Result<SqlKeeper<FileStore<FileFrom<S>>>, OpenFault>
+    requires { IsHome home }
+    ensures opened { IfOk result (KeepsHeld ⟦<SqlKeeper<FileStore<FileFrom<S>>> as Keeper>⟧
+        (image_at S.Start) home) }
+    ensures wrong { result ≡ Err OpenFault.WrongDesk
+        → TellsOther (state ⟦<FileStore<FileFrom<S>> as Store>⟧) (image_at S.Start) home }
+{
+    match open_file(rt, path, start) {
+        Ok(conn) => SqlKeeper::open(rt.alloc(), conn, home.hall, home.desk, home.desks),
+        Err(fault) => Err(fault),
+    }
+}

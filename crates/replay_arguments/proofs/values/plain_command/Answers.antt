@@ -1,0 +1,9 @@
+use Rattle.std.proofs.Common.{rules, ◌∙◌, ap}
+use Rattle.clap.specs.Simple.{app_of_fields}
+use Rattle.replay_arguments.proofs.values.plain_command.Goals as goal
+
+pub returns : goal.returns
+returns c = (
+  ap app_of_fields c.after_help.ensures ∙ ap app_of_fields c.about.ensures ∙ c.new.ensures.app,
+  search rules,
+)

@@ -1,0 +1,66 @@
+-- What the arguments of `replay` ask for, as the program's parser reads them: `clap` says which
+-- argument is the value of which name.
+use Rattle.std.specs.Prelude.{◌≡◌, true, ℕ, List, codes, decimal, map, Option, Some}
+use Rattle.std.specs.Prelude.{option_and_then}
+use Rattle.clap.specs.Words.{App, Row, Text, first_of, new_app, one_of, subcommand_of, with_rule}
+use Rattle.clap.specs.Words.{with_subcommand}
+use Rattle.clap.specs.declared.builder.value_parser.ValueParser.{ValueParser}
+use Rattle.formats.specs.declared.events.Event.{Event}
+use Rattle.formats.specs.Events.{all_events, event_name, event_of_name}
+use Rattle.sheets.specs.declared.Style.{Style}
+use Rattle.sheets.specs.declared.Style.TheVariants as printed
+use Rattle.replay_arguments.specs.Arguments.{IsOneOf, csv_rule, round_numbers, value_rule}
+use Rattle.replay_arguments.specs.declared.replay.ReplayTask.{ReplayTask}
+
+-- the texts that are accepted as an event, and those that are accepted as a round
+pub record RoundParsers : Type 0 where
+  pub events : Option ValueParser
+  pub rounds : Option ValueParser
+  pub named : IsOneOf events (map event_name all_events)
+  pub numbered : IsOneOf rounds round_numbers
+
+abbrev pub replay_arguments : RoundParsers → App
+replay_arguments p =
+    with_rule (with_rule (with_rule (new_app (codes "replay"))
+    (value_rule (codes "event") p.events))
+    (value_rule (codes "round") p.rounds))
+    csv_rule
+
+-- the program: it requires a subcommand, and has a version
+abbrev pub named_app : App
+named_app =
+    record (new_app (codes "desk")) {
+      top =
+          record (new_app (codes "desk")).top { has_version = true; subcommand_required = true };
+    }
+
+-- the program with the one subcommand `replay`
+abbrev pub replay_program : RoundParsers → App
+replay_program p = with_subcommand named_app (replay_arguments p).top
+
+-- an event by its name, and a round as it prints in decimal
+pub record IsRound (rows : List Row) (event : Event) (round : ℕ) : Type 0 where
+  pub named : option_and_then event_of_name (first_of (codes "event") rows) ≡ Some event
+  pub numbered : first_of (codes "round") rows ≡ Some (decimal round)
+
+-- whether `--csv` is there
+pub record IsPrinted (rows : List Row) (style : Style) : Type 0 where
+  pub table : one_of (codes "csv") rows ≡ Some (codes "true") → style ≡ printed.Table
+  pub text : one_of (codes "csv") rows ≡ Some (codes "false") → style ≡ printed.Text
+
+-- the values ask for this sheet
+abbrev pub IsReplay : ReplayTask → List Row → Type 0
+IsReplay t rows = IsRound rows t.event t.round × IsPrinted rows t.style
+
+abbrev pub Finds : Option (Text × List Row) → ReplayTask → Type 0
+Finds found t =
+    (name : Text) × (rows : List Row) × (found ≡ Some (name, rows)) × (name ≡ codes "replay")
+    × IsReplay t rows
+
+-- these arguments are parsed as a subcommand and the rows of its values, or as none
+abbrev pub Parses : List Text → Option (Text × List Row) → Type 0
+Parses given found = (p : RoundParsers) × (found ≡ subcommand_of (replay_program p) given)
+
+-- the arguments, of which the first is the program's own name, ask for this
+abbrev pub Asks : List Text → ReplayTask → Type 0
+Asks given t = (p : RoundParsers) × Finds (subcommand_of (replay_program p) given) t

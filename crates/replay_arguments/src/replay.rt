@@ -1,0 +1,82 @@
+//! The subcommand `replay`: its arguments and its help.
+
+ghost use Rattle.std.specs.Prelude.{◌≡◌, true, false, IfOk, IfSome};
+ghost use Rattle.clap.specs.Words.{found_of, rows_of};
+ghost use Rattle.replay_arguments.specs.Arguments.{IsCommand};
+ghost use Rattle.replay_arguments.specs.Asking.{IsReplay, RoundParsers, replay_arguments};
+
+use crate::round::{event_at, event_value, round_at, round_value};
+use crate::values::{csv_flag, plain_command, with_argument};
+use clap::{ArgMatches, Command};
+use formats::Event;
+use sheets::Style;
+use std::alloc::{AllocError, Global};
+
+const ABOUT: &str = "Reads the commands of a competition and prints the result sheet of a round.";
+
+const INPUT: &str = "\
+Standard input has one command a line:
+
+  REG 1 Ann Li                  registers competitor 1 under a name
+  OPEN 333 1 ao5 - 60000 final  opens a round: event, round, format, cutoff (- or 2:1500, attempts
+                                and the result to be better than), time limit in 1/100 second
+                                (- in 333fm and 333mbf), who advances (final, top:8 or pct:75)
+  ENT 333 1                     enters competitor 1 in round 1 of the event
+  SCR 333fm 1 2 R' U' F         the scramble of attempt 2 of a fewest-moves round
+  ATT 333 1 2 1 T:1200:0        attempt 2 of competitor 1 in round 1: 12.00 seconds, no penalty;
+                                or DNF, or DNS, or in 333fm S: and a solution, or in 333mbf
+                                M:11:13:3500, 11 cubes solved of 13 in 3,500 seconds
+  COR 333 1 2 1 T:1300:0        corrects that attempt
+  STR 333 1 1                   removes the last attempt of competitor 1
+  ADV 333 1 top:8               changes who advances from round 1
+  CLOSE 333 1                   closes round 1; the next round is then opened by OPEN
+  EDITION 2                     from this line on 333mbf is an event
+
+At most 65,536 lines, 10,000 bytes a line and 39,387,136 bytes in all are read.
+
+Standard output gets a line `refused N CODE` for each line N that is refused, and after these lines
+the sheet.
+docs/FORMATS.md explains each CODE, the fields of the commands and the columns of the sheet.
+
+Exit status: 0 the sheet was printed; 2 invalid arguments, or help; 3 no such round (no accepted
+command opened it), or input too long; 4 cannot read, or cannot write; 5 no memory.";
+
+/// What `replay` asks for: the sheet of a round, from commands.
+#[derive(Clone, Copy)]
+pub struct ReplayTask {
+    pub event: Event,
+    pub round: u8,
+    pub style: Style,
+}
+
+/// The subcommand `replay`, as the parser knows it.
+pub fn replay_command<'a>(alloc: Global) -> Result<Command<'a>, AllocError>
+    ensures { IfOk result (λ command. (p : RoundParsers) × IsCommand command (replay_arguments p)) }
+{
+    let command = plain_command(alloc, "replay", ABOUT, INPUT);
+    let command = with_argument(command, event_value(alloc))?;
+    let command = with_argument(command, round_value(alloc))?;
+    with_argument(command, csv_flag(alloc))
+}
+
+/// How the sheet is printed.
+fn style_of(table: bool) -> Style
+    ensures table { table ≡ true → result ≡ Style.Table }
+    ensures text { table ≡ false → result ≡ Style.Text }
+{
+    if table { Style::Table } else { Style::Text }
+}
+
+/// What the arguments of `replay` ask for.
+pub fn replay_of(found: &ArgMatches<'_>) -> Option<ReplayTask>
+    ensures { IfSome result (λ task. IsReplay task (rows_of (found_of found.now))) }
+{
+    let event = event_at(found)?;
+    let round = round_at(found)?;
+    let style = style_of(found.get_flag("csv"));
+    Some(ReplayTask {
+        event,
+        round,
+        style,
+    })
+}

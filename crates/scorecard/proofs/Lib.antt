@@ -1,0 +1,9 @@
+pub mod Apostrophes
+pub mod Begins
+pub mod DigitTexts
+pub mod Letters
+pub mod MultiTexts
+pub mod Sheets
+pub mod Starts
+pub mod TimeTexts
+pub mod Whole

@@ -1,0 +1,20 @@
+//! What holds of all readings.
+
+ghost use Rattle.scorecard.specs.Laws.{SpellsOnce, SheetReadsBack, SpellsNoMoves};
+
+/// A law: a text spells one outcome of an event at most.
+pub fn spelled_once()
+    ensures { SpellsOnce }
+{}
+
+/// A law: what a sheet prints of an attempt, typed again, is an outcome that counts as the same
+/// value. It holds of times up to 166:39.99, of results of multi-blind, of DNF and of DNS, in every
+/// event, with whatever penalties and under whatever time limit.
+pub fn sheet_reads_back()
+    ensures { SheetReadsBack }
+{}
+
+/// A law: a number of moves, as a sheet prints it, spells nothing, since it is no solution.
+pub fn number_of_moves_is_no_solution()
+    ensures { SpellsNoMoves }
+{}

@@ -1,0 +1,110 @@
+//! Times and their penalties.
+
+ghost use Rattle.std.specs.Prelude.{◌≡◌, ◌<◌, ◌≤◌, IfOk, option_map, Option, Some, None};
+ghost use Rattle.std.specs.Option.{option_copied};
+ghost use Rattle.scorecard.specs.Reading.{filled, number_of, seconds_with, minutes_with};
+ghost use Rattle.scorecard.specs.Reading.{before_point, pair_of, clock_of, within_limits, time_of};
+ghost use Rattle.scorecard.specs.Reading.{penalties_of, timed_of};
+ghost use Rattle.scorecard.specs.Spelling.{colons};
+
+use crate::digits::{number_of, pair_of};
+use crate::fault::CardFault;
+use texts::{Entered, cut};
+
+/// What stands before hundredths. A comma is a point.
+const POINTS: &[u8] = b".,";
+
+/// What stands after minutes.
+const COLONS: &[u8] = b":.,";
+
+/// The greatest time that may be entered, in hundredths of a second.
+const MOST: u32 = 999_999;
+
+/// The hundredths of a time of digits alone: they fill a clock from the right.
+fn filled(bytes: &[u8]) -> Result<u32, CardFault>
+    ensures { result ≡ filled (number_of 7 bytes.now) }
+{
+    let number = number_of(7, bytes).ok_or(CardFault::NotATime)?;
+    let rest = number % 10_000;
+    if number >= 10_000 && rest >= 6_000 {
+        Err(CardFault::BadSeconds)
+    } else {
+        Ok(6_000 * (number / 10_000) + rest)
+    }
+}
+
+/// The hundredths of a time of seconds and hundredths.
+fn seconds_with(hundredths: u32, bytes: &[u8]) -> Result<u32, CardFault>
+    requires { hundredths ≤ 99 }
+    ensures { result ≡ seconds_with hundredths (number_of 2 bytes.now) }
+{
+    let seconds = number_of(2, bytes).ok_or(CardFault::NotATime)?;
+    Ok(100 * seconds + hundredths)
+}
+
+/// The hundredths of a time of minutes, seconds and hundredths.
+fn minutes_with(hundredths: u32, seconds: u32, bytes: &[u8]) -> Result<u32, CardFault>
+    requires hundredths { hundredths ≤ 99 }
+    requires seconds { seconds ≤ 99 }
+    ensures { result ≡ minutes_with hundredths seconds (number_of 3 bytes.now) }
+{
+    let minutes = number_of(3, bytes).ok_or(CardFault::NotATime)?;
+    if seconds >= 60 {
+        Err(CardFault::BadSeconds)
+    } else {
+        Ok(6_000 * minutes + 100 * seconds + hundredths)
+    }
+}
+
+/// The hundredths of a time, whatever its length.
+#[tactic(auto, unfolding(crate::specs::Reading::clock_of))]
+fn clock_of(bytes: &[u8]) -> Result<u32, CardFault>
+    ensures { result ≡ clock_of bytes.now }
+{
+    match pair_of(POINTS, bytes) {
+        None => filled(bytes),
+        Some((front, hundredths)) => match pair_of(COLONS, front) {
+            None => seconds_with(hundredths, front),
+            Some((minutes, seconds)) => minutes_with(hundredths, seconds, minutes),
+        },
+    }
+}
+
+/// The hundredths of a time that may be entered, 1 to 999,999.
+#[tactic(auto, unfolding(crate::specs::Reading::time_of))]
+fn time_of(bytes: &[u8]) -> Result<u32, CardFault>
+    ensures { result ≡ time_of bytes.now }
+{
+    let time = clock_of(bytes)?;
+    if 1 <= time && time <= MOST {
+        Ok(time)
+    } else {
+        Err(CardFault::OutOfRange)
+    }
+}
+
+/// The penalties that are marked after a plus.
+fn penalties_of(mark: Option<&[u8]>) -> Result<u8, CardFault>
+    ensures { result ≡ penalties_of (option_copied mark.entry) }
+{
+    match mark {
+        None => Ok(0),
+        Some(mark) if mark == b"".as_slice() || mark == b"2".as_slice() => Ok(1),
+        Some(mark) if mark == b"+".as_slice() || mark == b"4".as_slice() => Ok(2),
+        Some(_) => Err(CardFault::BadPenalty),
+    }
+}
+
+/// A time and its penalties.
+#[tactic(auto, unfolding(crate::specs::Reading::timed_of))]
+pub fn timed_of(bytes: &[u8]) -> Result<Entered, CardFault>
+    ensures { result ≡ timed_of bytes.now }
+{
+    let (time, mark) = cut(bytes, b'+');
+    let penalties = penalties_of(mark)?;
+    let hundredths = time_of(time)?;
+    Ok(Entered::Time {
+        hundredths,
+        penalties,
+    })
+}

@@ -1,0 +1,27 @@
+use Rattle.std.proofs.Common.{◌≡◌, ◌+◌, ◌≤◌, List, Option, length}
+use Rattle.learner.specs.Ranges.{AreInRange}
+use Rattle.wire.specs.declared.values.Version.{Version}
+use Rattle.serving.specs.Adding.{Push}
+use Rattle.serving.specs.Making.{outside_of, speaking}
+use Rattle.serving.specs.model.Reaching.{at}
+use Rattle.serving.specs.Serving.{learn}
+use Rattle.serving.proofs.Delivered.{ComesSo}
+use Rattle.serving.proofs.session.Session.deliver_each.Given as goal
+
+-- what is to be done comes to what is left of it
+abbrev pub invariant-loop-entry : goal.invariant-loop-entry
+invariant-loop-entry g l = record {
+  range : AreInRange l.fn.self.home.desks l.fn.self.home.desk l.waiting.items;
+  home : g.D.Desk.home_of l.node ≡ l.fn.self.home;
+  most : l.pos + length l.entries.items ≤ 65536;
+  so_far : (wire : Version) (handed : Option (List Push))
+      → ComesSo l.fn.self.home (learn l.fn.self.home l.from l.to l.fn.run.pos l.fn.run.entries)
+      (at (g.D.Desk.seen l.initial.node) l.initial.waiting.items 16)
+      (learn l.fn.self.home l.from l.to l.pos l.entries.items)
+      (at (g.D.Desk.seen l.node) l.waiting.items 16)
+      (outside_of (speaking g.D.Desk.handles wire) l.initial.node handed)
+      (outside_of (speaking g.D.Desk.handles wire) l.node handed);
+}
+
+abbrev pub decreases-loop-entry : goal.decreases-loop-entry
+decreases-loop-entry g l = length l.entries.items

@@ -1,0 +1,21 @@
+use Rattle.serving.proofs.Answered.{asks, prints, stops, estranges, ignores}
+use Rattle.serving.proofs.session.Session.serve_request.Goals as goal
+
+pub returns-in-Asked-clause-ok : goal.returns-in-Asked-clause-ok
+returns-in-Asked-clause-ok g c =
+    asks c.args.self.home c.args.request c.in-Asked.id _ _ _ c.in-Asked.is c.asked.ensures.what
+
+pub returns-in-Printed-clause-ok : goal.returns-in-Printed-clause-ok
+returns-in-Printed-clause-ok g c =
+    prints c.args.self.home c.args.request c.in-Printed.event c.in-Printed.round
+    c.in-Printed.position
+    c.in-Printed.style _ _ _ c.in-Printed.is c.printed.ensures.what
+
+pub returns-in-Stopped-clause-ok : goal.returns-in-Stopped-clause-ok
+returns-in-Stopped-clause-ok g c = stops c.args.self.home c.args.request _ _ c.in-Stopped.is
+
+pub returns-in-Strange-clause-ok : goal.returns-in-Strange-clause-ok
+returns-in-Strange-clause-ok g c = estranges c.args.self.home c.args.request _ _ c.in-Strange.is
+
+pub returns-in-Ignored-clause-ok : goal.returns-in-Ignored-clause-ok
+returns-in-Ignored-clause-ok g c = ignores c.args.self.home c.args.request _ _ c.in-Ignored.is

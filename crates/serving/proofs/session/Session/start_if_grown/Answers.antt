@@ -1,0 +1,23 @@
+use Rattle.std.proofs.Common.{sym, ◌∙◌}
+use Rattle.serving.proofs.Parts.{given_err}
+use Rattle.serving.proofs.Started.{starts, starts_not, starts_part}
+use Rattle.serving.proofs.session.Session.start_if_grown.Goals as goal
+
+pub returns-in_err-call_and_settle-clause-err : goal.returns-in_err-call_and_settle-clause-err
+returns-in_err-call_and_settle-clause-err g c =
+    given_err c.from_residual.result
+    (starts_part c.args.self.home c.args.before
+    (g.D.Desk.seen c.args.node.now) _ c.args.left.now _ _
+    (sym c.grew.ensures ∙ c.if-grew.true) c.in_err-call_and_settle.ensures.err)
+
+pub returns-in_ok-call_and_settle-clause-ok : goal.returns-in_ok-call_and_settle-clause-ok
+returns-in_ok-call_and_settle-clause-ok g c =
+    let did = c.in_ok-call_and_settle.ensures.ok in
+    starts c.args.self.home c.args.before _
+    (g.D.Desk.seen c.args.node.now) _ c.args.left.now _ did.0
+    did.1 _ _ (sym c.grew.ensures ∙ c.if-grew.true) did.2
+
+pub returns-else-grew-clause-ok : goal.returns-else-grew-clause-ok
+returns-else-grew-clause-ok g c =
+    starts_not c.args.self.home c.args.before (g.D.Desk.seen c.args.node.now) c.args.left.now _
+    (sym c.grew.ensures ∙ c.if-grew.false)

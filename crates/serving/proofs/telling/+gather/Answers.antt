@@ -1,5 +1,0 @@
-use Rattle.std.proofs.Common.{arith}
-use Rattle.serving.proofs.telling.+gather.Goals as goal
-
-pub gather-requires : goal.gather-requires
-gather-requires t c = omega arith

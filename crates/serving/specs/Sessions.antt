@@ -1,0 +1,47 @@
+-- What a contract sees of a desk that serves.
+use Rattle.std.specs.Prelude.{ℕ, List, Option}
+use Rattle.std.specs.declared.io.Write.{Ghosts as WriteOf}
+use Rattle.answers.specs.declared.desk.Desk.{Ghosts as DeskOf}
+use Rattle.wire.specs.declared.values.Version.{Version}
+use Rattle.serving.specs.declared.ends.Served.{Served}
+use Rattle.serving.specs.declared.peers.Peers.{Ghosts as PeersOf}
+use Rattle.serving.specs.declared.source.Source.{Ghosts as SourceOf}
+use Rattle.serving.specs.Connection.{Begun, IsConnection, Sides, sides}
+use Rattle.serving.specs.Making.{Outside, outside_of, speaking}
+
+-- a node that serves, the other desks of its hall, and the writer of its answers
+pub record Line (V U X : Type 0) : Type 0 where
+  pub node : V
+  pub peers : U
+  pub writer : X
+
+abbrev pub line : {V U X : Type 0} → V → U → X → Line V U X
+line node peers writer = record { node = node; peers = peers; writer = writer }
+
+-- what is there beside what is seen of the node, where frames are pushed in this version
+abbrev pub outside : {V U : Type 0} → (d : DeskOf V) → PeersOf U → (version : Version) → V → U
+    → Outside (speaking d.handles version)
+outside d p version node peers = outside_of (speaking d.handles version) node (p.handed peers)
+
+-- what serving changes
+abbrev pub sides_of : {V U X : Type 0} → (d : DeskOf V) → PeersOf U → WriteOf X
+    → (version : Version) → Line V U X → Sides (speaking d.handles version)
+sides_of d p w version l =
+    sides (d.seen l.node) (w.contents l.writer) (outside d p version l.node l.peers)
+
+-- a connection was served over a source
+abbrev pub ServesSource : {V U X S : Type 0} → DeskOf V → PeersOf U → WriteOf X → SourceOf S
+    → Version → Served → Line V U X → Line V U X → S → S → Type 0
+ServesSource d p w s version result a b source left =
+    (bytes : List ℕ) × (begun : List Begun) × (rest : List ℕ)
+    × IsConnection result (d.home_of a.node) (sides_of d p w version a) (sides_of d p w version b)
+    bytes begun rest (s.remaining source) (s.remaining left) (s.reads left)
+
+-- a connection was served over a reader that had these bytes to give
+abbrev pub ServesReader : {V U X : Type 0} → DeskOf V → PeersOf U → WriteOf X → Version → Served
+    → Line V U X → Line V U X → Option (List ℕ) → Type 0
+ServesReader d p w version result a b given =
+    (left : Option (List ℕ)) × (reads : ℕ) × (bytes : List ℕ) × (begun : List Begun)
+    × (rest : List ℕ)
+    × IsConnection result (d.home_of a.node) (sides_of d p w version a) (sides_of d p w version b)
+    bytes begun rest given left reads

@@ -1,0 +1,115 @@
+-- The turns of a connection, however its pieces are cut and its answers are taken.
+use Rattle.std.specs.Prelude.{◌≡◌, ◌⊎◌, ◌≤◌, ◌<◌, ℕ, List, [], ◌∷◌, ◌++◌, length, Option, None}
+use Rattle.std.specs.Prelude.{Some}
+use Rattle.std.specs.List.{flat_map}
+use Rattle.answers.specs.declared.desk.Desk.{Ghosts as DeskOf}
+use Rattle.answers.specs.Seen.{Seen}
+use Rattle.wire.specs.declared.values.Version.{Version}
+use Rattle.wire.specs.Spelling.{spelling}
+use Rattle.wire.specs.Stream.{Breaks, front, IsOfStream}
+use Rattle.store.specs.declared.home.Home.{Home}
+use Rattle.serving.specs.declared.ends.Close.TheVariants as close
+use Rattle.serving.specs.declared.ends.End.{End}
+use Rattle.serving.specs.declared.ends.End.TheVariants as end
+use Rattle.serving.specs.declared.ends.FrameFault.TheVariants as fault
+use Rattle.serving.specs.Connection.{Begun, AreBegun, Sides, sides, Serves, Closes, Fails}
+use Rattle.serving.specs.Making.{Way, Outside, speaking}
+use Rattle.serving.specs.Turns.{Talk, BeginsNext, LeavesAt, Receives, Rests, WantsRead, after_sent}
+use Rattle.serving.specs.Turns.{new_talk}
+
+-- a turn: a piece came, a frame was begun, none was, or these bytes of what was pending were taken
+pub data Turn : Type 0 where
+  Came : List ℕ → Turn
+  Began : Begun → Turn
+  Rested : Turn
+  Took : List ℕ → Turn
+
+-- a connection, what is seen of the node that serves it, and what is there beside
+pub record Place {V : Type 0} (way : Way V) : Type 0 where
+  pub talk : Talk
+  pub seen : Seen
+  pub outside : Outside way
+
+-- what serving changes, where these bytes were taken of answers, or wait
+abbrev pub sides_in : {V : Type 0} → {way : Way V} → Place way → List ℕ → Sides way
+sides_in a answers = sides a.seen (Some answers) a.outside
+
+-- node and other desks are as before
+pub record IsQuiet {V : Type 0} {way : Way V} (a b : Place way) : Type 0 where
+  pub seen : b.seen ≡ a.seen
+  pub outside : b.outside ≡ a.outside
+
+-- what the contracts of `receive`, `advance` and `sent` say of a turn
+abbrev pub Turns : {V : Type 0} → {way : Way V} → Turn → Place way → Place way → Type 0
+Turns (Came piece) a b = WantsRead a.talk × Receives piece a.talk b.talk × IsQuiet a b
+Turns (Began one) a b =
+    BeginsNext a.talk b.talk one.frame
+    × LeavesAt b.talk.end a.talk.home (sides_in a a.talk.pending) (sides_in b b.talk.pending) one
+    b.talk.frames
+Turns Rested a b = Rests a.talk b.talk × IsQuiet a b
+Turns (Took bytes) a b =
+    (a.talk.pending ≡ bytes ++ b.talk.pending) × (b.talk ≡ after_sent a.talk (length bytes))
+    × IsQuiet a b
+
+-- one turn after the other
+abbrev pub Follow : {V : Type 0} → {way : Way V} → Place way → List Turn → Place way → Type 0
+Follow a [] b = a ≡ b
+Follow {V} {way} a (t ∷ ts) b = (m : Place way) × Turns t a m × Follow m ts b
+
+-- the bytes that came, and those that were taken
+abbrev pub came_in : Turn → List ℕ
+came_in (Came piece) = piece
+came_in (Began one) = []
+came_in Rested = []
+came_in (Took bytes) = []
+
+abbrev pub taken_in : Turn → List ℕ
+taken_in (Came piece) = []
+taken_in (Began one) = []
+taken_in Rested = []
+taken_in (Took bytes) = bytes
+
+abbrev pub received : List Turn → List ℕ
+received [] = []
+received (t ∷ ts) = came_in t ++ received ts
+
+abbrev pub handed_out : List Turn → List ℕ
+handed_out [] = []
+handed_out (t ∷ ts) = taken_in t ++ handed_out ts
+
+-- How the frames begun leave a connection, with this after the frames: open, or ended by its cause.
+-- Of the ends of a connection these come by turns.
+abbrev pub Stands : {V : Type 0} → {way : Way V} → Option End → Home → Sides way → Sides way
+    → List Begun → List ℕ → ℕ → Type 0
+Stands None home a b begun rest count = Serves home a b begun × (count < 64)
+Stands (Some end.Stopped) home a b begun rest count = Closes close.Stopped home a b begun
+Stands (Some end.Down) home a b begun rest count = Closes close.Down home a b begun
+Stands (Some end.Frames) home a b begun rest count = Serves home a b begun × (count ≡ 64)
+Stands (Some (end.Fault e)) home a b begun rest count =
+    Serves home a b begun × (front rest ≡ Breaks e) × IsOfStream e
+Stands (Some end.NoMemory) home a b begun rest count =
+    Serves home a b begun ⊎ Fails fault.NoMemory home a b begun
+Stands (Some end.End) home a b begun rest count = ⊥
+Stands (Some end.Reads) home a b begun rest count = ⊥
+Stands (Some end.Read) home a b begun rest count = ⊥
+Stands (Some end.Write) home a b begun rest count = ⊥
+
+-- The bytes that came are the frames begun, those that wait, and a rest. What was taken of answers,
+-- and then what is pending, is what the frames begun come to, in order. So are the calls and the
+-- pushes, which lead from the first place to the last.
+pub record AreServed {V : Type 0} {way : Way V} (home : Home) (a b : Place way)
+    (bytes taken : List ℕ) (begun : List Begun) (rest : List ℕ) : Type 0 where
+  pub begins : AreBegun bytes begun (flat_map spelling b.talk.waiting ++ rest)
+  pub counted : b.talk.frames ≡ length begun
+  pub few : b.talk.frames ≤ 64
+  pub stands :
+      Stands b.talk.end home (sides_in a []) (sides_in b (taken ++ b.talk.pending)) begun rest
+      b.talk.frames
+
+-- of every list of turns of a connection with a desk of a kind, from its first turn on
+abbrev pub TurnsServe : {V : Type 0} → DeskOf V → Type 0
+TurnsServe d =
+    (home : Home) (wire : Version) (turns : List Turn) (a b : Place (speaking d.handles wire))
+    → a.talk ≡ new_talk home wire → Follow a turns b
+    → (begun : List Begun) × (rest : List ℕ)
+    × AreServed home a b (received turns) (handed_out turns) begun rest

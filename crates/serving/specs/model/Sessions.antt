@@ -1,0 +1,296 @@
+-- What the calls of a session leave.
+use Rattle.std.specs.Prelude.{ℕ, List, [], ◌++◌, map, Option, None, Some}
+use Rattle.std.specs.declared.io.Write.{Ghosts as WriteOf}
+use Rattle.acceptor.specs.declared.entry.Entry.{Entry}
+use Rattle.acceptor.specs.declared.message.Message.{Message}
+use Rattle.answers.specs.declared.desk.Desk.{Ghosts as DeskOf}
+use Rattle.learner.specs.declared.event.DeskEvent.{DeskEvent}
+use Rattle.learner.specs.declared.event.DeskEvent.TheVariants.{Deliver, Start}
+use Rattle.store.specs.declared.home.Home.{Home}
+use Rattle.wire.specs.declared.frame.Frame.{Frame}
+use Rattle.wire.specs.declared.frame.What.{What}
+use Rattle.wire.specs.declared.values.Version.{Version}
+use Rattle.serving.specs.Adding.{Push, Hands}
+use Rattle.serving.specs.declared.calls.Answer.{Answer}
+use Rattle.serving.specs.declared.ends.Close.{Close}
+use Rattle.serving.specs.declared.ends.End.{End}
+use Rattle.serving.specs.declared.ends.FrameFault.TheVariants as fault
+use Rattle.serving.specs.declared.peers.Peers.{Ghosts as PeersOf}
+use Rattle.serving.specs.declared.request.Request.{Request}
+use Rattle.serving.specs.declared.request.Request.TheVariants.{Heard, Lagging, Learned, Entered}
+use Rattle.serving.specs.declared.request.Request.TheVariants.{Ticked}
+use Rattle.serving.specs.declared.request.Run.{Run}
+use Rattle.serving.specs.declared.session.Session.{Session}
+use Rattle.serving.specs.Connection.{Begun, Sides, sides, ServesOne, FailsIn}
+use Rattle.serving.specs.Making.{outside_of, speaking}
+use Rattle.serving.specs.Nodes.{Fate}
+use Rattle.serving.specs.Serving.{Act, Service, answer_out, call, learn, settle_by}
+use Rattle.serving.specs.Serving.{pushed, start_if_grown, take}
+use Rattle.serving.specs.Sessions.{Line, outside, sides_of}
+use Rattle.serving.specs.model.Calling.{Calls, IsCall, LosesMessages}
+use Rattle.serving.specs.model.Pieces.{IsBatch, IsPiece}
+use Rattle.serving.specs.model.Pushing.{PushesPart}
+use Rattle.serving.specs.model.Reaching.{Does, DoesCall, DoesPart, DoesTake, at}
+use Rattle.serving.specs.Turns.{Talk}
+use Rattle.serving.specs.model.Requests.{AnswersSome, FailsToAnswer}
+use Rattle.serving.specs.model.Turning.{EndsBy}
+
+-- ---- a call of the node
+
+-- it came to a fate, and these messages wait
+abbrev pub IsCalled : {V : Type 0} → DeskOf V → DeskEvent → V → V → List Message → List Message
+    → Answer → Type 0
+IsCalled d event x y ms more answer =
+    (fate : Fate) × Calls (d.home_of x) event fate (d.seen x) (d.seen y) ms more answer
+    × IsCall d.handles (d.home_of x) event fate (d.seen x) x y
+
+-- it came to a fate, and its messages were lost
+abbrev pub LosesCall : {V : Type 0} → DeskOf V → DeskEvent → V → V → Type 0
+LosesCall d event x y =
+    (fate : Fate) × LosesMessages (d.home_of x) event fate (d.seen x) (d.seen y)
+    × IsCall d.handles (d.home_of x) event fate (d.seen x) x y
+
+-- ---- pushes
+
+-- these messages were pushed
+abbrev pub Pushes : {U : Type 0} → PeersOf U → Session → List Message → U → U → Type 0
+Pushes p s ms a b = Hands (p.handed a) (p.handed b) (map (pushed s.wire s.home.hall) ms)
+
+-- a front part of them was pushed
+abbrev pub PushesSome : {U : Type 0} → PeersOf U → Session → List Message → U → U → Type 0
+PushesSome p s ms a b = PushesPart s.wire s.home.hall ms (p.handed a) (p.handed b)
+
+-- ---- a desk within a frame
+
+-- a node and the other desks of its hall, the messages that wait, and how many more the desk may
+-- deliver to itself
+pub record Point (V U : Type 0) : Type 0 where
+  pub node : V
+  pub peers : U
+  pub waiting : List Message
+  pub left : ℕ
+
+abbrev pub point : {V U : Type 0} → V → U → List Message → ℕ → Point V U
+point node peers waiting left =
+    record { node = node; peers = peers; waiting = waiting; left = left }
+
+-- no message waits
+abbrev pub idle : {V U : Type 0} → V → U → ℕ → Point V U
+idle node peers left = point node peers [] left
+
+-- a node and the other desks of its hall
+pub record Desks (V U : Type 0) : Type 0 where
+  pub node : V
+  pub peers : U
+
+abbrev pub desks : {V U : Type 0} → V → U → Desks V U
+desks node peers = record { node = node; peers = peers }
+
+-- all of it was done
+abbrev pub Comes : {V U : Type 0} → DeskOf V → PeersOf U → Session → (Service → Service)
+    → Point V U → Point V U → Type 0
+Comes d p s all a b =
+    Does s.home all (at (d.seen a.node) a.waiting a.left) (at (d.seen b.node) b.waiting b.left)
+    (outside d p s.wire a.node a.peers) (outside d p s.wire b.node b.peers)
+
+-- a front part of it was done
+abbrev pub ComesPart : {V U : Type 0} → DeskOf V → PeersOf U → Session → (Service → Service)
+    → Point V U → Desks V U → Type 0
+ComesPart d p s all a b =
+    DoesPart s.home all (at (d.seen a.node) a.waiting a.left) (d.seen b.node)
+    (outside d p s.wire a.node a.peers) (outside d p s.wire b.node b.peers)
+
+-- the messages that wait
+abbrev pub Settles : {V U : Type 0} → DeskOf V → PeersOf U → Session → Point V U → Point V U
+    → Type 0
+Settles d p s a b = Comes d p s (settle_by s.home a.left) a b
+
+abbrev pub SettlesPart : {V U : Type 0} → DeskOf V → PeersOf U → Session → Point V U → Desks V U
+    → Type 0
+SettlesPart d p s a b = ComesPart d p s (settle_by s.home a.left) a b
+
+-- an event, with all that comes of it
+abbrev pub Meets : {V U : Type 0} → DeskOf V → PeersOf U → Session → DeskEvent → Point V U
+    → Point V U → Answer → Type 0
+Meets d p s event a b answer =
+    (acts : List Act) × (past : List Fate)
+    × DoesCall s.home a.left b.left event answer (d.seen a.node) (d.seen b.node) acts past
+    (outside d p s.wire a.node a.peers) (outside d p s.wire b.node b.peers)
+
+abbrev pub MeetsPart : {V U : Type 0} → DeskOf V → PeersOf U → Session → DeskEvent → Point V U
+    → Desks V U → Type 0
+MeetsPart d p s event a b = ComesPart d p s (λ t. settle_by s.home a.left (call s.home event t)) a b
+
+-- Start, where the log has more than so many entries
+abbrev pub Starts : {V U : Type 0} → DeskOf V → PeersOf U → Session → ℕ → Point V U → Point V U
+    → Type 0
+Starts d p s before a b = Comes d p s (start_if_grown s.home before) a b
+
+abbrev pub StartsPart : {V U : Type 0} → DeskOf V → PeersOf U → Session → ℕ → Point V U
+    → Desks V U → Type 0
+StartsPart d p s before a b = ComesPart d p s (start_if_grown s.home before) a b
+
+-- an event, with all that comes of it and of Start
+abbrev pub TakesIn : {V U : Type 0} → DeskOf V → PeersOf U → Session → DeskEvent → Desks V U
+    → Desks V U → Answer → Type 0
+TakesIn d p s event a b answer =
+    (left : ℕ) × (acts : List Act) × (past : List Fate)
+    × DoesTake s.home left event answer (d.seen a.node) (d.seen b.node) acts past
+    (outside d p s.wire a.node a.peers) (outside d p s.wire b.node b.peers)
+
+abbrev pub TakesPart : {V U : Type 0} → DeskOf V → PeersOf U → Session → DeskEvent → Desks V U
+    → Desks V U → Type 0
+TakesPart d p s event a b = ComesPart d p s (take s.home event) (idle a.node a.peers 16) b
+
+-- Start after an entry, with all that comes of it and of the messages that wait
+abbrev pub StartsNext : {V U : Type 0} → DeskOf V → PeersOf U → Session → Desks V U
+    → Desks V U → List Message → List Message → Type 0
+StartsNext d p s a b ms rest =
+    (last : ℕ) × Comes d p s (λ t. settle_by s.home 16 (call s.home Start t))
+    (point a.node a.peers ms 16) (point b.node b.peers rest last)
+
+abbrev pub StartsNextPart : {V U : Type 0} → DeskOf V → PeersOf U → Session → Desks V U
+    → Desks V U → List Message → Type 0
+StartsNextPart d p s a b ms =
+    ComesPart d p s (λ t. settle_by s.home 16 (call s.home Start t)) (point a.node a.peers ms 16) b
+
+-- ---- a run of entries
+
+-- each entry was delivered, whatever the version and the other desks
+abbrev pub Delivers : {V : Type 0} → DeskOf V → Home → Run → V → List Message → V → List Message
+    → Type 0
+Delivers d home run x ms y more =
+    (wire : Version) (handed : Option (List Push))
+    → Does home (learn home run.from run.to run.pos run.entries) (at (d.seen x) ms 16)
+    (at (d.seen y) more 16) (outside_of (speaking d.handles wire) x handed)
+    (outside_of (speaking d.handles wire) y handed)
+
+abbrev pub DeliversPart : {V : Type 0} → DeskOf V → Home → Run → V → List Message → V → Type 0
+DeliversPart d home run x ms y =
+    (wire : Version) (handed : Option (List Push))
+    → DoesPart home (learn home run.from run.to run.pos run.entries) (at (d.seen x) ms 16)
+    (d.seen y) (outside_of (speaking d.handles wire) x handed)
+    (outside_of (speaking d.handles wire) y handed)
+
+-- with all that comes of the last one
+abbrev pub LearnsAll : {V U : Type 0} → DeskOf V → PeersOf U → Session → Run → Desks V U
+    → Point V U → Type 0
+LearnsAll d p s run a b =
+    Comes d p s (λ t. settle_by s.home 16 (learn s.home run.from run.to run.pos run.entries t))
+    (idle a.node a.peers 16) b
+
+abbrev pub LearnsPart : {V U : Type 0} → DeskOf V → PeersOf U → Session → Run → Desks V U
+    → Desks V U → Type 0
+LearnsPart d p s run a b =
+    ComesPart d p s (λ t. settle_by s.home 16 (learn s.home run.from run.to run.pos run.entries t))
+    (idle a.node a.peers 16) b
+
+-- what a desk that lacks entries is told
+abbrev pub TellsAll : {V U : Type 0} → DeskOf V → PeersOf U → Session → Message → Desks V U
+    → Point V U → Type 0
+TellsAll d p s message a b =
+    Comes d p s (λ t. answer_out s.home (call s.home (Deliver message) t))
+    (idle a.node a.peers 16) b
+
+abbrev pub TellsPart : {V U : Type 0} → DeskOf V → PeersOf U → Session → Message → Desks V U
+    → Desks V U → Type 0
+TellsPart d p s message a b =
+    ComesPart d p s (λ t. answer_out s.home (call s.home (Deliver message) t))
+    (idle a.node a.peers 16) b
+
+-- ---- a request
+
+-- it was served, with this answer
+abbrev pub Serves : {V U : Type 0} → DeskOf V → PeersOf U → Session → Request → Desks V U
+    → Desks V U → Option What → Type 0
+Serves d p s request a b answer =
+    AnswersSome s.home (d.seen a.node) (d.seen b.node) request answer
+    (outside d p s.wire a.node a.peers) (outside d p s.wire b.node b.peers)
+
+-- a front part of its calls and pushes was made
+abbrev pub ServesPart : {V U : Type 0} → DeskOf V → PeersOf U → Session → Request → Desks V U
+    → Desks V U → Type 0
+ServesPart d p s request a b =
+    FailsToAnswer s.home (d.seen a.node) (d.seen b.node) request
+    (outside d p s.wire a.node a.peers) (outside d p s.wire b.node b.peers)
+
+abbrev pub Hears : {V U : Type 0} → DeskOf V → PeersOf U → Session → Message → Desks V U
+    → Desks V U → Type 0
+Hears d p s message a b = Serves d p s (Heard message) a b None
+
+abbrev pub HearsPart : {V U : Type 0} → DeskOf V → PeersOf U → Session → Message → Desks V U
+    → Desks V U → Type 0
+HearsPart d p s message a b = ServesPart d p s (Heard message) a b
+
+abbrev pub Tells : {V U : Type 0} → DeskOf V → PeersOf U → Session → Message → Desks V U
+    → Desks V U → Type 0
+Tells d p s message a b = Serves d p s (Lagging message) a b None
+
+abbrev pub FailsToTell : {V U : Type 0} → DeskOf V → PeersOf U → Session → Message → Desks V U
+    → Desks V U → Type 0
+FailsToTell d p s message a b = ServesPart d p s (Lagging message) a b
+
+abbrev pub Learns : {V U : Type 0} → DeskOf V → PeersOf U → Session → Run → Desks V U
+    → Desks V U → Type 0
+Learns d p s run a b = Serves d p s (Learned run) a b None
+
+abbrev pub FailsToLearn : {V U : Type 0} → DeskOf V → PeersOf U → Session → Run → Desks V U
+    → Desks V U → Type 0
+FailsToLearn d p s run a b = ServesPart d p s (Learned run) a b
+
+abbrev pub Ticks : {V U : Type 0} → DeskOf V → PeersOf U → Session → Desks V U → Desks V U → What
+    → Type 0
+Ticks d p s a b answer = Serves d p s Ticked a b (Some answer)
+
+abbrev pub TicksPart : {V U : Type 0} → DeskOf V → PeersOf U → Session → Desks V U → Desks V U
+    → Type 0
+TicksPart d p s a b = ServesPart d p s Ticked a b
+
+abbrev pub Enters : {V U : Type 0} → DeskOf V → PeersOf U → Session → Entry → Desks V U
+    → Desks V U → What → Type 0
+Enters d p s entry a b answer = Serves d p s (Entered entry) a b (Some answer)
+
+abbrev pub EntersPart : {V U : Type 0} → DeskOf V → PeersOf U → Session → Entry → Desks V U
+    → Desks V U → Type 0
+EntersPart d p s entry a b = ServesPart d p s (Entered entry) a b
+
+-- ---- frames
+
+-- what serving changes, where this was written of answers
+abbrev pub sides_with : {V U : Type 0} → (d : DeskOf V) → PeersOf U → (version : Version)
+    → Desks V U → List ℕ → Sides (speaking d.handles version)
+sides_with d p version a written =
+    sides (d.seen a.node) (Some written) (outside d p version a.node a.peers)
+
+-- a frame was served: the bytes of its answer, and how it ends the connection
+abbrev pub ServesFrame : {V U : Type 0} → DeskOf V → PeersOf U → Session → Frame → Desks V U
+    → Desks V U → List ℕ → Option Close → Type 0
+ServesFrame d p s frame a b answer close =
+    (fates : List Fate)
+    × ServesOne s.home (sides_with d p s.wire a []) (sides_with d p s.wire b answer)
+    (record { frame = frame; fates = fates }) close
+
+-- a frame was not served whole, for want of memory
+abbrev pub FailsFrame : {V U : Type 0} → DeskOf V → PeersOf U → Session → Frame → Desks V U
+    → Desks V U → Type 0
+FailsFrame d p s frame a b =
+    (fates : List Fate)
+    × FailsIn fault.NoMemory s.home (sides_with d p s.wire a []) (sides_with d p s.wire b [])
+    (record { frame = frame; fates = fates })
+
+-- the frames that waited in a connection
+abbrev pub ServesWaiting : {V U X : Type 0} → DeskOf V → PeersOf U → WriteOf X → Option End → Talk
+    → Talk → Line V U X → Line V U X → Type 0
+ServesWaiting d p w result old new a b =
+    (how : Option End) × (begun : List Begun) × (left : List Frame)
+    × IsBatch how old.home (sides_of d p w old.wire a) (sides_of d p w old.wire b) old.waiting begun
+    left old.frames new.frames
+    × EndsBy how result old new
+
+-- a piece of the stream, after what a connection held of the stream before
+abbrev pub ServesPiece : {V U X : Type 0} → DeskOf V → PeersOf U → WriteOf X → Option End → List ℕ
+    → Talk → Talk → Line V U X → Line V U X → Type 0
+ServesPiece d p w result piece old new a b =
+    (begun : List Begun) × (rest : List ℕ)
+    × IsPiece result old.home (sides_of d p w old.wire a) (sides_of d p w old.wire b)
+    (old.stream.held ++ piece) begun rest old.frames new.frames new.stream

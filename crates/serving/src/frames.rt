@@ -1,0 +1,65 @@
+//! A frame: its request is served, and its answer is spelled.
+
+ghost use Rattle.std.specs.Prelude.{◌≡◌, IfOk, OnErr};
+ghost use Rattle.wire.specs.Ranges.{IsFrame};
+ghost use Rattle.serving.specs.Asking.{close_by};
+ghost use Rattle.serving.specs.model.Sessions.{FailsFrame, ServesFrame, desks};
+
+use crate::ends::Close;
+use crate::peers::Peers;
+use crate::request::{Ending, request_of};
+use crate::session::Session;
+use acceptor::NoMemory;
+use answers::Desk;
+use wire::Frame;
+
+/// What comes of a frame: the bytes of its answer, none where it has none, and how it ends the
+/// connection of itself, if it does.
+#[derive(Drop)]
+pub struct Reply {
+    pub bytes: Vec<u8>,
+    pub close: Option<Close>,
+}
+
+/// The end of the connection, where the frame after which the desk is seen so ends it.
+fn close_by<D: Desk>(ending: Ending, node: &D) -> Option<Close>
+    ensures { result ≡ close_by ending (D.seen node.now).is_down }
+{
+    match ending {
+        Ending::Never => None,
+        Ending::AtStop => Some(Close::Stopped),
+        Ending::IfDown => {
+            if node.is_down() {
+                Some(Close::Down)
+            } else {
+                None
+            }
+        }
+    }
+}
+
+impl Session {
+    /// Makes the calls and pushes of a frame, and gives what comes of it.
+    pub fn serve_frame<D: Desk, P: Peers>(
+        self,
+        node: &mut D,
+        peers: &mut P,
+        frame: Frame,
+    ) -> Result<Reply, NoMemory>
+        requires home { D.home_of node.old ≡ self.home }
+        requires spelled { IsFrame frame }
+        ensures ok { IfOk result (λ r. ServesFrame D.Desk P.Peers self frame
+            (desks node.old peers.old) (desks node.new peers.new) r.bytes.items r.close) }
+        ensures err { OnErr result (FailsFrame D.Desk P.Peers self frame
+            (desks node.old peers.old) (desks node.new peers.new)) }
+        ensures home { D.home_of node.new ≡ D.home_of node.old }
+    {
+        let version = frame.version;
+        let request = request_of(self.home, frame);
+        let ending = request.ending();
+        let answer = self.serve_request(node, peers, request)?;
+        let bytes = self.spell_answer(version, answer)?;
+        let close = close_by(ending, node);
+        Ok(Reply { bytes, close })
+    }
+}

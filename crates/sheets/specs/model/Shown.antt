@@ -1,0 +1,30 @@
+-- A model of the code: what is printed of the round that is shown.
+use Rattle.std.specs.Prelude.{ℕ, Bool, List}
+use Rattle.formats.specs.Events.{attempts_of, unit_of}
+use Rattle.rounds.specs.declared.table.Row.{Row}
+use Rattle.sheets.specs.declared.shown.Shown.{Shown}
+use Rattle.sheets.specs.Sheet.{name_text, entrant_fields, line_of, record_of, text_of_round}
+use Rattle.sheets.specs.Sheet.{table_of_round}
+
+-- the line of the entrant with a number
+abbrev pub line_shown : Shown → ℕ → List ℕ
+line_shown s n = line_of (unit_of s.event) s.meet.now.accepted s.settings s.table.now n
+
+-- the text at a position
+abbrev pub text_shown : Shown → ℕ → ℕ → List ℕ
+text_shown s round position =
+    text_of_round s.meet.now.accepted s.event round position (s.settings, s.table.now)
+
+-- the fields of a row
+abbrev pub fields_shown : Shown → Row → ℕ → Bool → List (List ℕ)
+fields_shown s row n marked =
+    entrant_fields (unit_of s.event) (attempts_of s.settings.format) row.place n
+    (name_text s.meet.now.accepted n) row.average row.values.now marked
+
+-- the record of the entrant with a number
+abbrev pub record_shown : Shown → ℕ → List ℕ
+record_shown s n = record_of (unit_of s.event) s.meet.now.accepted s.settings s.table.now n
+
+-- the table
+abbrev pub table_shown : Shown → List ℕ
+table_shown s = table_of_round s.meet.now.accepted s.event (s.settings, s.table.now)
