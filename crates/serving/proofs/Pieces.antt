@@ -16,7 +16,7 @@ use Rattle.serving.specs.Making.{Way}
 use Rattle.serving.specs.declared.ends.End.{End}
 use Rattle.serving.specs.declared.ends.End.TheVariants as end
 use Rattle.serving.specs.Connection.{Begun, frames_of, AreBegun, Sides, Serves, IsOpen, EndsAt}
-use Rattle.serving.specs.Connection.{IsConnection}
+use Rattle.serving.specs.Connection.{IsConnection, Reads, failed_at}
 use Rattle.serving.specs.model.Pieces.{EndsInFrames, EndsBatch, IsBatch, EndsPiece, IsPiece}
 use Rattle.serving.proofs.Connecting.{bytes_then, serves_none, serves_then, ends_then}
 use Rattle.serving.proofs.Connecting.{frames_of_both}
@@ -280,12 +280,12 @@ is_open home a b bytes rest bs read left count reader h =
 -- a connection that ends where all frames read are served
 pub stops_so_far : {V : Type 0} {way : Way V} (e : End) (home : Home) (a b : Sides way)
     (bytes rest : List ℕ) (bs : List Begun)
-    (read left : Option (List ℕ)) (count reads : ℕ) (reader : Reader)
-    → SoFar home a b bytes bs rest read left count reader → reads ≤ 19200256
-    → EndsAt e home a b bs rest left reads
+    (read left : Option (List ℕ)) (count : ℕ) (reads : Reads) (reader : Reader)
+    → SoFar home a b bytes bs rest read left count reader → reads.count ≤ 19200256
+    → reads.failed ≡ failed_at e → EndsAt e home a b bs rest left reads.count
     → (bytes : List ℕ) × (begun : List Begun) × (rest : List ℕ)
     × IsConnection (record { frames = count; end = e }) home a b bytes begun rest read left reads
-stops_so_far e home a b bytes rest bs read left count reads reader h bounded ends = (
+stops_so_far e home a b bytes rest bs read left count reads reader h bounded failed ends = (
   bytes,
   bs,
   rest,
@@ -295,6 +295,7 @@ stops_so_far e home a b bytes rest bs read left count reads reader h bounded end
     counted = h.counted;
     few = omega (arith, h.counted, h.few);
     bounded = bounded;
+    failed = failed;
     ends = ends;
   },
 )
@@ -333,6 +334,20 @@ ends_at end.End home a m b bs cs rest left count reads new h counted k = absurd 
 ends_at end.Reads home a m b bs cs rest left count reads new h counted k = absurd k
 ends_at end.Read home a m b bs cs rest left count reads new h counted k = absurd k
 
+-- no piece ends in a failed read
+none_failed : {V : Type 0} {way : Way V} (e : End) (home : Home) (m b : Sides way)
+    (cs : List Begun) (rest : List ℕ) (count : ℕ) (new : Reader)
+    → EndsPiece (Some e) home m b cs rest count new → failed_at e ≡ 0
+none_failed end.Stopped home m b cs rest count new k = refl
+none_failed end.Down home m b cs rest count new k = refl
+none_failed end.Frames home m b cs rest count new k = refl
+none_failed end.Write home m b cs rest count new k = refl
+none_failed end.NoMemory home m b cs rest count new k = refl
+none_failed (end.Fault e) home m b cs rest count new k = refl
+none_failed end.End home m b cs rest count new k = refl
+none_failed end.Reads home m b cs rest count new k = refl
+none_failed end.Read home m b cs rest count new k = absurd k
+
 few_then : (bs cs : List Begun) (before count : ℕ) → before ≡ length bs → count ≡ before + length cs
     → count ≤ 64 → length (bs ++ cs) ≤ 64
 few_then bs cs before count h k few = omega (arith, h, k, few, length-append bs cs)
@@ -341,15 +356,17 @@ few_then bs cs before count h k few = omega (arith, h, k, few, length-append bs 
 pub stops_at_piece : {V : Type 0} {way : Way V} (e : End) (how : Option End) (home : Home)
     (a m b : Sides way)
     (bytes piece rest last : List ℕ) (bs cs : List Begun) (read left later : Option (List ℕ))
-    (before count reads : ℕ) (old new : Reader)
+    (before count : ℕ) (reads : Reads) (old new : Reader)
     → how ≡ Some e → SoFar home a m bytes bs rest read left before old → Consumes left later piece
-    → IsPiece how home m b (old.held ++ piece) cs last before count new → reads ≤ 19200256
+    → IsPiece how home m b (old.held ++ piece) cs last before count new
+    → reads.count ≤ 19200256 → reads.failed ≡ 0
     → (bytes : List ℕ) × (begun : List Begun) × (rest : List ℕ)
     × IsConnection (record { frames = count; end = e }) home a b bytes begun rest read later reads
 stops_at_piece e how home a m b bytes piece rest last bs cs read left later before count reads old
-    new is h more k bounded =
+    new is h more k bounded whole =
     let begins =
     subst (λ z. AreBegun z cs last) (fed_rest old rest piece _ h.holds refl) k.begins in
+    let here = subst (λ z. EndsPiece z home m b cs last count new) is k.ends in
     let counted = counted_then bs cs before count h.counted k.counted in (
       bytes ++ piece,
       bs ++ cs,
@@ -360,8 +377,7 @@ stops_at_piece e how home a m b bytes piece rest last bs cs read left later befo
         counted = counted;
         few = few_then bs cs before count h.counted k.counted k.few;
         bounded = bounded;
-        ends =
-            ends_at e home a m b bs cs last later count reads new h.serves counted
-            (subst (λ z. EndsPiece z home m b cs last count new) is k.ends);
+        failed = whole ∙ sym (none_failed e home m b cs last count new here);
+        ends = ends_at e home a m b bs cs last later count reads.count new h.serves counted here;
       },
     )

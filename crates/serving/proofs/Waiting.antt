@@ -18,7 +18,7 @@ use Rattle.serving.specs.declared.ends.Served.{Served}
 use Rattle.serving.specs.declared.source.Source.{Ghosts as SourceOf}
 use Rattle.serving.specs.Connection.{Begun, frames_of, IsConnection, Sides}
 use Rattle.serving.specs.Making.{Way}
-use Rattle.serving.specs.Sessions.{Line, line, outside, sides_of}
+use Rattle.serving.specs.Sessions.{Line, line, outside, reads_of, sides_of}
 use Rattle.serving.specs.Turns.{Talk, BeginsNext, IsFree, LeavesAt, OnlyReads, ReadsTo, Rests}
 use Rattle.serving.specs.Turns.{WantsRead, after_sent, broken_by, ended, moment, new_talk}
 use Rattle.serving.specs.Turns.{sides_at}
@@ -355,16 +355,18 @@ pub source_stops : {V U X S : Type 0} (d : DeskOf V) (p : PeersOf U) (w : WriteO
     old.frames old.stream
     → Consumes left (s.remaining source) piece → old.home ≡ home → old.wire ≡ wire
     → ServesPiece d p w result piece old new a b → result ≡ Some e
-    → s.reads source ≤ 19200256 → served ≡ record { frames = new.frames; end = e }
+    → s.reads source ≤ 19200256 → s.failed source ≡ 0
+    → served ≡ record { frames = new.frames; end = e }
     → (bytes : List ℕ) × (begun : List Begun) × (rest : List ℕ)
     × IsConnection served home (sides_of d p w wire start) (sides_of d p w wire b) bytes begun rest
-    read (s.remaining source) (s.reads source)
+    read (s.remaining source) (reads_of s source)
 source_stops d p w s e home wire start a b old new bytes rest piece begun read left source result
-    served h more is spoken k some bounded told =
+    served h more is spoken k some bounded whole told =
     let one = from_first d p w result piece old new a b home wire is spoken k in
     subst (λ z. (bytes : List ℕ) × (begun : List Begun) × (rest : List ℕ)
     × IsConnection z home (sides_of d p w wire start) (sides_of d p w wire b) bytes begun rest read
-    (s.remaining source) (s.reads source)) (sym told)
+    (s.remaining source) (reads_of s source)) (sym told)
     (stops_at_piece e result home (sides_of d p w wire start) (sides_of d p w wire a)
     (sides_of d p w wire b) bytes piece rest one.1 begun one.0 read left (s.remaining source)
-    old.frames new.frames (s.reads source) old.stream new.stream some h more one.2 bounded)
+    old.frames new.frames (reads_of s source) old.stream new.stream some h more one.2 bounded
+    whole)

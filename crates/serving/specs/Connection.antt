@@ -208,13 +208,32 @@ EndsAt end.Down home a b begun rest left reads = Closes close.Down home a b begu
 EndsAt end.NoMemory home a b begun rest left reads =
     IsOpen home a b begun ⊎ Fails fault.NoMemory home a b begun
 
+-- how often a reader was read from, and how many of these reads failed, but for those that were
+-- interrupted
+pub record Reads : Type 0 where
+  pub count : ℕ
+  pub failed : ℕ
+
+-- how many reads failed in a connection that ended so: the first one that fails ends it
+abbrev pub failed_at : End → ℕ
+failed_at end.Read = 1
+failed_at end.End = 0
+failed_at end.Stopped = 0
+failed_at end.Frames = 0
+failed_at end.Reads = 0
+failed_at (end.Fault e) = 0
+failed_at end.Write = 0
+failed_at end.Down = 0
+failed_at end.NoMemory = 0
+
 -- a connection: the bytes read are the frames begun and a rest, and the end came by its cause
 pub record IsConnection {V : Type 0} {way : Way V} (result : Served) (home : Home) (a b : Sides way)
     (bytes : List ℕ)
-    (begun : List Begun) (rest : List ℕ) (read left : Option (List ℕ)) (reads : ℕ) : Type 0 where
+    (begun : List Begun) (rest : List ℕ) (read left : Option (List ℕ)) (reads : Reads) : Type 0 where
   pub consumed : Consumes read left bytes
   pub begins : AreBegun bytes begun rest
   pub counted : result.frames ≡ length begun
   pub few : length begun ≤ 64
-  pub bounded : reads ≤ 19200256
-  pub ends : EndsAt result.end home a b begun rest left reads
+  pub bounded : reads.count ≤ 19200256
+  pub failed : reads.failed ≡ failed_at result.end
+  pub ends : EndsAt result.end home a b begun rest left reads.count

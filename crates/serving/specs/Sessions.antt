@@ -6,7 +6,7 @@ use Rattle.wire.specs.declared.values.Version.{Version}
 use Rattle.serving.specs.declared.ends.Served.{Served}
 use Rattle.serving.specs.declared.peers.Peers.{Ghosts as PeersOf}
 use Rattle.serving.specs.declared.source.Source.{Ghosts as SourceOf}
-use Rattle.serving.specs.Connection.{Begun, IsConnection, Sides, sides}
+use Rattle.serving.specs.Connection.{Begun, IsConnection, Reads, Sides, sides}
 use Rattle.serving.specs.Making.{Outside, outside_of, speaking}
 
 -- a node that serves, the other desks of its hall, and the writer of its answers
@@ -29,19 +29,23 @@ abbrev pub sides_of : {V U X : Type 0} → (d : DeskOf V) → PeersOf U → Writ
 sides_of d p w version l =
     sides (d.seen l.node) (w.contents l.writer) (outside d p version l.node l.peers)
 
+-- how often a source was read from, and how many of these reads failed
+abbrev pub reads_of : {S : Type 0} → SourceOf S → S → Reads
+reads_of s source = record { count = s.reads source; failed = s.failed source }
+
 -- a connection was served over a source
 abbrev pub ServesSource : {V U X S : Type 0} → DeskOf V → PeersOf U → WriteOf X → SourceOf S
     → Version → Served → Line V U X → Line V U X → S → S → Type 0
 ServesSource d p w s version result a b source left =
     (bytes : List ℕ) × (begun : List Begun) × (rest : List ℕ)
     × IsConnection result (d.home_of a.node) (sides_of d p w version a) (sides_of d p w version b)
-    bytes begun rest (s.remaining source) (s.remaining left) (s.reads left)
+    bytes begun rest (s.remaining source) (s.remaining left) (reads_of s left)
 
 -- a connection was served over a reader that had these bytes to give
 abbrev pub ServesReader : {V U X : Type 0} → DeskOf V → PeersOf U → WriteOf X → Version → Served
     → Line V U X → Line V U X → Option (List ℕ) → Type 0
 ServesReader d p w version result a b given =
-    (left : Option (List ℕ)) × (reads : ℕ) × (bytes : List ℕ) × (begun : List Begun)
+    (left : Option (List ℕ)) × (reads : Reads) × (bytes : List ℕ) × (begun : List Begun)
     × (rest : List ℕ)
     × IsConnection result (d.home_of a.node) (sides_of d p w version a) (sides_of d p w version b)
     bytes begun rest given left reads

@@ -74,6 +74,7 @@ pub fn serve_source<D: Desk, S: Source, W: Write, P: Peers>(
     wire: Version,
 ) -> Served
     requires fresh { S.reads source.old ≡ 0 }
+    requires whole { S.failed source.old ≡ 0 }
     ensures served { ServesSource D.Desk P.Peers W.Write S.Source wire result
         (line node.old peers.old writer.old) (line node.new peers.new writer.new)
         source.old source.new }

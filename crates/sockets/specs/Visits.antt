@@ -1,7 +1,7 @@
 -- Connections that are served one after the other.
 use Rattle.std.specs.Prelude.{◌≡◌, ◌≤◌, ◌<◌, ℕ, List, [], ◌∷◌, ◌++◌, length, Option, None, Some}
 use Rattle.serving.specs.Adding.{Push}
-use Rattle.serving.specs.Connection.{Begun, IsConnection, sides}
+use Rattle.serving.specs.Connection.{Begun, IsConnection, Reads, sides}
 use Rattle.serving.specs.Making.{Way, Outside, outside_of, speaking}
 use Rattle.serving.specs.declared.peers.Peers.{Ghosts as PeersOf}
 use Rattle.answers.specs.declared.desk.Desk.{Ghosts as DeskOf}
@@ -43,7 +43,7 @@ visit served sends before behind =
 pub record IsVisit {V : Type 0} {way : Way V} (home : Home) (v : Visit)
     (a b : AtRest way) : Type 0 where
   pub left : Option (List ℕ)
-  pub reads : ℕ
+  pub reads : Reads
   pub bytes : List ℕ
   pub begun : List Begun
   pub rest : List ℕ

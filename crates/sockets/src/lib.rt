@@ -3,6 +3,7 @@
 #![tactic(auto)]
 
 mod accepting;
+pub mod laws;
 mod listening;
 mod peers;
 mod serving_all;

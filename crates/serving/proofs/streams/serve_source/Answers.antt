@@ -16,6 +16,7 @@ loop-reads-init g c =
       wants = new_wants _ _ _ is;
       within = omega arith;
       counted = c.requires.fresh;
+      whole = c.requires.whole;
       so_far = ([], [], [], new_so_far _ _ _ _ _ is);
     }
 
@@ -23,7 +24,7 @@ pub returns-in_default-clause-served : goal.returns-in_default-clause-served
 returns-in_default-clause-served g c =
     let so_far = nothing_yet (g.D.Desk.home_of c.args.node.now) _ _ _ refl in
     stops_so_far end.NoMemory (g.D.Desk.home_of c.args.node.now) _ _ [] [] [] _ _ 0 _ _ so_far
-    (omega (arith, c.requires.fresh)) (inl (is_open _ _ _ _ _ _ _ _ _ _ so_far))
+    (omega (arith, c.requires.fresh)) c.requires.whole (inl (is_open _ _ _ _ _ _ _ _ _ _ so_far))
 
 pub serve_piece-requires-clause-open : goal.serve_piece-requires-clause-open
 serve_piece-requires-clause-open g c = c.loop-reads.invariant.so_far.3.few
@@ -40,7 +41,7 @@ returns-in-Some-clause-served g c =
     _ _ _ _ _ _ _ _ _ kept.so_far.3 c.in-Ok-read_once.ensures.bytes.0 kept.first kept.wire piece
     c.in-Some.is
     (omega (arith, kept.counted, c.read_once.ensures.counted, c.loop-reads-test.true))
-    c.served-in-Some.ensures
+    (c.in-Ok-read_once.ensures.good ∙ kept.whole) c.served-in-Some.ensures
 
 pub loop-reads-preserved-in_default-serve_piece : goal.loop-reads-preserved-in_default-serve_piece
 loop-reads-preserved-in_default-serve_piece g c =
@@ -53,6 +54,7 @@ loop-reads-preserved-in_default-serve_piece g c =
       wants = goes_on.wants c.in_default-serve_piece.is;
       within = omega (arith, c.loop-reads-test.true);
       counted = omega (arith, kept.counted, c.read_once.ensures.counted);
+      whole = c.in-Ok-read_once.ensures.good ∙ kept.whole;
       so_far =
           source_more g.D.Desk g.P.Peers g.W.Write _ c.args.wire
           (line c.args.node.now c.args.peers.now c.args.writer.now)

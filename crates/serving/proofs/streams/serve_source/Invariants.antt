@@ -14,6 +14,7 @@ invariant-loop-reads g l = record {
   wants : WantsRead l.connection;
   within : l.reads ≤ 19200256;
   counted : g.S.Source.reads l.source ≡ l.reads;
+  whole : g.S.Source.failed l.source ≡ 0;
   so_far : (bytes : List ℕ) × (begun : List Begun) × (rest : List ℕ)
       × SoFar (g.D.Desk.home_of l.initial.node)
       (sides_of g.D.Desk g.P.Peers g.W.Write l.fn.wire

@@ -1,0 +1,6 @@
+pub mod Pauses
+pub mod Kept
+pub mod Spread
+pub mod Quiet
+pub mod Ticks
+pub mod Rows
