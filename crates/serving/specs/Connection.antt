@@ -229,7 +229,8 @@ failed_at end.NoMemory = 0
 -- a connection: the bytes read are the frames begun and a rest, and the end came by its cause
 pub record IsConnection {V : Type 0} {way : Way V} (result : Served) (home : Home) (a b : Sides way)
     (bytes : List ℕ)
-    (begun : List Begun) (rest : List ℕ) (read left : Option (List ℕ)) (reads : Reads) : Type 0 where
+    (begun : List Begun) (rest : List ℕ) (read left : Option (List ℕ))
+    (reads : Reads) : Type 0 where
   pub consumed : Consumes read left bytes
   pub begins : AreBegun bytes begun rest
   pub counted : result.frames ≡ length begun

@@ -163,7 +163,8 @@ waits_for home came taken rest all talk h wants =
 
 -- ---- a frame was begun
 
-begun_more : (all : List Served) (f : Served) → begun_of (all ++ f ∷ []) ≡ begun_of all ++ f.one ∷ []
+begun_more : (all : List Served) (f : Served)
+    → begun_of (all ++ f ∷ []) ≡ begun_of all ++ f.one ∷ []
 begun_more [] f = refl
 begun_more (x ∷ all) f = ap (λ z. x.one ∷ z) (begun_more all f)
 

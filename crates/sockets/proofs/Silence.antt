@@ -32,7 +32,8 @@ record IsIdle (talk : Talk) : Type 0 where
 
 idle_first : (home : Home) (wire : Version) (talk : Talk) → talk ≡ new_talk home wire → IsIdle talk
 idle_first home wire talk is =
-    subst IsIdle (sym is) (record { stream = refl; waiting = refl; pending = refl; open_still = refl })
+    subst IsIdle (sym is)
+    (record { stream = refl; waiting = refl; pending = refl; open_still = refl })
 
 -- of two lists that are nothing together each is nothing
 first_nothing : {T : Type 0} (xs ys : List T) → xs ++ ys ≡ [] → xs ≡ []
@@ -174,7 +175,8 @@ goes_joined {V} {way} k t a b c other g h = record {
       subst (λ (z : Place way). Turns t.turn z (place_of (joined k b c) t.number))
       (sym (place_as t.number a c (h.talks t.number other) h.seen h.outside))
       (subst (λ (z : Place way). Turns t.turn (place_of a t.number) z)
-      (sym (place_as t.number b (joined k b c) (joined_other k t.number b c other) refl refl)) g.turn);
+      (sym (place_as t.number b (joined k b c) (joined_other k t.number b c other) refl refl))
+      g.turn);
   others = λ j not_it. go j not_it (eqb j k) refl;
 }
   where
