@@ -1,8 +1,7 @@
 //! The streams of a line, which a desk serves one after the other, a connection each.
 
 use crate::side::{Pieces, Side};
-use crate::steps::misspelt;
-use crate::tokens::bytes_of;
+use run_lines::{bytes_of, misspelt};
 use std::alloc::Global;
 use std::io;
 use std::io::Write;

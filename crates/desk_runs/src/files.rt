@@ -2,7 +2,7 @@
 
 use crate::disks::{Disks, IntoDisks, LONG, Visit, filled_disks, open_for, whole_disks};
 use crate::opening::show_over;
-use crate::steps::{cut, number};
+use run_lines::{cut, number};
 use sqlite::{Alter, Connection, Error};
 use std::alloc::{AllocError, Global};
 use std::io;

@@ -61,7 +61,6 @@ mod steps;
 mod stops;
 mod stored;
 mod streams;
-mod tokens;
 
 use crate::files::Shelf;
 use std::alloc::Global;

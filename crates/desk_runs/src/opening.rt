@@ -2,9 +2,10 @@
 //!
 //! What drops a connection is written over any kind of it, so that no proof takes one apart.
 
-use crate::steps::{cut, misspelt, number, show_steps, small};
+use crate::steps::show_steps;
 use acceptor::stored::{Change, Stored};
 use learner::log::Log;
+use run_lines::{cut, misspelt, number, small};
 use sqlite::{Alter, Connection};
 use std::alloc::Global;
 use std::io;

@@ -4,30 +4,11 @@ use acceptor::ballot::Ballot;
 use acceptor::entry::{Entry, EntryFault};
 use acceptor::stored::{Change, Vote};
 use learner::log::Log;
+use run_lines::{cut, number, small};
 use std::alloc::Global;
 use std::io;
-use std::io::{Error, ErrorKind, Write};
+use std::io::Write;
 use store::keeper::Keeper;
-
-/// A line that asks for nothing.
-pub fn misspelt() -> Error {
-    Error::from(ErrorKind::InvalidInput)
-}
-
-/// What stands in front of the first such character, and what stands after it.
-pub fn cut(text: &str, by: char) -> (&str, &str) {
-    text.split_once(by).unwrap_or((text, ""))
-}
-
-/// A number, or 0 where it is none.
-pub fn number(text: &str) -> u32 {
-    text.parse::<u32>().unwrap_or(0)
-}
-
-/// A number of one byte.
-pub fn small(text: &str) -> u8 {
-    number(text).min(255) as u8
-}
 
 /// The ballot in front, and what stands after it.
 fn ballot_of(text: &str) -> (Ballot, &str) {

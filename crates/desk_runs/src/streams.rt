@@ -3,9 +3,9 @@
 use crate::damage::put_damage;
 use crate::frames::{Drawn, STOP, below, draw};
 use crate::side::{Pieces, Side};
-use crate::steps::misspelt;
 use rand_core::SeedableRng;
 use rand_xoshiro::SplitMix64;
+use run_lines::misspelt;
 use serving::{End, Served};
 use std::alloc::{AllocError, Global};
 use std::io;

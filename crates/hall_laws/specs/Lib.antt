@@ -1,3 +1,4 @@
 pub mod Stops
 pub mod Served
 pub mod Arriving
+pub mod OwnMessages

@@ -1,9 +1,10 @@
 //! A competition: commands, what they are answered, and what they come to.
 
-use crate::fields::{count, cut, misspelt, number, push_line, small};
+use crate::fields::{count, push_line};
 use attempts::NoMemory;
 use commands::{Answer, Meet, print, read};
 use formats::Event;
+use run_lines::{cut, misspelt, number, small};
 use sheets::{SheetFault, table, text};
 use std::alloc::Global;
 use std::io;

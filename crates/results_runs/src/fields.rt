@@ -1,29 +1,9 @@
 //! The fields of a line.
 
 use attempts::Value;
+use run_lines::number;
 use std::alloc::{AllocError, Global};
 use std::io;
-use std::io::{Error, ErrorKind};
-
-/// A line that asks for nothing.
-pub fn misspelt() -> Error {
-    Error::from(ErrorKind::InvalidInput)
-}
-
-/// What stands in front of the first such character, and what stands behind it.
-pub fn cut(text: &str, by: char) -> (&str, &str) {
-    text.split_once(by).unwrap_or((text, ""))
-}
-
-/// A number, or 0 where it is none.
-pub fn number(text: &str) -> u32 {
-    text.parse::<u32>().unwrap_or(0)
-}
-
-/// A number of one byte.
-pub fn small(text: &str) -> u8 {
-    number(text).min(255) as u8
-}
 
 /// A number of competitors.
 pub fn count(text: &str) -> u16 {

@@ -62,7 +62,7 @@ fn run_plain(alloc: Global, out: &mut Vec<u8>, word: &str, rest: &str) -> io::Re
 
 /// Does what a line asks for.
 fn run_line(alloc: Global, meet: &mut Meet, out: &mut Vec<u8>, line: &str) -> io::Result<()> {
-    let (word, rest) = fields::cut(line, ' ');
+    let (word, rest) = run_lines::cut(line, ' ');
     match word {
         "" => Ok(()),
         "#" => fields::push_line(out, line.as_bytes()),
@@ -83,7 +83,7 @@ fn run_bytes(alloc: Global, meet: &mut Meet, out: &mut Vec<u8>, line: &[u8]) -> 
     }
     match line.strip_prefix(b"read ".as_slice()) {
         Some(text) => competition::show_command(alloc, out, text),
-        None => Err(fields::misspelt()),
+        None => Err(run_lines::misspelt()),
     }
 }
 

@@ -1,9 +1,10 @@
 //! Moves, what they make of a cube, and solutions.
 
-use crate::fields::{cut, misspelt, push_line};
+use crate::fields::push_line;
 use cube::{Cube, Move, Side};
 use fmc_check::check;
 use notation::{MOST_MOVES, Moves, count, print, read};
+use run_lines::{cut, misspelt};
 use std::alloc::Global;
 use std::io;
 use std::io::Write;

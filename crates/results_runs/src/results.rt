@@ -2,7 +2,7 @@
 
 ghost use Rattle.attempts.specs.Attempts.{IsOutcome};
 
-use crate::fields::{count, cut, misspelt, number, push_line, small, value, values};
+use crate::fields::{count, push_line, value, values};
 use attempts::{
     NoMemory, Outcome, Unit, Value, in_range, in_range_of, print_value, push_decimal,
     push_two_digits, settle,
@@ -12,6 +12,7 @@ use formats::{
     Averaged, Event, Format, RankKey, average, best, better, is_format_of, key, print_average,
     unit_of,
 };
+use run_lines::{cut, misspelt, number, small};
 use std::alloc::Global;
 use std::io;
 use std::io::Write;

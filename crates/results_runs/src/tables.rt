@@ -1,9 +1,10 @@
 //! The tables of events, formats, codes and advancement.
 
-use crate::fields::{count, cut, small};
+use crate::fields::count;
 use advancement::{Advance, later_rounds, quota};
 use commands::Code;
 use formats::{Event, Format, allowed, attempts_of, unit_of};
+use run_lines::{cut, small};
 use std::io;
 use std::io::Write;
 

@@ -1,6 +1,6 @@
 //! HMAC-SHA-256, the key of a connection, and prefaces.
 
-use crate::tokens::{next_array, next_bytes};
+use crate::parts::{next_array, next_bytes};
 use seal::{connection_key, hmac, preface, random_of};
 use std::io;
 use std::io::{Error, ErrorKind};

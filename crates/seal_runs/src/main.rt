@@ -15,8 +15,8 @@
 #![tactic(auto)]
 
 mod keys;
+mod parts;
 mod streams;
-mod tokens;
 
 use keys::{show_hmac, show_key, show_random};
 use std::io;

@@ -1,7 +1,8 @@
 //! What a sealer makes of bodies, and what an opener hands on.
 
 use crate::keys::show_bytes;
-use crate::tokens::{bytes_of, next_array, next_bytes};
+use crate::parts::{next_array, next_bytes};
+use run_lines::bytes_of;
 use seal::{Channel, Direction, NoMemory, Opener, SealFault, Sealer, hmac};
 use std::alloc::Global;
 use std::io;

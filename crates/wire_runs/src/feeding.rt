@@ -5,7 +5,7 @@ ghost use Rattle.std.specs.List.{AllByRecursion};
 ghost use Rattle.wire.specs.Ranges.{IsFrame};
 
 use crate::spelled::{front, push_spelled};
-use crate::tokens::bytes_of;
+use run_lines::bytes_of;
 use std::io;
 use std::io::{Error, ErrorKind};
 use wire::{Frame, FrameReader, NoMemory, WireFault};

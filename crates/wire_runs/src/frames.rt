@@ -5,7 +5,7 @@ ghost use Rattle.wire.specs.Ranges.{IsFrame};
 
 use crate::feeding::fed;
 use crate::spelled::{front, push_spelled};
-use crate::tokens::bytes_of;
+use run_lines::bytes_of;
 use std::alloc::Global;
 use std::io;
 use wire::{Frame, FrameReader, NoMemory};

@@ -16,7 +16,6 @@
 mod feeding;
 mod frames;
 mod spelled;
-mod tokens;
 
 use feeding::{show_answers, show_stream};
 use frames::show_frames;

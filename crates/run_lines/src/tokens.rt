@@ -1,10 +1,10 @@
 //! Bytes that are written as hexadecimal digits.
 
-use crate::steps::misspelt;
+use crate::fields::misspelt;
 use std::alloc::Global;
 use std::io;
 
-/// Puts the bytes of a token after others.
+/// Puts the bytes of a token after others. `*N` at its end repeats it so often.
 fn push_token(alloc: Global, bytes: &mut Vec<u8>, token: &str) -> io::Result<()> {
     let (digits, times) = token.split_once('*').unwrap_or((token, "1"));
     let Ok(times) = times.parse::<u32>() else {

@@ -1,0 +1,10 @@
+pub mod Fates
+pub mod Orders
+pub mod Cuts
+pub mod Keeping
+pub mod Pushes
+pub mod Endings
+pub mod Sendings
+pub mod Kept
+pub mod Tries
+pub mod Telling
