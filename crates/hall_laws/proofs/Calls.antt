@@ -1,6 +1,6 @@
 -- What is said of one desk's calls is what is said of the world's happenings.
 use Rattle.std.proofs.Common.{◌≡◌, ◌≤◌, ◌⊎◌, inl, inr, ℕ, Bool, true, false, if◌then◌else◌, List}
-use Rattle.std.proofs.Common.{[], ◌++◌, Option, Some, Result, Ok, Err, IfOk, refl, sym, ap, ◌∙◌}
+use Rattle.std.proofs.Common.{[], Option, Result, Ok, Err, IfOk, refl, sym, ap, ◌∙◌}
 use Rattle.std.proofs.Common.{arith}
 use Rattle.std.proofs.lemmas.List.{append-nil}
 use Rattle.std.proofs.lemmas.Bool.Decides.{nat_tests}
@@ -9,7 +9,7 @@ use Rattle.acceptor.specs.declared.entry.Entry.{Entry}
 use Rattle.acceptor.specs.declared.message.Message.{Message}
 use Rattle.acceptor.specs.declared.stored.Stored.{Stored}
 use Rattle.learner.specs.declared.event.DeskEvent.{DeskEvent}
-use Rattle.learner.specs.declared.event.DeskEvent.TheVariants.{Submit, Start, Tick, Deliver}
+use Rattle.learner.specs.declared.event.DeskEvent.TheVariants.{Deliver}
 use Rattle.learner.specs.declared.event.WorldEvent.{WorldEvent}
 use Rattle.learner.specs.declared.event.WorldEvent.TheVariants.{Submit as SubmitAt}
 use Rattle.learner.specs.declared.event.WorldEvent.TheVariants.{Start as StartAt, Tick as TickAt}
@@ -19,7 +19,6 @@ use Rattle.learner.specs.Desks.{Desk, restarted}
 use Rattle.learner.specs.Steps.{Done, IsDesk, is_desk, step}
 use Rattle.learner.specs.Worlds.{World, put, world_after, at_desk, nth_sent, delivered, restart_at}
 use Rattle.learner.specs.Worlds.{happens}
-use Rattle.store.specs.Keeping.{HoldsEither}
 use Rattle.store.specs.declared.keeper.Keeper.{Ghosts}
 use Rattle.world.proofs.Places.{put_same}
 use Rattle.roles.specs.declared.fault.NodeFault.{NodeFault}

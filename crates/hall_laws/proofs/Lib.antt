@@ -4,3 +4,11 @@ pub mod OwnMessages
 pub mod Putting
 pub mod Running
 pub mod Stopping
+pub mod Senders
+pub mod Acts
+pub mod InTime
+pub mod Settling
+pub mod Requests
+pub mod Following
+pub mod Events
+pub mod Pushes

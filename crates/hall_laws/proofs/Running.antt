@@ -1,6 +1,6 @@
 -- The calls of served frames are a run of the world.
-use Rattle.std.proofs.Common.{◌≡◌, refl, sym, ap, subst, ◌∙◌, ℕ, Bool, true, false, cond, nat_lt}
-use Rattle.std.proofs.Common.{◌≤◌, List, [], ◌∷◌, ◌++◌, length, Option, None, Some, Result, Ok, Err}
+use Rattle.std.proofs.Common.{◌≡◌, refl, sym, ap, ◌∙◌, ℕ, Bool, true, false, cond, nat_lt}
+use Rattle.std.proofs.Common.{List, [], ◌∷◌, ◌++◌, length, Option, None, Some, Result, Ok, Err}
 use Rattle.std.proofs.lemmas.List.{append-nil, append_assoc}
 use Rattle.std.proofs.lemmas.Bool.{ltb-false}
 use Rattle.acceptor.specs.declared.message.Message.{Message}
@@ -11,7 +11,7 @@ use Rattle.learner.specs.declared.event.WorldEvent.{WorldEvent}
 use Rattle.learner.specs.declared.event.WorldEvent.TheVariants.{Submit as SubmitAt}
 use Rattle.learner.specs.declared.event.WorldEvent.TheVariants.{Start as StartAt, Tick as TickAt}
 use Rattle.learner.specs.declared.event.WorldEvent.TheVariants.{Deliver as DeliverNth}
-use Rattle.learner.specs.Worlds.{World, put}
+use Rattle.learner.specs.Worlds.{World}
 use Rattle.replica.specs.Handles.{Handles}
 use Rattle.replica.specs.Nodes.{NodeValue}
 use Rattle.store.specs.declared.keeper.Keeper.{Ghosts}
@@ -23,10 +23,9 @@ use Rattle.roles.specs.declared.fault.NodeFault.{NodeFault}
 use Rattle.wire.specs.declared.frame.What.{What}
 use Rattle.wire.specs.declared.frame.What.TheVariants as what
 use Rattle.wire.specs.declared.values.ClientRefusal.TheVariants as refusal
-use Rattle.serving.specs.Answering.{printed, printed_as, sheet}
-use Rattle.serving.specs.Making.{Call, Lead}
+use Rattle.serving.specs.Answering.{printed_as, sheet}
 use Rattle.serving.specs.Nodes.{Fate, Goes, Starves, Breaks}
-use Rattle.hall_laws.specs.Served.{handed_out, all_handed_out, IsSentTo, AreSentTo, StandsFor}
+use Rattle.hall_laws.specs.Served.{handed_out, all_handed_out, IsSentTo, StandsFor}
 use Rattle.hall_laws.specs.Served.{CallsAreARun, SheetsAreOfTheLog}
 use Rattle.serving.specs.Serving.{first_fate}
 

@@ -2,3 +2,4 @@ pub mod Stops
 pub mod Served
 pub mod Arriving
 pub mod OwnMessages
+pub mod Pushing

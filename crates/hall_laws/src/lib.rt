@@ -4,11 +4,13 @@
 
 mod arriving;
 mod own_messages;
+mod pushing;
 mod served;
 mod stops;
 
 pub use arriving::messages_arrive;
 pub use own_messages::{own_messages_were_sent, served_frames_happen};
+pub use pushing::messages_are_pushed;
 pub use served::{calls_are_a_run, sheets_are_of_the_log};
 pub use stops::{calls_are_happenings, stops_make_a_run};
 pub use world::laws::headline;

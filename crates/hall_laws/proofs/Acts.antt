@@ -1,0 +1,248 @@
+-- Lists of acts, and how a call's answer fits whether the node is down.
+use Rattle.std.proofs.Common.{◌≡◌, refl, sym, ap, ◌∙◌, ℕ, zero, suc, ◌⊎◌, inl, inr, Bool, true}
+use Rattle.std.proofs.Common.{false, ◌==◌, if◌then◌else◌, List, [], ◌∷◌, ◌++◌, map, drop, Result}
+use Rattle.std.proofs.Common.{Ok, Err}
+use Rattle.std.proofs.lemmas.List.{append-nil, append_assoc}
+use Rattle.acceptor.specs.declared.message.Message.{Message}
+use Rattle.answers.specs.Seen.{Seen}
+use Rattle.learner.specs.Steps.{Done, step}
+use Rattle.learner.specs.declared.event.DeskEvent.{DeskEvent}
+use Rattle.proposer.specs.declared.fault.Refusal.{Refusal}
+use Rattle.proposer.specs.declared.fault.Refusal.TheVariants as refusal
+use Rattle.roles.specs.declared.fault.NodeFault.{NodeFault}
+use Rattle.roles.specs.declared.fault.NodeFault.TheVariants as fault
+use Rattle.serving.specs.Nodes.{Fate, Goes, Starves, Breaks, by_step, by_fate, reply}
+use Rattle.serving.specs.Serving.{Act, Called, Pushed, Answered, waiting_after, to_others}
+use Rattle.store.specs.declared.home.Home.{Home}
+use Rattle.hall_laws.specs.Pushing.{handed, said_by, pushed_messages, runs_pushed, says_down}
+use Rattle.hall_laws.specs.Pushing.{after_down}
+use Rattle.hall_laws.specs.Served.{handed_out}
+
+-- ---- lists of acts
+
+pub others_both : (d : ℕ) (xs ys : List Message)
+    → to_others d (xs ++ ys) ≡ to_others d xs ++ to_others d ys
+others_both d [] ys = refl
+others_both d (m ∷ xs) ys = go (m.to == d) (others_both d xs ys)
+  where
+    go : (t : Bool) → to_others d (xs ++ ys) ≡ to_others d xs ++ to_others d ys
+        → (if t then to_others d (xs ++ ys) else m ∷ to_others d (xs ++ ys))
+        ≡ (if t then to_others d xs else m ∷ to_others d xs) ++ to_others d ys
+    go true h = h
+    go false h = ap (λ z. m ∷ z) h
+
+pub handed_both : (xs ys : List Act) → handed (xs ++ ys) ≡ handed xs ++ handed ys
+handed_both [] ys = refl
+handed_both (Called e r ∷ xs) ys =
+    ap (λ z. handed_out r ++ z) (handed_both xs ys)
+    ∙ sym (append_assoc (handed_out r) (handed xs) (handed ys))
+handed_both (Pushed m ∷ xs) ys = handed_both xs ys
+handed_both (Answered run ∷ xs) ys = handed_both xs ys
+
+pub pushed_both : (xs ys : List Act)
+    → pushed_messages (xs ++ ys) ≡ pushed_messages xs ++ pushed_messages ys
+pushed_both [] ys = refl
+pushed_both (Called e r ∷ xs) ys = pushed_both xs ys
+pushed_both (Pushed m ∷ xs) ys = ap (λ z. m ∷ z) (pushed_both xs ys)
+pushed_both (Answered run ∷ xs) ys =
+    ap (λ z. said_by run ++ z) (pushed_both xs ys)
+    ∙ sym (append_assoc (said_by run) (pushed_messages xs) (pushed_messages ys))
+
+pub runs_both : (xs ys : List Act) → runs_pushed (xs ++ ys) ≡ runs_pushed xs ++ runs_pushed ys
+runs_both [] ys = refl
+runs_both (Called e r ∷ xs) ys = runs_both xs ys
+runs_both (Pushed m ∷ xs) ys = runs_both xs ys
+runs_both (Answered run ∷ xs) ys = ap (λ z. run ∷ z) (runs_both xs ys)
+
+pub pushed_map : (ms : List Message) → pushed_messages (map (λ m. Pushed m) ms) ≡ ms
+pushed_map [] = refl
+pushed_map (m ∷ ms) = ap (λ z. m ∷ z) (pushed_map ms)
+
+pub runs_map : (ms : List Message) → runs_pushed (map (λ m. Pushed m) ms) ≡ []
+runs_map [] = refl
+runs_map (m ∷ ms) = runs_map ms
+
+-- from wherever they are read, these acts hand nothing out
+abbrev pub HandNothing : List Act → Type 0
+HandNothing acts = (k : ℕ) → handed (drop k acts) ≡ []
+
+pub map_hands_nothing : (ms : List Message) → HandNothing (map (λ m. Pushed m) ms)
+map_hands_nothing [] zero = refl
+map_hands_nothing [] (suc k) = refl
+map_hands_nothing (m ∷ ms) zero = map_hands_nothing ms zero
+map_hands_nothing (m ∷ ms) (suc k) = map_hands_nothing ms k
+
+pub one_hands_nothing : (act : Act) → handed (act ∷ []) ≡ [] → HandNothing (act ∷ [])
+one_hands_nothing act h zero = h
+one_hands_nothing act h (suc zero) = refl
+one_hands_nothing act h (suc (suc k)) = refl
+
+pub handed_same : (n : ℕ) (xs ys : List Act) → HandNothing ys
+    → handed (drop n (xs ++ ys)) ≡ handed (drop n xs)
+handed_same zero xs ys h =
+    handed_both xs ys ∙ ap (λ z. handed xs ++ z) (h zero) ∙ append-nil (handed xs)
+handed_same (suc n) [] ys h = h (suc n)
+handed_same (suc n) (x ∷ xs) ys h = handed_same n xs ys h
+
+-- ---- a call
+
+-- how a call's answer fits whether the node is down before it and after it
+abbrev pub Fits : Bool → Result (List Message) NodeFault → Bool → Type 0
+Fits before (Ok ms) after = (before ≡ false) × (after ≡ false)
+Fits before (Err fault.Down) after = after ≡ true
+Fits before (Err fault.Busy) after = (before ≡ false) × (after ≡ false)
+Fits before (Err fault.LogFull) after = (before ≡ false) × (after ≡ false)
+Fits before (Err fault.BallotsSpent) after = (before ≡ false) × (after ≡ false)
+Fits before (Err fault.NoMemory) after = (before ≡ false) × (after ≡ false)
+
+step_fits : (x : Seen) (r : Result Done Refusal) → x.is_down ≡ false
+    → Fits x.is_down (by_step x r).result (by_step x r).seen.is_down
+step_fits x (Ok r) up = (up, up)
+step_fits x (Err refusal.Busy) up = (up, up)
+step_fits x (Err refusal.LogFull) up = (up, up)
+step_fits x (Err refusal.BallotsSpent) up = (up, up)
+
+fate_fits : (home : Home) (x : Seen) (event : DeskEvent) (fate : Fate) → x.is_down ≡ false
+    → Fits x.is_down (by_fate home x event fate).result (by_fate home x event fate).seen.is_down
+fate_fits home x event Goes up = step_fits x (step home.desks home.desk x.desk event) up
+fate_fits home x event Starves up = (up, up)
+fate_fits home x event Breaks up = refl
+
+pub reply_fits : (home : Home) (x : Seen) (event : DeskEvent) (fate : Fate)
+    → Fits x.is_down (reply home x event fate).result (reply home x event fate).seen.is_down
+reply_fits home x event fate = go x.is_down refl
+  where
+    go : (t : Bool) → x.is_down ≡ t
+        → Fits x.is_down
+        (if t then record { result = Err fault.Down; seen = x }
+        else by_fate home x event fate).result
+        (if t then record { result = Err fault.Down; seen = x }
+        else by_fate home x event fate).seen.is_down
+    go true is = is
+    go false is = fate_fits home x event fate is
+
+-- ---- at Down
+
+-- a call among these said that the desk is down
+abbrev pub has_down : List Act → Bool
+has_down [] = false
+has_down (Called e r ∷ acts) = if says_down r then true else has_down acts
+has_down (Pushed m ∷ acts) = has_down acts
+has_down (Answered run ∷ acts) = has_down acts
+
+-- after a call that said so nothing was pushed, the desk is down, and nothing waits
+pub record Quiet (acts : List Act) (down : Bool) (waiting : List Message) : Type 0 where
+  pub after : pushed_messages (after_down acts) ≡ []
+  pub stays : has_down acts ≡ true → (down ≡ true) × (waiting ≡ [])
+
+after_both : (xs ys : List Act) → pushed_messages (after_down xs) ≡ []
+    → (has_down xs ≡ true → pushed_messages ys ≡ []) → pushed_messages (after_down ys) ≡ []
+    → pushed_messages (after_down (xs ++ ys)) ≡ []
+after_both [] ys h k l = l
+after_both (Called e r ∷ xs) ys h k l =
+    go (says_down r) h k (λ a b. after_both xs ys a b l)
+  where
+    go : (t : Bool) → pushed_messages (if t then xs else after_down xs) ≡ []
+        → ((if t then true else has_down xs) ≡ true → pushed_messages ys ≡ [])
+        → (pushed_messages (after_down xs) ≡ [] → (has_down xs ≡ true → pushed_messages ys ≡ [])
+        → pushed_messages (after_down (xs ++ ys)) ≡ [])
+        → pushed_messages (if t then xs ++ ys else after_down (xs ++ ys)) ≡ []
+    go true h k ih =
+        pushed_both xs ys ∙ ap (λ z. z ++ pushed_messages ys) h ∙ k refl
+    go false h k ih = ih h k
+after_both (Pushed m ∷ xs) ys h k l = after_both xs ys h k l
+after_both (Answered run ∷ xs) ys h k l = after_both xs ys h k l
+
+has_either : (xs ys : List Act) → has_down (xs ++ ys) ≡ true
+    → (has_down xs ≡ true) ⊎ (has_down ys ≡ true)
+has_either [] ys h = inr h
+has_either (Called e r ∷ xs) ys h = go (says_down r) h (λ k. has_either xs ys k)
+  where
+    go : (t : Bool) → (if t then true else has_down (xs ++ ys)) ≡ true
+        → (has_down (xs ++ ys) ≡ true → (has_down xs ≡ true) ⊎ (has_down ys ≡ true))
+        → ((if t then true else has_down xs) ≡ true) ⊎ (has_down ys ≡ true)
+    go true h ih = inl refl
+    go false h ih = ih h
+has_either (Pushed m ∷ xs) ys h = has_either xs ys h
+has_either (Answered run ∷ xs) ys h = has_either xs ys h
+
+pub quiet_both : (xs ys : List Act) (before after : Bool) (waiting rest : List Message)
+    → Quiet xs before waiting → pushed_messages (after_down ys) ≡ []
+    → (before ≡ true → waiting ≡ []
+    → (pushed_messages ys ≡ []) × (after ≡ true) × (rest ≡ []))
+    → (has_down ys ≡ true → (after ≡ true) × (rest ≡ []))
+    → Quiet (xs ++ ys) after rest
+quiet_both xs ys before after waiting rest q h k l = record {
+  after = after_both xs ys q.after (λ is. (k (q.stays is).0 (q.stays is).1).0) h;
+  stays = λ is. go (has_either xs ys is);
+}
+  where
+    go : (has_down xs ≡ true) ⊎ (has_down ys ≡ true) → (after ≡ true) × (rest ≡ [])
+    go (inl is) = let both = k (q.stays is).0 (q.stays is).1 in (both.1, both.2)
+    go (inr is) = l is
+
+-- at a call
+answer_was_down : (before after : Bool) (waiting : List Message)
+    (r : Result (List Message) NodeFault)
+    → Fits before r after → before ≡ true → (after ≡ true) × (waiting_after waiting r ≡ [])
+answer_was_down before after waiting (Ok ms) fits is = let up = fits.0 in absurd cc
+answer_was_down before after waiting (Err fault.Down) fits is = (fits, refl)
+answer_was_down before after waiting (Err fault.Busy) fits is = let up = fits.0 in absurd cc
+answer_was_down before after waiting (Err fault.LogFull) fits is = let up = fits.0 in absurd cc
+answer_was_down before after waiting (Err fault.BallotsSpent) fits is =
+    let up = fits.0 in absurd cc
+answer_was_down before after waiting (Err fault.NoMemory) fits is = let up = fits.0 in absurd cc
+
+answer_goes_down : (before after : Bool) (waiting : List Message) (event : DeskEvent)
+    (r : Result (List Message) NodeFault)
+    → Fits before r after → has_down (Called event r ∷ []) ≡ true
+    → (after ≡ true) × (waiting_after waiting r ≡ [])
+answer_goes_down before after waiting event (Ok ms) fits is = absurd cc
+answer_goes_down before after waiting event (Err fault.Down) fits is = (fits, refl)
+answer_goes_down before after waiting event (Err fault.Busy) fits is = absurd cc
+answer_goes_down before after waiting event (Err fault.LogFull) fits is = absurd cc
+answer_goes_down before after waiting event (Err fault.BallotsSpent) fits is = absurd cc
+answer_goes_down before after waiting event (Err fault.NoMemory) fits is = absurd cc
+
+none_after_call : (event : DeskEvent) (r : Result (List Message) NodeFault)
+    → pushed_messages (after_down (Called event r ∷ [])) ≡ []
+none_after_call event r = go (says_down r)
+  where
+    go : (t : Bool) → pushed_messages (if t then [] else []) ≡ []
+    go true = refl
+    go false = refl
+
+pub quiet_call : (acts : List Act) (before after : Bool) (waiting : List Message)
+    (event : DeskEvent) (r : Result (List Message) NodeFault)
+    → Fits before r after → Quiet acts before waiting
+    → Quiet (acts ++ Called event r ∷ []) after (waiting_after waiting r)
+quiet_call acts before after waiting event r fits q =
+    quiet_both acts (Called event r ∷ []) before after waiting (waiting_after waiting r) q
+    (none_after_call event r)
+    (λ is none.
+    let both = answer_was_down before after waiting r fits is in (refl, both.0, both.1))
+    (answer_goes_down before after waiting event r fits)
+
+-- at pushes
+none_after_pushes : (ms : List Message)
+    → pushed_messages (after_down (map (λ m. Pushed m) ms)) ≡ []
+none_after_pushes [] = refl
+none_after_pushes (m ∷ ms) = none_after_pushes ms
+
+none_down : (ms : List Message) → has_down (map (λ m. Pushed m) ms) ≡ false
+none_down [] = refl
+none_down (m ∷ ms) = none_down ms
+
+pub quiet_pushes : (acts : List Act) (down : Bool) (waiting ms rest : List Message)
+    → (waiting ≡ [] → (ms ≡ []) × (rest ≡ [])) → Quiet acts down waiting
+    → Quiet (acts ++ map (λ m. Pushed m) ms) down rest
+quiet_pushes acts down waiting ms rest none q =
+    quiet_both acts (map (λ m. Pushed m) ms) down down waiting rest q (none_after_pushes ms)
+    (λ is empty. (pushed_map ms ∙ (none empty).0, is, (none empty).1))
+    (λ is. let not_so = none_down ms in absurd cc)
+
+-- where what waits is dropped
+pub quiet_dropped : (acts : List Act) (down : Bool) (waiting : List Message)
+    → Quiet acts down waiting → Quiet acts down []
+quiet_dropped acts down waiting q =
+    record { after = q.after; stays = λ is. ((q.stays is).0, refl) }

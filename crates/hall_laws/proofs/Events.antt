@@ -1,0 +1,263 @@
+-- The events that are given first, and requests for which nothing is done.
+use Rattle.std.proofs.Common.{◌≡◌, refl, sym, ap, subst, ◌∙◌, ℕ, zero, suc, ◌+◌, Bool, true, false}
+use Rattle.std.proofs.Common.{◌&&◌, not, nat_lt, if◌then◌else◌, List, [], ◌∷◌, ◌++◌, length, map}
+use Rattle.std.proofs.Common.{take, length-append, arith}
+use Rattle.std.proofs.lemmas.Bool.Decides.{nat_tests}
+use Rattle.std.proofs.lemmas.List.{append-nil, append_assoc, map-append, take_at, take_all}
+use Rattle.acceptor.specs.declared.entry.Entry.{Entry}
+use Rattle.answers.specs.Seen.{Seen}
+use Rattle.learner.specs.declared.event.DeskEvent.{DeskEvent}
+use Rattle.learner.specs.declared.event.DeskEvent.TheVariants.{Start}
+use Rattle.serving.specs.Making.{calls_of}
+use Rattle.serving.specs.Nodes.{Fate}
+use Rattle.serving.specs.Serving.{Act, Called, Pushed, Answered, Service, reply_to, call, in_front}
+use Rattle.serving.specs.Serving.{from_own, to_others, push_all, waits, deliver, settle_by, settle}
+use Rattle.serving.specs.Serving.{grew, start_if_grown, decided, learn, learn_all, begun}
+use Rattle.serving.specs.declared.request.Request.{Request}
+use Rattle.serving.specs.declared.request.Request.TheVariants.{Learned}
+use Rattle.serving.specs.declared.request.Run.{Run}
+use Rattle.store.specs.declared.home.Home.{Home}
+use Rattle.hall_laws.specs.Arriving.{decided_each}
+use Rattle.hall_laws.specs.Pushing.{asks_for, AreGiven}
+use Rattle.hall_laws.proofs.Following.{Follows}
+use Rattle.hall_laws.proofs.Requests.{call_none_at_down}
+
+-- these are all the calls, and nothing else was done
+pub record Gives (events : List DeskEvent) (acts : List Act) : Type 0 where
+  pub events_are : map (λ c. c.event) (calls_of acts) ≡ events
+  pub each : length acts ≡ length events
+
+all_given : (events : List DeskEvent) (a b : Service) → Follows a b → Gives events a.done
+    → map (λ c. c.event) (calls_of (take (length events) b.done)) ≡ events
+all_given events a b h g =
+    ap (λ z. map (λ c. c.event) (calls_of (take (length events) z))) h.done
+    ∙ ap (λ z. map (λ c. c.event) (calls_of z)) (take_at a.done h.more (length events) g.each)
+    ∙ g.events_are
+
+pub one_given : (home : Home) (event : DeskEvent) (x : Seen) (fates : List Fate)
+    → Gives (event ∷ []) (call home event (begun x fates)).done
+unfolding call
+one_given home event x fates = record { events_are = refl; each = refl }
+
+pub given : (r : Request) (a b : Service) → Follows a b → Gives (asks_for r) a.done
+    → AreGiven r b.done b.seen.is_down
+given r a b h g = record {
+  dropped = [];
+  first =
+      append-nil (map (λ c. c.event) (calls_of (take (length (asks_for r)) b.done)))
+      ∙ all_given (asks_for r) a b h g;
+  while_up = λ up. refl;
+}
+
+calls_both : (xs ys : List Act) → calls_of (xs ++ ys) ≡ calls_of xs ++ calls_of ys
+calls_both [] ys = refl
+calls_both (Called e r ∷ xs) ys =
+    ap (λ z. calls_of (Called e r ∷ []) ++ z) (calls_both xs ys)
+calls_both (Pushed m ∷ xs) ys = calls_both xs ys
+calls_both (Answered run ∷ xs) ys = calls_both xs ys
+
+-- one more
+gives_one : (home : Home) (event : DeskEvent) (events : List DeskEvent) (s : Service)
+    → Gives events s.done → Gives (events ++ event ∷ []) (call home event s).done
+unfolding call
+gives_one home event events s g =
+    let act : List Act = Called event (reply_to home event s).result ∷ [] in
+    record {
+      events_are =
+          ap (λ z. map (λ c. c.event) z) (calls_both s.done act)
+          ∙ map-append (λ c. c.event) (calls_of s.done) (calls_of act)
+          ∙ ap (λ z. z ++ event ∷ []) g.events_are;
+      each =
+          let now = length-append s.done act in
+          let wanted = length-append events (event ∷ []) in
+          let past = g.each in omega arith;
+    }
+
+-- Only a front part of the events may have been given, where the desk has gone down; then nothing
+-- waits.
+pub record Begins (events : List DeskEvent) (s : Service) : Type 0 where
+  pub rest : List DeskEvent
+  pub events_are : map (λ c. c.event) (calls_of s.done) ++ rest ≡ events
+  pub each : length s.done + length rest ≡ length events
+  pub all : s.seen.is_down ≡ false → rest ≡ []
+  pub none : s.seen.is_down ≡ true → s.waiting ≡ []
+
+stops_here : (events rest : List DeskEvent) (s : Service) → Gives events s.done
+    → s.seen.is_down ≡ true → s.waiting ≡ [] → Begins (events ++ rest) s
+stops_here events rest s g down none = record {
+  rest = rest;
+  events_are = ap (λ z. z ++ rest) g.events_are;
+  each =
+      let all = length-append events rest in
+      let past = g.each in omega arith;
+  all = λ up. absurd cc;
+  none = λ is. none;
+}
+
+begins_learnt : (home : Home) (from to pos : ℕ) (es : List Entry) (events : List DeskEvent)
+    (s : Service) → Gives events s.done → (s.seen.is_down ≡ true → s.waiting ≡ [])
+    → Begins (events ++ decided_each from to pos es) (learn home from to pos es s)
+unfolding learn
+begins_learnt home from to pos [] events s g none = record {
+  rest = [];
+  events_are = ap (λ z. z ++ []) g.events_are;
+  each =
+      let all = length-append events (decided_each from to pos []) in
+      let past = g.each in omega arith;
+  all = λ up. refl;
+  none = none;
+}
+begins_learnt home from to pos (e ∷ es) events s g none =
+    go (call home (decided from to pos e) (waits [] s.left s)).seen.is_down refl
+    (λ h.
+    begins_learnt home from to (pos + 1) es (events ++ decided from to pos e ∷ [])
+    (call home (decided from to pos e) (waits [] s.left s))
+    (gives_one home (decided from to pos e) events (waits [] s.left s)
+    (record { events_are = g.events_are; each = g.each })) h)
+  where
+    go : (t : Bool)
+        → (call home (decided from to pos e) (waits [] s.left s)).seen.is_down ≡ t
+        → (((call home (decided from to pos e) (waits [] s.left s)).seen.is_down ≡ true
+        → (call home (decided from to pos e) (waits [] s.left s)).waiting ≡ [])
+        → Begins ((events ++ decided from to pos e ∷ []) ++ decided_each from to (pos + 1) es)
+        (learn home from to (pos + 1) es (call home (decided from to pos e) (waits [] s.left s))))
+        → Begins (events ++ decided_each from to pos (e ∷ es))
+        (if t then call home (decided from to pos e) (waits [] s.left s)
+        else learn home from to (pos + 1) es
+        (call home (decided from to pos e) (waits [] s.left s)))
+    go true is ih =
+        subst (λ z. Begins z (call home (decided from to pos e) (waits [] s.left s)))
+        (append_assoc events (decided from to pos e ∷ []) (decided_each from to (pos + 1) es))
+        (stops_here (events ++ decided from to pos e ∷ []) (decided_each from to (pos + 1) es)
+        (call home (decided from to pos e) (waits [] s.left s))
+        (gives_one home (decided from to pos e) events (waits [] s.left s)
+        (record { events_are = g.events_are; each = g.each }))
+        is
+        (call_none_at_down home (decided from to pos e) (waits [] s.left s) refl is))
+    go false is ih =
+        subst
+        (λ z. Begins z (learn home from to (pos + 1) es
+        (call home (decided from to pos e) (waits [] s.left s))))
+        (append_assoc events (decided from to pos e ∷ []) (decided_each from to (pos + 1) es))
+        (ih (λ down. absurd cc))
+
+-- ---- nothing is done
+
+settles_nothing : (home : Home) (k : ℕ) (s : Service) → s.waiting ≡ []
+    → ((settle_by home k s).done ≡ s.done) × ((settle_by home k s).seen ≡ s.seen)
+unfolding settle_by
+settles_nothing home zero s none = (
+  ap (λ z. s.done ++ map (λ m. Pushed m) (to_others home.desk z)) none ∙ append-nil s.done,
+  refl,
+)
+settles_nothing home (suc k) s none = (
+  ap
+      (λ z.
+      (deliver home (λ t. settle_by home k t) k (from_own home.desk z)
+      (push_all (in_front home.desk z) [] s)).done)
+      none
+      ∙ append-nil s.done,
+  ap
+      (λ z.
+      (deliver home (λ t. settle_by home k t) k (from_own home.desk z)
+      (push_all (in_front home.desk z) [] s)).seen)
+      none,
+)
+
+starts_not : (home : Home) (before : ℕ) (s : Service) → grew before s.seen ≡ false
+    → start_if_grown home before s ≡ s
+unfolding start_if_grown
+starts_not home before s = go (grew before s.seen)
+  where
+    go : (t : Bool) → t ≡ false → (if t then settle home (call home Start s) else s) ≡ s
+    go true h = absurd cc
+    go false h = refl
+
+not_longer : (n : ℕ) → nat_lt n n ≡ false
+not_longer n = grind (arith, nat_tests)
+
+not_grown : (x : Seen) → grew (length x.desk.log) x ≡ false
+not_grown x = go (not x.is_down) (nat_lt (length x.desk.log) (length x.desk.log)) _
+    (not_longer (length x.desk.log))
+  where
+    go : (a b c : Bool) → b ≡ false → (a && b && c) ≡ false
+    go true true c h = absurd cc
+    go true false c h = refl
+    go false true c h = absurd cc
+    go false false c h = refl
+
+down_not_grown : (before : ℕ) (x : Seen) → x.is_down ≡ true → grew before x ≡ false
+down_not_grown before x down =
+    ap (λ z. not z && nat_lt before (length x.desk.log) && nat_lt 0 (length x.desk.queue)) down
+
+pub learns_nothing : (home : Home) (run : Run) (x : Seen) (fates : List Fate) → run.entries ≡ []
+    → (learn_all home run (begun x fates)).done ≡ []
+unfolding learn_all learn
+learns_nothing home run x fates none =
+    let s : Service = begun x fates in
+    let quiet = settles_nothing home 16 s refl in
+    ap
+    (λ z.
+    (start_if_grown home (length x.desk.log)
+    (settle_by home 16 (learn home run.from run.to run.pos z s))).done)
+    none
+    ∙ ap (λ z. z.done)
+    (starts_not home (length x.desk.log) (settle_by home 16 s)
+    (ap (λ z. grew (length x.desk.log) z) quiet.1 ∙ not_grown x))
+    ∙ quiet.0
+
+-- ---- a frame of several entries
+
+-- behind a desk that is down and has nothing waiting, nothing is done
+nothing_after : (home : Home) (before k : ℕ) (s : Service) → s.seen.is_down ≡ true
+    → s.waiting ≡ [] → (start_if_grown home before (settle_by home k s)).done ≡ s.done
+nothing_after home before k s down none =
+    let quiet = settles_nothing home k s none in
+    ap (λ z. z.done)
+    (starts_not home before (settle_by home k s)
+    (ap (λ z. grew before z) quiet.1 ∙ down_not_grown before s.seen down))
+    ∙ quiet.0
+
+learnt_given : (home : Home) (run : Run) (a b : Service) → Follows a b
+    → Begins (asks_for (Learned run)) a → (a.seen.is_down ≡ true → b.done ≡ a.done)
+    → AreGiven (Learned run) b.done b.seen.is_down
+learnt_given home run a b h g same = go a.seen.is_down refl
+  where
+    go : (t : Bool) → a.seen.is_down ≡ t → AreGiven (Learned run) b.done b.seen.is_down
+    go true down = record {
+      dropped = g.rest;
+      first =
+          ap
+          (λ z. map (λ c. c.event) (calls_of (take (length (asks_for (Learned run))) z)) ++ g.rest)
+          (same down)
+          ∙ ap (λ z. map (λ c. c.event) (calls_of z) ++ g.rest)
+          (take_all (length (asks_for (Learned run))) a.done
+          (let all = g.each in omega arith))
+          ∙ g.events_are;
+      while_up = λ up. let still = h.down down in absurd cc;
+    }
+    go false up =
+        let none : g.rest ≡ [] = g.all up in
+        given (Learned run) a b h
+        (record {
+          events_are =
+              sym (append-nil (map (λ c. c.event) (calls_of a.done)))
+              ∙ ap (λ z. map (λ c. c.event) (calls_of a.done) ++ z) (sym none) ∙ g.events_are;
+          each =
+              let all = g.each in
+              let short = ap (λ z. length z) none in omega arith;
+        })
+
+pub all_learnt : (home : Home) (run : Run) (x : Seen) (fates : List Fate)
+    → Follows (learn home run.from run.to run.pos run.entries (begun x fates))
+    (learn_all home run (begun x fates))
+    → AreGiven (Learned run) (learn_all home run (begun x fates)).done
+    (learn_all home run (begun x fates)).seen.is_down
+unfolding learn_all
+all_learnt home run x fates h =
+    let last : Service = learn home run.from run.to run.pos run.entries (begun x fates) in
+    let g : Begins (asks_for (Learned run)) last =
+    begins_learnt home run.from run.to run.pos run.entries [] (begun x fates)
+    (record { events_are = refl; each = refl }) (λ down. refl) in
+    learnt_given home run last _ h g
+    (λ down. nothing_after home (length x.desk.log) 16 last down (g.none down))
