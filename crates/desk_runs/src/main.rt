@@ -74,7 +74,7 @@ fn run_line<'a>(
     shelf: &mut Shelf<'a>,
     line: &'a str,
 ) -> io::Result<()> {
-    let (word, rest) = steps::cut(line, ' ');
+    let (word, rest) = run_lines::cut(line, ' ');
     match word {
         "memory" => opening::show_memory(alloc, out, rest),
         "lent" => opening::show_lent(alloc, out, rest),
