@@ -13,6 +13,8 @@ mod desks;
 #[cfg(test)]
 mod halls;
 #[cfg(test)]
+mod many_clients;
+#[cfg(test)]
 mod sockets_of_one;
 #[cfg(test)]
 mod stores;

@@ -16,19 +16,19 @@ const SUBMIT_ASK: &[u8] = b"\0\0\0\x1d\x01\0\0\0\x07\0\x01\x10\0\0\0\0\0\0\0\x05
     \0\0\0\x10\x01\0\0\0\x07\0\x01\x11\0\0\0\0\0\0\0\x05";
 
 /// Taken 5, and Told that 5 is pending.
-const TAKEN_PENDING: &[u8] = b"\0\0\0\x10\x01\0\0\0\x07\x01\0\x20\0\0\0\0\0\0\0\x05\
+pub(crate) const TAKEN_PENDING: &[u8] = b"\0\0\0\x10\x01\0\0\0\x07\x01\0\x20\0\0\0\0\0\0\0\x05\
     \0\0\0\x11\x01\0\0\0\x07\x01\0\x21\0\0\0\0\0\0\0\x05\x01";
 
 /// Tick and Stop from a client, and what both are answered.
-const TICK: &[u8] = b"\0\0\0\x08\x01\0\0\0\x07\0\x01\x13";
+pub(crate) const TICK: &[u8] = b"\0\0\0\x08\x01\0\0\0\x07\0\x01\x13";
 
-const STOP: &[u8] = b"\0\0\0\x08\x01\0\0\0\x07\0\x01\x14";
+pub(crate) const STOP: &[u8] = b"\0\0\0\x08\x01\0\0\0\x07\0\x01\x14";
 
-const FINE: &[u8] = b"\0\0\0\x08\x01\0\0\0\x07\x01\0\x24";
+pub(crate) const FINE: &[u8] = b"\0\0\0\x08\x01\0\0\0\x07\x01\0\x24";
 
 /// Loses what is pushed.
 #[derive(Drop)]
-struct Nobody;
+pub(crate) struct Nobody;
 
 impl Peers for Nobody {
     ghost use Rattle.std.specs.Prelude.{None};

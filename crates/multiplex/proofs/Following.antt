@@ -1,0 +1,453 @@
+-- The steps of many clients are turns of many connections.
+use Rattle.std.proofs.Common.{◌≡◌, ◌≢◌, refl, sym, ap, subst, ◌∙◌, ℕ, ◌+◌, ◌<◌, ◌≤◌}
+use Rattle.std.proofs.Common.{List, [], ◌∷◌, ◌++◌, append-nil, append_assoc, Option, None}
+use Rattle.std.proofs.Common.{Some, arith, Bool, true, false, cond, eqb}
+use Rattle.std.proofs.lemmas.Bool.{eq-eqb, ne_eqb}
+use Rattle.std.specs.List.{AllByRecursion}
+use Rattle.answers.specs.declared.desk.Desk.{Ghosts as DeskOf}
+use Rattle.answers.specs.Seen.{Seen}
+use Rattle.store.specs.declared.home.Home.{Home}
+use Rattle.wire.specs.declared.values.Version.{Version}
+use Rattle.serving.specs.Making.{Outside, Way}
+use Rattle.serving.specs.Turns.{Talk, new_talk}
+use Rattle.serving.specs.TurnLaw.{Came as CameIn, Began, Follow, Place, Rested, Took as TookOf}
+use Rattle.serving.specs.TurnLaw.{Turn, Turns, handed_out, received}
+use Rattle.sockets.specs.Connections.{Connections, FollowEach, TurnOf, place_of}
+use Rattle.sockets.specs.Connections.{IsServedOf, served_of, turns_of}
+use Rattle.sockets.proofs.Interleaving.{each_is_served}
+use Rattle.multiplex.specs.EachClient.{EachClientIsServed, gave, took}
+use Rattle.multiplex.specs.Happenings.{Happened}
+use Rattle.multiplex.specs.Passing.{Change, Changed, Changes, Clock, Comes, Lobby, NoSocket}
+use Rattle.multiplex.specs.Passing.{Pass, Room, Shut, Step, Stops, Stray, Takes, TurnedAway}
+use Rattle.multiplex.specs.Passing.{Visit, Visits, guest, staying, told_all}
+use Rattle.multiplex.specs.Passing.{told_change, told_end, told_turns, told_why, with_node}
+use Rattle.multiplex.specs.declared.ends.Over.TheVariants as over
+use Rattle.multiplex.specs.declared.ends.Why.{Why}
+use Rattle.multiplex.specs.declared.ends.Why.TheVariants as why
+use Rattle.multiplex.specs.declared.table.Guest.{Guest}
+use Rattle.multiplex.specs.declared.table.Terms.{Terms}
+use Rattle.multiplex.proofs.Apart.{Apart, Below, Other, instead, one_behind, others, without}
+use Rattle.multiplex.proofs.Placed.{all_as, all_back, all_both, all_front}
+use Rattle.multiplex.proofs.Shutting.{all_but}
+
+-- ---- the turns of steps
+
+abbrev numbered : ℕ → List Turn → List TurnOf
+numbered k [] = []
+numbered k (t ∷ ts) = record { number = k; turn = t } ∷ numbered k ts
+
+abbrev turns_in : Step → List TurnOf
+turns_in (Changed c) = []
+turns_in (Visit k turns fate) = numbered k turns
+
+abbrev all_turns : List Step → List TurnOf
+all_turns [] = []
+all_turns (s ∷ ss) = turns_in s ++ all_turns ss
+
+FollowEach-trans : {V : Type 0} {way : Way V} (a m b : Connections way) (ts us : List TurnOf)
+    → FollowEach a ts m → FollowEach m us b → FollowEach a (ts ++ us) b
+FollowEach-trans a m b [] us h k = subst (λ z. FollowEach z us b) (sym h) k
+FollowEach-trans a m b (t ∷ ts) us h k =
+    (h.0, h.1, FollowEach-trans h.0 m b ts us h.2 k)
+
+-- ---- one connection of many has its turns
+
+abbrev conns : {V : Type 0} {way : Way V} → (ℕ → Talk) → Seen → Outside way → Connections way
+conns talks seen outside = record { talks = talks; seen = seen; outside = outside }
+
+abbrev put : ℕ → Talk → (ℕ → Talk) → ℕ → Talk
+put k t f j = cond (eqb j k) t (f j)
+
+put_same : (k : ℕ) (t : Talk) (f : ℕ → Talk) → put k t f k ≡ t
+put_same k t f = ap (λ z. cond z t (f k)) (eq-eqb k k refl)
+
+put_other : (k : ℕ) (t : Talk) (f : ℕ → Talk) (j : ℕ) → j ≢ k → put k t f j ≡ f j
+put_other k t f j apart = ap (λ z. cond z t (f j)) (ne_eqb j k apart)
+
+record Went {V : Type 0} {way : Way V} (k : ℕ) (talks : ℕ → Talk) (p q : Place way)
+    (turns : List Turn) (new : ℕ → Talk) : Type 0 where
+  follow : FollowEach (conns talks p.seen p.outside) (numbered k turns)
+      (conns new q.seen q.outside)
+  at : new k ≡ q.talk
+  rest : (j : ℕ) → j ≢ k → new j ≡ talks j
+
+went : {V : Type 0} {way : Way V} (k : ℕ) (talks : ℕ → Talk) (p q : Place way)
+    (turns : List Turn) → talks k ≡ p.talk → Follow p turns q
+    → (new : ℕ → Talk) × Went k talks p q turns new
+went {V} {way} k talks p q [] at h =
+    subst (λ z. (new : ℕ → Talk) × Went k talks p z [] new) h
+    (talks, record { follow = refl; at = at; rest = λ j _. refl })
+went {V} {way} k talks p q (t ∷ ts) at h =
+    let m = h.0 in
+    let mid = put k m.talk talks in
+    let later = went k mid m q ts (put_same k m.talk talks) h.2 in (
+      later.0,
+      record {
+        follow = (
+          conns mid m.seen m.outside,
+          record {
+            turn =
+                subst
+                (λ z. Turns t (record { talk = z; seen = p.seen; outside = p.outside })
+                (place_of (conns mid m.seen m.outside) k)) (sym at)
+                (subst
+                (λ z. Turns t p (record { talk = z; seen = m.seen; outside = m.outside }))
+                (sym (put_same k m.talk talks)) h.1);
+            others = put_other k m.talk talks;
+          },
+          later.1.follow,
+        );
+        at = later.1.at;
+        rest = λ j apart. later.1.rest j apart ∙ put_other k m.talk talks j apart;
+      },
+    )
+
+-- ---- the connections of a lobby
+
+abbrev Hosted : (ℕ → Talk) → Guest → Type 0
+Hosted talks g = talks g.number ≡ g.talk
+
+record Stands (home : Home) (wire : Version) (talks : ℕ → Talk) (guests : List Guest)
+    (next : ℕ) : Type 0 where
+  hosted : AllByRecursion (Hosted talks) guests
+  fresh : (k : ℕ) → next ≤ k → talks k ≡ new_talk home wire
+  low : AllByRecursion (Below next) guests
+  apart : Apart guests
+
+still_hosted : (talks new : ℕ → Talk) (k : ℕ) (gs : List Guest)
+    → ((j : ℕ) → j ≢ k → new j ≡ talks j) → AllByRecursion (Other k) gs
+    → AllByRecursion (Hosted talks) gs → AllByRecursion (Hosted new) gs
+still_hosted talks new k [] same far h = tt
+still_hosted talks new k (g ∷ gs) same far h =
+    (same g.number far.0 ∙ h.0, still_hosted talks new k gs same far.1 h.1)
+
+leaves : (home : Home) (wire : Version) (talks : ℕ → Talk) (before : List Guest) (g : Guest)
+    (after : List Guest) (next : ℕ)
+    → Stands home wire talks (before ++ g ∷ after) next
+    → Stands home wire talks (before ++ after) next
+leaves home wire talks before g after next h = record {
+  hosted = all_but (Hosted talks) before g after h.hosted;
+  fresh = h.fresh;
+  low = all_but (Below next) before g after h.low;
+  apart = without before g after h.apart;
+}
+
+-- the client in the middle had its turns, and stays
+stays : (home : Home) (wire : Version) (talks new : ℕ → Talk) (before : List Guest)
+    (old g : Guest) (after : List Guest) (next : ℕ)
+    → g.number ≡ old.number → new old.number ≡ g.talk
+    → ((j : ℕ) → j ≢ old.number → new j ≡ talks j)
+    → Stands home wire talks (before ++ old ∷ after) next
+    → Stands home wire new (before ++ g ∷ after) next
+stays home wire talks new before old g after next same at rest h =
+    let far = others before old after h.apart in
+    let under = all_back (Below next) before (old ∷ after) h.low in
+    record {
+      hosted =
+          all_both (Hosted new) before (g ∷ after)
+          (still_hosted talks new old.number before rest far.0
+          (all_front (Hosted talks) before (old ∷ after) h.hosted)) (
+            ap new same ∙ at,
+            still_hosted talks new old.number after rest far.1
+                (all_back (Hosted talks) before (old ∷ after) h.hosted).1,
+          );
+      fresh =
+          λ k above. rest k (λ e. omega (arith, e, above, under.0)) ∙ h.fresh k above;
+      low =
+          all_both (Below next) before (g ∷ after)
+          (all_front (Below next) before (old ∷ after) h.low)
+          (subst (λ n. n < next) (sym same) under.0, under.1);
+      apart = instead before old g after same h.apart;
+    }
+
+comes : (home : Home) (wire : Version) (talks : ℕ → Talk) (guests : List Guest) (next time : ℕ)
+    → Stands home wire talks guests next
+    → Stands home wire talks (guests ++ guest next (new_talk home wire) time ∷ []) (next + 1)
+comes home wire talks guests next time h = record {
+  hosted = all_both (Hosted talks) guests _ h.hosted (h.fresh next (omega arith), tt);
+  fresh = λ k above. h.fresh k (omega (arith, above));
+  low =
+      all_both (Below (next + 1)) guests _
+      (all_as (Below next) (Below (next + 1)) guests (λ g low. omega (arith, low)) h.low)
+      (omega arith, tt);
+  apart = one_behind guests _ h.low h.apart;
+}
+
+turned_away : (home : Home) (wire : Version) (talks : ℕ → Talk) (guests : List Guest) (next : ℕ)
+    → Stands home wire talks guests next → Stands home wire talks guests (next + 1)
+turned_away home wire talks guests next h = record {
+  hosted = h.hosted;
+  fresh = λ k above. h.fresh k (omega (arith, above));
+  low = all_as (Below next) (Below (next + 1)) guests (λ g low. omega (arith, low)) h.low;
+  apart = h.apart;
+}
+
+abbrev StandsIn : Home → Version → (ℕ → Talk) → Lobby → Type 0
+StandsIn home wire talks l = Stands home wire talks l.guests l.next
+
+after_change : (home : Home) (t : Terms) (talks : ℕ → Talk) (c : Change) (a b : Lobby)
+    → Changes home t c a b → StandsIn home t.wire talks a → StandsIn home t.wire talks b
+after_change home t talks (Clock time) a b h s =
+    subst (λ l. StandsIn home t.wire talks l) (sym h.1) s
+after_change home t talks (Comes k) a b h s =
+    subst (λ l. StandsIn home t.wire talks l) (sym h.enters)
+    (subst
+    (λ n. Stands home t.wire talks (a.guests ++ guest n (new_talk home t.wire) a.time ∷ [])
+    (a.next + 1)) (sym h.number) (comes home t.wire talks a.guests a.next a.time s))
+after_change home t talks (TurnedAway k) a b h s =
+    subst (λ l. StandsIn home t.wire talks l) (sym h.enters)
+    (subst (λ z. Stands home t.wire talks z (a.next + 1)) (sym (append-nil a.guests))
+    (turned_away home t.wire talks a.guests a.next s))
+after_change home t talks NoSocket a b h s =
+    subst (λ l. StandsIn home t.wire talks l) (sym h.1) s
+after_change home t talks (Stray k) a b h s =
+    subst (λ l. StandsIn home t.wire talks l) (sym h.2) s
+after_change home t talks (Shut k w) a b h s =
+    subst (λ l. StandsIn home t.wire talks l) (sym h.3.left)
+    (leaves home t.wire talks h.0 h.2 h.1 a.next
+    (subst (λ z. Stands home t.wire talks z a.next) h.3.found s))
+after_change home t talks (Stops e) a b h s =
+    subst (λ l. StandsIn home t.wire talks l) (sym h.2) s
+
+-- ---- step by step
+
+abbrev conns_in : {V : Type 0} {way : Way V} → Room way → (ℕ → Talk) → Connections way
+conns_in a talks = conns talks a.seen a.outside
+
+record Leads {V : Type 0} {way : Way V} (home : Home) (wire : Version) (talks : ℕ → Talk)
+    (a b : Room way) (turns : List TurnOf) (new : ℕ → Talk) : Type 0 where
+  follow : FollowEach (conns_in a talks) turns (conns_in b new)
+  stands : StandsIn home wire new b.lobby
+
+abbrev LeadsSome : {V : Type 0} → {way : Way V} → Home → Version → (ℕ → Talk) → Room way
+    → Room way → List TurnOf → Type 0
+LeadsSome home wire talks a b turns = (new : ℕ → Talk) × Leads home wire talks a b turns new
+
+after_visit : {V : Type 0} {way : Way V} (home : Home) (wire : Version) (talks : ℕ → Talk)
+    (k : ℕ) (turns : List Turn) (fate : Option Why) (a b : Room way) (before after : List Guest)
+    (old new : Guest)
+    → StandsIn home wire talks a.lobby → Visits k turns fate a b before after old new
+    → LeadsSome home wire talks a b (numbered k turns)
+after_visit home wire talks k turns fate a b before after old new s h =
+    let found = subst (λ z. Stands home wire talks z a.lobby.next) h.found s in
+    let here = (all_back (Hosted talks) before (old ∷ after) found.hosted).0 in
+    let moved =
+    went k talks (with_node a old.talk) (with_node b new.talk) turns
+    (ap talks (sym h.number) ∙ here) h.follow in
+    let same : new.number ≡ old.number = h.same ∙ sym h.number in
+    let kept =
+    stays home wire talks moved.0 before old new after a.lobby.next same
+    (ap moved.0 h.number ∙ moved.1.at)
+    (λ j apart. moved.1.rest j (λ e. apart (e ∙ sym h.number))) found in (
+      moved.0,
+      record {
+        follow = moved.1.follow;
+        stands = subst (λ l. StandsIn home wire moved.0 l) (sym h.left) (left fate moved.0 kept);
+      },
+    )
+  where
+    left : (f : Option Why) (talks : ℕ → Talk)
+        → Stands home wire talks (before ++ new ∷ after) a.lobby.next
+        → Stands home wire talks (before ++ (staying f new ++ after)) a.lobby.next
+    left None talks s = s
+    left (Some w) talks s = leaves home wire talks before new after a.lobby.next s
+
+after_step : {V : Type 0} {way : Way V} (home : Home) (t : Terms) (talks : ℕ → Talk) (s : Step)
+    (a b : Room way)
+    → StandsIn home t.wire talks a.lobby → Takes home t s a b
+    → LeadsSome home t.wire talks a b (turns_in s)
+after_step home t talks (Changed c) a b stands h = (
+  talks,
+  record {
+    follow =
+        ap (λ z. conns talks z a.outside) (sym h.1) ∙ ap (λ z. conns talks b.seen z) (sym h.2);
+    stands = after_change home t talks c a.lobby b.lobby h.0 stands;
+  },
+)
+after_step home t talks (Visit k turns fate) a b stands h =
+    after_visit home t.wire talks k turns fate a b h.0 h.1 h.2 h.3 stands h.4
+
+after_steps : {V : Type 0} {way : Way V} (home : Home) (t : Terms) (talks : ℕ → Talk)
+    (ss : List Step) (a b : Room way)
+    → StandsIn home t.wire talks a.lobby → Pass home t a ss b
+    → LeadsSome home t.wire talks a b (all_turns ss)
+after_steps home t talks [] a b s h = (
+  talks,
+  record {
+    follow = ap (λ z. conns_in z talks) h;
+    stands = subst (λ z. StandsIn home t.wire talks z.lobby) h s;
+  },
+)
+after_steps home t talks (x ∷ ss) a b s h =
+    let first = after_step home t talks x a h.0 s h.1 in
+    let later = after_steps home t first.0 ss h.0 b first.1.stands h.2 in (
+      later.0,
+      record {
+        follow =
+            FollowEach-trans (conns_in a talks) (conns_in h.0 first.0) (conns_in b later.0)
+            (turns_in x) (all_turns ss) first.1.follow later.1.follow;
+        stands = later.1.stands;
+      },
+    )
+
+-- ---- the bytes that are told
+
+abbrev SameCome : ℕ → List Happened → List TurnOf → Type 0
+SameCome k hs us = gave k hs ≡ received (turns_of k us)
+
+abbrev SameTaken : ℕ → List Happened → List TurnOf → Type 0
+SameTaken k hs us = took k hs ≡ handed_out (turns_of k us)
+
+came_turns : (k j : ℕ) (turns : List Turn) (hs : List Happened) (us : List TurnOf)
+    → SameCome k hs us → SameCome k (told_turns j turns ++ hs) (numbered j turns ++ us)
+came_turns k j [] hs us h = h
+came_turns k j (CameIn piece ∷ ts) hs us h =
+    pick (eqb j k) (came_turns k j ts hs us h)
+  where
+    pick : (b : Bool) → SameCome k (told_turns j ts ++ hs) (numbered j ts ++ us)
+        → cond b (piece ++ gave k (told_turns j ts ++ hs)) (gave k (told_turns j ts ++ hs))
+        ≡ received (cond b (CameIn piece ∷ turns_of k (numbered j ts ++ us))
+        (turns_of k (numbered j ts ++ us)))
+    pick true later = ap (λ z. piece ++ z) later
+    pick false later = later
+came_turns k j (TookOf bytes ∷ ts) hs us h =
+    pick (eqb j k) (came_turns k j ts hs us h)
+  where
+    pick : (b : Bool) → SameCome k (told_turns j ts ++ hs) (numbered j ts ++ us)
+        → gave k (told_turns j ts ++ hs)
+        ≡ received (cond b (TookOf bytes ∷ turns_of k (numbered j ts ++ us))
+        (turns_of k (numbered j ts ++ us)))
+    pick true later = later
+    pick false later = later
+came_turns k j (Began one ∷ ts) hs us h =
+    pick (eqb j k) (came_turns k j ts hs us h)
+  where
+    pick : (b : Bool) → SameCome k (told_turns j ts ++ hs) (numbered j ts ++ us)
+        → gave k (told_turns j ts ++ hs)
+        ≡ received (cond b (Began one ∷ turns_of k (numbered j ts ++ us))
+        (turns_of k (numbered j ts ++ us)))
+    pick true later = later
+    pick false later = later
+came_turns k j (Rested ∷ ts) hs us h =
+    pick (eqb j k) (came_turns k j ts hs us h)
+  where
+    pick : (b : Bool) → SameCome k (told_turns j ts ++ hs) (numbered j ts ++ us)
+        → gave k (told_turns j ts ++ hs)
+        ≡ received (cond b (Rested ∷ turns_of k (numbered j ts ++ us))
+        (turns_of k (numbered j ts ++ us)))
+    pick true later = later
+    pick false later = later
+
+taken_turns : (k j : ℕ) (turns : List Turn) (hs : List Happened) (us : List TurnOf)
+    → SameTaken k hs us → SameTaken k (told_turns j turns ++ hs) (numbered j turns ++ us)
+taken_turns k j [] hs us h = h
+taken_turns k j (TookOf bytes ∷ ts) hs us h =
+    pick (eqb j k) (taken_turns k j ts hs us h)
+  where
+    pick : (b : Bool) → SameTaken k (told_turns j ts ++ hs) (numbered j ts ++ us)
+        → cond b (bytes ++ took k (told_turns j ts ++ hs)) (took k (told_turns j ts ++ hs))
+        ≡ handed_out (cond b (TookOf bytes ∷ turns_of k (numbered j ts ++ us))
+        (turns_of k (numbered j ts ++ us)))
+    pick true later = ap (λ z. bytes ++ z) later
+    pick false later = later
+taken_turns k j (CameIn piece ∷ ts) hs us h =
+    pick (eqb j k) (taken_turns k j ts hs us h)
+  where
+    pick : (b : Bool) → SameTaken k (told_turns j ts ++ hs) (numbered j ts ++ us)
+        → took k (told_turns j ts ++ hs)
+        ≡ handed_out (cond b (CameIn piece ∷ turns_of k (numbered j ts ++ us))
+        (turns_of k (numbered j ts ++ us)))
+    pick true later = later
+    pick false later = later
+taken_turns k j (Began one ∷ ts) hs us h =
+    pick (eqb j k) (taken_turns k j ts hs us h)
+  where
+    pick : (b : Bool) → SameTaken k (told_turns j ts ++ hs) (numbered j ts ++ us)
+        → took k (told_turns j ts ++ hs)
+        ≡ handed_out (cond b (Began one ∷ turns_of k (numbered j ts ++ us))
+        (turns_of k (numbered j ts ++ us)))
+    pick true later = later
+    pick false later = later
+taken_turns k j (Rested ∷ ts) hs us h =
+    pick (eqb j k) (taken_turns k j ts hs us h)
+  where
+    pick : (b : Bool) → SameTaken k (told_turns j ts ++ hs) (numbered j ts ++ us)
+        → took k (told_turns j ts ++ hs)
+        ≡ handed_out (cond b (Rested ∷ turns_of k (numbered j ts ++ us))
+        (turns_of k (numbered j ts ++ us)))
+    pick true later = later
+    pick false later = later
+
+-- how a visit ends brings no bytes
+end_gives : (k j : ℕ) (fate : Option Why) (hs : List Happened)
+    → (gave k ((told_why j fate ++ told_end j fate) ++ hs) ≡ gave k hs)
+    × (took k ((told_why j fate ++ told_end j fate) ++ hs) ≡ took k hs)
+end_gives k j None hs = (refl, refl)
+end_gives k j (Some why.Done) hs = (refl, refl)
+end_gives k j (Some why.Ended) hs = (refl, refl)
+end_gives k j (Some why.Broke) hs = (refl, refl)
+end_gives k j (Some why.Silent) hs = (refl, refl)
+end_gives k j (Some why.Crowded) hs = (refl, refl)
+end_gives k j (Some why.NoSocket) hs = (refl, refl)
+end_gives k j (Some why.Over) hs = (refl, refl)
+
+change_gives : (k : ℕ) (c : Change) (hs : List Happened)
+    → (gave k (told_change c ++ hs) ≡ gave k hs) × (took k (told_change c ++ hs) ≡ took k hs)
+change_gives k (Clock time) hs = (refl, refl)
+change_gives k (Comes j) hs = (refl, refl)
+change_gives k (TurnedAway j) hs = (refl, refl)
+change_gives k NoSocket hs = (refl, refl)
+change_gives k (Stray j) hs = (refl, refl)
+change_gives k (Shut j w) hs = (refl, refl)
+change_gives k (Stops over.All) hs = (refl, refl)
+change_gives k (Stops over.Stopped) hs = (refl, refl)
+change_gives k (Stops over.Down) hs = (refl, refl)
+change_gives k (Stops over.Failed) hs = (refl, refl)
+change_gives k (Stops over.Tired) hs = (refl, refl)
+change_gives k (Stops over.NoMemory) hs = (refl, refl)
+
+same_bytes : (k : ℕ) (ss : List Step)
+    → SameCome k (told_all ss) (all_turns ss) × SameTaken k (told_all ss) (all_turns ss)
+same_bytes k [] = (refl, refl)
+same_bytes k (Changed c ∷ ss) =
+    let later = same_bytes k ss in
+    let same = change_gives k c (told_all ss) in
+    (same.0 ∙ later.0, same.1 ∙ later.1)
+same_bytes k (Visit j turns fate ∷ ss) =
+    let later = same_bytes k ss in
+    let tail = told_why j fate ++ told_end j fate in
+    let ends = end_gives k j fate (told_all ss) in
+    let parts = append_assoc (told_turns j turns) tail (told_all ss) in (
+      ap (λ z. gave k z) parts
+          ∙ came_turns k j turns (tail ++ told_all ss) (all_turns ss) (ends.0 ∙ later.0),
+      ap (λ z. took k z) parts
+          ∙ taken_turns k j turns (tail ++ told_all ss) (all_turns ss) (ends.1 ∙ later.1),
+    )
+
+-- ---- the law
+
+pub each_client : {V : Type 0} (d : DeskOf V) → EachClientIsServed d
+each_client d result home t a b before after steps h =
+    let none = λ (k : ℕ). new_talk home t.wire in
+    let at_first : StandsIn home t.wire none a.lobby =
+    subst (λ l. StandsIn home t.wire none l) (sym h.first)
+    (record { hosted = tt; fresh = λ k above. refl; low = tt; apart = tt }) in
+    let led = after_steps home t none steps a b at_first h.pass in
+    let law =
+    each_is_served d home t.wire (all_turns steps) (conns_in a none) (conns_in b led.0)
+    (λ k. refl) led.1.follow in (
+      law.0,
+      law.1,
+      law.2,
+      λ k.
+          let one = law.3 k in (
+            one.0,
+            led.0 k,
+            subst
+                (λ z. IsServedOf home z (took k (told_all steps)) (served_of k law.0) one.0
+                (led.0 k)) (sym (same_bytes k steps).0)
+                (subst
+                (λ z. IsServedOf home (received (turns_of k (all_turns steps))) z
+                (served_of k law.0) one.0 (led.0 k)) (sym (same_bytes k steps).1) one.1),
+          ),
+    )

@@ -1,0 +1,8 @@
+pub mod Telling
+pub mod Placed
+pub mod Walking
+pub mod Shutting
+pub mod Stepping
+pub mod Apart
+pub mod Following
+pub mod Visits

@@ -1,0 +1,305 @@
+-- Changes of which the node knows nothing, one after the other.
+use Rattle.std.proofs.Common.{◌≡◌, ◌⊎◌, inl, inr, refl, sym, ap, subst, ◌∙◌, ℕ, ◌+◌, ◌<◌, ◌≤◌}
+use Rattle.std.proofs.Common.{List, [], ◌∷◌, ◌++◌, append-nil, length, length-append, Option, None}
+use Rattle.std.proofs.Common.{Some, arith, get_or, true, ◌-◌, position}
+use Rattle.std.proofs.lemmas.Bool.{ltb-true}
+use Rattle.std.proofs.lemmas.List.Quantifiers.{position-Some}
+use Rattle.store.specs.declared.home.Home.{Home}
+use Rattle.wire.specs.declared.values.Version.{Version}
+use Rattle.serving.specs.Turns.{new_talk}
+use Rattle.std.specs.List.{AllByRecursion}
+use Rattle.multiplex.specs.Happenings.{Happened, Tells, Came, Closed, Full}
+use Rattle.multiplex.specs.Passing.{Change, Changes, Comes, Lobby, NoSocket, Shut, TurnedAway}
+use Rattle.multiplex.specs.Passing.{Enters, IsCause, Settled, guest, lobby, told_change}
+use Rattle.multiplex.specs.declared.ends.Over.{Over}
+use Rattle.multiplex.specs.declared.ends.Why.{Why}
+use Rattle.multiplex.specs.declared.ends.Why.TheVariants as why
+use Rattle.multiplex.specs.declared.table.Guest.{Guest}
+use Rattle.multiplex.specs.declared.table.Table.{Table}
+use Rattle.multiplex.specs.declared.table.Terms.{Terms}
+use Rattle.multiplex.specs.model.Scenes.{AltersSome, ChangeAll, Empties, IsShut, Loses}
+use Rattle.multiplex.specs.model.Scenes.{Welcomes}
+use Rattle.multiplex.specs.model.Scenes.{lobby_of}
+use Rattle.multiplex.specs.model.Tables.{AreKept, IsKept, IsLongestAt, KeepsAll, KeepsKept}
+use Rattle.multiplex.specs.model.Tables.{MakesRoom, is_silent}
+use Rattle.multiplex.proofs.Placed.{all_back, all_both, all_front}
+use Rattle.multiplex.proofs.Telling.{Tells-as, Tells-trans, changes_told_both}
+
+pub lobby_same : {gs hs : List Guest} {n m s t : ℕ} {o p : Option Over}
+    → gs ≡ hs → n ≡ m → s ≡ t → o ≡ p → lobby gs n s o ≡ lobby hs m t p
+lobby_same g n s o = cc
+
+pub ChangeAll-trans : (home : Home) (t : Terms) (a m b : Lobby) (cs ds : List Change)
+    → ChangeAll home t a cs m → ChangeAll home t m ds b → ChangeAll home t a (cs ++ ds) b
+ChangeAll-trans home t a m b [] ds h k = subst (λ z. ChangeAll home t z ds b) (sym h) k
+ChangeAll-trans home t a m b (c ∷ cs) ds h k =
+    (h.0, h.1, ChangeAll-trans home t h.0 m b cs ds h.2 k)
+
+pub alters_none : {C : Type 0} (happened : C → Option (List Happened)) (home : Home) (t : Terms)
+    (table : Table) (c later : C)
+    → Tells (happened c) (happened later) []
+    → AltersSome happened home t None table table c later
+alters_none happened home t table c later told = ([], record { changed = refl; told = told })
+
+pub alters_both : {C : Type 0} (happened : C → Option (List Happened)) (home : Home) (t : Terms)
+    (over : Option Over) (old mid new : Table) (c between later : C)
+    → AltersSome happened home t None old mid c between
+    → AltersSome happened home t over mid new between later
+    → AltersSome happened home t over old new c later
+alters_both happened home t over old mid new c between later h k = (
+  h.0 ++ k.0,
+  record {
+    changed =
+        ChangeAll-trans home t (lobby_of old None) (lobby_of mid None) (lobby_of new over) h.0 k.0
+        h.1.changed k.1.changed;
+    told =
+        Tells-as (happened c) (happened later) _ _ (sym (changes_told_both h.0 k.0))
+        (Tells-trans (happened c) (happened between) (happened later) _ _ h.1.told k.1.told);
+  },
+)
+
+-- a change, before those that follow
+pub alters_after : {C : Type 0} (happened : C → Option (List Happened)) (home : Home) (t : Terms)
+    (over : Option Over) (one : Change) (old mid new : Table) (c between later : C)
+    → Changes home t one (lobby_of old None) (lobby_of mid None)
+    → Tells (happened c) (happened between) (told_change one)
+    → AltersSome happened home t over mid new between later
+    → AltersSome happened home t over old new c later
+alters_after happened home t over one old mid new c between later is told k = (
+  one ∷ k.0,
+  record {
+    changed = (lobby_of mid None, is, k.1.changed);
+    told = Tells-trans (happened c) (happened between) (happened later) _ _ told k.1.told;
+  },
+)
+
+-- ---- a connection is ended
+
+shuts_one : {C : Type 0} (happened : C → Option (List Happened)) (home : Home) (t : Terms)
+    (w : Why) (over : Option Over) (old new : Table) (c later : C) (before after : List Guest)
+    (gone : Guest)
+    → IsCause t w (lobby_of old None) gone
+    → Loses happened over old new c later before after gone
+    → AltersSome happened home t over old new c later
+shuts_one happened home t w over old new c later before after gone cause h = (
+  Shut gone.number w ∷ [],
+  record {
+    changed = (
+      lobby_of new over,
+      (
+        before,
+        after,
+        gone,
+        record {
+          found = h.found;
+          number = refl;
+          cause = cause;
+          left = lobby_same h.left h.next h.time h.ends;
+        },
+      ),
+      refl,
+    );
+    told = h.told;
+  },
+)
+
+-- that of the client at this place, for a cause that holds of whoever stands there
+pub shuts : {C : Type 0} (happened : C → Option (List Happened)) (home : Home) (t : Terms)
+    (w : Why) (place : ℕ) (over : Option Over) (old new : Table) (c later : C)
+    → ((before after : List Guest) (gone : Guest) → length before ≡ place
+    → old.guests.items ≡ before ++ gone ∷ after → IsCause t w (lobby_of old None) gone)
+    → IsShut happened place over old new c later
+    → AltersSome happened home t over old new c later
+shuts happened home t w place over old new c later cause h =
+    shuts_one happened home t w over old new c later h.0 h.1 h.2
+    (cause h.0 h.1 h.2 h.3 h.4.found) h.4
+
+pub all_but : {X : Type 0} (P : X → Type 0) (xs : List X) (x : X) (ys : List X)
+    → AllByRecursion P (xs ++ x ∷ ys) → AllByRecursion P (xs ++ ys)
+all_but P xs x ys h =
+    all_both P xs ys (all_front P xs (x ∷ ys) h) (all_back P xs (x ∷ ys) h).1
+
+pub shut_keeps : {C : Type 0} (happened : C → Option (List Happened)) (place : ℕ)
+    (over : Option Over) (old new : Table) (c later : C)
+    → IsShut happened place over old new c later → KeepsAll old new
+shut_keeps happened place over old new c later h home wire kept =
+    subst (λ z. AreKept home wire z) (sym h.4.left)
+    (all_but (IsKept home wire) h.0 h.2 h.1 (subst (λ z. AreKept home wire z) h.4.found kept))
+
+pub keeps_both : (home : Home) (wire : Version) (old mid new : Table)
+    → KeepsKept home wire old mid → KeepsKept home wire mid new → KeepsKept home wire old new
+keeps_both home wire old mid new h k kept = k (h kept)
+
+-- ---- a client comes
+
+settled_new : (home : Home) (wire : Version) → Settled (new_talk home wire)
+settled_new home wire =
+    inr (record { free = record { unended = refl; taken = refl }; served = refl; unbroken = refl })
+
+pub welcome_keeps : {C : Type 0} (happened : C → Option (List Happened)) (home : Home)
+    (wire : Version) (old new : Table) (c later : C)
+    → Welcomes happened home wire old new c later → KeepsKept home wire old new
+welcome_keeps happened home wire old new c later h kept = either h.either
+  where
+    either :
+        ((new.guests.items ≡ old.guests.items ++ guest old.next (new_talk home wire) old.time ∷ [])
+        × Tells (happened c) (happened later) [])
+        ⊎ ((new.guests.items ≡ old.guests.items)
+        × Tells (happened c) (happened later) (Closed old.next ∷ []))
+        → AreKept home wire new.guests.items
+    either (inl k) =
+        subst (λ z. AreKept home wire z) (sym k.0)
+        (all_both (IsKept home wire) old.guests.items _ kept
+        (record { home = refl; wire = refl; settled = settled_new home wire }, tt))
+    either (inr k) = subst (λ z. AreKept home wire z) (sym k.0) kept
+
+pub enters : {C : Type 0} (happened : C → Option (List Happened)) (home : Home) (t : Terms)
+    (old new : Table) (c between later : C)
+    → old.next < t.most → length old.guests.items < 512
+    → Tells (happened c) (happened between) (Came old.next ∷ [])
+    → Welcomes happened home t.wire old new between later
+    → AltersSome happened home t None old new c later
+enters happened home t old new c between later wanted room told h = either h.either
+  where
+    comes : (more : List Guest) → new.guests.items ≡ old.guests.items ++ more
+        → Enters t old.next more (lobby_of old None) (lobby_of new None)
+    comes more is = record {
+      going = refl;
+      number = refl;
+      wanted = wanted;
+      room = room;
+      enters = lobby_same is h.next h.time refl;
+    }
+
+    either :
+        ((new.guests.items
+        ≡ old.guests.items ++ guest old.next (new_talk home t.wire) old.time ∷ [])
+        × Tells (happened between) (happened later) [])
+        ⊎ ((new.guests.items ≡ old.guests.items)
+        × Tells (happened between) (happened later) (Closed old.next ∷ []))
+        → AltersSome happened home t None old new c later
+    either (inl k) = (
+      Comes old.next ∷ [],
+      record {
+        changed = (lobby_of new None, comes _ k.0, refl);
+        told = Tells-trans (happened c) (happened between) (happened later) _ _ told k.1;
+      },
+    )
+    either (inr k) = (
+      TurnedAway old.next ∷ [],
+      record {
+        changed =
+            (lobby_of new None, comes [] (k.0 ∙ sym (append-nil old.guests.items)), refl);
+        told = Tells-trans (happened c) (happened between) (happened later) _ _ told k.1;
+      },
+    )
+
+pub no_socket : {C : Type 0} (happened : C → Option (List Happened)) (home : Home) (t : Terms)
+    (over : Option Over) (old new : Table) (c between later : C)
+    → Tells (happened c) (happened between) (Full ∷ [])
+    → AltersSome happened home t over old new between later
+    → AltersSome happened home t over old new c later
+no_socket happened home t over old new c between later told k =
+    alters_after happened home t over NoSocket old old new c between later (refl, refl) told k
+
+-- ---- why
+
+get_here : {X : Type 0} (before : List X) (x : X) (after : List X) (d : X)
+    → get_or (before ++ x ∷ after) (length before) d ≡ x
+get_here [] x after d = refl
+get_here (y ∷ before) x after d = get_here before x after d
+
+at_place : (guests before : List Guest) (gone : Guest) (after : List Guest) (i : ℕ) (d : Guest)
+    → length before ≡ i → guests ≡ before ++ gone ∷ after → get_or guests i d ≡ gone
+at_place guests before gone after i d len found =
+    ap (λ z. get_or z i d) found ∙ ap (λ n. get_or (before ++ gone ∷ after) n d) (sym len)
+    ∙ get_here before gone after d
+
+pub longest_cause : (guests before : List Guest) (gone : Guest) (after : List Guest) (i : ℕ)
+    → length before ≡ i → guests ≡ before ++ gone ∷ after → IsLongestAt guests i
+    → AllByRecursion (λ (o : Guest). gone.ready ≤ o.ready) guests
+longest_cause guests before gone after i len found h =
+    subst (λ (z : Guest). AllByRecursion (λ (o : Guest). z.ready ≤ o.ready) guests)
+    (at_place guests before gone after i gone len found) (h.first gone)
+
+pub room_cause : (t : Terms) (w : Why) (a : Lobby) (gone : Guest)
+    → a.over ≡ None → MakesRoom w a.guests
+    → AllByRecursion (λ (o : Guest). gone.ready ≤ o.ready) a.guests → IsCause t w a gone
+room_cause t why.Crowded a gone going full longest = (going, full, longest)
+room_cause t why.NoSocket a gone going full longest = (going, longest)
+room_cause t why.Done a gone going full longest = absurd full
+room_cause t why.Ended a gone going full longest = absurd full
+room_cause t why.Broke a gone going full longest = absurd full
+room_cause t why.Silent a gone going full longest = absurd full
+room_cause t why.Over a gone going full longest = absurd full
+
+pub silent_cause : (patience time : ℕ) (guests before : List Guest) (gone : Guest)
+    (after : List Guest) (i : ℕ)
+    → length before ≡ i → guests ≡ before ++ gone ∷ after
+    → position (is_silent patience time) guests ≡ Some i → patience < time - gone.ready
+silent_cause patience time guests before gone after i len found is =
+    let here = (position-Some (is_silent patience time) guests i gone is).1 in
+    ltb-true patience (time - gone.ready)
+    (subst (λ z. is_silent patience time z ≡ true)
+    (at_place guests before gone after i gone len found) here)
+
+pub shut_fewer : {C : Type 0} (happened : C → Option (List Happened)) (place : ℕ)
+    (over : Option Over) (old new : Table) (c later : C)
+    → IsShut happened place over old new c later
+    → length new.guests.items + 1 ≡ length old.guests.items
+shut_fewer happened place over old new c later h =
+    omega (
+      arith,
+      ap length h.4.left,
+      ap length h.4.found,
+      length-append h.0 h.1,
+      length-append h.0 (h.2 ∷ h.1),
+    )
+
+-- ---- all are ended
+
+-- one more was ended, of those that are still there the last one
+pub empties_more : {C : Type 0} (happened : C → Option (List Happened)) (home : Home) (t : Terms)
+    (over : Over) (old mid new : Table) (gone : Guest) (c between later : C)
+    → mid.guests.items ≡ new.guests.items ++ gone ∷ [] → new.next ≡ mid.next
+    → new.time ≡ mid.time
+    → Empties happened home t over old mid c between
+    → Tells (happened between) (happened later) (Closed gone.number ∷ [])
+    → Empties happened home t over old new c later
+empties_more happened home t over old mid new gone c between later last next time h told = (
+  h.0 ++ Shut gone.number why.Over ∷ [],
+  ChangeAll-trans home t (lobby_of old (Some over)) (lobby_of mid (Some over))
+      (lobby_of new (Some over)) h.0 (Shut gone.number why.Over ∷ []) h.1 (
+        lobby_of new (Some over),
+        (
+          new.guests.items,
+          [],
+          gone,
+          record {
+            found = last;
+            number = refl;
+            cause = λ e. some_none e;
+            left = lobby_same (sym (append-nil new.guests.items)) next time refl;
+          },
+        ),
+        refl,
+      ),
+  Tells-as (happened c) (happened later) _ _
+      (sym (changes_told_both h.0 (Shut gone.number why.Over ∷ [])))
+      (Tells-trans (happened c) (happened between) (happened later) _ _ h.2 told),
+)
+  where
+    some_none : Some over ≡ None → ⊥
+    some_none e = absurd cc
+
+pub empties_same : {C : Type 0} (happened : C → Option (List Happened)) (home : Home) (t : Terms)
+    (over : Over) (old mid new : Table) (c later : C)
+    → mid.guests.items ≡ new.guests.items ++ [] → new.next ≡ mid.next → new.time ≡ mid.time
+    → Empties happened home t over old mid c later
+    → Empties happened home t over old new c later
+empties_same happened home t over old mid new c later items next time h = (
+  h.0,
+  subst (λ l. ChangeAll home t (lobby_of old (Some over)) h.0 l)
+      (sym (lobby_same (sym (items ∙ append-nil new.guests.items)) next time refl)) h.1,
+  h.2,
+)

@@ -1,0 +1,217 @@
+-- Steps, one after the other.
+use Rattle.std.proofs.Common.{◌≡◌, refl, sym, ap, subst, ◌∙◌, ℕ}
+use Rattle.std.proofs.Common.{List, [], ◌∷◌, ◌++◌, append-nil, length, Option, None}
+use Rattle.std.proofs.Common.{Some, arith, true, eqb}
+use Rattle.std.proofs.lemmas.Bool.{eqb-true}
+use Rattle.answers.specs.declared.desk.Desk.{Ghosts as DeskOf}
+use Rattle.serving.specs.declared.peers.Peers.{Ghosts as PeersOf}
+use Rattle.serving.specs.Making.{Outside, Way, outside_of, speaking}
+use Rattle.store.specs.declared.home.Home.{Home}
+use Rattle.multiplex.specs.Happenings.{Happened, Tells, Named, Round}
+use Rattle.multiplex.specs.Passing.{Change, Changed, Clock, IsStop, Lobby, Pass, Room, Step, Stops}
+use Rattle.multiplex.specs.Passing.{empty_lobby, lobby, told, told_all, told_change}
+use Rattle.multiplex.specs.Passing.{told_over}
+use Rattle.multiplex.specs.declared.ends.Over.{Over}
+use Rattle.multiplex.specs.declared.ends.Over.TheVariants as over_is
+use Rattle.multiplex.specs.declared.table.Table.{Table}
+use Rattle.multiplex.specs.declared.table.Terms.{Terms}
+use Rattle.multiplex.specs.model.Scenes.{AltersSome, Answers, ChangeAll, Does, Empties}
+use Rattle.multiplex.specs.model.Scenes.{lobby_of}
+use Rattle.multiplex.specs.Scenes.{Scene, Serves, in_room, scene}
+use Rattle.multiplex.specs.model.Scenes.{room_of, told_changes}
+use Rattle.multiplex.proofs.Shutting.{alters_after}
+use Rattle.multiplex.proofs.Telling.{Tells-as, Tells-nil, Tells-trans, all_told_both}
+
+pub Pass-trans : {V : Type 0} {way : Way V} (home : Home) (t : Terms) (a m b : Room way)
+    (ss rs : List Step) → Pass home t a ss m → Pass home t m rs b → Pass home t a (ss ++ rs) b
+Pass-trans home t a m b [] rs h k = subst (λ z. Pass home t z rs b) (sym h) k
+Pass-trans home t a m b (s ∷ ss) rs h k = (h.0, h.1, Pass-trans home t h.0 m b ss rs h.2 k)
+
+-- ---- changes are steps
+
+abbrev pub changed_steps : List Change → List Step
+changed_steps [] = []
+changed_steps (c ∷ cs) = Changed c ∷ changed_steps cs
+
+pub changes_told : (cs : List Change) → told_all (changed_steps cs) ≡ told_changes cs
+changes_told [] = refl
+changes_told (c ∷ cs) = ap (λ z. told_change c ++ z) (changes_told cs)
+
+abbrev pub at_lobby : {V : Type 0} {way : Way V} → Room way → Lobby → Room way
+at_lobby a l = record { lobby = l; seen = a.seen; outside = a.outside }
+
+pub changes_pass : {V : Type 0} {way : Way V} (home : Home) (t : Terms) (a : Room way)
+    (l b : Lobby) (cs : List Change)
+    → ChangeAll home t l cs b
+    → Pass home t (at_lobby a l) (changed_steps cs) (at_lobby a b)
+changes_pass home t a l b [] h = ap (λ z. at_lobby a z) h
+changes_pass home t a l b (c ∷ cs) h =
+    (at_lobby a h.0, (h.1, refl, refl), changes_pass home t a h.0 b cs h.2)
+
+pub does_none : {V U C : Type 0} (d : DeskOf V) (p : PeersOf U)
+    (happened : C → Option (List Happened)) (home : Home) (t : Terms) (table : Table)
+    (a : Scene V U C)
+    → Does d p happened home t None table table a a
+does_none d p happened home t table a =
+    ([], record { pass = refl; told = Tells-nil (happened a.clients) })
+
+pub does_both : {V U C : Type 0} (d : DeskOf V) (p : PeersOf U)
+    (happened : C → Option (List Happened)) (home : Home) (t : Terms) (over : Option Over)
+    (old mid new : Table) (a m b : Scene V U C)
+    → Does d p happened home t None old mid a m → Does d p happened home t over mid new m b
+    → Does d p happened home t over old new a b
+does_both d p happened home t over old mid new a m b h k = (
+  h.0 ++ k.0,
+  record {
+    pass =
+        Pass-trans home t (room_of d p t.wire old None a) (room_of d p t.wire mid None m)
+        (room_of d p t.wire new over b) h.0 k.0 h.1.pass k.1.pass;
+    told =
+        Tells-as (happened a.clients) (happened b.clients) _ _ (sym (all_told_both h.0 k.0))
+        (Tells-trans (happened a.clients) (happened m.clients) (happened b.clients) _ _
+        h.1.told k.1.told);
+  },
+)
+
+-- the node and the other desks are as before, and the table was changed so
+pub does_changes : {V U C : Type 0} (d : DeskOf V) (p : PeersOf U)
+    (happened : C → Option (List Happened)) (home : Home) (t : Terms) (over : Option Over)
+    (old new : Table) (node : V) (peers : U) (c later : C)
+    → AltersSome happened home t over old new c later
+    → Does d p happened home t over old new (scene node peers c) (scene node peers later)
+does_changes d p happened home t over old new node peers c later h = (
+  changed_steps h.0,
+  record {
+    pass =
+        changes_pass home t (room_of d p t.wire old None (scene node peers c))
+        (lobby_of old None) (lobby_of new over) h.0 h.1.changed;
+    told =
+        Tells-as (happened c) (happened later) _ _ (sym (changes_told h.0)) h.1.told;
+  },
+)
+
+-- a client was named, and answered
+pub does_answer : {V U C : Type 0} (d : DeskOf V) (p : PeersOf U)
+    (happened : C → Option (List Happened)) (home : Home) (t : Terms) (k : ℕ) (over : Option Over)
+    (old new : Table) (node next : V) (peers more : U) (c named later : C)
+    → Tells (happened c) (happened named) (Named k ∷ [])
+    → Answers d p happened home t k over old new (scene node peers named) (scene next more later)
+    → Does d p happened home t over old new (scene node peers c) (scene next more later)
+does_answer d p happened home t k over old new node next peers more c named later told h = (
+  h.0 ∷ [],
+  record {
+    pass = (_, h.3, refl);
+    told =
+        Tells-as (happened c) (happened later) _ _
+        (sym h.2 ∙ sym (append-nil _))
+        (Tells-trans (happened c) (happened named) (happened later) _ _ told h.4);
+  },
+)
+
+-- serving is over by itself
+pub does_stop : {V U C : Type 0} (d : DeskOf V) (p : PeersOf U)
+    (happened : C → Option (List Happened)) (home : Home) (t : Terms) (over : Over)
+    (table : Table) (node : V) (peers : U) (c later : C)
+    → IsStop t over (lobby_of table None)
+    → Tells (happened c) (happened later) (told_over over)
+    → Does d p happened home t (Some over) table table (scene node peers c)
+    (scene node peers later)
+does_stop d p happened home t over table node peers c later is told = (
+  Changed (Stops over) ∷ [],
+  record {
+    pass = (_, ((refl, is, refl), refl, refl), refl);
+    told =
+        Tells-as (happened c) (happened later) _ _ (sym (append-nil (told_over over))) told;
+  },
+)
+
+abbrev at_outside : {V : Type 0} {way : Way V} → Room way → Outside way → Room way
+at_outside a o = record { lobby = a.lobby; seen = a.seen; outside = o }
+
+-- a round is over, and the links were kept, by which nothing is handed out
+pub does_round : {V U C : Type 0} (d : DeskOf V) (p : PeersOf U)
+    (happened : C → Option (List Happened)) (home : Home) (t : Terms) (over : Option Over)
+    (time : ℕ) (old new : Table) (node : V) (peers kept : U) (c between later : C)
+    → p.handed kept ≡ p.handed peers → Tells (happened c) (happened between) (Round time ∷ [])
+    → AltersSome happened home t over
+    (record { guests = old.guests; next = old.next; time = time }) new between later
+    → Does d p happened home t over old new (scene node peers c) (scene node kept later)
+does_round d p happened home t over time old new node peers kept c between later same told h =
+    let all =
+    does_changes d p happened home t over old new node peers c later
+    (alters_after happened home t over (Clock time) old
+    (record { guests = old.guests; next = old.next; time = time }) new c between later
+    (refl, refl) told h) in (
+      all.0,
+      record {
+        pass =
+            subst
+            (λ z. Pass home t (room_of d p t.wire old None (scene node peers c)) all.0
+            (at_outside (room_of d p t.wire new over (scene node kept later)) z))
+            (ap (λ z. outside_of (speaking d.handles t.wire) node z) (sym same)) all.1.pass;
+        told = all.1.told;
+      },
+    )
+
+-- ---- from the first client to the end
+
+pub serves_all : {V U C : Type 0} (d : DeskOf V) (p : PeersOf U)
+    (happened : C → Option (List Happened)) (t : Terms) (over : Over) (table mid last : Table)
+    (node next : V) (peers more : U) (c between later : C)
+    → lobby_of table None ≡ empty_lobby
+    → Does d p happened (d.home_of node) t (Some over) table mid (scene node peers c)
+    (scene next more between)
+    → Empties happened (d.home_of node) t over mid last between later
+    → last.guests.items ≡ []
+    → Serves d p happened t (record { connections = last.next; over = over })
+    (scene node peers c) (scene next more later)
+serves_all d p happened t over table mid last node next peers more c between later first h k none =
+    let home = d.home_of node in
+    let ends =
+    changes_pass home t (room_of d p t.wire mid (Some over) (scene next more between))
+    (lobby_of mid (Some over)) (lobby_of last (Some over)) k.0 k.1 in (
+      lobby_of last (Some over),
+      h.0 ++ changed_steps k.0,
+      record {
+        first = refl;
+        pass =
+            Pass-trans home t (in_room d p t.wire empty_lobby (scene node peers c))
+            (room_of d p t.wire mid (Some over) (scene next more between))
+            (room_of d p t.wire last (Some over) (scene next more later)) h.0
+            (changed_steps k.0)
+            (subst
+            (λ l. Pass home t (in_room d p t.wire l (scene node peers c)) h.0
+            (room_of d p t.wire mid (Some over) (scene next more between))) first h.1.pass)
+            ends;
+        told =
+            Tells-as (happened c) (happened later) _ _
+            (ap (λ z. told_all h.0 ++ z) (sym (changes_told k.0))
+            ∙ sym (all_told_both h.0 (changed_steps k.0)))
+            (Tells-trans (happened c) (happened between) (happened later) _ _ h.1.told k.2);
+        counted = refl;
+        over = refl;
+        left = none;
+      },
+    )
+
+-- memory was refused before a client came
+pub serves_none : {V U C : Type 0} (d : DeskOf V) (p : PeersOf U)
+    (happened : C → Option (List Happened)) (t : Terms) (node : V) (peers : U) (c : C)
+    → Serves d p happened t (record { connections = 0; over = over_is.NoMemory })
+    (scene node peers c) (scene node peers c)
+serves_none d p happened t node peers c = (
+  lobby [] 0 0 (Some over_is.NoMemory),
+  Changed (Stops over_is.NoMemory) ∷ [],
+  record {
+    first = refl;
+    pass = (_, ((refl, refl, refl), refl, refl), refl);
+    told = Tells-nil (happened c);
+    counted = refl;
+    over = refl;
+    left = refl;
+  },
+)
+
+pub is_empty : {X : Type 0} (xs : List X) → true ≡ eqb (length xs) 0 → xs ≡ []
+is_empty [] h = refl
+is_empty (x ∷ xs) h = absurd (omega (arith, eqb-true (length (x ∷ xs)) 0 (sym h)))

@@ -1,0 +1,46 @@
+-- What is told, one after the other.
+use Rattle.std.proofs.Common.{◌≡◌, refl, sym, ap, subst, ◌∙◌, ℕ, List, [], ◌∷◌, ◌++◌, append_assoc}
+use Rattle.std.proofs.Common.{append-nil, Option, None, Some}
+use Rattle.serving.specs.TurnLaw.{Came, Began, Rested, Took, Turn}
+use Rattle.multiplex.specs.Happenings.{Happened, Gave, Tells, Took as TookSome}
+use Rattle.multiplex.specs.Passing.{Step, told, told_all, told_change, told_turns, Change}
+use Rattle.multiplex.specs.model.Scenes.{told_changes}
+
+pub Tells-nil : (a : Option (List Happened)) → Tells a a []
+Tells-nil None = tt
+Tells-nil (Some xs) = sym (append-nil xs)
+
+pub Tells-trans : (a b c : Option (List Happened)) (xs ys : List Happened) → Tells a b xs
+    → Tells b c ys → Tells a c (xs ++ ys)
+Tells-trans None b None xs ys h k = tt
+Tells-trans (Some ks) b None xs ys h k = tt
+Tells-trans None None (Some cs) xs ys h k = absurd k
+Tells-trans None (Some bs) (Some cs) xs ys h k = absurd h
+Tells-trans (Some ks) None (Some cs) xs ys h k = absurd k
+Tells-trans (Some ks) (Some bs) (Some cs) xs ys h k =
+    k ∙ ap (λ (t : List Happened). t ++ ys) h ∙ append_assoc ks xs ys
+
+pub Tells-as : (a b : Option (List Happened)) (xs ys : List Happened) → xs ≡ ys → Tells a b xs
+    → Tells a b ys
+Tells-as a b xs ys is h = subst (λ (t : List Happened). Tells a b t) is h
+
+pub turns_both : (k : ℕ) (ts us : List Turn)
+    → told_turns k (ts ++ us) ≡ told_turns k ts ++ told_turns k us
+turns_both k [] us = refl
+turns_both k (Came piece ∷ ts) us = ap (λ z. Gave k piece ∷ z) (turns_both k ts us)
+turns_both k (Took bytes ∷ ts) us = ap (λ z. TookSome k bytes ∷ z) (turns_both k ts us)
+turns_both k (Began one ∷ ts) us = turns_both k ts us
+turns_both k (Rested ∷ ts) us = turns_both k ts us
+
+pub all_told_both : (ss rs : List Step) → told_all (ss ++ rs) ≡ told_all ss ++ told_all rs
+all_told_both [] rs = refl
+all_told_both (s ∷ ss) rs =
+    ap (λ z. told s ++ z) (all_told_both ss rs)
+    ∙ sym (append_assoc (told s) (told_all ss) (told_all rs))
+
+pub changes_told_both : (cs ds : List Change)
+    → told_changes (cs ++ ds) ≡ told_changes cs ++ told_changes ds
+changes_told_both [] ds = refl
+changes_told_both (c ∷ cs) ds =
+    ap (λ z. told_change c ++ z) (changes_told_both cs ds)
+    ∙ sym (append_assoc (told_change c) (told_changes cs) (told_changes ds))

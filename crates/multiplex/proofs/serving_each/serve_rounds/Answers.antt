@@ -1,0 +1,77 @@
+use Rattle.std.proofs.Common.{subst, sym, ap, ◌∙◌, eqb, None, Some}
+use Rattle.multiplex.specs.declared.ends.Over.TheVariants as over
+use Rattle.multiplex.specs.Scenes.{scene}
+use Rattle.multiplex.specs.model.Scenes.{Does}
+use Rattle.multiplex.specs.model.Tables.{AreKept}
+use Rattle.multiplex.proofs.Stepping.{does_both, does_stop, is_empty}
+use Rattle.multiplex.proofs.Telling.{Tells-nil}
+use Rattle.multiplex.proofs.serving_each.serve_rounds.Goals as goal
+
+pub returns-then-table-terms-clause-does : goal.returns-then-table-terms-clause-does
+returns-then-table-terms-clause-does g c =
+    let d = g.D.Desk in
+    let happened = g.C.Clients.happened in
+    let at = c.loop-step in
+    let home = d.home_of c.args.node.now in
+    let none =
+    is_empty at.table.guests.items
+    (c.if-is_empty.ensures ∙ ap (λ n. eqb n 0) at.table.guests.ok.0) in
+    does_both d g.L.Peers happened home c.args.terms (Some over.All) c.args.table.now at.table
+    at.table (scene c.args.node.now c.args.links.now c.args.clients.now)
+    (scene at.node at.links at.clients) (scene at.node at.links at.clients) at.invariant.does
+    (does_stop d g.L.Peers happened home c.args.terms over.All at.table at.node at.links
+    at.clients at.clients
+    (none, c.if-table-terms.true)
+    (Tells-nil (happened at.clients)))
+
+pub returns-in-Some-clause-does : goal.returns-in-Some-clause-does
+returns-in-Some-clause-does g c =
+    let d = g.D.Desk in
+    let happened = g.C.Clients.happened in
+    let at = c.loop-step in
+    does_both d g.L.Peers happened (d.home_of c.args.node.now) c.args.terms
+    (Some c.in-Some.over) c.args.table.now at.table c.step.new.table
+    (scene c.args.node.now c.args.links.now c.args.clients.now)
+    (scene at.node at.links at.clients)
+    (scene c.step.new.node c.step.new.links c.step.new.clients) at.invariant.does
+    (subst
+    (λ h. Does d g.L.Peers happened h c.args.terms (Some c.in-Some.over) at.table
+    c.step.new.table (scene at.node at.links at.clients)
+    (scene c.step.new.node c.step.new.links c.step.new.clients)) at.invariant.home
+    c.in-Some.ensures.does)
+
+pub loop-step-preserved : goal.loop-step-preserved
+loop-step-preserved g c =
+    let d = g.D.Desk in
+    let happened = g.C.Clients.happened in
+    let at = c.loop-step in
+    record {
+      does =
+          does_both d g.L.Peers happened (d.home_of c.args.node.now) c.args.terms None
+          c.args.table.now at.table c.step.new.table
+          (scene c.args.node.now c.args.links.now c.args.clients.now)
+          (scene at.node at.links at.clients)
+          (scene c.step.new.node c.step.new.links c.step.new.clients) at.invariant.does
+          (subst
+          (λ h. Does d g.L.Peers happened h c.args.terms None at.table c.step.new.table
+          (scene at.node at.links at.clients)
+          (scene c.step.new.node c.step.new.links c.step.new.clients)) at.invariant.home
+          c.in_default.ensures.does);
+      kept =
+          subst (λ h. AreKept h c.args.terms.wire c.step.new.table.guests.items)
+          (sym c.step.ensures.home) c.step.ensures.kept;
+      few = c.step.ensures.few;
+      home = c.step.ensures.home ∙ at.invariant.home;
+    }
+
+pub returns-clause-does : goal.returns-clause-does
+returns-clause-does g c =
+    let d = g.D.Desk in
+    let happened = g.C.Clients.happened in
+    let at = c.loop-step in
+    let home = d.home_of c.args.node.now in
+    does_both d g.L.Peers happened home c.args.terms (Some over.Tired) c.args.table.now at.table
+    at.table (scene c.args.node.now c.args.links.now c.args.clients.now)
+    (scene at.node at.links at.clients) (scene at.node at.links at.clients) at.invariant.does
+    (does_stop d g.L.Peers happened home c.args.terms over.Tired at.table at.node at.links
+    at.clients at.clients tt (Tells-nil (happened at.clients)))

@@ -1,0 +1,18 @@
+use Rattle.std.proofs.Common.{◌≡◌, ◌≤◌, length, None}
+use Rattle.multiplex.specs.Scenes.{scene}
+use Rattle.multiplex.specs.model.Scenes.{Does}
+use Rattle.multiplex.specs.model.Tables.{AreKept}
+use Rattle.multiplex.proofs.serving_each.serve_rounds.Given as goal
+
+-- steps were taken, and serving goes on
+abbrev pub invariant-loop-step : goal.invariant-loop-step
+invariant-loop-step g l =
+    let d = g.D.Desk in
+    record {
+      does : Does d g.L.Peers g.C.Clients.happened (d.home_of l.initial.node) l.terms None
+          l.initial.table l.table (scene l.initial.node l.initial.links l.initial.clients)
+          (scene l.node l.links l.clients);
+      kept : AreKept (d.home_of l.node) l.terms.wire l.table.guests.items;
+      few : length l.table.guests.items ≤ 512;
+      home : d.home_of l.node ≡ d.home_of l.initial.node;
+    }

@@ -1,0 +1,14 @@
+use Rattle.multiplex.specs.declared.ends.Over.{Over}
+use Rattle.multiplex.specs.declared.table.Terms.{Terms}
+use Rattle.multiplex.specs.model.Scenes.{Empties}
+use Rattle.store.specs.declared.home.Home.{Home}
+use Rattle.multiplex.proofs.steps.let_all_go.Given as goal
+
+-- those so far were ended
+abbrev pub invariant-loop-guest : goal.invariant-loop-guest
+invariant-loop-guest g l =
+    (home : Home) (t : Terms) (over : Over)
+    → Empties g.C.Clients.happened home t over l.initial.table l.table l.initial.clients l.clients
+
+abbrev pub decreases-loop-guest : goal.decreases-loop-guest
+decreases-loop-guest g l = goal.left-loop-guest g l

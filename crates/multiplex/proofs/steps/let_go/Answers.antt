@@ -1,0 +1,53 @@
+use Rattle.std.proofs.Common.{◌<◌, ◌-◌, refl, sym, subst, ◌∙◌, arith}
+use Rattle.multiplex.specs.declared.ends.Why.TheVariants as why
+use Rattle.multiplex.proofs.Shutting.{alters_both, shut_fewer, shut_keeps, shuts}
+use Rattle.multiplex.proofs.Shutting.{silent_cause}
+use Rattle.multiplex.proofs.steps.let_go.Goals as goal
+
+pub returns-in-Some-shut-clause-alters : goal.returns-in-Some-shut-clause-alters
+returns-in-Some-shut-clause-alters g c home t same =
+    let table = c.loop-place.table in
+    alters_both _ home t _ _ _ _ _ _ _ (c.loop-place.invariant.alters home t same)
+    (shuts _ home t why.Silent c.in-Some.place _ _ _ _ _
+    (λ before after gone len found. (
+      refl,
+      subst (λ p. p < table.time - gone.ready) (sym same)
+          (silent_cause c.args.patience table.time table.guests.items before gone after
+          c.in-Some.place len found (sym c.place_of_silent.ensures ∙ c.in-Some.is)),
+    ))
+    c.in-Some-shut.ensures)
+
+pub returns-in-Some-shut-clause-kept : goal.returns-in-Some-shut-clause-kept
+returns-in-Some-shut-clause-kept g c home wire h =
+    shut_keeps g.C.Clients.happened c.in-Some.place c.shut.result c.loop-place.table
+    c.shut.new.table c.loop-place.clients c.shut.new.clients c.shut.ensures home wire
+    (c.loop-place.invariant.kept home wire h)
+
+pub loop-place-preserved : goal.loop-place-preserved
+loop-place-preserved g c =
+    let table = c.loop-place.table in
+    record {
+      alters =
+          λ home t same.
+          alters_both _ home t _ _ _ _ _ _ _ (c.loop-place.invariant.alters home t same)
+          (shuts _ home t why.Silent c.in-Some.place _ _ _ _ _
+          (λ before after gone len found. (
+            refl,
+            subst (λ p. p < table.time - gone.ready) (sym same)
+                (silent_cause c.args.patience table.time table.guests.items before gone after
+                c.in-Some.place len found (sym c.place_of_silent.ensures ∙ c.in-Some.is)),
+          ))
+          c.in_default-shut.ensures);
+      kept =
+          λ home wire h.
+          shut_keeps g.C.Clients.happened c.in-Some.place c.shut.result table
+          c.shut.new.table c.loop-place.clients c.shut.new.clients c.shut.ensures home wire
+          (c.loop-place.invariant.kept home wire h);
+      fewer =
+          omega (
+            arith,
+            shut_fewer g.C.Clients.happened c.in-Some.place c.shut.result table c.shut.new.table
+                c.loop-place.clients c.shut.new.clients c.shut.ensures,
+            c.loop-place.invariant.fewer,
+          );
+    }

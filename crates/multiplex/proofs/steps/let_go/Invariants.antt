@@ -1,0 +1,19 @@
+use Rattle.std.proofs.Common.{◌≡◌, ◌≤◌, length, None}
+use Rattle.multiplex.specs.declared.table.Terms.{Terms}
+use Rattle.multiplex.specs.model.Scenes.{AltersSome}
+use Rattle.multiplex.specs.model.Tables.{KeepsAll}
+use Rattle.store.specs.declared.home.Home.{Home}
+use Rattle.multiplex.proofs.steps.let_go.Given as goal
+
+-- those that were let go so far leave serving as it was
+abbrev pub invariant-loop-place : goal.invariant-loop-place
+invariant-loop-place g l = record {
+  alters : (home : Home) (t : Terms) → t.patience ≡ l.patience
+      → AltersSome g.C.Clients.happened home t None l.initial.table l.table l.initial.clients
+      l.clients;
+  kept : KeepsAll l.initial.table l.table;
+  fewer : length l.table.guests.items ≤ length l.initial.table.guests.items;
+}
+
+abbrev pub decreases-loop-place : goal.decreases-loop-place
+decreases-loop-place g l = length l.table.guests.items

@@ -1,0 +1,68 @@
+use Rattle.std.proofs.Common.{refl, sym, ◌∙◌}
+use Rattle.multiplex.specs.Scenes.{scene}
+use Rattle.std.specs.Vec.{with_item}
+use Rattle.multiplex.proofs.Visits.{about, answers_leave, answers_nobody, answers_stay, leave_keeps}
+use Rattle.multiplex.proofs.Visits.{stands}
+use Rattle.multiplex.proofs.steps.visit.Goals as goal
+
+pub returns-in_default-clause-answers : goal.returns-in_default-clause-answers
+returns-in_default-clause-answers g c =
+    answers_nobody g.D.Desk g.P.Peers g.C.Clients.happened (g.D.Desk.home_of c.args.node.now)
+    c.args.terms c.args.number c.args.table.now
+    (scene c.args.node.now c.args.peers.now c.args.clients.now)
+    (sym c.place_of.ensures ∙ c.in_default.is)
+
+pub returns-in-None-clause-answers : goal.returns-in-None-clause-answers
+returns-in-None-clause-answers g c =
+    let table = c.args.table.now in
+    let place = c.in-Some.place in
+    let old = c.index_mut-guest.result.now in
+    let new = c.host.new.guest in
+    let at =
+    stands (g.D.Desk.home_of c.args.node.now) c.args.terms.wire c.args.number table
+        place old (sym c.place_of.ensures ∙ c.in-Some.is)
+    c.index_mut-guest.ensures.value c.requires.kept in
+    let split = about table place old new at.within c.index_mut-guest.ensures.value in
+    answers_stay g.D.Desk g.P.Peers g.C.Clients.happened (g.D.Desk.home_of c.args.node.now)
+    c.args.terms c.args.number place table
+    (record { guests = with_item table.guests place new; next = table.next; time = table.time })
+    old new split.0 split.1 (scene c.args.node.now c.args.peers.now c.args.clients.now)
+    (scene c.host.new.node c.host.new.peers c.host.new.clients) split.2 at.number at.same refl
+    refl refl c.in-None.ensures.hosts
+
+pub returns-in-Some-host-clause-answers : goal.returns-in-Some-host-clause-answers
+returns-in-Some-host-clause-answers g c =
+    let table = c.args.table.now in
+    let place = c.in-Some.place in
+    let old = c.index_mut-guest.result.now in
+    let new = c.host.new.guest in
+    let at =
+    stands (g.D.Desk.home_of c.args.node.now) c.args.terms.wire c.args.number table
+        place old (sym c.place_of.ensures ∙ c.in-Some.is)
+    c.index_mut-guest.ensures.value c.requires.kept in
+    let split = about table place old new at.within c.index_mut-guest.ensures.value in
+    answers_leave g.D.Desk g.P.Peers g.C.Clients.happened (g.D.Desk.home_of c.args.node.now)
+    c.args.terms c.args.number c.in-Some-host.field-0 place c.shut.result
+    table
+    (record { guests = with_item table.guests place new; next = table.next; time = table.time })
+    c.shut.new.table old new split.0 split.1
+    (scene c.args.node.now c.args.peers.now c.args.clients.now) c.host.new.node c.host.new.peers
+    c.host.new.clients c.shut.new.clients split.2 at.number at.same refl refl refl
+    c.in-Some-host.ensures.hosts c.shut.ensures
+
+pub returns-in-Some-host-clause-kept : goal.returns-in-Some-host-clause-kept
+returns-in-Some-host-clause-kept g c =
+    let table = c.args.table.now in
+    let place = c.in-Some.place in
+    let old = c.index_mut-guest.result.now in
+    let new = c.host.new.guest in
+    let at =
+    stands (g.D.Desk.home_of c.args.node.now) c.args.terms.wire c.args.number table
+        place old (sym c.place_of.ensures ∙ c.in-Some.is)
+    c.index_mut-guest.ensures.value c.requires.kept in
+    let split = about table place old new at.within c.index_mut-guest.ensures.value in
+    leave_keeps g.C.Clients.happened (g.D.Desk.home_of c.args.node.now) c.args.terms.wire place
+    c.shut.result table
+    (record { guests = with_item table.guests place new; next = table.next; time = table.time })
+    c.shut.new.table old new split.0 split.1 c.host.new.clients c.shut.new.clients split.2 refl
+    refl refl c.shut.ensures c.requires.kept

@@ -1,0 +1,45 @@
+use Rattle.std.proofs.Common.{◌∙◌, true, false, None}
+use Rattle.multiplex.specs.model.Visiting.{Goes, spot}
+use Rattle.multiplex.proofs.Walking.{advanced, after_send, at_rest, goes_both}
+use Rattle.multiplex.proofs.turns.serve_waiting.Goals as goal
+use Rattle.multiplex.proofs.turns.serve_waiting.Goals.{else-wants_write-via-then-wants_write+else-not-send}
+use Rattle.multiplex.proofs.turns.serve_waiting.Goals.{else-wants_write-via-else-wants_write}
+
+pub returns-then-not-send-clause-served : goal.returns-then-not-send-clause-served
+returns-then-not-send-clause-served g c =
+    goes_both _ _ _ _ _ 0 0 _ _ _ c.loop-talk.invariant.goes
+    (goes_both _ _ _ _ _ 0 0 _ _ _
+    (advanced _ _ _ _ 0 c.advance.result _ _ _ _ _ _ _ c.advance.ensures.turn)
+    (after_send _ _ _ _ 0 false _ _ _ _ _ _ c.if-not-send.ensures))
+
+pub loop-talk-preserved : goal.loop-talk-preserved
+loop-talk-preserved g c =
+    let d = g.D.Desk in
+    let begun =
+    goes_both _ _ _ _ _ 0 0 _ _ _ c.loop-talk.invariant.goes
+    (advanced _ _ _ _ 0 c.advance.result _ _ _ _ _ _ _ c.advance.ensures.turn) in
+    let goes :
+    Goes d g.P.Peers g.C.Clients.happened c.args.number None 0
+    (spot c.args.node.now c.args.peers.now c.args.clients.now c.args.talk.now)
+    (spot c.advance.new.node c.advance.new.peers c.else-wants_write.clients
+    c.else-wants_write.talk) =
+    elim c.else-wants_write.branch [
+      | else-wants_write-via-then-wants_write+else-not-send w ↦
+          rw (w.talk-is, w.clients-is)
+          (goes_both _ _ _ _ _ 0 0 _ _ _ begun
+          (after_send _ _ _ _ 0 true _ _ _ _ _ _ w.if-not-send.ensures))
+      | else-wants_write-via-else-wants_write w ↦ rw (w.talk-is, w.clients-is) begun
+    ] in
+    record {
+      goes = goes;
+      home = c.advance.ensures.home ∙ c.loop-talk.invariant.home;
+      same = goes.1.home;
+    }
+
+pub returns-clause-served : goal.returns-clause-served
+returns-clause-served g c =
+    goes_both _ _ _ _ _ 0 0 _ _ _ c.loop-talk.invariant.goes
+    (advanced _ _ _ _ 0 c.advance.result _ _ _ _ _ _ _ c.advance.ensures.turn)
+
+pub returns-clause-settled : goal.returns-clause-settled
+returns-clause-settled g c = at_rest c.loop-talk.talk _ c.loop-talk-test.ensures.turn.2

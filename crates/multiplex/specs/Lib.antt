@@ -1,0 +1,5 @@
+pub mod Happenings
+pub mod Passing
+pub mod EachClient
+pub mod Scenes
+pub mod model

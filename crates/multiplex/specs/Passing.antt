@@ -1,0 +1,276 @@
+-- Many clients that are served by one desk, side by side, step by step.
+use Rattle.std.specs.Prelude.{◌≡◌, ◌≢◌, ◌⊎◌, ◌≤◌, ◌<◌, ℕ, ◌+◌, ◌-◌, List, [], ◌∷◌, ◌++◌, length}
+use Rattle.std.specs.Prelude.{Option, None, Some, suc}
+use Rattle.std.specs.List.{AllByRecursion}
+use Rattle.answers.specs.Seen.{Seen}
+use Rattle.store.specs.declared.home.Home.{Home}
+use Rattle.serving.specs.declared.ends.End.{End}
+use Rattle.serving.specs.declared.ends.End.TheVariants as end
+use Rattle.serving.specs.Making.{Outside, Way}
+use Rattle.serving.specs.Turns.{Talk, WantsRead, new_talk}
+use Rattle.serving.specs.TurnLaw.{Came as CameIn, Began, Follow, Place, Rested, Took as TookOf}
+use Rattle.serving.specs.TurnLaw.{Turn}
+use Rattle.multiplex.specs.Happenings.{Happened, Round, Came, Full, Named, Gave, Took, Ended, Broke}
+use Rattle.multiplex.specs.Happenings.{Closed, Failed, Tells}
+use Rattle.multiplex.specs.declared.ends.ServedEach.{ServedEach}
+use Rattle.multiplex.specs.declared.ends.Over.{Over}
+use Rattle.multiplex.specs.declared.ends.Over.TheVariants as over
+use Rattle.multiplex.specs.declared.ends.Why.{Why}
+use Rattle.multiplex.specs.declared.ends.Why.TheVariants as why
+use Rattle.multiplex.specs.declared.table.Guest.{Guest}
+use Rattle.multiplex.specs.declared.table.Terms.{Terms}
+
+-- ---- what stands between two steps
+
+-- the clients whose connections are open, in the order in which they came; the number of the next
+-- one; how many milliseconds after the first round it is; why serving is over, where it is
+pub record Lobby : Type 0 where
+  pub guests : List Guest
+  pub next : ℕ
+  pub time : ℕ
+  pub over : Option Over
+
+abbrev pub lobby : List Guest → ℕ → ℕ → Option Over → Lobby
+lobby guests next time over = record { guests = guests; next = next; time = time; over = over }
+
+-- before the first client
+abbrev pub empty_lobby : Lobby
+empty_lobby = lobby [] 0 0 None
+
+abbrev pub guest : ℕ → Talk → ℕ → Guest
+guest number talk ready = record { number = number; talk = talk; ready = ready }
+
+-- what is seen of the node beside that, and what is there beside
+pub record Room {V : Type 0} (way : Way V) : Type 0 where
+  pub lobby : Lobby
+  pub seen : Seen
+  pub outside : Outside way
+
+-- a connection, with the node as it is seen
+abbrev pub with_node : {V : Type 0} → {way : Way V} → Room way → Talk → Place way
+with_node a talk = record { talk = talk; seen = a.seen; outside = a.outside }
+
+-- ---- steps
+
+-- a change of which the node knows nothing: a round is over; a client came, or came and was turned
+-- away for want of memory; the system had no socket for one; a client was ready whose connection is
+-- not open; a connection was ended; serving is over
+pub data Change : Type 0 where
+  Clock : ℕ → Change
+  Comes : ℕ → Change
+  TurnedAway : ℕ → Change
+  NoSocket : Change
+  Stray : ℕ → Change
+  Shut : ℕ → Why → Change
+  Stops : Over → Change
+
+-- a step: such a change; or a client was ready, its connection took these turns, and perhaps it was
+-- ended
+pub data Step : Type 0 where
+  Changed : Change → Step
+  Visit : ℕ → List Turn → Option Why → Step
+
+-- what is told of turns: the bytes that the client gave and took
+abbrev pub told_turns : ℕ → List Turn → List Happened
+told_turns k [] = []
+told_turns k (CameIn piece ∷ ts) = Gave k piece ∷ told_turns k ts
+told_turns k (TookOf bytes ∷ ts) = Took k bytes ∷ told_turns k ts
+told_turns k (Began one ∷ ts) = told_turns k ts
+told_turns k (Rested ∷ ts) = told_turns k ts
+
+-- what is told of why a connection is to be ended
+abbrev pub told_why : ℕ → Option Why → List Happened
+told_why k (Some why.Ended) = Ended k ∷ []
+told_why k (Some why.Broke) = Broke k ∷ []
+told_why k (Some why.Done) = []
+told_why k (Some why.Silent) = []
+told_why k (Some why.Crowded) = []
+told_why k (Some why.NoSocket) = []
+told_why k (Some why.Over) = []
+told_why k None = []
+
+-- and that it was
+abbrev pub told_end : ℕ → Option Why → List Happened
+told_end k None = []
+told_end k (Some w) = Closed k ∷ []
+
+abbrev pub told_over : Over → List Happened
+told_over over.Failed = Failed ∷ []
+told_over over.All = []
+told_over over.Stopped = []
+told_over over.Down = []
+told_over over.Tired = []
+told_over over.NoMemory = []
+
+abbrev pub told_change : Change → List Happened
+told_change (Clock now) = Round now ∷ []
+told_change (Comes k) = Came k ∷ []
+told_change (TurnedAway k) = Came k ∷ Closed k ∷ []
+told_change NoSocket = Full ∷ []
+told_change (Stray k) = Named k ∷ []
+told_change (Shut k w) = Closed k ∷ []
+told_change (Stops e) = told_over e
+
+abbrev pub told : Step → List Happened
+told (Changed c) = told_change c
+told (Visit k turns fate) =
+    Named k ∷ (told_turns k turns ++ (told_why k fate ++ told_end k fate))
+
+abbrev pub told_all : List Step → List Happened
+told_all [] = []
+told_all (s ∷ ss) = told s ++ told_all ss
+
+-- ---- a client that is ready
+
+-- all that came is served, but for what waits until an answer is taken
+abbrev pub Settled : Talk → Type 0
+Settled c = (c.pending ≢ []) ⊎ WantsRead c
+
+-- it ended, and all of its answers were taken
+pub record IsDone (c : Talk) : Type 0 where
+  pub ended : c.end ≢ None
+  pub taken : c.pending ≡ []
+
+-- when the connection of a client that was ready goes on, or is ended
+abbrev pub IsFate : Option Why → Talk → Type 0
+IsFate None c = Settled c
+IsFate (Some why.Done) c = IsDone c
+IsFate (Some why.Ended) c = WantsRead c
+IsFate (Some why.Broke) c = Unit {0}
+IsFate (Some why.Silent) c = ⊥
+IsFate (Some why.Crowded) c = ⊥
+IsFate (Some why.NoSocket) c = ⊥
+IsFate (Some why.Over) c = ⊥
+
+-- why serving is over once a connection that ended so was ended
+abbrev pub over_by : Option End → Option Over
+over_by (Some end.Stopped) = Some over.Stopped
+over_by (Some end.Down) = Some over.Down
+over_by (Some end.Frames) = None
+over_by (Some end.End) = None
+over_by (Some end.Reads) = None
+over_by (Some (end.Fault e)) = None
+over_by (Some end.Read) = None
+over_by (Some end.Write) = None
+over_by (Some end.NoMemory) = None
+over_by None = None
+
+abbrev pub over_after : Option Why → Talk → Option Over
+over_after None c = None
+over_after (Some w) c = over_by c.end
+
+-- the client stays, or leaves
+abbrev pub staying : Option Why → Guest → List Guest
+staying None g = g ∷ []
+staying (Some w) g = []
+
+-- how many pieces came
+abbrev pub pieces : List Turn → ℕ
+pieces [] = 0
+pieces (CameIn piece ∷ ts) = suc (pieces ts)
+pieces (Began one ∷ ts) = pieces ts
+pieces (Rested ∷ ts) = pieces ts
+pieces (TookOf bytes ∷ ts) = pieces ts
+
+-- A ready client's connection took these turns, in which one piece came at most.
+pub record Visits {V : Type 0} {way : Way V} (k : ℕ) (turns : List Turn) (fate : Option Why)
+    (a b : Room way) (before after : List Guest) (old new : Guest) : Type 0 where
+  pub going : a.lobby.over ≡ None
+  pub found : a.lobby.guests ≡ before ++ old ∷ after
+  pub number : old.number ≡ k
+  pub follow : Follow (with_node a old.talk) turns (with_node b new.talk)
+  pub once : pieces turns ≤ 1
+  pub same : new.number ≡ k
+  pub ready : new.ready ≡ a.lobby.time
+  pub stands : IsFate fate new.talk
+  pub left : b.lobby ≡ lobby (before ++ (staying fate new ++ after)) a.lobby.next a.lobby.time
+      (over_after fate new.talk)
+
+-- ---- changes of which the node knows nothing
+
+-- none wasn't ready for longer than this one
+abbrev pub IsLongest : Guest → List Guest → Type 0
+IsLongest g = AllByRecursion (λ (o : Guest). g.ready ≤ o.ready)
+
+-- why a connection is ended of which the client wasn't ready: for longer than a client is waited
+-- for; for the longest time, where another client waits, and as many are open as may be, or the
+-- system has no socket for it; or serving is over
+abbrev pub IsCause : Terms → Why → Lobby → Guest → Type 0
+IsCause t why.Silent a g = (a.over ≡ None) × (t.patience < a.time - g.ready)
+IsCause t why.Crowded a g = (a.over ≡ None) × (512 ≤ length a.guests) × IsLongest g a.guests
+IsCause t why.NoSocket a g = (a.over ≡ None) × IsLongest g a.guests
+IsCause t why.Over a g = a.over ≢ None
+IsCause t why.Done a g = ⊥
+IsCause t why.Ended a g = ⊥
+IsCause t why.Broke a g = ⊥
+
+-- the first cause for which serving is over
+abbrev pub first_of : Option Over → Option Over → Option Over
+first_of None e = e
+first_of (Some o) e = Some o
+
+-- a connection was ended
+pub record Shuts (t : Terms) (k : ℕ) (w : Why) (a b : Lobby) (before after : List Guest)
+    (old : Guest) : Type 0 where
+  pub found : a.guests ≡ before ++ old ∷ after
+  pub number : old.number ≡ k
+  pub cause : IsCause t w a old
+  pub left : b ≡ lobby (before ++ after) a.next a.time (first_of a.over (over_by old.talk.end))
+
+-- another client came, with which these stay
+pub record Enters (t : Terms) (k : ℕ) (more : List Guest) (a b : Lobby) : Type 0 where
+  pub going : a.over ≡ None
+  pub number : k ≡ a.next
+  pub wanted : a.next < t.most
+  pub room : length a.guests < 512
+  pub enters : b ≡ lobby (a.guests ++ more) (a.next + 1) a.time None
+
+-- the ends that come of themselves
+abbrev pub IsStop : Terms → Over → Lobby → Type 0
+IsStop t over.Failed a = Unit {0}
+IsStop t over.Tired a = Unit {0}
+IsStop t over.All a = (a.guests ≡ []) × (t.most ≤ a.next)
+IsStop t over.NoMemory a = a ≡ empty_lobby
+IsStop t over.Stopped a = ⊥
+IsStop t over.Down a = ⊥
+
+abbrev pub Changes : Home → Terms → Change → Lobby → Lobby → Type 0
+Changes home t (Clock now) a b = (a.over ≡ None) × (b ≡ lobby a.guests a.next now None)
+Changes home t (Comes k) a b = Enters t k (guest k (new_talk home t.wire) a.time ∷ []) a b
+Changes home t (TurnedAway k) a b = Enters t k [] a b
+Changes home t NoSocket a b = (a.over ≡ None) × (b ≡ a)
+Changes home t (Stray k) a b =
+    (a.over ≡ None) × AllByRecursion (λ (g : Guest). g.number ≢ k) a.guests × (b ≡ a)
+Changes home t (Shut k w) a b =
+    (before : List Guest) × (after : List Guest) × (old : Guest)
+    × Shuts t k w a b before after old
+Changes home t (Stops e) a b =
+    (a.over ≡ None) × IsStop t e a × (b ≡ lobby a.guests a.next a.time (Some e))
+
+-- ---- steps, one after the other
+
+abbrev pub Takes : {V : Type 0} → {way : Way V} → Home → Terms → Step → Room way → Room way
+    → Type 0
+Takes home t (Changed c) a b =
+    Changes home t c a.lobby b.lobby × (b.seen ≡ a.seen) × (b.outside ≡ a.outside)
+Takes home t (Visit k turns fate) a b =
+    (before : List Guest) × (after : List Guest) × (old : Guest) × (new : Guest)
+    × Visits k turns fate a b before after old new
+
+abbrev pub Pass : {V : Type 0} → {way : Way V} → Home → Terms → Room way → List Step → Room way
+    → Type 0
+Pass home t a [] b = a ≡ b
+Pass {V} {way} home t a (s ∷ ss) b = (m : Room way) × Takes home t s a m × Pass home t m ss b
+
+-- ---- serving from its first client to its end
+
+-- The steps lead from no client to no client. What happened is what is told of them.
+pub record IsServedEach {V : Type 0} {way : Way V} (result : ServedEach) (home : Home) (t : Terms)
+    (a b : Room way) (before after : Option (List Happened))
+    (steps : List Step) : Type 0 where
+  pub first : a.lobby ≡ empty_lobby
+  pub pass : Pass home t a steps b
+  pub told : Tells before after (told_all steps)
+  pub counted : result.connections ≡ b.lobby.next
+  pub over : b.lobby.over ≡ Some result.over
+  pub left : b.lobby.guests ≡ []

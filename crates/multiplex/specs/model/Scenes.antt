@@ -1,0 +1,120 @@
+-- What the steps of the code leave.
+use Rattle.std.specs.Prelude.{◌≡◌, ◌⊎◌, ℕ, ◌+◌, List, [], ◌∷◌, ◌++◌, length, Option, None, Some}
+use Rattle.answers.specs.declared.desk.Desk.{Ghosts as DeskOf}
+use Rattle.serving.specs.declared.peers.Peers.{Ghosts as PeersOf}
+use Rattle.serving.specs.Making.{speaking}
+use Rattle.serving.specs.Turns.{new_talk}
+use Rattle.store.specs.declared.home.Home.{Home}
+use Rattle.wire.specs.declared.values.Version.{Version}
+use Rattle.multiplex.specs.Happenings.{Happened, Tells, Closed, Named}
+use Rattle.multiplex.specs.Passing.{Change, Changes, Lobby, Pass, Room, Step, Takes, guest, lobby}
+use Rattle.multiplex.specs.Passing.{over_by, told, told_all, told_change}
+use Rattle.multiplex.specs.declared.ends.Over.{Over}
+use Rattle.multiplex.specs.declared.ends.Why.{Why}
+use Rattle.multiplex.specs.declared.table.Guest.{Guest}
+use Rattle.multiplex.specs.declared.table.Table.{Table}
+use Rattle.multiplex.specs.declared.table.Terms.{Terms}
+use Rattle.multiplex.specs.Scenes.{Scene, in_room}
+use Rattle.multiplex.specs.model.Visiting.{Spot, TalksOn, spot}
+
+abbrev pub lobby_of : Table → Option Over → Lobby
+lobby_of t over = lobby t.guests.items t.next t.time over
+
+abbrev pub room_of : {V U C : Type 0} → (d : DeskOf V) → PeersOf U → (version : Version) → Table
+    → Option Over → Scene V U C → Room (speaking d.handles version)
+room_of d p version t over s = in_room d p version (lobby_of t over) s
+
+-- ---- one connection is ended
+
+pub record Loses {C : Type 0} (happened : C → Option (List Happened)) (over : Option Over)
+    (old new : Table) (c later : C) (before after : List Guest) (gone : Guest) : Type 0 where
+  pub found : old.guests.items ≡ before ++ gone ∷ after
+  pub left : new.guests.items ≡ before ++ after
+  pub next : new.next ≡ old.next
+  pub time : new.time ≡ old.time
+  pub ends : over ≡ over_by gone.talk.end
+  pub told : Tells (happened c) (happened later) (Closed gone.number ∷ [])
+
+-- that of the client at this place
+abbrev pub IsShut : {C : Type 0} → (C → Option (List Happened)) → ℕ → Option Over → Table → Table
+    → C → C → Type 0
+IsShut happened place over old new c later =
+    (before : List Guest) × (after : List Guest) × (gone : Guest) × (length before ≡ place)
+    × Loses happened over old new c later before after gone
+
+-- ---- changes of which the node knows nothing
+
+abbrev pub ChangeAll : Home → Terms → Lobby → List Change → Lobby → Type 0
+ChangeAll home t a [] b = a ≡ b
+ChangeAll home t a (c ∷ cs) b = (m : Lobby) × Changes home t c a m × ChangeAll home t m cs b
+
+abbrev pub told_changes : List Change → List Happened
+told_changes [] = []
+told_changes (c ∷ cs) = told_change c ++ told_changes cs
+
+pub record Alters {C : Type 0} (happened : C → Option (List Happened)) (home : Home) (t : Terms)
+    (over : Option Over) (old new : Table) (c later : C) (changes : List Change) : Type 0 where
+  pub changed : ChangeAll home t (lobby_of old None) changes (lobby_of new over)
+  pub told : Tells (happened c) (happened later) (told_changes changes)
+
+-- these changes came, which are none where serving was over
+abbrev pub AltersSome : {C : Type 0} → (C → Option (List Happened)) → Home → Terms → Option Over
+    → Table → Table → C → C → Type 0
+AltersSome happened home t over old new c later =
+    (changes : List Change) × Alters happened home t over old new c later changes
+
+-- serving is over, and each connection is ended
+abbrev pub Empties : {C : Type 0} → (C → Option (List Happened)) → Home → Terms → Over → Table
+    → Table → C → C → Type 0
+Empties happened home t over old new c later =
+    (changes : List Change)
+    × ChangeAll home t (lobby_of old (Some over)) changes (lobby_of new (Some over))
+    × Tells (happened c) (happened later) (told_changes changes)
+
+-- a client that came has a connection, or none for want of memory
+pub record Welcomes {C : Type 0} (happened : C → Option (List Happened)) (home : Home)
+    (wire : Version) (old new : Table) (c later : C) : Type 0 where
+  pub next : new.next ≡ old.next + 1
+  pub time : new.time ≡ old.time
+  pub either :
+      ((new.guests.items ≡ old.guests.items ++ guest old.next (new_talk home wire) old.time ∷ [])
+      × Tells (happened c) (happened later) [])
+      ⊎ ((new.guests.items ≡ old.guests.items)
+      × Tells (happened c) (happened later) (Closed old.next ∷ []))
+
+-- ---- one client has its turns
+
+-- the client stays the same but for its connection, and the time when it was ready
+pub record IsHosted (time : ℕ) (old new : Guest) : Type 0 where
+  pub number : new.number ≡ old.number
+  pub ready : new.ready ≡ time
+
+abbrev pub at_guest : {V U C : Type 0} → Scene V U C → Guest → Spot V U C
+at_guest s g = spot s.node s.peers s.clients g.talk
+
+abbrev pub Hosts : {V U C : Type 0} → DeskOf V → PeersOf U → (C → Option (List Happened)) → ℕ
+    → Option Why → Guest → Guest → Scene V U C → Scene V U C → Type 0
+Hosts d p happened time fate old new a b =
+    IsHosted time old new × TalksOn d p happened old.number fate (at_guest a old) (at_guest b new)
+
+-- the step that a client is which was named as ready; all but its name is told
+abbrev pub Answers : {V U C : Type 0} → DeskOf V → PeersOf U → (C → Option (List Happened)) → Home
+    → Terms → ℕ → Option Over → Table → Table → Scene V U C → Scene V U C → Type 0
+Answers d p happened home t k over old new a b =
+    (s : Step) × (more : List Happened) × (told s ≡ Named k ∷ more)
+    × Takes home t s (room_of d p t.wire old None a) (room_of d p t.wire new over b)
+    × Tells (happened a.clients) (happened b.clients) more
+
+-- ---- steps
+
+-- these steps were taken
+pub record Steps {V U C : Type 0} (d : DeskOf V) (p : PeersOf U)
+    (happened : C → Option (List Happened)) (home : Home) (t : Terms) (over : Option Over)
+    (old new : Table) (a b : Scene V U C) (steps : List Step) : Type 0 where
+  pub pass : Pass home t (room_of d p t.wire old None a) steps (room_of d p t.wire new over b)
+  pub told : Tells (happened a.clients) (happened b.clients) (told_all steps)
+
+abbrev pub Does : {V U C : Type 0} → DeskOf V → PeersOf U → (C → Option (List Happened)) → Home
+    → Terms → Option Over → Table → Table → Scene V U C → Scene V U C → Type 0
+Does d p happened home t over old new a b =
+    (steps : List Step) × Steps d p happened home t over old new a b steps

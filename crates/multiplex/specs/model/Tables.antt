@@ -1,0 +1,57 @@
+-- Places in the list of guests connections.
+use Rattle.std.specs.Prelude.{◌≡◌, ◌≤◌, ◌<◌, ℕ, Bool, ◌-◌, ◌==◌, ltb, List, length, slice_index_or}
+use Rattle.std.specs.Prelude.{Option, None, Some, take}
+use Rattle.std.specs.List.{AllByRecursion}
+use Rattle.store.specs.declared.home.Home.{Home}
+use Rattle.wire.specs.declared.values.Version.{Version}
+use Rattle.multiplex.specs.declared.ends.Why.{Why}
+use Rattle.multiplex.specs.declared.ends.Why.TheVariants as why
+use Rattle.multiplex.specs.declared.table.Guest.{Guest}
+use Rattle.multiplex.specs.declared.table.Table.{Table}
+use Rattle.multiplex.specs.Passing.{Settled}
+
+abbrev pub has_number : ℕ → Guest → Bool
+has_number k g = g.number == k
+
+abbrev pub is_silent : ℕ → ℕ → Guest → Bool
+is_silent patience time g = ltb patience (time - g.ready)
+
+-- none was ready longer ago than the one at this place
+pub record IsLongestAt (guests : List Guest) (i : ℕ) : Type 0 where
+  pub within : i < length guests
+  pub first : (d : Guest)
+      → AllByRecursion (λ (o : Guest). (slice_index_or guests i d).ready ≤ o.ready) guests
+
+-- a connection of this desk between two visits
+pub record IsKept (place : Home) (version : Version) (g : Guest) : Type 0 where
+  pub home : g.talk.home ≡ place
+  pub wire : g.talk.wire ≡ version
+  pub settled : Settled g.talk
+
+abbrev pub AreKept : Home → Version → List Guest → Type 0
+AreKept home wire = AllByRecursion (IsKept home wire)
+
+-- all that is kept stays so, whatever desk it is
+abbrev pub KeepsKept : Home → Version → Table → Table → Type 0
+KeepsKept home wire old new =
+    AreKept home wire old.guests.items → AreKept home wire new.guests.items
+
+abbrev pub KeepsAll : Table → Table → Type 0
+KeepsAll old new = (home : Home) (wire : Version) → KeepsKept home wire old new
+
+-- which of the first so many was ready longest ago, if there is one, and when it was
+abbrev pub IsEarliest : Option ℕ → ℕ → ℕ → List Guest → Type 0
+IsEarliest None earliest count guests = count ≡ 0
+IsEarliest (Some i) earliest count guests =
+    (i < count) × ((d : Guest) → (slice_index_or guests i d).ready ≡ earliest)
+    × AllByRecursion (λ (o : Guest). earliest ≤ o.ready) (take count guests)
+
+-- why one is let go so that another can come
+abbrev pub MakesRoom : Why → List Guest → Type 0
+MakesRoom why.Crowded guests = 512 ≤ length guests
+MakesRoom why.NoSocket guests = Unit {0}
+MakesRoom why.Done guests = ⊥
+MakesRoom why.Ended guests = ⊥
+MakesRoom why.Broke guests = ⊥
+MakesRoom why.Silent guests = ⊥
+MakesRoom why.Over guests = ⊥

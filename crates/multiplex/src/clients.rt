@@ -1,0 +1,94 @@
+//! Many clients at once, over sockets that never make anybody wait.
+
+ghost use Rattle.std.specs.Prelude.{◌≢◌, [], List, Option, length};
+ghost use Rattle.multiplex.specs.Happenings.{Happened, Tells, accepted, closed, given, ready};
+ghost use Rattle.multiplex.specs.Happenings.{CountsGiven, CountsTaken, taken, watched};
+
+/// What can be done next without waiting.
+#[derive(Clone, Copy, PartialEq, Eq, Debug)]
+pub enum Ready {
+    /// A client may wait to be accepted.
+    Waits,
+    /// The client with this number may have something to be read, may take bytes, or has gone.
+    Client { number: u64 },
+    /// A round is over: each socket that was ready has been named. It is so many milliseconds after
+    /// the first round.
+    Round { now: u64 },
+    /// The system doesn't tell what is ready any more.
+    Failed,
+}
+
+/// What came of accepting a client.
+#[derive(Clone, Copy, PartialEq, Eq, Debug)]
+pub enum Accepted {
+    /// A client came.
+    Came,
+    /// None waits, or the one that waited has gone.
+    Nobody,
+    /// The system has no more sockets.
+    Full,
+}
+
+/// What came of a read.
+#[derive(Clone, Copy, PartialEq, Eq, Debug)]
+pub enum Given {
+    /// So many bytes were read, at least 1.
+    Bytes { count: usize },
+    /// There is nothing to be read now.
+    Later,
+    /// The client has sent all that it will send.
+    Ended,
+    /// The read failed.
+    Broke,
+}
+
+/// What came of a write.
+#[derive(Clone, Copy, PartialEq, Eq, Debug)]
+pub enum Taken {
+    /// So many of the bytes were taken, at least 1.
+    Bytes { count: usize },
+    /// The client can take nothing now.
+    Later,
+    /// The write failed.
+    Broke,
+}
+
+/// The clients of a desk, each by the number under which it was accepted, and their sockets. No
+/// call but `ready` waits.
+pub trait Clients {
+    /// What came of them, in order, where that is told.
+    ghost happened: { Self → Option (List Happened) };
+
+    /// Waits until something is ready, and names it. All that was ready at once is named one after
+    /// the other, the clients in the order of their numbers, and then the round is over. Where
+    /// nothing becomes ready, the round is over after `wait` milliseconds.
+    fn ready(&mut self, wait: u64) -> Ready
+        ensures { Tells (happened self.old) (happened self.new) (ready result) };
+
+    /// Accepts the client that waits. From now on it has this number, and is named when it can be
+    /// read from.
+    fn accept(&mut self, number: u64) -> Accepted
+        ensures { Tells (happened self.old) (happened self.new) (accepted number result) };
+
+    /// Reads once of a client, without waiting.
+    fn read(&mut self, number: u64, buffer: &mut [u8; 4096]) -> Given
+        ensures count { CountsGiven (length buffer.new) result }
+        ensures told { Tells (happened self.old) (happened self.new)
+            (given number result buffer.new) };
+
+    /// Writes to a client as much of the bytes as it takes without waiting.
+    fn write(&mut self, number: u64, bytes: &[u8]) -> Taken
+        requires { bytes.now ≢ [] }
+        ensures count { CountsTaken (length bytes.now) result }
+        ensures told { Tells (happened self.old) (happened self.new)
+            (taken number result bytes.now) };
+
+    /// Asks that the client be named when it can take bytes (`writes`), or else when it can be read
+    /// from. Each time that it was named this is to be asked anew. False: the system refuses.
+    fn watch(&mut self, number: u64, writes: bool) -> bool
+        ensures { Tells (happened self.old) (happened self.new) (watched number result) };
+
+    /// Ends a client's connection. What it was sent reaches it, if it still reads.
+    fn close(&mut self, number: u64)
+        ensures { Tells (happened self.old) (happened self.new) (closed number) };
+}

@@ -1,0 +1,17 @@
+//! A desk that serves all its clients side by side, in one thread.
+#![tactic(auto)]
+
+mod clients;
+mod ends;
+pub mod laws;
+mod links;
+mod serving_each;
+mod steps;
+mod table;
+mod turns;
+
+pub use clients::{Accepted, Clients, Given, Ready, Taken};
+pub use ends::{Over, ServedEach, Why};
+pub use links::Links;
+pub use serving_each::serve_each;
+pub use table::Terms;
