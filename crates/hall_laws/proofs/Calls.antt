@@ -1,6 +1,6 @@
 -- What is said of one desk's calls is what is said of the world's happenings.
 use Rattle.std.proofs.Common.{◌≡◌, ◌≤◌, ◌⊎◌, inl, inr, ℕ, Bool, true, false, if◌then◌else◌, List}
-use Rattle.std.proofs.Common.{[], Option, Result, Ok, Err, IfOk, refl, sym, ap, ◌∙◌}
+use Rattle.std.proofs.Common.{[], Option, Result, Ok, Err, IfOk, refl, sym, ap, subst, ◌∙◌}
 use Rattle.std.proofs.Common.{arith}
 use Rattle.std.proofs.lemmas.List.{append-nil}
 use Rattle.std.proofs.lemmas.Bool.Decides.{nat_tests}
@@ -130,7 +130,7 @@ refused_is k n d w e event old new fault next h =
     same_world w d new.desk ((h.takes next.up).err ∙ next.known)
 
 -- a restart of the desk, in the world before its event
-restart_before : (n d : ℕ) (w : World) (x : Desk) → IsDesk n d → x ≡ restarted (w.desks d)
+pub restart_before : (n d : ℕ) (w : World) (x : Desk) → IsDesk n d → x ≡ restarted (w.desks d)
     → with_desk w d x [] ≡ restart_at n w d
 restart_before n d w x ours is =
     let sent = append-nil w.sent in
@@ -167,22 +167,23 @@ restart_later n d w event r x ours is same =
     sym again ∙ ap (λ (u : World). (restart_at n u d).desks) (sym after) in
     λ i. record { desks = desks i; sent = sent i }
 
-stopped_is : {K : Type 0} (k : Ghosts K) (n d : ℕ) (w : World) (e : WorldEvent)
-    (event : DeskEvent)
-    (old new : NodeValue K) (s : Stored) (log : List Entry) → IsNext k n d w e event old
-    → Handles k old event (Err Down) new → k.is_honest new.keeper → k.may_hold new.keeper s log
+-- where a store holds the state before an event of desk d or the one after it, an opening of it is
+-- a stopped call
+pub stops_holding : (n d : ℕ) (w : World) (e : WorldEvent) (event : DeskEvent) (x : Desk)
+    (s : Stored) (log : List Entry) (may_hold : Stored → List Entry → Type 0) (may_break : Type 0)
+    → IsDesk n d → IsEventAt w e d event → x ≡ w.desks d
+    → HoldsBeforeOrAfter may_hold may_break x (step n d (w.desks d) event) → may_hold s log
     → (stored : Bool) × (with_desk w d (opened s log) [] ≡ goes_on n w (Stopped stored e))
-stopped_is k n d w e event old new s log next h honest may =
-    go (step_at (k.home_of old.keeper) old.desk event) refl (h.left next.up (h.down.0 refl) honest)
+stops_holding n d w e event x s log may_hold may_break ours event_is known holds may =
+    go (step n d (w.desks d) event) refl holds
   where
     here : place w e ≡ d
-    here = place_at w e d event next.event_is
+    here = place_at w e d event event_is
 
-    before : (s ≡ old.desk.stored) × (log ≡ old.desk.log)
+    before : (s ≡ x.stored) × (log ≡ x.log)
         → with_desk w d (opened s log) [] ≡ restart_at n w (place w e)
     before is =
-        let known = next.known in
-        restart_before n d w (opened s log) next.ours
+        restart_before n d w (opened s log) ours
         ((λ i. opened (is.0 i) (is.1 i)) ∙ ap restarted known)
         ∙ ap (λ (j : ℕ). restart_at n w j) (sym here)
 
@@ -191,27 +192,40 @@ stopped_is k n d w e event old new s log next h honest may =
         → with_desk w d (opened s log) []
         ≡ record { desks = (restart_at n (happens n w e) (place w e)).desks; sent = w.sent }
     later r done is =
-        restart_later n d w event r (opened s log) next.ours done (λ i. opened (is.0 i) (is.1 i))
+        restart_later n d w event r (opened s log) ours done (λ i. opened (is.0 i) (is.1 i))
         ∙ (λ i.
         record {
           desks =
-              (restart_at n (sym (happens_at n w e d event next.event_is) i) (sym here i)).desks;
+              (restart_at n (sym (happens_at n w e d event event_is) i) (sym here i)).desks;
           sent = w.sent;
         })
 
     either : (r : Done) → step n d (w.desks d) event ≡ Ok r
-        → ((s ≡ old.desk.stored) × (log ≡ old.desk.log))
+        → ((s ≡ x.stored) × (log ≡ x.log))
         ⊎ ((s ≡ r.desk.stored) × (log ≡ r.desk.log))
         → (stored : Bool) × (with_desk w d (opened s log) [] ≡ goes_on n w (Stopped stored e))
     either r done (inl is) = (false, before is)
     either r done (inr is) = (true, later r done is)
 
-    go : (r : Result Done Refusal) → step_at (k.home_of old.keeper) old.desk event ≡ r
-        → HoldsBeforeOrAfter (k.may_hold new.keeper) (k.may_break new.keeper) old.desk r
+    go : (r : Result Done Refusal) → step n d (w.desks d) event ≡ r
+        → HoldsBeforeOrAfter may_hold may_break x r
         → (stored : Bool) × (with_desk w d (opened s log) [] ≡ goes_on n w (Stopped stored e))
-    go (Ok r) is holds =
-        either r (sym (next_step k n d w e event old next) ∙ is) (holds.only s log may)
-    go (Err why) is holds = absurd holds
+    go (Ok r) is both = either r is (both.only s log may)
+    go (Err why) is both = absurd both
+
+stopped_is : {K : Type 0} (k : Ghosts K) (n d : ℕ) (w : World) (e : WorldEvent)
+    (event : DeskEvent)
+    (old new : NodeValue K) (s : Stored) (log : List Entry) → IsNext k n d w e event old
+    → Handles k old event (Err Down) new → k.is_honest new.keeper → k.may_hold new.keeper s log
+    → (stored : Bool) × (with_desk w d (opened s log) [] ≡ goes_on n w (Stopped stored e))
+stopped_is k n d w e event old new s log next h honest may =
+    stops_holding n d w e event old.desk s log (k.may_hold new.keeper) (k.may_break new.keeper)
+    next.ours next.event_is next.known
+    (subst
+    (λ (r : Result Done Refusal).
+    HoldsBeforeOrAfter (k.may_hold new.keeper) (k.may_break new.keeper) old.desk r)
+    (next_step k n d w e event old next) (h.left next.up (h.down.0 refl) honest))
+    may
 
 reopened_is : {K : Type 0} (k : Ghosts K) (n d : ℕ) (w : World) (e : WorldEvent)
     (event : DeskEvent) (old new : NodeValue K) (keeper : K) (node : NodeValue K)

@@ -12,3 +12,11 @@ pub mod Requests
 pub mod Following
 pub mod Events
 pub mod Pushes
+pub mod HallDesks
+pub mod HallSteps
+pub mod HallRuns
+pub mod HallSheets
+pub mod HallTurns
+pub mod HallEntries
+pub mod HallExample
+pub mod HallProgress

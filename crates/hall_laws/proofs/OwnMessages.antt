@@ -64,7 +64,7 @@ were_more : (sent more ms : List Message) → WereSent sent ms → WereSent (sen
 were_more sent more [] h = tt
 were_more sent more (m ∷ ms) h = (was_more sent more m h.0, were_more sent more ms h.1)
 
-event_more : (d : ℕ) (sent more : List Message) (event : DeskEvent) → IsSentTo d sent event
+pub event_more : (d : ℕ) (sent more : List Message) (event : DeskEvent) → IsSentTo d sent event
     → IsSentTo d (sent ++ more) event
 event_more d sent more (Submit e) h = tt
 event_more d sent more Start h = tt
@@ -116,18 +116,25 @@ sent_front : (d : ℕ) (sent : List Message) (cs ds : List Call) → AreSentTo d
 sent_front d sent [] ds h = tt
 sent_front d sent (c ∷ cs) ds h = (h.0, sent_front d (sent ++ handed_out c.answer) cs ds h.1)
 
-calls_both : (xs ys : List Act) → calls_of (xs ++ ys) ≡ calls_of xs ++ calls_of ys
+pub sent_later : (d : ℕ) (sent : List Message) (cs ds : List Call) → AreSentTo d sent (cs ++ ds)
+    → AreSentTo d (sent ++ all_handed_out cs) ds
+sent_later d sent [] ds h = subst (λ z. AreSentTo d z ds) (sym (append-nil sent)) h
+sent_later d sent (c ∷ cs) ds h =
+    subst (λ z. AreSentTo d z ds) (append_assoc sent (handed_out c.answer) (all_handed_out cs))
+    (sent_later d (sent ++ handed_out c.answer) cs ds h.1)
+
+pub calls_both : (xs ys : List Act) → calls_of (xs ++ ys) ≡ calls_of xs ++ calls_of ys
 calls_both [] ys = refl
 calls_both (Called e r ∷ xs) ys = ap (λ z. calls_of (Called e r ∷ []) ++ z) (calls_both xs ys)
 calls_both (Pushed m ∷ xs) ys = calls_both xs ys
 calls_both (Answered run ∷ xs) ys = calls_both xs ys
 
-calls_of_pushes : (ms : List Message) → calls_of (map (λ m. Pushed m) ms) ≡ []
+pub calls_of_pushes : (ms : List Message) → calls_of (map (λ m. Pushed m) ms) ≡ []
 calls_of_pushes [] = refl
 calls_of_pushes (m ∷ ms) = calls_of_pushes ms
 
 -- acts that are no calls change nothing here
-no_calls : (xs ys : List Act) → calls_of ys ≡ [] → calls_of (xs ++ ys) ≡ calls_of xs
+pub no_calls : (xs ys : List Act) → calls_of ys ≡ [] → calls_of (xs ++ ys) ≡ calls_of xs
 no_calls xs ys none =
     calls_both xs ys ∙ ap (λ z. calls_of xs ++ z) none ∙ append-nil (calls_of xs)
 
@@ -349,7 +356,7 @@ own_messages home x fates r sent is = (keeps_served home x fates r sent is).call
 
 -- ---- frames, one after the other
 
-one_frame : (home : Home) (x : Seen) (sent : List Message) (b : Begun)
+pub one_frame : (home : Home) (x : Seen) (sent : List Message) (b : Begun)
     → WereSentTo home.desk sent (delivers (request home b.frame))
     → AreSentTo home.desk sent (calls_of (serve_frame home x b).acts)
 unfolding serve_frame
@@ -365,7 +372,7 @@ frames_sent home x sent (b ∷ bs) is =
     (one_frame home x sent b is.0)
     (frames_sent home first.seen (sent_after sent first.acts) bs is.1))
 
-front_sent : (d : ℕ) (sent : List Message) (all acts rest : List Act) → all ≡ acts ++ rest
+pub front_sent : (d : ℕ) (sent : List Message) (all acts rest : List Act) → all ≡ acts ++ rest
     → AreSentTo d sent (calls_of all) → AreSentTo d sent (calls_of acts)
 front_sent d sent all acts rest parts h =
     sent_front d sent (calls_of acts) (calls_of rest)

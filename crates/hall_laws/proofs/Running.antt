@@ -1,8 +1,10 @@
 -- The calls of served frames are a run of the world.
-use Rattle.std.proofs.Common.{◌≡◌, refl, sym, ap, ◌∙◌, ℕ, Bool, true, false, cond, nat_lt}
+use Rattle.std.proofs.Common.{◌≡◌, ◌⊎◌, inl, inr, refl, sym, ap, ◌∙◌, ℕ, Bool, true, false, cond}
+use Rattle.std.proofs.Common.{nat_lt, IsOk}
 use Rattle.std.proofs.Common.{List, [], ◌∷◌, ◌++◌, length, Option, None, Some, Result, Ok, Err}
 use Rattle.std.proofs.lemmas.List.{append-nil, append_assoc}
 use Rattle.std.proofs.lemmas.Bool.{ltb-false}
+use Rattle.acceptor.specs.declared.entry.Entry.{Entry}
 use Rattle.acceptor.specs.declared.message.Message.{Message}
 use Rattle.learner.specs.Desks.{Desk}
 use Rattle.learner.specs.declared.event.DeskEvent.{DeskEvent}
@@ -27,16 +29,19 @@ use Rattle.serving.specs.Answering.{printed_as, sheet}
 use Rattle.serving.specs.Nodes.{Fate, Goes, Starves, Breaks}
 use Rattle.hall_laws.specs.Served.{handed_out, all_handed_out, IsSentTo, StandsFor}
 use Rattle.hall_laws.specs.Served.{CallsAreARun, SheetsAreOfTheLog}
+use Rattle.hall_laws.specs.HallRuns.{IsTakenIn}
+use Rattle.serving.specs.Making.{Call, Lead}
+use Rattle.hall_laws.specs.Served.{AreSentTo}
 use Rattle.serving.specs.Serving.{first_fate}
 
 -- the event of the world that an event at desk d is
-event_at : (d : ℕ) (sent : List Message) (event : DeskEvent) → IsSentTo d sent event → WorldEvent
+pub event_at : (d : ℕ) (sent : List Message) (event : DeskEvent) → IsSentTo d sent event → WorldEvent
 event_at d sent (Submit e) s = SubmitAt d e
 event_at d sent Start s = StartAt d
 event_at d sent Tick s = TickAt d
 event_at d sent (Deliver m) s = DeliverNth s.0
 
-is_event_at : (d : ℕ) (w : World) (event : DeskEvent) (s : IsSentTo d w.sent event)
+pub is_event_at : (d : ℕ) (w : World) (event : DeskEvent) (s : IsSentTo d w.sent event)
     → IsEventAt w (event_at d w.sent event s) d event
 unfolding event_at
 is_event_at d w (Submit e) s = (refl, refl)
@@ -44,30 +49,59 @@ is_event_at d w Start s = (refl, refl)
 is_event_at d w Tick s = (refl, refl)
 is_event_at d w (Deliver m) s = (m, s.1, s.2, refl)
 
-run_both : (n : ℕ) (w : World) (hs ks : List Happening)
+-- one of these happenings is an answered call that submits the entry
+abbrev pub HasSubmit : Entry → List Happening → Type 0
+HasSubmit e [] = ⊥
+HasSubmit e (h ∷ hs) = ((j : ℕ) × (h ≡ Answered (SubmitAt j e))) ⊎ HasSubmit e hs
+
+pub submit_in : (e : Entry) (hs ks : List Happening) → HasSubmit e (hs ++ ks)
+    → HasSubmit e hs ⊎ HasSubmit e ks
+submit_in e [] ks h = inr h
+submit_in e (x ∷ hs) ks (inl is) = inl (inl is)
+submit_in e (x ∷ hs) ks (inr h) = go (submit_in e hs ks h)
+  where
+    go : HasSubmit e hs ⊎ HasSubmit e ks → HasSubmit e (x ∷ hs) ⊎ HasSubmit e ks
+    go (inl more) = inl (inr more)
+    go (inr more) = inr more
+
+submits_it : (d : ℕ) (sent : List Message) (event : DeskEvent) (s : IsSentTo d sent event) (j : ℕ)
+    (e : Entry) → Answered (event_at d sent event s) ≡ Answered (SubmitAt j e) → event ≡ Submit e
+unfolding event_at
+submits_it d sent (Submit f) s j e is =
+    let same : SubmitAt d f ≡ SubmitAt j e = cc in
+    let entry : f ≡ e = cc in ap (λ z. Submit z) entry
+submits_it d sent Start s j e is = absurd (let same : StartAt d ≡ SubmitAt j e = cc in cc)
+submits_it d sent Tick s j e is = absurd (let same : TickAt d ≡ SubmitAt j e = cc in cc)
+submits_it d sent (Deliver m) s j e is =
+    absurd (let same : DeliverNth s.0 ≡ SubmitAt j e = cc in cc)
+
+pub run_both : (n : ℕ) (w : World) (hs ks : List Happening)
     → real_run n w (hs ++ ks) ≡ real_run n (real_run n w hs) ks
 run_both n w [] ks = refl
 run_both n w (h ∷ hs) ks = run_both n (goes_on n w h) hs ks
 
-same_world : (w : World) (d : ℕ) (x : Desk) → x ≡ w.desks d → with_desk w d x [] ≡ w
+pub same_world : (w : World) (d : ℕ) (x : Desk) → x ≡ w.desks d → with_desk w d x [] ≡ w
 same_world w d x same =
     let desks = put_same w.desks d x same in
     let sent = append-nil w.sent in λ i. record { desks = desks i; sent = sent i }
 
-with_both : (w : World) (d : ℕ) (x y : Desk) (ms more : List Message)
+pub with_both : (w : World) (d : ℕ) (x y : Desk) (ms more : List Message)
     → with_desk w d y (ms ++ more) ≡ with_desk (with_desk w d x ms) d y more
 with_both w d x y ms more =
     let desks = sym (put_put w.desks d x y) in
     let sent = sym (append_assoc w.sent ms more) in λ i. record { desks = desks i; sent = sent i }
 
--- what one call comes to
-abbrev Comes : {K : Type 0} → ℕ → ℕ → World → NodeValue K → List Message → Type 0
-Comes n d w z ms = (hs : List Happening) × (with_desk w d z.desk ms ≡ real_run n w hs)
+-- what one call comes to: happenings, which submit what the call submits, where it was answered Ok
+abbrev Comes : {K : Type 0} → ℕ → ℕ → World → DeskEvent → Result (List Message) NodeFault
+    → NodeValue K → Type 0
+Comes n d w event answer z =
+    (hs : List Happening) × (with_desk w d z.desk (handed_out answer) ≡ real_run n w hs)
+    × ((e : Entry) → HasSubmit e hs → (event ≡ Submit e) × IsOk answer)
 
 up_call : {K : Type 0} (k : Ghosts K) → CallsAreHappenings k → (n d : ℕ) (w : World)
     (event : DeskEvent) (answer : Result (List Message) NodeFault) (x z : NodeValue K)
     → StandsFor k n d w x → x.is_down ≡ false → IsSentTo d w.sent event
-    → Handles k x event answer z → Comes n d w z (handed_out answer)
+    → Handles k x event answer z → Comes n d w event answer z
 up_call k law n d w event (Ok ms) x z h up s c = (
   Answered (event_at d w.sent event s) ∷ [],
   law.answered n d w (event_at d w.sent event s) event x z ms (record {
@@ -78,7 +112,13 @@ up_call k law n d w event (Ok ms) x z h up s c = (
     up = up;
     event_is = is_event_at d w event s;
   }) c,
+  taken,
 )
+  where
+    taken : (e : Entry) → HasSubmit e (Answered (event_at d w.sent event s) ∷ [])
+        → (event ≡ Submit e) × IsOk {E = NodeFault} (Ok ms)
+    taken e (inl is) = (submits_it d w.sent event s is.0 e is.1, refl)
+    taken e (inr none) = absurd none
 up_call k law n d w event (Err why) x z h up s c = (
   [],
   law.refused n d w (event_at d w.sent event s) event x z why (record {
@@ -89,28 +129,30 @@ up_call k law n d w event (Err why) x z h up s c = (
     up = up;
     event_is = is_event_at d w event s;
   }) c,
+  λ e none. absurd none,
 )
 
 -- a call of a desk that is down does nothing
 down_call : {K : Type 0} (k : Ghosts K) (n d : ℕ) (w : World)
     (event : DeskEvent) (answer : Result (List Message) NodeFault) (x z : NodeValue K)
     → StandsFor k n d w x → x.is_down ≡ true
-    → Handles k x event answer z → Comes n d w z (handed_out answer)
+    → Handles k x event answer z → Comes n d w event answer z
 down_call k n d w event answer x z h down c =
     let ended = c.ended down in (
       [],
       ap (λ r. with_desk w d z.desk (handed_out r)) ended.0
           ∙ same_world w d z.desk (ap (λ u. u.desk) ended.1 ∙ h.known),
+      λ e none. absurd none,
     )
 
 one_call : {K : Type 0} (k : Ghosts K) → CallsAreHappenings k → (n d : ℕ) (w : World)
     (event : DeskEvent) (answer : Result (List Message) NodeFault) (x z : NodeValue K) (b : Bool)
     → x.is_down ≡ b → StandsFor k n d w x → IsSentTo d w.sent event
-    → Handles k x event answer z → Comes n d w z (handed_out answer)
+    → Handles k x event answer z → Comes n d w event answer z
 one_call k law n d w event answer x z false is h s c = up_call k law n d w event answer x z h is s c
 one_call k law n d w event answer x z true is h s c = down_call k n d w event answer x z h is c
 
-stands_on : {K : Type 0} (k : Ghosts K) (n d : ℕ) (w : World) (event : DeskEvent)
+pub stands_on : {K : Type 0} (k : Ghosts K) (n d : ℕ) (w : World) (event : DeskEvent)
     (answer : Result (List Message) NodeFault) (x z : NodeValue K) (ms : List Message)
     → StandsFor k n d w x → Handles k x event answer z
     → StandsFor k n d (with_desk w d z.desk ms) z
@@ -121,21 +163,46 @@ stands_on k n d w event answer x z ms h c = record {
   known = sym (put_here w.desks d z.desk);
 }
 
-pub calls_run : {K : Type 0} (k : Ghosts K) → CallsAreHappenings k → CallsAreARun k
-calls_run k law n d w [] x y h s lead =
-    ([], same_world w d y.desk (ap (λ u. u.desk) (sym lead) ∙ h.known))
-calls_run k law n d w (c ∷ cs) x y h s lead =
+-- the calls come to happenings, which submit what calls that were answered Ok submit
+abbrev pub CallsCome : {K : Type 0} → ℕ → ℕ → World → List Call → NodeValue K → Type 0
+CallsCome n d w calls y =
+    (hs : List Happening)
+    × (with_desk w d y.desk (all_handed_out calls) ≡ real_run n w hs)
+    × ((e : Entry) → HasSubmit e hs → IsTakenIn e calls)
+
+pub calls_come : {K : Type 0} (k : Ghosts K) → CallsAreHappenings k → (n d : ℕ) (w : World)
+    (calls : List Call) (x y : NodeValue K)
+    → StandsFor k n d w x → AreSentTo d w.sent calls → Lead (Handles k) x calls y
+    → CallsCome n d w calls y
+calls_come k law n d w [] x y h s lead = (
+  [],
+  same_world w d y.desk (ap (λ u. u.desk) (sym lead) ∙ h.known),
+  λ e none. absurd none,
+)
+calls_come k law n d w (c ∷ cs) x y h s lead =
     let z = lead.0 in
     let ms = handed_out c.answer in
     let one = one_call k law n d w c.event c.answer x z x.is_down refl h s.0 lead.1 in
     let w2 = with_desk w d z.desk ms in
     let rest =
-    calls_run k law n d w2 cs z y
+    calls_come k law n d w2 cs z y
     (stands_on k n d w c.event c.answer x z ms h lead.1) s.1 lead.2 in (
       one.0 ++ rest.0,
       with_both w d z.desk y.desk ms (all_handed_out cs) ∙ rest.1
           ∙ ap (λ v. real_run n v rest.0) one.1 ∙ sym (run_both n w one.0 rest.0),
+      λ e has. taken e one.0 rest.0 (one.2 e) (rest.2 e) (submit_in e one.0 rest.0 has),
     )
+  where
+    taken : (e : Entry) (hs ks : List Happening)
+        → (HasSubmit e hs → (c.event ≡ Submit e) × IsOk c.answer)
+        → (HasSubmit e ks → IsTakenIn e cs) → HasSubmit e hs ⊎ HasSubmit e ks
+        → IsTakenIn e (c ∷ cs)
+    taken e hs ks first later (inl has) = inl (first has)
+    taken e hs ks first later (inr has) = inr (later has)
+
+pub calls_run : {K : Type 0} (k : Ghosts K) → CallsAreHappenings k → CallsAreARun k
+calls_run k law n d w calls x y h s lead =
+    let come = calls_come k law n d w calls x y h s lead in (come.0, come.1)
 
 -- a sheet that is answered
 only_sheets : (fate : Fate) (o : Option (List ℕ)) (text : List ℕ)

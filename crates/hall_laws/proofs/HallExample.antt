@@ -1,0 +1,376 @@
+-- A small run of a hall.
+use Rattle.std.proofs.Common.{◌≡◌, ◌≢◌, refl, sym, ap, subst, ◌∙◌, ℕ, zero, suc, Bool, true}
+use Rattle.std.proofs.Common.{false, if◌then◌else◌, eqb, List, [], ◌∷◌, ◌++◌, None}
+use Rattle.std.proofs.Common.{Ok, Err, arith}
+use Rattle.std.proofs.lemmas.Bool.{ne_eqb}
+use Rattle.std.proofs.lemmas.List.{append-nil}
+use Rattle.acceptor.specs.declared.message.Message.{Message}
+use Rattle.learner.specs.Desks.{first_desk}
+use Rattle.learner.specs.Ranges.{AreInRange}
+use Rattle.learner.specs.Steps.{IsDesk, step}
+use Rattle.learner.specs.declared.event.DeskEvent.{DeskEvent}
+use Rattle.learner.specs.declared.event.DeskEvent.TheVariants.{Tick, Deliver}
+use Rattle.replica.specs.Handles.{Handles, Takes, FitInFrames}
+use Rattle.replica.specs.Nodes.{NodeValue}
+use Rattle.replica.specs.Stores.{HoldsDesk}
+use Rattle.serving.specs.Connection.{serve_frame, close_of, answer_bytes, Begun}
+use Rattle.serving.specs.Making.{outside_of, speaking}
+use Rattle.serving.specs.Serving.{Act, Called, Pushed, call, settle_by, start_if_grown, take, tell}
+use Rattle.serving.specs.Serving.{answer_out}
+use Rattle.serving.specs.Telling.{run_of, entries_told}
+use Rattle.serving.specs.Turns.{Talk, new_talk}
+use Rattle.serving.specs.TurnLaw.{Place, Came, Turns}
+use Rattle.store.specs.declared.home.Home.{Home}
+use Rattle.store.specs.declared.keeper.Keeper.{Ghosts}
+use Rattle.wire.specs.Ranges.{IsFrame}
+use Rattle.wire.specs.Spelling.{spelling}
+use Rattle.wire.specs.Stream.{front, holding}
+use Rattle.wire.specs.declared.frame.Frame.{Frame}
+use Rattle.wire.specs.declared.values.Version.TheVariants.{Two}
+use Rattle.hall_laws.specs.HallExample.{third_home, three_desks, tick_frame, says, said_frame}
+use Rattle.hall_laws.specs.HallExample.{first_of, begun_as, FourTurnsAreARun}
+use Rattle.hall_laws.specs.HallRuns.{Station, Hall, HallEvent, TurnAt, seen_of}
+use Rattle.hall_laws.specs.HallRuns.{TurnWasSent, HallGoes}
+use Rattle.hall_laws.proofs.HallTurns.{with_station, takes_turn}
+
+abbrev first_node : {K : Type 0} → K → NodeValue K
+first_node keeper = record { keeper = keeper; desk = first_desk; is_down = false }
+
+-- a call that changes nothing
+still : {K : Type 0} (k : Ghosts K) (keeper : K) (d : ℕ) (event : DeskEvent) (ms : List Message)
+    → k.home_of keeper ≡ third_home d → HoldsDesk k keeper first_desk
+    → step 3 d first_desk event ≡ Ok (record { desk = first_desk; messages = ms })
+    → AreInRange 3 d ms → FitInFrames ms
+    → Handles k (first_node keeper) event (Ok ms) (first_node keeper)
+still {K} k keeper d event ms home holds steps range fits = record {
+  ended = λ down. absurd (let two : false ≡ true = down in cc);
+  takes = λ up.
+      subst
+      (λ (z : Home).
+      Takes (step z.desks z.desk first_desk event) z.desks z.desk first_desk first_desk (Ok ms))
+      (sym home)
+      (record {
+        ok = steps;
+        range = range;
+        refused = λ why. (λ is. absurd (no_fault is), λ is. absurd (no_fault (sym steps ∙ is)));
+        err = tt;
+      });
+  entries = fits;
+  ignored = λ up is. (refl, refl);
+  down = (λ is. absurd (no_fault is), λ is. absurd (let two : false ≡ true = is in cc));
+  counted = λ up is. absurd (no_fault is);
+  uncounted = λ no. refl;
+  stored = λ up. holds;
+  left = λ up down. absurd (let two : false ≡ true = down in cc);
+  honest = λ is. is;
+  home = refl;
+}
+  where
+    no_fault : {A B : Type 0} {a : A} {b : B} → Ok a ≡ Err b → ⊥
+    no_fault is = cc
+
+-- ---- turns
+
+abbrev talk_of : Home → List Frame → ℕ → List ℕ → Talk
+talk_of home waiting frames pending = record {
+  home = home;
+  wire = Two;
+  stream = holding [];
+  waiting = waiting;
+  frames = frames;
+  pending = pending;
+  end = None;
+}
+
+abbrev place_in : {K : Type 0} → (k : Ghosts K) → K → Talk → Place (speaking (Handles k) Two)
+place_in k keeper talk = record {
+  talk = talk;
+  seen = seen_of (first_node keeper);
+  outside = outside_of (speaking (Handles k) Two) (first_node keeper) None;
+}
+
+comes_in : {K : Type 0} (k : Ghosts K) (keeper : K) (home : Home) (f : Frame) → IsFrame f
+    → Turns (Came (spelling f)) (place_in k keeper (new_talk home Two))
+    (place_in k keeper (talk_of home (f ∷ []) 0 []))
+unfolding front
+comes_in k keeper home f is = (
+  record {
+    free = record { unended = refl; taken = refl };
+    served = refl;
+    unbroken = refl;
+  },
+  (
+    record { home = refl; wire = refl; frames = refl; pending = refl },
+    record {
+      rest = [];
+      whole = sym (append-nil (spelling f ++ []) ∙ append-nil (spelling f));
+      each = (is, tt);
+      ends = λ none. none;
+      keeps = refl;
+    },
+  ),
+  record { seen = refl; outside = refl },
+)
+
+abbrev as_begun : Frame → Begun
+as_begun f = record { frame = f; fates = [] }
+
+-- what the frame is answered
+abbrev answer_to : Home → Frame → List ℕ
+answer_to home f =
+    answer_bytes (serve_frame home (record { desk = first_desk; is_down = false })
+    (as_begun f)).answers
+
+ticks : {K : Type 0} (k : Ghosts K) (keeper : K)
+    → Handles k (first_node keeper) Tick (Ok (says 2 ∷ says 3 ∷ [])) (first_node keeper)
+    → Turns (begun_as tick_frame) (place_in k keeper (talk_of (third_home 1) (tick_frame ∷ []) 0 []))
+    (place_in k keeper (talk_of (third_home 1) [] 1 (answer_to (third_home 1) tick_frame)))
+unfolding serve_frame close_of call settle_by start_if_grown take
+ticks k keeper handles = (
+  record {
+    free = record { unended = refl; taken = refl };
+    next = refl;
+    counted = refl;
+    few = omega arith;
+    home = refl;
+    wire = refl;
+    stream = refl;
+  },
+  (
+    record {
+      close = refl;
+      answered = refl;
+      made = record { calls = (first_node keeper, handles, refl); pushes = tt };
+      node = refl;
+    },
+    omega arith,
+  ),
+)
+
+hears : {K : Type 0} (k : Ghosts K) (keeper : K)
+    → Handles k (first_node keeper) (Deliver (says 2)) (Ok []) (first_node keeper)
+    → Turns (begun_as said_frame) (place_in k keeper (talk_of (third_home 2) (said_frame ∷ []) 0 []))
+    (place_in k keeper (talk_of (third_home 2) [] 1 (answer_to (third_home 2) said_frame)))
+unfolding serve_frame close_of call settle_by start_if_grown tell answer_out run_of entries_told
+hears k keeper handles = (
+  record {
+    free = record { unended = refl; taken = refl };
+    next = refl;
+    counted = refl;
+    few = omega arith;
+    home = refl;
+    wire = refl;
+    stream = refl;
+  },
+  (
+    record {
+      close = refl;
+      answered = refl;
+      made = record { calls = (first_node keeper, handles, refl); pushes = tt };
+      node = refl;
+    },
+    omega arith,
+  ),
+)
+
+-- ---- the run
+
+abbrev tick_acts : List Act
+tick_acts =
+    Called Tick (Ok (says 2 ∷ says 3 ∷ [])) ∷ Pushed (says 2) ∷ Pushed (says 3) ∷ []
+
+abbrev hear_acts : List Act
+hear_acts = Called (Deliver (says 2)) (Ok []) ∷ []
+
+ticks_so : tick_acts
+    ≡ (serve_frame (third_home 1) (record { desk = first_desk; is_down = false })
+    (as_begun tick_frame)).acts
+unfolding serve_frame call settle_by start_if_grown take
+ticks_so = refl
+
+hears_so : hear_acts
+    ≡ (serve_frame (third_home 2) (record { desk = first_desk; is_down = false })
+    (as_begun said_frame)).acts
+unfolding serve_frame call settle_by start_if_grown tell answer_out run_of entries_told
+hears_so = refl
+
+-- a desk of which connection 0 is so, and no other had a turn
+abbrev station : {K : Type 0} → K → ℕ → Talk → Station K
+station keeper d talk = record {
+  node = first_node keeper;
+  talks = λ j. if eqb j 0 then talk else new_talk (third_home d) Two;
+  wire = Two;
+  handed = None;
+}
+
+-- after each of the turns
+abbrev hall_1 : {K : Type 0} → (ℕ → K) → Hall K
+hall_1 keeper =
+    with_station (three_desks keeper) 1
+    (station (keeper 1) 1 (talk_of (third_home 1) (tick_frame ∷ []) 0 [])) []
+
+abbrev hall_2 : {K : Type 0} → (ℕ → K) → Hall K
+hall_2 keeper =
+    with_station (hall_1 keeper) 1
+    (station (keeper 1) 1
+    (talk_of (third_home 1) [] 1 (answer_to (third_home 1) tick_frame))) tick_acts
+
+abbrev hall_3 : {K : Type 0} → (ℕ → K) → Hall K
+hall_3 keeper =
+    with_station (hall_2 keeper) 2
+    (station (keeper 2) 2 (talk_of (third_home 2) (said_frame ∷ []) 0 [])) []
+
+abbrev hall_4 : {K : Type 0} → (ℕ → K) → Hall K
+hall_4 keeper =
+    with_station (hall_3 keeper) 2
+    (station (keeper 2) 2
+    (talk_of (third_home 2) [] 1 (answer_to (third_home 2) said_frame))) hear_acts
+
+only_zero : (a b c : Talk) (j : ℕ) → j ≢ 0
+    → (if eqb j 0 then a else b) ≡ (if eqb j 0 then c else b)
+only_zero a b c j other =
+    ap (λ (t : Bool). if t then a else b) (ne_eqb j 0 other)
+    ∙ sym (ap (λ (t : Bool). if t then c else b) (ne_eqb j 0 other))
+
+only_one : (a b : Talk) (j : ℕ) → j ≢ 0 → (if eqb j 0 then a else b) ≡ b
+only_one a b j other = ap (λ (t : Bool). if t then a else b) (ne_eqb j 0 other)
+
+one_of_three : IsDesk 3 1
+one_of_three = (omega arith, omega arith)
+
+two_of_three : IsDesk 3 2
+two_of_three = (omega arith, omega arith)
+
+tick_is_frame : IsFrame tick_frame
+tick_is_frame = record {
+  hall = omega arith;
+  goes = (refl, (omega arith, omega arith));
+  body = tt;
+}
+
+said_is_frame : IsFrame said_frame
+said_is_frame = record {
+  hall = omega arith;
+  goes = ((omega arith, omega arith), (omega arith, omega arith));
+  body = omega arith;
+}
+
+pub four_turns_are_a_run : {K : Type 0} (k : Ghosts K) → FourTurnsAreARun k
+four_turns_are_a_run {K} k keeper own = (
+  record { event = one; after = hall_1 keeper }
+      ∷ record { event = two; after = hall_2 keeper }
+      ∷ record { event = three; after = hall_3 keeper }
+      ∷ record { event = four; after = hall_4 keeper }
+      ∷ [],
+  refl,
+  record {
+    first = λ d ours.
+        let is = own d ours in
+        record {
+          desks = ap (λ z. z.desks) is.0;
+          desk = ap (λ z. z.desk) is.0;
+          first = refl;
+          stored = is.1;
+          talks = λ j. ap (λ z. new_talk z Two) (sym is.0);
+        };
+    unsent = refl;
+    taken = (first_turn, (second_turn, (third_turn, (fourth_turn, tt))));
+  },
+)
+  where
+    one : HallEvent
+    one = TurnAt 1 (first_of (Came (spelling tick_frame))) []
+
+    two : HallEvent
+    two = TurnAt 1 (first_of (begun_as tick_frame)) tick_acts
+
+    three : HallEvent
+    three = TurnAt 2 (first_of (Came (spelling said_frame))) []
+
+    four : HallEvent
+    four = TurnAt 2 (first_of (begun_as said_frame)) hear_acts
+
+    named : AreInRange 3 1 (says 2 ∷ says 3 ∷ [])
+    named = (
+      (refl, record { from = one_of_three; to = two_of_three; body = refl }),
+      (
+        (refl, record { from = one_of_three; to = (omega arith, omega arith); body = refl }),
+        tt,
+      ),
+    )
+
+    fits : FitInFrames (says 2 ∷ says 3 ∷ [])
+    fits zero m less = tt
+    fits (suc zero) m less = tt
+    fits (suc (suc j)) m less = absurd (omega arith)
+
+    handles_1 : Handles k (first_node (keeper 1)) Tick (Ok (says 2 ∷ says 3 ∷ []))
+        (first_node (keeper 1))
+    handles_1 =
+        still k (keeper 1) 1 Tick (says 2 ∷ says 3 ∷ []) (own 1 one_of_three).0
+        (own 1 one_of_three).1 refl named fits
+
+    handles_2 : Handles k (first_node (keeper 2)) (Deliver (says 2)) (Ok [])
+        (first_node (keeper 2))
+    handles_2 =
+        still k (keeper 2) 2 (Deliver (says 2)) [] (own 2 two_of_three).0
+        (own 2 two_of_three).1 refl tt (λ j m less. absurd (omega arith))
+
+    first_turn : HallGoes k 3 one (three_desks keeper) (hall_1 keeper)
+    first_turn =
+        takes_turn k 3 1 (three_desks keeper) (first_of (Came (spelling tick_frame)))
+        (station (keeper 1) 1 (talk_of (third_home 1) (tick_frame ∷ []) 0 [])) [] one_of_three
+        refl
+        (record {
+          turn = comes_in k (keeper 1) (third_home 1) tick_frame tick_is_frame;
+          others = λ j other.
+              only_one (talk_of (third_home 1) (tick_frame ∷ []) 0 [])
+              (new_talk (third_home 1) Two) j other;
+        })
+        refl tt
+
+    second_turn : HallGoes k 3 two (hall_1 keeper) (hall_2 keeper)
+    second_turn =
+        takes_turn k 3 1 (hall_1 keeper) (first_of (begun_as tick_frame))
+        (station (keeper 1) 1
+        (talk_of (third_home 1) [] 1 (answer_to (third_home 1) tick_frame))) tick_acts
+        one_of_three refl
+        (record {
+          turn = ticks k (keeper 1) handles_1;
+          others = λ j other.
+              only_zero (talk_of (third_home 1) [] 1 (answer_to (third_home 1) tick_frame))
+              (new_talk (third_home 1) Two)
+              (talk_of (third_home 1) (tick_frame ∷ []) 0 []) j other;
+        })
+        ticks_so
+        (subst (λ z. TurnWasSent z [] (begun_as tick_frame)) (sym (own 1 one_of_three).0) tt)
+
+    third_turn : HallGoes k 3 three (hall_2 keeper) (hall_3 keeper)
+    third_turn =
+        takes_turn k 3 2 (hall_2 keeper) (first_of (Came (spelling said_frame)))
+        (station (keeper 2) 2 (talk_of (third_home 2) (said_frame ∷ []) 0 [])) [] two_of_three
+        refl
+        (record {
+          turn = comes_in k (keeper 2) (third_home 2) said_frame said_is_frame;
+          others = λ j other.
+              only_one (talk_of (third_home 2) (said_frame ∷ []) 0 [])
+              (new_talk (third_home 2) Two) j other;
+        })
+        refl tt
+
+    fourth_turn : HallGoes k 3 four (hall_3 keeper) (hall_4 keeper)
+    fourth_turn =
+        takes_turn k 3 2 (hall_3 keeper) (first_of (begun_as said_frame))
+        (station (keeper 2) 2
+        (talk_of (third_home 2) [] 1 (answer_to (third_home 2) said_frame))) hear_acts
+        two_of_three refl
+        (record {
+          turn = hears k (keeper 2) handles_2;
+          others = λ j other.
+              only_zero (talk_of (third_home 2) [] 1 (answer_to (third_home 2) said_frame))
+              (new_talk (third_home 2) Two)
+              (talk_of (third_home 2) (said_frame ∷ []) 0 []) j other;
+        })
+        hears_so
+        (subst (λ z. TurnWasSent z (says 2 ∷ says 3 ∷ []) (begun_as said_frame))
+        (sym (own 2 two_of_three).0) ((1, refl, refl), tt))

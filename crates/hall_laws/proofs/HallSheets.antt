@@ -1,0 +1,128 @@
+-- What connections of a hall are answered, and its sheets.
+use Rattle.std.proofs.Common.{◌≡◌, ◌≢◌, ◌⊎◌, inl, inr, refl, sym, ap, subst, ◌∙◌, ℕ, zero, suc, ◌≤◌}
+use Rattle.std.proofs.Common.{List, [], ◌∷◌, ◌++◌, length, take, Option, None, Some, arith}
+use Rattle.acceptor.specs.declared.entry.Entry.{Entry}
+use Rattle.answers.specs.Answers.{sheet_at}
+use Rattle.formats.specs.declared.events.Event.{Event}
+use Rattle.learner.specs.Laws.{IsPrefix}
+use Rattle.serving.specs.Answering.{style_of}
+use Rattle.serving.specs.Asking.{request}
+use Rattle.std.specs.Io.KnownBytes.{Appends}
+use Rattle.replica.specs.Handles.{Handles}
+use Rattle.serving.specs.Connection.{Begun, Sides, answer_bytes, answer_frame, framed_answer}
+use Rattle.serving.specs.Connection.{serve_frame}
+use Rattle.serving.specs.Making.{Way, speaking}
+use Rattle.serving.specs.Turns.{LeavesAt}
+use Rattle.serving.specs.TurnLaw.{Began, sides_in}
+use Rattle.serving.specs.declared.ends.End.{End}
+use Rattle.serving.specs.declared.ends.End.TheVariants as end
+use Rattle.sockets.specs.Connections.{TurnOf, place_of}
+use Rattle.serving.specs.Serving.{answer}
+use Rattle.store.specs.declared.home.Home.{Home}
+use Rattle.store.specs.declared.keeper.Keeper.{Ghosts}
+use Rattle.wire.specs.declared.frame.Frame.{Frame}
+use Rattle.wire.specs.declared.frame.What.{What}
+use Rattle.wire.specs.declared.frame.What.TheVariants as what
+use Rattle.wire.specs.declared.values.SheetStyle.{SheetStyle as Style}
+use Rattle.wire.specs.declared.values.SheetStyle.TheVariants as asked
+use Rattle.wire.specs.declared.values.Version.{Version}
+use Rattle.hall_laws.specs.HallRuns.{Station, hall_after, hall_log, home_at, seen_of}
+use Rattle.hall_laws.specs.HallRuns.{HallSheetsAreOfLogs}
+use Rattle.hall_laws.specs.HallRuns.{HallSheetsAgree, HallLogsAgree, HallAnswersWait, HallEvent}
+use Rattle.hall_laws.specs.HallRuns.{HallGoes, TakesTurn, connections}
+use Rattle.hall_laws.specs.Stops.{CallsAreHappenings}
+use Rattle.hall_laws.proofs.HallRuns.{hall_comes}
+use Rattle.hall_laws.specs.Served.{SheetsAreOfTheLog}
+
+-- a frame that was served whole
+whole_answer : {V : Type 0} (way : Way V) (e : Option End) (home : Home) (a b : Sides way)
+    (one : Begun) (count : ℕ) → LeavesAt e home a b one count → e ≢ Some end.NoMemory
+    → Appends a.written b.written (answer_bytes (serve_frame home a.seen one).answers)
+whole_answer way None home a b one count l whole = l.0.answered
+whole_answer way (Some end.Stopped) home a b one count l whole = l.answered
+whole_answer way (Some end.Down) home a b one count l whole = l.answered
+whole_answer way (Some end.Frames) home a b one count l whole = l.0.answered
+whole_answer way (Some end.NoMemory) home a b one count l whole = absurd (whole refl)
+whole_answer way (Some end.End) home a b one count l whole = absurd l
+whole_answer way (Some end.Reads) home a b one count l whole = absurd l
+whole_answer way (Some (end.Fault e)) home a b one count l whole = absurd l
+whole_answer way (Some end.Read) home a b one count l whole = absurd l
+whole_answer way (Some end.Write) home a b one count l whole = absurd l
+
+pub hall_answers_wait : {K : Type 0} (k : Ghosts K) → CallsAreHappenings k → HallAnswersWait k
+hall_answers_wait {K} k law n h ss at d number one step is serves =
+    let found = (hall_comes k law n h ss is).here at step serves.here in
+    let before = hall_after h (take at ss) in
+    let t : TurnOf = record { number = number; turn = Began one } in
+    let turn : TakesTurn k n d t serves.acts before step.after =
+    subst (λ (e : HallEvent). HallGoes k n e before step.after) serves.turn found.2 in
+    let x = before.desks d in
+    let y = step.after.desks d in
+    let a = place_of (connections k x.wire x) number in
+    let b = place_of (connections k x.wire y) number in
+    let answered =
+    whole_answer (speaking (Handles k) x.wire) b.talk.end a.talk.home (sides_in a a.talk.pending)
+    (sides_in b b.talk.pending) one b.talk.frames turn.turn.turn.1 serves.whole in
+    subst
+    (λ (home : Home).
+    b.talk.pending ≡ answer_bytes (serve_frame home (seen_of x.node) one).answers)
+    ((found.1.here d turn.ours).talks number)
+    (answered
+    ∙ ap
+    (λ z. z ++ answer_bytes (serve_frame a.talk.home (seen_of x.node) one).answers)
+    turn.turn.turn.0.free.taken)
+
+framed_is : (version : Version) (home : Home) (o : Option What) (w : What)
+    → framed_answer version home o ≡ answer_frame version home w ∷ [] → o ≡ Some w
+framed_is version home None w h =
+    absurd (let none : [] ≡ answer_frame version home w ∷ [] = h in cc)
+framed_is version home (Some u) w h =
+    let same : answer_frame version home u ≡ answer_frame version home w = cc in
+    ap (λ (f : Frame). Some f.what) same
+
+pub hall_sheets : {K : Type 0} (k : Ghosts K) → SheetsAreOfTheLog → HallSheetsAreOfLogs k
+unfolding serve_frame
+hall_sheets {K} k law h ss at d sheet text is =
+    law home (seen_of x.node) is.one.fates sheet.event sheet.round sheet.position sheet.style text
+    (subst (λ r. answer home (seen_of x.node) is.one.fates r ≡ Some (what.SheetText text)) is.asked
+    (framed_is is.one.frame.version home
+    (answer home (seen_of x.node) is.one.fates (request home is.one.frame)) (what.SheetText text)
+    is.answered))
+  where
+    x : Station K
+    x = (hall_after h (take at ss)).desks d
+
+    home : Home
+    home = home_at k x
+
+take_front : (xs rest : List Entry) (p : ℕ) → p ≤ length xs → take p (xs ++ rest) ≡ take p xs
+take_front xs rest zero h = refl
+take_front [] rest (suc p) h = absurd (omega arith)
+take_front (x ∷ xs) rest (suc p) h = ap (λ ys. x ∷ ys) (take_front xs rest p (omega arith))
+
+same_front : (xs ys : List Entry) (p : ℕ) → IsPrefix xs ys ⊎ IsPrefix ys xs → p ≤ length xs
+    → p ≤ length ys → take p xs ≡ take p ys
+same_front xs ys p (inl h) low high = sym (take_front xs h.0 p low) ∙ ap (take p) h.1
+same_front xs ys p (inr h) low high = sym (sym (take_front ys h.0 p high) ∙ ap (take p) h.1)
+
+same_sheet : (xs ys : List Entry) (p : ℕ) (style : Style) (event : Event) (round : ℕ)
+    → take p xs ≡ take p ys
+    → sheet_at (style_of style) xs p event round ≡ sheet_at (style_of style) ys p event round
+same_sheet xs ys p asked.Text event round h = rw h refl
+same_sheet xs ys p asked.Table event round h = rw h refl
+
+pub hall_sheets_agree : {K : Type 0} (k : Ghosts K) → HallSheetsAreOfLogs k → HallLogsAgree k
+    → HallSheetsAgree k
+hall_sheets_agree k sheets agree n h ss i j d f sheet text other is ours others one two =
+    let here = sheets h ss i d sheet text one in
+    let there = sheets h ss j f sheet other two in
+    text_of
+    (sym here.1
+    ∙ same_sheet (hall_log h ss i d) (hall_log h ss j f) sheet.position sheet.style
+    sheet.event sheet.round
+    (same_front (hall_log h ss i d) (hall_log h ss j f) sheet.position
+    (agree n h ss i j d f is ours others) here.0 there.0)
+    ∙ there.1)
+  where
+    text_of : Some text ≡ Some other → text ≡ other
+    text_of h = cc

@@ -1,0 +1,75 @@
+-- A small run of a hall, in full: so there are such runs, and in them a message of one desk comes to
+-- another.
+use Rattle.std.specs.Prelude.{◌≡◌, ℕ, false, List, [], ◌∷◌, map, None, Ok}
+use Rattle.acceptor.specs.declared.message.Body.TheVariants.{Behind}
+use Rattle.acceptor.specs.declared.message.Message.{Message}
+use Rattle.learner.specs.Desks.{first_desk}
+use Rattle.learner.specs.Steps.{IsDesk}
+use Rattle.learner.specs.declared.event.DeskEvent.TheVariants.{Tick, Deliver}
+use Rattle.replica.specs.Stores.{HoldsDesk}
+use Rattle.serving.specs.Serving.{Called, Pushed, framed}
+use Rattle.serving.specs.Turns.{new_talk}
+use Rattle.serving.specs.TurnLaw.{Turn, Came, Began}
+use Rattle.sockets.specs.Connections.{TurnOf}
+use Rattle.store.specs.declared.home.Home.{Home}
+use Rattle.store.specs.declared.keeper.Keeper.{Ghosts}
+use Rattle.wire.specs.Spelling.{spelling}
+use Rattle.wire.specs.declared.frame.Frame.{Frame}
+use Rattle.wire.specs.declared.frame.What.TheVariants as what
+use Rattle.wire.specs.declared.values.Version.TheVariants.{Two}
+use Rattle.hall_laws.specs.HallRuns.{Hall, HallEvent, HallStep, IsHallRun, TurnAt}
+
+-- desk d of three, in hall 7
+abbrev pub third_home : ℕ → Home
+third_home d = record { hall = 7; desk = d; desks = 3 }
+
+-- three desks, each opened with its keeper over an empty store, before their first turn
+abbrev pub three_desks : {K : Type 0} → (ℕ → K) → Hall K
+three_desks keeper = record {
+  desks = λ d.
+      record {
+        node = record { keeper = keeper d; desk = first_desk; is_down = false };
+        talks = λ j. new_talk (third_home d) Two;
+        wire = Two;
+        handed = None;
+      };
+  sent = [];
+}
+
+-- a client asks desk 1 for a Tick
+abbrev pub tick_frame : Frame
+tick_frame = record { version = Two; hall = 7; from = 0; to = 1; what = what.Tick }
+
+-- desk 1 then says to the others how long its log is
+abbrev pub says : ℕ → Message
+says d = record { from = 1; to = d; body = Behind 0 }
+
+abbrev pub said_frame : Frame
+said_frame = framed Two 7 (says 2)
+
+abbrev pub first_of : Turn → TurnOf
+first_of turn = record { number = 0; turn = turn }
+
+abbrev pub begun_as : Frame → Turn
+begun_as f = Began (record { frame = f; fates = [] })
+
+-- The client's bytes come to desk 1, which begins the frame, and says to desks 2 and 3 how long its
+-- log is. What it says to desk 2 comes there, and desk 2 is given it, and has nothing to answer.
+abbrev pub four_turns : List HallEvent
+four_turns =
+    TurnAt 1 (first_of (Came (spelling tick_frame))) []
+    ∷ TurnAt 1 (first_of (begun_as tick_frame))
+    (Called Tick (Ok (says 2 ∷ says 3 ∷ [])) ∷ Pushed (says 2) ∷ Pushed (says 3) ∷ [])
+    ∷ TurnAt 2 (first_of (Came (spelling said_frame))) []
+    ∷ TurnAt 2 (first_of (begun_as said_frame)) (Called (Deliver (says 2)) (Ok []) ∷ [])
+    ∷ []
+
+-- these events are a run of three desks, whatever keeps their state
+abbrev pub FourTurnsAreARun : {K : Type 0} → Ghosts K → Type 0
+FourTurnsAreARun {K} k =
+    (keeper : ℕ → K)
+    → ((d : ℕ) → IsDesk 3 d
+    → (k.home_of (keeper d) ≡ third_home d) × HoldsDesk k (keeper d) first_desk)
+    → (steps : List (HallStep K))
+    × (map (λ (s : HallStep K). s.event) steps ≡ four_turns)
+    × IsHallRun k 3 (three_desks keeper) steps

@@ -1,0 +1,391 @@
+-- Several desks that serve at once in one hall, each of them many connections by turns: what may
+-- happen there, one event after the other, in any order.
+use Rattle.std.specs.Prelude.{ℕ, ◌≡◌, ◌≢◌, ◌≤◌, ◌⊎◌, false, IsOk, List, [], ◌∷◌, ◌++◌, length}
+use Rattle.std.specs.Prelude.{Option, Some, slice_get, take}
+use Rattle.acceptor.specs.declared.entry.Entry.{Entry}
+use Rattle.acceptor.specs.declared.message.Message.{Message}
+use Rattle.acceptor.specs.declared.stored.Stored.{Stored}
+use Rattle.answers.specs.Answers.{sheet_at}
+use Rattle.answers.specs.Seen.{Seen}
+use Rattle.formats.specs.declared.events.Event.{Event as EventOf}
+use Rattle.learner.specs.Desks.{first_desk}
+use Rattle.learner.specs.Laws.{IsPrefix}
+use Rattle.learner.specs.Ranges.{AreInRange}
+use Rattle.learner.specs.Steps.{IsDesk}
+use Rattle.learner.specs.Worlds.{World, new_world}
+use Rattle.learner.specs.declared.event.DeskEvent.TheVariants.{Submit}
+use Rattle.replica.specs.Handles.{Handles, step_at}
+use Rattle.replica.specs.Nodes.{NodeValue}
+use Rattle.replica.specs.Opens.{Opens}
+use Rattle.replica.specs.Stores.{HoldsDesk, HoldsStep}
+use Rattle.serving.specs.Adding.{Push}
+use Rattle.serving.specs.Answering.{style_of}
+use Rattle.serving.specs.Asking.{request}
+use Rattle.serving.specs.Connection.{Begun, Sides, DoesFront, answer_bytes, answer_frame}
+use Rattle.serving.specs.Connection.{serve_frame}
+use Rattle.serving.specs.Making.{Call, Lead, Way, calls_of, outside_of, speaking}
+use Rattle.serving.specs.Serving.{Act}
+use Rattle.serving.specs.Turns.{Talk, new_talk}
+use Rattle.serving.specs.TurnLaw.{Place, Turn, Came, Began, Rested, Took, sides_in}
+use Rattle.serving.specs.declared.ends.End.{End}
+use Rattle.serving.specs.declared.ends.End.TheVariants as end
+use Rattle.serving.specs.declared.request.Request.TheVariants.{Printed}
+use Rattle.sockets.specs.Connections.{Connections, Goes, TurnOf, place_of}
+use Rattle.store.specs.declared.home.Home.{Home}
+use Rattle.store.specs.declared.keeper.Keeper.{Ghosts}
+use Rattle.wire.specs.declared.frame.Frame.{Frame}
+use Rattle.wire.specs.declared.frame.What.TheVariants as what
+use Rattle.wire.specs.declared.values.SheetStyle.{SheetStyle as Style}
+use Rattle.wire.specs.declared.values.Version.{Version}
+use Rattle.hall_laws.specs.Arriving.{delivers}
+use Rattle.hall_laws.specs.OwnMessages.{WereSentTo, sent_after}
+use Rattle.hall_laws.specs.Served.{all_handed_out}
+use Rattle.hall_laws.specs.Stops.{Happening, real_run}
+
+-- ---- a hall
+
+-- a desk that serves: its node, its connections by their numbers, the version in which it pushes
+-- frames, and what the other desks were handed, where that is told
+pub record Station (K : Type 0) : Type 0 where
+  pub node : NodeValue K
+  pub talks : ℕ → Talk
+  pub wire : Version
+  pub handed : Option (List Push)
+
+-- the desks of a hall by their numbers, and the messages that calls of them have handed out, in
+-- order
+pub record Hall (K : Type 0) : Type 0 where
+  pub desks : ℕ → Station K
+  pub sent : List Message
+
+abbrev pub seen_of : {K : Type 0} → NodeValue K → Seen
+seen_of node = record { desk = node.desk; is_down = node.is_down }
+
+abbrev pub home_at : {K : Type 0} → Ghosts K → Station K → Home
+home_at k x = k.home_of x.node.keeper
+
+-- what a turn of a connection is said of, where frames are pushed in this version
+abbrev pub connections : {K : Type 0} → (k : Ghosts K) → (version : Version) → Station K
+    → Connections (speaking (Handles k) version)
+connections k version x =
+    record {
+      talks = x.talks;
+      seen = seen_of x.node;
+      outside = outside_of (speaking (Handles k) version) x.node x.handed;
+    }
+
+-- ---- events
+
+-- What happens in a hall, and what is done in it, calls and pushes in order: a desk takes a turn of
+-- one of its connections; or a desk that is between two turns, up or down, is opened again; or a
+-- desk stops in the middle of a frame, with only so much of it done, and is opened again.
+pub data HallEvent : Type 0 where
+  TurnAt : ℕ → TurnOf → List Act → HallEvent
+  OpenedAt : ℕ → HallEvent
+  CutAt : ℕ → Begun → List Act → HallEvent
+
+abbrev pub acts_of : HallEvent → List Act
+acts_of (TurnAt d t acts) = acts
+acts_of (OpenedAt d) = []
+acts_of (CutAt d one acts) = acts
+
+-- the desk at which it happens
+abbrev pub desk_of : HallEvent → ℕ
+desk_of (TurnAt d t acts) = d
+desk_of (OpenedAt d) = d
+desk_of (CutAt d one acts) = d
+
+-- no other desk has changed, and what the calls among these acts hand out was sent
+pub record OnlyAt {K : Type 0} (d : ℕ) (acts : List Act) (h g : Hall K) : Type 0 where
+  pub others : (j : ℕ) → j ≢ d → g.desks j ≡ h.desks j
+  pub sent : g.sent ≡ sent_after h.sent acts
+
+-- ---- a turn
+
+-- what is done for a frame that was begun: all that it comes to, or a front part of it where memory
+-- is refused
+abbrev pub AreDoneFor : {V : Type 0} → {way : Way V} → Option End → Home → Sides way → Sides way
+    → Begun → List Act → Type 0
+AreDoneFor (Some end.NoMemory) home a b one acts =
+    (rest : List Act) × DoesFront home a b one acts rest
+AreDoneFor _ home a b one acts = acts ≡ (serve_frame home a.seen one).acts
+
+-- what is done in a turn: nothing where no frame is begun
+abbrev pub AreDone : {V : Type 0} → {way : Way V} → Turn → Place way → Place way → List Act → Type 0
+AreDone (Came piece) a b acts = acts ≡ []
+AreDone (Began one) a b acts =
+    AreDoneFor b.talk.end a.talk.home (sides_in a a.talk.pending) (sides_in b b.talk.pending) one
+    acts
+AreDone Rested a b acts = acts ≡ []
+AreDone (Took bytes) a b acts = acts ≡ []
+
+-- each message that a frame brings is for this desk, and a call of a desk of the hall has handed it
+-- out before
+abbrev pub FrameWasSent : Home → List Message → Begun → Type 0
+FrameWasSent home sent one = WereSentTo home.desk sent (delivers (request home one.frame))
+
+abbrev pub TurnWasSent : Home → List Message → Turn → Type 0
+TurnWasSent home sent (Came piece) = Unit {0}
+TurnWasSent home sent (Began one) = FrameWasSent home sent one
+TurnWasSent home sent Rested = Unit {0}
+TurnWasSent home sent (Took bytes) = Unit {0}
+
+-- desk d takes a turn of one of its connections
+pub record TakesTurn {K : Type 0} (k : Ghosts K) (n d : ℕ) (t : TurnOf) (acts : List Act)
+    (h g : Hall K) : Type 0 where
+  pub ours : IsDesk n d
+  -- the turn is one, as the contracts of `serving` say what a turn is
+  pub turn : let x = h.desks d in let y = g.desks d in
+      Goes t (connections k x.wire x) (connections k x.wire y)
+  pub wire : (g.desks d).wire ≡ (h.desks d).wire
+  pub done : let x = h.desks d in let y = g.desks d in
+      AreDone t.turn (place_of (connections k x.wire x) t.number)
+      (place_of (connections k x.wire y) t.number) acts
+  -- the premise on the network: what the frame brings was sent
+  pub brings : TurnWasSent (home_at k (h.desks d)) h.sent t.turn
+  pub only : OnlyAt d acts h g
+
+-- ---- a desk that is opened
+
+-- a desk that was opened over a keeper: none of its connections had a turn
+pub record IsOpened {K : Type 0} (k : Ghosts K) (keeper : K) (x : Station K) : Type 0 where
+  pub opens : Opens k keeper x.node
+  -- the premise on files: the store gives back what was written to it, and nobody else writes it
+  pub honest : k.is_honest x.node.keeper
+  pub talks : (j : ℕ) → x.talks j ≡ new_talk (home_at k x) x.wire
+
+-- a keeper of the same desk's store, that finds nothing there but what the other one may find
+pub record IsSameStore {K : Type 0} (k : Ghosts K) (old keeper : K) : Type 0 where
+  pub home : k.home_of keeper ≡ k.home_of old
+  pub honest : k.is_honest keeper → k.is_honest old
+  pub held : (s : Stored) (log : List Entry) → k.may_hold keeper s log → k.may_hold old s log
+
+-- desk d is opened again, over its store
+pub record OpensAgain {K : Type 0} (k : Ghosts K) (n d : ℕ) (h g : Hall K) : Type 0 where
+  pub ours : IsDesk n d
+  pub keeper : K
+  pub store : IsSameStore k (h.desks d).node.keeper keeper
+  pub opened : IsOpened k keeper (g.desks d)
+  pub only : OnlyAt d [] h g
+
+-- The desk stopped while it saved in the call that comes next: its store holds the state before
+-- that call or the state after it.
+pub record StopsInSave {K : Type 0} (k : Ghosts K) (x : NodeValue K) (keeper : K)
+    (rest : List Act) : Type 0 where
+  pub up : x.is_down ≡ false
+  pub home : k.home_of keeper ≡ k.home_of x.keeper
+  pub next : Call
+  pub later : List Call
+  pub calls : calls_of rest ≡ next ∷ later
+  pub left : HoldsStep k keeper x.desk (step_at (k.home_of x.keeper) x.desk next.event)
+
+-- desk d has begun the next frame of one of its connections, and stops after these acts, between two
+-- calls or in the next one; then it is opened again
+pub record IsCut {K : Type 0} (k : Ghosts K) (n d : ℕ) (one : Begun) (acts : List Act)
+    (h g : Hall K) : Type 0 where
+  pub ours : IsDesk n d
+  pub number : ℕ
+  pub more : List Frame
+  pub next : ((h.desks d).talks number).waiting ≡ one.frame ∷ more
+  -- the premise on the network
+  pub brings : FrameWasSent (home_at k (h.desks d)) h.sent one
+  pub rest : List Act
+  pub parts : let x = h.desks d in
+      (serve_frame (home_at k x) (seen_of x.node) one).acts ≡ acts ++ rest
+  -- the node as it stopped
+  pub node : NodeValue K
+  pub calls : Lead (Handles k) (h.desks d).node (calls_of acts) node
+  pub keeper : K
+  pub store : IsSameStore k node.keeper keeper ⊎ StopsInSave k node keeper rest
+  pub opened : IsOpened k keeper (g.desks d)
+  pub only : OnlyAt d acts h g
+
+-- ---- a run
+
+-- the event leads from the one to the other, in a hall of n desks
+abbrev pub HallGoes : {K : Type 0} → Ghosts K → ℕ → HallEvent → Hall K → Hall K → Type 0
+HallGoes k n (TurnAt d t acts) h g = TakesTurn k n d t acts h g
+HallGoes k n (OpenedAt d) h g = OpensAgain k n d h g
+HallGoes k n (CutAt d one acts) h g = IsCut k n d one acts h g
+
+-- an event, and the hall after it
+pub record HallStep (K : Type 0) : Type 0 where
+  pub event : HallEvent
+  pub after : Hall K
+
+abbrev pub AreSteps : {K : Type 0} → Ghosts K → ℕ → Hall K → List (HallStep K) → Type 0
+AreSteps k n h [] = Unit {0}
+AreSteps k n h (s ∷ ss) = HallGoes k n s.event h s.after × AreSteps k n s.after ss
+
+-- desk d of n, that was opened over an empty store
+pub record IsFirst {K : Type 0} (k : Ghosts K) (n d : ℕ) (x : Station K) : Type 0 where
+  pub desks : (home_at k x).desks ≡ n
+  pub desk : (home_at k x).desk ≡ d
+  pub first : x.node.desk ≡ first_desk
+  pub stored : HoldsDesk k x.node.keeper first_desk
+  pub talks : (j : ℕ) → x.talks j ≡ new_talk (home_at k x) x.wire
+
+-- A run of a hall of n desks: at first each was opened over an empty store and nothing was sent,
+-- and then these steps were taken.
+pub record IsHallRun {K : Type 0} (k : Ghosts K) (n : ℕ) (h : Hall K)
+    (steps : List (HallStep K)) : Type 0 where
+  pub first : (d : ℕ) → IsDesk n d → IsFirst k n d (h.desks d)
+  pub unsent : h.sent ≡ []
+  pub taken : AreSteps k n h steps
+
+-- the hall after these steps
+abbrev pub hall_after : {K : Type 0} → Hall K → List (HallStep K) → Hall K
+hall_after h [] = h
+hall_after h (s ∷ ss) = hall_after s.after ss
+
+-- the log of desk d after the first i steps
+abbrev pub hall_log : {K : Type 0} → Hall K → List (HallStep K) → ℕ → ℕ → List Entry
+hall_log h steps i d = ((hall_after h (take i steps)).desks d).node.desk.log
+
+-- ---- what holds of every run
+
+-- each desk knows what the world's desk knows, and what was sent here was sent there
+pub record IsWorld {K : Type 0} (n : ℕ) (h : Hall K) (w : World) : Type 0 where
+  pub desks : (d : ℕ) → IsDesk n d → (h.desks d).node.desk ≡ w.desks d
+  pub sent : h.sent ≡ w.sent
+
+-- so it is at first, and after each step, where each step is these happenings
+abbrev pub AreHappenings : {K : Type 0} → ℕ → Hall K → World → List (HallStep K)
+    → List (List Happening) → Type 0
+AreHappenings n h w [] [] = IsWorld n h w
+AreHappenings n h w [] (hs ∷ rest) = ⊥
+AreHappenings n h w (s ∷ ss) [] = ⊥
+AreHappenings n h w (s ∷ ss) (hs ∷ rest) =
+    IsWorld n h w × AreHappenings n s.after (real_run n w hs) ss rest
+
+-- the calls of all desks together are a run of the world
+abbrev pub HallsAreRuns : {K : Type 0} → Ghosts K → Type 0
+HallsAreRuns {K} k =
+    (n : ℕ) (h : Hall K) (steps : List (HallStep K)) → IsHallRun k n h steps
+    → (each : List (List Happening)) × AreHappenings n h new_world steps each
+
+-- each message names the desk that has sent it: what the calls of a step hand out is from the desk
+-- of that step, to a desk of the hall, with its fields in their ranges
+abbrev pub HallMessagesAreNamed : {K : Type 0} → Ghosts K → Type 0
+HallMessagesAreNamed {K} k =
+    (n : ℕ) (h : Hall K) (steps : List (HallStep K)) (at : ℕ) (step : HallStep K)
+    → IsHallRun k n h steps → slice_get steps at ≡ Some step
+    → AreInRange n (desk_of step.event) (all_handed_out (calls_of (acts_of step.event)))
+
+-- of the logs of any two desks of it at any two moments one is a prefix of the other
+abbrev pub HallLogsAgree : {K : Type 0} → Ghosts K → Type 0
+HallLogsAgree {K} k =
+    (n : ℕ) (h : Hall K) (steps : List (HallStep K)) (i j d f : ℕ)
+    → IsHallRun k n h steps → IsDesk n d → IsDesk n f
+    → IsPrefix (hall_log h steps i d) (hall_log h steps j f)
+    ⊎ IsPrefix (hall_log h steps j f) (hall_log h steps i d)
+
+-- one of the calls submits the entry, and is answered Ok
+abbrev pub IsTakenIn : Entry → List Call → Type 0
+IsTakenIn e [] = ⊥
+IsTakenIn e (c ∷ cs) = ((c.event ≡ Submit e) × IsOk c.answer) ⊎ IsTakenIn e cs
+
+-- what is done in the event is done for this frame
+abbrev pub BeginsIn : HallEvent → Begun → Type 0
+BeginsIn (TurnAt d t acts) one = t.turn ≡ Began one
+BeginsIn (OpenedAt d) one = ⊥
+BeginsIn (CutAt d cut acts) one = cut ≡ one
+
+-- a desk begins a frame that submits the entry, and takes the entry
+pub record Enters (event : HallEvent) (e : Entry) : Type 0 where
+  pub one : Begun
+  pub begins : BeginsIn event one
+  pub asked : one.frame.what ≡ what.Submit e
+  pub taken : IsTakenIn e (calls_of (acts_of event))
+
+-- in one of the steps a desk does
+pub record WasEntered {K : Type 0} (steps : List (HallStep K)) (e : Entry) : Type 0 where
+  pub at : ℕ
+  pub step : HallStep K
+  pub here : slice_get steps at ≡ Some step
+  pub enters : Enters step.event e
+
+-- every entry of a log was submitted before, by a frame that came to a desk of the hall, which took
+-- it
+abbrev pub HallEntriesAreSubmitted : {K : Type 0} → Ghosts K → Type 0
+HallEntriesAreSubmitted {K} k =
+    (n : ℕ) (h : Hall K) (steps : List (HallStep K)) (i d pos : ℕ) (e : Entry)
+    → IsHallRun k n h steps → IsDesk n d → slice_get (hall_log h steps i d) pos ≡ Some e
+    → WasEntered (take i steps) e
+
+-- ---- what connections are answered
+
+-- in the step after the first `at` desk d begins this frame of one of its connections, and the
+-- connection does not end for want of memory
+pub record ServesAt {K : Type 0} (steps : List (HallStep K)) (at d number : ℕ) (one : Begun)
+    (step : HallStep K) : Type 0 where
+  pub here : slice_get steps at ≡ Some step
+  pub acts : List Act
+  pub turn : step.event ≡ TurnAt d (record { number = number; turn = Began one }) acts
+  pub whole : ((step.after.desks d).talks number).end ≢ Some end.NoMemory
+
+-- Then that connection has exactly the answer of this frame to be taken, spelled, and by the desk as
+-- it was before the step.
+abbrev pub HallAnswersWait : {K : Type 0} → Ghosts K → Type 0
+HallAnswersWait {K} k =
+    (n : ℕ) (h : Hall K) (steps : List (HallStep K)) (at d number : ℕ) (one : Begun)
+    (step : HallStep K)
+    → IsHallRun k n h steps → ServesAt steps at d number one step
+    → let x = (hall_after h (take at steps)).desks d in
+    ((step.after.desks d).talks number).pending
+    ≡ answer_bytes (serve_frame (home_at k x) (seen_of x.node) one).answers
+
+-- ---- sheets
+
+-- what a client asks a sheet of
+pub record SheetAsked : Type 0 where
+  pub event : EventOf
+  pub round : ℕ
+  pub position : ℕ
+  pub style : Style
+
+-- in the step after the first `at` desk d begins a frame that asks for this sheet, on one of its
+-- connections, and its answer is a SheetText with this text
+pub record AnswersSheet {K : Type 0} (k : Ghosts K) (h : Hall K) (steps : List (HallStep K))
+    (at d : ℕ) (sheet : SheetAsked) (text : List ℕ) : Type 0 where
+  pub step : HallStep K
+  pub number : ℕ
+  pub one : Begun
+  pub serves : ServesAt steps at d number one step
+  pub asked : request (home_at k ((hall_after h (take at steps)).desks d)) one.frame
+      ≡ Printed sheet.event sheet.round sheet.position sheet.style
+  pub answered : let x = (hall_after h (take at steps)).desks d in
+      (serve_frame (home_at k x) (seen_of x.node) one).answers
+      ≡ answer_frame one.frame.version (home_at k x) (what.SheetText text) ∷ []
+
+-- the sheet of a log, where the log is that long
+abbrev pub IsSheetOf : List Entry → SheetAsked → List ℕ → Type 0
+IsSheetOf log sheet text =
+    (sheet.position ≤ length log)
+    × (sheet_at (style_of sheet.style) log sheet.position sheet.event sheet.round ≡ Some text)
+
+-- a sheet that any desk answers on any connection is the Regulations' sheet of its log then
+abbrev pub HallSheetsAreOfLogs : {K : Type 0} → Ghosts K → Type 0
+HallSheetsAreOfLogs {K} k =
+    (h : Hall K) (steps : List (HallStep K)) (at d : ℕ) (sheet : SheetAsked) (text : List ℕ)
+    → AnswersSheet k h steps at d sheet text → IsSheetOf (hall_log h steps at d) sheet text
+
+-- and no two that are asked for alike differ, whichever desks answered them, and when
+abbrev pub HallSheetsAgree : {K : Type 0} → Ghosts K → Type 0
+HallSheetsAgree {K} k =
+    (n : ℕ) (h : Hall K) (steps : List (HallStep K)) (i j d f : ℕ) (sheet : SheetAsked)
+    (text other : List ℕ)
+    → IsHallRun k n h steps → IsDesk n d → IsDesk n f
+    → AnswersSheet k h steps i d sheet text → AnswersSheet k h steps j f sheet other
+    → text ≡ other
+
+-- ---- that nothing is left out
+
+-- Each turn that a desk of the hall takes is such an event, where what its frame brings was sent.
+abbrev pub TurnsAreEvents : {K : Type 0} → Ghosts K → Type 0
+TurnsAreEvents {K} k =
+    (n d : ℕ) (h : Hall K) (t : TurnOf) (y : Station K)
+    → IsDesk n d → y.wire ≡ (h.desks d).wire
+    → Goes t (connections k (h.desks d).wire (h.desks d)) (connections k (h.desks d).wire y)
+    → TurnWasSent (home_at k (h.desks d)) h.sent t.turn
+    → (acts : List Act) × (g : Hall K) × (g.desks d ≡ y) × HallGoes k n (TurnAt d t acts) h g
