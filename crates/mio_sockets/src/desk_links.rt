@@ -1,0 +1,151 @@
+//! The links to the other desks of a hall.
+
+ghost use Rattle.std.specs.Prelude.{◌≡◌, [], ◌∷◌, IfOk, position, take};
+ghost use Rattle.mio_sockets.specs.Wiring.{has_number};
+ghost use Rattle.serving.specs.Adding.{Push, Hands};
+ghost use Rattle.mio_sockets.specs.Wiring.{KeepsLines, PushesTo, lines_from};
+
+use crate::neighbour::Neighbour;
+use crate::socket_wires::SocketWires;
+use crate::tellings::tell;
+use crate::wires::Wires;
+use links::Notice;
+use multiplex::Links;
+use serving::Peers;
+use std::alloc::{AllocError, Global};
+use std::io::Write;
+use std::marker::Model;
+use std::net::SocketAddr;
+
+/// The most other desks, desk 1 to desk 5.
+const MOST_DESKS: usize = 5;
+
+/// The links to the other desks of a hall over TCP.
+pub type SocketLinks<'a, R, W> = DeskLinks<SocketWires<'a, R>, W>;
+
+/// The links to the other desks of a hall, over connections of some kind, and where the lines go
+/// that say which desk can't be reached. A contract sees the connections, and each desk that has an
+/// address.
+#[derive(Drop)]
+pub struct DeskLinks<C, W> {
+    alloc: Global,
+    wires: C,
+    desks: Vec<Neighbour>,
+    lines: W,
+}
+
+impl<C, W> Model for DeskLinks<C, W> {
+    ghost use Rattle.mio_sockets.specs.Wiring.{LinksOf, links_of};
+
+    ghost Value = { LinksOf C };
+
+    ghost view = { λ l. links_of l.desks.items l.wires };
+}
+
+/// The desks at these addresses: desk 1 at the first one, and so on.
+fn neighbours(alloc: Global, addresses: &[Option<SocketAddr>]) -> Result<Vec<Neighbour>, AllocError>
+    ensures { IfOk result (λ desks. desks.items ≡ lines_from 1 (take 5 addresses.now)) }
+{
+    let mut desks = Vec::with_capacity(alloc, MOST_DESKS)?;
+    for place in 0..addresses.len().min(MOST_DESKS) {
+        if let Some(address) = addresses[place] {
+            desks.push(Neighbour::new(alloc, (place + 1) as u8, address))?;
+        }
+    }
+    Ok(desks)
+}
+
+/// Writes the line about a desk that is due, if one is. Where it can't be written, it is left out.
+fn tell_due<W: Write>(lines: &mut W, desk: u8, due: Option<Notice>) {
+    if let Some(notice) = due {
+        let _ = tell(lines, desk, notice);
+    }
+}
+
+/// Keeps each link.
+fn keep_each<C: Wires, W: Write>(desks: &mut [Neighbour], wires: &mut C, lines: &mut W, now: u64)
+    ensures { KeepsLines (C.wired wires.old) (C.wired wires.new) desks.old desks.new }
+{
+    for place in 0..desks.len() {
+        let desk = &mut desks[place];
+        let due = desk.keep(wires, now);
+        tell_due(lines, desk.desk(), due);
+    }
+}
+
+/// The place of the desk with this number.
+fn place_of(desks: &[Neighbour], desk: u8) -> Option<usize>
+    ensures { result ≡ position (has_number desk) desks.now }
+{
+    desks.iter().position(|neighbour| neighbour.desk() == desk)
+}
+
+/// The shorter wait; None is for ever.
+fn sooner(a: Option<u64>, b: Option<u64>) -> Option<u64> {
+    match (a, b) {
+        (Some(a), Some(b)) => Some(a.min(b)),
+        (None, b) => b,
+        (a, None) => a,
+    }
+}
+
+impl<C: Wires, W: Write> DeskLinks<C, W> {
+    /// The links to the desks at these addresses: desk 1 at the first one, and so on. Frames to a
+    /// desk without an address are dropped. Addresses after the fifth are left out.
+    pub fn new(
+        alloc: Global,
+        addresses: &[Option<SocketAddr>],
+        wires: C,
+        lines: W,
+    ) -> Result<DeskLinks<C, W>, AllocError>
+    where
+        C: Drop,
+        W: Drop,
+        ensures desks { IfOk result (λ links. links.lines ≡ lines_from 1 (take 5 addresses.now)) }
+        ensures wires { IfOk result (λ links. links.wires ≡ wires) }
+    {
+        Ok(DeskLinks {
+            alloc,
+            wires,
+            desks: neighbours(alloc, addresses)?,
+            lines,
+        })
+    }
+}
+
+impl<C: Wires, W: Write> Peers for DeskLinks<C, W> {
+    ghost use Rattle.std.specs.Prelude.{None};
+
+    // What a desk was handed over to its link is said by the clause `frame`.
+    ghost handed = { λ _. None };
+
+    /// Gives a frame to the link of its desk. Where memory is refused for it, it is dropped, which
+    /// is counted.
+    fn push(&mut self, to: u8, frame: &[u8])
+        ensures frame { PushesTo to frame.now self.old.lines self.new.lines }
+        ensures wires { self.new.wires ≡ self.old.wires }
+    {
+        if let Some(place) = place_of(&self.desks, to) {
+            let desk = &mut self.desks[place];
+            desk.push(self.alloc, frame);
+        }
+    }
+}
+
+impl<C: Wires, W: Write> Links for DeskLinks<C, W> {
+    /// Drives each link: opens, writes and closes what is due, and tells the lines that are due.
+    fn keep(&mut self, now: u64)
+        ensures { KeepsLines (C.wired self.old.wires) (C.wired self.new.wires)
+            self.old.lines self.new.lines }
+    {
+        keep_each(&mut self.desks, &mut self.wires, &mut self.lines, now);
+    }
+
+    fn wait(&self, now: u64) -> Option<u64> {
+        let mut wait = None;
+        for desk in self.desks.iter() {
+            wait = sooner(wait, desk.wait(now));
+        }
+        wait
+    }
+}

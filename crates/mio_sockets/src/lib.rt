@@ -1,0 +1,19 @@
+//! The sockets of a desk that serves all its clients side by side: its clients and the links to the
+//! other desks, over one poll that tells which of them is ready. No socket makes anybody wait.
+#![tactic(auto)]
+
+mod agenda;
+mod clients;
+mod desk_links;
+mod guests;
+mod neighbour;
+mod outcomes;
+mod socket_wires;
+mod tellings;
+mod tokens;
+mod wires;
+
+pub use clients::SocketClients;
+pub use desk_links::{DeskLinks, SocketLinks};
+pub use socket_wires::SocketWires;
+pub use wires::{Heard, Opening, Wires};

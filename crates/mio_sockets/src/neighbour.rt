@@ -1,0 +1,273 @@
+//! One other desk: its link, and how it is driven over its connection.
+
+ghost use Rattle.std.specs.Prelude.{◌≡◌, ◌≤◌, IfSome, IfNone};
+ghost use Rattle.links.specs.Links.{IsUnconnected};
+ghost use Rattle.links.specs.declared.stages.Wish.TheVariants as wish;
+ghost use Rattle.links.specs.Links.{wish_of};
+ghost use Rattle.mio_sockets.specs.Wiring.{IsSameDesk, IsStored, KeepsLine, TakesFrame, new_line};
+
+use crate::wires::{Heard, Opening, Wires};
+use links::{Link, Notice, Notices, Pushed, Stage, Wish};
+use multiplex::Taken;
+use std::alloc::Global;
+use std::marker::Model;
+use std::net::SocketAddr;
+
+/// How many wishes of a link are fulfilled at once. At most 64 frames are sent on a connection, so
+/// that a link rests before that.
+const MOST_WISHES: u32 = 1024;
+
+/// How long a connection may take nothing of what is to be sent, in milliseconds.
+const STUCK: u64 = 3000;
+
+/// Another desk, at its address.
+#[derive(Drop)]
+pub struct Neighbour {
+    desk: u8,
+    address: SocketAddr,
+    link: Link,
+    notices: Notices,
+    /// How many frames were dropped because memory was refused.
+    lost: u64,
+}
+
+impl Model for Neighbour {
+    ghost use Rattle.mio_sockets.specs.Wiring.{Line, line};
+
+    ghost Value = { Line };
+
+    ghost view = { λ n. line n.desk n.address n.link n.notices n.lost };
+}
+
+/// What comes of a wish that was fulfilled.
+#[derive(Clone, Copy)]
+struct Done {
+    /// Whether the next wish may be fulfilled at once.
+    goes_on: bool,
+    line: Option<Notice>,
+}
+
+impl Neighbour {
+    pub fn new(alloc: Global, desk: u8, address: SocketAddr) -> Neighbour
+        ensures { result ≡ new_line desk address }
+    {
+        Neighbour {
+            desk,
+            address,
+            link: Link::new(alloc),
+            notices: Notices::new(),
+            lost: 0,
+        }
+    }
+
+    pub fn desk(&self) -> u8
+        ensures { result ≡ self.now.desk }
+    {
+        self.desk
+    }
+
+    /// How many frames were dropped because memory was refused.
+    pub fn lost(&self) -> u64
+        ensures { result ≡ self.now.lost }
+    {
+        self.lost
+    }
+
+    /// How long its open connection has taken nothing, in milliseconds.
+    fn quiet_for(&self, now: u64) -> u64 {
+        match self.link.stage() {
+            Stage::Open { quiet, .. } => now.saturating_sub(quiet),
+            _ => 0,
+        }
+    }
+
+    /// In how many milliseconds at most the link is to be kept again, where its socket doesn't
+    /// become ready before. None: not until a frame is pushed.
+    pub fn wait(&self, now: u64) -> Option<u64>
+        ensures soon { IfSome result (λ millis. millis ≤ 3000) }
+        ensures rests { IfNone result (wish_of self.now.link now ≡ wish.Rest) }
+    {
+        match self.link.wait(now) {
+            Some(millis) => Some(millis),
+            None => match self.link.wish(now) {
+                Wish::Rest => None,
+                Wish::Write => Some(STUCK.saturating_sub(self.quiet_for(now))),
+                Wish::Open | Wish::Close | Wish::GiveUp => Some(0),
+            },
+        }
+    }
+
+    /// Gives a frame to the link. Where memory is refused for it, it is dropped, and counted.
+    pub fn push(&mut self, alloc: Global, frame: &[u8])
+        ensures { TakesFrame frame.now self.old self.new }
+    {
+        if !self.store(alloc, frame) {
+            self.lost = self.lost.saturating_add(1);
+        }
+    }
+
+    /// Gives a frame to the link. False: memory was refused for it, and nothing changes.
+    fn store(&mut self, alloc: Global, frame: &[u8]) -> bool
+        ensures same { IsSameDesk self.old self.new }
+        ensures telling { self.new.telling ≡ self.old.telling }
+        ensures lost { self.new.lost ≡ self.old.lost }
+        ensures link { IsStored result frame.now self.old.link self.new.link }
+    {
+        let Ok(copy) = Vec::from_slice(alloc, frame) else {
+            return false;
+        };
+        match self.link.push(copy) {
+            Pushed::Waits | Pushed::DroppedOldest => true,
+            Pushed::NoMemory => false,
+        }
+    }
+
+    /// Says that the connection failed, and closes it.
+    fn fail<C: Wires>(&mut self, wires: &mut C, now: u64) -> Option<Notice>
+        ensures { KeepsLine (C.wired wires.old) (C.wired wires.new) self.old self.new }
+    {
+        wires.close(self.desk);
+        self.link.failed(now);
+        self.notices.failed(now)
+    }
+
+    /// Says that the other side ended the connection, and closes it.
+    fn end<C: Wires>(&mut self, wires: &mut C, now: u64) -> Option<Notice>
+        ensures { KeepsLine (C.wired wires.old) (C.wired wires.new) self.old self.new }
+    {
+        wires.close(self.desk);
+        self.link.ended(now);
+        if self.link.unreachable_since().is_some() {
+            self.notices.failed(now)
+        } else {
+            None
+        }
+    }
+
+    /// Begins a connection.
+    fn open<C: Wires>(&mut self, wires: &mut C, now: u64) -> Done
+        requires { IsUnconnected self.old.link.stage }
+        ensures { KeepsLine (C.wired wires.old) (C.wired wires.new) self.old self.new }
+    {
+        self.link.began(now);
+        let begun = wires.begin(self.desk, self.address);
+        let line = if begun { None } else { self.fail(wires, now) };
+        Done {
+            goes_on: false,
+            line,
+        }
+    }
+
+    /// Writes what the link has to send. A connection that takes nothing for three seconds failed.
+    fn write<C: Wires>(&mut self, wires: &mut C, now: u64) -> Done
+        ensures { KeepsLine (C.wired wires.old) (C.wired wires.new) self.old self.new }
+    {
+        if self.link.output().is_empty() {
+            self.link.sent(now, 0);
+            return Done {
+                goes_on: true,
+                line: None,
+            };
+        }
+        let taken = wires.write(self.desk, self.link.output());
+        match taken {
+            Taken::Bytes { count } => {
+                self.link.sent(now, count);
+                Done {
+                    goes_on: true,
+                    line: None,
+                }
+            }
+            Taken::Later => {
+                if self.quiet_for(now) >= STUCK {
+                    return Done {
+                        goes_on: false,
+                        line: self.fail(wires, now),
+                    };
+                }
+                Done {
+                    goes_on: false,
+                    line: None,
+                }
+            }
+            Taken::Broke => Done {
+                goes_on: false,
+                line: self.fail(wires, now),
+            },
+        }
+    }
+
+    /// Fulfils what the link wishes now.
+    fn fulfil<C: Wires>(&mut self, wires: &mut C, now: u64) -> Done
+        ensures { KeepsLine (C.wired wires.old) (C.wired wires.new) self.old self.new }
+    {
+        match self.link.wish(now) {
+            Wish::Rest => Done {
+                goes_on: false,
+                line: None,
+            },
+            Wish::Open => self.open(wires, now),
+            Wish::Write => self.write(wires, now),
+            Wish::Close => {
+                wires.close(self.desk);
+                self.link.closed();
+                Done {
+                    goes_on: true,
+                    line: None,
+                }
+            }
+            Wish::GiveUp => Done {
+                goes_on: false,
+                line: self.fail(wires, now),
+            },
+        }
+    }
+
+    /// Tells the link what has become of its connection.
+    fn look<C: Wires>(&mut self, wires: &mut C, now: u64) -> Option<Notice>
+        ensures { KeepsLine (C.wired wires.old) (C.wired wires.new) self.old self.new }
+    {
+        match self.link.stage() {
+            Stage::Closed | Stage::Paused { .. } => None,
+            Stage::Opening { .. } => match wires.opening(self.desk) {
+                Opening::Later => None,
+                Opening::Open => {
+                    self.link.opened(now);
+                    self.notices.reached(now)
+                }
+                Opening::Failed => self.fail(wires, now),
+            },
+            Stage::Open { .. } => match wires.hear(self.desk) {
+                Heard::Nothing => None,
+                Heard::Ended => self.end(wires, now),
+                Heard::Broke => self.fail(wires, now),
+            },
+        }
+    }
+
+    /// Fulfils the link's wishes, one after the other, until it rests or its connection can take no
+    /// more now.
+    fn fulfil_all<C: Wires>(&mut self, wires: &mut C, now: u64) -> Option<Notice>
+        ensures { KeepsLine (C.wired wires.old) (C.wired wires.new) self.old self.new }
+    {
+        let mut line = None;
+        for _wish in 0..MOST_WISHES {
+            let done = self.fulfil(wires, now);
+            line = line.or(done.line);
+            if !done.goes_on {
+                return line;
+            }
+        }
+        line
+    }
+
+    /// Tells the link what has become of its connection, and fulfils its wishes. The line that is
+    /// due, if one is.
+    pub fn keep<C: Wires>(&mut self, wires: &mut C, now: u64) -> Option<Notice>
+        ensures { KeepsLine (C.wired wires.old) (C.wired wires.new) self.old self.new }
+    {
+        let seen = self.look(wires, now);
+        let made = self.fulfil_all(wires, now);
+        seen.or(made).or(self.notices.due(now))
+    }
+}

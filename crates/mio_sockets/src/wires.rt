@@ -1,0 +1,57 @@
+//! The connections to the other desks.
+
+ghost use Rattle.std.specs.Prelude.{◌≢◌, [], ◌∷◌, List, Option, length};
+ghost use Rattle.multiplex.specs.Happenings.{CountsTaken};
+ghost use Rattle.mio_sockets.specs.Wiring.{Began, Closed, Tells, Wired, taken};
+
+use multiplex::Taken;
+use std::net::SocketAddr;
+
+/// What has become of a connection that was begun.
+#[derive(Clone, Copy, PartialEq, Eq, Debug)]
+pub enum Opening {
+    /// It isn't open yet.
+    Later,
+    Open,
+    /// It can't be opened.
+    Failed,
+}
+
+/// What came from another desk.
+#[derive(Clone, Copy, PartialEq, Eq, Debug)]
+pub enum Heard {
+    /// It may go on.
+    Nothing,
+    /// It has ended the connection.
+    Ended,
+    /// The connection failed.
+    Broke,
+}
+
+/// The connections to other desks, one at most to each. No call waits.
+pub trait Wires {
+    /// What came of them, in order, where that is told.
+    ghost wired: { Self → Option (List Wired) };
+
+    /// Begins a connection to a desk that has none, at an address. False: it can't be opened.
+    fn begin(&mut self, desk: u8, address: SocketAddr) -> bool
+        ensures { Tells (wired self.old) (wired self.new) (Began desk address ∷ []) };
+
+    /// What has become of the connection to this desk, which was begun.
+    fn opening(&mut self, desk: u8) -> Opening
+        ensures { Tells (wired self.old) (wired self.new) [] };
+
+    /// Writes as much of the bytes as the connection takes without waiting.
+    fn write(&mut self, desk: u8, bytes: &[u8]) -> Taken
+        requires { bytes.now ≢ [] }
+        ensures count { CountsTaken (length bytes.now) result }
+        ensures told { Tells (wired self.old) (wired self.new) (taken desk result bytes.now) };
+
+    /// Reads what comes on the connection without waiting, and drops it.
+    fn hear(&mut self, desk: u8) -> Heard
+        ensures { Tells (wired self.old) (wired self.new) [] };
+
+    /// Closes the connection to this desk, if there is one.
+    fn close(&mut self, desk: u8)
+        ensures { Tells (wired self.old) (wired self.new) (Closed desk ∷ []) };
+}
