@@ -13,6 +13,7 @@ import re
 import socket
 import struct
 import sys
+import time
 
 EVENTS = """333 222 444 555 666 777 333bf 333fm 333oh clock minx pyram skewb sq1 444bf
 555bf 333mbf""".split()
@@ -32,12 +33,30 @@ class Fault(Exception):
     """A fault line, and the status to end with."""
 
 
-def read_exactly(stream, count):
+class Wait:
+    """For how long a desk is waited for."""
+
+    def __init__(self, given):
+        self.until = time.monotonic() + given.patience
+        self.fault = Fault(f"no answer from {given.to} (waited {given.patience} s)", 4)
+
+    def left(self):
+        """How many seconds are left; TimeoutError where none are."""
+        left = self.until - time.monotonic()
+        if left <= 0:
+            raise TimeoutError
+        return left
+
+
+def read_exactly(stream, count, wait):
     """The next bytes of a connection, that many."""
     bytes_read = b""
     while len(bytes_read) < count:
         try:
+            stream.settimeout(wait.left())
             piece = stream.recv(count - len(bytes_read))
+        except TimeoutError:
+            raise wait.fault from None
         except OSError:
             piece = b""
         if not piece:
@@ -46,11 +65,12 @@ def read_exactly(stream, count):
     return bytes_read
 
 
-def exchange(address, hall, desk, kind, body, wanted, spoken=FIRST):
+def exchange(given, kind, body, wanted, spoken=FIRST):
     """Sends one frame to a desk, and returns the fields of the wanted answer."""
-    host, _, port = address.rpartition(":")
+    hall, desk, wait = given.hall, given.desk, Wait(given)
+    host, _, port = given.to.rpartition(":")
     try:
-        stream = socket.create_connection((host.strip("[]"), int(port)))
+        stream = socket.create_connection((host.strip("[]"), int(port)), wait.left())
     except (OSError, ValueError, OverflowError):
         raise Fault("cannot connect", 4) from None
     with stream:
@@ -59,10 +79,10 @@ def exchange(address, hall, desk, kind, body, wanted, spoken=FIRST):
             stream.sendall(struct.pack(">I", len(inside)) + inside)
         except OSError:
             raise Fault("cannot write", 4) from None
-        (length,) = struct.unpack(">I", read_exactly(stream, 4))
+        (length,) = struct.unpack(">I", read_exactly(stream, 4, wait))
         if not LEAST <= length <= MOST:
             raise Fault(*NO_ANSWER)
-        inside = read_exactly(stream, length)
+        inside = read_exactly(stream, length, wait)
     version, of_hall, sender, to, got = struct.unpack(">BIBBB", inside[:8])
     if version not in (FIRST, SECOND):
         raise Fault(*NO_ANSWER)
@@ -78,14 +98,14 @@ def enter(given):
     if len(text := given.text.encode("utf-8", "surrogateescape")) > 600:
         raise Fault("text too long", 3)
     entry = struct.pack(">QH", given.id, len(text)) + text
-    if exchange(given.to, given.hall, given.desk, SUBMIT, entry, TAKEN) != entry[:8]:
+    if exchange(given, SUBMIT, entry, TAKEN) != entry[:8]:
         raise Fault(*NO_ANSWER)
     return b"taken %d\n" % given.id
 
 
 def ask(given):
     identity = struct.pack(">Q", given.id)
-    told = exchange(given.to, given.hall, given.desk, ASK, identity, TOLD)
+    told = exchange(given, ASK, identity, TOLD)
     if told in (identity + b"\0", identity + b"\1"):
         return b"%s %d\n" % ((b"unknown", b"pending")[told[8]], given.id)
     if told[:9] != identity + b"\2" or len(told) != 14 or told[13] >= len(CODES):
@@ -97,12 +117,12 @@ def ask(given):
 def sheet(given):
     event = EVENTS.index(given.event) + 1
     body = struct.pack(">BBIB", event, given.round, given.position, given.csv)
-    asked = given.to, given.hall, given.desk, SHEET, body, SHEET_TEXT
+    asked = given, SHEET, body, SHEET_TEXT
     return exchange(*asked, FIRST if event <= 16 else SECOND)
 
 
 def bare(kind, given):
-    if exchange(given.to, given.hall, given.desk, kind, b"", FINE):
+    if exchange(given, kind, b"", FINE):
         raise Fault(*NO_ANSWER)
     return b"ok\n"
 
@@ -146,6 +166,7 @@ def words():
         word.add_argument("--hall", type=in_range(0, 2**32 - 1), required=True)
         word.add_argument("--desk", type=in_range(0, 255), required=True)
         word.add_argument("--to", required=True, metavar="ADDR")
+        word.add_argument("--patience", type=in_range(1, 3600), default=10, metavar="SECONDS")
         if run in (enter, ask):
             word.add_argument("id", type=in_range(1, 2**63 - 1))
         if run is enter:

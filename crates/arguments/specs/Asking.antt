@@ -9,6 +9,7 @@ use Rattle.wire.specs.Laws.{IsVersion}
 use Rattle.wire.specs.Ranges.{IsId}
 use Rattle.arguments.specs.Arguments.{IsNumberAt, any_text, csv_rule, errand_arguments, numbers}
 use Rattle.arguments.specs.Arguments.{option_rule, value_rule, values_rule, wait_rule}
+use Rattle.batch.specs.declared.dialing.Contact.{Contact}
 use Rattle.batch.specs.declared.lines_entered.Batch.{Batch}
 use Rattle.service.specs.declared.Service.{Service}
 use Rattle.arguments.specs.declared.task.Errand.{Errand}
@@ -104,11 +105,22 @@ IsRequest (request.Sheet event round position style) name rows =
 IsRequest request.Tick name rows = name ≡ codes "tick"
 IsRequest request.Stop name rows = name ≡ codes "stop"
 
+-- for how many seconds a desk is waited for, 10 where the arguments do not say it
+abbrev pub IsWait : ℕ → List Row → Type 0
+IsWait n rows =
+    IsNumberAt (codes "patience") rows n
+    ⊎ ((first_of (codes "patience") rows ≡ None) × (n ≡ 10))
+
+-- where a desk is asked, and how long it is waited for
+pub record IsContact (c : Contact) (rows : List Row) : Type 0 where
+  pub address : first_of (codes "to") rows ≡ Some c.address.now
+  pub patience : IsWait c.patience rows
+
 -- and is for this desk of this hall at this address
 pub record IsErrand (e : Errand) (name : Text) (rows : List Row) : Type 0 where
   pub hall : IsNumberAt (codes "hall") rows e.hall
   pub desk : IsNumberAt (codes "desk") rows e.desk
-  pub address : first_of (codes "to") rows ≡ Some e.to.now
+  pub contact : IsContact e.contact rows
   pub request : IsRequest e.request name rows
 
 -- how long a read waits, where the arguments say it
@@ -123,10 +135,10 @@ IsWire n rows =
 
 -- a desk of this hall that lines are entered at, the id of the first one, and whether `--wait` is
 -- there
-pub record IsBatch (to : Text) (b : Batch) (rows : List Row) : Type 0 where
+pub record IsBatch (c : Contact) (b : Batch) (rows : List Row) : Type 0 where
   pub hall : IsNumberAt (codes "hall") rows b.receiver.hall
   pub desk : IsNumberAt (codes "desk") rows b.receiver.desk
-  pub address : first_of (codes "to") rows ≡ Some to
+  pub contact : IsContact c rows
   pub first_id : IsNumberAt (codes "first-id") rows b.first_id
   pub waits : one_of (codes "wait") rows ≡ Some (codes "true") → b.waits ≡ true
   pub goes_on : one_of (codes "wait") rows ≡ Some (codes "false") → b.waits ≡ false
@@ -149,8 +161,8 @@ IsTask (task.Replay event round style) name rows =
 IsTask (task.Hall desks) name rows =
     (name ≡ codes "hall") × IsNumberAt (codes "desks") rows desks
 IsTask (task.Carry errand) name rows = IsErrand errand name rows
-IsTask (task.EnterLines to batch) name rows =
-    (name ≡ codes "enter-lines") × IsBatch to.now batch rows
+IsTask (task.EnterLines contact batch) name rows =
+    (name ≡ codes "enter-lines") × IsBatch contact batch rows
 IsTask (task.Log store) name rows =
     (name ≡ codes "log") × (first_of (codes "store") rows ≡ Some store.now)
 IsTask (task.Serve service) name rows = (name ≡ codes "serve") × IsService service rows
@@ -168,7 +180,7 @@ abbrev pub HasIds : Task → Type 0
 HasIds (task.Replay event round style) = Unit {0}
 HasIds (task.Hall desks) = Unit {0}
 HasIds (task.Carry errand) = HasId errand.request
-HasIds (task.EnterLines to batch) = Unit {0}
+HasIds (task.EnterLines contact batch) = Unit {0}
 HasIds (task.Log store) = Unit {0}
 HasIds (task.Serve service) = IsVersion service.wire
 

@@ -6,11 +6,11 @@ ghost use Rattle.arguments.specs.Arguments.{IsCommand, wait_rule};
 ghost use Rattle.arguments.specs.Asking.{lines_arguments, IsTask};
 
 use crate::task::{Task, of_four_bytes, of_one_byte};
-use crate::values::{errand_command, number_at, option};
+use crate::values::{contact_at, errand_command, number_at, option};
 use batch::{Batch, Receiver};
 use clap::builder::ValueParser;
 use clap::{Arg, ArgAction, ArgMatches, Command};
-use replay_arguments::{text_at, with_argument};
+use replay_arguments::with_argument;
 use std::alloc::{AllocError, Global};
 
 const ABOUT: &str = "Enters the commands of standard input at a desk, one a line.";
@@ -63,11 +63,11 @@ pub fn lines_of<'a>(found: &ArgMatches<'a>) -> Option<Task<'a>>
 {
     let hall = of_four_bytes(number_at(found, "hall")?)?;
     let desk = of_one_byte(number_at(found, "desk")?)?;
-    let to = text_at(found, "to")?;
+    let contact = contact_at(found)?;
     let first_id = number_at(found, "first-id")?;
     let waits = found.get_flag("wait");
     Some(Task::EnterLines {
-        to,
+        contact,
         batch: Batch {
             receiver: Receiver { hall, desk },
             first_id,

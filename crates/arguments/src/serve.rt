@@ -8,7 +8,7 @@ ghost use Rattle.arguments.specs.Asking.{serve_arguments, IsPatience, IsTask, Is
 ghost use Rattle.wire.specs.Laws.{IsVersion};
 
 use crate::task::{Task, of_four_bytes, of_one_byte};
-use crate::values::{number_at, option};
+use crate::values::{number_at, option, seconds_at};
 use clap::builder::ValueParser;
 use clap::{Arg, ArgAction, ArgMatches, Command};
 use replay_arguments::{plain_command, text_at, value, with_argument};
@@ -118,14 +118,6 @@ pub fn serve_command<'a>(alloc: Global) -> Result<Command<'a>, AllocError>
     let command = with_argument(command, patience_option(alloc))?;
     let command = with_argument(command, wire_option(alloc))?;
     with_argument(command, address_value(alloc))
-}
-
-/// The value of SECONDS, where it is given.
-fn seconds_at(found: &ArgMatches<'_>) -> Option<u32>
-    ensures { IfSome result
-        (λ seconds. IsNumberAt (codes "patience") (rows_of (found_of found.now)) seconds) }
-{
-    of_four_bytes(number_at(found, "patience")?)
 }
 
 /// The value of SECONDS, or no value where it is not given. The parser accepts only a number.

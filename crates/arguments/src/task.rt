@@ -11,11 +11,11 @@ use crate::hall::hall_of;
 use crate::log::log_of;
 use crate::serve::serve_of;
 use crate::sheet::sheet_of;
-use crate::values::number_at;
-use batch::Batch;
+use crate::values::{contact_at, number_at};
+use batch::{Batch, Contact};
 use clap::ArgMatches;
 use formats::Event;
-use replay_arguments::{replay_of, text_at};
+use replay_arguments::replay_of;
 use service::Service;
 use sheets::Style;
 use wire::SheetStyle;
@@ -50,7 +50,7 @@ pub enum Request<'a> {
 pub struct Errand<'a> {
     pub hall: u32,
     pub desk: u8,
-    pub to: &'a str,
+    pub contact: Contact<'a>,
     pub request: Request<'a>,
 }
 
@@ -73,7 +73,7 @@ pub enum Task<'a> {
     },
     /// To enter the lines of an input at the desk at an address.
     EnterLines {
-        to: &'a str,
+        contact: Contact<'a>,
         batch: Batch,
     },
     /// The log of a stopped desk, from its file.
@@ -128,12 +128,12 @@ fn errand_of<'a>(name: &str, found: &ArgMatches<'a>) -> Option<Errand<'a>>
 {
     let hall = of_four_bytes(number_at(found, "hall")?)?;
     let desk = of_one_byte(number_at(found, "desk")?)?;
-    let to = text_at(found, "to")?;
+    let contact = contact_at(found)?;
     let request = request_of(name, found)?;
     Some(Errand {
         hall,
         desk,
-        to,
+        contact,
         request,
     })
 }

@@ -3,9 +3,12 @@
 ghost use Rattle.std.specs.Prelude.{◌≡◌, false, codes, IfOk, IfSome, Some};
 ghost use Rattle.clap.specs.Words.{found_of, rows_of, rule_of};
 ghost use Rattle.arguments.specs.Arguments.{IsCommand, IsNumberAt, errand_arguments, numbers};
-ghost use Rattle.arguments.specs.Arguments.{option_rule, value_rule};
+ghost use Rattle.arguments.specs.Arguments.{option_rule, value_rule, wait_seconds_rule};
+ghost use Rattle.arguments.specs.Asking.{IsContact, IsWait};
 ghost use Rattle.wire.specs.Ranges.{IsId};
 
+use crate::task::of_four_bytes;
+use batch::Contact;
 use clap::builder::ValueParser;
 use clap::{Arg, ArgMatches, Command};
 use command_line::plain_number;
@@ -26,7 +29,25 @@ pub fn option<'a>(
     value(alloc, id, name, help, parser).long(id)
 }
 
-/// A subcommand that asks a desk: its hall, its number and its address.
+/// For how many seconds a desk is waited for without the option `--patience`.
+const PATIENCE: u32 = 10;
+
+/// The option `--patience` of a subcommand that asks a desk.
+fn wait_option<'a>(alloc: Global) -> Arg<'a>
+    ensures rule { rule_of result ≡ wait_seconds_rule }
+    ensures local { result.global ≡ false }
+{
+    option(
+        alloc,
+        "patience",
+        "SECONDS",
+        "How long to wait for the desk's answer, 1 to 3600; without this option 10",
+        ValueParser::unsigned(1, 3600),
+    )
+    .required(false)
+}
+
+/// A subcommand that asks a desk: its hall, its number, its address, and how long to wait for it.
 pub fn errand_command<'a>(
     alloc: Global,
     name: &'a str,
@@ -59,7 +80,8 @@ pub fn errand_command<'a>(
         "The desk's address, as 127.0.0.1:7001",
         ValueParser::string(),
     );
-    with_argument(command, to)
+    let command = with_argument(command, to)?;
+    with_argument(command, wait_option(alloc))
 }
 
 /// The first value of an argument as a number. No number where the value has a sign or leading
@@ -94,4 +116,31 @@ pub fn id_at(found: &ArgMatches<'_>) -> Option<u64>
         return None;
     }
     Some(id)
+}
+
+/// The value of SECONDS, where it is given.
+pub fn seconds_at(found: &ArgMatches<'_>) -> Option<u32>
+    ensures { IfSome result
+        (λ seconds. IsNumberAt (codes "patience") (rows_of (found_of found.now)) seconds) }
+{
+    of_four_bytes(number_at(found, "patience")?)
+}
+
+/// The value of SECONDS, or 10 where it is not given.
+fn wait_at(found: &ArgMatches<'_>) -> Option<u32>
+    ensures { IfSome result (λ seconds. IsWait seconds (rows_of (found_of found.now))) }
+{
+    match found.get_str("patience") {
+        None => Some(PATIENCE),
+        Some(_) => seconds_at(found),
+    }
+}
+
+/// Where a subcommand asks its desk, and how long it waits.
+pub fn contact_at<'a>(found: &ArgMatches<'a>) -> Option<Contact<'a>>
+    ensures { IfSome result (λ contact. IsContact contact (rows_of (found_of found.now))) }
+{
+    let address = text_at(found, "to")?;
+    let patience = wait_at(found)?;
+    Some(Contact { address, patience })
 }

@@ -10,6 +10,7 @@ use Rattle.lines.specs.Bytes.{AppendsPart}
 use Rattle.lines.specs.declared.fault.RunFault.{RunFault}
 use Rattle.wire.specs.declared.frame.What.{What}
 use Rattle.batch.specs.Asking.{Adds, Asked, Asks, IsAnswer, Told, submit_of}
+use Rattle.batch.specs.Dialing.{Dialed, Place}
 use Rattle.batch.specs.declared.asking.Receiver.{Receiver}
 use Rattle.batch.specs.declared.fault.BatchFault.TheVariants as fault
 use Rattle.batch.specs.model.Trying.{IsUndecided}
@@ -22,13 +23,13 @@ use Rattle.batch.proofs.Entered.{Entered, enters_all, next_of, stops_at, stops_i
 use Rattle.batch.proofs.Trying.{adds_more, adds_none, entered_for, entered_known}
 
 -- the lines that were given were entered by these requests
-pub record Made (b : Batch) (given said : List ℕ) (asked : List Asked)
-    (old new : Option (List Asked)) : Type 0 where
-  pub told : Adds old new asked
+pub record Made (here : Place) (b : Batch) (given said : List ℕ) (asked : List Asked)
+    (old new : Option (List Dialed)) : Type 0 where
+  pub told : Adds here old new asked
   pub each : SaidBy b b.first_id (lines_of given) said asked
 
-pub none_made : (b : Batch) (a : Option (List Asked)) → Made b [] [] [] a a
-none_made b a = record { told = adds_none a; each = (refl, refl) }
+pub none_made : {here : Place} (b : Batch) (a : Option (List Dialed)) → Made here b [] [] [] a a
+none_made {here} b a = record { told = adds_none here a; each = (refl, refl) }
 
 said_more : (b : Batch) (id : ℕ) (lines : List (List ℕ)) (line said : List ℕ) (last : What)
     (asked one : List Asked)
@@ -57,15 +58,15 @@ said_more b id (l ∷ lines) line said last asked one h next = (
 )
 
 -- one more line was entered
-pub made_more : (b : Batch) (q : Reading) (line given said : List ℕ) (last : What)
+pub made_more : {here : Place} (b : Batch) (q : Reading) (line given said : List ℕ) (last : What)
     (asked : List Asked) (lines : ℕ) (start now : Option (List ℕ))
-    (old mid new : Option (List Asked))
-    → Made b given said asked old mid → (g : GivesLine q line given start now)
+    (old mid new : Option (List Dialed))
+    → Made here b given said asked old mid → (g : GivesLine q line given start now)
     → lines ≡ length (lines_of given)
-    → (k : Asks mid new (EnteredBy b.waits b.receiver (b.first_id + lines) line last))
-    → Made b (given ++ g.more) (said ++ reply_text last) (asked ++ k.0) old new
+    → (k : Asks here mid new (EnteredBy b.waits b.receiver (b.first_id + lines) line last))
+    → Made here b (given ++ g.more) (said ++ reply_text last) (asked ++ k.0) old new
 made_more b q line given said last asked lines start now old mid new m g count k = record {
-  told = adds_more old mid new asked k.0 m.told k.1;
+  told = adds_more _ old mid new asked k.0 m.told k.1;
   each =
       subst (λ ls. SaidBy b b.first_id ls (said ++ reply_text last) (asked ++ k.0)) (sym g.is)
       (said_more b b.first_id (lines_of given) line said last asked k.0 m.each
@@ -73,14 +74,14 @@ made_more b q line given said last asked lines start now old mid new m g count k
 }
 
 -- all lines were entered
-pub asks_all : (b : Batch) (p q : Reading) (given said : List ℕ) (asked : List Asked)
-    (start before now old new : Option (List ℕ)) (first last : Option (List Asked))
+pub asks_all : {here : Place} (b : Batch) (p q : Reading) (given said : List ℕ) (asked : List Asked)
+    (start before now old new : Option (List ℕ)) (first last : Option (List Dialed))
     → Entered b p given said start before old new → GivesNone q given start now
-    → Made b given said asked first last
+    → Made here b given said asked first last
     → AsksAll b (record { had = start; left = now; old = old; new = new })
-    (record { old = first; new = last })
+    (record { place = here; old = first; new = last })
 unfolding enters_all
-asks_all b p q given said asked start before now old new first last e none m = record {
+asks_all {here} b p q given said asked start before now old new first last e none m = record {
   enters = enters_all b p q given said start before now old new e none;
   asked = asked;
   told = m.told;
@@ -88,19 +89,21 @@ asks_all b p q given said asked start before now old new first last e none m = r
 }
 
 -- a line was given and not entered, or not told
-pub asks_in : (Fails : BatchFault → Type 0) (f : BatchFault) (b : Batch) (p q : Reading)
+pub asks_in : {here : Place} (Fails : BatchFault → Type 0) (f : BatchFault) (b : Batch)
+    (p q : Reading)
     (line text given said next : List ℕ) (asked : List Asked)
     (lines : ℕ) (start before now old new new' : Option (List ℕ))
-    (first mid last : Option (List Asked))
+    (first mid last : Option (List Dialed))
     → Entered b p given said start before old new → (g : GivesLine q line given start now)
     → AppendsPart new new' next → StopsLine Fails f b (b.first_id + lines) text next
-    → Made b given said asked first mid
+    → Made here b given said asked first mid
     → lines ≡ length (lines_of given) → text ≡ line
-    → Asks mid last (StopsAsking f b.receiver (b.first_id + lines) text)
+    → Asks here mid last (StopsAsking f b.receiver (b.first_id + lines) text)
     → AsksSome Fails f b (record { had = start; left = now; old = old; new = new' })
-    (record { old = first; new = last })
+    (record { place = here; old = first; new = last })
 unfolding stops_in
-asks_in Fails f b p q line text given said next asked lines start before now old new new' first mid
+asks_in {here} Fails f b p q line text given said next asked lines start before now old new new'
+    first mid
     last e g part stops m count same k =
     record {
       stops = record {
@@ -116,7 +119,7 @@ asks_in Fails f b p q line text given said next asked lines start before now old
       };
       asked = asked;
       behind = k.0;
-      told = adds_more first mid last asked k.0 m.told k.1;
+      told = adds_more _ first mid last asked k.0 m.told k.1;
       each = m.each;
       next =
           inr (
@@ -129,36 +132,38 @@ asks_in Fails f b p q line text given said next asked lines start before now old
     }
 
 -- reading ended early, after lines that were entered
-pub asks_at : (Fails : BatchFault → Type 0) (h : BatchFault) (f : RunFault) (b : Batch)
+pub asks_at : {here : Place} (Fails : BatchFault → Type 0) (h : BatchFault) (f : RunFault)
+    (b : Batch)
     (p : Reading) (given said : List ℕ) (asked : List Asked)
-    (start before now old new : Option (List ℕ)) (first last : Option (List Asked))
+    (start before now old new : Option (List ℕ)) (first last : Option (List Dialed))
     → Entered b p given said start before old new → GivesFault f given start now
     → EndsReading h given (record { had = start; left = now; old = old; new = new })
-    → Made b given said asked first last
+    → Made here b given said asked first last
     → AsksSome Fails h b (record { had = start; left = now; old = old; new = new })
-    (record { old = first; new = last })
+    (record { place = here; old = first; new = last })
 unfolding stops_at
-asks_at Fails h f b p given said asked start before now old new first last e g ends m = record {
-  stops = record {
-    enters = stops_at f b p given said start before now old new e g;
-    cause = inl ends;
-  };
-  asked = asked;
-  behind = [];
-  told = subst (Adds first last) (sym (append-nil asked)) m.told;
-  each = m.each;
-  next = inl (refl, ends);
-}
+asks_at {here} Fails h f b p given said asked start before now old new first last e g ends m =
+    record {
+      stops = record {
+        enters = stops_at f b p given said start before now old new e g;
+        cause = inl ends;
+      };
+      asked = asked;
+      behind = [];
+      told = subst (Adds here first last) (sym (append-nil asked)) m.told;
+      each = m.each;
+      next = inl (refl, ends);
+    }
 
 printing_other : (f : BatchFault) → IsOfPrinting f → IsOther f
 printing_other f (inl write) = subst IsOther (sym write) tt
 printing_other f (inr memory) = subst IsOther (sym memory) tt
 
 -- what was asked for a line, where what it was answered couldn't be printed
-pub if_unsaid : (b : Batch) (id : ℕ) (line : List ℕ) (last : What)
-    (old new : Option (List Asked)) (result : Result (Unit {0}) BatchFault)
-    → Asks old new (EnteredBy b.waits b.receiver id line last) → IfErr result IsOfPrinting
-    → IfErr result (λ f. Asks old new (StopsAsking f b.receiver id line))
+pub if_unsaid : {here : Place} (b : Batch) (id : ℕ) (line : List ℕ) (last : What)
+    (old new : Option (List Dialed)) (result : Result (Unit {0}) BatchFault)
+    → Asks here old new (EnteredBy b.waits b.receiver id line last) → IfErr result IsOfPrinting
+    → IfErr result (λ f. Asks here old new (StopsAsking f b.receiver id line))
 if_unsaid b id line last old new (Ok _) h is = tt
 if_unsaid b id line last old new (Err f) h is = (
   h.0,
@@ -187,6 +192,7 @@ undecided Fails fault.TextTooLong waits r id text taken is t (inr h) = absurd h
 undecided Fails fault.NoMoreIds waits r id text taken is t (inr h) = absurd h
 undecided Fails fault.CannotConnect waits r id text taken is t (inr h) = absurd h
 undecided Fails (fault.Asking e) waits r id text taken is t (inr h) = absurd h
+undecided Fails fault.Late waits r id text taken is t (inr h) = absurd h
 undecided Fails fault.Write waits r id text taken is t (inr h) = absurd h
 undecided Fails fault.NoMemory waits r id text taken is t (inr h) = absurd h
 

@@ -1,3 +1,4 @@
 pub mod Asked
+pub mod Connections
 pub mod Entered
 pub mod Trying

@@ -1,6 +1,5 @@
 -- Requests to a desk, and what came of each.
-use Rattle.std.specs.Prelude.{◌≡◌, ◌⊎◌, ◌+◌, ◌++◌, ◌∷◌, [], ℕ, List, Option, None, Some, Result}
-use Rattle.std.specs.Prelude.{Ok, Err, IsOk, IsOkAnd, ⊤}
+use Rattle.std.specs.Prelude.{◌≡◌, ◌⊎◌, ◌+◌, ◌++◌, ◌∷◌, [], ℕ, List, Ok, Err, IsOk, IsOkAnd}
 use Rattle.std.specs.List.{AllByRecursion}
 use Rattle.client.specs.Answers.{judged}
 use Rattle.client.specs.declared.fault.ClientFault.TheVariants.{Refused}
@@ -11,9 +10,10 @@ use Rattle.wire.specs.declared.frame.What.TheVariants as what
 use Rattle.wire.specs.declared.values.ClientRefusal.TheVariants.{Busy}
 use Rattle.wire.specs.declared.values.CommandState.TheVariants.{Done, Unknown}
 use Rattle.wire.specs.declared.values.Version.TheVariants.{One}
+pub use Rattle.batch.specs.Dialing.{Adds, Asked, Asks, Told, asked_so, told}
 use Rattle.batch.specs.declared.asking.Receiver.{Receiver}
 use Rattle.batch.specs.declared.fault.BatchFault.{BatchFault}
-use Rattle.batch.specs.declared.fault.BatchFault.TheVariants.{Asking, CannotConnect, NoMemory}
+use Rattle.batch.specs.declared.fault.BatchFault.TheVariants.{Asking, CannotConnect, Late, NoMemory}
 
 -- a request goes from a client, which is 0, to the desk, in version 1
 abbrev pub request_to : Receiver → What → Frame
@@ -44,36 +44,18 @@ IsDecided answer = (id pos : ℕ) × (said : _) × (answer ≡ what.Told id (Don
 abbrev pub IsUnknown : What → Type 0
 IsUnknown answer = (id : ℕ) × (answer ≡ what.Told id Unknown)
 
--- the faults of a request over a connection: nobody is reached, there is no answer or the desk
--- refuses, or there is no memory
+-- the faults of a request over a connection: nobody is reached, there is no answer, or none in
+-- time, or the desk refuses, or there is no memory
 abbrev pub IsOfAsking : BatchFault → Type 0
 IsOfAsking CannotConnect = Unit {0}
 IsOfAsking (Asking f) = Unit {0}
+IsOfAsking Late = Unit {0}
 IsOfAsking NoMemory = Unit {0}
 IsOfAsking _ = ⊥
 
 -- it says neither
 abbrev pub IsPending : What → Type 0
 IsPending answer = (¬ IsDecided answer) × (¬ IsUnknown answer)
-
--- a request, and what came of it
-pub record Asked : Type 0 where
-  pub request : Frame
-  pub answer : Result What BatchFault
-
-abbrev pub asked_so : Frame → Result What BatchFault → Asked
-asked_so request answer = record { request = request; answer = answer }
-
--- what was asked grows by these, in order, where it is told; who tells may stop, and never begins
-abbrev pub Adds : Option (List Asked) → Option (List Asked) → List Asked → Type 0
-Adds None None more = ⊤
-Adds (Some xs) None more = ⊤
-Adds None (Some ys) more = ⊥
-Adds (Some xs) (Some ys) more = ys ≡ xs ++ more
-
--- what was asked grows by requests of which this is said
-abbrev pub Asks : Option (List Asked) → Option (List Asked) → (List Asked → Type 0) → Type 0
-Asks old new Is = (more : List Asked) × Adds old new more × Is more
 
 -- the desk was ticked, and answered that
 abbrev pub IsTicked : Receiver → Asked → Type 0
@@ -150,12 +132,3 @@ AreOf r id text = AllByRecursion (IsOneOf r (submit_of r id text) (ask_of r id))
 -- no answer to the request for the id says that the desk knows nothing of it
 abbrev pub AreKnown : Receiver → ℕ → List Asked → Type 0
 AreKnown r id = AllByRecursion (IsKnown (ask_of r id))
-
--- what was asked before and afterwards, where it is told
-pub record Told : Type 0 where
-  pub old : Option (List Asked)
-  pub new : Option (List Asked)
-
--- by what desks were asked: of this desk, before and after
-abbrev pub told : {A : Type 0} → (A → Option (List Asked)) → (before after : A) → Told
-told asked before after = record { old = asked before; new = asked after }

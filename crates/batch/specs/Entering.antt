@@ -162,6 +162,7 @@ IsLost r id text asked =
 abbrev pub IsOther : BatchFault → Type 0
 IsOther fault.CannotConnect = ⊥
 IsOther (fault.Asking e) = ⊥
+IsOther fault.Late = ⊥
 IsOther fault.StillPending = ⊥
 IsOther fault.Lost = ⊥
 IsOther _ = Unit {0}
@@ -185,7 +186,7 @@ pub record EntersLine (b : Batch) (id : ℕ) (line : List ℕ) (t : Told) (old n
     : Type 0 where
   pub last : What
   pub entered : IsEntered b.waits b.receiver id line last
-  pub asked : Asks t.old t.new (EnteredBy b.waits b.receiver id line last)
+  pub asked : Asks t.place t.old t.new (EnteredBy b.waits b.receiver id line last)
   pub written : Appends old new (reply_text last)
 
 -- the line was not entered with the id, or not told, and of what is printed of it a front part may
@@ -200,7 +201,7 @@ pub record FailsLine (Fails : BatchFault → Type 0) (f : BatchFault) (b : Batch
 pub record AsksAll (b : Batch) (s : Sides) (t : Told) : Type 0 where
   pub enters : EntersAll b s
   pub asked : List Asked
-  pub told : Adds t.old t.new asked
+  pub told : Adds t.place t.old t.new asked
   pub each : SaidBy b b.first_id (lines_of enters.input) enters.said asked
 
 -- So were the lines of the front part. What was asked after them was for the next line, with the
@@ -210,7 +211,7 @@ pub record AsksSome (Fails : BatchFault → Type 0) (f : BatchFault) (b : Batch)
   pub stops : StopsBy Fails f b s
   pub asked : List Asked
   pub behind : List Asked
-  pub told : Adds t.old t.new (asked ++ behind)
+  pub told : Adds t.place t.old t.new (asked ++ behind)
   pub each : SaidBy b b.first_id (lines_of stops.enters.front) stops.enters.said asked
   pub next : ((behind ≡ []) × EndsReading f stops.enters.front s) ⊎ ((line : List ℕ)
       × IsNext stops.enters.front stops.enters.rest line s.had

@@ -1,3 +1,4 @@
 pub mod Asking
+pub mod Dialing
 pub mod Entering
 pub mod model

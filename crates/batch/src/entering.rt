@@ -6,6 +6,7 @@ ghost use Rattle.wire.specs.Ranges.{IsDesk, IsEntry, IsFrame, IsId};
 ghost use Rattle.batch.specs.Asking.{Adds, Asks, IsAnswer, IsAwaited, IsDecided, IsPending};
 ghost use Rattle.batch.specs.Asking.{IsTaken, IsTakenOf, IsUnknown, ask_of, asked_so, submit_of};
 ghost use Rattle.batch.specs.Asking.{tick_of};
+ghost use Rattle.batch.specs.Dialing.{place_of};
 ghost use Rattle.batch.specs.Entering.{EnteredBy, Hinders, IsEntered, IsOther, StopsAsking};
 ghost use Rattle.batch.specs.declared.asking.Receiver.{Receiver as Desk};
 ghost use Rattle.batch.specs.model.Trying.{AreTicks, EndsWaiting, IsTurnedOff, IsUndecided};
@@ -13,6 +14,7 @@ ghost use Rattle.batch.specs.model.Trying.{StopsTaking};
 ghost use Rattle.batch.specs.declared.entering.Fate.TheVariants as fate;
 
 use crate::asking::{Ask, Receiver, request_to};
+use crate::dialing::Contact;
 use crate::fault::BatchFault;
 use acceptor::entry::{Entry, EntryFault};
 use client::ClientFault;
@@ -32,22 +34,25 @@ const GREATEST: u64 = 9_223_372_036_854_775_807;
 fn rest_behind<A: Ask>(
     alloc: Global,
     desk: &mut A,
+    contact: Contact<'_>,
     receiver: Receiver,
     tries: u32,
 ) -> Result<(), BatchFault>
     requires { IsDesk receiver.desk }
     ensures ok { OnOk result
-        (Asks (A.asked desk.old) (A.asked desk.new) (AreTicks receiver tries)) }
-    ensures err { IfErr result (λ f. Adds (A.asked desk.old) (A.asked desk.new)
+        (Asks (place_of contact.entry) (A.asked desk.old) (A.asked desk.new)
+        (AreTicks receiver tries)) }
+    ensures err { IfErr result (λ f. Adds (place_of contact.entry) (A.asked desk.old)
+        (A.asked desk.new)
         (asked_so (tick_of receiver) (Err f) ∷ [])) }
     ensures fails { IfErr result A.fails }
 {
-    desk.rest(tries);
+    desk.rest(contact, tries);
     if tries % TRIES_TO_TICK < TRIES_TO_TICK - 1 {
         return Ok(());
     }
     let tick = request_to(receiver, What::Tick);
-    desk.ask(alloc, &tick)?;
+    desk.ask(alloc, contact, &tick)?;
     Ok(())
 }
 
@@ -68,20 +73,23 @@ fn is_busy(fault: BatchFault) -> bool
 fn asked_until_taken<A: Ask>(
     alloc: Global,
     desk: &mut A,
+    contact: Contact<'_>,
     receiver: Receiver,
     submit: &Frame,
 ) -> Result<What, BatchFault>
     requires desk { IsDesk receiver.desk }
     requires spelled { IsFrame submit.now }
     ensures answer { IfOk result (λ answer. IsAnswer submit.now answer) }
-    ensures ok { IfOk result (λ answer. Asks (A.asked desk.old) (A.asked desk.new)
+    ensures ok { IfOk result (λ answer. Asks (place_of contact.entry) (A.asked desk.old)
+        (A.asked desk.new)
         (IsTakenOf receiver submit.now answer)) }
-    ensures err { IfErr result (λ f. Asks (A.asked desk.old) (A.asked desk.new)
+    ensures err { IfErr result (λ f. Asks (place_of contact.entry) (A.asked desk.old)
+        (A.asked desk.new)
         (IsTurnedOff f receiver submit.now)) }
     ensures fails { IfErr result A.fails }
 {
     for tries in 0..MOST_TRIES {
-        match desk.ask(alloc, submit) {
+        match desk.ask(alloc, contact, submit) {
             Ok(answer) => return Ok(answer),
             Err(fault) => {
                 if !is_busy(fault) {
@@ -89,9 +97,9 @@ fn asked_until_taken<A: Ask>(
                 }
             }
         }
-        rest_behind(alloc, desk, receiver, tries)?;
+        rest_behind(alloc, desk, contact, receiver, tries)?;
     }
-    desk.ask(alloc, submit)
+    desk.ask(alloc, contact, submit)
 }
 
 /// The entry, whose id and text are in their ranges: the contracts of the two calls say so.
@@ -124,22 +132,25 @@ fn entry_of(alloc: Global, id: u64, text: &[u8]) -> Result<Entry, BatchFault>
 fn submitted<A: Ask>(
     alloc: Global,
     desk: &mut A,
+    contact: Contact<'_>,
     receiver: Receiver,
     id: u64,
     text: &[u8],
 ) -> Result<What, BatchFault>
     requires { IsDesk receiver.desk }
     ensures answer { IfOk result (λ answer. IsAnswer (submit_of receiver id text.now) answer) }
-    ensures ok { IfOk result (λ answer. Asks (A.asked desk.old) (A.asked desk.new)
+    ensures ok { IfOk result (λ answer. Asks (place_of contact.entry) (A.asked desk.old)
+        (A.asked desk.new)
         (IsTaken receiver id text.now answer)) }
-    ensures err { IfErr result (λ f. Asks (A.asked desk.old) (A.asked desk.new)
+    ensures err { IfErr result (λ f. Asks (place_of contact.entry) (A.asked desk.old)
+        (A.asked desk.new)
         (StopsTaking f receiver id text.now)) }
     ensures cause { IfErr result
         (λ f. A.fails f ⊎ ((waits : Bool) (r : Desk) → Hinders f waits r id text.now)) }
 {
     let entry = entry_of(alloc, id, text)?;
     let submit = request_to(receiver, What::Submit { entry });
-    asked_until_taken(alloc, desk, receiver, &submit)
+    asked_until_taken(alloc, desk, contact, receiver, &submit)
 }
 
 /// What an answer says of a command.
@@ -172,27 +183,30 @@ fn fate_of(told: &What) -> Fate
 fn decided<A: Ask>(
     alloc: Global,
     desk: &mut A,
+    contact: Contact<'_>,
     receiver: Receiver,
     id: u64,
 ) -> Result<What, BatchFault>
     requires desk { IsDesk receiver.desk }
     requires id { IsId id }
     ensures answer { IfOk result (λ told. IsAnswer (ask_of receiver id) told × IsDecided told) }
-    ensures ok { IfOk result (λ told. Asks (A.asked desk.old) (A.asked desk.new)
+    ensures ok { IfOk result (λ told. Asks (place_of contact.entry) (A.asked desk.old)
+        (A.asked desk.new)
         (IsAwaited receiver id told)) }
-    ensures err { IfErr result (λ f. Asks (A.asked desk.old) (A.asked desk.new)
+    ensures err { IfErr result (λ f. Asks (place_of contact.entry) (A.asked desk.old)
+        (A.asked desk.new)
         (EndsWaiting f receiver id)) }
     ensures cause { IfErr result (λ f. A.fails f ⊎ IsUndecided f receiver id) }
 {
     let ask = request_to(receiver, What::Ask { id });
     for tries in 0..MOST_TRIES {
-        let told = desk.ask(alloc, &ask)?;
+        let told = desk.ask(alloc, contact, &ask)?;
         match fate_of(&told) {
             Fate::Decided => return Ok(told),
             Fate::Unknown => return Err(BatchFault::Lost),
             Fate::Waits => {}
         }
-        rest_behind(alloc, desk, receiver, tries)?;
+        rest_behind(alloc, desk, contact, receiver, tries)?;
     }
     Err(BatchFault::StillPending)
 }
@@ -202,6 +216,7 @@ fn decided<A: Ask>(
 pub(crate) fn entered<A: Ask>(
     alloc: Global,
     desk: &mut A,
+    contact: Contact<'_>,
     receiver: Receiver,
     waits: bool,
     id: u64,
@@ -209,18 +224,20 @@ pub(crate) fn entered<A: Ask>(
 ) -> Result<What, BatchFault>
     requires { IsDesk receiver.desk }
     ensures answer { IfOk result (λ last. IsEntered waits receiver id text.now last) }
-    ensures ok { IfOk result (λ last. Asks (A.asked desk.old) (A.asked desk.new)
+    ensures ok { IfOk result (λ last. Asks (place_of contact.entry) (A.asked desk.old)
+        (A.asked desk.new)
         (EnteredBy waits receiver id text.now last)) }
-    ensures err { IfErr result (λ f. Asks (A.asked desk.old) (A.asked desk.new)
+    ensures err { IfErr result (λ f. Asks (place_of contact.entry) (A.asked desk.old)
+        (A.asked desk.new)
         (StopsAsking f receiver id text.now)) }
     ensures cause { IfErr result (λ f. A.fails f ⊎ Hinders f waits receiver id text.now) }
 {
     if id == 0 || id > GREATEST {
         return Err(BatchFault::NoMoreIds);
     }
-    let taken = submitted(alloc, desk, receiver, id, text)?;
+    let taken = submitted(alloc, desk, contact, receiver, id, text)?;
     if !waits {
         return Ok(taken);
     }
-    decided(alloc, desk, receiver, id)
+    decided(alloc, desk, contact, receiver, id)
 }

@@ -22,6 +22,9 @@ pub enum BatchFault {
     /// The desk has no answer, or refuses.
     #[error("{0}")]
     Asking(ClientFault),
+    /// The desk was waited for as long as is wanted, and there is no answer.
+    #[error("no answer in time")]
+    Late,
     /// The desk took the command and did not decide it.
     #[error("still pending")]
     StillPending,

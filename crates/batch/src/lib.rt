@@ -1,4 +1,5 @@
-//! Many commands entered at a desk, one a line, each over a connection of its own.
+//! Requests to a desk, each over a connection of its own, and many commands entered at one, a line
+//! each.
 #![tactic(auto)]
 
 mod asking;
@@ -7,7 +8,7 @@ mod entering;
 mod fault;
 mod lines_entered;
 
-pub use asking::{Ask, Receiver};
-pub use dialing::Dial;
+pub use asking::{Ask, Receiver, ask_over};
+pub use dialing::{Contact, Dial};
 pub use fault::BatchFault;
 pub use lines_entered::{Batch, enter_lines, enter_lines_by};

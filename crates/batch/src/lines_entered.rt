@@ -5,12 +5,13 @@ ghost use Rattle.wire.specs.Ranges.{IsDesk};
 ghost use Rattle.std.specs.Io.KnownBytes.{Appends};
 ghost use Rattle.lines.specs.Bytes.{AppendsPart, sides};
 ghost use Rattle.client.specs.Printing.{reply_text};
-ghost use Rattle.batch.specs.Asking.{Asks, IsOfAsking, told};
+ghost use Rattle.batch.specs.Asking.{IsOfAsking};
+ghost use Rattle.batch.specs.Dialing.{Asks, place_of, told};
 ghost use Rattle.batch.specs.Entering.{AsksAll, AsksSome, EntersAll, EntersLine, EntersSome};
 ghost use Rattle.batch.specs.Entering.{FailsLine, IsOfPrinting, StopsAsking, StopsBy};
 
-use crate::asking::{Ask, Dialing, Receiver};
-use crate::dialing::Dial;
+use crate::asking::{Ask, Receiver};
+use crate::dialing::{Contact, Dial};
 use crate::entering::entered;
 use crate::fault::BatchFault;
 use client::reply_text;
@@ -51,6 +52,7 @@ fn print_answer<W: Write>(alloc: Global, writer: &mut W, answer: What) -> Result
 fn enter_line<A: Ask, W: Write>(
     alloc: Global,
     desk: &mut A,
+    contact: Contact<'_>,
     batch: Batch,
     number: u32,
     line: &[u8],
@@ -58,16 +60,18 @@ fn enter_line<A: Ask, W: Write>(
 ) -> Result<(), BatchFault>
     requires { IsDesk batch.receiver.desk }
     ensures ok { OnOk result (EntersLine batch (batch.first_id + number) line.now
-        (told A.asked desk.old desk.new) (W.contents writer.old) (W.contents writer.new)) }
+        (told contact.entry A.asked desk.old desk.new) (W.contents writer.old)
+        (W.contents writer.new)) }
     ensures err { IfErr result (λ f. FailsLine A.fails f batch (batch.first_id + number) line.now
         (W.contents writer.old) (W.contents writer.new)) }
-    ensures asked { IfErr result (λ f. Asks (A.asked desk.old) (A.asked desk.new)
+    ensures asked { IfErr result (λ f. Asks (place_of contact.entry) (A.asked desk.old)
+        (A.asked desk.new)
         (StopsAsking f batch.receiver (batch.first_id + number) line.now)) }
 {
     let Some(id) = batch.first_id.checked_add(u64::from(number)) else {
         return Err(BatchFault::NoMoreIds);
     };
-    let answer = entered(alloc, desk, batch.receiver, batch.waits, id, line)?;
+    let answer = entered(alloc, desk, contact, batch.receiver, batch.waits, id, line)?;
     print_answer(alloc, writer, answer)
 }
 
@@ -75,6 +79,7 @@ fn enter_line<A: Ask, W: Write>(
 pub fn enter_lines_by<A: Ask, R: Read, W: Write>(
     alloc: Global,
     desk: &mut A,
+    contact: Contact<'_>,
     batch: Batch,
     reader: &mut R,
     writer: &mut W,
@@ -82,10 +87,10 @@ pub fn enter_lines_by<A: Ask, R: Read, W: Write>(
     requires { IsDesk batch.receiver.desk }
     ensures ok { OnOk result (AsksAll batch
         (sides R.remaining W.contents reader.old reader.new writer.old writer.new)
-        (told A.asked desk.old desk.new)) }
+        (told contact.entry A.asked desk.old desk.new)) }
     ensures err { IfErr result (λ f. AsksSome A.fails f batch
         (sides R.remaining W.contents reader.old reader.new writer.old writer.new)
-        (told A.asked desk.old desk.new)) }
+        (told contact.entry A.asked desk.old desk.new)) }
 {
     let mut lines = LineReader::new();
     let mut line = Vec::new(alloc);
@@ -93,7 +98,7 @@ pub fn enter_lines_by<A: Ask, R: Read, W: Write>(
         let number = lines.count();
         match lines.read_line(reader, &mut line) {
             Ok(true) => {
-                enter_line(alloc, desk, batch, number, &line, writer)?;
+                enter_line(alloc, desk, contact, batch, number, &line, writer)?;
             }
             Ok(false) => return Ok(()),
             Err(RunFault::NoMemory) => return Err(BatchFault::NoMemory),
@@ -119,6 +124,7 @@ pub fn enter_lines_by<A: Ask, R: Read, W: Write>(
 pub fn enter_lines<D: Dial, R: Read, W: Write>(
     alloc: Global,
     dial: &mut D,
+    contact: Contact<'_>,
     batch: Batch,
     reader: &mut R,
     writer: &mut W,
@@ -130,7 +136,12 @@ pub fn enter_lines<D: Dial, R: Read, W: Write>(
         (sides R.remaining W.contents reader.old reader.new writer.old writer.new)) }
     ensures cause { IfErr result (λ f. StopsBy IsOfAsking f batch
         (sides R.remaining W.contents reader.old reader.new writer.old writer.new)) }
+    ensures asked { OnOk result (AsksAll batch
+        (sides R.remaining W.contents reader.old reader.new writer.old writer.new)
+        (told contact.entry D.dialed dial.old dial.new)) }
+    ensures asked_so_far { IfErr result (λ f. AsksSome IsOfAsking f batch
+        (sides R.remaining W.contents reader.old reader.new writer.old writer.new)
+        (told contact.entry D.dialed dial.old dial.new)) }
 {
-    let mut desk = Dialing { dial };
-    enter_lines_by(alloc, &mut desk, batch, reader, writer)
+    enter_lines_by(alloc, dial, contact, batch, reader, writer)
 }

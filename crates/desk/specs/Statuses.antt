@@ -8,7 +8,9 @@ use Rattle.lines.specs.declared.fault.RunFault.TheVariants as run
 use Rattle.replay.specs.Replay.{run_of}
 use Rattle.hall.specs.Halls.{Run as HallRun, Runs, RunFails}
 use Rattle.hall.specs.Halls.{run_of as hall_run_of}
-use Rattle.batch.specs.Entering.{EntersAll}
+use Rattle.batch.specs.Dialing.{Dialed, Told, place_of}
+use Rattle.batch.specs.Entering.{AsksAll}
+use Rattle.batch.specs.declared.dialing.Contact.{Contact}
 use Rattle.batch.specs.declared.lines_entered.Batch.{Batch}
 use Rattle.wire.specs.Ranges.{IsDesk}
 use Rattle.stored_log.specs.StoredLogs.{PrintsLog, PrintsLogPart}
@@ -60,11 +62,23 @@ EndsLog status old new =
     ((status ≡ 0) × PrintsLog old new)
     ⊎ ((e : LogFault) × (status ≡ status_of (fault_of_log e)) × PrintsAtMost e old new)
 
+-- what became of connections to desks before a run and afterwards, where that is told
+pub record Calls : Type 0 where
+  pub old : Option (List Dialed)
+  pub new : Option (List Dialed)
+
+abbrev pub calls : {D : Type 0} → (D → Option (List Dialed)) → (before after : D) → Calls
+calls dialed before after = record { old = dialed before; new = dialed after }
+
+-- those to this place
+abbrev pub calls_to : Contact → Calls → Told
+calls_to contact c = record { place = place_of contact; old = c.old; new = c.new }
+
 -- all lines were entered, or not
-abbrev pub EndsLines : ℕ → Batch → Sides → Type 0
-EndsLines status b s =
-    ((status ≡ 0) × IsDesk b.receiver.desk × EntersAll b s)
-    ⊎ ((f : DeskFault) × (status ≡ status_of f) × FailsLines f b s)
+abbrev pub EndsLines : ℕ → Contact → Batch → Sides → Calls → Type 0
+EndsLines status contact b s c =
+    ((status ≡ 0) × IsDesk b.receiver.desk × AsksAll b s (calls_to contact c))
+    ⊎ ((f : DeskFault) × (status ≡ status_of f) × FailsLines f b s (calls_to contact c))
 
 -- a script was run to its end, or to a fault
 abbrev pub EndsHall : ℕ → HallRun → Type 0
@@ -73,10 +87,11 @@ EndsHall status r =
     ⊎ ((e : RunFault) × (status ≡ status_of_run e) × RunFails e r)
 
 -- a desk was asked and its answer printed, or that failed
-abbrev pub EndsErrand : ℕ → Errand → Option (List ℕ) → Option (List ℕ) → Type 0
-EndsErrand status e old new =
-    ((status ≡ 0) × DoesErrand e old new)
-    ⊎ ((f : DeskFault) × (status ≡ status_of f) × FailsErrand f e old new)
+abbrev pub EndsErrand : ℕ → Errand → Calls → Option (List ℕ) → Option (List ℕ) → Type 0
+EndsErrand status e c old new =
+    ((status ≡ 0) × DoesErrand e (calls_to e.contact c) old new)
+    ⊎ ((f : DeskFault) × (status ≡ status_of f)
+    × FailsErrand f e (calls_to e.contact c) old new)
 
 -- a desk served and printed both lines, or it ended by a fault
 abbrev pub EndsServe : ℕ → Service → Option (List ℕ) → Option (List ℕ) → Type 0
@@ -84,21 +99,22 @@ EndsServe status s old new =
     ((status ≡ 0) × Prints s (output old new))
     ⊎ ((e : ServeFault) × (status ≡ status_of (fault_of_serve e)) × PrintsAt e s (output old new))
 
--- how a task ended: by a status, with what was read and written
-abbrev pub Ends : Task → ℕ → Sides → Type 0
-Ends (task.Replay event round style) status s =
+-- how a task ended: by a status, with what was read and written, and what became of connections
+abbrev pub Ends : Task → ℕ → Sides → Calls → Type 0
+Ends (task.Replay event round style) status s c =
     (input : List ℕ) × HasLeft s.had input
     × EndsReplay status (run_of style event round input s)
-Ends (task.Hall desks) status s =
+Ends (task.Hall desks) status s c =
     (input : List ℕ) × HasLeft s.had input
     × EndsHall status (hall_run_of desks input s)
-Ends (task.Carry errand) status s = Keeps s.had s.left × EndsErrand status errand s.old s.new
-Ends (task.EnterLines to batch) status s = EndsLines status batch s
-Ends (task.Log store) status s = Keeps s.had s.left × EndsLog status s.old s.new
-Ends (task.Serve service) status s = Keeps s.had s.left × EndsServe status service s.old s.new
+Ends (task.Carry errand) status s c =
+    Keeps s.had s.left × EndsErrand status errand c s.old s.new
+Ends (task.EnterLines contact batch) status s c = EndsLines status contact batch s c
+Ends (task.Log store) status s c = Keeps s.had s.left × EndsLog status s.old s.new
+Ends (task.Serve service) status s c = Keeps s.had s.left × EndsServe status service s.old s.new
 
 -- what a status says of the arguments, and of what was read and written
-abbrev pub Ran : List Text → ℕ → Sides → Type 0
-Ran given status s =
-    ((t : Task) × Asks given t × Ends t status s)
+abbrev pub Ran : List Text → ℕ → Sides → Calls → Type 0
+Ran given status s c =
+    ((t : Task) × Asks given t × Ends t status s c)
     ⊎ (Keeps s.had s.left × RunsNothing status s.old s.new)

@@ -4,6 +4,7 @@
 mod running;
 
 use command_line::given;
+use errands::Sockets;
 use fault_lines::tell_no_arguments;
 use running::run_given;
 use std::process::ExitCode;
@@ -12,8 +13,9 @@ fn main(rt: HostRuntime) -> ExitCode {
     let mut input = rt.stdin();
     let mut output = rt.stdout();
     let mut faults = rt.stderr();
+    let mut dial = Sockets::new(&rt);
     let status = match given(&rt) {
-        Ok(texts) => run_given(&rt, &texts, &mut input, &mut output, &mut faults),
+        Ok(texts) => run_given(&rt, &mut dial, &texts, &mut input, &mut output, &mut faults),
         Err(error) => tell_no_arguments(&error, &mut faults),
     };
     ExitCode::from(status)

@@ -4,12 +4,13 @@ ghost use Rattle.std.specs.Prelude.{◌≡◌, map, string_bytes};
 ghost use Rattle.std.specs.Io.KnownBytes.{Keeps};
 ghost use Rattle.arguments.specs.Asking.{HasIds};
 ghost use Rattle.command_line.specs.Arguments.{argument_texts};
-ghost use Rattle.desk.specs.Statuses.{Ends, Ran, fault_of_log, fault_of_serve};
+ghost use Rattle.desk.specs.Statuses.{Ends, Ran, calls, fault_of_log, fault_of_serve};
 ghost use Rattle.lines.specs.Bytes.{sides};
 
 use arguments::{Task, parse, task_of};
+use batch::Dial;
 use command_line::borrowed;
-use errands::{DeskFault, carry, enter_all, tell};
+use errands::{DeskFault, carry, enter_all, tell, tell_asking};
 use fault_lines::{tell_bad_number, tell_fault, tell_parse_error, tell_replay, tell_run};
 use hall::hall;
 use lines::RunFault;
@@ -49,8 +50,9 @@ fn fault_of_log(fault: LogFault) -> DeskFault
 }
 
 /// Does what a task asks for, and returns the exit status.
-fn run_task<R: Read, W: Write, F: Write>(
+fn run_task<D: Dial, R: Read, W: Write, F: Write>(
     rt: &HostRuntime,
+    dial: &mut D,
     task: Task<'_>,
     reader: &mut R,
     writer: &mut W,
@@ -58,7 +60,8 @@ fn run_task<R: Read, W: Write, F: Write>(
 ) -> u8
     requires { HasIds task }
     ensures ends { Ends task.entry result
-        (sides R.remaining W.contents reader.old reader.new writer.old writer.new) }
+        (sides R.remaining W.contents reader.old reader.new writer.old writer.new)
+        (calls D.dialed dial.old dial.new) }
     ensures quiet { result ≡ 0 → Keeps (F.contents faults.old) (F.contents faults.new) }
 {
     match task {
@@ -74,14 +77,16 @@ fn run_task<R: Read, W: Write, F: Write>(
             let ran = hall(rt.alloc(), reader, writer, desks);
             tell_run(faults, ran)
         }
-        Task::Carry { errand } => match carry(rt, errand, writer) {
+        Task::Carry { errand } => match carry(rt.alloc(), dial, errand, writer) {
             Ok(()) => 0,
-            Err(fault) => tell(faults, fault),
+            Err(fault) => tell_asking(faults, fault, errand.contact),
         },
-        Task::EnterLines { to, batch } => match enter_all(rt, to, batch, reader, writer) {
-            Ok(()) => 0,
-            Err(fault) => tell(faults, fault),
-        },
+        Task::EnterLines { contact, batch } => {
+            match enter_all(rt.alloc(), dial, contact, batch, reader, writer) {
+                Ok(()) => 0,
+                Err(fault) => tell_asking(faults, fault, contact),
+            }
+        }
         Task::Log { store } => match write_stored_log(rt, store, Unknown, writer) {
             Ok(()) => 0,
             Err(fault) => tell(faults, fault_of_log(fault)),
@@ -100,16 +105,18 @@ fn run_task<R: Read, W: Write, F: Write>(
 /// `faults`, or where they ask for help or the version, with its text on `writer`; 3 for a named
 /// refusal, 4 for a device that failed, 5 for `no memory`. The texts of these three are one line on
 /// `faults`: [`DeskFault`] has them. What each subcommand reads, writes and refuses is said at
-/// [`replay`](replay::replay), [`hall`](hall::hall) and [`carry`].
-pub fn run_arguments<'a, R: Read, W: Write, F: Write>(
+/// [`replay`](replay::replay), [`hall`](hall::hall) and [`carry`]. A desk is asked by `dial`.
+pub fn run_arguments<'a, D: Dial, R: Read, W: Write, F: Write>(
     rt: &HostRuntime,
+    dial: &mut D,
     given: &'a [&'a str],
     reader: &mut R,
     writer: &mut W,
     faults: &mut F,
 ) -> u8
     ensures ran { Ran (argument_texts given.now) result
-        (sides R.remaining W.contents reader.old reader.new writer.old writer.new) }
+        (sides R.remaining W.contents reader.old reader.new writer.old writer.new)
+        (calls D.dialed dial.old dial.new) }
     ensures quiet { result ≡ 0 → Keeps (F.contents faults.old) (F.contents faults.new) }
 {
     let alloc = rt.alloc();
@@ -120,23 +127,25 @@ pub fn run_arguments<'a, R: Read, W: Write, F: Write>(
     let Some(task) = task_of(&matches) else {
         return tell_bad_number(faults);
     };
-    run_task(rt, task, reader, writer, faults)
+    run_task(rt, dial, task, reader, writer, faults)
 }
 
 /// Runs the program on the arguments that it was given: as [`run_arguments`].
-pub fn run_given<R: Read, W: Write, F: Write>(
+pub fn run_given<D: Dial, R: Read, W: Write, F: Write>(
     rt: &HostRuntime,
+    dial: &mut D,
     given: &[String],
     reader: &mut R,
     writer: &mut W,
     faults: &mut F,
 ) -> u8
     ensures ran { Ran (map string_bytes given.now) result
-        (sides R.remaining W.contents reader.old reader.new writer.old writer.new) }
+        (sides R.remaining W.contents reader.old reader.new writer.old writer.new)
+        (calls D.dialed dial.old dial.new) }
     ensures quiet { result ≡ 0 → Keeps (F.contents faults.old) (F.contents faults.new) }
 {
     let Ok(texts) = borrowed(rt.alloc(), given) else {
         return tell_fault(faults, RunFault::NoMemory);
     };
-    run_arguments(rt, &texts, reader, writer, faults)
+    run_arguments(rt, dial, &texts, reader, writer, faults)
 }

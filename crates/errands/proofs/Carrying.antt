@@ -1,17 +1,38 @@
--- A desk's answer to an errand.
-use Rattle.std.proofs.Common.{◌≡◌, List, ℕ, Ok, subst}
-use Rattle.client.specs.Answers.{judged}
-use Rattle.client.specs.Printing.{reply_text}
-use Rattle.wire.specs.Ranges.{IsFrame}
+-- A desk's answer to an errand, or none.
+use Rattle.std.proofs.Common.{◌≡◌, ◌∷◌, [], inl, inr, Ok, Err, subst}
+use Rattle.batch.specs.Asking.{IsAnswer, IsOfAsking}
+use Rattle.batch.specs.Dialing.{Adds, Told, asked_so}
+use Rattle.batch.specs.declared.fault.BatchFault.{BatchFault}
+use Rattle.batch.proofs.Trying.{adds_none}
 use Rattle.wire.specs.declared.frame.Frame.{Frame}
 use Rattle.wire.specs.declared.frame.What.{What}
-use Rattle.errands.specs.Errands.{Answers, frame_of}
+use Rattle.errands.specs.Errands.{GetsAnswer, GetsNone, Hinders, IsAllowed, frame_of}
+use Rattle.errands.specs.Statuses.{fault_of_batch}
+use Rattle.errands.specs.declared.fault.DeskFault.{DeskFault}
 use Rattle.arguments.specs.declared.task.Errand.{Errand}
 
-pub answers_of : (e : Errand) (asked : Frame) (answer : What) (text : List ℕ)
-    → asked ≡ frame_of e
-    → ((given : Frame) × IsFrame given × (judged asked given ≡ Ok answer))
-    → text ≡ reply_text answer → Answers e text
-answers_of e asked answer text is h printed =
-    let P : Frame → Type 0 = λ a. judged a h.0 ≡ Ok answer in
-    (h.0, answer, h.1, subst P is h.2, printed)
+pub gets_answer : (e : Errand) (asked : Frame) (answer : What) (t : Told) → asked ≡ frame_of e
+    → IsAnswer asked answer
+    → Adds t.place t.old t.new (asked_so asked (Ok answer) ∷ []) → GetsAnswer e answer t
+gets_answer e asked answer t is h told = (
+  subst (λ (f : Frame). IsAnswer f answer) is h,
+  subst (λ (f : Frame). Adds t.place t.old t.new (asked_so f (Ok answer) ∷ [])) is told,
+)
+
+-- nothing was asked
+pub refused : (e : Errand) (f : DeskFault) (t : Told) → t.old ≡ t.new → Hinders f e
+    → GetsNone f e t
+refused e f t same h = inl (h, subst (λ a. Adds t.place t.old a []) same (adds_none t.place t.old))
+
+-- the request failed
+pub unanswered : (e : Errand) (asked : Frame) (f : DeskFault) (b : BatchFault) (t : Told)
+    → asked ≡ frame_of e → IsAllowed e → f ≡ fault_of_batch b → IsOfAsking b
+    → Adds t.place t.old t.new (asked_so asked (Err b) ∷ []) → GetsNone f e t
+unanswered e asked f b t is allowed named cause told =
+    inr (
+      allowed,
+      b,
+      named,
+      cause,
+      subst (λ (x : Frame). Adds t.place t.old t.new (asked_so x (Err b) ∷ [])) is told,
+    )

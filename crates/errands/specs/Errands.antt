@@ -1,18 +1,20 @@
 -- The frame of an errand, and how an errand ends.
-use Rattle.std.specs.Prelude.{◌≡◌, ◌⊎◌, ◌≤◌, ℕ, List, length, Option, Ok, Err}
+use Rattle.std.specs.Prelude.{◌≡◌, ◌⊎◌, ◌≤◌, ◌∷◌, [], ℕ, List, length, Option, Result, Ok, Err}
 use Rattle.std.specs.Io.KnownBytes.{Keeps, Appends}
-use Rattle.client.specs.Answers.{judged}
+use Rattle.batch.specs.Asking.{IsAnswer, IsOfAsking}
+use Rattle.batch.specs.Dialing.{Adds, Told, asked_so}
+use Rattle.batch.specs.declared.fault.BatchFault.{BatchFault}
 use Rattle.client.specs.Printing.{reply_text}
 use Rattle.client.specs.Versions.{sheet_version}
-use Rattle.client.specs.declared.fault.ClientFault.TheVariants as client
 use Rattle.lines.specs.Bytes.{AppendsPart}
 use Rattle.lines.specs.declared.fault.RunFault.TheVariants as run
-use Rattle.wire.specs.Ranges.{IsDesk, IsFrame}
+use Rattle.wire.specs.Ranges.{IsDesk}
 use Rattle.wire.specs.declared.values.Version.{Version}
 use Rattle.wire.specs.declared.values.Version.TheVariants.{One}
 use Rattle.wire.specs.declared.frame.Frame.{Frame}
 use Rattle.wire.specs.declared.frame.What.{What}
 use Rattle.wire.specs.declared.frame.What.TheVariants as what
+use Rattle.errands.specs.Statuses.{fault_of_batch}
 use Rattle.errands.specs.declared.fault.DeskFault.{DeskFault}
 use Rattle.errands.specs.declared.fault.DeskFault.TheVariants as fault
 use Rattle.arguments.specs.declared.task.Errand.{Errand}
@@ -53,42 +55,44 @@ IsShort (request.Sheet event round position style) = Unit {0}
 IsShort request.Tick = Unit {0}
 IsShort request.Stop = Unit {0}
 
--- no name refuses the errand, so the connection is opened
+-- no name refuses the errand, so a connection is opened
 abbrev pub IsAllowed : Errand → Type 0
 IsAllowed e = IsDesk e.desk × IsShort e.request
 
--- the desk answered, and this is printed of it
-abbrev pub Answers : Errand → List ℕ → Type 0
-Answers e text =
-    (given : Frame) × (answer : What) × IsFrame given × (judged (frame_of e) given ≡ Ok answer)
-    × (text ≡ reply_text answer)
-
--- Why there is no answer to a frame. What a socket held is known to nobody: that it could not be
--- connected, written or read, or that no answer came, is the system's word.
-abbrev pub FailsTalk : DeskFault → Frame → Type 0
-FailsTalk (fault.Refused refusal) asked =
-    (given : Frame) × IsFrame given × (judged asked given ≡ Err (client.Refused refusal))
-FailsTalk fault.CannotConnect asked = Unit {0}
-FailsTalk fault.NoAnswer asked = Unit {0}
-FailsTalk (fault.Run run.Write) asked = Unit {0}
-FailsTalk (fault.Run run.NoMemory) asked = Unit {0}
-FailsTalk _ asked = ⊥
-
-abbrev pub FailsToConnect : DeskFault → Type 0
-FailsToConnect f = (f ≡ fault.CannotConnect) ⊎ (f ≡ fault.Run run.NoMemory)
-
--- the cause of each fault that stands in front of printing
+-- why an errand is refused before anything is opened
 abbrev pub Hinders : DeskFault → Errand → Type 0
 Hinders fault.BadDesk e = ¬ IsDesk e.desk
 Hinders fault.TextTooLong e = IsDesk e.desk × (¬ IsShort e.request)
 Hinders (fault.Run run.NoMemory) e = Unit {0}
-Hinders f e = IsAllowed e × FailsTalk f (frame_of e)
+Hinders f e = ⊥
 
--- nothing was printed; or the desk had answered, and printing it failed
-abbrev pub FailsErrand : DeskFault → Errand → Option (List ℕ) → Option (List ℕ) → Type 0
-FailsErrand f e old new =
-    (Hinders f e × Keeps old new)
-    ⊎ ((f ≡ fault.Run run.Write) × (text : List ℕ) × Answers e text × AppendsPart old new text)
+-- the desk was asked the errand's frame once, over a connection to the errand's address, or none
+-- could be opened to it, and this came of it; nothing else was asked
+abbrev pub IsAsked : Errand → Result What BatchFault → Told → Type 0
+IsAsked e answer t = Adds t.place t.old t.new (asked_so (frame_of e) answer ∷ [])
 
-abbrev pub DoesErrand : Errand → Option (List ℕ) → Option (List ℕ) → Type 0
-DoesErrand e old new = IsAllowed e × (text : List ℕ) × Answers e text × Appends old new text
+-- this is what the desk answered
+abbrev pub GetsAnswer : Errand → What → Told → Type 0
+GetsAnswer e answer t = IsAnswer (frame_of e) answer × IsAsked e (Ok answer) t
+
+-- there is no answer: the errand is refused and nothing was asked, or the request failed
+abbrev pub GetsNone : DeskFault → Errand → Told → Type 0
+GetsNone f e t =
+    (Hinders f e × Adds t.place t.old t.new [])
+    ⊎ (IsAllowed e × (b : BatchFault) × (f ≡ fault_of_batch b) × IsOfAsking b
+    × IsAsked e (Err b) t)
+
+abbrev pub IsOfPrinting : DeskFault → Type 0
+IsOfPrinting f = (f ≡ fault.Run run.Write) ⊎ (f ≡ fault.Run run.NoMemory)
+
+-- the desk answered, and this is printed of its answer
+abbrev pub DoesErrand : Errand → Told → Option (List ℕ) → Option (List ℕ) → Type 0
+DoesErrand e t old new =
+    IsAllowed e × (answer : What) × GetsAnswer e answer t × Appends old new (reply_text answer)
+
+-- there is no answer, and nothing was printed; or there is one, and printing it failed
+abbrev pub FailsErrand : DeskFault → Errand → Told → Option (List ℕ) → Option (List ℕ) → Type 0
+FailsErrand f e t old new =
+    (GetsNone f e t × Keeps old new)
+    ⊎ (IsOfPrinting f × IsAllowed e × (answer : What) × GetsAnswer e answer t
+    × AppendsPart old new (reply_text answer))

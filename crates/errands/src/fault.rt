@@ -3,7 +3,7 @@
 ghost use Rattle.std.specs.Prelude.{◌≡◌};
 ghost use Rattle.errands.specs.Statuses.{status_of};
 
-use batch::BatchFault;
+use batch::{BatchFault, Contact};
 use client::{ClientFault, refusal_name};
 use fault_lines::status_of_run;
 use lines::RunFault;
@@ -27,6 +27,8 @@ pub enum DeskFault {
     CannotConnect,
     /// The connection ended, a read failed, or the bytes that came are not the answer.
     NoAnswer,
+    /// The desk was waited for as long as is wanted, and there is no answer.
+    Late,
     /// The file is the store of another desk or hall.
     WrongDesk,
     /// The file is not a valid store of a desk.
@@ -74,6 +76,7 @@ impl From<BatchFault> for DeskFault {
             BatchFault::NoMoreIds => DeskFault::NoMoreIds,
             BatchFault::CannotConnect => DeskFault::CannotConnect,
             BatchFault::Asking(fault) => DeskFault::from(fault),
+            BatchFault::Late => DeskFault::Late,
             BatchFault::StillPending => DeskFault::StillPending,
             BatchFault::Lost => DeskFault::Lost,
             BatchFault::Write => DeskFault::Run(RunFault::Write),
@@ -91,6 +94,7 @@ impl fmt::Display for DeskFault {
             DeskFault::Refused { refusal } => write!(f, "refused {}", refusal_name(*refusal)),
             DeskFault::CannotConnect => f.write_str("cannot connect"),
             DeskFault::NoAnswer => f.write_str("no answer"),
+            DeskFault::Late => f.write_str("no answer in time"),
             DeskFault::WrongDesk => f.write_str("wrong desk"),
             DeskFault::DamagedStore => f.write_str("damaged store"),
             DeskFault::StoreDevice => f.write_str("store device"),
@@ -119,6 +123,7 @@ fn status_of(fault: DeskFault) -> u8
         | DeskFault::Lost => 3,
         DeskFault::CannotConnect
         | DeskFault::NoAnswer
+        | DeskFault::Late
         | DeskFault::StoreDevice
         | DeskFault::StoreDown
         | DeskFault::CannotListen => 4,
@@ -132,4 +137,40 @@ pub fn tell<F: Write>(faults: &mut F, fault: DeskFault) -> u8
 {
     let _ = writeln!(faults, "{fault}");
     status_of(fault)
+}
+
+/// What is told of a desk that was waited for in vain.
+#[derive(Drop)]
+struct InVain<'a> {
+    contact: Contact<'a>,
+}
+
+impl fmt::Display for InVain<'_> {
+    ghost use Rattle.std.specs.Prelude.{Some};
+    ghost use Rattle.errands.specs.Statuses.{in_vain_text};
+
+    ghost output = { λ v. Some (in_vain_text v.contact) };
+
+    fn fmt<W: fmt::Write>(&self, f: &mut fmt::Formatter<W>) -> fmt::Result {
+        f.write_str("no answer from ")?;
+        f.write_str(self.contact.address)?;
+        f.write_str(" (waited ")?;
+        self.contact.patience.fmt(f)?;
+        f.write_str(" s)")
+    }
+}
+
+/// As [`tell`], of a fault of a request: where the desk was waited for in vain, the line names its
+/// address and for how many seconds.
+pub fn tell_asking<F: Write>(faults: &mut F, fault: DeskFault, contact: Contact<'_>) -> u8
+    ensures { result ≡ status_of fault }
+{
+    match fault {
+        DeskFault::Late => {
+            let told = InVain { contact };
+            let _ = writeln!(faults, "{told}");
+            status_of(fault)
+        }
+        other => tell(faults, other),
+    }
 }

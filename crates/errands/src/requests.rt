@@ -1,14 +1,12 @@
 //! Errands: one request to a desk, and its answer printed.
 
-ghost use Rattle.std.specs.Prelude.{◌≡◌, ◌⊎◌, ◌<◌, ◌≤◌, length, IfOk, IfErr, Ok, OnOk};
-ghost use Rattle.client.specs.Answers.{judged};
+ghost use Rattle.std.specs.Prelude.{◌≡◌, ◌⊎◌, ◌<◌, ◌≤◌, length, IfOk, IfErr, OnOk};
+ghost use Rattle.batch.specs.Dialing.{told};
 ghost use Rattle.wire.specs.Ranges.{IsBody, IsEntry, IsFrame};
-ghost use Rattle.wire.specs.declared.frame.Frame.{Frame};
 ghost use Rattle.wire.specs.declared.frame.What.TheVariants as what;
 ghost use Rattle.arguments.specs.Asking.{HasId};
-ghost use Rattle.errands.specs.Errands.{Answers, DoesErrand, FailsErrand, FailsTalk};
-ghost use Rattle.errands.specs.Errands.{FailsToConnect, Hinders, IsAllowed, IsShort, frame_of};
-ghost use Rattle.errands.specs.Errands.{version_of, what_of};
+ghost use Rattle.errands.specs.Errands.{DoesErrand, FailsErrand, GetsAnswer, GetsNone, Hinders};
+ghost use Rattle.errands.specs.Errands.{IsAllowed, IsShort, frame_of, version_of, what_of};
 ghost use Rattle.wire.specs.declared.values.Version.TheVariants as version;
 ghost use Rattle.errands.specs.declared.fault.DeskFault.TheVariants as desk_fault;
 ghost use Rattle.lines.specs.declared.fault.RunFault.TheVariants as run_fault;
@@ -16,12 +14,11 @@ ghost use Rattle.lines.specs.declared.fault.RunFault.TheVariants as run_fault;
 use crate::fault::DeskFault;
 use acceptor::entry::Entry;
 use arguments::{Errand, Request};
-use client::{exchange, reply_text, sheet_version};
+use batch::{Dial, ask_over};
+use client::{reply_text, sheet_version};
 use lines::{RunFault, write_text};
 use std::alloc::Global;
-use std::io;
-use std::io::{ErrorKind, Write};
-use std::net::TcpStream;
+use std::io::Write;
 use wire::{Frame, Version, What};
 
 /// The entry, whose id and text are in their ranges.
@@ -119,53 +116,22 @@ pub(crate) fn frame_of(alloc: Global, errand: Errand<'_>) -> Result<Frame, DeskF
     }
 }
 
-/// Why no connection was opened.
-fn no_connection(error: &io::Error) -> DeskFault
-    ensures { FailsToConnect result }
-{
-    if error.kind() == ErrorKind::OutOfMemory {
-        return DeskFault::Run(RunFault::NoMemory);
-    }
-    DeskFault::CannotConnect
-}
-
-/// Opens a connection to an address, writes a request, and reads the answer.
-fn talk(rt: &HostRuntime, asked: &Frame, to: &str) -> Result<What, DeskFault>
-    requires { IsFrame asked.now }
-    ensures ok { IfOk result (λ answer. (given : Frame) × IsFrame given
-        × (judged asked.now given ≡ Ok answer)) }
-    ensures err { IfErr result (λ f. FailsTalk f asked.now) }
-{
-    let stream = match TcpStream::connect(rt, to) {
-        Ok(stream) => stream,
-        Err(error) => return Err(no_connection(&error)),
-    };
-    // where it is refused, the request is only slower
-    let _ = stream.set_nodelay(true);
-    match exchange(rt.alloc(), asked, &mut &stream, &mut &stream) {
-        Ok(answer) => Ok(answer),
-        Err(fault) => Err(DeskFault::from(fault)),
-    }
-}
-
-/// What is printed of a desk's answer to an errand.
-fn answer_text(rt: &HostRuntime, errand: Errand<'_>) -> Result<Vec<u8>, DeskFault>
+/// Asks a desk once, and gives its answer.
+fn answered<D: Dial>(alloc: Global, dial: &mut D, errand: Errand<'_>) -> Result<What, DeskFault>
     requires { HasId errand.request }
-    ensures ok { IfOk result (λ text. Answers errand.entry text.items) }
+    ensures ok { IfOk result (λ answer. GetsAnswer errand.entry answer
+        (told errand.entry.contact D.dialed dial.old dial.new)) }
     ensures allowed { OnOk result (IsAllowed errand.entry) }
-    ensures err { IfErr result (λ f. Hinders f errand.entry) }
+    ensures err { IfErr result (λ f. GetsNone f errand.entry
+        (told errand.entry.contact D.dialed dial.old dial.new)) }
 {
-    let asked = match frame_of(rt.alloc(), errand) {
+    let asked = match frame_of(alloc, errand) {
         Ok(asked) => asked,
         Err(fault) => return Err(fault),
     };
-    let answer = match talk(rt, &asked, errand.to) {
-        Ok(answer) => answer,
-        Err(fault) => return Err(fault),
-    };
-    match reply_text(rt.alloc(), answer) {
-        Ok(text) => Ok(text),
-        Err(_) => Err(DeskFault::Run(RunFault::NoMemory)),
+    match ask_over(alloc, dial, errand.contact, &asked) {
+        Ok(answer) => Ok(answer),
+        Err(fault) => Err(DeskFault::from(fault)),
     }
 }
 
@@ -175,22 +141,29 @@ fn answer_text(rt: &HostRuntime, errand: Errand<'_>) -> Result<Vec<u8>, DeskFaul
 ///
 /// - `BadDesk` and `TextTooLong`, in this order, before anything is opened.
 /// - `CannotConnect` where the connection to the address is not accepted.
-/// - `Refused` where the desk refuses, `NoAnswer` where no answer comes, `Write` where the request
-///   or the answer cannot be written, `NoMemory` where memory runs out.
-pub fn carry<W: Write>(
-    rt: &HostRuntime,
+/// - `Refused` where the desk refuses, `NoAnswer` where no answer comes, `Late` where none comes as
+///   long as the desk is waited for, `Write` where the request or the answer cannot be written,
+///   `NoMemory` where memory runs out.
+pub fn carry<D: Dial, W: Write>(
+    alloc: Global,
+    dial: &mut D,
     errand: Errand<'_>,
     writer: &mut W,
 ) -> Result<(), DeskFault>
     requires { HasId errand.request }
-    ensures ok { OnOk result
-        (DoesErrand errand.entry (W.contents writer.old) (W.contents writer.new)) }
-    ensures err { IfErr result
-        (λ f. FailsErrand f errand.entry (W.contents writer.old) (W.contents writer.new)) }
+    ensures ok { OnOk result (DoesErrand errand.entry
+        (told errand.entry.contact D.dialed dial.old dial.new)
+        (W.contents writer.old) (W.contents writer.new)) }
+    ensures err { IfErr result (λ f. FailsErrand f errand.entry
+        (told errand.entry.contact D.dialed dial.old dial.new)
+        (W.contents writer.old) (W.contents writer.new)) }
 {
-    let text = match answer_text(rt, errand) {
-        Ok(text) => text,
+    let answer = match answered(alloc, dial, errand) {
+        Ok(answer) => answer,
         Err(fault) => return Err(fault),
+    };
+    let Ok(text) = reply_text(alloc, answer) else {
+        return Err(DeskFault::Run(RunFault::NoMemory));
     };
     match write_text(writer, &text) {
         Ok(()) => Ok(()),

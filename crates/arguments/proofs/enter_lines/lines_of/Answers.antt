@@ -16,7 +16,7 @@ returns c =
         desk =
             renumbered (codes "desk") rows c.in_ok-desk.desk _ c.in_ok-desk.ensures
             c.in_ok-number_at-2.ensures;
-        address = c.in_ok-to.ensures;
+        contact = c.in_ok-contact.ensures;
         first_id = c.in_ok-first_id.ensures;
         waits = λ is. c.get_flag-waits.ensures.value (one_text-rows f (codes "wait") ∙ is);
         goes_on = λ is. c.get_flag-waits.ensures.other (one_text-rows f (codes "wait") ∙ is);

@@ -13,6 +13,6 @@ returns c =
       desk =
           renumbered (codes "desk") rows c.in_ok-desk.desk _ c.in_ok-desk.ensures
           c.in_ok-number_at-2.ensures;
-      address = c.in_ok-to.ensures;
+      contact = c.in_ok-contact.ensures;
       request = c.in_ok-request.ensures;
     }

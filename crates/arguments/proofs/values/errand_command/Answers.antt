@@ -16,7 +16,10 @@ returns c =
     (c.option-desk.ensures.rule
     ∙ ap (λ p. option_rule (codes "desk") (Some p)) c.unsigned-2.ensures)
     c.in_ok-command-2.ensures.app c.in_ok-command-2.ensures.local in
-    added_last c.with_argument-3.result c.in_ok-command-2.command _ c.option-to.result _ two
+    let three =
+    added c.in_ok-command-2.command c.in_ok-command-3.command _ c.option-to.result _ two
     (c.option-to.ensures.rule
     ∙ ap (λ p. option_rule (codes "to") (Some p)) c.string.ensures)
-    c.with_argument-3.ensures.app c.with_argument-3.ensures.local
+    c.in_ok-command-3.ensures.app c.in_ok-command-3.ensures.local in
+    added_last c.with_argument-4.result c.in_ok-command-3.command _ c.wait_option.result _ three
+    c.wait_option.ensures.rule c.with_argument-4.ensures.app c.with_argument-4.ensures.local

@@ -1,9 +1,10 @@
 use Rattle.std.proofs.Common.{◌/◌}
+use Rattle.batch.specs.Dialing.{place_of}
 use Rattle.batch.specs.Asking.{Asks, Counts, IsFull, IsTicked}
 use Rattle.batch.proofs.entering.asked_until_taken.Given as goal
 
 -- the desk's queue was full each time, and it was ticked after every 32nd
 abbrev pub invariant-loop-tries : goal.invariant-loop-tries
 invariant-loop-tries g l =
-    Asks (g.A.Ask.asked l.initial.desk) (g.A.Ask.asked l.desk)
+    Asks (place_of l.contact) (g.A.Ask.asked l.initial.desk) (g.A.Ask.asked l.desk)
     (Counts (IsFull l.submit) (IsTicked l.receiver) l.tries (l.tries / 32))

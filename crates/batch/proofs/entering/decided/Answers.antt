@@ -1,5 +1,6 @@
 use Rattle.std.proofs.Common.{◌≡◌, ◌<◌, ◌/◌, inr, refl, subst, Err, Ok, [], arith, rules}
 use Rattle.wire.specs.declared.frame.Frame.{Frame}
+use Rattle.batch.specs.Dialing.{place_of}
 use Rattle.batch.specs.Asking.{IsAnswer, IsTicked, IsWaiting, ask_of, asked_so}
 use Rattle.batch.proofs.Trying.{Ends, adds_none, asks_failed, asks_lost, awaits, fails_by, goes_on}
 use Rattle.batch.proofs.Trying.{put_off_for, tick_last, tick_last_asked, told_of, told_once}
@@ -7,7 +8,7 @@ use Rattle.batch.proofs.Trying.{tries_of, waits_on}
 use Rattle.batch.proofs.entering.decided.Goals as goal
 
 pub loop-tries-init : goal.loop-tries-init
-loop-tries-init g c = ([], adds_none _, (refl, refl))
+loop-tries-init g c = ([], adds_none (place_of c.args.contact) _, (refl, refl))
 
 pub returns-in_err-told-clause-err : goal.returns-in_err-told-clause-err
 returns-in_err-told-clause-err g c =

@@ -1,9 +1,10 @@
 use Rattle.std.proofs.Common.{◌/◌}
+use Rattle.batch.specs.Dialing.{place_of}
 use Rattle.batch.specs.Asking.{Asks, Counts, IsTicked, IsWaiting, ask_of}
 use Rattle.batch.proofs.entering.decided.Given as goal
 
 -- the command wasn't decided each time, and the desk was ticked after every 32nd
 abbrev pub invariant-loop-tries : goal.invariant-loop-tries
 invariant-loop-tries g l =
-    Asks (g.A.Ask.asked l.initial.desk) (g.A.Ask.asked l.desk)
+    Asks (place_of l.contact) (g.A.Ask.asked l.initial.desk) (g.A.Ask.asked l.desk)
     (Counts (IsWaiting (ask_of l.receiver l.id)) (IsTicked l.receiver) l.tries (l.tries / 32))

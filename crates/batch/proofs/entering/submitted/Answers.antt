@@ -1,6 +1,7 @@
-use Rattle.std.proofs.Common.{◌≡◌, ◌∙◌, inr, ap, [], rules}
+use Rattle.std.proofs.Common.{◌∙◌, inr, ap, [], rules}
 use Rattle.acceptor.specs.declared.entry.Entry.{Entry}
 use Rattle.wire.specs.declared.frame.What.TheVariants as what
+use Rattle.batch.specs.Dialing.{place_of}
 use Rattle.batch.specs.Asking.{request_to}
 use Rattle.batch.proofs.Trying.{adds_none, fails_by, if_asks_text}
 use Rattle.batch.proofs.entering.submitted.Goals as goal
@@ -8,11 +9,12 @@ use Rattle.batch.proofs.entering.submitted.Goals as goal
 pub returns-in_err-entry-clause-err : goal.returns-in_err-entry-clause-err
 returns-in_err-entry-clause-err g c =
     fails_by _ c.from_residual.result c.in_err-entry.field-0.0 (search rules)
-    ([], adds_none _, (tt, inr c.in_err-entry.ensures.other))
+    ([], adds_none (place_of c.args.contact) _, (tt, inr c.in_err-entry.ensures.other))
 
 pub returns-clause-err : goal.returns-clause-err
 returns-clause-err g c =
-    if_asks_text c.args.receiver c.args.id c.args.text.now c.request_to-submit.result _ _
+    if_asks_text (place_of c.args.contact) c.args.receiver c.args.id c.args.text.now
+    c.request_to-submit.result _ _
     c.asked_until_taken.result
     (c.request_to-submit.ensures
     ∙ ap (λ (e : Entry). request_to c.args.receiver (what.Submit e)) c.in_ok-entry.ensures.made)

@@ -1,4 +1,7 @@
-use Rattle.std.proofs.Common.{◌≡◌, ◌+◌, subst, IfErr, rules}
+use Rattle.std.proofs.Common.{◌≡◌, ◌+◌, inr, refl, subst, IfErr, rules}
+use Rattle.wire.specs.Ranges.{IsId}
+use Rattle.batch.specs.declared.fault.BatchFault.TheVariants.{NoMoreIds}
+use Rattle.batch.specs.Dialing.{place_of}
 use Rattle.batch.specs.Asking.{Asks}
 use Rattle.batch.specs.Entering.{StopsAsking}
 use Rattle.batch.proofs.Asked.{if_unsaid, unprinted}
@@ -10,7 +13,8 @@ returns-clause-asked g c =
     let id : c.in-Some.id ≡ c.args.batch.first_id + c.args.number = search rules in
     subst
     (λ n. IfErr c.print_answer.result (λ f.
-    Asks (g.A.Ask.asked c.args.desk.now) (g.A.Ask.asked c.entered.new.desk)
+    Asks (place_of c.args.contact) (g.A.Ask.asked c.args.desk.now)
+    (g.A.Ask.asked c.entered.new.desk)
     (StopsAsking f c.args.batch.receiver n c.args.line.now))) id
     (if_unsaid c.args.batch c.in-Some.id c.args.line.now c.in_ok-answer.answer _ _
     c.print_answer.result c.in_ok-answer.ensures.ok c.print_answer.ensures.fault)
@@ -29,5 +33,12 @@ returns-in_err-answer-clause-asked g c =
     let f = c.in_err-answer.field-0.0 in
     fails_by _ c.from_residual.result f (search rules)
     (subst
-    (λ n. Asks (g.A.Ask.asked c.args.desk.now) (g.A.Ask.asked c.entered.new.desk)
+    (λ n. Asks (place_of c.args.contact) (g.A.Ask.asked c.args.desk.now)
+    (g.A.Ask.asked c.entered.new.desk)
     (StopsAsking f c.args.batch.receiver n c.args.line.now)) id c.in_err-answer.ensures.err)
+
+pub returns-in_default-clause-err : goal.returns-in_default-clause-err
+returns-in_default-clause-err g c =
+    let id = c.args.batch.first_id + c.args.number in
+    let beyond : ¬ IsId id = search rules in
+    unprinted g.A.Ask.fails NoMoreIds c.args.batch id id c.args.line.now _ refl (inr beyond)

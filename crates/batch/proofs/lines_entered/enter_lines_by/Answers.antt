@@ -1,5 +1,6 @@
 use Rattle.std.proofs.Common.{◌∙◌, subst, refl, ◌+◌, ◌++◌, rules}
 use Rattle.client.specs.Printing.{reply_text}
+use Rattle.batch.specs.Dialing.{place_of}
 use Rattle.batch.specs.Asking.{Asks}
 use Rattle.batch.specs.Entering.{EnteredBy, IsEntered, IsSaid}
 use Rattle.batch.specs.declared.fault.BatchFault.TheVariants as fault
@@ -41,10 +42,12 @@ loop-desk-preserved g c =
     (reply_text last) =
     subst (λ n. IsSaid b (b.first_id + n) c.read_line.new.line.items (reply_text last))
     c.count-number.ensures (last, is, refl) in
-    let asked : Asks (g.A.Ask.asked c.loop-desk.desk) (g.A.Ask.asked c.enter_line.new.desk)
+    let asked : Asks (place_of c.args.contact) (g.A.Ask.asked c.loop-desk.desk)
+    (g.A.Ask.asked c.enter_line.new.desk)
     (EnteredBy b.waits b.receiver (b.first_id + c.count-number.result)
     c.read_line.new.line.items last) =
-    subst (λ text. Asks (g.A.Ask.asked c.loop-desk.desk) (g.A.Ask.asked c.enter_line.new.desk)
+    subst (λ text. Asks (place_of c.args.contact) (g.A.Ask.asked c.loop-desk.desk)
+    (g.A.Ask.asked c.enter_line.new.desk)
     (EnteredBy b.waits b.receiver (b.first_id + c.count-number.result) text last))
     c.deref.ensures.value entered.asked in (
       i.0 ++ line.more,

@@ -1,4 +1,5 @@
 use Rattle.std.proofs.Common.{List, ℕ, ◌-◌}
+use Rattle.batch.specs.Dialing.{place_of}
 use Rattle.batch.specs.Asking.{Asked}
 use Rattle.batch.proofs.Asked.{Made}
 use Rattle.batch.proofs.Entered.{Entered}
@@ -11,7 +12,8 @@ invariant-loop-desk g l =
     × Entered l.batch l.lines given said (g.R.Read.remaining l.initial.reader)
     (g.R.Read.remaining l.reader) (g.W.Write.contents l.initial.writer)
     (g.W.Write.contents l.writer)
-    × Made l.batch given said asked (g.A.Ask.asked l.initial.desk) (g.A.Ask.asked l.desk)
+    × Made (place_of l.contact) l.batch given said asked (g.A.Ask.asked l.initial.desk)
+    (g.A.Ask.asked l.desk)
 
 abbrev pub decreases-loop-desk : goal.decreases-loop-desk
 decreases-loop-desk g l = 65537 - l.lines.lines

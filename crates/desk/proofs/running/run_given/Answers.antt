@@ -2,7 +2,7 @@ use Rattle.std.proofs.Common.{List, ℕ, ap, inr, subst, ◌∙◌}
 use Rattle.std.proofs.KnownBytes.{Keeps-refl}
 use Rattle.command_line.specs.Arguments.{argument_texts}
 use Rattle.lines.specs.Bytes.{sides}
-use Rattle.desk.specs.Statuses.{Ran}
+use Rattle.desk.specs.Statuses.{Ran, calls}
 use Rattle.desk.proofs.running.run_given.Goals as goal
 
 pub returns-in_default-clause-ran : goal.returns-in_default-clause-ran
@@ -14,7 +14,7 @@ returns-clause-ran g c =
     let ran : List (List ℕ) → Type 0 =
     λ given. Ran given c.run_arguments.result
     (sides g.R.Read.remaining g.W.Write.contents c.args.reader.now c.run_arguments.new.reader
-    c.args.writer.now
-    c.run_arguments.new.writer) in
+    c.args.writer.now c.run_arguments.new.writer)
+    (calls g.D.Dial.dialed c.args.dial.now c.run_arguments.new.dial) in
     subst ran
     (ap argument_texts c.deref.ensures.value ∙ c.in-Ok.ensures) c.run_arguments.ensures.ran

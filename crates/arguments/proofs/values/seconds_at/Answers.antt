@@ -1,7 +1,7 @@
 use Rattle.std.proofs.Common.{codes}
 use Rattle.clap.specs.Words.{found_of, rows_of}
 use Rattle.arguments.proofs.Found.{renumbered_if}
-use Rattle.arguments.proofs.serve.seconds_at.Goals as goal
+use Rattle.arguments.proofs.values.seconds_at.Goals as goal
 
 pub returns : goal.returns
 returns c =

@@ -1,0 +1,17 @@
+use Rattle.std.proofs.Common.{[], inl, inr, refl}
+use Rattle.std.proofs.KnownBytes.{Appends-nil, Keeps-refl}
+use Rattle.client.specs.Printing.{reply_text}
+use Rattle.errands.proofs.requests.carry.Goals as goal
+
+pub returns-in-Err-clause-err : goal.returns-in-Err-clause-err
+returns-in-Err-clause-err g c = inl (c.in-Err.ensures.err, Keeps-refl _)
+
+pub returns-in_default-clause-err : goal.returns-in_default-clause-err
+returns-in_default-clause-err g c =
+    inr (
+      inr refl,
+      c.in-Ok.ensures.allowed,
+      c.in-Ok.answer,
+      c.in-Ok.ensures.ok,
+      ([], reply_text c.in-Ok.answer, record { parts = refl; written = Appends-nil _ }),
+    )
