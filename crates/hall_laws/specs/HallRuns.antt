@@ -179,8 +179,8 @@ pub record StopsInSave {K : Type 0} (k : Ghosts K) (x : NodeValue K) (keeper : K
   pub calls : calls_of rest ≡ next ∷ later
   pub left : HoldsStep k keeper x.desk (step_at (k.home_of x.keeper) x.desk next.event)
 
--- desk d has begun the next frame of one of its connections, and stops after these acts, between two
--- calls or in the next one; then it is opened again
+-- desk d has begun the next frame of one of its connections, and stops after these acts, between
+-- two calls or in the next one; then it is opened again
 pub record IsCut {K : Type 0} (k : Ghosts K) (n d : ℕ) (one : Begun) (acts : List Act)
     (h g : Hall K) : Type 0 where
   pub ours : IsDesk n d
@@ -324,8 +324,8 @@ pub record ServesAt {K : Type 0} (steps : List (HallStep K)) (at d number : ℕ)
   pub turn : step.event ≡ TurnAt d (record { number = number; turn = Began one }) acts
   pub whole : ((step.after.desks d).talks number).end ≢ Some end.NoMemory
 
--- Then that connection has exactly the answer of this frame to be taken, spelled, and by the desk as
--- it was before the step.
+-- Then that connection has exactly the answer of this frame to be taken, spelled, and by the desk
+-- as it was before the step.
 abbrev pub HallAnswersWait : {K : Type 0} → Ghosts K → Type 0
 HallAnswersWait {K} k =
     (n : ℕ) (h : Hall K) (steps : List (HallStep K)) (at d number : ℕ) (one : Begun)

@@ -17,10 +17,10 @@ use store::keeper::Keeper;
 /// their calls together are a run of the world, step by step.
 ///
 /// So of any two desks' logs at any two moments one is a prefix of the other. Every entry was
-/// submitted before, by a frame that came to a desk of the hall, which took it. A connection has the
-/// answer of its frame to be taken. Each sheet that a desk answers on one of its connections is the
-/// Regulations' sheet for the accepted commands of its log, and no two that are asked for alike
-/// differ.
+/// submitted before, by a frame that came to a desk of the hall, which took it. A connection has
+/// the answer of its frame to be taken. Each sheet that a desk answers on one of its connections
+/// is the Regulations' sheet for the accepted commands of its log, and no two that are asked for
+/// alike differ.
 ///
 /// `IsHallRun` of `specs/HallRuns` says what such a run is. Two premises stand in it, each at its
 /// event: a message that a frame brings was handed out before, by a call of a desk of the hall; and

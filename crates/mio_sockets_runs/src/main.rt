@@ -1,5 +1,5 @@
-//! A small server over `mio_sockets`, which `checks/sockets` talks to: each byte that a client sends
-//! asks for something. Its argument is the port of another desk.
+//! A small server over `mio_sockets`, which `checks/sockets` talks to: each byte that a client
+//! sends asks for something. Its argument is the port of another desk.
 #![tactic(auto)]
 
 use mio_sockets::{DeskLinks, SocketClients, SocketWires};

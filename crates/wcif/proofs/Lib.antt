@@ -1,0 +1,10 @@
+pub mod Counts
+pub mod Distinct
+pub mod Fitting
+pub mod Listed
+pub mod Named
+pub mod Nested
+pub mod Numbered
+pub mod Registering
+pub mod SetUp
+pub mod Tellings

@@ -1,0 +1,8 @@
+use Rattle.std.proofs.Common.{◌≡◌, ◌++◌, map, take}
+use Rattle.wcif.specs.declared.fault.Fault.TheVariants.{Person}
+use Rattle.wcif.proofs.checking.push_found.Given as goal
+
+abbrev pub invariant-loop-fault : goal.invariant-loop-fault
+invariant-loop-fault l =
+    l.faults.items
+    ≡ l.initial.faults.items ++ map (Person l.place) (take l.fault-index l.found)

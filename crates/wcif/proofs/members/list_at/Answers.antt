@@ -1,0 +1,9 @@
+use Rattle.wcif.proofs.Listed.{list_found}
+use Rattle.serde_json.specs.View.{view}
+use Rattle.wcif.proofs.members.list_at.Goals as goal
+
+pub returns-in-Some : goal.returns-in-Some
+returns-in-Some c =
+    list_found c.args.name.now (view c.args.value.now) (view c.in_ok-get.field-0.now)
+    c.in-Some.list.now.items c.as_slice.result.now c.in_ok-get.ensures c.in-Some.ensures
+    c.as_slice.ensures.value

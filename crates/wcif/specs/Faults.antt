@@ -1,0 +1,33 @@
+-- What a desk cannot hold of a competition in the WCA Competition Interchange Format: of its
+-- persons, and then of its events, each in the order of the file.
+use Rattle.std.specs.Prelude.{nat_lt, if◌then◌else◌, List, [], ◌∷◌, ◌++◌, length, map}
+use Rattle.std.specs.Prelude.{codes, Option, Some, None}
+use Rattle.serde_json.specs.Data.{Data}
+use Rattle.wcif.specs.declared.options.Options.{Options}
+use Rattle.wcif.specs.declared.options.SameNames.{SameNames}
+use Rattle.wcif.specs.declared.fault.Fault.{Fault}
+use Rattle.wcif.specs.declared.fault.Fault.TheVariants as of
+use Rattle.wcif.specs.Members.{list_at}
+use Rattle.wcif.specs.Persons.{is_accepted, accepted_faults, most_events}
+use Rattle.wcif.specs.Events.{event_faults}
+use Rattle.wcif.specs.Told.{told, place}
+
+-- of a person: nothing, where he is not accepted
+unfoldable pub person_faults : SameNames → List Data → List Data → List Data → Data → List Fault
+person_faults how events everyone earlier p =
+    if is_accepted p
+    then map (of.Person (place earlier)) (accepted_faults how events everyone earlier p) else []
+
+abbrev pub faults_in : Options → Option (List Data) → Option (List Data) → List Fault
+faults_in options None None = of.NoPersons ∷ of.NoEvents ∷ []
+faults_in options None (Some events) = of.NoPersons ∷ []
+faults_in options (Some persons) None = of.NoEvents ∷ []
+faults_in options (Some persons) (Some events) =
+    if nat_lt most_events (length events) then of.TooManyEvents ∷ []
+    else told (person_faults options.names events persons) persons
+    ++ told (event_faults options.limits persons) events
+
+-- all that a desk cannot hold of a competition
+unfoldable pub faults : Options → Data → List Fault
+faults options d =
+    faults_in options (list_at (codes "persons") d) (list_at (codes "events") d)

@@ -1,0 +1,12 @@
+pub mod Commands
+pub mod Events
+pub mod Faults
+pub mod Files
+pub mod Imports
+pub mod Laws
+pub mod Lines
+pub mod Members
+pub mod Persons
+pub mod Rounds
+pub mod Told
+pub mod model

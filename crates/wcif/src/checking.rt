@@ -1,0 +1,82 @@
+//! What a desk cannot hold of a competition.
+
+ghost use Rattle.std.specs.Prelude.{◌≡◌, ◌++◌, ◌∷◌, [], ◌+◌, List, map, length, IfOk, OnOk};
+ghost use Rattle.serde_json.specs.Data.{Data};
+ghost use Rattle.serde_json.specs.View.{view};
+ghost use Rattle.wcif.specs.declared.fault.Fault.TheVariants.{Person as PersonOf};
+ghost use Rattle.wcif.specs.Faults.{person_faults};
+ghost use Rattle.wcif.specs.Told.{told};
+ghost use Rattle.wcif.specs.model.Kept.{AreKept, AddsFaults, KeepsPerson};
+
+use crate::fault::{Fault, PersonFault};
+use crate::options::SameNames;
+use crate::people::People;
+use crate::persons::is_accepted;
+use attempts::NoMemory;
+use serde_json::Value;
+use std::alloc::Global;
+
+/// Adds what a desk cannot hold of the person at a place.
+fn push_found(faults: &mut Vec<Fault>, place: usize, found: &[PersonFault]) -> Result<(), NoMemory>
+    ensures { OnOk result (faults.new.items ≡ faults.old.items ++ map (PersonOf place) found.now) }
+{
+    for fault in found {
+        faults.push(Fault::Person {
+            place,
+            fault: *fault,
+        })?;
+    }
+    Ok(())
+}
+
+/// Notes the person at a place, where he is accepted, and adds what a desk cannot hold of him.
+#[tactic(auto, unfolding(crate::specs::Faults::person_faults))]
+fn push_person<'v>(
+    alloc: Global,
+    how: SameNames,
+    faults: &mut Vec<Fault>,
+    people: &mut People<'v>,
+    events: &[Value],
+    place: usize,
+    person: &'v Value,
+) -> Result<(), NoMemory>
+    ensures faults { OnOk result (AddsFaults how (map view events.now) place (view person.now)
+        people.old faults.old.items faults.new.items) }
+    ensures kept { OnOk result (KeepsPerson how (view person.now) people.old people.new) }
+{
+    if !is_accepted(person) {
+        return Ok(());
+    }
+    let found = people.add(alloc, how, events, person)?;
+    push_found(faults, place, &found)
+}
+
+/// Notes all accepted persons, and adds what a desk cannot hold of them.
+pub(crate) fn push_persons<'v>(
+    alloc: Global,
+    how: SameNames,
+    faults: &mut Vec<Fault>,
+    persons: &'v [Value],
+    events: &[Value],
+) -> Result<People<'v>, NoMemory>
+    ensures faults { OnOk result (faults.new.items ≡ faults.old.items
+        ++ told (person_faults how (map view events.now) (map view persons.now))
+        (map view persons.now)) }
+    ensures kept { IfOk result
+        (λ people. AreKept how (map view persons.now) (map view persons.now) people) }
+{
+    let mut people = People::new(alloc, persons)?;
+    for index in 0..persons.len() {
+        let place = index + 1;
+        push_person(
+            alloc,
+            how,
+            faults,
+            &mut people,
+            events,
+            place,
+            &persons[index],
+        )?;
+    }
+    Ok(people)
+}
