@@ -3,7 +3,9 @@
 ghost use Rattle.std.specs.Prelude.{None};
 
 use crate::sockets_of_one::{FINE, Nobody, STOP, TAKEN_PENDING, TICK, expect};
-use multiplex::{Accepted, Clients, Given, Links, Over, Ready, ServedEach, Taken, Terms, serve_each};
+use multiplex::{
+    Accepted, Clients, Given, Links, Over, Ready, ServedEach, Taken, Terms, serve_each,
+};
 use node::Node;
 use std::alloc::Global;
 use std::test::Fail;
@@ -148,12 +150,23 @@ fn check_three(
         connections: 3,
         over: Over::Stopped,
     };
-    expect(served == stopped, "three clients came, and one stopped the desk")?;
+    expect(
+        served == stopped,
+        "three clients came, and one stopped the desk",
+    )?;
     expect(script.coming.is_empty(), "all of the script")?;
-    expect(script.first.as_slice() == TAKEN_PENDING, "the answers to the first client")?;
-    expect(script.second.as_slice().split_at_checked(FINE.len()) == Some((FINE, FINE)),
-        "the answers to the second client")?;
-    expect(script.closed.as_slice() == [2, 1, 0].as_slice(), "the ends in their order")
+    expect(
+        script.first.as_slice() == TAKEN_PENDING,
+        "the answers to the first client",
+    )?;
+    expect(
+        script.second.as_slice().split_at_checked(FINE.len()) == Some((FINE, FINE)),
+        "the answers to the second client",
+    )?;
+    expect(
+        script.closed.as_slice() == [2, 1, 0].as_slice(),
+        "the ends in their order",
+    )
 }
 
 #[test]

@@ -20,7 +20,7 @@ returns-in-None-clause-answers g c =
     let new = c.host.new.guest in
     let at =
     stands (g.D.Desk.home_of c.args.node.now) c.args.terms.wire c.args.number table
-        place old (sym c.place_of.ensures ∙ c.in-Some.is)
+    place old (sym c.place_of.ensures ∙ c.in-Some.is)
     c.index_mut-guest.ensures.value c.requires.kept in
     let split = about table place old new at.within c.index_mut-guest.ensures.value in
     answers_stay g.D.Desk g.P.Peers g.C.Clients.happened (g.D.Desk.home_of c.args.node.now)
@@ -38,7 +38,7 @@ returns-in-Some-host-clause-answers g c =
     let new = c.host.new.guest in
     let at =
     stands (g.D.Desk.home_of c.args.node.now) c.args.terms.wire c.args.number table
-        place old (sym c.place_of.ensures ∙ c.in-Some.is)
+    place old (sym c.place_of.ensures ∙ c.in-Some.is)
     c.index_mut-guest.ensures.value c.requires.kept in
     let split = about table place old new at.within c.index_mut-guest.ensures.value in
     answers_leave g.D.Desk g.P.Peers g.C.Clients.happened (g.D.Desk.home_of c.args.node.now)
@@ -58,7 +58,7 @@ returns-in-Some-host-clause-kept g c =
     let new = c.host.new.guest in
     let at =
     stands (g.D.Desk.home_of c.args.node.now) c.args.terms.wire c.args.number table
-        place old (sym c.place_of.ensures ∙ c.in-Some.is)
+    place old (sym c.place_of.ensures ∙ c.in-Some.is)
     c.index_mut-guest.ensures.value c.requires.kept in
     let split = about table place old new at.within c.index_mut-guest.ensures.value in
     leave_keeps g.C.Clients.happened (g.D.Desk.home_of c.args.node.now) c.args.terms.wire place
