@@ -49,6 +49,16 @@ class Words(argparse.ArgumentParser):
         self.add_argument(word, nargs="?", type=program, default=built(crate),
                           metavar=word.upper())
 
+    def add_names(self, names):
+        """An argument for any number of these names."""
+
+        def name(text):
+            if text not in names:
+                raise argparse.ArgumentTypeError(f"{text} is none of {', '.join(names)}")
+            return text
+
+        self.add_argument("names", nargs="*", type=name, metavar="NAME")
+
     def need(self, command):
         """Ends the script where a command that it runs is not on the path."""
         if shutil.which(command) is None:

@@ -1,11 +1,11 @@
 -- What was found in the arguments.
 use Rattle.std.proofs.Common.{◌≡◌, ◌∙◌, ap, sym, subst, ℕ, List, Bor, decimal, IfSome, Option}
-use Rattle.std.proofs.Common.{None, Some, codes, inl, option_map}
+use Rattle.std.proofs.Common.{None, Some, option_map}
 use Rattle.clap.specs.Words.{Row, Text, first_of, first_value, rows_of}
 use Rattle.clap.specs.declared.parser.matches.Found.{Found}
 use Rattle.clap.proofs.WalkLemmas.{first_value-rows}
 use Rattle.arguments.specs.Arguments.{IsNumberAt}
-use Rattle.arguments.specs.Asking.{Finds, HasId, HasIds, IsRequest, IsTask, IsWait}
+use Rattle.arguments.specs.Asking.{Finds, HasId, HasIds, IsRequest, IsTask}
 use Rattle.arguments.specs.declared.task.Request.{Request}
 use Rattle.arguments.specs.declared.task.Request.TheVariants as request
 use Rattle.arguments.specs.declared.task.Task.{Task}
@@ -43,11 +43,6 @@ pub renumbered_if : (id : Text) (rows : List Row) (m : Option ℕ) (n : ℕ) →
 renumbered_if id rows None n is h = tt
 renumbered_if id rows (Some m) n is h = renumbered id rows m n is h
 
-pub waited_if : (rows : List Row) (n : Option ℕ)
-    → IfSome n (λ n. IsNumberAt (codes "patience") rows n) → IfSome n (λ n. IsWait n rows)
-waited_if rows None h = tt
-waited_if rows (Some n) h = inl h
-
 request_ids : (r : Request) (name : Text) (rows : List Row) → IsRequest r name rows → HasId r
 request_ids (request.Enter id text) name rows h = h.1
 request_ids (request.Ask id) name rows h = h.1
@@ -61,5 +56,5 @@ found_ids found (task.Replay event round style) h = tt
 found_ids found (task.Hall desks) h = tt
 found_ids found (task.EnterLines contact batch) h = tt
 found_ids found (task.Log store) h = tt
-found_ids found (task.Serve service) h = h.3.1.version
+found_ids found (task.Serve service) h = tt
 found_ids found (task.Carry errand) h = request_ids errand.request h.0 h.1 h.3.request

@@ -1,14 +1,16 @@
 -- What the arguments of the program ask for, as its parser reads them: `clap` says which argument
 -- is the value of which name.
-use Rattle.std.specs.Prelude.{◌≡◌, ◌⊎◌, true, false, ℕ, List, codes, map, Option, None, Some}
+use Rattle.std.specs.Prelude.{◌≡◌, true, false, ℕ, List, codes, map, Option, Some}
 use Rattle.clap.specs.Words.{App, Row, Text, all_of, first_of, new_app, one_of, subcommand_of}
 use Rattle.clap.specs.Words.{with_rule, with_subcommand}
 use Rattle.wire.specs.declared.values.SheetStyle.{SheetStyle}
 use Rattle.wire.specs.declared.values.SheetStyle.TheVariants as asked
-use Rattle.wire.specs.Laws.{IsVersion}
+use Rattle.wire.specs.declared.values.Version.{Version}
+use Rattle.wire.specs.declared.values.Version.TheVariants as version
 use Rattle.wire.specs.Ranges.{IsId}
-use Rattle.arguments.specs.Arguments.{IsNumberAt, any_text, csv_rule, errand_arguments, numbers}
-use Rattle.arguments.specs.Arguments.{option_rule, value_rule, values_rule, wait_rule}
+use Rattle.arguments.specs.Arguments.{IsFlag, IsGiven, IsNumberAt, IsNumberOr, any_text, csv_rule}
+use Rattle.arguments.specs.Arguments.{errand_arguments, flag_rule, numbers, option_rule}
+use Rattle.arguments.specs.Arguments.{optional_rule, value_rule, values_rule, wait_rule}
 use Rattle.batch.specs.declared.dialing.Contact.{Contact}
 use Rattle.batch.specs.declared.lines_entered.Batch.{Batch}
 use Rattle.service.specs.declared.Service.{Service}
@@ -27,14 +29,16 @@ hall_arguments = with_rule (new_app (codes "hall")) (value_rule (codes "desks") 
 
 abbrev pub serve_arguments : App
 serve_arguments =
-    with_rule (with_rule (with_rule (with_rule (with_rule (with_rule (with_rule
-    (new_app (codes "serve"))
+    with_rule (with_rule (with_rule (with_rule (with_rule (with_rule (with_rule (with_rule
+    (with_rule (new_app (codes "serve"))
     (option_rule (codes "hall") (numbers 0 4294967295)))
     (option_rule (codes "desk") (numbers 0 255)))
     (option_rule (codes "store") any_text))
-    (option_rule (codes "connections") (numbers 1 1000000)))
-    (record (option_rule (codes "patience") (numbers 1 86400)) { required = false }))
-    (record (option_rule (codes "wire") (numbers 1 2)) { required = false }))
+    (optional_rule (codes "patience") 1 86400))
+    (optional_rule (codes "connections") 1 1000000))
+    (optional_rule (codes "wire") 1 2))
+    (optional_rule (codes "tick") 100 60000))
+    (flag_rule (codes "quiet")))
     (values_rule (codes "addr") any_text)
 
 abbrev pub log_arguments : App
@@ -105,16 +109,10 @@ IsRequest (request.Sheet event round position style) name rows =
 IsRequest request.Tick name rows = name ≡ codes "tick"
 IsRequest request.Stop name rows = name ≡ codes "stop"
 
--- for how many seconds a desk is waited for, 10 where the arguments do not say it
-abbrev pub IsWait : ℕ → List Row → Type 0
-IsWait n rows =
-    IsNumberAt (codes "patience") rows n
-    ⊎ ((first_of (codes "patience") rows ≡ None) × (n ≡ 10))
-
--- where a desk is asked, and how long it is waited for
+-- where a desk is asked, and for how many seconds it is waited for, 10 where none are given
 pub record IsContact (c : Contact) (rows : List Row) : Type 0 where
   pub address : first_of (codes "to") rows ≡ Some c.address.now
-  pub patience : IsWait c.patience rows
+  pub patience : IsNumberOr (codes "patience") 10 rows c.patience
 
 -- and is for this desk of this hall at this address
 pub record IsErrand (e : Errand) (name : Text) (rows : List Row) : Type 0 where
@@ -123,15 +121,10 @@ pub record IsErrand (e : Errand) (name : Text) (rows : List Row) : Type 0 where
   pub contact : IsContact e.contact rows
   pub request : IsRequest e.request name rows
 
--- how long a read waits, where the arguments say it
-abbrev pub IsPatience : Option ℕ → List Row → Type 0
-IsPatience (Some n) rows = IsNumberAt (codes "patience") rows n
-IsPatience None rows = first_of (codes "patience") rows ≡ None
-
--- the version of the wire, 1 where none is given
-abbrev pub IsWire : ℕ → List Row → Type 0
-IsWire n rows =
-    IsNumberAt (codes "wire") rows n ⊎ ((first_of (codes "wire") rows ≡ None) × (n ≡ 1))
+-- the number of a version of the wire
+abbrev pub wire_number : Version → ℕ
+wire_number version.One = 1
+wire_number version.Two = 2
 
 -- a desk of this hall that lines are entered at, the id of the first one, and whether `--wait` is
 -- there
@@ -143,16 +136,18 @@ pub record IsBatch (c : Contact) (b : Batch) (rows : List Row) : Type 0 where
   pub waits : one_of (codes "wait") rows ≡ Some (codes "true") → b.waits ≡ true
   pub goes_on : one_of (codes "wait") rows ≡ Some (codes "false") → b.waits ≡ false
 
--- a desk of this hall, its file, how many connections it serves, how long it waits for a silent
--- one, the version in which it pushes, and where the desks listen
+-- a desk of this hall, its file, for how many seconds a client may be silent, how many connections
+-- it serves, the version in which it pushes, whether it says nothing of other desks, and where the
+-- desks listen
 pub record IsService (s : Service) (rows : List Row) : Type 0 where
   pub hall : IsNumberAt (codes "hall") rows s.hall
   pub desk : IsNumberAt (codes "desk") rows s.desk
   pub store : first_of (codes "store") rows ≡ Some s.store.now
-  pub connections : IsNumberAt (codes "connections") rows s.connections
-  pub patience : IsPatience s.patience rows
-  pub wire : IsWire s.wire rows
-  pub version : IsVersion s.wire
+  pub patience : IsNumberOr (codes "patience") 30 rows s.patience
+  pub connections : IsGiven (codes "connections") rows s.connections
+  pub wire : IsNumberOr (codes "wire") 1 rows (wire_number s.wire)
+  pub tick : IsGiven (codes "tick") rows s.tick
+  pub quiet : IsFlag (codes "quiet") rows s.quiet
   pub addresses : all_of (codes "addr") rows ≡ Some (map (λ a. a.now) s.addresses.now)
 
 abbrev pub IsTask : Task → Text → List Row → Type 0
@@ -175,14 +170,14 @@ HasId (request.Sheet event round position style) = Unit {0}
 HasId request.Tick = Unit {0}
 HasId request.Stop = Unit {0}
 
--- the ids of a task are in their range, and its version of the wire is one
+-- the ids of a task are in their range
 abbrev pub HasIds : Task → Type 0
 HasIds (task.Replay event round style) = Unit {0}
 HasIds (task.Hall desks) = Unit {0}
 HasIds (task.Carry errand) = HasId errand.request
 HasIds (task.EnterLines contact batch) = Unit {0}
 HasIds (task.Log store) = Unit {0}
-HasIds (task.Serve service) = IsVersion service.wire
+HasIds (task.Serve service) = Unit {0}
 
 abbrev pub Finds : Option (Text × List Row) → Task → Type 0
 Finds found t = (name : Text) × (rows : List Row) × (found ≡ Some (name, rows)) × IsTask t name rows

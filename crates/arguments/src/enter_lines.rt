@@ -1,15 +1,15 @@
 //! The subcommand `enter-lines`: its arguments and its help.
 
-ghost use Rattle.std.specs.Prelude.{◌≡◌, false, codes, IfOk, IfSome};
-ghost use Rattle.clap.specs.Words.{found_of, rows_of, rule_of};
-ghost use Rattle.arguments.specs.Arguments.{IsCommand, wait_rule};
+ghost use Rattle.std.specs.Prelude.{codes, IfOk, IfSome};
+ghost use Rattle.clap.specs.Words.{found_of, rows_of};
+ghost use Rattle.arguments.specs.Arguments.{IsCommand};
 ghost use Rattle.arguments.specs.Asking.{lines_arguments, IsTask};
 
 use crate::task::{Task, of_four_bytes, of_one_byte};
-use crate::values::{contact_at, errand_command, number_at, option};
+use crate::values::{contact_at, errand_command, flag, number_at, option};
 use batch::{Batch, Receiver};
 use clap::builder::ValueParser;
-use clap::{Arg, ArgAction, ArgMatches, Command};
+use clap::{ArgMatches, Command};
 use replay_arguments::with_argument;
 use std::alloc::{AllocError, Global};
 
@@ -29,17 +29,6 @@ long, text too long, no more ids, still pending, command lost (the desk was star
 command was decided), or refused NAME; 4 cannot read, cannot connect, cannot write, or no answer; 5
 no memory.";
 
-/// The flag `--wait`.
-fn wait_flag<'a>(alloc: Global) -> Arg<'a>
-    ensures rule { rule_of result ≡ wait_rule }
-    ensures local { result.global ≡ false }
-{
-    Arg::new(alloc, "wait")
-        .long("wait")
-        .help("Wait for each command until it is decided")
-        .action(ArgAction::SetTrue)
-}
-
 /// The subcommand `enter-lines`, as the parser knows it.
 pub fn enter_lines_command<'a>(alloc: Global) -> Result<Command<'a>, AllocError>
     ensures { IfOk result (λ command. IsCommand command lines_arguments) }
@@ -53,7 +42,8 @@ pub fn enter_lines_command<'a>(alloc: Global) -> Result<Command<'a>, AllocError>
         ValueParser::unsigned(1, 9_223_372_036_854_775_807),
     );
     let command = with_argument(command, first_id)?;
-    with_argument(command, wait_flag(alloc))
+    let wait = flag(alloc, "wait", "Wait for each command until it is decided");
+    with_argument(command, wait)
 }
 
 /// What the arguments of `enter-lines` ask for.

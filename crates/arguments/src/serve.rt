@@ -2,18 +2,20 @@
 
 ghost use Rattle.std.specs.Prelude.{◌≡◌, false, codes, IfOk, IfSome};
 ghost use Rattle.clap.specs.Words.{found_of, rows_of, rule_of};
-ghost use Rattle.arguments.specs.Arguments.{IsCommand, IsNumberAt, any_text, numbers, option_rule};
-ghost use Rattle.arguments.specs.Arguments.{values_rule};
-ghost use Rattle.arguments.specs.Asking.{serve_arguments, IsPatience, IsTask, IsWire};
-ghost use Rattle.wire.specs.Laws.{IsVersion};
+ghost use Rattle.arguments.specs.Arguments.{IsCommand, IsNumberOr, any_text, values_rule};
+ghost use Rattle.arguments.specs.Asking.{serve_arguments, wire_number, IsTask};
 
 use crate::task::{Task, of_four_bytes, of_one_byte};
-use crate::values::{number_at, option, seconds_at};
+use crate::values::{flag, number_at, number_or, option, optional_at, optional_number};
 use clap::builder::ValueParser;
 use clap::{Arg, ArgAction, ArgMatches, Command};
 use replay_arguments::{plain_command, text_at, value, with_argument};
 use service::Service;
 use std::alloc::{AllocError, Global};
+use wire::Version;
+
+/// For how many seconds a client may be silent without the option `--patience`.
+const PATIENCE: u32 = 30;
 
 const ABOUT: &str = "Runs a desk from its file: it serves clients and the other desks of its hall.";
 
@@ -23,8 +25,11 @@ There are three or five, and they are the same at each desk. FILE is created if 
 What the desk has promised and decided is kept in FILE and in FILE-wal beside it. A desk that was
 stopped or killed is started again by the same command.
 
+The desk serves all its clients side by side, at most 512 at once.
+
 Prints `desk D of N len LENGTH` once clients can connect: N is the number of desks, and LENGTH is
-the length of the desk's log. At the end it prints `served CONNECTIONS`.
+the length of the desk's log. At the end it prints `served CONNECTIONS`. On standard error it says
+when another desk cannot be reached, and when it is reached again; --quiet leaves that out.
 
 Exit status: 0 K connections were served, or a client asked the desk to stop; 2 invalid arguments,
 or help; 3 bad number of desks, bad desk number, wrong desk, or damaged store; 4 store device (FILE
@@ -44,38 +49,6 @@ fn address_value<'a>(alloc: Global) -> Arg<'a>
         ValueParser::string(),
     )
     .action(ArgAction::Append)
-}
-
-/// The option `--patience`.
-fn patience_option<'a>(alloc: Global) -> Arg<'a>
-    ensures rule { rule_of result
-        ≡ record (option_rule (codes "patience") (numbers 1 86400)) { required = false } }
-    ensures local { result.global ≡ false }
-{
-    option(
-        alloc,
-        "patience",
-        "SECONDS",
-        "How long to wait for a silent client, 1 to 86400; without this option for ever",
-        ValueParser::unsigned(1, 86400),
-    )
-    .required(false)
-}
-
-/// The option `--wire`.
-fn wire_option<'a>(alloc: Global) -> Arg<'a>
-    ensures rule { rule_of result
-        ≡ record (option_rule (codes "wire") (numbers 1 2)) { required = false } }
-    ensures local { result.global ≡ false }
-{
-    option(
-        alloc,
-        "wire",
-        "VERSION",
-        "The version of the frames for the other desks, 1 or 2; without this option 1",
-        ValueParser::unsigned(1, 2),
-    )
-    .required(false)
 }
 
 /// The subcommand `serve`, as the parser knows it.
@@ -107,54 +80,60 @@ pub fn serve_command<'a>(alloc: Global) -> Result<Command<'a>, AllocError>
         ValueParser::string(),
     );
     let command = with_argument(command, store)?;
-    let connections = option(
+    let patience = optional_number(
+        alloc,
+        "patience",
+        "SECONDS",
+        "How long a client may be silent, 1 to 86400; without this option 30",
+        1,
+        86_400,
+    );
+    let command = with_argument(command, patience)?;
+    let connections = optional_number(
         alloc,
         "connections",
         "K",
-        "How many connections are served, 1 to 1000000",
-        ValueParser::unsigned(1, 1_000_000),
+        "Ends after so many connections, 1 to 1000000; without this option it goes on",
+        1,
+        1_000_000,
     );
     let command = with_argument(command, connections)?;
-    let command = with_argument(command, patience_option(alloc))?;
-    let command = with_argument(command, wire_option(alloc))?;
+    let wire = optional_number(
+        alloc,
+        "wire",
+        "VERSION",
+        "The version of the frames for the other desks, 1 or 2; without this option 1",
+        1,
+        2,
+    );
+    let command = with_argument(command, wire)?;
+    let tick = optional_number(
+        alloc,
+        "tick",
+        "MILLISECONDS",
+        "How long until a Tick of the desk's own, 100 to 60000; without this option there is none",
+        100,
+        60_000,
+    );
+    let command = with_argument(command, tick)?;
+    let quiet = flag(
+        alloc,
+        "quiet",
+        "Says nothing of desks that cannot be reached",
+    );
+    let command = with_argument(command, quiet)?;
     with_argument(command, address_value(alloc))
 }
 
-/// The value of SECONDS, or no value where it is not given. The parser accepts only a number.
-fn patience_at(found: &ArgMatches<'_>) -> Option<Option<u32>>
-    ensures { IfSome result (λ patience. IsPatience patience (rows_of (found_of found.now))) }
+/// The value of VERSION, or version 1 where it is not given.
+fn wire_at(found: &ArgMatches<'_>) -> Option<Version>
+    ensures { IfSome result
+        (λ wire. IsNumberOr (codes "wire") 1 (rows_of (found_of found.now)) (wire_number wire)) }
 {
-    match found.get_str("patience") {
-        None => Some(None),
-        Some(_) => match seconds_at(found) {
-            Some(seconds) => Some(Some(seconds)),
-            None => None,
-        },
-    }
-}
-
-/// The value of VERSION, where it is given.
-fn version_at(found: &ArgMatches<'_>) -> Option<u8>
-    ensures number { IfSome result
-        (λ wire. IsNumberAt (codes "wire") (rows_of (found_of found.now)) wire) }
-    ensures version { IfSome result IsVersion }
-{
-    let wire = of_one_byte(number_at(found, "wire")?)?;
-    if wire == 1 || wire == 2 {
-        Some(wire)
-    } else {
-        None
-    }
-}
-
-/// The value of VERSION, or 1 where it is not given.
-fn wire_at(found: &ArgMatches<'_>) -> Option<u8>
-    ensures wire { IfSome result (λ wire. IsWire wire (rows_of (found_of found.now))) }
-    ensures version { IfSome result IsVersion }
-{
-    match found.get_str("wire") {
-        None => Some(1),
-        Some(_) => version_at(found),
+    match number_or(found, "wire", 1)? {
+        1 => Some(Version::One),
+        2 => Some(Version::Two),
+        _ => None,
     }
 }
 
@@ -166,18 +145,22 @@ pub fn serve_of<'m, 'a: 'm>(found: &'m ArgMatches<'a>) -> Option<Task<'m>>
     let hall = of_four_bytes(number_at(found, "hall")?)?;
     let desk = of_one_byte(number_at(found, "desk")?)?;
     let store = text_at(found, "store")?;
-    let connections = of_four_bytes(number_at(found, "connections")?)?;
-    let patience = patience_at(found)?;
+    let patience = number_or(found, "patience", PATIENCE)?;
+    let connections = optional_at(found, "connections")?;
     let wire = wire_at(found)?;
+    let tick = optional_at(found, "tick")?;
+    let quiet = found.get_flag("quiet");
     let addresses = found.get_strs("addr")?;
     Some(Task::Serve {
         service: Service {
             hall,
             desk,
             store,
+            patience,
             connections,
             wire,
-            patience,
+            tick,
+            quiet,
             addresses,
         },
     })

@@ -2,15 +2,16 @@
 
 ghost use Rattle.std.specs.Prelude.{◌≡◌, false, codes, IfOk, IfSome, Some};
 ghost use Rattle.clap.specs.Words.{found_of, rows_of, rule_of};
-ghost use Rattle.arguments.specs.Arguments.{IsCommand, IsNumberAt, errand_arguments, numbers};
-ghost use Rattle.arguments.specs.Arguments.{option_rule, value_rule, wait_seconds_rule};
-ghost use Rattle.arguments.specs.Asking.{IsContact, IsWait};
+ghost use Rattle.arguments.specs.Arguments.{IsCommand, IsGiven, IsNumberAt, IsNumberOr};
+ghost use Rattle.arguments.specs.Arguments.{errand_arguments, flag_rule, numbers, option_rule};
+ghost use Rattle.arguments.specs.Arguments.{optional_rule, value_rule};
+ghost use Rattle.arguments.specs.Asking.{IsContact};
 ghost use Rattle.wire.specs.Ranges.{IsId};
 
 use crate::task::of_four_bytes;
 use batch::Contact;
 use clap::builder::ValueParser;
-use clap::{Arg, ArgMatches, Command};
+use clap::{Arg, ArgAction, ArgMatches, Command};
 use command_line::plain_number;
 use replay_arguments::{plain_command, text_at, value, with_argument};
 use std::alloc::{AllocError, Global};
@@ -29,23 +30,34 @@ pub fn option<'a>(
     value(alloc, id, name, help, parser).long(id)
 }
 
-/// For how many seconds a desk is waited for without the option `--patience`.
-const PATIENCE: u32 = 10;
-
-/// The option `--patience` of a subcommand that asks a desk.
-fn wait_option<'a>(alloc: Global) -> Arg<'a>
-    ensures rule { rule_of result ≡ wait_seconds_rule }
+/// A whole number from `low` to `high`, given after two hyphens and its id. It may be left out.
+pub fn optional_number<'a>(
+    alloc: Global,
+    id: &'a str,
+    name: &'a str,
+    help: &'a str,
+    low: u64,
+    high: u64,
+) -> Arg<'a>
+    ensures rule { rule_of result ≡ optional_rule id.entry.now low high }
     ensures local { result.global ≡ false }
 {
-    option(
-        alloc,
-        "patience",
-        "SECONDS",
-        "How long to wait for the desk's answer, 1 to 3600; without this option 10",
-        ValueParser::unsigned(1, 3600),
-    )
-    .required(false)
+    option(alloc, id, name, help, ValueParser::unsigned(low, high)).required(false)
 }
+
+/// A flag, given after two hyphens.
+pub fn flag<'a>(alloc: Global, id: &'a str, help: &'a str) -> Arg<'a>
+    ensures rule { rule_of result ≡ flag_rule id.entry.now }
+    ensures local { result.global ≡ false }
+{
+    Arg::new(alloc, id)
+        .long(id)
+        .help(help)
+        .action(ArgAction::SetTrue)
+}
+
+/// For how many seconds a desk is waited for without the option `--patience`.
+const PATIENCE: u32 = 10;
 
 /// A subcommand that asks a desk: its hall, its number, its address, and how long to wait for it.
 pub fn errand_command<'a>(
@@ -81,7 +93,15 @@ pub fn errand_command<'a>(
         ValueParser::string(),
     );
     let command = with_argument(command, to)?;
-    with_argument(command, wait_option(alloc))
+    let patience = optional_number(
+        alloc,
+        "patience",
+        "SECONDS",
+        "How long to wait for the desk's answer, 1 to 3600; without this option 10",
+        1,
+        3600,
+    );
+    with_argument(command, patience)
 }
 
 /// The first value of an argument as a number. No number where the value has a sign or leading
@@ -118,22 +138,22 @@ pub fn id_at(found: &ArgMatches<'_>) -> Option<u64>
     Some(id)
 }
 
-/// The value of SECONDS, where it is given.
-pub fn seconds_at(found: &ArgMatches<'_>) -> Option<u32>
-    ensures { IfSome result
-        (λ seconds. IsNumberAt (codes "patience") (rows_of (found_of found.now)) seconds) }
+/// The number that is given, or `Some(None)` where none is. None: it has a sign or leading zeros,
+/// or no four bytes hold it.
+pub fn optional_at(found: &ArgMatches<'_>, id: &str) -> Option<Option<u32>>
+    ensures { IfSome result (λ n. IsGiven id.now (rows_of (found_of found.now)) n) }
 {
-    of_four_bytes(number_at(found, "patience")?)
+    match found.get_str(id) {
+        None => Some(None),
+        Some(_) => Some(Some(of_four_bytes(number_at(found, id)?)?)),
+    }
 }
 
-/// The value of SECONDS, or 10 where it is not given.
-fn wait_at(found: &ArgMatches<'_>) -> Option<u32>
-    ensures { IfSome result (λ seconds. IsWait seconds (rows_of (found_of found.now))) }
+/// The number that is given, or another one where none is. None: as `optional_at`.
+pub fn number_or(found: &ArgMatches<'_>, id: &str, other: u32) -> Option<u32>
+    ensures { IfSome result (λ n. IsNumberOr id.now other (rows_of (found_of found.now)) n) }
 {
-    match found.get_str("patience") {
-        None => Some(PATIENCE),
-        Some(_) => seconds_at(found),
-    }
+    Some(optional_at(found, id)?.unwrap_or(other))
 }
 
 /// Where a subcommand asks its desk, and how long it waits.
@@ -141,6 +161,6 @@ pub fn contact_at<'a>(found: &ArgMatches<'a>) -> Option<Contact<'a>>
     ensures { IfSome result (λ contact. IsContact contact (rows_of (found_of found.now))) }
 {
     let address = text_at(found, "to")?;
-    let patience = wait_at(found)?;
+    let patience = number_or(found, "patience", PATIENCE)?;
     Some(Contact { address, patience })
 }

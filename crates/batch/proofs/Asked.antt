@@ -1,6 +1,6 @@
 -- Lines that were entered, and what was asked for that.
 use Rattle.std.proofs.Common.{◌≡◌, ◌⊎◌, inl, inr, ℕ, ◌+◌, Bool, true, List, [], ◌∷◌, ◌++◌, length}
-use Rattle.std.proofs.Common.{Option, Result, Ok, Err, OnErr, IfErr, refl, sym, ap, ◌∙◌}
+use Rattle.std.proofs.Common.{Option, Result, Ok, Err, OnErr, OnOk, IfErr, refl, sym, ap, ◌∙◌}
 use Rattle.std.proofs.Common.{append_assoc, append-nil, subst, arith}
 use Rattle.client.specs.Printing.{reply_text}
 use Rattle.std.proofs.KnownBytes.{Appends-nil}
@@ -9,27 +9,29 @@ use Rattle.lines.specs.Reading.{Reading, GivesFault, GivesLine, GivesNone}
 use Rattle.lines.specs.Bytes.{AppendsPart}
 use Rattle.lines.specs.declared.fault.RunFault.{RunFault}
 use Rattle.wire.specs.declared.frame.What.{What}
-use Rattle.batch.specs.Asking.{Adds, Asked, Asks, IsAnswer, Told, submit_of}
-use Rattle.batch.specs.Dialing.{Dialed, Place}
+use Rattle.batch.specs.Asking.{Asked, Asks, Goes, IsAnswer, IsOfAsking, submit_of}
+use Rattle.batch.specs.Dialing.{GoesBy, Place, Standing, Way}
 use Rattle.batch.specs.declared.asking.Receiver.{Receiver}
 use Rattle.batch.specs.declared.fault.BatchFault.TheVariants as fault
 use Rattle.batch.specs.model.Trying.{IsUndecided}
-use Rattle.batch.specs.Entering.{AsksAll, AsksSome, EndsReading, EnteredBy, Hinders, SaidBy}
-use Rattle.batch.specs.Entering.{EntersSome, FailsLine, IsOfPrinting, IsOther, Sides}
+use Rattle.batch.specs.Entering.{AsksFront, AsksLines, AsksTo, EndsReading, EnteredBy, Hinders}
+use Rattle.batch.specs.Entering.{SaidBy}
+use Rattle.batch.specs.Entering.{EntersAll, EntersSome, FailsLine, IsOfPrinting, IsOther, Sides}
 use Rattle.batch.specs.Entering.{StopsAsking, StopsBy, StopsLine}
 use Rattle.batch.specs.declared.fault.BatchFault.{BatchFault}
 use Rattle.batch.specs.declared.lines_entered.Batch.{Batch}
 use Rattle.batch.proofs.Entered.{Entered, enters_all, next_of, stops_at, stops_in}
-use Rattle.batch.proofs.Trying.{adds_more, adds_none, entered_for, entered_known}
+use Rattle.batch.proofs.Going.{goes_more, goes_none}
+use Rattle.batch.proofs.Trying.{entered_for, entered_known}
 
 -- the lines that were given were entered by these requests
 pub record Made (here : Place) (b : Batch) (given said : List ℕ) (asked : List Asked)
-    (old new : Option (List Dialed)) : Type 0 where
-  pub told : Adds here old new asked
+    (old new : Standing) : Type 0 where
+  pub told : Goes here old new asked
   pub each : SaidBy b b.first_id (lines_of given) said asked
 
-pub none_made : {here : Place} (b : Batch) (a : Option (List Dialed)) → Made here b [] [] [] a a
-none_made {here} b a = record { told = adds_none here a; each = (refl, refl) }
+pub none_made : {here : Place} (b : Batch) (a : Standing) → Made here b [] [] [] a a
+none_made {here} b a = record { told = goes_none here a; each = (refl, refl) }
 
 said_more : (b : Batch) (id : ℕ) (lines : List (List ℕ)) (line said : List ℕ) (last : What)
     (asked one : List Asked)
@@ -60,13 +62,13 @@ said_more b id (l ∷ lines) line said last asked one h next = (
 -- one more line was entered
 pub made_more : {here : Place} (b : Batch) (q : Reading) (line given said : List ℕ) (last : What)
     (asked : List Asked) (lines : ℕ) (start now : Option (List ℕ))
-    (old mid new : Option (List Dialed))
+    (old mid new : Standing)
     → Made here b given said asked old mid → (g : GivesLine q line given start now)
     → lines ≡ length (lines_of given)
     → (k : Asks here mid new (EnteredBy b.waits b.receiver (b.first_id + lines) line last))
     → Made here b (given ++ g.more) (said ++ reply_text last) (asked ++ k.0) old new
 made_more b q line given said last asked lines start now old mid new m g count k = record {
-  told = adds_more _ old mid new asked k.0 m.told k.1;
+  told = goes_more _ old mid new asked k.0 m.told k.1;
   each =
       subst (λ ls. SaidBy b b.first_id ls (said ++ reply_text last) (asked ++ k.0)) (sym g.is)
       (said_more b b.first_id (lines_of given) line said last asked k.0 m.each
@@ -75,11 +77,11 @@ made_more b q line given said last asked lines start now old mid new m g count k
 
 -- all lines were entered
 pub asks_all : {here : Place} (b : Batch) (p q : Reading) (given said : List ℕ) (asked : List Asked)
-    (start before now old new : Option (List ℕ)) (first last : Option (List Dialed))
+    (start before now old new : Option (List ℕ)) (first last : Standing)
     → Entered b p given said start before old new → GivesNone q given start now
     → Made here b given said asked first last
-    → AsksAll b (record { had = start; left = now; old = old; new = new })
-    (record { place = here; old = first; new = last })
+    → AsksLines (Goes here first last) b
+    (record { had = start; left = now; old = old; new = new })
 unfolding enters_all
 asks_all {here} b p q given said asked start before now old new first last e none m = record {
   enters = enters_all b p q given said start before now old new e none;
@@ -93,14 +95,14 @@ pub asks_in : {here : Place} (Fails : BatchFault → Type 0) (f : BatchFault) (b
     (p q : Reading)
     (line text given said next : List ℕ) (asked : List Asked)
     (lines : ℕ) (start before now old new new' : Option (List ℕ))
-    (first mid last : Option (List Dialed))
+    (first mid last : Standing)
     → Entered b p given said start before old new → (g : GivesLine q line given start now)
     → AppendsPart new new' next → StopsLine Fails f b (b.first_id + lines) text next
     → Made here b given said asked first mid
     → lines ≡ length (lines_of given) → text ≡ line
     → Asks here mid last (StopsAsking f b.receiver (b.first_id + lines) text)
-    → AsksSome Fails f b (record { had = start; left = now; old = old; new = new' })
-    (record { place = here; old = first; new = last })
+    → AsksFront (Goes here first last) Fails f b
+    (record { had = start; left = now; old = old; new = new' })
 unfolding stops_in
 asks_in {here} Fails f b p q line text given said next asked lines start before now old new new'
     first mid
@@ -119,7 +121,7 @@ asks_in {here} Fails f b p q line text given said next asked lines start before 
       };
       asked = asked;
       behind = k.0;
-      told = adds_more _ first mid last asked k.0 m.told k.1;
+      told = goes_more _ first mid last asked k.0 m.told k.1;
       each = m.each;
       next =
           inr (
@@ -135,12 +137,12 @@ asks_in {here} Fails f b p q line text given said next asked lines start before 
 pub asks_at : {here : Place} (Fails : BatchFault → Type 0) (h : BatchFault) (f : RunFault)
     (b : Batch)
     (p : Reading) (given said : List ℕ) (asked : List Asked)
-    (start before now old new : Option (List ℕ)) (first last : Option (List Dialed))
+    (start before now old new : Option (List ℕ)) (first last : Standing)
     → Entered b p given said start before old new → GivesFault f given start now
     → EndsReading h given (record { had = start; left = now; old = old; new = new })
     → Made here b given said asked first last
-    → AsksSome Fails h b (record { had = start; left = now; old = old; new = new })
-    (record { place = here; old = first; new = last })
+    → AsksFront (Goes here first last) Fails h b
+    (record { had = start; left = now; old = old; new = new })
 unfolding stops_at
 asks_at {here} Fails h f b p given said asked start before now old new first last e g ends m =
     record {
@@ -150,7 +152,7 @@ asks_at {here} Fails h f b p given said asked start before now old new first las
       };
       asked = asked;
       behind = [];
-      told = subst (Adds here first last) (sym (append-nil asked)) m.told;
+      told = subst (Goes here first last) (sym (append-nil asked)) m.told;
       each = m.each;
       next = inl (refl, ends);
     }
@@ -161,7 +163,7 @@ printing_other f (inr memory) = subst IsOther (sym memory) tt
 
 -- what was asked for a line, where what it was answered couldn't be printed
 pub if_unsaid : {here : Place} (b : Batch) (id : ℕ) (line : List ℕ) (last : What)
-    (old new : Option (List Dialed)) (result : Result (Unit {0}) BatchFault)
+    (old new : Standing) (result : Result (Unit {0}) BatchFault)
     → Asks here old new (EnteredBy b.waits b.receiver id line last) → IfErr result IsOfPrinting
     → IfErr result (λ f. Asks here old new (StopsAsking f b.receiver id line))
 if_unsaid b id line last old new (Ok _) h is = tt
@@ -207,15 +209,47 @@ unprinted Fails f b id n line old is h = record {
   stops = inl (refl, subst (λ (m : ℕ). Fails f ⊎ Hinders f b.waits b.receiver m line) is h);
 }
 
--- what is said of a fault, without the requests
-pub enters_some : (Fails : BatchFault → Type 0) (b : Batch) (s : Sides) (t : Told)
-    (r : Result (Unit {0}) BatchFault) → IfErr r (λ f. AsksSome Fails f b s t)
-    → OnErr r (EntersSome b s)
-enters_some Fails b s t (Ok _) h = tt
-enters_some Fails b s t (Err f) h = h.stops.enters
+-- what is said of the lines, without the requests
+pub stops_to : (r : Result (Unit {0}) BatchFault) (f : BatchFault) (b : Batch) (w : Way)
+    (s : Sides) → r ≡ Err f → AsksFront (GoesBy w) IsOfAsking f b s → AsksTo r b w s
+stops_to r f b w s is h = subst (λ x. AsksTo x b w s) (sym is) h
 
-pub stops_by : (Fails : BatchFault → Type 0) (b : Batch) (s : Sides) (t : Told)
-    (r : Result (Unit {0}) BatchFault) → IfErr r (λ f. AsksSome Fails f b s t)
-    → IfErr r (λ f. StopsBy Fails f b s)
-stops_by Fails b s t (Ok _) h = tt
-stops_by Fails b s t (Err f) h = h.stops
+pub enters_whole : (r : Result (Unit {0}) BatchFault) (b : Batch) (w : Way) (s : Sides)
+    → AsksTo r b w s → OnOk r (EntersAll b s)
+enters_whole (Ok _) b w s h = h.enters
+enters_whole (Err f) b w s h = tt
+
+pub enters_some : (r : Result (Unit {0}) BatchFault) (b : Batch) (w : Way) (s : Sides)
+    → AsksTo r b w s → OnErr r (EntersSome b s)
+enters_some (Ok _) b w s h = tt
+enters_some (Err f) b w s h = h.stops.enters
+
+pub stops_by : (r : Result (Unit {0}) BatchFault) (b : Batch) (w : Way) (s : Sides)
+    → AsksTo r b w s → IfErr r (λ f. StopsBy IsOfAsking f b s)
+stops_by (Ok _) b w s h = tt
+stops_by (Err f) b w s h = h.stops
+
+-- more is said of the requests
+pub asks_so : (Were : List Asked → Type 0) (r : Result (Unit {0}) BatchFault) (b : Batch) (w : Way)
+    (s : Sides) → ((asked : List Asked) → GoesBy w asked → Were asked) → AsksTo r b w s
+    → OnOk r (AsksLines Were b s)
+asks_so Were (Ok _) b w s more h = record {
+  enters = h.enters;
+  asked = h.asked;
+  told = more h.asked h.told;
+  each = h.each;
+}
+asks_so Were (Err f) b w s more h = tt
+
+pub asks_some_so : (Were : List Asked → Type 0) (r : Result (Unit {0}) BatchFault) (b : Batch)
+    (w : Way) (s : Sides) → ((asked : List Asked) → GoesBy w asked → Were asked) → AsksTo r b w s
+    → IfErr r (λ f. AsksFront Were IsOfAsking f b s)
+asks_some_so Were (Ok _) b w s more h = tt
+asks_some_so Were (Err f) b w s more h = record {
+  stops = h.stops;
+  asked = h.asked;
+  behind = h.behind;
+  told = more (h.asked ++ h.behind) h.told;
+  each = h.each;
+  next = h.next;
+}

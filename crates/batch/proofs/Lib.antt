@@ -1,4 +1,5 @@
 pub mod Asked
 pub mod Connections
 pub mod Entered
+pub mod Going
 pub mod Trying

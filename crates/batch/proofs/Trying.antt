@@ -1,7 +1,7 @@
 -- Requests that are made one after the other.
-use Rattle.std.proofs.Common.{◌≡◌, inl, inr, ◌++◌, ◌∷◌, [], ℕ, List, Bool, true, false, Option}
-use Rattle.std.proofs.Common.{None, Some, Result, Ok, Err, IfOk, IfErr, ◌⊎◌, ◌+◌, ◌/◌, ◌<◌, length}
-use Rattle.std.proofs.Common.{refl, sym, ap, ◌∙◌, append_assoc, append-nil, subst, arith}
+use Rattle.std.proofs.Common.{◌≡◌, inl, inr, ◌++◌, ◌∷◌, [], ℕ, List, Bool, true, false}
+use Rattle.std.proofs.Common.{Result, Ok, Err, IfOk, IfErr, ◌⊎◌, ◌+◌, ◌/◌, ◌<◌, length}
+use Rattle.std.proofs.Common.{refl, sym, ap, ◌∙◌, append_assoc, subst, arith}
 use Rattle.std.specs.Prelude.{IsOkAnd}
 use Rattle.std.specs.List.{AllByRecursion}
 use Rattle.wire.specs.declared.frame.Frame.{Frame}
@@ -9,11 +9,12 @@ use Rattle.wire.specs.declared.frame.What.{What}
 use Rattle.client.specs.declared.fault.ClientFault.TheVariants.{Refused}
 use Rattle.wire.specs.declared.values.ClientRefusal.TheVariants.{Busy}
 use Rattle.wire.specs.declared.frame.What.TheVariants as what
-use Rattle.batch.specs.Asking.{Adds, AreAllTries, AreKnown, AreOf, Asked, Asks, Counts, IsAnswer}
+use Rattle.batch.specs.Asking.{AreAllTries, AreKnown, AreOf, Asked, Asks, Counts, Goes}
+use Rattle.batch.specs.Asking.{IsAnswer}
 use Rattle.batch.specs.Asking.{IsAwaited, IsDecided, IsForgotten, IsFull, IsKnown, IsOneOf}
 use Rattle.batch.specs.Asking.{IsPending, IsPutOff, IsTaken, IsTicked, IsTurnedDown, IsUnknown}
 use Rattle.batch.specs.Asking.{IsWaiting, Tries, ask_of, submit_of, tick_of}
-use Rattle.batch.specs.Dialing.{AreMade, Dialed, Dials, Place, asked_so}
+use Rattle.batch.specs.Dialing.{Place, Standing, asked_so}
 use Rattle.batch.specs.Entering.{EndsAsking, EnteredBy, IsCutOff, IsLost, IsOther}
 use Rattle.batch.specs.Entering.{StopsAsking}
 use Rattle.batch.specs.declared.asking.Receiver.{Receiver}
@@ -22,46 +23,12 @@ use Rattle.batch.specs.declared.fault.BatchFault.TheVariants.{Asking}
 use Rattle.batch.specs.declared.fault.BatchFault.TheVariants as fault
 use Rattle.batch.specs.model.Trying.{AreFor, AreTicks, EndsWaiting, IsFor, IsLastTry, IsTurnedOff}
 use Rattle.batch.specs.model.Trying.{IsUnanswered, IsUndecided, StopsTaking}
+use Rattle.batch.proofs.Going.{goes_more}
 
 -- what holds of its fault holds of a result that is one
 pub fails_by : {T E : Type 0} (P : E → Type 0) (r : Result T E) (e : E) → r ≡ Err e → P e
     → IfErr r P
 fails_by P r e is p = subst (λ x. IfErr x P) (sym is) p
-
-dials_none : (a : Option (List Dialed)) → Dials a a []
-dials_none None = tt
-dials_none (Some xs) = sym (append-nil xs)
-
-pub dials_more : (a b c : Option (List Dialed)) (xs ys : List Dialed) → Dials a b xs → Dials b c ys
-    → Dials a c (xs ++ ys)
-dials_more None None None xs ys h k = tt
-dials_more None None (Some z) xs ys h k = absurd k
-dials_more None (Some y) c xs ys h k = absurd h
-dials_more (Some x) None None xs ys h k = tt
-dials_more (Some x) None (Some z) xs ys h k = absurd k
-dials_more (Some x) (Some y) None xs ys h k = tt
-dials_more (Some x) (Some y) (Some z) xs ys h k =
-    k ∙ ap (λ l. l ++ ys) h ∙ append_assoc x xs ys
-
-made_more : (here : Place) (asked more : List Asked) (xs ys : List Dialed)
-    → AreMade here asked xs → AreMade here more ys → AreMade here (asked ++ more) (xs ++ ys)
-made_more here [] more xs ys h k = subst (λ l. AreMade here more (l ++ ys)) (sym h) k
-made_more here (a ∷ asked) more xs ys h k = (
-  h.0,
-  h.1 ++ ys,
-  h.2,
-  made_more here asked more h.1 ys h.3 k,
-  ap (λ l. l ++ ys) h.4 ∙ append_assoc h.0 h.1 ys,
-)
-
--- nothing was asked
-pub adds_none : (here : Place) (a : Option (List Dialed)) → Adds here a a []
-adds_none here a = ([], dials_none a, refl)
-
-pub adds_more : (here : Place) (a b c : Option (List Dialed)) (xs ys : List Asked)
-    → Adds here a b xs → Adds here b c ys → Adds here a c (xs ++ ys)
-adds_more here a b c xs ys h k =
-    (h.0 ++ k.0, dials_more a b c h.0 k.0 h.1 k.1, made_more here xs ys h.0 k.0 h.2 k.2)
 
 pub all_more : (P : Asked → Type 0) (xs ys : List Asked) → AllByRecursion P xs
     → AllByRecursion P ys → AllByRecursion P (xs ++ ys)
@@ -74,33 +41,33 @@ all_weaker P Q [] f h = tt
 all_weaker P Q (x ∷ xs) f h = (f x h.0, all_weaker P Q xs f h.1)
 
 -- the last of the tries was answered
-pub tried : {here : Place} (P : Asked → Type 0) (a b c : Option (List Dialed)) (request : Frame)
+pub tried : {here : Place} (P : Asked → Type 0) (a b c : Standing) (request : Frame)
     (answer : What)
-    → Asks here a b (AllByRecursion P) → Adds here b c (asked_so request (Ok answer) ∷ [])
+    → Asks here a b (AllByRecursion P) → Goes here b c (asked_so request (Ok answer) ∷ [])
     → Asks here a c (Tries P request answer)
 tried P a b c request answer h k = (
   h.0 ++ asked_so request (Ok answer) ∷ [],
-  adds_more _ a b c h.0 (asked_so request (Ok answer) ∷ []) h.1 k,
+  goes_more _ a b c h.0 (asked_so request (Ok answer) ∷ []) h.1 k,
   record { front = h.0; each = h.2; parts = refl },
 )
 
 -- so is the last of them, where it was
-pub if_tried : {here : Place} (P : Asked → Type 0) (a b c : Option (List Dialed)) (request : Frame)
+pub if_tried : {here : Place} (P : Asked → Type 0) (a b c : Standing) (request : Frame)
     (result : Result What BatchFault)
-    → Asks here a b (AllByRecursion P) → Adds here b c (asked_so request result ∷ [])
+    → Asks here a b (AllByRecursion P) → Goes here b c (asked_so request result ∷ [])
     → IfOk result (λ answer. Asks here a c (Tries P request answer))
 if_tried P a b c request (Ok answer) h k = tried P a b c request answer h k
 if_tried P a b c request (Err f) h k = tt
 
-pub told_of : {here : Place} (a b : Option (List Dialed)) (x y : Frame) (r : Result What BatchFault)
+pub told_of : {here : Place} (a b : Standing) (x y : Frame) (r : Result What BatchFault)
     → x ≡ y
-    → Adds here a b (asked_so x r ∷ []) → Adds here a b (asked_so y r ∷ [])
-told_of {here} a b x y r = subst (λ z. Adds here a b (asked_so z r ∷ []))
+    → Goes here a b (asked_so x r ∷ []) → Goes here a b (asked_so y r ∷ [])
+told_of {here} a b x y r = subst (λ z. Goes here a b (asked_so z r ∷ []))
 
 -- it was asked for an id until that was decided
-pub awaits : {here : Place} (r : Receiver) (id : ℕ) (a b c : Option (List Dialed)) (told : What)
+pub awaits : {here : Place} (r : Receiver) (id : ℕ) (a b c : Standing) (told : What)
     → Asks here a b (AllByRecursion (IsPutOff r (ask_of r id)))
-    → Adds here b c (asked_so (ask_of r id) (Ok told) ∷ []) → IsDecided told
+    → Goes here b c (asked_so (ask_of r id) (Ok told) ∷ []) → IsDecided told
     → Asks here a c (IsAwaited r id told)
 awaits r id a b c told h k done =
     let t = tried (IsPutOff r (ask_of r id)) a b c (ask_of r id) told h k in
@@ -190,7 +157,7 @@ all_of P Q m n (x ∷ xs) (inl h) = (inl h.0, all_of P Q h.1 n xs h.3)
 all_of P Q m n (x ∷ xs) (inr h) = (inr h.0, all_of P Q m h.1 xs h.3)
 
 -- of each of those that were counted
-pub tries_of : {here : Place} (P Q : Asked → Type 0) (m n : ℕ) (a b : Option (List Dialed))
+pub tries_of : {here : Place} (P Q : Asked → Type 0) (m n : ℕ) (a b : Standing)
     → Asks here a b (Counts P Q m n) → Asks here a b (AllByRecursion (λ x. P x ⊎ Q x))
 tries_of P Q m n a b h = (h.0, h.1, all_of P Q m n h.0 h.2)
 
@@ -202,29 +169,29 @@ one_of P Q m n (x ∷ xs) (inl h) some = (x, h.0)
 one_of P Q m n (x ∷ xs) (inr h) some = one_of P Q m h.1 xs h.3 some
 
 -- one more try
-one_counted : {here : Place} (P Q : Asked → Type 0) (m n : ℕ) (a b c : Option (List Dialed))
+one_counted : {here : Place} (P Q : Asked → Type 0) (m n : ℕ) (a b c : Standing)
     (one : Asked)
-    → Asks here a b (Counts P Q m n) → Adds here b c (one ∷ []) → P one → Asks here a c
+    → Asks here a b (Counts P Q m n) → Goes here b c (one ∷ []) → P one → Asks here a c
     (Counts P Q (m + 1) n)
 one_counted P Q m n a b c one h add is =
     let e : n + 0 ≡ n = omega arith in (
       h.0 ++ one ∷ [],
-      adds_more _ a b c h.0 (one ∷ []) h.1 add,
+      goes_more _ a b c h.0 (one ∷ []) h.1 add,
       counts_more P Q m n 1 0 (m + 1) n h.0 (one ∷ []) refl e h.2 (inl (is, 0, refl, (refl, refl))),
     )
 
 -- one more try, and then its ticks
 pub goes_on : {here : Place} (P : Asked → Type 0) (r : Receiver) (tries : ℕ)
-    (a b c d : Option (List Dialed))
+    (a b c d : Standing)
     (one : Asked)
-    → Asks here a b (Counts P (IsTicked r) tries (tries / 32)) → Adds here b c (one ∷ []) → P one
+    → Asks here a b (Counts P (IsTicked r) tries (tries / 32)) → Goes here b c (one ∷ []) → P one
     → Asks here c d (AreTicks r tries)
     → Asks here a d (Counts P (IsTicked r) (tries + 1) ((tries + 1) / 32))
 goes_on P r tries a b c d one h add is t =
     let e : tries + 1 + 0 ≡ tries + 1 = omega arith in
     let k = one_counted P (IsTicked r) tries (tries / 32) a b c one h add is in (
       k.0 ++ t.0,
-      adds_more _ a c d k.0 t.0 k.1 t.1,
+      goes_more _ a c d k.0 t.0 k.1 t.1,
       counts_more P (IsTicked r) (tries + 1) (tries / 32) 0 (length t.0) (tries + 1)
           ((tries + 1) / 32) k.0 t.0 e t.2.1 k.2 (counts_of P (IsTicked r) t.0 t.2.0),
     )
@@ -233,24 +200,24 @@ goes_on P r tries a b c d one h add is t =
 
 -- tries, and then one request
 pub then_last : {here : Place} (P Q : Asked → Type 0) (R : List Asked → Type 0)
-    (a b c : Option (List Dialed))
+    (a b c : Standing)
     (one : Asked) → ((x : Asked) → P x → Q x) → (h : Asks here a b (AllByRecursion P))
-    → Adds here b c (one ∷ []) → Q one → R (h.0 ++ one ∷ [])
+    → Goes here b c (one ∷ []) → Q one → R (h.0 ++ one ∷ [])
     → Asks here a c (λ asked. AllByRecursion Q asked × R asked)
 then_last P Q R a b c one f h add is so = (
   h.0 ++ one ∷ [],
-  adds_more _ a b c h.0 (one ∷ []) h.1 add,
+  goes_more _ a b c h.0 (one ∷ []) h.1 add,
   (all_more Q h.0 (one ∷ []) (all_weaker P Q h.0 f h.2) (is, tt), so),
 )
 
 -- a tick failed after one more try
 pub tick_last : {here : Place} (P : Asked → Type 0) (r : Receiver) (request : Frame) (m n : ℕ)
-    (a b c d : Option (List Dialed)) (one : Asked) (f : BatchFault) (R : List Asked → Type 0)
+    (a b c d : Standing) (one : Asked) (f : BatchFault) (R : List Asked → Type 0)
     → ((x : Asked) → P x ⊎ IsTicked r x → IsFor r request x)
     → ((front : List Asked) → AllByRecursion (λ x. P x ⊎ IsTicked r x) front
     → R (front ++ asked_so (tick_of r) (Err f) ∷ []))
-    → Asks here a b (Counts P (IsTicked r) m n) → Adds here b c (one ∷ []) → P one
-    → Adds here c d (asked_so (tick_of r) (Err f) ∷ [])
+    → Asks here a b (Counts P (IsTicked r) m n) → Goes here b c (one ∷ []) → P one
+    → Goes here c d (asked_so (tick_of r) (Err f) ∷ [])
     → Asks here a d (λ asked. AreFor r request asked × R asked)
 tick_last P r request m n a b c d one f R is_for so h add is tick =
     let all = tries_of P (IsTicked r) (m + 1) n a c
@@ -260,9 +227,9 @@ tick_last P r request m n a b c d one f R is_for so h add is tick =
 
 -- the text's last try failed
 pub turned_off : {here : Place} (r : Receiver) (submit : Frame) (f : BatchFault) (m n : ℕ)
-    (a b c : Option (List Dialed))
+    (a b c : Standing)
     → (f ≡ Asking (Refused Busy) → (m ≡ 10000) × (n ≡ 312))
-    → Asks here a b (Counts (IsFull submit) (IsTicked r) m n) → Adds here b c
+    → Asks here a b (Counts (IsFull submit) (IsTicked r) m n) → Goes here b c
     (asked_so submit (Err f) ∷ [])
     → Asks here a c (λ asked. AreFor r submit asked × IsLastTry f r submit asked)
 unfolding tries_of
@@ -277,9 +244,9 @@ turned_off r submit f m n a b c enough h add =
 
 -- so it did, where it did
 pub if_turned_off : {here : Place} (r : Receiver) (submit : Frame) (m n : ℕ)
-    (a b c : Option (List Dialed))
+    (a b c : Standing)
     (result : Result What BatchFault) → m ≡ 10000 → n ≡ 312
-    → Asks here a b (Counts (IsFull submit) (IsTicked r) m n) → Adds here b c
+    → Asks here a b (Counts (IsFull submit) (IsTicked r) m n) → Goes here b c
     (asked_so submit result ∷ [])
     → IfErr result (λ f. Asks here a c
     (λ asked. AreFor r submit asked × IsLastTry f r submit asked))
@@ -316,10 +283,10 @@ last_failed r id f front request answer each failed is_for =
 
 -- one more question failed
 pub asks_failed : {here : Place} (r : Receiver) (id : ℕ) (f : BatchFault) (m n : ℕ)
-    (a b c : Option (List Dialed))
+    (a b c : Standing)
     (result : Result What BatchFault) → result ≡ Err f
     → Asks here a b (Counts (IsWaiting (ask_of r id)) (IsTicked r) m n)
-    → Adds here b c (asked_so (ask_of r id) result ∷ [])
+    → Goes here b c (asked_so (ask_of r id) result ∷ [])
     → Asks here a c (EndsWaiting f r id)
 asks_failed r id f m n a b c result failed h add =
     let all = tries_of (IsWaiting (ask_of r id)) (IsTicked r) m n a b h in
@@ -328,11 +295,11 @@ asks_failed r id f m n a b c result failed h add =
     (last_failed r id f all.0 (ask_of r id) result all.2 failed (inl refl))
 
 -- it was answered that nothing is known
-pub asks_lost : {here : Place} (r : Receiver) (id m n : ℕ) (a b c : Option (List Dialed))
+pub asks_lost : {here : Place} (r : Receiver) (id m n : ℕ) (a b c : Standing)
     (told : What)
     → IsUnknown told
     → Asks here a b (Counts (IsWaiting (ask_of r id)) (IsTicked r) m n)
-    → Adds here b c (asked_so (ask_of r id) (Ok told) ∷ [])
+    → Goes here b c (asked_so (ask_of r id) (Ok told) ∷ [])
     → Asks here a c (EndsWaiting fault.Lost r id)
 asks_lost r id m n a b c told unknown h add =
     let all = tries_of (IsWaiting (ask_of r id)) (IsTicked r) m n a b h in
@@ -352,7 +319,7 @@ tick_last_asked r id f front each =
     last_failed r id f front (tick_of r) (Err f) each refl (inr refl)
 
 -- it was asked as often as that is done
-pub waits_on : {here : Place} (r : Receiver) (id m n : ℕ) (a b : Option (List Dialed)) → m ≡ 10000 →
+pub waits_on : {here : Place} (r : Receiver) (id m n : ℕ) (a b : Standing) → m ≡ 10000 →
     n ≡ 312
     → Asks here a b (Counts (IsWaiting (ask_of r id)) (IsTicked r) m n)
     → Asks here a b (EndsWaiting fault.StillPending r id)
@@ -380,7 +347,7 @@ if_waiting ask (Ok told) h = (told, h.0, h.1)
 if_waiting ask (Err f) h = absurd h
 
 -- then there is an answer that it isn't decided yet
-pub told_once : {here : Place} (r : Receiver) (id m n : ℕ) (a b : Option (List Dialed)) → 0 < m
+pub told_once : {here : Place} (r : Receiver) (id m n : ℕ) (a b : Standing) → 0 < m
     → Asks here a b (Counts (IsWaiting (ask_of r id)) (IsTicked r) m n)
     → IsUndecided fault.StillPending r id
 told_once r id m n a b some h =
@@ -491,7 +458,7 @@ not_taken f r id text asked h (inr other) = (
 
 -- so it is of what is asked for the text
 pub if_asks_text : (here : Place) (r : Receiver) (id : ℕ) (text : List ℕ) (submit : Frame)
-    (a b : Option (List Dialed)) (result : Result What BatchFault) → submit ≡ submit_of r id text
+    (a b : Standing) (result : Result What BatchFault) → submit ≡ submit_of r id text
     → IfErr result (λ f. Asks here a b (IsTurnedOff f r submit))
     → IfErr result (λ f. Asks here a b (StopsTaking f r id text))
 if_asks_text here r id text submit a b (Ok answer) is h = tt
@@ -501,7 +468,7 @@ if_asks_text here r id text submit a b (Err f) is h =
 
 -- the text was not taken
 pub asks_text : {here : Place} (f : BatchFault) (r : Receiver) (id : ℕ) (text : List ℕ)
-    (a b : Option (List Dialed))
+    (a b : Standing)
     → Asks here a b (StopsTaking f r id text) → Asks here a b (StopsAsking f r id text)
 asks_text f r id text a b h = (h.0, h.1, not_taken f r id text h.0 h.2.0 h.2.1)
 
@@ -530,13 +497,13 @@ ends_so f r id text taken first rest h (inr (lost, forgotten)) =
     inr (lost, (taken, first, rest, h, forgotten, refl))
 
 not_awaited : {here : Place} (f : BatchFault) (r : Receiver) (id : ℕ) (text : List ℕ) (taken : What)
-    (a b c : Option (List Dialed))
+    (a b c : Standing)
     → Asks here a b (IsTaken r id text taken)
     → Asks here b c (EndsWaiting f r id)
     → Asks here a c (StopsAsking f r id text)
 not_awaited f r id text taken a b c h k = (
   h.0 ++ k.0,
-  adds_more _ a b c h.0 k.0 h.1 k.1,
+  goes_more _ a b c h.0 k.0 h.1 k.1,
   (
     all_more (IsOneOf r (submit_of r id text) (ask_of r id)) h.0 k.0
         (taken_for r id text taken h.0 h.2)
@@ -547,19 +514,19 @@ not_awaited f r id text taken a b c h k = (
 )
 
 pub awaited : {here : Place} (r : Receiver) (id : ℕ) (text : List ℕ) (taken last : What)
-    (a b c : Option (List Dialed))
+    (a b c : Standing)
     → Asks here a b (IsTaken r id text taken) → Asks here b c (IsAwaited r id last)
     → Asks here a c (EnteredBy true r id text last)
 awaited r id text taken last a b c h k = (
   h.0 ++ k.0,
-  adds_more _ a b c h.0 k.0 h.1 k.1,
+  goes_more _ a b c h.0 k.0 h.1 k.1,
   (taken, h.0, k.0, h.2, k.2, refl),
 )
 
 -- the last request was answered, where it was
 pub if_awaited : {here : Place} (waits : Bool) (r : Receiver) (id : ℕ) (text : List ℕ)
     (taken : What)
-    (a b c : Option (List Dialed)) (result : Result What BatchFault)
+    (a b c : Standing) (result : Result What BatchFault)
     → waits ≡ true → Asks here a b (IsTaken r id text taken)
     → IfOk result (λ last. Asks here b c (IsAwaited r id last))
     → IfOk result (λ last. Asks here a c (EnteredBy waits r id text last))
@@ -569,7 +536,7 @@ if_awaited {here} waits r id text taken a b c (Ok last) is h k =
 if_awaited waits r id text taken a b c (Err f) is h k = tt
 
 pub if_not_awaited : {here : Place} (r : Receiver) (id : ℕ) (text : List ℕ) (taken : What)
-    (a b c : Option (List Dialed)) (result : Result What BatchFault)
+    (a b c : Standing) (result : Result What BatchFault)
     → Asks here a b (IsTaken r id text taken)
     → IfErr result (λ f. Asks here b c (EndsWaiting f r id))
     → IfErr result (λ f. Asks here a c (StopsAsking f r id text))

@@ -10,7 +10,7 @@ use Rattle.wire.specs.declared.frame.What.TheVariants as what
 use Rattle.wire.specs.declared.values.ClientRefusal.TheVariants.{Busy}
 use Rattle.wire.specs.declared.values.CommandState.TheVariants.{Done, Unknown}
 use Rattle.wire.specs.declared.values.Version.TheVariants.{One}
-pub use Rattle.batch.specs.Dialing.{Adds, Asked, Asks, Told, asked_so, told}
+pub use Rattle.batch.specs.Dialing.{Adds, Asked, Asks, Goes, Told, asked_so, told}
 use Rattle.batch.specs.declared.asking.Receiver.{Receiver}
 use Rattle.batch.specs.declared.fault.BatchFault.{BatchFault}
 use Rattle.batch.specs.declared.fault.BatchFault.TheVariants.{Asking, CannotConnect, Late, NoMemory}

@@ -1,6 +1,6 @@
 -- What entering lines sends and prints.
 use Rattle.std.specs.Prelude.{◌≡◌, ◌⊎◌, ◌+◌, ◌++◌, ◌∷◌, [], ℕ, Bool, true, false, List, length}
-use Rattle.std.specs.Prelude.{Option, Err}
+use Rattle.std.specs.Prelude.{Option, Result, Ok, Err}
 use Rattle.std.specs.Io.KnownBytes.{Appends, Consumes, IsAtEnd}
 use Rattle.acceptor.specs.Entries.{IsId, IsText}
 use Rattle.client.specs.Printing.{reply_text}
@@ -12,9 +12,11 @@ use Rattle.lines.specs.Reading.{GivesFault}
 use Rattle.lines.specs.declared.fault.RunFault.TheVariants as run_fault
 use Rattle.wire.specs.declared.frame.What.{What}
 use Rattle.wire.specs.declared.values.ClientRefusal.TheVariants.{Busy}
-use Rattle.batch.specs.Asking.{Adds, AreAllTries, AreKnown, AreOf, Asked, Asks, IsAnswer}
-use Rattle.batch.specs.Asking.{IsAwaited, IsDecided, IsForgotten, IsFull, IsPending, IsTaken}
+use Rattle.batch.specs.Asking.{Adds, AreAllTries, AreKnown, AreOf, Asked, IsAnswer}
+use Rattle.batch.specs.Asking.{IsAwaited, IsDecided, IsForgotten, IsFull, IsOfAsking, IsPending}
+use Rattle.batch.specs.Asking.{IsTaken}
 use Rattle.batch.specs.Asking.{IsUnknown, IsWaiting, Told, ask_of, submit_of, tick_of}
+use Rattle.batch.specs.Dialing.{AsksBy, GoesBy, Way}
 use Rattle.batch.specs.declared.asking.Receiver.{Receiver}
 use Rattle.batch.specs.declared.fault.BatchFault.{BatchFault}
 use Rattle.batch.specs.declared.fault.BatchFault.TheVariants as fault
@@ -181,12 +183,13 @@ StopsAsking f r id text asked =
     × ((AreKnown r id asked × EndsAsking f r id text asked)
     ⊎ ((f ≡ fault.Lost) × IsLost r id text asked))
 
--- the line was entered with the id, by the requests that were made, and its last answer is printed
-pub record EntersLine (b : Batch) (id : ℕ) (line : List ℕ) (t : Told) (old new : Option (List ℕ))
+-- line n, counted from 0, was entered by the requests that were made, and its last answer is
+-- printed
+pub record EntersLine (b : Batch) (n : ℕ) (line : List ℕ) (w : Way) (old new : Option (List ℕ))
     : Type 0 where
   pub last : What
-  pub entered : IsEntered b.waits b.receiver id line last
-  pub asked : Asks t.place t.old t.new (EnteredBy b.waits b.receiver id line last)
+  pub entered : IsEntered b.waits b.receiver (b.first_id + n) line last
+  pub asked : AsksBy w (EnteredBy b.waits b.receiver (b.first_id + n) line last)
   pub written : Appends old new (reply_text last)
 
 -- the line was not entered with the id, or not told, and of what is printed of it a front part may
@@ -197,22 +200,34 @@ pub record FailsLine (Fails : BatchFault → Type 0) (f : BatchFault) (b : Batch
   pub written : AppendsPart old new said
   pub stops : StopsLine Fails f b id line said
 
--- each line was entered by the requests that were made, and by no others
-pub record AsksAll (b : Batch) (s : Sides) (t : Told) : Type 0 where
+-- each line was entered by the requests that were made, of all of which this is said
+pub record AsksLines (Are : List Asked → Type 0) (b : Batch) (s : Sides) : Type 0 where
   pub enters : EntersAll b s
   pub asked : List Asked
-  pub told : Adds t.place t.old t.new asked
+  pub told : Are asked
   pub each : SaidBy b b.first_id (lines_of enters.input) enters.said asked
 
 -- So were the lines of the front part. What was asked after them was for the next line, with the
 -- next id, where there was one.
-pub record AsksSome (Fails : BatchFault → Type 0) (f : BatchFault) (b : Batch) (s : Sides)
-    (t : Told) : Type 0 where
+pub record AsksFront (Are : List Asked → Type 0) (Fails : BatchFault → Type 0) (f : BatchFault)
+    (b : Batch) (s : Sides) : Type 0 where
   pub stops : StopsBy Fails f b s
   pub asked : List Asked
   pub behind : List Asked
-  pub told : Adds t.place t.old t.new (asked ++ behind)
+  pub told : Are (asked ++ behind)
   pub each : SaidBy b b.first_id (lines_of stops.enters.front) stops.enters.said asked
   pub next : ((behind ≡ []) × EndsReading f stops.enters.front s) ⊎ ((line : List ℕ)
       × IsNext stops.enters.front stops.enters.rest line s.had
       × StopsAsking f b.receiver (b.first_id + length (lines_of stops.enters.front)) line behind)
+
+-- so it was, of requests that were made in this way
+abbrev pub AsksTo : Result (Unit {0}) BatchFault → Batch → Way → Sides → Type 0
+AsksTo (Ok _) b w s = AsksLines (GoesBy w) b s
+AsksTo (Err f) b w s = AsksFront (GoesBy w) IsOfAsking f b s
+
+-- so it was, and nothing else was done with connections
+abbrev pub AsksAll : Batch → Sides → Told → Type 0
+AsksAll b s t = AsksLines (Adds t.place t.old t.new) b s
+
+abbrev pub AsksSome : (BatchFault → Type 0) → BatchFault → Batch → Sides → Told → Type 0
+AsksSome Fails f b s t = AsksFront (Adds t.place t.old t.new) Fails f b s

@@ -1,7 +1,7 @@
 //! Where connections to a desk come from.
 
-ghost use Rattle.std.specs.Prelude.{◌∷◌, [], List, Option, IfOk, OnErr};
-ghost use Rattle.batch.specs.Dialing.{Dialed, Dials, Ended, Failed, Opened, place_of};
+ghost use Rattle.std.specs.Prelude.{◌≡◌, ◌∷◌, [], List, Option, IfOk, OnErr};
+ghost use Rattle.batch.specs.Dialing.{Again, Dialed, Dials, Ended, Failed, Opened, place_of};
 
 use std::io;
 use std::io::{Read, Write};
@@ -11,11 +11,23 @@ use std::io::{Read, Write};
 pub struct Contact<'a> {
     /// An IP address or a host's name, a colon, and a port.
     pub address: &'a str,
-    /// Seconds from opening a connection to the last byte of the answer.
+    /// Seconds from the beginning of a request to the last byte of its answer: of the first one
+    /// over a connection, from before it is opened.
     pub patience: u32,
 }
 
-/// Connections to desks, one after the other.
+/// What is known of the end of a connection.
+#[derive(Clone, Copy, Debug, PartialEq, Eq)]
+pub enum Ending {
+    /// The desk was waited for as long as its contact says, and there is no answer.
+    Late,
+    /// The desk ended it, and no byte of the answer had come.
+    Gone,
+    /// Neither.
+    Own,
+}
+
+/// Connections to desks, one after the other. Over each, requests are made one after the other.
 pub trait Dial {
     type Reader: Read + Drop;
 
@@ -24,7 +36,7 @@ pub trait Dial {
     /// What became of the connections, in order, where that is told.
     ghost dialed: { Self → Option (List Dialed) };
 
-    /// Opens a connection: what the desk says, and where requests go.
+    /// Opens a connection for a request: what the desk says, and where requests go.
     fn dial(&mut self, contact: Contact<'_>) -> io::Result<(Self::Reader, Self::Writer)>
         ensures opened { IfOk result (λ c. Dials (dialed self.old) (dialed self.new)
             (Opened (place_of contact.entry) (Self.Reader.remaining c.0)
@@ -32,13 +44,19 @@ pub trait Dial {
         ensures failed { OnErr result (Dials (dialed self.old) (dialed self.new)
             (Failed (place_of contact.entry) ∷ [])) };
 
-    /// Ends a connection, and says whether the desk was waited for as long as its contact says.
-    fn hang_up(&mut self, reader: Self::Reader, writer: Self::Writer) -> bool
+    /// Begins one more request over the connection that was opened last: from here on the desk is
+    /// waited for as long as its contact says.
+    fn again(&mut self, reader: &mut Self::Reader)
+        ensures told { Dials (dialed self.old) (dialed self.new) (Again ∷ []) }
+        ensures same { Self.Reader.remaining reader.new ≡ Self.Reader.remaining reader.old };
+
+    /// Ends a connection, and gives what is known of its end.
+    fn hang_up(&mut self, reader: Self::Reader, writer: Self::Writer) -> Ending
         ensures { Dials (dialed self.old) (dialed self.new)
             (Ended (Self.Reader.remaining reader) (Self.Writer.contents writer) result ∷ []) };
 
-    /// Rests, before the same is asked once more, after so many tries, counted from 0. No
-    /// connection is opened.
+    /// Rests, before the same is asked once more, after so many tries, counted from 0. Nothing is
+    /// done with connections.
     fn pause(&mut self, tries: u32)
         ensures { Dials (dialed self.old) (dialed self.new) [] };
 }

@@ -3,19 +3,21 @@
 ghost use Rattle.std.specs.Prelude.{◌≡◌, ◌≢◌, ◌⊎◌, ◌∷◌, [], Bool, Err, false, IfErr, IfOk};
 ghost use Rattle.std.specs.Prelude.{OnOk, IsTrue};
 ghost use Rattle.wire.specs.Ranges.{IsDesk, IsEntry, IsFrame, IsId};
-ghost use Rattle.batch.specs.Asking.{Adds, Asks, IsAnswer, IsAwaited, IsDecided, IsPending};
-ghost use Rattle.batch.specs.Asking.{IsTaken, IsTakenOf, IsUnknown, ask_of, asked_so, submit_of};
-ghost use Rattle.batch.specs.Asking.{tick_of};
-ghost use Rattle.batch.specs.Dialing.{place_of};
+ghost use Rattle.batch.specs.Asking.{IsAnswer, IsAwaited, IsDecided, IsOfAsking};
+ghost use Rattle.batch.specs.Asking.{IsPending, IsTaken, IsTakenOf, IsUnknown, ask_of, asked_so};
+ghost use Rattle.batch.specs.Asking.{submit_of, tick_of};
+ghost use Rattle.batch.specs.Dialing.{AsksBy, GoesBy};
+ghost use Rattle.batch.specs.model.Keeping.{way_of};
 ghost use Rattle.batch.specs.Entering.{EnteredBy, Hinders, IsEntered, IsOther, StopsAsking};
 ghost use Rattle.batch.specs.declared.asking.Receiver.{Receiver as Desk};
 ghost use Rattle.batch.specs.model.Trying.{AreTicks, EndsWaiting, IsTurnedOff, IsUndecided};
 ghost use Rattle.batch.specs.model.Trying.{StopsTaking};
 ghost use Rattle.batch.specs.declared.entering.Fate.TheVariants as fate;
 
-use crate::asking::{Ask, Receiver, request_to};
-use crate::dialing::Contact;
+use crate::asking::{Receiver, request_to};
+use crate::dialing::{Contact, Dial};
 use crate::fault::BatchFault;
+use crate::keeping::{Held, ask};
 use acceptor::entry::{Entry, EntryFault};
 use client::ClientFault;
 use std::alloc::Global;
@@ -31,28 +33,30 @@ const TRIES_TO_TICK: u32 = 32;
 const GREATEST: u64 = 9_223_372_036_854_775_807;
 
 /// Rests after a try, counted from 0, and gives the desk a tick after every 32nd one.
-fn rest_behind<A: Ask>(
+fn rest_behind<D: Dial>(
     alloc: Global,
-    desk: &mut A,
+    dial: &mut D,
+    held: &mut Option<Held<D::Reader, D::Writer>>,
     contact: Contact<'_>,
     receiver: Receiver,
     tries: u32,
 ) -> Result<(), BatchFault>
     requires { IsDesk receiver.desk }
     ensures ok { OnOk result
-        (Asks (place_of contact.entry) (A.asked desk.old) (A.asked desk.new)
+        (AsksBy (way_of D.dialed D.Reader.remaining D.Writer.contents
+        contact.entry dial.old dial.new held.old held.new)
         (AreTicks receiver tries)) }
-    ensures err { IfErr result (λ f. Adds (place_of contact.entry) (A.asked desk.old)
-        (A.asked desk.new)
+    ensures err { IfErr result (λ f. GoesBy (way_of D.dialed D.Reader.remaining D.Writer.contents
+        contact.entry dial.old dial.new held.old held.new)
         (asked_so (tick_of receiver) (Err f) ∷ [])) }
-    ensures fails { IfErr result A.fails }
+    ensures fails { IfErr result IsOfAsking }
 {
-    desk.rest(contact, tries);
+    dial.pause(tries);
     if tries % TRIES_TO_TICK < TRIES_TO_TICK - 1 {
         return Ok(());
     }
     let tick = request_to(receiver, What::Tick);
-    desk.ask(alloc, contact, &tick)?;
+    ask(alloc, dial, held, contact, &tick)?;
     Ok(())
 }
 
@@ -70,9 +74,10 @@ fn is_busy(fault: BatchFault) -> bool
 }
 
 /// Makes a request until the desk's queue has room.
-fn asked_until_taken<A: Ask>(
+fn asked_until_taken<D: Dial>(
     alloc: Global,
-    desk: &mut A,
+    dial: &mut D,
+    held: &mut Option<Held<D::Reader, D::Writer>>,
     contact: Contact<'_>,
     receiver: Receiver,
     submit: &Frame,
@@ -80,16 +85,16 @@ fn asked_until_taken<A: Ask>(
     requires desk { IsDesk receiver.desk }
     requires spelled { IsFrame submit.now }
     ensures answer { IfOk result (λ answer. IsAnswer submit.now answer) }
-    ensures ok { IfOk result (λ answer. Asks (place_of contact.entry) (A.asked desk.old)
-        (A.asked desk.new)
+    ensures ok { IfOk result (λ answer. AsksBy (way_of D.dialed D.Reader.remaining D.Writer.contents
+        contact.entry dial.old dial.new held.old held.new)
         (IsTakenOf receiver submit.now answer)) }
-    ensures err { IfErr result (λ f. Asks (place_of contact.entry) (A.asked desk.old)
-        (A.asked desk.new)
+    ensures err { IfErr result (λ f. AsksBy (way_of D.dialed D.Reader.remaining D.Writer.contents
+        contact.entry dial.old dial.new held.old held.new)
         (IsTurnedOff f receiver submit.now)) }
-    ensures fails { IfErr result A.fails }
+    ensures fails { IfErr result IsOfAsking }
 {
     for tries in 0..MOST_TRIES {
-        match desk.ask(alloc, contact, submit) {
+        match ask(alloc, dial, held, contact, submit) {
             Ok(answer) => return Ok(answer),
             Err(fault) => {
                 if !is_busy(fault) {
@@ -97,9 +102,9 @@ fn asked_until_taken<A: Ask>(
                 }
             }
         }
-        rest_behind(alloc, desk, contact, receiver, tries)?;
+        rest_behind(alloc, dial, held, contact, receiver, tries)?;
     }
-    desk.ask(alloc, contact, submit)
+    ask(alloc, dial, held, contact, submit)
 }
 
 /// The entry, whose id and text are in their ranges: the contracts of the two calls say so.
@@ -129,9 +134,10 @@ fn entry_of(alloc: Global, id: u64, text: &[u8]) -> Result<Entry, BatchFault>
 }
 
 /// Enters a command, and gives what the desk answers.
-fn submitted<A: Ask>(
+fn submitted<D: Dial>(
     alloc: Global,
-    desk: &mut A,
+    dial: &mut D,
+    held: &mut Option<Held<D::Reader, D::Writer>>,
     contact: Contact<'_>,
     receiver: Receiver,
     id: u64,
@@ -139,18 +145,18 @@ fn submitted<A: Ask>(
 ) -> Result<What, BatchFault>
     requires { IsDesk receiver.desk }
     ensures answer { IfOk result (λ answer. IsAnswer (submit_of receiver id text.now) answer) }
-    ensures ok { IfOk result (λ answer. Asks (place_of contact.entry) (A.asked desk.old)
-        (A.asked desk.new)
+    ensures ok { IfOk result (λ answer. AsksBy (way_of D.dialed D.Reader.remaining D.Writer.contents
+        contact.entry dial.old dial.new held.old held.new)
         (IsTaken receiver id text.now answer)) }
-    ensures err { IfErr result (λ f. Asks (place_of contact.entry) (A.asked desk.old)
-        (A.asked desk.new)
+    ensures err { IfErr result (λ f. AsksBy (way_of D.dialed D.Reader.remaining D.Writer.contents
+        contact.entry dial.old dial.new held.old held.new)
         (StopsTaking f receiver id text.now)) }
     ensures cause { IfErr result
-        (λ f. A.fails f ⊎ ((waits : Bool) (r : Desk) → Hinders f waits r id text.now)) }
+        (λ f. IsOfAsking f ⊎ ((waits : Bool) (r : Desk) → Hinders f waits r id text.now)) }
 {
     let entry = entry_of(alloc, id, text)?;
     let submit = request_to(receiver, What::Submit { entry });
-    asked_until_taken(alloc, desk, contact, receiver, &submit)
+    asked_until_taken(alloc, dial, held, contact, receiver, &submit)
 }
 
 /// What an answer says of a command.
@@ -180,9 +186,10 @@ fn fate_of(told: &What) -> Fate
 
 /// Asks until the command with an id is decided, and gives the answer. The first answer that the
 /// desk knows nothing of it ends that with `Lost`.
-fn decided<A: Ask>(
+fn decided<D: Dial>(
     alloc: Global,
-    desk: &mut A,
+    dial: &mut D,
+    held: &mut Option<Held<D::Reader, D::Writer>>,
     contact: Contact<'_>,
     receiver: Receiver,
     id: u64,
@@ -190,32 +197,33 @@ fn decided<A: Ask>(
     requires desk { IsDesk receiver.desk }
     requires id { IsId id }
     ensures answer { IfOk result (λ told. IsAnswer (ask_of receiver id) told × IsDecided told) }
-    ensures ok { IfOk result (λ told. Asks (place_of contact.entry) (A.asked desk.old)
-        (A.asked desk.new)
+    ensures ok { IfOk result (λ told. AsksBy (way_of D.dialed D.Reader.remaining D.Writer.contents
+        contact.entry dial.old dial.new held.old held.new)
         (IsAwaited receiver id told)) }
-    ensures err { IfErr result (λ f. Asks (place_of contact.entry) (A.asked desk.old)
-        (A.asked desk.new)
+    ensures err { IfErr result (λ f. AsksBy (way_of D.dialed D.Reader.remaining D.Writer.contents
+        contact.entry dial.old dial.new held.old held.new)
         (EndsWaiting f receiver id)) }
-    ensures cause { IfErr result (λ f. A.fails f ⊎ IsUndecided f receiver id) }
+    ensures cause { IfErr result (λ f. IsOfAsking f ⊎ IsUndecided f receiver id) }
 {
-    let ask = request_to(receiver, What::Ask { id });
+    let question = request_to(receiver, What::Ask { id });
     for tries in 0..MOST_TRIES {
-        let told = desk.ask(alloc, contact, &ask)?;
+        let told = ask(alloc, dial, held, contact, &question)?;
         match fate_of(&told) {
             Fate::Decided => return Ok(told),
             Fate::Unknown => return Err(BatchFault::Lost),
             Fate::Waits => {}
         }
-        rest_behind(alloc, desk, contact, receiver, tries)?;
+        rest_behind(alloc, dial, held, contact, receiver, tries)?;
     }
     Err(BatchFault::StillPending)
 }
 
 /// Enters a command, and waits until it is decided where that is asked for. It gives the last
 /// answer.
-pub(crate) fn entered<A: Ask>(
+pub(crate) fn entered<D: Dial>(
     alloc: Global,
-    desk: &mut A,
+    dial: &mut D,
+    held: &mut Option<Held<D::Reader, D::Writer>>,
     contact: Contact<'_>,
     receiver: Receiver,
     waits: bool,
@@ -224,20 +232,20 @@ pub(crate) fn entered<A: Ask>(
 ) -> Result<What, BatchFault>
     requires { IsDesk receiver.desk }
     ensures answer { IfOk result (λ last. IsEntered waits receiver id text.now last) }
-    ensures ok { IfOk result (λ last. Asks (place_of contact.entry) (A.asked desk.old)
-        (A.asked desk.new)
+    ensures ok { IfOk result (λ last. AsksBy (way_of D.dialed D.Reader.remaining D.Writer.contents
+        contact.entry dial.old dial.new held.old held.new)
         (EnteredBy waits receiver id text.now last)) }
-    ensures err { IfErr result (λ f. Asks (place_of contact.entry) (A.asked desk.old)
-        (A.asked desk.new)
+    ensures err { IfErr result (λ f. AsksBy (way_of D.dialed D.Reader.remaining D.Writer.contents
+        contact.entry dial.old dial.new held.old held.new)
         (StopsAsking f receiver id text.now)) }
-    ensures cause { IfErr result (λ f. A.fails f ⊎ Hinders f waits receiver id text.now) }
+    ensures cause { IfErr result (λ f. IsOfAsking f ⊎ Hinders f waits receiver id text.now) }
 {
     if id == 0 || id > GREATEST {
         return Err(BatchFault::NoMoreIds);
     }
-    let taken = submitted(alloc, desk, contact, receiver, id, text)?;
+    let taken = submitted(alloc, dial, held, contact, receiver, id, text)?;
     if !waits {
         return Ok(taken);
     }
-    decided(alloc, desk, contact, receiver, id)
+    decided(alloc, dial, held, contact, receiver, id)
 }

@@ -1,14 +1,16 @@
-//! Requests to a desk, each over a connection of its own, and many commands entered at one, a line
-//! each.
+//! Requests to a desk, one after the other over connections that are kept, and many commands that
+//! are entered at one, a line each.
 #![tactic(auto)]
 
 mod asking;
 mod dialing;
 mod entering;
 mod fault;
+mod keeping;
 mod lines_entered;
 
-pub use asking::{Ask, Receiver, ask_over};
-pub use dialing::{Contact, Dial};
+pub use asking::Receiver;
+pub use dialing::{Contact, Dial, Ending};
 pub use fault::BatchFault;
-pub use lines_entered::{Batch, enter_lines, enter_lines_by};
+pub use keeping::ask_over;
+pub use lines_entered::{Batch, enter_lines};

@@ -6,14 +6,17 @@ ghost use Rattle.std.specs.Io.KnownBytes.{Appends};
 ghost use Rattle.lines.specs.Bytes.{AppendsPart, sides};
 ghost use Rattle.client.specs.Printing.{reply_text};
 ghost use Rattle.batch.specs.Asking.{IsOfAsking};
-ghost use Rattle.batch.specs.Dialing.{Asks, place_of, told};
-ghost use Rattle.batch.specs.Entering.{AsksAll, AsksSome, EntersAll, EntersLine, EntersSome};
-ghost use Rattle.batch.specs.Entering.{FailsLine, IsOfPrinting, StopsAsking, StopsBy};
+ghost use Rattle.batch.specs.Dialing.{AsksBy, told};
+ghost use Rattle.batch.specs.Entering.{AsksAll, AsksSome, AsksTo, EntersAll};
+ghost use Rattle.batch.specs.Entering.{EntersLine, EntersSome, FailsLine, IsOfPrinting};
+ghost use Rattle.batch.specs.Entering.{StopsAsking, StopsBy};
+ghost use Rattle.batch.specs.model.Keeping.{way_of};
 
-use crate::asking::{Ask, Receiver};
+use crate::asking::Receiver;
 use crate::dialing::{Contact, Dial};
 use crate::entering::entered;
 use crate::fault::BatchFault;
+use crate::keeping::{Held, let_go};
 use client::reply_text;
 use lines::{LineReader, RunFault, write_text};
 use std::alloc::Global;
@@ -49,9 +52,10 @@ fn print_answer<W: Write>(alloc: Global, writer: &mut W, answer: What) -> Result
 }
 
 /// Enters line `number`, counted from 0, and prints the answer.
-fn enter_line<A: Ask, W: Write>(
+fn enter_line<D: Dial, W: Write>(
     alloc: Global,
-    desk: &mut A,
+    dial: &mut D,
+    held: &mut Option<Held<D::Reader, D::Writer>>,
     contact: Contact<'_>,
     batch: Batch,
     number: u32,
@@ -59,38 +63,45 @@ fn enter_line<A: Ask, W: Write>(
     writer: &mut W,
 ) -> Result<(), BatchFault>
     requires { IsDesk batch.receiver.desk }
-    ensures ok { OnOk result (EntersLine batch (batch.first_id + number) line.now
-        (told contact.entry A.asked desk.old desk.new) (W.contents writer.old)
-        (W.contents writer.new)) }
-    ensures err { IfErr result (λ f. FailsLine A.fails f batch (batch.first_id + number) line.now
-        (W.contents writer.old) (W.contents writer.new)) }
-    ensures asked { IfErr result (λ f. Asks (place_of contact.entry) (A.asked desk.old)
-        (A.asked desk.new)
+    ensures ok { OnOk result (EntersLine batch number line.now
+        (way_of D.dialed D.Reader.remaining D.Writer.contents contact.entry dial.old dial.new
+        held.old held.new) (W.contents writer.old) (W.contents writer.new)) }
+    ensures err { IfErr result (λ f. FailsLine IsOfAsking f batch (batch.first_id + number)
+        line.now (W.contents writer.old) (W.contents writer.new)) }
+    ensures asked { IfErr result (λ f. AsksBy (way_of D.dialed D.Reader.remaining D.Writer.contents
+        contact.entry dial.old dial.new held.old held.new)
         (StopsAsking f batch.receiver (batch.first_id + number) line.now)) }
 {
     let Some(id) = batch.first_id.checked_add(u64::from(number)) else {
         return Err(BatchFault::NoMoreIds);
     };
-    let answer = entered(alloc, desk, contact, batch.receiver, batch.waits, id, line)?;
+    let answer = entered(
+        alloc,
+        dial,
+        held,
+        contact,
+        batch.receiver,
+        batch.waits,
+        id,
+        line,
+    )?;
     print_answer(alloc, writer, answer)
 }
 
-/// As [`enter_lines`], by requests to a desk that may tell what it was asked.
-pub fn enter_lines_by<A: Ask, R: Read, W: Write>(
+/// As [`enter_lines`], with the connection that is kept, or none.
+fn enter_lines_over<D: Dial, R: Read, W: Write>(
     alloc: Global,
-    desk: &mut A,
+    dial: &mut D,
+    held: &mut Option<Held<D::Reader, D::Writer>>,
     contact: Contact<'_>,
     batch: Batch,
     reader: &mut R,
     writer: &mut W,
 ) -> Result<(), BatchFault>
     requires { IsDesk batch.receiver.desk }
-    ensures ok { OnOk result (AsksAll batch
-        (sides R.remaining W.contents reader.old reader.new writer.old writer.new)
-        (told contact.entry A.asked desk.old desk.new)) }
-    ensures err { IfErr result (λ f. AsksSome A.fails f batch
-        (sides R.remaining W.contents reader.old reader.new writer.old writer.new)
-        (told contact.entry A.asked desk.old desk.new)) }
+    ensures { AsksTo result batch (way_of D.dialed D.Reader.remaining D.Writer.contents
+        contact.entry dial.old dial.new held.old held.new)
+        (sides R.remaining W.contents reader.old reader.new writer.old writer.new) }
 {
     let mut lines = LineReader::new();
     let mut line = Vec::new(alloc);
@@ -98,7 +109,7 @@ pub fn enter_lines_by<A: Ask, R: Read, W: Write>(
         let number = lines.count();
         match lines.read_line(reader, &mut line) {
             Ok(true) => {
-                enter_line(alloc, desk, contact, batch, number, &line, writer)?;
+                enter_line(alloc, dial, held, contact, batch, number, &line, writer)?;
             }
             Ok(false) => return Ok(()),
             Err(RunFault::NoMemory) => return Err(BatchFault::NoMemory),
@@ -110,10 +121,15 @@ pub fn enter_lines_by<A: Ask, R: Read, W: Write>(
 /// Reads commands, one a line, enters each at a desk, and writes what the desk answers.
 ///
 /// Lines are parted by line feeds; a last line without one counts where it is not empty. Line `n`,
-/// counted from 1, has the id `first_id + n - 1`. Each line is entered as soon as it was read, over
-/// a connection of its own, and again where the desk's queue is full. For each line one line is
-/// written: `taken <id>`, or, where it is waited for, `done <id> <pos> <Done or Code>`. A desk that
-/// doesn't decide is ticked now and then.
+/// counted from 1, has the id `first_id + n - 1`. Each line is entered as soon as it was read, and
+/// again where the desk's queue is full. For each line one line is written: `taken <id>`, or, where
+/// it is waited for, `done <id> <pos> <Done or Code>`. A desk that doesn't decide is ticked now and
+/// then.
+///
+/// Requests are made over one connection, until 64 were made over it or one was not answered; the
+/// next one is made over a new one. Where the desk has ended a connection that was kept, and does
+/// not answer a request, that request is made once more, over a new one. At the end the connection
+/// that is kept is ended.
 ///
 /// # Errors
 ///
@@ -143,5 +159,8 @@ pub fn enter_lines<D: Dial, R: Read, W: Write>(
         (sides R.remaining W.contents reader.old reader.new writer.old writer.new)
         (told contact.entry D.dialed dial.old dial.new)) }
 {
-    enter_lines_by(alloc, dial, contact, batch, reader, writer)
+    let mut held = None;
+    let entered = enter_lines_over(alloc, dial, &mut held, contact, batch, reader, writer);
+    let_go(dial, &mut held);
+    entered
 }

@@ -2,7 +2,7 @@
 
 ghost use Rattle.std.specs.Prelude.{false};
 
-use crate::inquiry::AskedDesk;
+use crate::dialogue::AskedDesk;
 use crate::serving::{Order, serve};
 use clap::builder::ValueParser;
 use clap::{Arg, ArgAction, ArgMatches, Command, Error};

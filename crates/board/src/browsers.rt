@@ -1,6 +1,6 @@
 //! Connections of browsers.
 
-use crate::inquiry::is_waiting;
+use crate::connection::is_waiting;
 use crate::pages::Page;
 use crate::replies::answer_to;
 use bytes::Bytes;

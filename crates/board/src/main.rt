@@ -3,8 +3,11 @@
 
 mod arguments;
 mod browsers;
-mod inquiry;
+mod connection;
+mod dialogue;
+mod laws;
 mod pages;
+mod question;
 mod replies;
 mod serving;
 mod style;

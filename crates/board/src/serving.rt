@@ -1,9 +1,11 @@
 //! The board: browsers are answered, and the desk is asked, as sockets become ready.
 
 use crate::browsers::Browsers;
-use crate::inquiry::{AskedDesk, Inquiry, is_waiting};
+use crate::connection::{Connection, Outcome, is_waiting};
+use crate::dialogue::AskedDesk;
 use crate::pages::{Page, pages_of};
-use crate::survey::{Heard, Survey};
+use crate::question::{Heard, NO_ANSWER, Question};
+use crate::survey::Survey;
 use mio::net::TcpListener;
 use mio::{Events, Interest, Poll, Registry, Token};
 use std::alloc::{AllocError, Global};
@@ -14,9 +16,6 @@ use std::time::{Duration, Instant};
 
 /// Seconds between two surveys.
 const REST: u64 = 3;
-
-/// Seconds that the desk is waited for; it serves one connection at a time.
-const DESK_PATIENCE: u64 = 8;
 
 /// Milliseconds that sockets are waited for at most.
 const LONGEST_WAIT: u64 = 250;
@@ -45,7 +44,8 @@ struct Board {
     listener: TcpListener,
     browsers: Browsers,
     survey: Survey,
-    inquiry: Option<Inquiry>,
+    /// The connection to the desk, which is kept from question to question.
+    connection: Option<Connection>,
     /// When the next survey is due, in seconds.
     due: u64,
     pages: Vec<Page>,
@@ -61,7 +61,7 @@ impl Board {
             listener,
             browsers: Browsers::new(alloc, order.patience)?,
             survey,
-            inquiry: None,
+            connection: None,
             due: 0,
             pages,
         })
@@ -78,38 +78,44 @@ impl Board {
         registry.reregister(&mut self.listener, Token(LISTENER), Interest::READABLE)
     }
 
-    /// Asks the survey's next question.
+    /// Asks the survey's next question over the connection that is kept, or where that takes no
+    /// more, over a fresh one.
     fn ask(&mut self, rt: &HostRuntime, registry: &Registry, now: u64) {
         let question = self.survey.question();
-        self.inquiry = Inquiry::begin(rt, self.alloc, self.desk, question, now);
-        if !self.watch(registry, true) {
+        let is_new = !self.ask_on(question, now);
+        if is_new {
+            // the one before is closed first
+            self.connection = None;
+            self.connection = Connection::begin(rt, self.alloc, self.desk, question, now);
+        }
+        self.watch(registry, is_new, now);
+    }
+
+    /// Asks a question over the connection that is kept. False where none is, or it takes no more.
+    fn ask_on(&mut self, question: Question, now: u64) -> bool {
+        match &mut self.connection {
+            Some(connection) => connection.ask(self.alloc, question, now),
+            None => false,
+        }
+    }
+
+    /// Asks to be told when the desk's connection is ready.
+    fn watch(&mut self, registry: &Registry, is_new: bool, now: u64) {
+        let is_watched = match &mut self.connection {
+            Some(connection) => connection.watch(registry, Token(DESK), is_new),
+            None => false,
+        };
+        if !is_watched {
             self.hear(Heard::Silent("no connection"), now);
         }
     }
 
-    /// Asks to be told when the desk's connection is ready. False where there is none.
-    fn watch(&mut self, registry: &Registry, is_new: bool) -> bool {
-        let Some(inquiry) = &mut self.inquiry else {
-            return false;
-        };
-        let interest = if inquiry.is_writing() {
-            Interest::WRITABLE
-        } else {
-            Interest::READABLE
-        };
-        let stream = &mut inquiry.stream;
-        let watched = if is_new {
-            registry.register(stream, Token(DESK), interest)
-        } else {
-            registry.reregister(stream, Token(DESK), interest)
-        };
-        watched.is_ok()
-    }
-
-    /// Closes the connection of a question of which this came. At the end of a survey the pages are
-    /// made; where memory runs out for them, the old ones stay.
+    /// Goes on after what came of a question. The connection is kept where the desk answered. At
+    /// the end of a survey the pages are made; where memory runs out for them, the old ones stay.
     fn hear(&mut self, heard: Heard, now: u64) {
-        self.inquiry = None;
+        if let Heard::Silent(_) = &heard {
+            self.connection = None;
+        }
         if self.survey.hear(heard) {
             self.due = now.saturating_add(REST);
             if let Ok(pages) = pages_of(self.alloc, &self.survey) {
@@ -118,18 +124,16 @@ impl Board {
         }
     }
 
-    /// Lets the question have its turn.
+    /// Lets the connection to the desk have its turn. Where the desk has ended it, it is closed,
+    /// and a question that waits is asked once more over a fresh one.
     fn turn_desk(&mut self, registry: &Registry, now: u64) {
-        let Some(inquiry) = &mut self.inquiry else {
+        let Some(connection) = &mut self.connection else {
             return;
         };
-        match inquiry.turn() {
-            Some(heard) => self.hear(heard, now),
-            None => {
-                if !self.watch(registry, false) {
-                    self.hear(Heard::Silent("no connection"), now);
-                }
-            }
+        match connection.turn() {
+            Some(Outcome::Heard(heard)) => self.hear(heard, now),
+            Some(Outcome::Ended) => self.connection = None,
+            None => self.watch(registry, false, now),
         }
     }
 
@@ -146,13 +150,13 @@ impl Board {
     /// Ends what took too long, and asks what is due.
     fn keep_time(&mut self, rt: &HostRuntime, registry: &Registry, now: u64) {
         self.browsers.end_late(now);
-        match &self.inquiry {
-            Some(inquiry) => {
-                if now.saturating_sub(inquiry.began) > DESK_PATIENCE {
-                    self.hear(Heard::Silent("no answer"), now);
+        match &self.connection {
+            Some(connection) if connection.is_asking() => {
+                if connection.is_late(now) {
+                    self.hear(Heard::Silent(NO_ANSWER), now);
                 }
             }
-            None => {
+            _ => {
                 if now >= self.due {
                     self.ask(rt, registry, now);
                 }

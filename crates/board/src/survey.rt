@@ -1,49 +1,13 @@
 //! What a desk is asked, one question after the other, and what it has answered.
 
+use crate::question::{Heard, NO_ANSWER, Question};
 use board_page::Sheet;
-use client::{ClientFault, refusal_name};
 use formats::{Event, LAST_ROUND};
 use std::alloc::Global;
 use std::mem;
-use wire::{ClientRefusal, What};
 
 /// More than a desk's log can have.
 const BEYOND: u32 = 65_537;
-
-/// The sheet of a round at a position of the log. A desk opens no round 0, so that a question for
-/// it asks whether the log is so long, and no sheet is made.
-#[derive(Clone, Copy)]
-pub struct Question {
-    pub event: Event,
-    pub round: u8,
-    pub position: u32,
-}
-
-/// What came of a question.
-#[derive(Drop)]
-pub enum Heard {
-    /// The sheet's table.
-    Table(Vec<u8>),
-    /// The round was not opened in so much of the log.
-    NoRound,
-    /// The log is shorter.
-    NotThere,
-    /// The desk gave no answer, and why.
-    Silent(&'static str),
-}
-
-/// What came of a question, by the result of a client's call.
-pub fn what_came(answer: Result<What, ClientFault>) -> Heard {
-    match answer {
-        Ok(What::SheetText { text }) => Heard::Table(text.into_vec()),
-        Err(ClientFault::Refused { refusal }) => match refusal {
-            ClientRefusal::NoSuchRound => Heard::NoRound,
-            ClientRefusal::NotThere => Heard::NotThere,
-            other => Heard::Silent(refusal_name(other)),
-        },
-        _ => Heard::Silent("no answer"),
-    }
-}
 
 /// Where a survey is.
 #[derive(Clone, Copy)]
@@ -139,7 +103,7 @@ impl Survey {
             (Step::Sheets(asked), Heard::Table(table)) => self.take(asked, table),
             (Step::Sheets(asked), Heard::NoRound) => self.next_event(asked),
             (_, Heard::Silent(why)) => self.end(Contact::Silent(why)),
-            _ => self.end(Contact::Silent("no answer")),
+            _ => self.end(Contact::Silent(NO_ANSWER)),
         }
     }
 

@@ -3,7 +3,7 @@ use Rattle.std.proofs.Common.{◌≡◌, ◌∷◌, [], inl, inr, Ok, Err, subst
 use Rattle.batch.specs.Asking.{IsAnswer, IsOfAsking}
 use Rattle.batch.specs.Dialing.{Adds, Told, asked_so}
 use Rattle.batch.specs.declared.fault.BatchFault.{BatchFault}
-use Rattle.batch.proofs.Trying.{adds_none}
+use Rattle.batch.proofs.Going.{adds_none}
 use Rattle.wire.specs.declared.frame.Frame.{Frame}
 use Rattle.wire.specs.declared.frame.What.{What}
 use Rattle.errands.specs.Errands.{GetsAnswer, GetsNone, Hinders, IsAllowed, frame_of}

@@ -1,8 +1,10 @@
-//! Connections to desks over TCP, on which a desk is waited for so long and no longer.
+//! Connections to desks over TCP, on which a desk is waited for so long for each request and no
+//! longer.
 
+ghost use Rattle.std.specs.Prelude.{◌≡◌, ◌⊎◌, ◌↔◌, false};
 ghost use Rattle.std.specs.Io.{ReadsAtMost};
 
-use batch::{Contact, Dial};
+use batch::{Contact, Dial, Ending};
 use std::io::{ErrorKind, Read};
 use std::net::{TcpStream, ToSocketAddrs};
 use std::time::{Duration, Instant};
@@ -31,6 +33,29 @@ impl Wait<'_> {
             _ => Err(io::Error::from(ErrorKind::TimedOut)),
         }
     }
+
+    /// It begins anew, unless the clock fails.
+    fn restart(&mut self) {
+        if let Ok(now) = Instant::now(self.rt) {
+            self.start = now;
+        }
+    }
+}
+
+/// How a connection ends on which a read fails so, where a byte of the answer had come, or none.
+fn ending_of(kind: ErrorKind, heard: bool) -> Ending
+    ensures late { result ≡ Ending.Late
+        ↔ ((kind ≡ ErrorKind.TimedOut) ⊎ (kind ≡ ErrorKind.WouldBlock)) }
+    ensures gone { result ≡ Ending.Gone
+        ↔ ((heard ≡ false)
+        × ((kind ≡ ErrorKind.ConnectionReset) ⊎ (kind ≡ ErrorKind.ConnectionAborted))) }
+{
+    match kind {
+        // the system says of a read that waited in vain that it would block
+        ErrorKind::TimedOut | ErrorKind::WouldBlock => Ending::Late,
+        ErrorKind::ConnectionReset | ErrorKind::ConnectionAborted if !heard => Ending::Gone,
+        _ => Ending::Own,
+    }
 }
 
 /// What a desk says over a connection. Each read waits for what is left of the wait, so that a desk
@@ -39,10 +64,22 @@ impl Wait<'_> {
 pub struct Answer<'a> {
     stream: TcpStream,
     wait: Wait<'a>,
-    late: bool,
+    /// Whether a byte has come since the last request began.
+    heard: bool,
+    ending: Ending,
 }
 
-impl Answer<'_> {
+impl<'a> Answer<'a> {
+    /// What comes over this stream, from the first request on.
+    fn new(stream: TcpStream, wait: Wait<'a>) -> Answer<'a> {
+        Answer {
+            stream,
+            wait,
+            heard: false,
+            ending: Ending::Own,
+        }
+    }
+
     /// Reads once, within what is left of the wait.
     fn read_in_time(&mut self, buf: &mut [u8]) -> io::Result<usize>
         ensures { ReadsAtMost result buf.new }
@@ -51,17 +88,29 @@ impl Answer<'_> {
         self.stream.set_read_timeout(Some(left))?;
         self.stream.read(buf)
     }
+
+    /// Begins one more request: from here on the desk is waited for anew.
+    fn begin(&mut self) {
+        self.heard = false;
+        self.wait.restart();
+    }
 }
 
 impl Read for Answer<'_> {
     fn read(&mut self, buf: &mut [u8]) -> io::Result<usize> {
         match self.read_in_time(buf) {
-            Ok(count) => Ok(count),
-            Err(error) => {
-                // the system says of a read that waited in vain that it would block
-                if matches!(error.kind(), ErrorKind::TimedOut | ErrorKind::WouldBlock) {
-                    self.late = true;
+            Ok(0) => {
+                if !self.heard {
+                    self.ending = Ending::Gone;
                 }
+                Ok(0)
+            }
+            Ok(count) => {
+                self.heard = true;
+                Ok(count)
+            }
+            Err(error) => {
+                self.ending = ending_of(error.kind(), self.heard);
                 Err(error)
             }
         }
@@ -113,16 +162,15 @@ impl<'a> Dial for Sockets<'a> {
         let _ = stream.set_nodelay(true);
         stream.set_write_timeout(Some(wait.left()?))?;
         let writer = stream.try_clone()?;
-        let answer = Answer {
-            stream,
-            wait,
-            late: false,
-        };
-        Ok((answer, writer))
+        Ok((Answer::new(stream, wait), writer))
     }
 
-    fn hang_up(&mut self, reader: Answer<'a>, _writer: TcpStream) -> bool {
-        reader.late
+    fn again(&mut self, reader: &mut Answer<'a>) {
+        reader.begin();
+    }
+
+    fn hang_up(&mut self, reader: Answer<'a>, _writer: TcpStream) -> Ending {
+        reader.ending
     }
 
     fn pause(&mut self, tries: u32) {

@@ -43,14 +43,14 @@ pick true true x y e p q h = h
 pick true false x y e p q h = absurd cc
 pick false b x y e p q h = absurd cc
 
-message_given : (home : Home) (version : Version) (m : Message) → m.to ≡ home.desk
+pub message_given : (home : Home) (version : Version) (m : Message) → m.to ≡ home.desk
     → delivers (request home (framed version home.hall m)) ≡ Deliver m ∷ []
 message_given home version m same =
     let hall : (home.hall == home.hall) ≡ true = grind (arith, nat_tests) in
     let to : (m.to == home.desk) ≡ true = grind (arith, nat_tests, same) in
     pick _ _ _ _ _ hall to (by_body m.from m.to m.body)
 
-run_given : (home : Home) (version : Version) (run : Run) → run.to ≡ home.desk
+pub run_given : (home : Home) (version : Version) (run : Run) → run.to ≡ home.desk
     → delivers (request home (run_frame version home.hall run))
     ≡ decided_each run.from run.to run.pos (entries_said version run.entries)
 run_given home version run same =

@@ -54,7 +54,7 @@ follows_call home event s = record {
       (reply_fits home s.seen event (first_fate s.fates));
 }
 
-follows_settle : (home : Home) (k : ℕ) (s : Service) → Follows s (settle_by home k s)
+pub follows_settle : (home : Home) (k : ℕ) (s : Service) → Follows s (settle_by home k s)
 unfolding settle_by
 follows_settle home zero s = record {
   more = map (λ m. Pushed m) (to_others home.desk s.waiting);

@@ -1,6 +1,7 @@
 -- A desk is given a Submit only by a frame that asks for it.
-use Rattle.std.proofs.Common.{◌≡◌, ◌⊎◌, inl, inr, refl, sym, ap, subst, ℕ, zero, suc, ◌+◌, Bool}
-use Rattle.std.proofs.Common.{true, false, if◌then◌else◌, List, [], ◌∷◌, ◌++◌, length, map, Option}
+use Rattle.std.proofs.Common.{◌≡◌, ◌⊎◌, inl, inr, refl, sym, ap, subst, ◌∙◌, ℕ, zero, suc, ◌+◌}
+use Rattle.std.proofs.Common.{Bool, true, false, if◌then◌else◌, List, [], ◌∷◌, ◌++◌, length}
+use Rattle.std.proofs.Common.{map, Option}
 use Rattle.std.proofs.Common.{None, Some, Result, Ok, Err}
 use Rattle.acceptor.specs.declared.entry.Entry.{Entry}
 use Rattle.acceptor.specs.declared.message.Message.{Message}
@@ -217,3 +218,17 @@ frame_enters home x one acts rest e parts has =
     (subst (λ z. IsTakenIn e (calls_of z)) (sym parts)
     (subst (λ z. IsTakenIn e z) (sym (calls_both acts rest))
     (taken_front e (calls_of acts) (calls_of rest) has))))
+
+-- nothing is taken in a Tick, or in a front part of one
+pub tick_takes_none : (home : Home) (x : Seen) (one : Begun) (acts rest : List Act) (e : Entry)
+    → request home one.frame ≡ Ticked → (serve_frame home x one).acts ≡ acts ++ rest
+    → IsTakenIn e (calls_of acts) → ⊥
+unfolding serve_frame
+tick_takes_none home x one acts rest e asked parts has =
+    let enters : request home one.frame ≡ Entered e =
+    entered_only home x one.fates (request home one.frame) e
+    (subst (λ z. IsTakenIn e (calls_of z)) (sym parts)
+    (subst (λ z. IsTakenIn e z) (sym (calls_both acts rest))
+    (taken_front e (calls_of acts) (calls_of rest) has))) in
+    let two : Ticked ≡ Entered e = sym asked ∙ enters in
+    absurd (let z = two in cc)

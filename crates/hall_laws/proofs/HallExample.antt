@@ -15,7 +15,7 @@ use Rattle.replica.specs.Nodes.{NodeValue}
 use Rattle.replica.specs.Stores.{HoldsDesk}
 use Rattle.serving.specs.Connection.{serve_frame, close_of, answer_bytes, Begun}
 use Rattle.serving.specs.Making.{outside_of, speaking}
-use Rattle.serving.specs.Serving.{Act, Called, Pushed, call, settle_by, start_if_grown, take, tell}
+use Rattle.serving.specs.Serving.{Act, Called, call, settle_by, start_if_grown, take, tell}
 use Rattle.serving.specs.Serving.{answer_out}
 use Rattle.serving.specs.Telling.{run_of, entries_told}
 use Rattle.serving.specs.Turns.{Talk, new_talk}
@@ -28,10 +28,10 @@ use Rattle.wire.specs.Stream.{front, holding}
 use Rattle.wire.specs.declared.frame.Frame.{Frame}
 use Rattle.wire.specs.declared.values.Version.TheVariants.{Two}
 use Rattle.hall_laws.specs.HallExample.{third_home, three_desks, tick_frame, says, said_frame}
-use Rattle.hall_laws.specs.HallExample.{first_of, begun_as, FourTurnsAreARun}
-use Rattle.hall_laws.specs.HallRuns.{Station, Hall, HallEvent, TurnAt, seen_of}
+use Rattle.hall_laws.specs.HallExample.{first_of, begun_as, tick_acts, SmallRunIsARun}
+use Rattle.hall_laws.specs.HallRuns.{Station, Hall, HallEvent, TurnAt, TickedAt, seen_of, IsTick}
 use Rattle.hall_laws.specs.HallRuns.{TurnWasSent, HallGoes}
-use Rattle.hall_laws.proofs.HallTurns.{with_station, takes_turn}
+use Rattle.hall_laws.proofs.HallTurns.{with_station, takes_turn, ticks_itself}
 
 abbrev first_node : {K : Type 0} → K → NodeValue K
 first_node keeper = record { keeper = keeper; desk = first_desk; is_down = false }
@@ -123,7 +123,8 @@ answer_to home f =
 
 ticks : {K : Type 0} (k : Ghosts K) (keeper : K)
     → Handles k (first_node keeper) Tick (Ok (says 2 ∷ says 3 ∷ [])) (first_node keeper)
-    → Turns (begun_as tick_frame) (place_in k keeper (talk_of (third_home 1) (tick_frame ∷ []) 0 []))
+    → Turns (begun_as tick_frame)
+    (place_in k keeper (talk_of (third_home 1) (tick_frame ∷ []) 0 []))
     (place_in k keeper (talk_of (third_home 1) [] 1 (answer_to (third_home 1) tick_frame)))
 unfolding serve_frame close_of call settle_by start_if_grown take
 ticks k keeper handles = (
@@ -149,7 +150,8 @@ ticks k keeper handles = (
 
 hears : {K : Type 0} (k : Ghosts K) (keeper : K)
     → Handles k (first_node keeper) (Deliver (says 2)) (Ok []) (first_node keeper)
-    → Turns (begun_as said_frame) (place_in k keeper (talk_of (third_home 2) (said_frame ∷ []) 0 []))
+    → Turns (begun_as said_frame)
+    (place_in k keeper (talk_of (third_home 2) (said_frame ∷ []) 0 []))
     (place_in k keeper (talk_of (third_home 2) [] 1 (answer_to (third_home 2) said_frame)))
 unfolding serve_frame close_of call settle_by start_if_grown tell answer_out run_of entries_told
 hears k keeper handles = (
@@ -174,10 +176,6 @@ hears k keeper handles = (
 )
 
 -- ---- the run
-
-abbrev tick_acts : List Act
-tick_acts =
-    Called Tick (Ok (says 2 ∷ says 3 ∷ [])) ∷ Pushed (says 2) ∷ Pushed (says 3) ∷ []
 
 abbrev hear_acts : List Act
 hear_acts = Called (Deliver (says 2)) (Ok []) ∷ []
@@ -226,6 +224,12 @@ hall_4 keeper =
     (station (keeper 2) 2
     (talk_of (third_home 2) [] 1 (answer_to (third_home 2) said_frame))) hear_acts
 
+abbrev hall_5 : {K : Type 0} → (ℕ → K) → Hall K
+hall_5 keeper =
+    with_station (hall_4 keeper) 1
+    (station (keeper 1) 1
+    (talk_of (third_home 1) [] 1 (answer_to (third_home 1) tick_frame))) tick_acts
+
 only_zero : (a b c : Talk) (j : ℕ) → j ≢ 0
     → (if eqb j 0 then a else b) ≡ (if eqb j 0 then c else b)
 only_zero a b c j other =
@@ -255,12 +259,13 @@ said_is_frame = record {
   body = omega arith;
 }
 
-pub four_turns_are_a_run : {K : Type 0} (k : Ghosts K) → FourTurnsAreARun k
-four_turns_are_a_run {K} k keeper own = (
+pub small_run_is_a_run : {K : Type 0} (k : Ghosts K) → SmallRunIsARun k
+small_run_is_a_run {K} k keeper own = (
   record { event = one; after = hall_1 keeper }
       ∷ record { event = two; after = hall_2 keeper }
       ∷ record { event = three; after = hall_3 keeper }
       ∷ record { event = four; after = hall_4 keeper }
+      ∷ record { event = five; after = hall_5 keeper }
       ∷ [],
   refl,
   record {
@@ -274,7 +279,7 @@ four_turns_are_a_run {K} k keeper own = (
           talks = λ j. ap (λ z. new_talk z Two) (sym is.0);
         };
     unsent = refl;
-    taken = (first_turn, (second_turn, (third_turn, (fourth_turn, tt))));
+    taken = (first_turn, (second_turn, (third_turn, (fourth_turn, (own_tick, tt)))));
   },
 )
   where
@@ -289,6 +294,9 @@ four_turns_are_a_run {K} k keeper own = (
 
     four : HallEvent
     four = TurnAt 2 (first_of (begun_as said_frame)) hear_acts
+
+    five : HallEvent
+    five = TickedAt 1 (as_begun tick_frame) tick_acts
 
     named : AreInRange 3 1 (says 2 ∷ says 3 ∷ [])
     named = (
@@ -374,3 +382,17 @@ four_turns_are_a_run {K} k keeper own = (
         hears_so
         (subst (λ z. TurnWasSent z (says 2 ∷ says 3 ∷ []) (begun_as said_frame))
         (sym (own 2 two_of_three).0) ((1, refl, refl), tt))
+
+    own_tick : HallGoes k 3 five (hall_4 keeper) (hall_5 keeper)
+    own_tick =
+        ticks_itself k 3 1 (hall_4 keeper) (as_begun tick_frame) tick_acts []
+        (station (keeper 1) 1
+        (talk_of (third_home 1) [] 1 (answer_to (third_home 1) tick_frame)))
+        one_of_three refl (λ j. refl)
+        (subst (λ z. IsTick z (as_begun tick_frame)) (sym (own 1 one_of_three).0) refl)
+        (subst
+        (λ z.
+        (serve_frame z (record { desk = first_desk; is_down = false }) (as_begun tick_frame)).acts
+        ≡ tick_acts ++ [])
+        (sym (own 1 one_of_three).0) (sym ticks_so))
+        (record { calls = (first_node (keeper 1), handles_1, refl); pushes = tt })

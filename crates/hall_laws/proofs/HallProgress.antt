@@ -13,8 +13,8 @@ use Rattle.hall_laws.specs.Stops.{Happening, IsAmong, CallsAreHappenings, StopsM
 use Rattle.hall_laws.proofs.HallRuns.{hall_comes, all_of, moments}
 
 -- the state of a hall is one to which events of the world lead
-came_to : {K : Type 0} (k : Ghosts K) → CallsAreHappenings k → StopsMakeARun → (n : ℕ) (h : Hall K)
-    (ss : List (HallStep K)) (i : ℕ) → IsHallRun k n h ss
+pub came_to : {K : Type 0} (k : Ghosts K) → CallsAreHappenings k → StopsMakeARun → (n : ℕ)
+    (h : Hall K) (ss : List (HallStep K)) (i : ℕ) → IsHallRun k n h ss
     → (past : List WorldEvent) × ComesTo n past (hall_after h (take i ss))
 came_to k law stops n h ss i is =
     let all = hall_comes k law n h ss is in

@@ -29,7 +29,8 @@ all_of (hs ∷ each) = hs ++ all_of each
 
 -- ---- the whole run
 
-pub record RunComes {K : Type 0} (k : Ghosts K) (n : ℕ) (h : Hall K) (w : World) (ss : List (HallStep K)) : Type 0 where
+pub record RunComes {K : Type 0} (k : Ghosts K) (n : ℕ) (h : Hall K) (w : World)
+    (ss : List (HallStep K)) : Type 0 where
   pub each : List (List Happening)
   pub happens : AreHappenings n h w ss each
   pub entered : (e : Entry) → HasSubmit e (all_of each) → WasEntered ss e
@@ -104,7 +105,7 @@ run_comes {K} k law n h w (s ∷ ss) m steps =
         (w, m, subst (λ (u : HallStep K). HallGoes k n u.event h u.after) same steps.0)
     finds (suc at) t later is = later at t is
 
-first_matches : {K : Type 0} (k : Ghosts K) (n : ℕ) (h : Hall K) (ss : List (HallStep K))
+pub first_matches : {K : Type 0} (k : Ghosts K) (n : ℕ) (h : Hall K) (ss : List (HallStep K))
     → IsHallRun k n h ss → Matches k n h new_world
 first_matches k n h ss is = record {
   here = λ d ours.
@@ -147,7 +148,8 @@ take_past [] ys m = refl
 take_past (x ∷ xs) ys m = ap (λ (zs : List Happening). x ∷ zs) (take_past xs ys m)
 
 -- each moment of the hall is one of its happenings
-abbrev pub Moment : {K : Type 0} → ℕ → Hall K → World → List (HallStep K) → List (List Happening) → ℕ
+abbrev pub Moment : {K : Type 0} → ℕ → Hall K → World → List (HallStep K)
+    → List (List Happening) → ℕ
     → Type 0
 Moment n h w ss each i =
     (m : ℕ) × IsWorld n (hall_after h (take i ss)) (real_run n w (take m (all_of each)))
@@ -204,7 +206,8 @@ got_submit e j zero at (x ∷ hs) is =
     absurd (let none : None ≡ Some (Answered (SubmitAt j e)) = is in cc)
 got_submit e j (suc m) at [] is =
     absurd (let none : None ≡ Some (Answered (SubmitAt j e)) = is in cc)
-got_submit e j (suc m) zero (x ∷ hs) is = inl (j, let same : x ≡ Answered (SubmitAt j e) = cc in same)
+got_submit e j (suc m) zero (x ∷ hs) is =
+    inl (j, let same : x ≡ Answered (SubmitAt j e) = cc in same)
 got_submit e j (suc m) (suc at) (x ∷ hs) is = inr (got_submit e j m at hs is)
 
 at_end : {K : Type 0} (n : ℕ) (h : Hall K) (w : World) (ss : List (HallStep K))

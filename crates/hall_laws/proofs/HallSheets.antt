@@ -16,7 +16,7 @@ use Rattle.serving.specs.Turns.{LeavesAt}
 use Rattle.serving.specs.TurnLaw.{Began, sides_in}
 use Rattle.serving.specs.declared.ends.End.{End}
 use Rattle.serving.specs.declared.ends.End.TheVariants as end
-use Rattle.sockets.specs.Connections.{TurnOf, place_of}
+use Rattle.connections.specs.Connections.{TurnOf, place_of}
 use Rattle.serving.specs.Serving.{answer}
 use Rattle.store.specs.declared.home.Home.{Home}
 use Rattle.store.specs.declared.keeper.Keeper.{Ghosts}

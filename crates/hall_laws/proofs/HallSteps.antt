@@ -12,31 +12,38 @@ use Rattle.learner.specs.Worlds.{World, put}
 use Rattle.replica.specs.Handles.{Handles}
 use Rattle.replica.specs.Nodes.{NodeValue}
 use Rattle.replica.specs.Stores.{HoldsStep}
+use Rattle.serving.specs.Asking.{request}
 use Rattle.serving.specs.Connection.{Begun, serve_frame}
 use Rattle.serving.specs.Making.{Call, Lead, calls_of, speaking}
 use Rattle.serving.specs.Serving.{Act}
 use Rattle.serving.specs.TurnLaw.{Place, Began}
-use Rattle.sockets.specs.Connections.{TurnOf, place_of}
+use Rattle.connections.specs.Connections.{TurnOf, place_of}
 use Rattle.store.specs.declared.home.Home.{Home}
 use Rattle.store.specs.declared.keeper.Keeper.{Ghosts}
-use Rattle.hall_laws.specs.HallRuns.{Station, Hall, home_at, seen_of, connections, HallEvent, TurnAt}
-use Rattle.hall_laws.specs.HallRuns.{OpenedAt, CutAt, acts_of, OnlyAt, TurnWasSent, TakesTurn}
-use Rattle.hall_laws.specs.HallRuns.{IsOpened, IsSameStore, OpensAgain, StopsInSave, IsCut, HallGoes}
+use Rattle.hall_laws.specs.HallRuns.{Station, Hall, home_at, seen_of, connections, HallEvent}
+use Rattle.hall_laws.specs.HallRuns.{TurnAt, TickedAt, OpenedAt, CutAt, acts_of, OnlyAt}
+use Rattle.hall_laws.specs.HallRuns.{TurnWasSent, TakesTurn, TicksItself}
+use Rattle.hall_laws.specs.HallRuns.{IsOpened, IsSameStore, OpensAgain, StopsInSave, IsCut}
+use Rattle.hall_laws.specs.HallRuns.{HallGoes}
 use Rattle.hall_laws.specs.HallRuns.{IsTakenIn, Enters, desk_of}
+use Rattle.hall_laws.specs.Arriving.{delivers}
+use Rattle.hall_laws.specs.OwnMessages.{WereSentTo}
 use Rattle.hall_laws.specs.Served.{all_handed_out, AreSentTo, StandsFor}
 use Rattle.hall_laws.specs.Stops.{Happening, real_run, with_desk, CallsAreHappenings}
 use Rattle.hall_laws.proofs.HallDesks.{Kept, kept_more, kept_calls, home_after, turn_does, Does}
 use Rattle.hall_laws.proofs.HallDesks.{Reopens, reopens, stops_in, calls_named}
-use Rattle.hall_laws.proofs.HallEntries.{frame_enters}
+use Rattle.hall_laws.proofs.HallEntries.{frame_enters, tick_takes_none}
 use Rattle.hall_laws.proofs.OwnMessages.{front_sent, one_frame, sent_later, calls_both}
 use Rattle.hall_laws.proofs.Putting.{put_here}
-use Rattle.hall_laws.proofs.Running.{HasSubmit, submit_in, CallsCome, calls_come, run_both, with_both}
+use Rattle.hall_laws.proofs.Running.{HasSubmit, submit_in, CallsCome, calls_come, run_both}
+use Rattle.hall_laws.proofs.Running.{with_both}
 
 -- ---- a hall and its world
 
 -- the desk knows what the world's desk knows; its store holds that, or what a failed save left; and
 -- its connections are with this desk
-pub record MatchesAt {K : Type 0} (k : Ghosts K) (n d : ℕ) (w : World) (x : Station K) : Type 0 where
+pub record MatchesAt {K : Type 0} (k : Ghosts K) (n d : ℕ) (w : World)
+    (x : Station K) : Type 0 where
   pub stands : StandsFor k n d w x.node
   pub kept : Kept k n d w.sent x.node
   pub talks : (j : ℕ) → (x.talks j).home ≡ home_at k x
@@ -45,7 +52,7 @@ pub record Matches {K : Type 0} (k : Ghosts K) (n : ℕ) (h : Hall K) (w : World
   pub here : (d : ℕ) → IsDesk n d → MatchesAt k n d w (h.desks d)
   pub sent : h.sent ≡ w.sent
 
-put_other : (desks : ℕ → Desk) (d j : ℕ) (x : Desk) → j ≢ d → put desks d x j ≡ desks j
+pub put_other : (desks : ℕ → Desk) (d j : ℕ) (x : Desk) → j ≢ d → put desks d x j ≡ desks j
 put_other desks d j x other =
     ap (λ (t : Bool). if t then x else desks j) (ne_eqb d j (λ z. other (sym z)))
 
@@ -204,6 +211,52 @@ turn_comes {K} k law n d t acts h g w m step =
         go false is =
             ap (λ z. z.home) (step.turn.others j (eqb-false j t.number is)) ∙ own.talks j
             ∙ sym home
+
+-- ---- a Tick of its own
+
+tick_comes : {K : Type 0} (k : Ghosts K) → CallsAreHappenings k → (n d : ℕ) (one : Begun)
+    (acts : List Act) (h g : Hall K) (w : World)
+    → Matches k n h w → TicksItself k n d one acts h g
+    → StepComes k n (TickedAt d one acts) g w
+tick_comes {K} k law n d one acts h g w m step =
+    comes k n (TickedAt d one acts) h g w come.0 m step.only
+    (after_calls k n d w (calls_of acts) x.node y own.stands own.kept sent lead talks) come.1
+    (λ e has.
+    absurd
+    (tick_takes_none (home_at k x) (seen_of x.node) one acts step.rest e step.asked step.parts
+    (come.2 e has)))
+    (named_here k n d w (calls_of acts) x.node y.node own.stands lead)
+  where
+    x : Station K
+    x = h.desks d
+
+    y : Station K
+    y = g.desks d
+
+    own : MatchesAt k n d w x
+    own = m.here d step.ours
+
+    lead : Lead (Handles k) x.node (calls_of acts) y.node
+    lead = step.made.calls
+
+    brings : WereSentTo (home_at k x).desk w.sent (delivers (request (home_at k x) one.frame))
+    brings =
+        subst (λ r. WereSentTo (home_at k x).desk w.sent (delivers r)) (sym step.asked) tt
+
+    sent : AreSentTo d w.sent (calls_of acts)
+    sent =
+        subst (λ u. AreSentTo u w.sent (calls_of acts)) own.stands.desk
+        (front_sent (home_at k x).desk w.sent
+        (serve_frame (home_at k x) (seen_of x.node) one).acts acts step.rest step.parts
+        (one_frame (home_at k x) (seen_of x.node) w.sent one brings))
+
+    come : CallsCome n d w (calls_of acts) y.node
+    come = calls_come k law n d w (calls_of acts) x.node y.node own.stands sent lead
+
+    talks : (j : ℕ) → (y.talks j).home ≡ home_at k y
+    talks j =
+        ap (λ z. z.home) (step.talks j) ∙ own.talks j
+        ∙ sym (home_after k (calls_of acts) x.node y.node lead)
 
 -- ---- an opening
 
@@ -371,5 +424,6 @@ pub step_comes : {K : Type 0} (k : Ghosts K) → CallsAreHappenings k → (n : �
     (h g : Hall K) (w : World)
     → Matches k n h w → HallGoes k n event h g → StepComes k n event g w
 step_comes k law n (TurnAt d t acts) h g w m step = turn_comes k law n d t acts h g w m step
+step_comes k law n (TickedAt d one acts) h g w m step = tick_comes k law n d one acts h g w m step
 step_comes k law n (OpenedAt d) h g w m step = opening_comes k n d h g w m step
 step_comes k law n (CutAt d one acts) h g w m step = cut_comes k law n d one acts h g w m step

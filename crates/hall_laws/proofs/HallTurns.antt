@@ -1,21 +1,23 @@
 -- Each turn of a desk is an event of its hall.
 use Rattle.std.proofs.Common.{◌≡◌, refl, sym, ap, subst, ◌∙◌, ℕ, Bool}
-use Rattle.std.proofs.Common.{if◌then◌else◌, eqb, List, [], Option, None, Some}
+use Rattle.std.proofs.Common.{if◌then◌else◌, eqb, List, [], ◌++◌, Option, None, Some}
 use Rattle.std.proofs.lemmas.Bool.{eq-eqb, ne_eqb}
 use Rattle.learner.specs.Steps.{IsDesk}
 use Rattle.replica.specs.Handles.{Handles}
 use Rattle.serving.specs.Connection.{Begun, Sides, serve_frame}
-use Rattle.serving.specs.Making.{Way, speaking}
+use Rattle.serving.specs.Making.{Makes, Way, speaking}
 use Rattle.serving.specs.Serving.{Act}
 use Rattle.serving.specs.Turns.{LeavesAt}
 use Rattle.serving.specs.TurnLaw.{Place, Turn, Came, Began, Rested, Took, Turns, sides_in}
 use Rattle.serving.specs.declared.ends.End.{End}
 use Rattle.serving.specs.declared.ends.End.TheVariants as end
-use Rattle.sockets.specs.Connections.{TurnOf, Goes, place_of}
+use Rattle.connections.specs.Connections.{TurnOf, Goes, place_of}
 use Rattle.store.specs.declared.home.Home.{Home}
 use Rattle.store.specs.declared.keeper.Keeper.{Ghosts}
-use Rattle.hall_laws.specs.HallRuns.{Station, Hall, home_at, connections, OnlyAt, AreDoneFor, AreDone}
-use Rattle.hall_laws.specs.HallRuns.{TakesTurn, TurnsAreEvents, TurnWasSent}
+use Rattle.hall_laws.specs.HallRuns.{Station, Hall, home_at, connections, OnlyAt}
+use Rattle.hall_laws.specs.HallRuns.{AreDoneFor, AreDone}
+use Rattle.hall_laws.specs.HallRuns.{TakesTurn, TurnsAreEvents, TurnWasSent, seen_of, beside}
+use Rattle.hall_laws.specs.HallRuns.{IsTick, TicksItself, OwnTicksAreEvents}
 use Rattle.hall_laws.specs.OwnMessages.{sent_after}
 
 -- what was done for a frame
@@ -50,12 +52,12 @@ with_station h d y acts =
       sent = sent_after h.sent acts;
     }
 
-station_here : {K : Type 0} (h : Hall K) (d : ℕ) (y : Station K) (acts : List Act)
+pub station_here : {K : Type 0} (h : Hall K) (d : ℕ) (y : Station K) (acts : List Act)
     → (with_station h d y acts).desks d ≡ y
 station_here {K} h d y acts =
     ap (λ (t : Bool). let z : Station K = if t then y else h.desks d in z) (eq-eqb d d refl)
 
-only_here : {K : Type 0} (h : Hall K) (d : ℕ) (y : Station K) (acts : List Act)
+pub only_here : {K : Type 0} (h : Hall K) (d : ℕ) (y : Station K) (acts : List Act)
     → OnlyAt d acts h (with_station h d y acts)
 only_here {K} h d y acts = record {
   others = λ j other.
@@ -101,3 +103,38 @@ turns_are_events {K} k n d h t y ours wire goes was =
       station_here h d y done.0,
       takes_turn k n d h t y done.0 ours wire goes done.1 was,
     )
+
+-- ---- Ticks of its own
+
+pub ticks_itself : {K : Type 0} (k : Ghosts K) (n d : ℕ) (h : Hall K) (one : Begun)
+    (acts rest : List Act) (y : Station K)
+    → IsDesk n d → y.wire ≡ (h.desks d).wire → ((j : ℕ) → y.talks j ≡ (h.desks d).talks j)
+    → IsTick (home_at k (h.desks d)) one
+    → (serve_frame (home_at k (h.desks d)) (seen_of (h.desks d).node) one).acts ≡ acts ++ rest
+    → Makes (home_at k (h.desks d)).hall (beside k (h.desks d).wire (h.desks d))
+    (beside k (h.desks d).wire y) acts
+    → TicksItself k n d one acts h (with_station h d y acts)
+ticks_itself {K} k n d h one acts rest y ours wire talks asked parts made =
+    let x = h.desks d in
+    let here = station_here h d y acts in
+    record {
+      ours = ours;
+      asked = asked;
+      rest = rest;
+      parts = parts;
+      made =
+          subst
+          (λ (z : Station K).
+          Makes (home_at k x).hall (beside k x.wire x) (beside k x.wire z) acts)
+          (sym here) made;
+      talks = λ j. ap (λ (z : Station K). z.talks j) here ∙ talks j;
+      wire = ap (λ (z : Station K). z.wire) here ∙ wire;
+      only = only_here h d y acts;
+    }
+
+pub own_ticks_are_events : {K : Type 0} (k : Ghosts K) → OwnTicksAreEvents k
+own_ticks_are_events k n d h one acts rest y ours wire talks asked parts made = (
+  with_station h d y acts,
+  station_here h d y acts,
+  ticks_itself k n d h one acts rest y ours wire talks asked parts made,
+)

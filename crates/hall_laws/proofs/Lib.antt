@@ -20,3 +20,12 @@ pub mod HallTurns
 pub mod HallEntries
 pub mod HallExample
 pub mod HallProgress
+pub mod HallFree
+pub mod HallGoing
+pub mod HallFrames
+pub mod HallComing
+pub mod HallStarts
+pub mod HallWorlds
+pub mod ServedTurns
+pub mod HallServing
+pub mod HallDeciding

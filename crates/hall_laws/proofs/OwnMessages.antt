@@ -94,7 +94,7 @@ were_both sent (m ∷ ms) more h k = (h.0, were_both sent ms more h.1 k)
 
 -- ---- calls, one after the other
 
-handed_both : (cs ds : List Call)
+pub handed_both : (cs ds : List Call)
     → all_handed_out (cs ++ ds) ≡ all_handed_out cs ++ all_handed_out ds
 handed_both [] ds = refl
 handed_both (c ∷ cs) ds =

@@ -35,7 +35,8 @@ use Rattle.hall_laws.specs.Served.{AreSentTo}
 use Rattle.serving.specs.Serving.{first_fate}
 
 -- the event of the world that an event at desk d is
-pub event_at : (d : ℕ) (sent : List Message) (event : DeskEvent) → IsSentTo d sent event → WorldEvent
+pub event_at : (d : ℕ) (sent : List Message) (event : DeskEvent) → IsSentTo d sent event
+    → WorldEvent
 event_at d sent (Submit e) s = SubmitAt d e
 event_at d sent Start s = StartAt d
 event_at d sent Tick s = TickAt d

@@ -7,17 +7,17 @@ use Rattle.learner.specs.Desks.{first_desk}
 use Rattle.learner.specs.Steps.{IsDesk}
 use Rattle.learner.specs.declared.event.DeskEvent.TheVariants.{Tick, Deliver}
 use Rattle.replica.specs.Stores.{HoldsDesk}
-use Rattle.serving.specs.Serving.{Called, Pushed, framed}
+use Rattle.serving.specs.Serving.{Act, Called, Pushed, framed}
 use Rattle.serving.specs.Turns.{new_talk}
 use Rattle.serving.specs.TurnLaw.{Turn, Came, Began}
-use Rattle.sockets.specs.Connections.{TurnOf}
+use Rattle.connections.specs.Connections.{TurnOf}
 use Rattle.store.specs.declared.home.Home.{Home}
 use Rattle.store.specs.declared.keeper.Keeper.{Ghosts}
 use Rattle.wire.specs.Spelling.{spelling}
 use Rattle.wire.specs.declared.frame.Frame.{Frame}
 use Rattle.wire.specs.declared.frame.What.TheVariants as what
 use Rattle.wire.specs.declared.values.Version.TheVariants.{Two}
-use Rattle.hall_laws.specs.HallRuns.{Hall, HallEvent, HallStep, IsHallRun, TurnAt}
+use Rattle.hall_laws.specs.HallRuns.{Hall, HallEvent, HallStep, IsHallRun, TurnAt, TickedAt}
 
 -- desk d of three, in hall 7
 abbrev pub third_home : ℕ → Home
@@ -53,23 +53,29 @@ first_of turn = record { number = 0; turn = turn }
 abbrev pub begun_as : Frame → Turn
 begun_as f = Began (record { frame = f; fates = [] })
 
+-- what desk 1 does at a Tick
+abbrev pub tick_acts : List Act
+tick_acts =
+    Called Tick (Ok (says 2 ∷ says 3 ∷ [])) ∷ Pushed (says 2) ∷ Pushed (says 3) ∷ []
+
 -- The client's bytes come to desk 1, which begins the frame, and says to desks 2 and 3 how long its
 -- log is. What it says to desk 2 comes there, and desk 2 is given it, and has nothing to answer.
-abbrev pub four_turns : List HallEvent
-four_turns =
+-- Then desk 1 ticks itself, and says so again.
+abbrev pub small_run : List HallEvent
+small_run =
     TurnAt 1 (first_of (Came (spelling tick_frame))) []
-    ∷ TurnAt 1 (first_of (begun_as tick_frame))
-    (Called Tick (Ok (says 2 ∷ says 3 ∷ [])) ∷ Pushed (says 2) ∷ Pushed (says 3) ∷ [])
+    ∷ TurnAt 1 (first_of (begun_as tick_frame)) tick_acts
     ∷ TurnAt 2 (first_of (Came (spelling said_frame))) []
     ∷ TurnAt 2 (first_of (begun_as said_frame)) (Called (Deliver (says 2)) (Ok []) ∷ [])
+    ∷ TickedAt 1 (record { frame = tick_frame; fates = [] }) tick_acts
     ∷ []
 
 -- these events are a run of three desks, whatever keeps their state
-abbrev pub FourTurnsAreARun : {K : Type 0} → Ghosts K → Type 0
-FourTurnsAreARun {K} k =
+abbrev pub SmallRunIsARun : {K : Type 0} → Ghosts K → Type 0
+SmallRunIsARun {K} k =
     (keeper : ℕ → K)
     → ((d : ℕ) → IsDesk 3 d
     → (k.home_of (keeper d) ≡ third_home d) × HoldsDesk k (keeper d) first_desk)
     → (steps : List (HallStep K))
-    × (map (λ (s : HallStep K). s.event) steps ≡ four_turns)
+    × (map (λ (s : HallStep K). s.event) steps ≡ small_run)
     × IsHallRun k 3 (three_desks keeper) steps

@@ -23,14 +23,14 @@ use Rattle.serving.specs.Answering.{style_of}
 use Rattle.serving.specs.Asking.{request}
 use Rattle.serving.specs.Connection.{Begun, Sides, DoesFront, answer_bytes, answer_frame}
 use Rattle.serving.specs.Connection.{serve_frame}
-use Rattle.serving.specs.Making.{Call, Lead, Way, calls_of, outside_of, speaking}
+use Rattle.serving.specs.Making.{Call, Lead, Makes, Outside, Way, calls_of, outside_of, speaking}
 use Rattle.serving.specs.Serving.{Act}
 use Rattle.serving.specs.Turns.{Talk, new_talk}
 use Rattle.serving.specs.TurnLaw.{Place, Turn, Came, Began, Rested, Took, sides_in}
 use Rattle.serving.specs.declared.ends.End.{End}
 use Rattle.serving.specs.declared.ends.End.TheVariants as end
-use Rattle.serving.specs.declared.request.Request.TheVariants.{Printed}
-use Rattle.sockets.specs.Connections.{Connections, Goes, TurnOf, place_of}
+use Rattle.serving.specs.declared.request.Request.TheVariants.{Printed, Ticked}
+use Rattle.connections.specs.Connections.{Connections, Goes, TurnOf, place_of}
 use Rattle.store.specs.declared.home.Home.{Home}
 use Rattle.store.specs.declared.keeper.Keeper.{Ghosts}
 use Rattle.wire.specs.declared.frame.Frame.{Frame}
@@ -77,21 +77,25 @@ connections k version x =
 -- ---- events
 
 -- What happens in a hall, and what is done in it, calls and pushes in order: a desk takes a turn of
--- one of its connections; or a desk that is between two turns, up or down, is opened again; or a
--- desk stops in the middle of a frame, with only so much of it done, and is opened again.
+-- one of its connections; or it takes a Tick of its own, as it takes such a frame of a client; or a
+-- desk that is between two turns, up or down, is opened again; or a desk stops in the middle of a
+-- frame, or of a Tick of its own, with only so much of it done, and is opened again.
 pub data HallEvent : Type 0 where
   TurnAt : ℕ → TurnOf → List Act → HallEvent
+  TickedAt : ℕ → Begun → List Act → HallEvent
   OpenedAt : ℕ → HallEvent
   CutAt : ℕ → Begun → List Act → HallEvent
 
 abbrev pub acts_of : HallEvent → List Act
 acts_of (TurnAt d t acts) = acts
+acts_of (TickedAt d one acts) = acts
 acts_of (OpenedAt d) = []
 acts_of (CutAt d one acts) = acts
 
 -- the desk at which it happens
 abbrev pub desk_of : HallEvent → ℕ
 desk_of (TurnAt d t acts) = d
+desk_of (TickedAt d one acts) = d
 desk_of (OpenedAt d) = d
 desk_of (CutAt d one acts) = d
 
@@ -145,6 +149,33 @@ pub record TakesTurn {K : Type 0} (k : Ghosts K) (n d : ℕ) (t : TurnOf) (acts 
   pub brings : TurnWasSent (home_at k (h.desks d)) h.sent t.turn
   pub only : OnlyAt d acts h g
 
+-- ---- a Tick of its own
+
+-- the frame asks the desk for a Tick, as a client does
+abbrev pub IsTick : Home → Begun → Type 0
+IsTick home one = request home one.frame ≡ Ticked
+
+-- what there is beside what is seen of a desk that serves
+abbrev pub beside : {K : Type 0} → (k : Ghosts K) → (version : Version) → Station K
+    → Outside (speaking (Handles k) version)
+beside k version x = outside_of (speaking (Handles k) version) x.node x.handed
+
+-- Desk d takes a Tick without a client: what it does is what such a frame comes to, all of it or a
+-- front part, where memory is refused. None of its connections has changed: nothing was read, begun
+-- or counted there, and nothing is answered.
+pub record TicksItself {K : Type 0} (k : Ghosts K) (n d : ℕ) (one : Begun) (acts : List Act)
+    (h g : Hall K) : Type 0 where
+  pub ours : IsDesk n d
+  pub asked : IsTick (home_at k (h.desks d)) one
+  pub rest : List Act
+  pub parts : let x = h.desks d in
+      (serve_frame (home_at k x) (seen_of x.node) one).acts ≡ acts ++ rest
+  pub made : let x = h.desks d in
+      Makes (home_at k x).hall (beside k x.wire x) (beside k x.wire (g.desks d)) acts
+  pub talks : (j : ℕ) → (g.desks d).talks j ≡ (h.desks d).talks j
+  pub wire : (g.desks d).wire ≡ (h.desks d).wire
+  pub only : OnlyAt d acts h g
+
 -- ---- a desk that is opened
 
 -- a desk that was opened over a keeper: none of its connections had a turn
@@ -179,14 +210,16 @@ pub record StopsInSave {K : Type 0} (k : Ghosts K) (x : NodeValue K) (keeper : K
   pub calls : calls_of rest ≡ next ∷ later
   pub left : HoldsStep k keeper x.desk (step_at (k.home_of x.keeper) x.desk next.event)
 
--- desk d has begun the next frame of one of its connections, and stops after these acts, between
--- two calls or in the next one; then it is opened again
+-- the frame is the next one of one of the connections
+abbrev pub WaitsAt : {K : Type 0} → Station K → Begun → Type 0
+WaitsAt x one = (number : ℕ) × (more : List Frame) × ((x.talks number).waiting ≡ one.frame ∷ more)
+
+-- desk d has begun the next frame of one of its connections, or a Tick of its own, and stops after
+-- these acts, between two calls or in the next one; then it is opened again
 pub record IsCut {K : Type 0} (k : Ghosts K) (n d : ℕ) (one : Begun) (acts : List Act)
     (h g : Hall K) : Type 0 where
   pub ours : IsDesk n d
-  pub number : ℕ
-  pub more : List Frame
-  pub next : ((h.desks d).talks number).waiting ≡ one.frame ∷ more
+  pub next : WaitsAt (h.desks d) one ⊎ IsTick (home_at k (h.desks d)) one
   -- the premise on the network
   pub brings : FrameWasSent (home_at k (h.desks d)) h.sent one
   pub rest : List Act
@@ -205,6 +238,7 @@ pub record IsCut {K : Type 0} (k : Ghosts K) (n d : ℕ) (one : Begun) (acts : L
 -- the event leads from the one to the other, in a hall of n desks
 abbrev pub HallGoes : {K : Type 0} → Ghosts K → ℕ → HallEvent → Hall K → Hall K → Type 0
 HallGoes k n (TurnAt d t acts) h g = TakesTurn k n d t acts h g
+HallGoes k n (TickedAt d one acts) h g = TicksItself k n d one acts h g
 HallGoes k n (OpenedAt d) h g = OpensAgain k n d h g
 HallGoes k n (CutAt d one acts) h g = IsCut k n d one acts h g
 
@@ -285,9 +319,10 @@ abbrev pub IsTakenIn : Entry → List Call → Type 0
 IsTakenIn e [] = ⊥
 IsTakenIn e (c ∷ cs) = ((c.event ≡ Submit e) × IsOk c.answer) ⊎ IsTakenIn e cs
 
--- what is done in the event is done for this frame
+-- what is done in the event is done for this frame of a connection
 abbrev pub BeginsIn : HallEvent → Begun → Type 0
 BeginsIn (TurnAt d t acts) one = t.turn ≡ Began one
+BeginsIn (TickedAt d tick acts) one = ⊥
 BeginsIn (OpenedAt d) one = ⊥
 BeginsIn (CutAt d cut acts) one = cut ≡ one
 
@@ -389,3 +424,15 @@ TurnsAreEvents {K} k =
     → Goes t (connections k (h.desks d).wire (h.desks d)) (connections k (h.desks d).wire y)
     → TurnWasSent (home_at k (h.desks d)) h.sent t.turn
     → (acts : List Act) × (g : Hall K) × (g.desks d ≡ y) × HallGoes k n (TurnAt d t acts) h g
+
+-- And so is each Tick that it takes of its own: what it did is what such a frame of a client comes
+-- to, or a front part of it, and its connections stayed as they were.
+abbrev pub OwnTicksAreEvents : {K : Type 0} → Ghosts K → Type 0
+OwnTicksAreEvents {K} k =
+    (n d : ℕ) (h : Hall K) (one : Begun) (acts rest : List Act) (y : Station K)
+    → IsDesk n d → y.wire ≡ (h.desks d).wire → ((j : ℕ) → y.talks j ≡ (h.desks d).talks j)
+    → IsTick (home_at k (h.desks d)) one
+    → (serve_frame (home_at k (h.desks d)) (seen_of (h.desks d).node) one).acts ≡ acts ++ rest
+    → Makes (home_at k (h.desks d)).hall (beside k (h.desks d).wire (h.desks d))
+    (beside k (h.desks d).wire y) acts
+    → (g : Hall K) × (g.desks d ≡ y) × HallGoes k n (TickedAt d one acts) h g

@@ -6,3 +6,5 @@ pub mod Pushing
 pub mod HallRuns
 pub mod HallExample
 pub mod HallProgress
+pub mod HallGoing
+pub mod HallServing

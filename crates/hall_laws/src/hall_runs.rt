@@ -3,7 +3,8 @@
 ghost use Rattle.hall_laws.specs.HallRuns.{HallsAreRuns, HallLogsAgree, HallEntriesAreSubmitted};
 ghost use Rattle.hall_laws.specs.HallRuns.{HallMessagesAreNamed, HallSheetsAreOfLogs};
 ghost use Rattle.hall_laws.specs.HallRuns.{HallAnswersWait, HallSheetsAgree, TurnsAreEvents};
-ghost use Rattle.hall_laws.specs.HallExample.{FourTurnsAreARun};
+ghost use Rattle.hall_laws.specs.HallRuns.{OwnTicksAreEvents};
+ghost use Rattle.hall_laws.specs.HallExample.{SmallRunIsARun};
 ghost use Rattle.hall_laws.specs.HallProgress.{HallsAreNotStuck};
 
 use crate::own_messages::own_messages_were_sent;
@@ -12,9 +13,10 @@ use crate::stops::{calls_are_happenings, stops_make_a_run};
 use progress::laws::no_desk_is_stuck;
 use store::keeper::Keeper;
 
-/// The desks of a hall serve at once, each of them many connections by turns. Their turns come in
-/// any order; desks stop, between two turns or in the middle of a frame, and are opened again. All
-/// their calls together are a run of the world, step by step.
+/// The desks of a hall serve at once, each of them many connections by turns, and may take Ticks of
+/// their own between them. All that comes in any order; desks stop, between two turns or in the
+/// middle of a frame or of a Tick, and are opened again. All their calls together are a run of the
+/// world, step by step.
 ///
 /// So of any two desks' logs at any two moments one is a prefix of the other. Every entry was
 /// submitted before, by a frame that came to a desk of the hall, which took it. A connection has
@@ -37,8 +39,10 @@ pub fn halls_are_runs<K: Keeper>()
     ensures named { HallMessagesAreNamed K.Keeper }
     // Nothing that a desk does by turns is left out.
     ensures turns { TurnsAreEvents K.Keeper }
+    // Nor anything that it does where it ticks itself.
+    ensures ticks { OwnTicksAreEvents K.Keeper }
     // There are such runs: this one, in full.
-    ensures example { FourTurnsAreARun K.Keeper }
+    ensures example { SmallRunIsARun K.Keeper }
 {
     calls_are_happenings::<K>();
     own_messages_were_sent();
@@ -51,7 +55,8 @@ pub fn halls_are_runs<K: Keeper>()
 /// that majority, where logs and ballot numbers have room.
 ///
 /// What decides is said in steps of the protocol, one event at a desk each, and not in turns: while
-/// a desk serves, it delivers what it says to itself at once, and gives itself a Start.
+/// a desk serves, it delivers what it says to itself at once, and gives itself a Start. Of turns it
+/// is said by `majorities_decide`.
 pub fn halls_are_not_stuck<K: Keeper>()
     ensures { HallsAreNotStuck K.Keeper }
 {

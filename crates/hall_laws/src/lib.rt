@@ -3,14 +3,18 @@
 #![tactic(auto)]
 
 mod arriving;
+mod hall_going;
 mod hall_runs;
+mod hall_serving;
 mod own_messages;
 mod pushing;
 mod served;
 mod stops;
 
 pub use arriving::messages_arrive;
+pub use hall_going::halls_go_on;
 pub use hall_runs::{halls_are_not_stuck, halls_are_runs};
+pub use hall_serving::majorities_decide;
 pub use own_messages::{own_messages_were_sent, served_frames_happen};
 pub use pushing::messages_are_pushed;
 pub use served::{calls_are_a_run, sheets_are_of_the_log};

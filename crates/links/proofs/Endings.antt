@@ -155,7 +155,7 @@ same_dropped ts = record {
 
 -- the last connection is over
 over : (at : Stage) (n : ℕ) (bytes front : List ℕ) (ts us : List Told) → Same ts us
-    → frames_on at ≤ 64 → (front ≡ []) ⊎ IsCut n front us → Now at n bytes front ts
+    → frames_on at ≤ 63 → (front ≡ []) ⊎ IsCut n front us → Now at n bytes front ts
     → Past bytes n us
 over stage.Closed n bytes front ts us same most cut h = past_as bytes n ts us same h
 over (stage.Paused since millis) n bytes front ts us same most cut h = past_as bytes n ts us same h
@@ -292,8 +292,8 @@ spent_none (stage.Paused since millis) (f ∷ fs) (suc k) sends part spent =
 spent_none (stage.Opening since) (f ∷ fs) (suc k) sends part spent =
     let e = sends (omega arith) in cc
 spent_none (stage.Open frames quiet) (f ∷ fs) (suc k) sends part spent =
-    let few = ltb-true frames 64 (sends (omega arith)) in
-    let many = leb-true 64 frames (sym (or-false (nat_le 64 frames)) ∙ spent) in
+    let few = ltb-true frames 63 (sends (omega arith)) in
+    let many = leb-true 63 frames (sym (or-false (nat_le 63 frames)) ∙ spent) in
     absurd (omega (arith, few, many))
   where
     or-false : (b : Bool) → (b || false) ≡ b

@@ -20,7 +20,7 @@ pub record Past (bytes : List ℕ) (n : ℕ) (ts : List Told) : Type 0 where
   pub part : List ℕ
   pub is : bytes ≡ joined (sent_on n ts) ++ part
   pub rest : (part ≡ []) ⊎ IsCut n part ts
-  pub most : length (sent_on n ts) ≤ 64
+  pub most : length (sent_on n ts) ≤ 63
 
 -- of the last connection: it is over, or being opened, or this is what was sent of the first frame
 abbrev pub Now : Stage → ℕ → List ℕ → List ℕ → List Told → Type 0
@@ -67,7 +67,7 @@ past_as bytes n ts us same p = record {
   part = p.part;
   is = p.is ∙ ap (λ z. joined z ++ p.part) (sym (same.sent n));
   rest = rest_as n p.part ts us (same.cut n) p.rest;
-  most = subst (λ z. length z ≤ 64) (sym (same.sent n)) p.most;
+  most = subst (λ z. length z ≤ 63) (sym (same.sent n)) p.most;
 }
 
 pub now_as : (stage : Stage) (n : ℕ) (bytes front other : List ℕ) (ts us : List Told) → Same ts us

@@ -84,7 +84,7 @@ rest_now h s ts part (inl e) = inl e
 rest_now h s ts part (inr e) = inr (inr (refl, e))
 
 now_carries : (at : Stage) (h : History) (s : LinkState) (ts : List Told) → IsSound s
-    → frames_on at ≤ 64 → Now at (connections h) (written (connections h) h) (front_of s) ts
+    → frames_on at ≤ 63 → Now at (connections h) (written (connections h) h) (front_of s) ts
     → Carries (connections h) h s ts
 now_carries stage.Closed h s ts sound most a = past_carries (connections h) h s ts a
 now_carries (stage.Paused since millis) h s ts sound most a =

@@ -68,7 +68,7 @@ sent_told h now bytes none = record {
 
 -- ---- on an open connection
 
-room_frames : (at : Stage) → has_room at ≡ true → nat_lt (frames_on at) 64 ≡ true
+room_frames : (at : Stage) → has_room at ≡ true → nat_lt (frames_on at) 63 ≡ true
 room_frames stage.Closed room = cc
 room_frames (stage.Paused since millis) room = cc
 room_frames (stage.Opening since) room = cc
@@ -155,7 +155,7 @@ sends_whole h s ts now bytes rest f fs a room first is most =
     let c = connections h in
     let us = settle_first (SentOn c) ts in
     let held = now_open s.stage c (written c h) (front_of s) ts room a.now in
-    let few = ltb-true (frames_on s.stage) 64 (room_frames s.stage room) in
+    let few = ltb-true (frames_on s.stage) 63 (room_frames s.stage room) in
     let last : (n : ℕ) → sent_on n us ≡ sent_on n ts ++ (if n == c then f ∷ [] else [])
     = λ n. last_first c n c ts f fs a.ordered (a.waits ∙ first) in
     let on_it : sent_on c us ≡ sent_on c ts ++ f ∷ []
@@ -196,7 +196,7 @@ sends_whole h s ts now bytes rest f fs a room first is most =
             rest =
                 rest_as n p.part ts us (λ part e. cut_first n part (SentOn c) ts
                 (λ x. ap (λ z. if z then x ∷ [] else []) (unequal n c other)) e) p.rest;
-            most = subst (λ z. length z ≤ 64) (sym same) p.most;
+            most = subst (λ z. length z ≤ 63) (sym same) p.most;
           };
       fresh = λ n later.
           let other : n ≡ c → ⊥ = λ e. omega (arith, e, later) in

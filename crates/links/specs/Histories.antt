@@ -168,7 +168,7 @@ pub record Carries (n : ℕ) (h : History) (s : LinkState) (ts : List Told) : Ty
   pub part : List ℕ
   pub bytes : written n h ≡ flat_map (λ f. f) (sent_on n ts) ++ part
   pub rest : IsRest n part ts h s
-  pub most : length (sent_on n ts) ≤ 64
+  pub most : length (sent_on n ts) ≤ 63
 
 -- ---- the causes that are said
 

@@ -47,12 +47,12 @@ IsUnconnected (Paused since millis) = Unit {0}
 IsUnconnected (Opening since) = ⊥
 IsUnconnected (Open frames quiet) = ⊥
 
--- whether another frame may be sent on the connection: it is open, and carried less than 64
+-- whether another frame may be sent on the connection: it is open, and carried less than 63
 abbrev pub has_room : Stage → Bool
 has_room Closed = false
 has_room (Paused since millis) = false
 has_room (Opening since) = false
-has_room (Open frames quiet) = nat_lt frames 64
+has_room (Open frames quiet) = nat_lt frames 63
 
 -- how many frames were sent whole on the connection
 abbrev pub frames_on : Stage → ℕ
@@ -74,13 +74,13 @@ first_of [] = []
 first_of (f ∷ fs) = f
 
 -- what holds of every link: at most 256 frames wait; where the first is begun, a connection is open
--- that has room for it, and it isn't sent whole; no connection carried more than 64 frames, and no
+-- that has room for it, and it isn't sent whole; no connection carried more than 63 frames, and no
 -- pause is longer than a second
 pub record IsSound (s : LinkState) : Type 0 where
   pub few : length s.waiting ≤ 256
   pub sends : 0 < s.begun → has_room s.stage ≡ true
   pub part : 0 < s.begun → s.begun < length (first_of s.waiting)
-  pub frames : frames_on s.stage ≤ 64
+  pub frames : frames_on s.stage ≤ 63
   pub holds : pause_in s.stage ≤ 1000
   pub pause : s.pause ≤ 1000
 
@@ -121,14 +121,14 @@ abbrev pub is_over : ℕ → ℕ → ℕ → Bool
 is_over now since millis = nat_le millis (now - since)
 
 -- a connection is opened only once a frame waits and no pause holds; it is given up after a second
--- of opening; it is closed after 64 frames, or 100 milliseconds with nothing to be sent
+-- of opening; it is closed after 63 frames, or 100 milliseconds with nothing to be sent
 abbrev pub wish_at : Stage → Bool → ℕ → Wish
 wish_at Closed waits now = if waits then wish.Open else wish.Rest
 wish_at (Paused since millis) waits now =
     if waits && is_over now since millis then wish.Open else wish.Rest
 wish_at (Opening since) waits now = if is_over now since 1000 then wish.GiveUp else wish.Rest
 wish_at (Open frames quiet) waits now =
-    if nat_le 64 frames then wish.Close else (
+    if nat_le 63 frames then wish.Close else (
     if waits then wish.Write else (if is_over now quiet 100 then wish.Close else wish.Rest)
     )
 
@@ -246,12 +246,12 @@ failed_at (Open frames quiet) s now = broken s now
 abbrev pub after_failed : LinkState → ℕ → LinkState
 after_failed s now = failed_at s.stage s now
 
--- whether nothing more is to be sent on an open connection: it carried 64 frames, or none waits
+-- whether nothing more is to be sent on an open connection: it carried 63 frames, or none waits
 abbrev pub spent_at : Stage → Bool → Bool
 spent_at Closed waits = false
 spent_at (Paused since millis) waits = false
 spent_at (Opening since) waits = false
-spent_at (Open frames quiet) waits = nat_le 64 frames || not waits
+spent_at (Open frames quiet) waits = nat_le 63 frames || not waits
 
 -- the other side ends it: no failure, where nothing more was to be sent on it
 abbrev pub after_ended : LinkState → ℕ → LinkState

@@ -6,7 +6,7 @@ ghost use Rattle.links.specs.Reaching.{LinksTryAgain};
 
 /// However a link is called, each frame that was pushed was sent whole, once, on one connection, or
 /// was dropped for a cause, or waits. What was written on a connection are the frames sent on it,
-/// at most 64, in the order of their pushes, and then at most the front part of one more, pushed
+/// at most 63, in the order of their pushes, and then at most the front part of one more, pushed
 /// later, which was dropped because the connection failed, or is being sent. At most 256 frames
 /// wait.
 ///

@@ -18,7 +18,7 @@ use std::marker::Model;
 pub const MOST_WAITING: usize = 256;
 
 /// The most frames that are sent on one connection.
-const MOST_FRAMES: u32 = 64;
+const MOST_FRAMES: u32 = 63;
 
 /// How long a connection may take to be opened, in milliseconds.
 const OPENING: u64 = 1000;
@@ -262,7 +262,7 @@ impl Link {
     }
 
     /// What is to be written now: what of the first frame that waits was not sent, where a
-    /// connection is open on which less than 64 frames were sent.
+    /// connection is open on which less than 63 frames were sent.
     pub fn output(&self) -> &[u8]
         ensures { result.now ≡ pending self.now }
     {
@@ -322,7 +322,7 @@ impl Link {
     }
 
     /// Says that the other side ended the connection. That is a failure, unless nothing was to be
-    /// sent on it any more: no frame waits, or 64 were sent on it.
+    /// sent on it any more: no frame waits, or 63 were sent on it.
     pub fn ended(&mut self, now: u64)
         ensures { self.new ≡ after_ended self.old now }
     {

@@ -1,6 +1,7 @@
 -- Links that are driven one after the other.
 use Rattle.std.proofs.Common.{◌≡◌, refl, sym, ap, subst, ◌∙◌, ℕ, ◌+◌, ◌<◌, List, [], ◌∷◌, ◌++◌}
-use Rattle.std.proofs.Common.{Option, take, drop, length, get_or, set, append_assoc, append-nil, arith}
+use Rattle.std.proofs.Common.{Option, take, drop, length, get_or, set, append_assoc, append-nil}
+use Rattle.std.proofs.Common.{arith}
 use Rattle.std.proofs.lemmas.List.{take_more, take_more_set, drop-drop, drop-set-lt, get_or-drop}
 use Rattle.links.specs.Histories.{Step}
 use Rattle.mio_sockets.specs.Wiring.{Wired, Line, IsDriven, AreDriven, KeepsLine, KeepsLines}

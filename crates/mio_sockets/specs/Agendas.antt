@@ -1,5 +1,6 @@
 -- What is still to be named of a round.
-use Rattle.std.specs.Prelude.{◌≡◌, ◌⊎◌, ℕ, Bool, true, false, List, [], ◌∷◌, ◌++◌, Option, None, Some}
+use Rattle.std.specs.Prelude.{◌≡◌, ◌⊎◌, ℕ, Bool, true, false, List, [], ◌∷◌, ◌++◌, Option, None}
+use Rattle.std.specs.Prelude.{Some}
 use Rattle.std.specs.List.Sorted.{IsNonDecreasing}
 use Rattle.multiplex.specs.declared.clients.Ready.{Ready}
 use Rattle.multiplex.specs.declared.clients.Ready.TheVariants as ready

@@ -94,22 +94,6 @@ abbrev pub TakesFrame : List ℕ → Line → Line → Type 0
 TakesFrame frame a b =
     IsSameDesk a b × (b.telling ≡ a.telling) × (Waits frame a b ⊎ IsLost a b)
 
-pub record PushedAt (to : ℕ) (frame : List ℕ) (old new : List Line) : Type 0 where
-  pub before : List Line
-  pub after : List Line
-  pub a : Line
-  pub b : Line
-  pub was : old ≡ before ++ a ∷ after
-  pub is : new ≡ before ++ b ∷ after
-  pub to_it : a.desk ≡ to
-  pub takes : TakesFrame frame a b
-
--- the frame is given to the link of its desk, if that has an address; the other links stay
-abbrev pub PushesTo : ℕ → List ℕ → List Line → List Line → Type 0
-PushesTo to frame old new =
-    PushedAt to frame old new
-    ⊎ (AllByRecursion (λ l. l.desk ≢ to) old × (new ≡ old))
-
 -- ---- a link is driven
 
 -- a call of the link other than a push
@@ -157,6 +141,30 @@ pub record KeepsLine (before after : Option (List Wired)) (a b : Line) : Type 0 
   pub steps : List Step
   pub driven : IsDriven a b steps
   pub told : Tells before after (told_all a.desk a.address steps)
+
+-- ---- a frame goes to its desk
+
+-- The frame is given to the link of its desk. What the link then has to send is written at once,
+-- where its connection is open and takes it.
+pub record PushedAt (to : ℕ) (frame : List ℕ) (earlier later : Option (List Wired))
+    (old new : List Line) : Type 0 where
+  pub before : List Line
+  pub after : List Line
+  pub a : Line
+  pub between : Line
+  pub b : Line
+  pub was : old ≡ before ++ a ∷ after
+  pub is : new ≡ before ++ b ∷ after
+  pub to_it : a.desk ≡ to
+  pub takes : TakesFrame frame a between
+  pub written : KeepsLine earlier later between b
+
+-- where the desk has an address; the other links stay
+abbrev pub PushesTo : ℕ → List ℕ → Option (List Wired) → Option (List Wired) → List Line
+    → List Line → Type 0
+PushesTo to frame earlier later old new =
+    PushedAt to frame earlier later old new
+    ⊎ (AllByRecursion (λ l. l.desk ≢ to) old × (new ≡ old) × Tells earlier later [])
 
 -- each link was called so, in the order of the desks
 abbrev pub AreDriven : List Line → List (List Step) → List Line → Type 0

@@ -7,7 +7,7 @@ ghost use Rattle.mio_sockets.specs.Wiring.{KeepsLines, PushesTo, lines_from};
 
 use crate::neighbour::Neighbour;
 use crate::socket_wires::SocketWires;
-use crate::tellings::tell;
+use crate::tellings::{Subject, tell};
 use crate::wires::Wires;
 use links::Notice;
 use multiplex::Links;
@@ -23,15 +23,17 @@ const MOST_DESKS: usize = 5;
 /// The links to the other desks of a hall over TCP.
 pub type SocketLinks<'a, R, W> = DeskLinks<SocketWires<'a, R>, W>;
 
-/// The links to the other desks of a hall, over connections of some kind, and where the lines go
-/// that say which desk can't be reached. A contract sees the connections, and each desk that has an
-/// address.
+/// The links to the other desks of a hall, over connections of some kind, and where the lines go,
+/// if anywhere, that say which desk can't be reached. A contract sees the connections, and each
+/// desk that has an address.
 #[derive(Drop)]
 pub struct DeskLinks<C, W> {
     alloc: Global,
     wires: C,
     desks: Vec<Neighbour>,
-    lines: W,
+    lines: Option<W>,
+    /// When the links were kept last, in milliseconds.
+    now: u64,
 }
 
 impl<C, W> Model for DeskLinks<C, W> {
@@ -55,21 +57,38 @@ fn neighbours(alloc: Global, addresses: &[Option<SocketAddr>]) -> Result<Vec<Nei
     Ok(desks)
 }
 
-/// Writes the line about a desk that is due, if one is. Where it can't be written, it is left out.
-fn tell_due<W: Write>(lines: &mut W, desk: u8, due: Option<Notice>) {
-    if let Some(notice) = due {
-        let _ = tell(lines, desk, notice);
+/// Writes the line about a desk that is due, if one is, and lines are written at all. Where it
+/// can't be written, it is left out.
+fn tell_due<W: Write>(lines: &mut Option<W>, subject: Subject, due: Option<Notice>) {
+    if let Some(writer) = lines {
+        if let Some(notice) = due {
+            let _ = tell(writer, subject, notice);
+        }
+    }
+}
+
+/// What a line about a desk says beside what became of it.
+fn subject_of<C: Wires>(desk: &Neighbour, wires: &C) -> Subject {
+    Subject {
+        desk: desk.desk(),
+        address: desk.address(),
+        trouble: wires.trouble(desk.desk()),
     }
 }
 
 /// Keeps each link.
-fn keep_each<C: Wires, W: Write>(desks: &mut [Neighbour], wires: &mut C, lines: &mut W, now: u64)
+fn keep_each<C: Wires, W: Write>(
+    desks: &mut [Neighbour],
+    wires: &mut C,
+    lines: &mut Option<W>,
+    now: u64,
+)
     ensures { KeepsLines (C.wired wires.old) (C.wired wires.new) desks.old desks.new }
 {
     for place in 0..desks.len() {
         let desk = &mut desks[place];
         let due = desk.keep(wires, now);
-        tell_due(lines, desk.desk(), due);
+        tell_due(lines, subject_of(desk, wires), due);
     }
 }
 
@@ -91,12 +110,13 @@ fn sooner(a: Option<u64>, b: Option<u64>) -> Option<u64> {
 
 impl<C: Wires, W: Write> DeskLinks<C, W> {
     /// The links to the desks at these addresses: desk 1 at the first one, and so on. Frames to a
-    /// desk without an address are dropped. Addresses after the fifth are left out.
+    /// desk without an address are dropped. Addresses after the fifth are left out. Without `lines`
+    /// nothing is said of desks that can't be reached.
     pub fn new(
         alloc: Global,
         addresses: &[Option<SocketAddr>],
         wires: C,
-        lines: W,
+        lines: Option<W>,
     ) -> Result<DeskLinks<C, W>, AllocError>
     where
         C: Drop,
@@ -109,6 +129,7 @@ impl<C: Wires, W: Write> DeskLinks<C, W> {
             wires,
             desks: neighbours(alloc, addresses)?,
             lines,
+            now: 0,
         })
     }
 }
@@ -119,15 +140,18 @@ impl<C: Wires, W: Write> Peers for DeskLinks<C, W> {
     // What a desk was handed over to its link is said by the clause `frame`.
     ghost handed = { λ _. None };
 
-    /// Gives a frame to the link of its desk. Where memory is refused for it, it is dropped, which
-    /// is counted.
+    /// Gives a frame to the link of its desk, and writes it at once where the connection to that
+    /// desk is open and takes it. So the other desks work on it while this one goes on. Where
+    /// memory is refused for it, it is dropped, which is counted.
     fn push(&mut self, to: u8, frame: &[u8])
-        ensures frame { PushesTo to frame.now self.old.lines self.new.lines }
-        ensures wires { self.new.wires ≡ self.old.wires }
+        ensures frame { PushesTo to frame.now (C.wired self.old.wires) (C.wired self.new.wires)
+            self.old.lines self.new.lines }
     {
         if let Some(place) = place_of(&self.desks, to) {
             let desk = &mut self.desks[place];
             desk.push(self.alloc, frame);
+            let due = desk.write_now(&mut self.wires, self.now);
+            tell_due(&mut self.lines, subject_of(desk, &self.wires), due);
         }
     }
 }
@@ -138,6 +162,7 @@ impl<C: Wires, W: Write> Links for DeskLinks<C, W> {
         ensures { KeepsLines (C.wired self.old.wires) (C.wired self.new.wires)
             self.old.lines self.new.lines }
     {
+        self.now = now;
         keep_each(&mut self.desks, &mut self.wires, &mut self.lines, now);
     }
 

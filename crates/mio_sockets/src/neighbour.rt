@@ -13,7 +13,7 @@ use std::alloc::Global;
 use std::marker::Model;
 use std::net::SocketAddr;
 
-/// How many wishes of a link are fulfilled at once. At most 64 frames are sent on a connection, so
+/// How many wishes of a link are fulfilled at once. At most 63 frames are sent on a connection, so
 /// that a link rests before that.
 const MOST_WISHES: u32 = 1024;
 
@@ -64,6 +64,12 @@ impl Neighbour {
         ensures { result ≡ self.now.desk }
     {
         self.desk
+    }
+
+    pub fn address(&self) -> SocketAddr
+        ensures { result ≡ self.now.address }
+    {
+        self.address
     }
 
     /// How many frames were dropped because memory was refused.
@@ -223,6 +229,17 @@ impl Neighbour {
         }
     }
 
+    /// Writes at once what the link has to send, where its connection is open and takes it. Gives
+    /// the line that is due, if one is.
+    pub fn write_now<C: Wires>(&mut self, wires: &mut C, now: u64) -> Option<Notice>
+        ensures { KeepsLine (C.wired wires.old) (C.wired wires.new) self.old self.new }
+    {
+        match self.link.wish(now) {
+            Wish::Write => self.write(wires, now).line,
+            Wish::Rest | Wish::Open | Wish::Close | Wish::GiveUp => None,
+        }
+    }
+
     /// Tells the link what has become of its connection.
     fn look<C: Wires>(&mut self, wires: &mut C, now: u64) -> Option<Notice>
         ensures { KeepsLine (C.wired wires.old) (C.wired wires.new) self.old self.new }
@@ -239,6 +256,7 @@ impl Neighbour {
             },
             Stage::Open { .. } => match wires.hear(self.desk) {
                 Heard::Nothing => None,
+                Heard::Foreign => self.notices.foreign(now),
                 Heard::Ended => self.end(wires, now),
                 Heard::Broke => self.fail(wires, now),
             },

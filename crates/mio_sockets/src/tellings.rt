@@ -2,16 +2,37 @@
 
 use links::Notice;
 use std::io;
-use std::io::Write;
+use std::io::{ErrorKind, Write};
+use std::net::SocketAddr;
+
+/// What a line is about: a desk, where it is to be found, and what went wrong last with a
+/// connection to it.
+#[derive(Clone, Copy)]
+pub struct Subject {
+    pub desk: u8,
+    pub address: SocketAddr,
+    pub trouble: ErrorKind,
+}
 
 /// Writes a line about a desk.
-pub fn tell<W: Write>(writer: &mut W, desk: u8, notice: Notice) -> io::Result<()> {
+pub fn tell<W: Write>(writer: &mut W, subject: Subject, notice: Notice) -> io::Result<()> {
+    let desk = subject.desk;
     match notice {
-        Notice::Unreachable => writeln!(writer, "desk {desk} can't be reached")?,
-        Notice::Reached { seconds } => {
-            writeln!(writer, "desk {desk} is reached again after {seconds} s")?;
+        Notice::Unreachable => {
+            let address = subject.address;
+            let trouble = subject.trouble;
+            writeln!(writer, "desk {desk} at {address}: {trouble}")?;
         }
-        Notice::Foreign => writeln!(writer, "desk {desk} is no desk of this hall")?,
+        Notice::Reached { seconds } => {
+            writeln!(writer, "desk {desk}: reached again after {seconds} s")?;
+        }
+        Notice::Foreign => {
+            let address = subject.address;
+            writeln!(
+                writer,
+                "desk {desk} at {address}: another hall or desk answers"
+            )?;
+        }
     }
     writer.flush()
 }

@@ -5,6 +5,7 @@ ghost use Rattle.multiplex.specs.Happenings.{CountsTaken};
 ghost use Rattle.mio_sockets.specs.Wiring.{Began, Closed, Tells, Wired, taken};
 
 use multiplex::Taken;
+use std::io::ErrorKind;
 use std::net::SocketAddr;
 
 /// What has become of a connection that was begun.
@@ -22,6 +23,8 @@ pub enum Opening {
 pub enum Heard {
     /// It may go on.
     Nothing,
+    /// What came first on the connection is of another hall or of another desk. It may go on.
+    Foreign,
     /// It has ended the connection.
     Ended,
     /// The connection failed.
@@ -50,6 +53,9 @@ pub trait Wires {
     /// Reads what comes on the connection without waiting, and drops it.
     fn hear(&mut self, desk: u8) -> Heard
         ensures { Tells (wired self.old) (wired self.new) [] };
+
+    /// What went wrong last with a connection to this desk.
+    fn trouble(&self, desk: u8) -> ErrorKind;
 
     /// Closes the connection to this desk, if there is one.
     fn close(&mut self, desk: u8)

@@ -10,6 +10,9 @@ use std::io::Write;
 use std::net::{Ipv4Addr, SocketAddr, SocketAddrV4};
 use std::{env, io};
 
+/// The hall of the link.
+const HALL: u32 = 7;
+
 /// How many bytes a long answer has.
 const LONG: usize = 65_536;
 
@@ -187,8 +190,8 @@ fn run(rt: &HostRuntime, desk: u16) -> io::Result<()> {
     let address = clients.address()?;
     writeln!(output, "listens at {address}")?;
     output.flush()?;
-    let wires = SocketWires::new(rt, clients.registry()?);
-    let links = DeskLinks::new(alloc, &[None, Some(here(desk))], wires, rt.stderr())?;
+    let wires = SocketWires::new(rt, alloc, clients.registry()?, HALL);
+    let links = DeskLinks::new(alloc, &[None, Some(here(desk))], wires, Some(rt.stderr()))?;
     let mut server = Server {
         alloc,
         clients,

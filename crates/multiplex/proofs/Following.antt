@@ -8,17 +8,24 @@ use Rattle.answers.specs.declared.desk.Desk.{Ghosts as DeskOf}
 use Rattle.answers.specs.Seen.{Seen}
 use Rattle.store.specs.declared.home.Home.{Home}
 use Rattle.wire.specs.declared.values.Version.{Version}
+use Rattle.serving.specs.Connection.{serve_frame}
 use Rattle.serving.specs.Making.{Outside, Way}
+use Rattle.serving.specs.OwnTicks.{tick_begun}
 use Rattle.serving.specs.Turns.{Talk, new_talk}
 use Rattle.serving.specs.TurnLaw.{Came as CameIn, Began, Follow, Place, Rested, Took as TookOf}
-use Rattle.serving.specs.TurnLaw.{Turn, Turns, handed_out, received}
-use Rattle.sockets.specs.Connections.{Connections, FollowEach, TurnOf, place_of}
-use Rattle.sockets.specs.Connections.{IsServedOf, served_of, turns_of}
-use Rattle.sockets.proofs.Interleaving.{each_is_served}
-use Rattle.multiplex.specs.EachClient.{EachClientIsServed, gave, took}
+use Rattle.serving.specs.TurnLaw.{Turn, Turns, came_in, handed_out, received, taken_in}
+use Rattle.serving.proofs.Makings.{Makes-nil, Makes-trans}
+use Rattle.connections.specs.Connections.{AreServedInTurn, Connections, FollowEach, TurnOf}
+use Rattle.connections.specs.Connections.{place_of}
+use Rattle.connections.specs.Connections.{IsServedOf, MakesSome, Point, Served, served_of, turns_of}
+use Rattle.connections.proofs.Interleaving.{HoldsSome, at_first, goes_on, makes_all}
+use Rattle.multiplex.specs.EachClient.{AreDoneInTurn, Deed, EachClientIsServed, Frame, OwnTick}
+use Rattle.multiplex.specs.EachClient.{frames_in, gave, own_ticks, point_in, sides_at, ticks_of}
+use Rattle.multiplex.specs.EachClient.{took}
 use Rattle.multiplex.specs.Happenings.{Happened}
 use Rattle.multiplex.specs.Passing.{Change, Changed, Changes, Clock, Comes, Lobby, NoSocket}
-use Rattle.multiplex.specs.Passing.{Pass, Room, Shut, Step, Stops, Stray, Takes, TurnedAway}
+use Rattle.multiplex.specs.Passing.{Pass, Room, Shut, Step, Stops, Stray, Takes, Ticked, TicksBy}
+use Rattle.multiplex.specs.Passing.{TicksItself, TurnedAway}
 use Rattle.multiplex.specs.Passing.{Visit, Visits, guest, staying, told_all}
 use Rattle.multiplex.specs.Passing.{told_change, told_end, told_turns, told_why, with_node}
 use Rattle.multiplex.specs.declared.ends.Over.TheVariants as over
@@ -38,6 +45,8 @@ numbered k (t ∷ ts) = record { number = k; turn = t } ∷ numbered k ts
 
 abbrev turns_in : Step → List TurnOf
 turns_in (Changed c) = []
+turns_in (Clock now) = []
+turns_in (Ticked now starved) = []
 turns_in (Visit k turns fate) = numbered k turns
 
 abbrev all_turns : List Step → List TurnOf
@@ -187,8 +196,6 @@ StandsIn home wire talks l = Stands home wire talks l.guests l.next
 
 after_change : (home : Home) (t : Terms) (talks : ℕ → Talk) (c : Change) (a b : Lobby)
     → Changes home t c a b → StandsIn home t.wire talks a → StandsIn home t.wire talks b
-after_change home t talks (Clock time) a b h s =
-    subst (λ l. StandsIn home t.wire talks l) (sym h.1) s
 after_change home t talks (Comes k) a b h s =
     subst (λ l. StandsIn home t.wire talks l) (sym h.enters)
     (subst
@@ -209,7 +216,7 @@ after_change home t talks (Shut k w) a b h s =
 after_change home t talks (Stops e) a b h s =
     subst (λ l. StandsIn home t.wire talks l) (sym h.2) s
 
--- ---- step by step
+-- ---- a client that is ready
 
 abbrev conns_in : {V : Type 0} {way : Way V} → Room way → (ℕ → Talk) → Connections way
 conns_in a talks = conns talks a.seen a.outside
@@ -252,43 +259,286 @@ after_visit home wire talks k turns fate a b before after old new s h =
     left None talks s = s
     left (Some w) talks s = leaves home wire talks before new after a.lobby.next s
 
-after_step : {V : Type 0} {way : Way V} (home : Home) (t : Terms) (talks : ℕ → Talk) (s : Step)
-    (a b : Room way)
-    → StandsIn home t.wire talks a.lobby → Takes home t s a b
-    → LeadsSome home t.wire talks a b (turns_in s)
-after_step home t talks (Changed c) a b stands h = (
-  talks,
-  record {
-    follow =
-        ap (λ z. conns talks z a.outside) (sym h.1) ∙ ap (λ z. conns talks b.seen z) (sym h.2);
-    stands = after_change home t talks c a.lobby b.lobby h.0 stands;
-  },
-)
-after_step home t talks (Visit k turns fate) a b stands h =
-    after_visit home t.wire talks k turns fate a b h.0 h.1 h.2 h.3 stands h.4
+-- ---- step by step
 
-after_steps : {V : Type 0} {way : Way V} (home : Home) (t : Terms) (talks : ℕ → Talk)
-    (ss : List Step) (a b : Room way)
-    → StandsIn home t.wire talks a.lobby → Pass home t a ss b
-    → LeadsSome home t.wire talks a b (all_turns ss)
-after_steps home t talks [] a b s h = (
+-- what came of each connection, what was taken, and its frames that were begun
+record Past : Type 0 where
+  came : ℕ → List ℕ
+  taken : ℕ → List ℕ
+  begun : ℕ → List Served
+
+nothing : Past
+nothing = record { came = λ k. []; taken = λ k. []; begun = λ k. [] }
+
+abbrev later : Past → List TurnOf → List Deed → Past
+later p turns deeds = record {
+  came = λ k. p.came k ++ received (turns_of k turns);
+  taken = λ k. p.taken k ++ handed_out (turns_of k turns);
+  begun = λ k. p.begun k ++ served_of k (frames_in deeds);
+}
+
+abbrev HoldsOfEach : Home → Past → (ℕ → Talk) → Type 0
+HoldsOfEach home p talks =
+    (k : ℕ) → HoldsSome home (p.came k) (p.taken k) (p.begun k) (talks k)
+
+-- nothing came of any connection
+unmoved : (home : Home) (p : Past) (talks : ℕ → Talk) (deeds : List Deed)
+    → frames_in deeds ≡ [] → HoldsOfEach home p talks
+    → HoldsOfEach home (later p [] deeds) talks
+unmoved home p talks deeds none h k =
+    subst (λ z. HoldsSome home z (p.taken k ++ []) (p.begun k ++ served_of k (frames_in deeds))
+    (talks k)) (sym (append-nil (p.came k)))
+    (subst (λ z. HoldsSome home (p.came k) z (p.begun k ++ served_of k (frames_in deeds)) (talks k))
+    (sym (append-nil (p.taken k)))
+    (subst (λ z. HoldsSome home (p.came k) (p.taken k) z (talks k))
+    (sym (append-nil (p.begun k)) ∙ ap (λ z. p.begun k ++ served_of k z) (sym none)) (h k)))
+
+record Led {V : Type 0} {way : Way V} (home : Home) (wire : Version) (p : Past) (a b : Room way)
+    (turns : List TurnOf) (ticks : List Bool) (deeds : List Deed) (new : ℕ → Talk)
+    : Type 0 where
+  done : AreDoneInTurn home (point_in a) deeds (point_in b)
+  own : own_ticks deeds ≡ ticks
+  stands : StandsIn home wire new b.lobby
+  each : HoldsOfEach home (later p turns deeds) new
+
+abbrev LedSome : {V : Type 0} → {way : Way V} → Home → Version → Past → Room way → Room way
+    → List TurnOf → List Bool → Type 0
+LedSome home wire p a b turns ticks =
+    (deeds : List Deed) × (new : ℕ → Talk) × Led home wire p a b turns ticks deeds new
+
+point_same : {V : Type 0} {way : Way V} (a b : Room way) → b.seen ≡ a.seen
+    → b.outside ≡ a.outside → point_in a ≡ point_in b
+point_same a b seen outside = cc
+
+-- the node and the other desks are as before, and so is each connection
+stays_so : {V : Type 0} {way : Way V} (home : Home) (wire : Version) (p : Past)
+    (talks : ℕ → Talk) (a b : Room way)
+    → b.seen ≡ a.seen → b.outside ≡ a.outside → StandsIn home wire talks b.lobby
+    → HoldsOfEach home p talks → LedSome home wire p a b [] []
+stays_so home wire p talks a b seen outside stands each = (
+  [],
   talks,
   record {
-    follow = ap (λ z. conns_in z talks) h;
-    stands = subst (λ z. StandsIn home t.wire talks z.lobby) h s;
+    done = point_same a b seen outside;
+    own = refl;
+    stands = stands;
+    each = unmoved home p talks [] refl each;
   },
 )
-after_steps home t talks (x ∷ ss) a b s h =
-    let first = after_step home t talks x a h.0 s h.1 in
-    let later = after_steps home t first.0 ss h.0 b first.1.stands h.2 in (
-      later.0,
+
+-- the desk gave itself a Tick
+ticked : {V : Type 0} {way : Way V} (home : Home) (wire : Version) (p : Past) (talks : ℕ → Talk)
+    (now : ℕ) (starved : Bool) (a b : Room way)
+    → StandsIn home wire talks a.lobby → TicksItself home now starved a b
+    → HoldsOfEach home p talks → LedSome home wire p a b [] (starved ∷ [])
+ticked home wire p talks now starved a b stands h each = (
+  OwnTick starved ∷ [],
+  talks,
+  record {
+    done = (point_in b, h.tick, refl);
+    own = refl;
+    stands = subst (λ l. StandsIn home wire talks l) (sym h.left) stands;
+    each = unmoved home p talks (OwnTick starved ∷ []) refl each;
+  },
+)
+
+abbrev as_deeds : List Served → List Deed
+as_deeds [] = []
+as_deeds (f ∷ fs) = Frame f ∷ as_deeds fs
+
+frames_of_deeds : (fs : List Served) → frames_in (as_deeds fs) ≡ fs
+frames_of_deeds [] = refl
+frames_of_deeds (f ∷ fs) = ap (λ z. f ∷ z) (frames_of_deeds fs)
+
+no_own_ticks : (fs : List Served) → own_ticks (as_deeds fs) ≡ []
+no_own_ticks [] = refl
+no_own_ticks (f ∷ fs) = no_own_ticks fs
+
+done_frames : {V : Type 0} {way : Way V} (home : Home) (a b : Point way) (fs : List Served)
+    → AreServedInTurn home a fs b → AreDoneInTurn home a (as_deeds fs) b
+done_frames home a b [] h = h
+done_frames home a b (f ∷ fs) h =
+    (h.0, (h.0, h.1, refl), done_frames home h.0 b fs h.2)
+
+-- a client had its turns
+visited : {V : Type 0} {way : Way V} (home : Home) (wire : Version) (p : Past)
+    (talks : ℕ → Talk) (a b : Room way) (turns : List TurnOf)
+    → LeadsSome home wire talks a b turns → HoldsOfEach home p talks
+    → LedSome home wire p a b turns []
+visited home wire p talks a b turns h each =
+    let after =
+    goes_on home p.came p.taken p.begun turns (conns_in a talks) (conns_in b h.0) each h.1.follow
+    in (
+      as_deeds after.0,
+      h.0,
       record {
-        follow =
-            FollowEach-trans (conns_in a talks) (conns_in h.0 first.0) (conns_in b later.0)
-            (turns_in x) (all_turns ss) first.1.follow later.1.follow;
-        stands = later.1.stands;
+        done = done_frames home (point_in a) (point_in b) after.0 after.1;
+        own = no_own_ticks after.0;
+        stands = h.1.stands;
+        each =
+            λ k.
+            subst (λ z. HoldsSome home (p.came k ++ received (turns_of k turns))
+            (p.taken k ++ handed_out (turns_of k turns)) (p.begun k ++ served_of k z) (h.0 k))
+            (sym (frames_of_deeds after.0)) (after.2 k);
       },
     )
+
+after_step : {V : Type 0} {way : Way V} (home : Home) (t : Terms) (p : Past) (talks : ℕ → Talk)
+    (s : Step) (a b : Room way)
+    → StandsIn home t.wire talks a.lobby → Takes home t s a b → HoldsOfEach home p talks
+    → LedSome home t.wire p a b (turns_in s) (ticks_of (s ∷ []))
+after_step home t p talks (Changed c) a b stands h each =
+    stays_so home t.wire p talks a b h.1 h.2
+    (after_change home t talks c a.lobby b.lobby h.0 stands) each
+after_step home t p talks (Clock now) a b stands h each =
+    stays_so home t.wire p talks a b h.seen h.outside
+    (subst (λ l. StandsIn home t.wire talks l) (sym h.left) stands) each
+after_step home t p talks (Ticked now starved) a b stands h each =
+    ticked home t.wire p talks now starved a b stands h each
+after_step home t p talks (Visit k turns fate) a b stands h each =
+    visited home t.wire p talks a b (numbered k turns)
+    (after_visit home t.wire talks k turns fate a b h.0 h.1 h.2 h.3 stands h.4) each
+
+-- ---- all steps
+
+turns_both : (k : ℕ) (ts us : List TurnOf)
+    → turns_of k (ts ++ us) ≡ turns_of k ts ++ turns_of k us
+turns_both k [] us = refl
+turns_both k (t ∷ ts) us = pick (eqb t.number k) (turns_both k ts us)
+  where
+    pick : (b : Bool) → turns_of k (ts ++ us) ≡ turns_of k ts ++ turns_of k us
+        → cond b (t.turn ∷ turns_of k (ts ++ us)) (turns_of k (ts ++ us))
+        ≡ cond b (t.turn ∷ turns_of k ts) (turns_of k ts) ++ turns_of k us
+    pick true is = ap (λ z. t.turn ∷ z) is
+    pick false is = is
+
+received_both : (ts us : List Turn) → received (ts ++ us) ≡ received ts ++ received us
+received_both [] us = refl
+received_both (t ∷ ts) us =
+    ap (λ z. came_in t ++ z) (received_both ts us)
+    ∙ sym (append_assoc (came_in t) (received ts) (received us))
+
+handed_both : (ts us : List Turn) → handed_out (ts ++ us) ≡ handed_out ts ++ handed_out us
+handed_both [] us = refl
+handed_both (t ∷ ts) us =
+    ap (λ z. taken_in t ++ z) (handed_both ts us)
+    ∙ sym (append_assoc (taken_in t) (handed_out ts) (handed_out us))
+
+frames_both : (ds es : List Deed) → frames_in (ds ++ es) ≡ frames_in ds ++ frames_in es
+frames_both [] es = refl
+frames_both (Frame f ∷ ds) es = ap (λ z. f ∷ z) (frames_both ds es)
+frames_both (OwnTick starved ∷ ds) es = frames_both ds es
+
+served_both : (k : ℕ) (fs gs : List Served)
+    → served_of k (fs ++ gs) ≡ served_of k fs ++ served_of k gs
+served_both k [] gs = refl
+served_both k (f ∷ fs) gs = pick (eqb f.number k) (served_both k fs gs)
+  where
+    pick : (b : Bool) → served_of k (fs ++ gs) ≡ served_of k fs ++ served_of k gs
+        → cond b (f ∷ served_of k (fs ++ gs)) (served_of k (fs ++ gs))
+        ≡ cond b (f ∷ served_of k fs) (served_of k fs) ++ served_of k gs
+    pick true is = ap (λ z. f ∷ z) is
+    pick false is = is
+
+own_both : (ds es : List Deed) → own_ticks (ds ++ es) ≡ own_ticks ds ++ own_ticks es
+own_both [] es = refl
+own_both (Frame f ∷ ds) es = own_both ds es
+own_both (OwnTick starved ∷ ds) es = ap (λ z. starved ∷ z) (own_both ds es)
+
+ticks_first : (s : Step) (ss : List Step) → ticks_of (s ∷ []) ++ ticks_of ss ≡ ticks_of (s ∷ ss)
+ticks_first (Changed c) ss = refl
+ticks_first (Clock now) ss = refl
+ticks_first (Ticked now starved) ss = refl
+ticks_first (Visit k turns fate) ss = refl
+
+done_both : {V : Type 0} {way : Way V} (home : Home) (a m b : Point way) (ds es : List Deed)
+    → AreDoneInTurn home a ds m → AreDoneInTurn home m es b → AreDoneInTurn home a (ds ++ es) b
+done_both home a m b [] es h k = subst (λ z. AreDoneInTurn home z es b) (sym h) k
+done_both home a m b (Frame f ∷ ds) es h k = (h.0, h.1, done_both home h.0 m b ds es h.2 k)
+done_both home a m b (OwnTick starved ∷ ds) es h k =
+    (h.0, h.1, done_both home h.0 m b ds es h.2 k)
+
+-- what came of two lists of turns is what came of both together
+later_both : (home : Home) (p : Past) (talks : ℕ → Talk) (ts us : List TurnOf)
+    (ds es : List Deed)
+    → HoldsOfEach home (later (later p ts ds) us es) talks
+    → HoldsOfEach home (later p (ts ++ us) (ds ++ es)) talks
+later_both home p talks ts us ds es h k =
+    let came : (p.came k ++ received (turns_of k ts)) ++ received (turns_of k us)
+    ≡ p.came k ++ received (turns_of k (ts ++ us))
+    = append_assoc (p.came k) (received (turns_of k ts)) (received (turns_of k us))
+    ∙ ap (λ z. p.came k ++ z) (sym (ap received (turns_both k ts us)
+    ∙ received_both (turns_of k ts) (turns_of k us))) in
+    let taken : (p.taken k ++ handed_out (turns_of k ts)) ++ handed_out (turns_of k us)
+    ≡ p.taken k ++ handed_out (turns_of k (ts ++ us))
+    = append_assoc (p.taken k) (handed_out (turns_of k ts)) (handed_out (turns_of k us))
+    ∙ ap (λ z. p.taken k ++ z) (sym (ap handed_out (turns_both k ts us)
+    ∙ handed_both (turns_of k ts) (turns_of k us))) in
+    let begun : (p.begun k ++ served_of k (frames_in ds)) ++ served_of k (frames_in es)
+    ≡ p.begun k ++ served_of k (frames_in (ds ++ es))
+    = append_assoc (p.begun k) (served_of k (frames_in ds)) (served_of k (frames_in es))
+    ∙ ap (λ z. p.begun k ++ z) (sym (ap (λ z. served_of k z) (frames_both ds es)
+    ∙ served_both k (frames_in ds) (frames_in es))) in
+    subst (λ z. HoldsSome home z (p.taken k ++ handed_out (turns_of k (ts ++ us)))
+    (p.begun k ++ served_of k (frames_in (ds ++ es))) (talks k)) came
+    (subst (λ z. HoldsSome home ((p.came k ++ received (turns_of k ts)) ++ received (turns_of k us))
+    z (p.begun k ++ served_of k (frames_in (ds ++ es))) (talks k)) taken
+    (subst (λ z. HoldsSome home ((p.came k ++ received (turns_of k ts)) ++ received (turns_of k us))
+    ((p.taken k ++ handed_out (turns_of k ts)) ++ handed_out (turns_of k us)) z (talks k)) begun
+    (h k)))
+
+after_steps : {V : Type 0} {way : Way V} (home : Home) (t : Terms) (p : Past) (talks : ℕ → Talk)
+    (ss : List Step) (a b : Room way)
+    → StandsIn home t.wire talks a.lobby → Pass home t a ss b → HoldsOfEach home p talks
+    → LedSome home t.wire p a b (all_turns ss) (ticks_of ss)
+after_steps {V} {way} home t p talks [] a b s h each =
+    subst (λ (z : Room way). LedSome home t.wire p a z [] []) h
+    (stays_so home t.wire p talks a a refl refl s each)
+after_steps home t p talks (x ∷ ss) a b s h each =
+    let first = after_step home t p talks x a h.0 s h.1 each in
+    let more =
+    after_steps home t (later p (turns_in x) first.0) first.1 ss h.0 b first.2.stands h.2
+    first.2.each in (
+      first.0 ++ more.0,
+      more.1,
+      record {
+        done =
+            done_both home (point_in a) (point_in h.0) (point_in b) first.0 more.0 first.2.done
+            more.2.done;
+        own =
+            own_both first.0 more.0 ∙ ap (λ z. z ++ own_ticks more.0) first.2.own
+            ∙ ap (λ z. ticks_of (x ∷ []) ++ z) more.2.own ∙ ticks_first x ss;
+        stands = more.2.stands;
+        each =
+            later_both home p more.1 (turns_in x) (all_turns ss) first.0 more.0 more.2.each;
+      },
+    )
+
+-- ---- calls and pushes
+
+makes_tick : {V : Type 0} {way : Way V} (home : Home) (starved : Bool) (a b : Point way)
+    → TicksBy starved home (sides_at a) (sides_at b) → MakesSome home.hall a b
+makes_tick {V} {way} home false a b h =
+    ((serve_frame home a.seen (tick_begun way.wire home h.0)).acts, h.2.made)
+makes_tick home true a b h = (h.1.0, h.1.2.made)
+
+makes_both : {V : Type 0} {way : Way V} (hall : ℕ) (a m b : Point way) → MakesSome hall a m
+    → MakesSome hall m b → MakesSome hall a b
+makes_both hall a m b h k = (
+  h.0 ++ k.0,
+  Makes-trans hall a.outside m.outside b.outside h.0 k.0 h.1 k.1,
+)
+
+makes_deeds : {V : Type 0} {way : Way V} (home : Home) (a b : Point way) (ds : List Deed)
+    → AreDoneInTurn home a ds b → MakesSome home.hall a b
+makes_deeds {V} {way} home a b [] is =
+    subst (λ (z : Point way). MakesSome home.hall a z) is ([], Makes-nil home.hall a.outside)
+makes_deeds home a b (Frame f ∷ ds) h =
+    makes_both home.hall a h.0 b (makes_all home a h.0 (f ∷ []) h.1)
+    (makes_deeds home h.0 b ds h.2)
+makes_deeds home a b (OwnTick starved ∷ ds) h =
+    makes_both home.hall a h.0 b (makes_tick home starved a h.0 h.1)
+    (makes_deeds home h.0 b ds h.2)
 
 -- ---- the bytes that are told
 
@@ -393,7 +643,6 @@ end_gives k j (Some why.Over) hs = (refl, refl)
 
 change_gives : (k : ℕ) (c : Change) (hs : List Happened)
     → (gave k (told_change c ++ hs) ≡ gave k hs) × (took k (told_change c ++ hs) ≡ took k hs)
-change_gives k (Clock time) hs = (refl, refl)
 change_gives k (Comes j) hs = (refl, refl)
 change_gives k (TurnedAway j) hs = (refl, refl)
 change_gives k NoSocket hs = (refl, refl)
@@ -413,6 +662,8 @@ same_bytes k (Changed c ∷ ss) =
     let later = same_bytes k ss in
     let same = change_gives k c (told_all ss) in
     (same.0 ∙ later.0, same.1 ∙ later.1)
+same_bytes k (Clock now ∷ ss) = same_bytes k ss
+same_bytes k (Ticked now starved ∷ ss) = same_bytes k ss
 same_bytes k (Visit j turns fate ∷ ss) =
     let later = same_bytes k ss in
     let tail = told_why j fate ++ told_end j fate in
@@ -427,27 +678,29 @@ same_bytes k (Visit j turns fate ∷ ss) =
 -- ---- the law
 
 pub each_client : {V : Type 0} (d : DeskOf V) → EachClientIsServed d
-each_client d result home t a b before after steps h =
+unfolding nothing
+each_client d result home t period a b before after steps h =
     let none = λ (k : ℕ). new_talk home t.wire in
-    let at_first : StandsIn home t.wire none a.lobby =
+    let at_start : StandsIn home t.wire none a.lobby =
     subst (λ l. StandsIn home t.wire none l) (sym h.first)
     (record { hosted = tt; fresh = λ k above. refl; low = tt; apart = tt }) in
-    let led = after_steps home t none steps a b at_first h.pass in
-    let law =
-    each_is_served d home t.wire (all_turns steps) (conns_in a none) (conns_in b led.0)
-    (λ k. refl) led.1.follow in (
-      law.0,
-      law.1,
-      law.2,
+    let led =
+    after_steps home t nothing none steps a b at_start h.pass
+    (λ k. at_first home t.wire (none k) refl) in (
+      led.0,
+      led.2.done,
+      makes_deeds home (point_in a) (point_in b) led.0 led.2.done,
+      led.2.own,
       λ k.
-          let one = law.3 k in (
+          let one = led.2.each k in
+          let all = served_of k (frames_in led.0) in (
             one.0,
-            led.0 k,
+            led.1 k,
             subst
-                (λ z. IsServedOf home z (took k (told_all steps)) (served_of k law.0) one.0
-                (led.0 k)) (sym (same_bytes k steps).0)
+                (λ z. IsServedOf home z (took k (told_all steps)) all one.0 (led.1 k))
+                (sym (same_bytes k steps).0)
                 (subst
-                (λ z. IsServedOf home (received (turns_of k (all_turns steps))) z
-                (served_of k law.0) one.0 (led.0 k)) (sym (same_bytes k steps).1) one.1),
+                (λ z. IsServedOf home (received (turns_of k (all_turns steps))) z all one.0
+                (led.1 k)) (sym (same_bytes k steps).1) one.1.served),
           ),
     )

@@ -1,8 +1,11 @@
 pub mod Telling
+pub mod Looking
 pub mod Placed
 pub mod Walking
 pub mod Shutting
 pub mod Stepping
 pub mod Apart
 pub mod Following
+pub mod Periods
 pub mod Visits
+pub mod Coming

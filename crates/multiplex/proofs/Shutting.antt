@@ -14,6 +14,7 @@ use Rattle.multiplex.specs.Passing.{Enters, IsCause, Settled, guest, lobby, told
 use Rattle.multiplex.specs.declared.ends.Over.{Over}
 use Rattle.multiplex.specs.declared.ends.Why.{Why}
 use Rattle.multiplex.specs.declared.ends.Why.TheVariants as why
+use Rattle.multiplex.specs.declared.own_ticks.OwnTicks.{OwnTicks}
 use Rattle.multiplex.specs.declared.table.Guest.{Guest}
 use Rattle.multiplex.specs.declared.table.Table.{Table}
 use Rattle.multiplex.specs.declared.table.Terms.{Terms}
@@ -25,9 +26,9 @@ use Rattle.multiplex.specs.model.Tables.{MakesRoom, is_silent}
 use Rattle.multiplex.proofs.Placed.{all_back, all_both, all_front}
 use Rattle.multiplex.proofs.Telling.{Tells-as, Tells-trans, changes_told_both}
 
-pub lobby_same : {gs hs : List Guest} {n m s t : ℕ} {o p : Option Over}
-    → gs ≡ hs → n ≡ m → s ≡ t → o ≡ p → lobby gs n s o ≡ lobby hs m t p
-lobby_same g n s o = cc
+pub lobby_same : {gs hs : List Guest} {n m s t : ℕ} {w v : OwnTicks} {o p : Option Over}
+    → gs ≡ hs → n ≡ m → s ≡ t → w ≡ v → o ≡ p → lobby gs n s w o ≡ lobby hs m t v p
+lobby_same g n s w o = cc
 
 pub ChangeAll-trans : (home : Home) (t : Terms) (a m b : Lobby) (cs ds : List Change)
     → ChangeAll home t a cs m → ChangeAll home t m ds b → ChangeAll home t a (cs ++ ds) b
@@ -94,7 +95,7 @@ shuts_one happened home t w over old new c later before after gone cause h = (
           found = h.found;
           number = refl;
           cause = cause;
-          left = lobby_same h.left h.next h.time h.ends;
+          left = lobby_same h.left h.next h.time h.own h.ends;
         },
       ),
       refl,
@@ -168,7 +169,7 @@ enters happened home t old new c between later wanted room told h = either h.eit
       number = refl;
       wanted = wanted;
       room = room;
-      enters = lobby_same is h.next h.time refl;
+      enters = lobby_same is h.next h.time h.own refl;
     }
 
     either :
@@ -262,32 +263,33 @@ shut_fewer happened place over old new c later h =
 pub empties_more : {C : Type 0} (happened : C → Option (List Happened)) (home : Home) (t : Terms)
     (over : Over) (old mid new : Table) (gone : Guest) (c between later : C)
     → mid.guests.items ≡ new.guests.items ++ gone ∷ [] → new.next ≡ mid.next
-    → new.time ≡ mid.time
+    → new.time ≡ mid.time → new.own ≡ mid.own
     → Empties happened home t over old mid c between
     → Tells (happened between) (happened later) (Closed gone.number ∷ [])
     → Empties happened home t over old new c later
-empties_more happened home t over old mid new gone c between later last next time h told = (
-  h.0 ++ Shut gone.number why.Over ∷ [],
-  ChangeAll-trans home t (lobby_of old (Some over)) (lobby_of mid (Some over))
-      (lobby_of new (Some over)) h.0 (Shut gone.number why.Over ∷ []) h.1 (
-        lobby_of new (Some over),
-        (
-          new.guests.items,
-          [],
-          gone,
-          record {
-            found = last;
-            number = refl;
-            cause = λ e. some_none e;
-            left = lobby_same (sym (append-nil new.guests.items)) next time refl;
-          },
-        ),
-        refl,
-      ),
-  Tells-as (happened c) (happened later) _ _
-      (sym (changes_told_both h.0 (Shut gone.number why.Over ∷ [])))
-      (Tells-trans (happened c) (happened between) (happened later) _ _ h.2 told),
-)
+empties_more happened home t over old mid new gone c between later last next time own h
+    told = (
+      h.0 ++ Shut gone.number why.Over ∷ [],
+      ChangeAll-trans home t (lobby_of old (Some over)) (lobby_of mid (Some over))
+          (lobby_of new (Some over)) h.0 (Shut gone.number why.Over ∷ []) h.1 (
+            lobby_of new (Some over),
+            (
+              new.guests.items,
+              [],
+              gone,
+              record {
+                found = last;
+                number = refl;
+                cause = λ e. some_none e;
+                left = lobby_same (sym (append-nil new.guests.items)) next time own refl;
+              },
+            ),
+            refl,
+          ),
+      Tells-as (happened c) (happened later) _ _
+          (sym (changes_told_both h.0 (Shut gone.number why.Over ∷ [])))
+          (Tells-trans (happened c) (happened between) (happened later) _ _ h.2 told),
+    )
   where
     some_none : Some over ≡ None → ⊥
     some_none e = absurd cc
@@ -295,11 +297,12 @@ empties_more happened home t over old mid new gone c between later last next tim
 pub empties_same : {C : Type 0} (happened : C → Option (List Happened)) (home : Home) (t : Terms)
     (over : Over) (old mid new : Table) (c later : C)
     → mid.guests.items ≡ new.guests.items ++ [] → new.next ≡ mid.next → new.time ≡ mid.time
+    → new.own ≡ mid.own
     → Empties happened home t over old mid c later
     → Empties happened home t over old new c later
-empties_same happened home t over old mid new c later items next time h = (
+empties_same happened home t over old mid new c later items next time own h = (
   h.0,
   subst (λ l. ChangeAll home t (lobby_of old (Some over)) h.0 l)
-      (sym (lobby_same (sym (items ∙ append-nil new.guests.items)) next time refl)) h.1,
+      (sym (lobby_same (sym (items ∙ append-nil new.guests.items)) next time own refl)) h.1,
   h.2,
 )

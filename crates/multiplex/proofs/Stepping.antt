@@ -1,16 +1,22 @@
 -- Steps, one after the other.
 use Rattle.std.proofs.Common.{◌≡◌, refl, sym, ap, subst, ◌∙◌, ℕ}
 use Rattle.std.proofs.Common.{List, [], ◌∷◌, ◌++◌, append-nil, length, Option, None}
-use Rattle.std.proofs.Common.{Some, arith, true, eqb}
+use Rattle.std.proofs.Common.{Some, arith, Bool, true, false, eqb, inl, inr}
+use Rattle.std.specs.Prelude.{IsFalse}
 use Rattle.std.proofs.lemmas.Bool.{eqb-true}
 use Rattle.answers.specs.declared.desk.Desk.{Ghosts as DeskOf}
 use Rattle.serving.specs.declared.peers.Peers.{Ghosts as PeersOf}
-use Rattle.serving.specs.Making.{Outside, Way, outside_of, speaking}
+use Rattle.answers.specs.Seen.{Seen}
+use Rattle.serving.specs.Making.{Way, outside_of, speaking}
+use Rattle.serving.specs.OwnTicks.{sides_alone, unanswered}
+use Rattle.serving.specs.Sessions.{outside}
 use Rattle.store.specs.declared.home.Home.{Home}
+use Rattle.wire.specs.declared.values.Version.{Version}
 use Rattle.multiplex.specs.Happenings.{Happened, Tells, Named, Round}
 use Rattle.multiplex.specs.Passing.{Change, Changed, Clock, IsStop, Lobby, Pass, Room, Step, Stops}
-use Rattle.multiplex.specs.Passing.{empty_lobby, lobby, told, told_all, told_change}
-use Rattle.multiplex.specs.Passing.{told_over}
+use Rattle.multiplex.specs.Passing.{Ticked, TicksBy, empty_lobby, first_ticks, lobby, shown}
+use Rattle.multiplex.specs.Passing.{ticks_after, ticks_at, told_all, told_change, told_over}
+use Rattle.multiplex.specs.declared.own_ticks.OwnTicks.{OwnTicks}
 use Rattle.multiplex.specs.declared.ends.Over.{Over}
 use Rattle.multiplex.specs.declared.ends.Over.TheVariants as over_is
 use Rattle.multiplex.specs.declared.table.Table.{Table}
@@ -19,7 +25,8 @@ use Rattle.multiplex.specs.model.Scenes.{AltersSome, Answers, ChangeAll, Does, E
 use Rattle.multiplex.specs.model.Scenes.{lobby_of}
 use Rattle.multiplex.specs.Scenes.{Scene, Serves, in_room, scene}
 use Rattle.multiplex.specs.model.Scenes.{room_of, told_changes}
-use Rattle.multiplex.proofs.Shutting.{alters_after}
+use Rattle.multiplex.specs.model.Ticks.{Desks, HasTicked, MayTick, desks}
+use Rattle.multiplex.proofs.Shutting.{lobby_same}
 use Rattle.multiplex.proofs.Telling.{Tells-as, Tells-nil, Tells-trans, all_told_both}
 
 pub Pass-trans : {V : Type 0} {way : Way V} (home : Home) (t : Terms) (a m b : Room way)
@@ -125,48 +132,122 @@ does_stop d p happened home t over table node peers c later is told = (
   },
 )
 
-abbrev at_outside : {V : Type 0} {way : Way V} → Room way → Outside way → Room way
-at_outside a o = record { lobby = a.lobby; seen = a.seen; outside = o }
+-- ---- rounds
 
--- a round is over, and the links were kept, by which nothing is handed out
-pub does_round : {V U C : Type 0} (d : DeskOf V) (p : PeersOf U)
-    (happened : C → Option (List Happened)) (home : Home) (t : Terms) (over : Option Over)
-    (time : ℕ) (old new : Table) (node : V) (peers kept : U) (c between later : C)
+-- the table at the end of a round
+abbrev pub timed : Table → ℕ → OwnTicks → Table
+timed table time own =
+    record { guests = table.guests; next = table.next; time = time; own = own }
+
+outside_same : {V U : Type 0} (d : DeskOf V) (p : PeersOf U) (version : Version) (node : V)
+    (peers kept : U)
+    → p.handed kept ≡ p.handed peers
+    → outside d p version node kept ≡ outside d p version node peers
+outside_same d p version node peers kept same =
+    ap (λ z. outside_of (speaking d.handles version) node z) same
+
+-- no Tick was due
+does_clock : {V U C : Type 0} (d : DeskOf V) (p : PeersOf U)
+    (happened : C → Option (List Happened)) (home : Home) (t : Terms) (time : ℕ) (table : Table)
+    (own : OwnTicks) (node : V) (peers kept : U) (c between : C)
     → p.handed kept ≡ p.handed peers → Tells (happened c) (happened between) (Round time ∷ [])
-    → AltersSome happened home t over
-    (record { guests = old.guests; next = old.next; time = time }) new between later
-    → Does d p happened home t over old new (scene node peers c) (scene node kept later)
-does_round d p happened home t over time old new node peers kept c between later same told h =
-    let all =
-    does_changes d p happened home t over old new node peers c later
-    (alters_after happened home t over (Clock time) old
-    (record { guests = old.guests; next = old.next; time = time }) new c between later
-    (refl, refl) told h) in (
-      all.0,
+    → IsFalse (ticks_at table.own.ticker (shown (d.seen node) time))
+    → own ≡ ticks_after table.own (shown (d.seen node) time) false
+    → Does d p happened home t None table (timed table time own) (scene node peers c)
+    (scene node kept between)
+does_clock d p happened home t time table own node peers kept c between same told early is = (
+  Clock time ∷ [],
+  record {
+    pass = (
+      room_of d p t.wire (timed table time own) None (scene node kept between),
       record {
-        pass =
-            subst
-            (λ z. Pass home t (room_of d p t.wire old None (scene node peers c)) all.0
-            (at_outside (room_of d p t.wire new over (scene node kept later)) z))
-            (ap (λ z. outside_of (speaking d.handles t.wire) node z) (sym same)) all.1.pass;
-        told = all.1.told;
+        going = refl;
+        early = early;
+        seen = refl;
+        outside = outside_same d p t.wire node peers kept same;
+        left = ap (λ z. lobby table.guests.items table.next time z None) is;
+      },
+      refl,
+    );
+    told = told;
+  },
+)
+
+-- a Tick was due, and taken
+does_tick : {V U C : Type 0} (d : DeskOf V) (p : PeersOf U)
+    (happened : C → Option (List Happened)) (t : Terms) (time : ℕ) (starved : Bool)
+    (over : Option Over) (table : Table) (own : OwnTicks) (node next : V) (peers more kept : U)
+    (c between : C)
+    → p.handed kept ≡ p.handed more → Tells (happened c) (happened between) (Round time ∷ [])
+    → HasTicked d p t.wire (shown (d.seen node) time) starved over table.own own (desks node peers)
+    (desks next more)
+    → Does d p happened (d.home_of node) t over table (timed table time own) (scene node peers c)
+    (scene next kept between)
+does_tick d p happened t time starved over table own node next peers more kept c between same told
+    h = (
+      Ticked time starved ∷ [],
+      record {
+        pass = (
+          room_of d p t.wire (timed table time own) over (scene next kept between),
+          record {
+            going = refl;
+            due = h.due;
+            tick =
+                subst
+                (λ z. TicksBy starved (d.home_of node) (sides_alone d p t.wire node peers)
+                (unanswered (d.seen next) z))
+                (sym (outside_same d p t.wire next more kept same)) h.tick;
+            left = lobby_same refl refl refl h.own h.ends;
+          },
+          refl,
+        );
+        told = told;
       },
     )
+
+-- a round is over, a Tick was taken where one was due, and the links were kept, by which nothing is
+-- handed out
+pub does_round : {V U C : Type 0} (d : DeskOf V) (p : PeersOf U)
+    (happened : C → Option (List Happened)) (t : Terms) (time : ℕ) (over : Option Over)
+    (table : Table) (own : OwnTicks) (node next : V) (peers more kept : U) (c between : C)
+    → p.handed kept ≡ p.handed more → Tells (happened c) (happened between) (Round time ∷ [])
+    → MayTick d p t.wire time over table.own own (desks node peers) (desks next more)
+    → Does d p happened (d.home_of node) t over table (timed table time own) (scene node peers c)
+    (scene next kept between)
+does_round {V} {U} d p happened t time over table own node next peers more kept c between same told
+    (inl h) =
+    let here : next ≡ node = ap (λ (z : Desks V U). z.node) h.same in
+    let others : more ≡ peers = ap (λ (z : Desks V U). z.peers) h.same in
+    subst
+    (λ o. Does d p happened (d.home_of node) t o table (timed table time own) (scene node peers c)
+    (scene next kept between)) (sym h.goes_on)
+    (subst
+    (λ n. Does d p happened (d.home_of node) t None table (timed table time own)
+    (scene node peers c) (scene n kept between)) (sym here)
+    (does_clock d p happened (d.home_of node) t time table own node peers kept c between
+    (same ∙ ap p.handed others) told h.early h.own))
+does_round d p happened t time over table own node next peers more kept c between same told
+    (inr h) =
+    does_tick d p happened t time h.0 over table own node next peers more kept c between same told
+    h.1
 
 -- ---- from the first client to the end
 
 pub serves_all : {V U C : Type 0} (d : DeskOf V) (p : PeersOf U)
-    (happened : C → Option (List Happened)) (t : Terms) (over : Over) (table mid last : Table)
-    (node next : V) (peers more : U) (c between later : C)
-    → lobby_of table None ≡ empty_lobby
+    (happened : C → Option (List Happened)) (t : Terms) (period : Option ℕ) (over : Over)
+    (table mid last : Table) (node next : V) (peers more : U) (c between later : C)
+    → lobby_of table None ≡ empty_lobby (first_ticks (d.home_of node) period (d.seen node))
     → Does d p happened (d.home_of node) t (Some over) table mid (scene node peers c)
     (scene next more between)
     → Empties happened (d.home_of node) t over mid last between later
     → last.guests.items ≡ []
-    → Serves d p happened t (record { connections = last.next; over = over })
+    → Serves d p happened t period
+    (record { connections = last.next; over = over; starved = last.own.starved })
     (scene node peers c) (scene next more later)
-serves_all d p happened t over table mid last node next peers more c between later first h k none =
+serves_all d p happened t period over table mid last node next peers more c between later first h k
+    none =
     let home = d.home_of node in
+    let own = first_ticks home period (d.seen node) in
     let ends =
     changes_pass home t (room_of d p t.wire mid (Some over) (scene next more between))
     (lobby_of mid (Some over)) (lobby_of last (Some over)) k.0 k.1 in (
@@ -175,7 +256,7 @@ serves_all d p happened t over table mid last node next peers more c between lat
       record {
         first = refl;
         pass =
-            Pass-trans home t (in_room d p t.wire empty_lobby (scene node peers c))
+            Pass-trans home t (in_room d p t.wire (empty_lobby own) (scene node peers c))
             (room_of d p t.wire mid (Some over) (scene next more between))
             (room_of d p t.wire last (Some over) (scene next more later)) h.0
             (changed_steps k.0)
@@ -189,24 +270,32 @@ serves_all d p happened t over table mid last node next peers more c between lat
             ∙ sym (all_told_both h.0 (changed_steps k.0)))
             (Tells-trans (happened c) (happened between) (happened later) _ _ h.1.told k.2);
         counted = refl;
+        starved = refl;
         over = refl;
         left = none;
       },
     )
 
+first_starved : (home : Home) (period : Option ℕ) (x : Seen)
+    → false ≡ (first_ticks home period x).starved
+first_starved home None x = refl
+first_starved home (Some period) x = refl
+
 -- memory was refused before a client came
 pub serves_none : {V U C : Type 0} (d : DeskOf V) (p : PeersOf U)
-    (happened : C → Option (List Happened)) (t : Terms) (node : V) (peers : U) (c : C)
-    → Serves d p happened t (record { connections = 0; over = over_is.NoMemory })
+    (happened : C → Option (List Happened)) (t : Terms) (period : Option ℕ) (node : V) (peers : U)
+    (c : C) → Serves d p happened t period
+    (record { connections = 0; over = over_is.NoMemory; starved = false })
     (scene node peers c) (scene node peers c)
-serves_none d p happened t node peers c = (
-  lobby [] 0 0 (Some over_is.NoMemory),
+serves_none d p happened t period node peers c = (
+  lobby [] 0 0 (first_ticks (d.home_of node) period (d.seen node)) (Some over_is.NoMemory),
   Changed (Stops over_is.NoMemory) ∷ [],
   record {
     first = refl;
-    pass = (_, ((refl, refl, refl), refl, refl), refl);
+    pass = (_, ((refl, (refl, refl, refl), refl), refl, refl), refl);
     told = Tells-nil (happened c);
     counted = refl;
+    starved = first_starved (d.home_of node) period (d.seen node);
     over = refl;
     left = refl;
   },

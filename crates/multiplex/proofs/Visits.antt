@@ -97,7 +97,8 @@ pub visiting : {V U C : Type 0} (d : DeskOf V) (p : PeersOf U)
     → table.guests.items ≡ before ++ old ∷ after → old.number ≡ k → old.talk.wire ≡ t.wire
     → Hosts d p happened table.time fate old new a m
     → left
-    ≡ lobby (before ++ (staying fate new ++ after)) table.next table.time (over_after fate new.talk)
+    ≡ lobby (before ++ (staying fate new ++ after)) table.next table.time table.own
+    (over_after fate new.talk)
     → Visiting d p happened home t k fate table left a m
 visiting d p happened home t k fate table old new before after left a m found number wire h is =
     let goes = h.1.0 in (
@@ -133,14 +134,14 @@ pub answers_stay : {V U C : Type 0} (d : DeskOf V) (p : PeersOf U)
     (table changed : Table) (old new : Guest) (before after : List Guest) (a m : Scene V U C)
     → About table place old new before after → old.number ≡ k → old.talk.wire ≡ t.wire
     → changed.guests.items ≡ set table.guests.items place new → changed.next ≡ table.next
-    → changed.time ≡ table.time
+    → changed.time ≡ table.time → changed.own ≡ table.own
     → Hosts d p happened table.time None old new a m
     → Answers d p happened home t k None table changed a m
 answers_stay d p happened home t k place table changed old new before after a m split number wire
-    items next time h =
+    items next time own h =
     let v =
     visiting d p happened home t k None table old new before after (lobby_of changed None) a m
-    split.found number wire h (lobby_same (items ∙ split.put) next time refl) in
+    split.found number wire h (lobby_same (items ∙ split.put) next time own refl) in
     (Visit k v.0 None, told_turns k v.0 ++ [], refl, v.1, v.2)
 
 pub stay_keeps : {V U C : Type 0} (d : DeskOf V) (p : PeersOf U)
@@ -191,7 +192,7 @@ pub record Leaving {C : Type 0} (happened : C → Option (List Happened)) (over 
     (table changed : Table) (k : ℕ) (new : Guest) (before after : List Guest) (c later : C)
     : Type 0 where
   pub left : lobby_of changed over
-      ≡ lobby (before ++ after) table.next table.time (over_by new.talk.end)
+      ≡ lobby (before ++ after) table.next table.time table.own (over_by new.talk.end)
   pub told : Tells (happened c) (happened later) (Closed k ∷ [])
 
 pub leaving : {C : Type 0} (happened : C → Option (List Happened)) (place : ℕ)
@@ -199,10 +200,11 @@ pub leaving : {C : Type 0} (happened : C → Option (List Happened)) (place : �
     (c later : C)
     → About table place old new before after
     → mid.guests.items ≡ set table.guests.items place new → mid.next ≡ table.next
-    → mid.time ≡ table.time
+    → mid.time ≡ table.time → mid.own ≡ table.own
     → IsShut happened place over mid changed c later
     → Leaving happened over table changed new.number new before after c later
-leaving happened place over table mid changed old new before after c later split items next time h =
+leaving happened place over table mid changed old new before after c later split items next time own
+    h =
     let same =
     split_same h.0 before h.2 new h.1 after (sym h.4.found ∙ items ∙ split.put)
     (h.3 ∙ sym split.front) in
@@ -210,7 +212,7 @@ leaving happened place over table mid changed old new before after c later split
       left =
           lobby_same
           (h.4.left ∙ ap (λ z. z ++ h.1) same.fronts ∙ ap (λ z. before ++ z) same.backs)
-          (h.4.next ∙ next) (h.4.time ∙ time)
+          (h.4.next ∙ next) (h.4.time ∙ time) (h.4.own ∙ own)
           (h.4.ends ∙ ap (λ (z : Guest). over_by z.talk.end) same.here);
       told =
           subst (λ (z : Guest). Tells (happened c) (happened later) (Closed z.number ∷ []))
@@ -223,15 +225,15 @@ pub answers_leave : {V U C : Type 0} (d : DeskOf V) (p : PeersOf U)
     (before after : List Guest) (a : Scene V U C) (node : V) (peers : U) (c later : C)
     → About table place old new before after → old.number ≡ k → old.talk.wire ≡ t.wire
     → mid.guests.items ≡ set table.guests.items place new → mid.next ≡ table.next
-    → mid.time ≡ table.time
+    → mid.time ≡ table.time → mid.own ≡ table.own
     → Hosts d p happened table.time (Some w) old new a (scene node peers c)
     → IsShut happened place over mid changed c later
     → Answers d p happened home t k over table changed a (scene node peers later)
 answers_leave d p happened home t k w place over table mid changed old new before after a node
-    peers c later split number wire items next time h shut =
+    peers c later split number wire items next time own h shut =
     let gone =
     leaving happened place over table mid changed old new before after c later split items next
-    time shut in
+    time own shut in
     let v =
     visiting d p happened home t k (Some w) table old new before after (lobby_of changed over)
     a (scene node peers c) split.found number wire h gone.left in
@@ -252,14 +254,14 @@ pub leave_keeps : {C : Type 0} (happened : C → Option (List Happened)) (home :
     (before after : List Guest) (c later : C)
     → About table place old new before after
     → mid.guests.items ≡ set table.guests.items place new → mid.next ≡ table.next
-    → mid.time ≡ table.time
+    → mid.time ≡ table.time → mid.own ≡ table.own
     → IsShut happened place over mid changed c later
     → AreKept home wire table.guests.items → AreKept home wire changed.guests.items
 leave_keeps happened home wire place over table mid changed old new before after c later split
-    items next time shut kept =
+    items next time own shut kept =
     let gone =
     leaving happened place over table mid changed old new before after c later split items next
-    time shut in
+    time own shut in
     subst (λ (l : Lobby). AreKept home wire l.guests) (sym gone.left)
     (all_but (IsKept home wire) before old after
     (subst (λ z. AreKept home wire z) split.found kept))

@@ -1,6 +1,6 @@
 -- The turns of one connection, one after the other.
 use Rattle.std.proofs.Common.{◌≡◌, ◌≢◌, inl, inr, refl, sym, ap, subst, ◌∙◌, ℕ, ◌+◌, Bool, true}
-use Rattle.std.proofs.Common.{suc, arith}
+use Rattle.std.proofs.Common.{arith}
 use Rattle.std.proofs.Common.{false, List, [], ◌∷◌, ◌++◌, append-nil, append_assoc, length, Option}
 use Rattle.std.proofs.Common.{None, Some}
 use Rattle.answers.specs.declared.desk.Desk.{Ghosts as DeskOf}

@@ -1,14 +1,18 @@
 -- What holds of each client of many that were served side by side.
-use Rattle.std.specs.Prelude.{ℕ, ◌==◌, if◌then◌else◌, List, [], ◌∷◌, ◌++◌, Option}
+use Rattle.std.specs.Prelude.{◌≡◌, ℕ, ◌==◌, Bool, if◌then◌else◌, List, [], ◌∷◌, ◌++◌}
+use Rattle.std.specs.Prelude.{Option, None}
 use Rattle.answers.specs.declared.desk.Desk.{Ghosts as DeskOf}
 use Rattle.store.specs.declared.home.Home.{Home}
+use Rattle.serving.specs.Connection.{Sides}
 use Rattle.serving.specs.Making.{Way, speaking}
+use Rattle.serving.specs.OwnTicks.{unanswered}
 use Rattle.serving.specs.Turns.{Talk}
-use Rattle.sockets.specs.Connections.{AreServedInTurn, IsServedOf, MakesSome, Point, Served}
-use Rattle.sockets.specs.Connections.{served_of}
+use Rattle.connections.specs.Connections.{AreServedInTurn, IsServedOf, MakesSome, Point, Served}
+use Rattle.connections.specs.Connections.{served_of}
 use Rattle.multiplex.specs.Happenings.{Happened, Round, Came, Full, Named, Gave, Took, Ended, Broke}
 use Rattle.multiplex.specs.Happenings.{Closed, Failed}
-use Rattle.multiplex.specs.Passing.{IsServedEach, Room, Step, told_all}
+use Rattle.multiplex.specs.Passing.{Changed, Clock, IsServedEach, Room, Step, Ticked, TicksBy}
+use Rattle.multiplex.specs.Passing.{Visit, told_all}
 use Rattle.multiplex.specs.declared.ends.ServedEach.{ServedEach}
 use Rattle.multiplex.specs.declared.table.Terms.{Terms}
 
@@ -43,19 +47,68 @@ took k (Failed ∷ hs) = took k hs
 abbrev pub point_in : {V : Type 0} → {way : Way V} → Room way → Point way
 point_in a = record { seen = a.seen; outside = a.outside }
 
--- Of every serving of many clients: the frames that were begun are served one after the other,
--- whichever clients they are of, and their calls lead from the first node to the last. The bytes
--- that a client gave are its own frames that were begun, those that wait, and a rest. Those that it
--- took, and then what was still pending when its connection was ended, are the answers to its own
--- frames, in order, and nothing else.
+-- ---- what was done
+
+-- in order: a frame of a client was begun, and served, or the desk gave itself a Tick, for which
+-- memory was refused or was not
+pub data Deed : Type 0 where
+  Frame : Served → Deed
+  OwnTick : Bool → Deed
+
+-- the frames among these, all of clients
+abbrev pub frames_in : List Deed → List Served
+frames_in [] = []
+frames_in (Frame f ∷ ds) = f ∷ frames_in ds
+frames_in (OwnTick starved ∷ ds) = frames_in ds
+
+-- the desk's own Ticks among these, and among steps
+abbrev pub own_ticks : List Deed → List Bool
+own_ticks [] = []
+own_ticks (Frame f ∷ ds) = own_ticks ds
+own_ticks (OwnTick starved ∷ ds) = starved ∷ own_ticks ds
+
+abbrev pub ticks_of : List Step → List Bool
+ticks_of [] = []
+ticks_of (Changed c ∷ ss) = ticks_of ss
+ticks_of (Clock now ∷ ss) = ticks_of ss
+ticks_of (Ticked now starved ∷ ss) = starved ∷ ticks_of ss
+ticks_of (Visit k turns fate ∷ ss) = ticks_of ss
+
+abbrev pub sides_at : {V : Type 0} → {way : Way V} → Point way → Sides way
+sides_at p = unanswered p.seen p.outside
+
+-- the one after the other, whichever clients the frames are of: each by the node as the one before
+-- it left the node
+abbrev pub AreDoneInTurn : {V : Type 0} → {way : Way V} → Home → Point way → List Deed → Point way
+    → Type 0
+AreDoneInTurn home a [] b = a ≡ b
+AreDoneInTurn {V} {way} home a (Frame f ∷ ds) b =
+    (m : Point way) × AreServedInTurn home a (f ∷ []) m × AreDoneInTurn home m ds b
+AreDoneInTurn {V} {way} home a (OwnTick starved ∷ ds) b =
+    (m : Point way) × TicksBy starved home (sides_at a) (sides_at m) × AreDoneInTurn home m ds b
+
+-- Of every serving of many clients: the frames that were begun are served and the desk's own Ticks
+-- are taken one after the other, whichever clients the frames are of, and the calls of all of them
+-- lead from the first node to the last. The bytes that a client gave are its own frames that were
+-- begun, those that wait, and a rest. Those that it took, and then what was still pending when its
+-- connection was ended, are the answers to its own frames, in order, and nothing else.
 abbrev pub EachClientIsServed : {V : Type 0} → DeskOf V → Type 0
 EachClientIsServed d =
+    (result : ServedEach) (home : Home) (t : Terms) (period : Option ℕ)
+    (a b : Room (speaking d.handles t.wire)) (before after : Option (List Happened))
+    (steps : List Step)
+    → IsServedEach result home t period a b before after steps
+    → (deeds : List Deed)
+    × AreDoneInTurn home (point_in a) deeds (point_in b)
+    × MakesSome home.hall (point_in a) (point_in b)
+    × (own_ticks deeds ≡ ticks_of steps)
+    × ((k : ℕ) → (rest : List ℕ) × (talk : Talk)
+    × IsServedOf home (gave k (told_all steps)) (took k (told_all steps))
+    (served_of k (frames_in deeds)) rest talk)
+
+-- without a period the desk never gives itself a Tick
+abbrev pub TicksNeedAPeriod : {V : Type 0} → DeskOf V → Type 0
+TicksNeedAPeriod d =
     (result : ServedEach) (home : Home) (t : Terms) (a b : Room (speaking d.handles t.wire))
     (before after : Option (List Happened)) (steps : List Step)
-    → IsServedEach result home t a b before after steps
-    → (frames : List Served)
-    × AreServedInTurn home (point_in a) frames (point_in b)
-    × MakesSome home.hall (point_in a) (point_in b)
-    × ((k : ℕ) → (rest : List ℕ) × (talk : Talk)
-    × IsServedOf home (gave k (told_all steps)) (took k (told_all steps)) (served_of k frames) rest
-    talk)
+    → IsServedEach result home t None a b before after steps → ticks_of steps ≡ []

@@ -1,15 +1,19 @@
 -- Many clients that are served by one desk, side by side, step by step.
 use Rattle.std.specs.Prelude.{◌≡◌, ◌≢◌, ◌⊎◌, ◌≤◌, ◌<◌, ℕ, ◌+◌, ◌-◌, List, [], ◌∷◌, ◌++◌, length}
-use Rattle.std.specs.Prelude.{Option, None, Some, suc}
+use Rattle.std.specs.Prelude.{Option, None, Some, suc, Bool, true, false, ◌||◌, IsTrue, IsFalse}
+use Rattle.std.specs.Prelude.{if◌then◌else◌}
 use Rattle.std.specs.List.{AllByRecursion}
 use Rattle.answers.specs.Seen.{Seen}
 use Rattle.store.specs.declared.home.Home.{Home}
 use Rattle.serving.specs.declared.ends.End.{End}
 use Rattle.serving.specs.declared.ends.End.TheVariants as end
+use Rattle.serving.specs.Connection.{Sides}
 use Rattle.serving.specs.Making.{Outside, Way}
+use Rattle.serving.specs.OwnTicks.{Ticks, TicksInPart, unanswered}
 use Rattle.serving.specs.Turns.{Talk, WantsRead, new_talk}
 use Rattle.serving.specs.TurnLaw.{Came as CameIn, Began, Follow, Place, Rested, Took as TookOf}
 use Rattle.serving.specs.TurnLaw.{Turn}
+use Rattle.ticking.specs.Ticking.{Look, Ticking, after, is_due, look, new_ticker}
 use Rattle.multiplex.specs.Happenings.{Happened, Round, Came, Full, Named, Gave, Took, Ended, Broke}
 use Rattle.multiplex.specs.Happenings.{Closed, Failed, Tells}
 use Rattle.multiplex.specs.declared.ends.ServedEach.{ServedEach}
@@ -18,24 +22,57 @@ use Rattle.multiplex.specs.declared.ends.Over.TheVariants as over
 use Rattle.multiplex.specs.declared.ends.Why.{Why}
 use Rattle.multiplex.specs.declared.ends.Why.TheVariants as why
 use Rattle.multiplex.specs.declared.table.Guest.{Guest}
+use Rattle.multiplex.specs.declared.own_ticks.OwnTicks.{OwnTicks}
 use Rattle.multiplex.specs.declared.table.Terms.{Terms}
+
+-- ---- the desk's own Ticks
+
+-- what a ticker is shown of a desk at a moment
+abbrev pub shown : Seen → ℕ → Look
+shown x now = look (length x.desk.log) (length x.desk.queue) now
+
+-- before the first round: there is a ticker where a period was asked for
+abbrev pub first_ticks : Home → Option ℕ → Seen → OwnTicks
+first_ticks home None x = record { ticker = None; starved = false }
+first_ticks home (Some period) x =
+    record {
+      ticker = Some (new_ticker period home.desk home.desks (length x.desk.log) 0);
+      starved = false;
+    }
+
+-- whether a Tick is to be taken at this look
+abbrev pub ticks_at : Option Ticking → Look → Bool
+ticks_at None l = false
+ticks_at (Some t) l = is_due t l
+
+abbrev pub looked : Option Ticking → Look → Option Ticking
+looked None l = None
+looked (Some t) l = Some (after t l)
+
+-- after a look, at which memory was refused for a Tick or was not
+abbrev pub ticks_after : OwnTicks → Look → Bool → OwnTicks
+ticks_after own l starved =
+    record { ticker = looked own.ticker l; starved = starved || own.starved }
 
 -- ---- what stands between two steps
 
 -- the clients whose connections are open, in the order in which they came; the number of the next
--- one; how many milliseconds after the first round it is; why serving is over, where it is
+-- one; how many milliseconds after the first round it is; the desk's own Ticks; why serving is
+-- over, where it is
 pub record Lobby : Type 0 where
   pub guests : List Guest
   pub next : ℕ
   pub time : ℕ
+  pub own : OwnTicks
   pub over : Option Over
 
-abbrev pub lobby : List Guest → ℕ → ℕ → Option Over → Lobby
-lobby guests next time over = record { guests = guests; next = next; time = time; over = over }
+abbrev pub lobby : List Guest → ℕ → ℕ → OwnTicks → Option Over → Lobby
+lobby guests next time own over =
+    record { guests = guests; next = next; time = time; own = own; over = over }
 
 -- before the first client
-abbrev pub empty_lobby : Lobby
-empty_lobby = lobby [] 0 0 None
+abbrev pub empty_lobby : OwnTicks → Lobby
+empty_lobby own = lobby [] 0 0 own None
 
 abbrev pub guest : ℕ → Talk → ℕ → Guest
 guest number talk ready = record { number = number; talk = talk; ready = ready }
@@ -52,11 +89,10 @@ with_node a talk = record { talk = talk; seen = a.seen; outside = a.outside }
 
 -- ---- steps
 
--- a change of which the node knows nothing: a round is over; a client came, or came and was turned
--- away for want of memory; the system had no socket for one; a client was ready whose connection is
--- not open; a connection was ended; serving is over
+-- a change of which the node knows nothing: a client came, or came and was turned away for want of
+-- memory; the system had no socket for one; a client was ready whose connection is not open; a
+-- connection was ended; serving is over
 pub data Change : Type 0 where
-  Clock : ℕ → Change
   Comes : ℕ → Change
   TurnedAway : ℕ → Change
   NoSocket : Change
@@ -64,10 +100,13 @@ pub data Change : Type 0 where
   Shut : ℕ → Why → Change
   Stops : Over → Change
 
--- a step: such a change; or a client was ready, its connection took these turns, and perhaps it was
--- ended
+-- a step: such a change; or a round is over at which no Tick is due; or one is over at which the
+-- desk gave itself a Tick, for which memory was refused or was not; or a client was ready, its
+-- connection took these turns, and perhaps it was ended
 pub data Step : Type 0 where
   Changed : Change → Step
+  Clock : ℕ → Step
+  Ticked : ℕ → Bool → Step
   Visit : ℕ → List Turn → Option Why → Step
 
 -- what is told of turns: the bytes that the client gave and took
@@ -103,7 +142,6 @@ told_over over.Tired = []
 told_over over.NoMemory = []
 
 abbrev pub told_change : Change → List Happened
-told_change (Clock now) = Round now ∷ []
 told_change (Comes k) = Came k ∷ []
 told_change (TurnedAway k) = Came k ∷ Closed k ∷ []
 told_change NoSocket = Full ∷ []
@@ -113,6 +151,8 @@ told_change (Stops e) = told_over e
 
 abbrev pub told : Step → List Happened
 told (Changed c) = told_change c
+told (Clock now) = Round now ∷ []
+told (Ticked now starved) = Round now ∷ []
 told (Visit k turns fate) =
     Named k ∷ (told_turns k turns ++ (told_why k fate ++ told_end k fate))
 
@@ -184,7 +224,7 @@ pub record Visits {V : Type 0} {way : Way V} (k : ℕ) (turns : List Turn) (fate
   pub ready : new.ready ≡ a.lobby.time
   pub stands : IsFate fate new.talk
   pub left : b.lobby ≡ lobby (before ++ (staying fate new ++ after)) a.lobby.next a.lobby.time
-      (over_after fate new.talk)
+      a.lobby.own (over_after fate new.talk)
 
 -- ---- changes of which the node knows nothing
 
@@ -215,7 +255,8 @@ pub record Shuts (t : Terms) (k : ℕ) (w : Why) (a b : Lobby) (before after : L
   pub found : a.guests ≡ before ++ old ∷ after
   pub number : old.number ≡ k
   pub cause : IsCause t w a old
-  pub left : b ≡ lobby (before ++ after) a.next a.time (first_of a.over (over_by old.talk.end))
+  pub left : b ≡ lobby (before ++ after) a.next a.time a.own
+      (first_of a.over (over_by old.talk.end))
 
 -- another client came, with which these stay
 pub record Enters (t : Terms) (k : ℕ) (more : List Guest) (a b : Lobby) : Type 0 where
@@ -223,19 +264,18 @@ pub record Enters (t : Terms) (k : ℕ) (more : List Guest) (a b : Lobby) : Type
   pub number : k ≡ a.next
   pub wanted : a.next < t.most
   pub room : length a.guests < 512
-  pub enters : b ≡ lobby (a.guests ++ more) (a.next + 1) a.time None
+  pub enters : b ≡ lobby (a.guests ++ more) (a.next + 1) a.time a.own None
 
 -- the ends that come of themselves
 abbrev pub IsStop : Terms → Over → Lobby → Type 0
 IsStop t over.Failed a = Unit {0}
 IsStop t over.Tired a = Unit {0}
 IsStop t over.All a = (a.guests ≡ []) × (t.most ≤ a.next)
-IsStop t over.NoMemory a = a ≡ empty_lobby
+IsStop t over.NoMemory a = (a.guests ≡ []) × (a.next ≡ 0) × (a.time ≡ 0)
 IsStop t over.Stopped a = ⊥
 IsStop t over.Down a = ⊥
 
 abbrev pub Changes : Home → Terms → Change → Lobby → Lobby → Type 0
-Changes home t (Clock now) a b = (a.over ≡ None) × (b ≡ lobby a.guests a.next now None)
 Changes home t (Comes k) a b = Enters t k (guest k (new_talk home t.wire) a.time ∷ []) a b
 Changes home t (TurnedAway k) a b = Enters t k [] a b
 Changes home t NoSocket a b = (a.over ≡ None) × (b ≡ a)
@@ -245,7 +285,46 @@ Changes home t (Shut k w) a b =
     (before : List Guest) × (after : List Guest) × (old : Guest)
     × Shuts t k w a b before after old
 Changes home t (Stops e) a b =
-    (a.over ≡ None) × IsStop t e a × (b ≡ lobby a.guests a.next a.time (Some e))
+    (a.over ≡ None) × IsStop t e a × (b ≡ lobby a.guests a.next a.time a.own (Some e))
+
+-- ---- rounds
+
+-- the look at the desk at the end of a round
+abbrev pub look_in : {V : Type 0} → {way : Way V} → Room way → ℕ → Look
+look_in a now = shown a.seen now
+
+-- a round is over, at which no Tick is due: what is seen of the node stays, and so does what is
+-- there beside
+pub record Rounds {V : Type 0} {way : Way V} (now : ℕ) (a b : Room way) : Type 0 where
+  pub going : a.lobby.over ≡ None
+  pub early : IsFalse (ticks_at a.lobby.own.ticker (look_in a now))
+  pub seen : b.seen ≡ a.seen
+  pub outside : b.outside ≡ a.outside
+  pub left : b.lobby ≡ lobby a.lobby.guests a.lobby.next now
+      (ticks_after a.lobby.own (look_in a now) false) None
+
+-- what is seen of the node, and what is there beside, where no answer is written
+abbrev pub alone : {V : Type 0} → {way : Way V} → Room way → Sides way
+alone a = unanswered a.seen a.outside
+
+-- the desk gave itself a Tick, of which a front part was done where memory was refused
+abbrev pub TicksBy : {V : Type 0} → {way : Way V} → Bool → Home → Sides way → Sides way → Type 0
+TicksBy false home a b = Ticks home a b
+TicksBy true home a b = TicksInPart home a b
+
+-- serving is over where the desk is down
+abbrev pub over_if : Bool → Option Over
+over_if is_down = if is_down then Some over.Down else None
+
+-- A round is over, at which a Tick is due, and the desk gave itself that Tick. Each connection is
+-- as before.
+pub record TicksItself {V : Type 0} {way : Way V} (home : Home) (now : ℕ) (starved : Bool)
+    (a b : Room way) : Type 0 where
+  pub going : a.lobby.over ≡ None
+  pub due : IsTrue (ticks_at a.lobby.own.ticker (look_in a now))
+  pub tick : TicksBy starved home (alone a) (alone b)
+  pub left : b.lobby ≡ lobby a.lobby.guests a.lobby.next now
+      (ticks_after a.lobby.own (look_in a now) starved) (over_if b.seen.is_down)
 
 -- ---- steps, one after the other
 
@@ -253,6 +332,8 @@ abbrev pub Takes : {V : Type 0} → {way : Way V} → Home → Terms → Step �
     → Type 0
 Takes home t (Changed c) a b =
     Changes home t c a.lobby b.lobby × (b.seen ≡ a.seen) × (b.outside ≡ a.outside)
+Takes home t (Clock now) a b = Rounds now a b
+Takes home t (Ticked now starved) a b = TicksItself home now starved a b
 Takes home t (Visit k turns fate) a b =
     (before : List Guest) × (after : List Guest) × (old : Guest) × (new : Guest)
     × Visits k turns fate a b before after old new
@@ -264,13 +345,15 @@ Pass {V} {way} home t a (s ∷ ss) b = (m : Room way) × Takes home t s a m × P
 
 -- ---- serving from its first client to its end
 
--- The steps lead from no client to no client. What happened is what is told of them.
+-- The steps lead from no client to no client. What happened is what is told of them. Memory was
+-- refused for a Tick of the desk's own where the result says so, and nowhere else.
 pub record IsServedEach {V : Type 0} {way : Way V} (result : ServedEach) (home : Home) (t : Terms)
-    (a b : Room way) (before after : Option (List Happened))
+    (period : Option ℕ) (a b : Room way) (before after : Option (List Happened))
     (steps : List Step) : Type 0 where
-  pub first : a.lobby ≡ empty_lobby
+  pub first : a.lobby ≡ empty_lobby (first_ticks home period a.seen)
   pub pass : Pass home t a steps b
   pub told : Tells before after (told_all steps)
   pub counted : result.connections ≡ b.lobby.next
+  pub starved : result.starved ≡ b.lobby.own.starved
   pub over : b.lobby.over ≡ Some result.over
   pub left : b.lobby.guests ≡ []

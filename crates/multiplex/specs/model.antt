@@ -2,4 +2,5 @@
 -- them.
 pub mod Scenes
 pub mod Tables
+pub mod Ticks
 pub mod Visiting

@@ -29,7 +29,8 @@ pub enum Over {
     All,
     /// A client's Stop was served, and its connection ended.
     Stopped,
-    /// The desk is down, and the connection that came to know of it ended.
+    /// The desk is down, and the connection that came to know of it ended, or a Tick of the desk's
+    /// own was the first to know.
     Down,
     /// The system doesn't tell what is ready any more.
     Failed,
@@ -45,4 +46,7 @@ pub struct ServedEach {
     /// How many clients came.
     pub connections: u64,
     pub over: Over,
+    /// Whether memory was refused for a Tick of the desk's own. Of such a Tick a front part of the
+    /// calls and pushes was made, and serving went on.
+    pub starved: bool,
 }

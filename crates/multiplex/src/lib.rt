@@ -5,6 +5,7 @@ mod clients;
 mod ends;
 pub mod laws;
 mod links;
+mod own_ticks;
 mod serving_each;
 mod steps;
 mod table;

@@ -1,10 +1,14 @@
 //! The clients whose connections are open.
 
 ghost use Rattle.std.specs.Prelude.{◌≡◌, [], position, IfOk, IfSome, IfNone};
+ghost use Rattle.multiplex.specs.Passing.{first_ticks};
 ghost use Rattle.multiplex.specs.model.Tables.{IsLongestAt, has_number, is_silent};
 
+use crate::own_ticks::OwnTicks;
+use answers::Desk;
 use serving::Connection;
 use std::alloc::{AllocError, Global};
+use ticking::Period;
 use wire::Version;
 
 /// The most clients whose connections are open at once.
@@ -39,17 +43,25 @@ pub(crate) struct Table {
     pub(crate) next: u64,
     /// The time of the last round, in milliseconds after the first one.
     pub(crate) time: u64,
+    pub(crate) own: OwnTicks,
 }
 
 impl Table {
     /// No client came yet.
-    pub(crate) fn new(alloc: Global) -> Result<Table, AllocError>
-        ensures { IfOk result (λ t. (t.guests.items ≡ []) × (t.next ≡ 0) × (t.time ≡ 0)) }
+    pub(crate) fn new<D: Desk>(
+        alloc: Global,
+        period: Option<Period>,
+        node: &D,
+    ) -> Result<Table, AllocError>
+        ensures empty { IfOk result (λ t. (t.guests.items ≡ []) × (t.next ≡ 0) × (t.time ≡ 0)) }
+        ensures own { IfOk result
+            (λ t. t.own ≡ first_ticks (D.home_of node.now) period (D.seen node.now)) }
     {
         Ok(Table {
             guests: Vec::with_capacity(alloc, MOST_OPEN)?,
             next: 0,
             time: 0,
+            own: OwnTicks::new(period, node),
         })
     }
 

@@ -140,25 +140,25 @@ put_same f desks k y h j = go (k == j) refl
         let same : k ≡ j = grind (arith, nat_tests) in h ∙ ap (λ i. f (desks i)) same
     go false e = refl
 
-self_test : (k : ℕ) → (k == k) ≡ true
+pub self_test : (k : ℕ) → (k == k) ≡ true
 self_test k = grind (arith, nat_tests)
 
 pub put_self : (desks : ℕ → Desk) (k : ℕ) (y : Desk) → put desks k y k ≡ y
 put_self desks k y = ap (λ t. if t then y else desks k) (self_test k)
 
-desk_test : (n d : ℕ) → IsDesk n d → is_desk n d ≡ true
+pub desk_test : (n d : ℕ) → IsDesk n d → is_desk n d ≡ true
 desk_test n d h = let low = h.0 in let high = h.1 in grind (arith, nat_tests)
 
 both_true : (a b : Bool) → a ≡ true → b ≡ true → (a && b) ≡ true
 both_true true b h k = k
 both_true false b h k = absurd cc
 
-heeded_test : (n : ℕ) (m : Message) → IsInRange n m → is_heeded n m.to m ≡ true
+pub heeded_test : (n : ℕ) (m : Message) → IsInRange n m → is_heeded n m.to m ≡ true
 heeded_test n m r =
     both_true _ _ (both_true _ _ (self_test m.to) (desk_test n m.from r.from)) r.body
 
 -- a message in range that was sent comes to its receiver, and is heeded
-deliver_is : (n : ℕ) (w : World) (i : ℕ) (m : Message) → IsInRange n m
+pub deliver_is : (n : ℕ) (w : World) (i : ℕ) (m : Message) → IsInRange n m
     → slice_get w.sent i ≡ Some m
     → happens n w (DeliverNth (suc i)) ≡ carried w m.to
     (on_body n m.to (w.desks m.to) m.from m.body)
@@ -171,7 +171,7 @@ deliver_is n w i m r at =
     (idle (w.desks m.to)))) (heeded_test n m r)
 
 -- a Tick that is not refused
-tick_is : (n : ℕ) (w : World) (d : ℕ) (p : Plan) → IsDesk n d
+pub tick_is : (n : ℕ) (w : World) (d : ℕ) (p : Plan) → IsDesk n d
     → tick n d (w.desks d).stored (length (w.desks d).log) (passing (w.desks d)) ≡ Ok p
     → happens n w (TickAt d) ≡ carried w d p
 tick_is n w d p ours h =
@@ -215,7 +215,7 @@ pub late_more : (a : Aim) (w : World) (k : ℕ) (p : Plan) → a.start ≤ lengt
 late_more a w k p h = let l = length-append w.sent p.messages in omega (arith, l, h)
 
 -- desks lack no more where no log is shorter
-lacking_less : (v w : World) (top : ℕ) (ks : List ℕ)
+pub lacking_less : (v w : World) (top : ℕ) (ks : List ℕ)
     → ((j : ℕ) → length (w.desks j).log ≤ length (v.desks j).log)
     → lacking v top ks ≤ lacking w top ks
 lacking_less v w top [] h = omega arith
@@ -239,7 +239,7 @@ pays_first v w top x ks k h i longer low later = elim i [ inl s ↦ here s | inr
     there m = let r = later m in let p = h x in omega (arith, p, r)
 
 -- and less where one of them is longer
-lacking_pays : (v w : World) (top : ℕ) (ks : List ℕ) (k : ℕ)
+pub lacking_pays : (v w : World) (top : ℕ) (ks : List ℕ) (k : ℕ)
     → ((j : ℕ) → length (w.desks j).log ≤ length (v.desks j).log) → Has ks k
     → length (w.desks k).log < length (v.desks k).log → length (w.desks k).log < top
     → lacking v top ks + 1 ≤ lacking w top ks
@@ -248,14 +248,14 @@ lacking_pays v w top (x ∷ ks) k h i longer low =
     pays_first v w top x ks k h i longer low
     (λ m. lacking_pays v w top ks k h m longer low)
 
-log_grows : (log : List Entry) (c : Option Change) → length log ≤ length (log_after log c)
+pub log_grows : (log : List Entry) (c : Option Change) → length log ≤ length (log_after log c)
 log_grows log None = omega arith
 log_grows log (Some (Promised b)) = omega arith
 log_grows log (Some (Voted v)) = omega arith
 log_grows log (Some (Tried r)) = omega arith
 log_grows log (Some (Appended e)) = let l = length-append log (e ∷ []) in omega (arith, l)
 
-logs_grow : (w : World) (k : ℕ) (p : Plan) (j : ℕ)
+pub logs_grow : (w : World) (k : ℕ) (p : Plan) (j : ℕ)
     → length (w.desks j).log ≤ length ((carried w k p).desks j).log
 logs_grow w k p j =
     put_at (λ y. length (w.desks j).log ≤ length y.log) w.desks k (adopt (w.desks k) p) j

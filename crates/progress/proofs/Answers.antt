@@ -163,7 +163,7 @@ taken_at n d k x m e same =
     else (if nat_lt (length x.log) m then asks_more x k d else only_say (passing x) []))
     (here_test m (length x.log) same)
 
-drop_some : (m : ℕ) (xs : List Entry) → m < length xs
+pub drop_some : (m : ℕ) (xs : List Entry) → m < length xs
     → (y : Entry) × (ys : List Entry) × (drop m xs ≡ y ∷ ys)
 drop_some m [] h = absurd (omega (arith, h))
 drop_some zero (x ∷ xs) h = (x, xs, refl)

@@ -46,7 +46,8 @@ pub free_idle : (x : Desk) → x.role ≡ Idle → IsFree x
 free_idle x h = subst (λ (r : Role). IsFreeIn x.stored.promised r) (sym h) tt
 
 -- the Tick of a free desk that has an entry, room and a number left
-tick_makes : (n d : ℕ) (x : Desk) (e : Entry) (rest : List Entry) → IsFree x → x.queue ≡ e ∷ rest
+pub tick_makes : (n d : ℕ) (x : Desk) (e : Entry) (rest : List Entry)
+    → IsFree x → x.queue ≡ e ∷ rest
     → length x.log < 65536 → last_number x.stored (passing x) < 4294967295
     → tick n d x.stored (length x.log) (passing x)
     ≡ Ok (gather n d x.stored (length x.log) (passing x) (last_number x.stored (passing x) + 1))
@@ -88,7 +89,8 @@ tick_makes n d x e rest free queue room number = go x.role free
         ∙ idle
 
 -- the Tick of one that leads, and is not outbid
-tick_leads : (n d : ℕ) (x : Desk) (b : Ballot) (e : Entry) (rest : List Entry) → x.role ≡ Leading b
+pub tick_leads : (n d : ℕ) (x : Desk) (b : Ballot) (e : Entry) (rest : List Entry)
+    → x.role ≡ Leading b
     → IsAtMost x.stored.promised b → x.queue ≡ e ∷ rest → length x.log < 65536
     → tick n d x.stored (length x.log) (passing x) ≡ Ok (ask n d (passing x) b (length x.log) e)
 tick_leads n d x b e rest role low queue room =

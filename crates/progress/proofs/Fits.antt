@@ -202,7 +202,7 @@ same_entry a b h =
     let words = bytes_eq-Decides a.text b.text in
     entry_ext a b (grind (arith, nat_tests)) (grind (arith, nat_tests, words))
 
-last_get : (xs : List Entry) (c : Entry) → slice_get (xs ++ c ∷ []) (length xs) ≡ Some c
+pub last_get : (xs : List Entry) (c : Entry) → slice_get (xs ++ c ∷ []) (length xs) ≡ Some c
 last_get [] c = refl
 last_get (x ∷ xs) c = last_get xs c
 

@@ -8,3 +8,14 @@ pub mod Ballots
 pub mod Standing
 pub mod Roles
 pub mod Queue
+pub mod Turning
+pub mod TurnFits
+pub mod TurnFilters
+pub mod TurnSelf
+pub mod TurnDone
+pub mod TurnLevels
+pub mod TurnVotes
+pub mod TurnPromises
+pub mod TurnBallots
+pub mod TurnRoles
+pub mod TurnQueue

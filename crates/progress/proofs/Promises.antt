@@ -33,7 +33,7 @@ use Rattle.progress.proofs.Levels.{levels}
 use Rattle.progress.proofs.Votes.{IsClear, clear_level, clear_at, not_same, heard_test}
 
 -- among what is sent to all is what is sent to one
-each_get : (from : ℕ) (body : Body) (first count k : ℕ) → first ≤ k → k < first + count
+pub each_get : (from : ℕ) (body : Body) (first count k : ℕ) → first ≤ k → k < first + count
     → (i : ℕ) × (slice_get (to_each from (desks_from first count) body) i ≡ Some
     (message from k body))
 each_get from body first zero k low high = absurd (omega (arith, low, high))
@@ -69,7 +69,7 @@ abbrev pub IsFair : Aim → ℕ → Option Report → Type 0
 IsFair a m None = Unit {0}
 IsFair a m (Some r) = (m ≤ a.old) ⊎ (r.entry ≡ a.first)
 
-fair_report : (a : Aim) (m : ℕ) (v : Option Vote) → IsOldOr a v → IsFair a m (reported v m)
+pub fair_report : (a : Aim) (m : ℕ) (v : Option Vote) → IsOldOr a v → IsFair a m (reported v m)
 fair_report a m None h = tt
 fair_report a m (Some v) h = go (v.pos == m) refl
   where
@@ -79,7 +79,7 @@ fair_report a m (Some v) h = go (v.pos == m) refl
         [ inl l ↦ inl (omega (arith, l, s)) | inr e ↦ inr e ]
     go false t = tt
 
-fair_higher : (a : Aim) (m : ℕ) (v o : Option Report) → IsFair a m v → IsFair a m o
+pub fair_higher : (a : Aim) (m : ℕ) (v o : Option Report) → IsFair a m v → IsFair a m o
     → IsFair a m (higher v o)
 fair_higher a m None o h g = g
 fair_higher a m (Some r) None h g = h
@@ -90,7 +90,7 @@ fair_higher a m (Some r) (Some s) h g = go (is_below r.ballot s.ballot)
     go false = h
 
 -- the entry that is to be proposed
-fair_choice : (a : Aim) (m : ℕ) (top : Option Report) → IsFair a m top
+pub fair_choice : (a : Aim) (m : ℕ) (top : Option Report) → IsFair a m top
     → (f : Entry) × (choice top (a.first ∷ a.rest) ≡ Some f) × ((m ≤ a.old) ⊎ (f ≡ a.first))
 fair_choice a m None h = (a.first, refl, inr refl)
 fair_choice a m (Some r) h = (r.entry, refl, h)

@@ -58,7 +58,7 @@ help_append n d desks start w [] ys h k = k
 help_append n d desks start w (x ∷ xs) ys h k =
     (h.0, help_append n d desks start (happens n w x) xs ys h.1 k)
 
-stand_from : (k l : ℕ) (es log : List Entry) → k ≤ l → StandFrom l es log → StandFrom k es log
+pub stand_from : (k l : ℕ) (es log : List Entry) → k ≤ l → StandFrom l es log → StandFrom k es log
 stand_from k l [] log h s = tt
 stand_from k l (e ∷ es) log h s = let a = s.1 in (s.0, omega (arith, h, a), s.2, s.3)
 
@@ -192,7 +192,7 @@ shares (suc c) p =
     ∙ add-mul (2 * c) 2 p) in
     omega (arith, s, a, b, m)
 
-at_most_longest : (w : World) (ks : List ℕ) (k : ℕ) → Has ks k
+pub at_most_longest : (w : World) (ks : List ℕ) (k : ℕ) → Has ks k
     → length (w.desks k).log ≤ longest w ks
 at_most_longest w [] k h = elim h [ ]
 at_most_longest w (x ∷ ks) k h = go h (λ i. at_most_longest w ks k i)
@@ -202,7 +202,7 @@ at_most_longest w (x ∷ ks) k h = go h (λ i. at_most_longest w ks k i)
     go (inl s) ih = let e = ap (λ j. length (w.desks j).log) s in omega (arith, e)
     go (inr i) ih = let l = ih i in omega (arith, l)
 
-longest_fits : (w : World) (ks : List ℕ) (more : ℕ) → more ≤ 65536
+pub longest_fits : (w : World) (ks : List ℕ) (more : ℕ) → more ≤ 65536
     → ((k : ℕ) → Has ks k → length (w.desks k).log + more ≤ 65536) → longest w ks + more ≤ 65536
 longest_fits w [] more low h = omega (arith, low)
 longest_fits w (k ∷ ks) more low h =

@@ -31,16 +31,16 @@ use Rattle.progress.proofs.Ballots.{IsFreeIn, IsFree, free_idle, lead_asks, not_
 use Rattle.progress.proofs.Standing.{IsVotedBy, Waits, IsSteady, all_are_steady}
 
 -- those not heard
-abbrev unheard : List ℕ → List ℕ → List ℕ
+abbrev pub unheard : List ℕ → List ℕ → List ℕ
 unheard desks [] = desks
 unheard desks (h ∷ hs) = drop_each (unheard desks hs) h
 
-unheard_distinct : (desks hs : List ℕ) → IsDistinct desks → IsDistinct (unheard desks hs)
+pub unheard_distinct : (desks hs : List ℕ) → IsDistinct desks → IsDistinct (unheard desks hs)
 unheard_distinct desks [] h = h
 unheard_distinct desks (x ∷ hs) h =
     IsDistinct-drop_each (unheard desks hs) x (unheard_distinct desks hs h)
 
-unheard_long : (desks hs : List ℕ) → IsDistinct desks
+pub unheard_long : (desks hs : List ℕ) → IsDistinct desks
     → length desks ≤ length (unheard desks hs) + length hs
 unheard_long desks [] h = omega arith
 unheard_long desks (x ∷ hs) h =
@@ -62,7 +62,7 @@ unheard_short desks (x ∷ hs) =
     let a = dropped_short (unheard desks hs) x in
     let b = unheard_short desks hs in omega (arith, a, b)
 
-not_heard : (desks hs : List ℕ) (k : ℕ) → Has (unheard desks hs) k
+pub not_heard : (desks hs : List ℕ) (k : ℕ) → Has (unheard desks hs) k
     → Has desks k × (has hs k ≡ false)
 not_heard desks [] k h = (h, refl)
 not_heard desks (x ∷ hs) k h =
@@ -74,7 +74,7 @@ not_heard desks (x ∷ hs) k h =
     go false e r = r
 
 -- among what is sent to those not heard is what is sent to one of them
-asked_get : (from : ℕ) (body : Body) (first count k : ℕ) (hs : List ℕ) → has hs k ≡ false
+pub asked_get : (from : ℕ) (body : Body) (first count k : ℕ) (hs : List ℕ) → has hs k ≡ false
     → first ≤ k → k < first + count
     → (i : ℕ) × (slice_get (to_each from (without (desks_from first count) hs) body) i ≡ Some
     (message from k body))
@@ -213,7 +213,7 @@ pub record Begins (a : Aim) (w : World) : Type 0 where
   pub tried : (w.desks a.d).stored.tried ≤ a.number
   pub seen : (w.desks a.d).seen ≤ a.number
 
-old_vote : (a : Aim) (len : ℕ) (v : Option Vote) → len ≤ a.old → IsVotedBy len v → IsOldOr a v
+pub old_vote : (a : Aim) (len : ℕ) (v : Option Vote) → len ≤ a.old → IsVotedBy len v → IsOldOr a v
 old_vote a len None l h = tt
 old_vote a len (Some v) l h = inl (omega (arith, l, h))
 

@@ -105,7 +105,7 @@ pub self_same : (e : Entry) → is_same_entry e e ≡ true
 self_same e = let words = bytes_eq-Decides e.text e.text in grind (arith, nat_tests, words)
 
 -- another entry is asked for at an old position only
-old_of : (a : Aim) (m : ℕ) (f : Entry) → is_same_entry a.first f ≡ false
+pub old_of : (a : Aim) (m : ℕ) (f : Entry) → is_same_entry a.first f ≡ false
     → (m ≤ a.old) ⊎ (f ≡ a.first) → m ≤ a.old
 old_of a m f t h =
     elim h [

@@ -2,6 +2,7 @@
 //! after every list of events, for every number of desks.
 
 ghost use Rattle.progress.specs.Progress.{NoDeskIsStuck, NoQueueIsStuck};
+ghost use Rattle.progress.specs.Turns.{NoServingDeskIsStuck};
 
 /// Whatever has happened, every majority of the desks can still decide what a desk of it has first
 /// in its queue, and all that it has queued, in the queue's order. It takes Ticks of that desk and
@@ -15,4 +16,18 @@ ghost use Rattle.progress.specs.Progress.{NoDeskIsStuck, NoQueueIsStuck};
 pub fn no_desk_is_stuck()
     ensures first { NoDeskIsStuck }
     ensures queue { NoQueueIsStuck }
+{}
+
+/// So it is of desks that serve, which take no step alone: with each Tick and each message a desk
+/// delivers to itself what it says to itself, at most 16 messages, and where its log has grown and
+/// entries wait in its queue it gives itself a Start. By such turns alone, Ticks of one desk and
+/// messages sent from then on among the majority, all that it has queued is decided, in the queue's
+/// order. There are two desks or more.
+///
+/// A desk that learns an entry may start, and promises its own ballot at once. So each entry that
+/// is learned can cost a number: above those that a desk of the majority has promised, tried or
+/// seen there have to be as many as the desks of the majority lack entries of logs that are longer
+/// than the longest of theirs, by two for each entry to be decided; and eight for each.
+pub fn no_serving_desk_is_stuck()
+    ensures { NoServingDeskIsStuck }
 {}

@@ -1,19 +1,18 @@
 -- A desk that serves, from its first line to its last.
-use Rattle.std.proofs.Common.{◌≡◌, ◌⊎◌, inl, inr, refl, sym, ap, ap₂, subst, ◌∙◌, ℕ, List, ◌++◌}
-use Rattle.std.proofs.Common.{append_assoc, Option, Result, Ok, Err, OnOk, OnErr, IfErr}
+use Rattle.std.proofs.Common.{◌≡◌, inl, inr, refl, sym, ap, ap₂, subst, ◌∙◌, ℕ, List, ◌++◌}
+use Rattle.std.proofs.Common.{append_assoc, Bool, Option, Result, OnOk, IfErr}
 use Rattle.std.specs.Io.KnownBytes.{Appends}
 use Rattle.std.proofs.KnownBytes.{Appends-trans}
 use Rattle.lines.specs.Bytes.{AppendsPart}
+use Rattle.multiplex.specs.declared.ends.Over.{Over}
+use Rattle.multiplex.specs.declared.ends.Over.TheVariants as over
+use Rattle.multiplex.specs.declared.ends.ServedEach.{ServedEach}
 use Rattle.serving.specs.Making.{Way}
-use Rattle.sockets.specs.Visits.{AtRest}
-use Rattle.sockets.specs.declared.serving_all.AllEnd.{AllEnd}
-use Rattle.sockets.specs.declared.serving_all.AllEnd.TheVariants as all
-use Rattle.sockets.specs.declared.serving_all.ServedAll.{ServedAll}
+use Rattle.connections.specs.Connections.{Point}
 use Rattle.store.specs.declared.home.Home.{Home}
 use Rattle.serve.specs.Printing.{IsOfLine, first_line, last_line, both_lines}
-use Rattle.serve.specs.Serves.{FailsServing, HasServed, Serves, Turn, ends_by}
+use Rattle.serve.specs.Serves.{FailsServing, HasServed, Serves, Turn, ends_by, served_to}
 use Rattle.serve.specs.declared.fault.ServeFault.{ServeFault}
-use Rattle.serve.specs.declared.fault.ServeFault.TheVariants as fault
 
 pub append_part : (a b c : Option (List ℕ)) (xs ys : List ℕ) → Appends a b xs → AppendsPart b c ys
     → AppendsPart a c (xs ++ ys)
@@ -32,17 +31,17 @@ told_first a b h home n len here long =
     subst (λ (t : List ℕ). Appends a b t) (ap₂ first_line here long)
 
 -- the first line was cut off
-pub first_cut : {V : Type 0} {way : Way V} (t : Turn) (a : AtRest way) (f : ServeFault)
+pub first_cut : {V : Type 0} {way : Way V} (t : Turn) (a : Point way) (f : ServeFault)
     → IsOfLine f → t.heard.old ≡ t.heard.new
     → AppendsPart t.out.old t.out.new (first_line t.home t.len) → FailsServing f t a a
 first_cut t a f (inl is) same h =
     subst (λ (f : ServeFault). FailsServing f t a a) (sym is) (inl (refl, same, h))
 first_cut t a f (inr is) same h =
-    subst (λ (f : ServeFault). FailsServing f t a a) (sym is) (inl (refl, same, h))
+    subst (λ (f : ServeFault). FailsServing f t a a) (sym is) (inr (inl (refl, same, h)))
 
 -- the last line was
-pub last_cut : {V : Type 0} {way : Way V} (t : Turn) (a b : AtRest way) (f : ServeFault)
-    (served : ServedAll) (mid : Option (List ℕ))
+pub last_cut : {V : Type 0} {way : Way V} (t : Turn) (a b : Point way) (f : ServeFault)
+    (served : ServedEach) (mid : Option (List ℕ))
     → IsOfLine f → HasServed served t a b → Appends t.out.old mid (first_line t.home t.len)
     → AppendsPart mid t.out.new (last_line served.connections) → FailsServing f t a b
 last_cut t a b f served mid (inl is) h first last =
@@ -50,35 +49,40 @@ last_cut t a b f served mid (inl is) h first last =
     (inr (served, h, append_part _ mid _ _ _ first last))
 last_cut t a b f served mid (inr is) h first last =
     subst (λ (f : ServeFault). FailsServing f t a b) (sym is)
-    (inr (served, h, append_part _ mid _ _ _ first last))
+    (inr (inr (served, h, append_part _ mid _ _ _ first last)))
 
 -- both lines are there
-pub ends_well : {V : Type 0} {way : Way V} (t : Turn) (a b : AtRest way) (count : ℕ)
-    (end : AllEnd) (r : Result (Unit {0}) ServeFault)
-    → HasServed (record { connections = count; end = end }) t a b
-    → Appends t.out.old t.out.new (both_lines t.home t.len count) → r ≡ ends_by end
+pub ends_well : {V : Type 0} {way : Way V} (t : Turn) (a b : Point way) (count : ℕ) (e : Over)
+    (starved : Bool) (r : Result (Unit {0}) ServeFault)
+    → HasServed (served_to count e starved) t a b
+    → Appends t.out.old t.out.new (both_lines t.home t.len count) → r ≡ ends_by e
     → OnOk r (Serves t a b)
-ends_well t a b count all.All r h w is =
-    subst (λ (r : Result (Unit {0}) ServeFault). OnOk r (Serves t a b)) (sym is) (inl (count, h, w))
-ends_well t a b count all.Stopped r h w is =
-    subst (λ (r : Result (Unit {0}) ServeFault). OnOk r (Serves t a b)) (sym is) (inr (count, h, w))
-ends_well t a b count all.Down r h w is =
-    subst (λ (r : Result (Unit {0}) ServeFault). OnOk r (Serves t a b)) (sym is) tt
-ends_well t a b count all.CannotListen r h w is =
-    subst (λ (r : Result (Unit {0}) ServeFault). OnOk r (Serves t a b)) (sym is) tt
+ends_well t a b count e starved r h w is =
+    subst (λ (r : Result (Unit {0}) ServeFault). OnOk r (Serves t a b)) (sym is) (by e h)
+  where
+    by : (e : Over) → HasServed (served_to count e starved) t a b
+        → OnOk (ends_by e) (Serves t a b)
+    by over.All h = inl (count, starved, h, w)
+    by over.Stopped h = inr (count, starved, h, w)
+    by over.Down h = tt
+    by over.Failed h = tt
+    by over.Tired h = tt
+    by over.NoMemory h = tt
 
-pub ends_ill : {V : Type 0} {way : Way V} (t : Turn) (a b : AtRest way) (count : ℕ)
-    (end : AllEnd) (r : Result (Unit {0}) ServeFault)
-    → HasServed (record { connections = count; end = end }) t a b
-    → Appends t.out.old t.out.new (both_lines t.home t.len count) → r ≡ ends_by end
+pub ends_ill : {V : Type 0} {way : Way V} (t : Turn) (a b : Point way) (count : ℕ) (e : Over)
+    (starved : Bool) (r : Result (Unit {0}) ServeFault)
+    → HasServed (served_to count e starved) t a b
+    → Appends t.out.old t.out.new (both_lines t.home t.len count) → r ≡ ends_by e
     → IfErr r (λ f. FailsServing f t a b)
-ends_ill t a b count all.All r h w is =
-    subst (λ (r : Result (Unit {0}) ServeFault). IfErr r (λ f. FailsServing f t a b)) (sym is) tt
-ends_ill t a b count all.Stopped r h w is =
-    subst (λ (r : Result (Unit {0}) ServeFault). IfErr r (λ f. FailsServing f t a b)) (sym is) tt
-ends_ill t a b count all.Down r h w is =
+ends_ill t a b count e starved r h w is =
     subst (λ (r : Result (Unit {0}) ServeFault). IfErr r (λ f. FailsServing f t a b)) (sym is)
-    (count, h, w)
-ends_ill t a b count all.CannotListen r h w is =
-    subst (λ (r : Result (Unit {0}) ServeFault). IfErr r (λ f. FailsServing f t a b)) (sym is)
-    (count, h, w)
+    (by e h)
+  where
+    by : (e : Over) → HasServed (served_to count e starved) t a b
+        → IfErr (ends_by e) (λ f. FailsServing f t a b)
+    by over.All h = tt
+    by over.Stopped h = tt
+    by over.Down h = (count, starved, h, w)
+    by over.Failed h = inl (count, starved, h, w)
+    by over.Tired h = inr (count, starved, h, w)
+    by over.NoMemory h = inl (count, starved, h, w)

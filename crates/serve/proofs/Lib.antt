@@ -1,3 +1,6 @@
+pub mod Addresses
 pub mod Ending
 pub mod Over
 pub mod Opened
+pub mod There
+pub mod Periods

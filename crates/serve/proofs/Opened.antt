@@ -7,15 +7,15 @@ use Rattle.desk_file.specs.Files.{HeldBy, KeepsHeld}
 use Rattle.replica.specs.Handles.{Handles}
 use Rattle.replica.specs.Nodes.{NodeValue}
 use Rattle.replica.specs.Opens.{Opens}
-use Rattle.serving.specs.Making.{speaking, spoken}
-use Rattle.sockets.specs.Visits.{AtRest}
+use Rattle.serving.specs.Making.{speaking}
+use Rattle.connections.specs.Connections.{Point}
 use Rattle.store.specs.declared.home.Home.{Home}
 use Rattle.store.specs.declared.keeper.Keeper.{Ghosts as KeeperOf}
 use Rattle.serve.proofs.Over.{by_listener}
 use Rattle.serve.specs.Files.{IsOpenedOn}
 use Rattle.serve.specs.Printing.{IsAllowed, IsOfListener, Output, home_of}
-use Rattle.serve.specs.Serves.{FailsDesk, FailsKept, FailsServing, IsHindered, IsRun, RunsDesk}
-use Rattle.serve.specs.Serves.{RunsKept, Serves, Turn, resting, turn, unheard}
+use Rattle.serve.specs.Serves.{FailsDesk, FailsKept, FailsServing, IsRun, RunsDesk}
+use Rattle.serve.specs.Serves.{RunsKept, Serves, Turn, resting, turn_of}
 use Rattle.serve.specs.declared.fault.ServeFault.{ServeFault}
 use Rattle.service.specs.declared.Service.{Service}
 
@@ -40,10 +40,10 @@ opened_on k files home keeper node kept n = record {
 
 run_of : {K : Type 0} (k : KeeperOf K) (files : Image) (s : Service) (o : Output)
     (first last : NodeValue K)
-    (Does : Turn → AtRest (speaking (Handles k) (spoken s.wire))
-    → AtRest (speaking (Handles k) (spoken s.wire)) → Type 0)
+    (Does : Turn → Point (speaking (Handles k) s.wire) → Point (speaking (Handles k) s.wire)
+    → Type 0)
     → IsOpenedOn k files (home_of s) first
-    → Does (turn (k.home_of first.keeper) s.connections (length first.desk.log) o unheard)
+    → Does (turn_of s (k.home_of first.keeper) (length first.desk.log) o)
     (resting k s.wire first) (resting k s.wire last)
     → IsRun k files s o Does
 run_of k files s o first last Does opened does = record {
@@ -52,7 +52,7 @@ run_of k files s o first last Does opened does = record {
   opened = opened;
   served =
       subst
-      (λ h. Does (turn h s.connections (length first.desk.log) o unheard) (resting k s.wire first)
+      (λ h. Does (turn_of s h (length first.desk.log) o) (resting k s.wire first)
       (resting k s.wire last))
       opened.place does;
 }
@@ -60,7 +60,7 @@ run_of k files s o first last Does opened does = record {
 pub runs : {K : Type 0} (k : KeeperOf K) (s : Service) (o : Output) (keeper : K)
     (first last : NodeValue K) (r : Result (Unit {0}) ServeFault)
     → Opens k keeper first
-    → OnOk r (Serves (turn (k.home_of first.keeper) s.connections (length first.desk.log) o unheard)
+    → OnOk r (Serves (turn_of s (k.home_of first.keeper) (length first.desk.log) o)
     (resting k s.wire first) (resting k s.wire last))
     → OnOk r (RunsKept k keeper s o)
 runs k s o keeper first last r opens h =
@@ -73,7 +73,7 @@ pub runs_ill : {K : Type 0} (k : KeeperOf K) (s : Service) (o : Output) (keeper 
     (first last : NodeValue K) (r : Result (Unit {0}) ServeFault)
     → Opens k keeper first → IsAllowed s
     → IfErr r (λ f. (IsOfListener f × KeepsBytes o.old o.new)
-    ⊎ FailsServing f (turn (k.home_of first.keeper) s.connections (length first.desk.log) o unheard)
+    ⊎ FailsServing f (turn_of s (k.home_of first.keeper) (length first.desk.log) o)
     (resting k s.wire first) (resting k s.wire last))
     → IfErr r (FailsKept k keeper s o)
 runs_ill k s o keeper first last r opens allowed h =
@@ -82,7 +82,7 @@ runs_ill k s o keeper first last r opens allowed h =
     how : (f : ServeFault)
         → (IsOfListener f × KeepsBytes o.old o.new)
         ⊎ FailsServing f
-        (turn (k.home_of first.keeper) s.connections (length first.desk.log) o unheard)
+        (turn_of s (k.home_of first.keeper) (length first.desk.log) o)
         (resting k s.wire first) (resting k s.wire last)
         → FailsKept k keeper s o f
     how f (inl e) files kept =

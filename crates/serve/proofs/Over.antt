@@ -1,41 +1,56 @@
 -- The desk over its file, and what was printed.
-use Rattle.std.proofs.Common.{◌≡◌, ◌⊎◌, inl, inr, refl, sym, ap, subst, ◌∙◌, ℕ, ◌≤◌, List, ◌++◌}
-use Rattle.std.proofs.Common.{append_assoc, length, Option, Result, OnOk, IfErr, arith}
+use Rattle.std.proofs.Common.{◌≡◌, ◌⊎◌, inl, inr, sym, ap, subst, ◌∙◌, ℕ, ◌≤◌, List, ◌++◌}
+use Rattle.std.proofs.Common.{append_assoc, append-nil, [], Option, None, Some, IfSome}
+use Rattle.std.proofs.Common.{Result, OnOk, IfErr, arith}
 use Rattle.std.proofs.lemmas.Result.{IfErr-weaker, on_ok_weaker}
-use Rattle.std.specs.Io.KnownBytes.{Keeps, Appends}
+use Rattle.std.specs.Io.KnownBytes.{Keeps}
 use Rattle.lines.specs.Bytes.{AppendsPart}
+use Rattle.multiplex.proofs.Coming.{few_come}
+use Rattle.multiplex.specs.declared.ends.Over.{Over}
+use Rattle.multiplex.specs.declared.ends.ServedEach.{ServedEach}
 use Rattle.serving.specs.Making.{Way}
-use Rattle.sockets.specs.Visits.{AtRest}
-use Rattle.sockets.specs.declared.serving_all.AllEnd.{AllEnd}
-use Rattle.sockets.specs.declared.serving_all.ServedAll.{ServedAll}
+use Rattle.connections.specs.Connections.{Point}
 use Rattle.store.specs.Ranges.{IsHome}
 use Rattle.store.specs.declared.home.Home.{Home}
-use Rattle.serve.specs.Printing.{Hinders, IsAllowed, IsOfListener, IsOfStore, IsRefused, Output}
+use Rattle.serve.specs.Printing.{Hinders, IsAllowed, IsFew, IsOfListener, IsOfStore, IsRefused}
+use Rattle.serve.specs.Printing.{Output}
 use Rattle.serve.specs.Printing.{Prints, PrintsAt, PrintsPart, both_lines, first_line, home_of}
 use Rattle.serve.specs.Printing.{last_line}
-use Rattle.serve.specs.Serves.{FailsServing, HasServed, IsCutOff, Serves, ServesTo, Turn, turn}
-use Rattle.serve.specs.Serves.{unheard}
+use Rattle.serve.specs.Serves.{FailsServing, HasServed, IsCutOff, Serves, ServesTo, most_of}
+use Rattle.serve.specs.Serves.{period_of, served_to, terms_of, turn_of, with_clients}
 use Rattle.serve.specs.declared.fault.ServeFault.{ServeFault}
 use Rattle.serve.specs.declared.fault.ServeFault.TheVariants as fault
 use Rattle.service.specs.declared.Service.{Service}
 
-few_served : {V : Type 0} {way : Way V} (t : Turn) (a b : AtRest way) (served : ServedAll)
-    → HasServed served t a b → served.connections ≤ t.most
-few_served t a b served h = omega (arith, h.1.counted, h.1.few)
+few_of : (s : Service) (count : ℕ) → count ≤ most_of s.connections → IsFew count s
+few_of s count few = by s.connections few
+  where
+    by : (most : Option ℕ) → count ≤ most_of most → IfSome most (λ m. count ≤ m)
+    by None few = tt
+    by (Some m) few = few
 
-prints_to : {V : Type 0} {way : Way V} (s : Service) (len : ℕ) (o : Output) (a b : AtRest way)
-    (end : AllEnd)
-    → IsAllowed s → ServesTo end (turn (home_of s) s.connections len o unheard) a b → Prints s o
-prints_to s len o a b end allowed h = record {
+few_served : {V : Type 0} {way : Way V} (s : Service) (len : ℕ) (o : Output) (a b : Point way)
+    (served : ServedEach)
+    → HasServed served (turn_of s (home_of s) len o) a b
+    → IsFew served.connections s
+few_served s len o a b served h =
+    few_of s served.connections
+    (few_come served (home_of s) (terms_of s) (period_of s.tick) (with_clients h.0 a)
+    (with_clients h.1 b) None None h.2 h.3)
+
+prints_to : {V : Type 0} {way : Way V} (s : Service) (len : ℕ) (o : Output) (a b : Point way)
+    (e : Over)
+    → IsAllowed s → ServesTo e (turn_of s (home_of s) len o) a b → Prints s o
+prints_to s len o a b e allowed h = record {
   allowed = allowed;
   len = len;
   count = h.0;
-  few = few_served (turn (home_of s) s.connections len o unheard) a b _ h.1;
-  written = h.2;
+  few = few_served s len o a b (served_to h.0 e h.1) h.2;
+  written = h.3;
 }
 
-pub prints : {V : Type 0} {way : Way V} (s : Service) (len : ℕ) (o : Output) (a b : AtRest way)
-    → IsAllowed s → Serves (turn (home_of s) s.connections len o unheard) a b → Prints s o
+pub prints : {V : Type 0} {way : Way V} (s : Service) (len : ℕ) (o : Output) (a b : Point way)
+    → IsAllowed s → Serves (turn_of s (home_of s) len o) a b → Prints s o
 prints s len o a b allowed (inl h) = prints_to s len o a b _ allowed h
 prints s len o a b allowed (inr h) = prints_to s len o a b _ allowed h
 
@@ -49,31 +64,51 @@ more_of a c xs ys p = (
   },
 )
 
-prints_part : {V : Type 0} {way : Way V} (s : Service) (len : ℕ) (o : Output) (a b : AtRest way)
-    → IsAllowed s → IsCutOff (turn (home_of s) s.connections len o unheard) a b → PrintsPart s o
+prints_part : {V : Type 0} {way : Way V} (s : Service) (len : ℕ) (o : Output) (a b : Point way)
+    → IsAllowed s → IsCutOff (turn_of s (home_of s) len o) a b → PrintsPart s o
 prints_part s len o a b allowed (inl h) = record {
   allowed = allowed;
   len = len;
   count = 0;
-  few = omega arith;
+  few = few_of s 0 (omega arith);
   written = more_of o.old o.new (first_line (home_of s) len) (last_line 0) h.2;
 }
 prints_part s len o a b allowed (inr h) = record {
   allowed = allowed;
   len = len;
   count = h.0.connections;
-  few = few_served (turn (home_of s) s.connections len o unheard) a b h.0 h.1;
+  few = few_served s len o a b h.0 h.1;
   written = h.2;
 }
 
+-- all of both lines is a part of them
+part_of : (s : Service) (o : Output) → Prints s o → PrintsPart s o
+part_of s o h = record {
+  allowed = h.allowed;
+  len = h.len;
+  count = h.count;
+  few = h.few;
+  written = (
+    both_lines (home_of s) h.len h.count,
+    [],
+    record {
+      parts = sym (append-nil (both_lines (home_of s) h.len h.count));
+      written = h.written;
+    },
+  );
+}
+
 pub prints_at : {V : Type 0} {way : Way V} (f : ServeFault) (s : Service) (len : ℕ) (o : Output)
-    (a b : AtRest way)
-    → IsAllowed s → FailsServing f (turn (home_of s) s.connections len o unheard) a b
+    (a b : Point way)
+    → IsAllowed s → FailsServing f (turn_of s (home_of s) len o) a b
     → PrintsAt f s o
 prints_at fault.Down s len o a b allowed h = prints_to s len o a b _ allowed h
-prints_at fault.CannotListen s len o a b allowed h = inr (prints_to s len o a b _ allowed h)
+prints_at fault.CannotListen s len o a b allowed (inl h) = inr (prints_to s len o a b _ allowed h)
+prints_at fault.CannotListen s len o a b allowed (inr h) = inr (prints_to s len o a b _ allowed h)
 prints_at fault.Write s len o a b allowed h = prints_part s len o a b allowed h
-prints_at fault.NoMemory s len o a b allowed h = inr (prints_part s len o a b allowed h)
+prints_at fault.NoMemory s len o a b allowed (inl h) =
+    inr (part_of s o (prints_to s len o a b _ allowed h))
+prints_at fault.NoMemory s len o a b allowed (inr h) = inr (prints_part s len o a b allowed h)
 prints_at fault.BadCount s len o a b allowed h = absurd h
 prints_at fault.BadDesk s len o a b allowed h = absurd h
 prints_at fault.WrongDesk s len o a b allowed h = absurd h
@@ -125,28 +160,28 @@ pub allowed_of : (s : Service) (home : Home) → home ≡ home_of s → IsHome h
 allowed_of s home is h = subst (λ (h : Home). IsHome h) is h
 
 pub printed : {V : Type 0} {way : Way V} (s : Service) (home : Home) (len : ℕ) (o : Output)
-    (a b : AtRest way) (r : Result (Unit {0}) ServeFault)
+    (a b : Point way) (r : Result (Unit {0}) ServeFault)
     → home ≡ home_of s → IsAllowed s
-    → OnOk r (Serves (turn home s.connections len o unheard) a b) → OnOk r (Prints s o)
+    → OnOk r (Serves (turn_of s home len o) a b) → OnOk r (Prints s o)
 printed s home len o a b r is allowed h =
     on_ok_weaker r (λ served. prints s len o a b allowed
-    (subst (λ (p : Home). Serves (turn p s.connections len o unheard) a b) is served)) h
+    (subst (λ (p : Home). Serves (turn_of s p len o) a b) is served)) h
 
-ends_printed : {V : Type 0} {way : Way V} (s : Service) (len : ℕ) (o : Output) (a b : AtRest way)
+ends_printed : {V : Type 0} {way : Way V} (s : Service) (len : ℕ) (o : Output) (a b : Point way)
     (f : ServeFault) → IsAllowed s
     → (IsOfListener f × Keeps o.old o.new)
-    ⊎ FailsServing f (turn (home_of s) s.connections len o unheard) a b
+    ⊎ FailsServing f (turn_of s (home_of s) len o) a b
     → PrintsAt f s o
 ends_printed s len o a b f allowed (inl e) = hindered f s o (by_listener f s e.0 allowed) e.1
 ends_printed s len o a b f allowed (inr e) = prints_at f s len o a b allowed e
 
 pub printed_fault : {V : Type 0} {way : Way V} (s : Service) (home : Home) (len : ℕ)
-    (o : Output) (a b : AtRest way) (r : Result (Unit {0}) ServeFault)
+    (o : Output) (a b : Point way) (r : Result (Unit {0}) ServeFault)
     → home ≡ home_of s → IsAllowed s
     → IfErr r (λ f. (IsOfListener f × Keeps o.old o.new)
-    ⊎ FailsServing f (turn home s.connections len o unheard) a b)
+    ⊎ FailsServing f (turn_of s home len o) a b)
     → IfErr r (λ f. PrintsAt f s o)
 printed_fault s home len o a b r is allowed h =
     IfErr-weaker r _ _ (λ f ends. ends_printed s len o a b f allowed
     (subst (λ (p : Home). (IsOfListener f × Keeps o.old o.new)
-    ⊎ FailsServing f (turn p s.connections len o unheard) a b) is ends)) h
+    ⊎ FailsServing f (turn_of s p len o) a b) is ends)) h

@@ -1,3 +1,4 @@
+pub mod Addresses
 pub mod Files
 pub mod Printing
 pub mod Serves

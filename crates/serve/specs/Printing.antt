@@ -1,5 +1,6 @@
 -- What a desk that serves prints, and when it may.
 use Rattle.std.specs.Prelude.{◌≡◌, ◌⊎◌, ◌≤◌, ℕ, List, ◌++◌, codes, decimal, length, Option}
+use Rattle.std.specs.Prelude.{IfSome}
 use Rattle.std.specs.Io.KnownBytes.{Keeps, Appends}
 use Rattle.lines.specs.Bytes.{AppendsPart}
 use Rattle.store.specs.Ranges.{IsHome, home_at}
@@ -16,7 +17,7 @@ first_line home len =
     codes "desk " ++ decimal home.desk ++ codes " of " ++ decimal home.desks ++ codes " len "
     ++ decimal len ++ codes "\n"
 
--- how many connections it has served
+-- how many clients came
 abbrev pub last_line : ℕ → List ℕ
 last_line count = codes "served " ++ decimal count ++ codes "\n"
 
@@ -71,12 +72,16 @@ pub record Output : Type 0 where
 abbrev pub output : Option (List ℕ) → Option (List ℕ) → Output
 output old new = record { old = old; new = new }
 
+-- at most as many clients came as were asked for, where that was said
+abbrev pub IsFew : ℕ → Service → Type 0
+IsFew count s = IfSome s.connections (λ most. count ≤ most)
+
 -- the desk served, and printed both lines
 pub record Prints (s : Service) (o : Output) : Type 0 where
   pub allowed : IsAllowed s
   pub len : ℕ
   pub count : ℕ
-  pub few : count ≤ s.connections
+  pub few : IsFew count s
   pub written : Appends o.old o.new (both_lines (home_of s) len count)
 
 -- at most a part of both lines was printed
@@ -84,7 +89,7 @@ pub record PrintsPart (s : Service) (o : Output) : Type 0 where
   pub allowed : IsAllowed s
   pub len : ℕ
   pub count : ℕ
-  pub few : count ≤ s.connections
+  pub few : IsFew count s
   pub written : AppendsPart o.old o.new (both_lines (home_of s) len count)
 
 -- the cause of each fault that stands in front of serving: the named ones in this order; the others

@@ -1,22 +1,26 @@
 -- What a desk does that serves: the clients that it serves, and the file that it stands on.
-use Rattle.std.specs.Prelude.{◌≡◌, ◌⊎◌, ℕ, List, length, Option, None, Result, Ok, Err}
+use Rattle.std.specs.Prelude.{◌≡◌, ◌⊎◌, ℕ, ◌+◌, ◌*◌, ◌-◌, ◌^◌, List, length, Option, None, Some}
+use Rattle.std.specs.Prelude.{Result, Ok, Err, Bool, nat_le, ◌&&◌, if◌then◌else◌}
 use Rattle.std.specs.Io.KnownBytes.{Appends, Keeps}
 use Rattle.std.specs.declared.io.Write.{Ghosts as WriteOf}
 use Rattle.sqlite.specs.Recovery.{Image}
 use Rattle.desk_file.specs.Files.{KeepsHeld}
 use Rattle.lines.specs.Bytes.{AppendsPart}
+use Rattle.multiplex.specs.Happenings.{Happened}
+use Rattle.multiplex.specs.Passing.{IsServedEach, Lobby, Room, Step}
+use Rattle.multiplex.specs.declared.ends.Over.{Over}
+use Rattle.multiplex.specs.declared.ends.Over.TheVariants as over
+use Rattle.multiplex.specs.declared.ends.ServedEach.{ServedEach}
+use Rattle.multiplex.specs.declared.table.Terms.{Terms}
 use Rattle.replica.specs.Handles.{Handles}
 use Rattle.node.specs.Seeing.{seen_of}
 use Rattle.replica.specs.Nodes.{NodeValue}
-use Rattle.serving.specs.Making.{Way, speaking, spoken}
+use Rattle.serving.specs.Making.{Way, outside_of, speaking}
 use Rattle.serving.specs.declared.peers.Peers.{Ghosts as PeersOf}
-use Rattle.sockets.specs.Listening.{Listened}
-use Rattle.sockets.specs.Visits.{AtRest, Visit, IsServedAll, at_rest}
-use Rattle.sockets.specs.declared.serving_all.AllEnd.{AllEnd}
-use Rattle.sockets.specs.declared.serving_all.AllEnd.TheVariants as all
-use Rattle.sockets.specs.declared.serving_all.ServedAll.{ServedAll}
+use Rattle.connections.specs.Connections.{Point}
 use Rattle.store.specs.declared.home.Home.{Home}
 use Rattle.store.specs.declared.keeper.Keeper.{Ghosts as KeeperOf}
+use Rattle.wire.specs.declared.values.Version.{Version}
 use Rattle.serve.specs.Files.{IsOpenedOn}
 use Rattle.serve.specs.Printing.{Hinders, IsOfListener, Output, first_line, both_lines, home_of}
 use Rattle.serve.specs.Printing.{output}
@@ -24,86 +28,128 @@ use Rattle.serve.specs.declared.fault.ServeFault.{ServeFault}
 use Rattle.serve.specs.declared.fault.ServeFault.TheVariants as fault
 use Rattle.service.specs.declared.Service.{Service}
 
--- what came of listening before and afterwards, where it is told
-pub record Heard : Type 0 where
-  pub old : Option (List Listened)
-  pub new : Option (List Listened)
+-- how many clients may come: as many as were asked for, or, where that wasn't said, as many as can
+-- be counted
+abbrev pub most_of : Option ℕ → ℕ
+most_of (Some most) = most
+most_of None = 2 ^ 64 - 1
 
-abbrev pub heard : Option (List Listened) → Option (List Listened) → Heard
+-- how the clients of a desk are served: at most as many come as were asked for, and each may be
+-- silent for so many milliseconds, and for a second more, since the silence of a client counts from
+-- the end of the round before it was ready, which may be a second ago
+abbrev pub terms_of : Service → Terms
+terms_of s = record {
+  wire = s.wire;
+  most = most_of s.connections;
+  patience = s.patience * 1000 + 1000;
+}
+
+-- the period of the desk's own Ticks, in milliseconds: a number from 100 to 60,000 that is asked
+-- for
+abbrev pub period_of : Option ℕ → Option ℕ
+period_of None = None
+period_of (Some n) = if nat_le 100 n && nat_le n 60000 then Some n else None
+
+-- what came of the clients before and afterwards, where it is told
+pub record Heard : Type 0 where
+  pub old : Option (List Happened)
+  pub new : Option (List Happened)
+
+abbrev pub heard : Option (List Happened) → Option (List Happened) → Heard
 heard old new = record { old = old; new = new }
 
--- a desk that is to serve: whose it is, at most how many clients, how long its log is, the writer,
--- and what came of listening
+-- a desk that is to serve: whose it is, how its clients are served, the period of its own Ticks,
+-- how long its log is, the writer, and what came of its clients
 pub record Turn : Type 0 where
   pub home : Home
-  pub most : ℕ
+  pub terms : Terms
+  pub period : Option ℕ
   pub len : ℕ
   pub out : Output
   pub heard : Heard
 
-abbrev pub turn : Home → ℕ → ℕ → Output → Heard → Turn
-turn home most len o h =
-    record { home = home; most = most; len = len; out = o; heard = h }
+abbrev pub turn : Home → Terms → Option ℕ → ℕ → Output → Heard → Turn
+turn home terms period len o h =
+    record { home = home; terms = terms; period = period; len = len; out = o; heard = h }
 
--- these clients were served, one after the other, to this end
-abbrev pub HasServed : {V : Type 0} → {way : Way V} → ServedAll → Turn → AtRest way → AtRest way
+-- the desk with these clients
+abbrev pub with_clients : {V : Type 0} → {way : Way V} → Lobby → Point way → Room way
+with_clients l a = record { lobby = l; seen = a.seen; outside = a.outside }
+
+-- clients were served side by side, to this end
+abbrev pub HasServed : {V : Type 0} → {way : Way V} → ServedEach → Turn → Point way → Point way
     → Type 0
 HasServed served t a b =
-    (each : List Visit) × IsServedAll served t.home t.most a b t.heard.old t.heard.new each
+    (first : Lobby) × (last : Lobby) × (steps : List Step)
+    × IsServedEach served t.home t.terms t.period (with_clients first a) (with_clients last b)
+    t.heard.old t.heard.new steps
+
+-- so many clients were served to this end; for one of the desk's own Ticks memory was refused, or
+-- for none
+abbrev pub served_to : ℕ → Over → Bool → ServedEach
+served_to count over starved = record { connections = count; over = over; starved = starved }
 
 -- clients were served to this end, and both lines were written
-abbrev pub ServesTo : {V : Type 0} → {way : Way V} → AllEnd → Turn → AtRest way → AtRest way
-    → Type 0
-ServesTo end t a b =
-    (count : ℕ) × HasServed (record { connections = count; end = end }) t a b
+abbrev pub ServesTo : {V : Type 0} → {way : Way V} → Over → Turn → Point way → Point way → Type 0
+ServesTo over t a b =
+    (count : ℕ) × (starved : Bool) × HasServed (served_to count over starved) t a b
     × Appends t.out.old t.out.new (both_lines t.home t.len count)
 
 -- the first line was cut off, and nobody was served; or the last one was
-abbrev pub IsCutOff : {V : Type 0} → {way : Way V} → Turn → AtRest way → AtRest way → Type 0
+abbrev pub IsCutOff : {V : Type 0} → {way : Way V} → Turn → Point way → Point way → Type 0
 IsCutOff t a b =
     ((a ≡ b) × (t.heard.old ≡ t.heard.new)
     × AppendsPart t.out.old t.out.new (first_line t.home t.len))
-    ⊎ ((served : ServedAll) × HasServed served t a b
+    ⊎ ((served : ServedEach) × HasServed served t a b
     × AppendsPart t.out.old t.out.new (both_lines t.home t.len served.connections))
 
 -- as many clients were served as were asked for, or one asked the desk to stop
-abbrev pub Serves : {V : Type 0} → {way : Way V} → Turn → AtRest way → AtRest way → Type 0
-Serves t a b = ServesTo all.All t a b ⊎ ServesTo all.Stopped t a b
+abbrev pub Serves : {V : Type 0} → {way : Way V} → Turn → Point way → Point way → Type 0
+Serves t a b = ServesTo over.All t a b ⊎ ServesTo over.Stopped t a b
 
 -- what the end of serving says
-abbrev pub ends_by : AllEnd → Result (Unit {0}) ServeFault
-ends_by all.All = Ok tt
-ends_by all.Stopped = Ok tt
-ends_by all.Down = Err fault.Down
-ends_by all.CannotListen = Err fault.CannotListen
+abbrev pub ends_by : Over → Result (Unit {0}) ServeFault
+ends_by over.All = Ok tt
+ends_by over.Stopped = Ok tt
+ends_by over.Down = Err fault.Down
+ends_by over.Failed = Err fault.CannotListen
+ends_by over.Tired = Err fault.CannotListen
+ends_by over.NoMemory = Err fault.NoMemory
 
 -- how serving ends by a fault
-abbrev pub FailsServing : {V : Type 0} → {way : Way V} → ServeFault → Turn → AtRest way
-    → AtRest way → Type 0
-FailsServing fault.Down t a b = ServesTo all.Down t a b
-FailsServing fault.CannotListen t a b = ServesTo all.CannotListen t a b
+abbrev pub FailsServing : {V : Type 0} → {way : Way V} → ServeFault → Turn → Point way
+    → Point way → Type 0
+FailsServing fault.Down t a b = ServesTo over.Down t a b
+FailsServing fault.CannotListen t a b = ServesTo over.Failed t a b ⊎ ServesTo over.Tired t a b
 FailsServing fault.Write t a b = IsCutOff t a b
-FailsServing fault.NoMemory t a b = IsCutOff t a b
+FailsServing fault.NoMemory t a b = ServesTo over.NoMemory t a b ⊎ IsCutOff t a b
 FailsServing _ t a b = ⊥
 
--- of a socket nothing is told of what comes of listening
+-- of sockets nothing is told of what comes of clients
 abbrev pub unheard : Heard
 unheard = heard None None
 
--- a node between two connections, where nothing is told of what the other desks were handed
-abbrev pub resting : {K : Type 0} → (k : KeeperOf K) → (wire : ℕ) → NodeValue K
-    → AtRest (speaking (Handles k) (spoken wire))
-resting k wire node = at_rest (speaking (Handles k) (spoken wire)) seen_of node None
+-- what is told of a desk that serves as it is asked for, with a log of this length at first
+abbrev pub turn_of : Service → Home → ℕ → Output → Turn
+turn_of s home len o = turn home (terms_of s) (period_of s.tick) len o unheard
+
+-- a node, where nothing is told of what the other desks were handed
+abbrev pub resting : {K : Type 0} → (k : KeeperOf K) → (wire : Version) → NodeValue K
+    → Point (speaking (Handles k) wire)
+resting k wire node = record {
+  seen = seen_of node;
+  outside = outside_of (speaking (Handles k) wire) node None;
+}
 
 -- The desk that was opened on these files served so: from what it was then, with the length of its
 -- log in the first line, to what it was at the end.
 pub record IsRun {K : Type 0} (k : KeeperOf K) (files : Image) (s : Service) (o : Output)
-    (Does : Turn → AtRest (speaking (Handles k) (spoken s.wire))
-    → AtRest (speaking (Handles k) (spoken s.wire)) → Type 0) : Type 0 where
+    (Does : Turn → Point (speaking (Handles k) s.wire) → Point (speaking (Handles k) s.wire)
+    → Type 0) : Type 0 where
   pub first : NodeValue K
   pub last : NodeValue K
   pub opened : IsOpenedOn k files (home_of s) first
-  pub served : Does (turn (home_of s) s.connections (length first.desk.log) o unheard)
+  pub served : Does (turn_of s (home_of s) (length first.desk.log) o)
       (resting k s.wire first) (resting k s.wire last)
 
 -- nothing was printed and nobody served, by this cause
@@ -113,52 +159,55 @@ pub record IsHindered (f : ServeFault) (s : Service) (o : Output) : Type 0 where
 
 -- ---- what the calls leave
 
--- a node that serves, the other desks of its hall, where its clients come from, and the writer of
--- its lines
-pub record Stage (K U L X : Type 0) : Type 0 where
+-- a node that serves, the other desks of its hall, its clients, and the writer of its lines
+pub record Stage (K U C X : Type 0) : Type 0 where
   pub node : NodeValue K
-  pub peers : U
-  pub listener : L
+  pub links : U
+  pub clients : C
   pub writer : X
 
-abbrev pub stage : {K U L X : Type 0} → NodeValue K → U → L → X → Stage K U L X
-stage node peers listener writer =
-    record { node = node; peers = peers; listener = listener; writer = writer }
+abbrev pub stage : {K U C X : Type 0} → NodeValue K → U → C → X → Stage K U C X
+stage node links clients writer =
+    record { node = node; links = links; clients = clients; writer = writer }
 
 -- what is told of a node that served between these two
-abbrev pub Tells : {K U L X : Type 0} → KeeperOf K → (L → Option (List Listened)) → WriteOf X → ℕ
-    → Stage K U L X → Stage K U L X → Turn
-Tells k listened w most a b =
-    turn (k.home_of a.node.keeper) most (length a.node.desk.log)
+abbrev pub TellsOf : {K U C X : Type 0} → KeeperOf K → (C → Option (List Happened)) → WriteOf X
+    → Terms → Option ℕ → Stage K U C X → Stage K U C X → Turn
+TellsOf k happened w terms period a b =
+    turn (k.home_of a.node.keeper) terms period (length a.node.desk.log)
     (output (w.contents a.writer) (w.contents b.writer))
-    (heard (listened a.listener) (listened b.listener))
+    (heard (happened a.clients) (happened b.clients))
 
--- the node between two connections, where frames are pushed in this version
-abbrev pub resting_on : {K U L X : Type 0} → (k : KeeperOf K) → PeersOf U → (wire : ℕ)
-    → Stage K U L X → AtRest (speaking (Handles k) (spoken wire))
-resting_on k p wire x =
-    at_rest (speaking (Handles k) (spoken wire)) seen_of x.node (p.handed x.peers)
+-- the node, where frames are pushed in this version
+abbrev pub resting_on : {K U C X : Type 0} → (k : KeeperOf K) → PeersOf U → (wire : Version)
+    → Stage K U C X → Point (speaking (Handles k) wire)
+resting_on k p wire x = record {
+  seen = seen_of x.node;
+  outside = outside_of (speaking (Handles k) wire) x.node (p.handed x.links);
+}
 
 -- the node served its clients, and printed both lines
-abbrev pub ServesNode : {K U L X : Type 0} → KeeperOf K → PeersOf U
-    → (L → Option (List Listened)) → WriteOf X → (wire most : ℕ) → Stage K U L X → Stage K U L X
+abbrev pub ServesNode : {K U C X : Type 0} → KeeperOf K → PeersOf U
+    → (C → Option (List Happened)) → WriteOf X → Terms → Option ℕ → Stage K U C X → Stage K U C X
     → Type 0
-ServesNode k p listened w wire most a b =
-    Serves (Tells k listened w most a b) (resting_on k p wire a) (resting_on k p wire b)
+ServesNode k p happened w terms period a b =
+    Serves (TellsOf k happened w terms period a b) (resting_on k p terms.wire a)
+    (resting_on k p terms.wire b)
 
 -- it ended by this fault
-abbrev pub FailsNode : {K U L X : Type 0} → KeeperOf K → PeersOf U
-    → (L → Option (List Listened)) → WriteOf X → (wire most : ℕ) → Stage K U L X → Stage K U L X
+abbrev pub FailsNode : {K U C X : Type 0} → KeeperOf K → PeersOf U
+    → (C → Option (List Happened)) → WriteOf X → Terms → Option ℕ → Stage K U C X → Stage K U C X
     → ServeFault → Type 0
-FailsNode k p listened w wire most a b f =
-    FailsServing f (Tells k listened w most a b) (resting_on k p wire a) (resting_on k p wire b)
+FailsNode k p happened w terms period a b f =
+    FailsServing f (TellsOf k happened w terms period a b) (resting_on k p terms.wire a)
+    (resting_on k p terms.wire b)
 
 -- what is told of a node that serves at its address
 abbrev pub told_there : {K X : Type 0} → KeeperOf K → WriteOf X → Service → NodeValue K
     → (before after : X) → Turn
 told_there k w s node before after =
-    turn (k.home_of node.keeper) s.connections (length node.desk.log)
-    (output (w.contents before) (w.contents after)) unheard
+    turn_of s (k.home_of node.keeper) (length node.desk.log)
+    (output (w.contents before) (w.contents after))
 
 -- the node served at its address, and printed both lines
 abbrev pub ServesThere : {K X : Type 0} → KeeperOf K → WriteOf X → Service → NodeValue K

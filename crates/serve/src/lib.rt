@@ -1,8 +1,9 @@
-//! A desk that serves: its file is opened, and the clients that come to its address are served one
-//! after the other.
+//! A desk that serves: its file is opened, and the clients that come to its address are served side
+//! by side.
 #![tactic(auto)]
 
 mod fault;
+mod hall;
 mod home;
 mod running;
 mod telling;

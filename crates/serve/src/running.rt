@@ -2,118 +2,106 @@
 
 ghost use Rattle.std.specs.Prelude.{◌≡◌, IfErr, OnOk};
 ghost use Rattle.sqlite.specs.WalFiles.{image_at};
-ghost use Rattle.wire.specs.Laws.{IsVersion};
-ghost use Rattle.serve.specs.Printing.{IsAllowed, IsOfListener, Prints, PrintsAt, home_of, output};
+ghost use Rattle.serve.specs.Printing.{IsAllowed, Prints, PrintsAt, home_of, output};
 ghost use Rattle.serve.specs.Serves.{FailsDesk, FailsKept, FailsNode, FailsThere, RunsDesk};
-ghost use Rattle.serve.specs.Serves.{RunsKept, ServesNode, ServesThere, ends_by, stage};
+ghost use Rattle.serve.specs.Serves.{RunsKept, ServesNode, ServesThere, ends_by, period_of, stage};
+ghost use Rattle.serve.specs.Serves.{terms_of};
 
 use crate::fault::{ServeFault, fault_of_open};
+use crate::hall::{links_to, listen};
 use crate::home::home_of;
 use crate::telling::{tell_first, tell_last};
 use desk_file::{fault_of_load, open_keeper};
+use multiplex::{Clients, Links, Over, Terms, serve_each};
 use node::Node;
 use service::Service;
-use serving::Peers;
-use sockets::{Accept, AllEnd, Listener, SocketPeers, serve_all};
 use sqlite::{FileFrom, FileStore, Start};
 use std::alloc::Global;
-use std::io;
-use std::io::{ErrorKind, Write};
-use std::net::{Net, SocketAddr, ToSocketAddrs};
-use std::time::Duration;
+use std::io::Write;
 use store::keeper::Keeper;
 use store::sql::SqlKeeper;
+use ticking::Period;
 
-/// What the end of serving says: a fault where a client could not be accepted or the desk is down.
-fn told_end(end: AllEnd) -> Result<(), ServeFault>
-    ensures { result ≡ ends_by end }
+/// How long a round may last in which nothing is ready, in milliseconds: the silence of a client
+/// counts from the end of the round before it was ready.
+const ROUND: u64 = 1000;
+
+/// What the end of serving says: a fault where the system tells nothing of the clients any more,
+/// where the desk is down, and where memory runs out.
+fn told_end(over: Over) -> Result<(), ServeFault>
+    ensures { result ≡ ends_by over }
 {
-    match end {
-        AllEnd::All | AllEnd::Stopped => Ok(()),
-        AllEnd::Down => Err(ServeFault::Down),
-        AllEnd::CannotListen => Err(ServeFault::CannotListen),
+    match over {
+        Over::All | Over::Stopped => Ok(()),
+        Over::Down => Err(ServeFault::Down),
+        Over::Failed | Over::Tired => Err(ServeFault::CannotListen),
+        Over::NoMemory => Err(ServeFault::NoMemory),
     }
 }
 
-/// A desk serves `most` clients, as `serve_all` does. At its beginning it prints which desk it is,
-/// of how many, and how long its log is, and at its end how many it has served.
+/// How the clients of a desk are served.
+fn terms_of(service: Service<'_>) -> Terms
+    ensures { result ≡ terms_of service.entry }
+{
+    let most = match service.connections {
+        Some(connections) => u64::from(connections),
+        None => u64::MAX,
+    };
+    Terms {
+        wire: service.wire,
+        most,
+        patience: u64::from(service.patience) * 1000 + ROUND,
+    }
+}
+
+/// The period of the desk's own Ticks: the one that is asked for. None where none is, and where a
+/// number is asked for that is no period; the program's arguments refuse such a number.
+fn period_of(service: Service<'_>) -> Option<Period>
+    ensures { result ≡ period_of service.entry.tick }
+{
+    match service.tick {
+        Some(milliseconds) => Period::new(milliseconds),
+        None => None,
+    }
+}
+
+/// A desk serves its clients, as `serve_each` does. At its beginning it prints which desk it is, of
+/// how many, and how long its log is, and at its end how many clients came. With a period the desk
+/// gives itself Ticks.
 ///
 /// # Errors
 ///
-/// - `Down` where the desk is down, and `CannotListen` where a client can't be accepted: both lines
-///   are written.
-/// - `Write` where a line can't be written, and `NoMemory` where there is no memory for it. Where
-///   that is the first line, nobody is served.
-pub fn serve_node<K: Keeper + Drop, A: Accept, P: Peers, W: Write>(
+/// - `Down` where the desk is down, and `CannotListen` where the system tells nothing of the
+///   clients any more: both lines are written.
+/// - `Write` where a line can't be written.
+/// - `NoMemory` where there is no memory for a line, or for the clients; then both lines are
+///   written.
+///
+/// Where the first line can't be written, nobody is served.
+pub fn serve_node<K: Keeper + Drop, C: Clients, L: Links, W: Write>(
     alloc: Global,
-    listener: &mut A,
-    most: u32,
+    terms: Terms,
+    period: Option<Period>,
+    clients: &mut C,
     node: &mut Node<K>,
-    peers: &mut P,
-    wire: u8,
+    links: &mut L,
     writer: &mut W,
 ) -> Result<(), ServeFault>
-    requires version { IsVersion wire }
-    ensures ok { OnOk result (ServesNode K.Keeper P.Peers A.listened W.Write wire most
-        (stage node.old peers.old listener.old writer.old)
-        (stage node.new peers.new listener.new writer.new)) }
-    ensures err { IfErr result (FailsNode K.Keeper P.Peers A.listened W.Write wire most
-        (stage node.old peers.old listener.old writer.old)
-        (stage node.new peers.new listener.new writer.new)) }
+    ensures ok { OnOk result (ServesNode K.Keeper L.Peers C.happened W.Write terms period
+        (stage node.old links.old clients.old writer.old)
+        (stage node.new links.new clients.new writer.new)) }
+    ensures err { IfErr result (FailsNode K.Keeper L.Peers C.happened W.Write terms period
+        (stage node.old links.old clients.old writer.old)
+        (stage node.new links.new clients.new writer.new)) }
 {
     if let Err(fault) = tell_first(alloc, writer, node.home(), node.log().len()) {
         return Err(fault);
     }
-    let served = serve_all(alloc, listener, most, node, peers, wire);
+    let served = serve_each(alloc, terms, period, clients, node, links);
     if let Err(fault) = tell_last(alloc, writer, served.connections) {
         return Err(fault);
     }
-    told_end(served.end)
-}
-
-/// The first address of a text, an IP address or a host's name and a port.
-fn address_of<R: Net>(net: &R, text: &str) -> Option<SocketAddr> {
-    let Ok(mut found) = text.to_socket_addrs(net) else {
-        return None;
-    };
-    found.next()
-}
-
-/// The first addresses of these texts.
-fn addresses_of<R: Net>(net: &R, texts: &[&str]) -> [Option<SocketAddr>; 5] {
-    let mut addresses = [None; 5];
-    for (address, text) in addresses.iter_mut().zip(texts) {
-        *address = address_of(net, text);
-    }
-    addresses
-}
-
-/// Why the desk's address can't be had.
-fn no_listener(error: &io::Error) -> ServeFault
-    ensures { IsOfListener result }
-{
-    if error.kind() == ErrorKind::OutOfMemory {
-        return ServeFault::NoMemory;
-    }
-    ServeFault::CannotListen
-}
-
-/// Listens at the desk's address.
-fn listen(rt: &HostRuntime, service: Service<'_>) -> Result<Listener, ServeFault>
-    ensures { IfErr result IsOfListener }
-{
-    let place = usize::from(service.desk).saturating_sub(1);
-    let Some(address) = service.addresses.get(place) else {
-        return Err(ServeFault::CannotListen);
-    };
-    let patience = match service.patience {
-        Some(seconds) => Some(Duration::from_secs(u64::from(seconds))),
-        None => None,
-    };
-    match Listener::bind(rt, address, patience) {
-        Ok(listener) => Ok(listener),
-        Err(error) => Err(no_listener(&error)),
-    }
+    told_end(served.over)
 }
 
 /// A desk listens at its address and serves.
@@ -123,25 +111,26 @@ fn serve_there<K: Keeper + Drop, W: Write>(
     node: &mut Node<K>,
     writer: &mut W,
 ) -> Result<(), ServeFault>
-    requires version { IsVersion service.wire }
     ensures ok { OnOk result (ServesThere K.Keeper W.Write service.entry node.old node.new
         writer.old writer.new) }
     ensures err { IfErr result (FailsThere K.Keeper W.Write service.entry node.old node.new
         writer.old writer.new) }
 {
-    let mut listener = match listen(rt, service) {
-        Ok(listener) => listener,
+    let mut clients = match listen(rt, service) {
+        Ok(clients) => clients,
         Err(fault) => return Err(fault),
     };
-    let addresses = addresses_of(rt, service.addresses);
-    let mut peers = SocketPeers::new(rt, &addresses);
+    let mut links = match links_to(rt, service, &clients) {
+        Ok(links) => links,
+        Err(fault) => return Err(fault),
+    };
     serve_node(
         rt.alloc(),
-        &mut listener,
-        service.connections,
+        terms_of(service),
+        period_of(service),
+        &mut clients,
         node,
-        &mut peers,
-        service.wire,
+        &mut links,
         writer,
     )
 }
@@ -153,7 +142,6 @@ fn serve_kept<K: Keeper + Drop, W: Write>(
     keeper: K,
     writer: &mut W,
 ) -> Result<(), ServeFault>
-    requires version { IsVersion service.wire }
     requires allowed { IsAllowed service }
     requires place { K.home_of keeper ≡ home_of service }
     ensures ok { OnOk result
@@ -172,12 +160,13 @@ fn serve_kept<K: Keeper + Drop, W: Write>(
     serve_there(rt, service, &mut node, writer)
 }
 
-/// Opens a desk's file, listens at the desk's address, and serves the clients that come, one after
-/// the other; frames for other desks go to their addresses.
+/// Opens a desk's file, listens at the desk's address, and serves the clients that come, side by
+/// side; frames for other desks go to their addresses. On standard error it says when another desk
+/// can't be reached, and when it is reached again, unless `quiet` is asked for.
 ///
 /// Once it listens it prints `desk <d> of <n> len <len>`, and at its end `served <count>`. It ends
 /// once it has served as many connections as were asked for, where a client asks it to stop, and by
-/// a fault.
+/// a fault. Where a period is asked for, it gives itself Ticks.
 ///
 /// `S` stands for what the file held.
 ///
@@ -187,8 +176,8 @@ fn serve_kept<K: Keeper + Drop, W: Write>(
 ///   none of those: nothing is opened.
 /// - `WrongDesk`, `Damaged` and `Device` where the file can't be opened as this desk's store. A
 ///   file that another program has open is `Device`.
-/// - `CannotListen` where the desk's address can't be had, and where a client can't be accepted;
-///   then both lines are printed.
+/// - `CannotListen` where the desk's address can't be had, and where the system tells nothing of
+///   the clients any more; then both lines are printed.
 /// - `Down` where a save failed; both lines are printed.
 /// - `Write` where a line can't be written.
 /// - `NoMemory` where memory runs out.
@@ -198,7 +187,6 @@ pub fn serve<S: Start, W: Write>(
     start: S,
     writer: &mut W,
 ) -> Result<(), ServeFault>
-    requires version { IsVersion service.wire }
     ensures ok { OnOk result
         (Prints service.entry (output (W.contents writer.old) (W.contents writer.new))) }
     ensures err { IfErr result

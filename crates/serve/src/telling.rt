@@ -33,12 +33,12 @@ fn first_line(alloc: Global, home: Home, len: u32) -> Result<Vec<u8>, AllocError
     Ok(out)
 }
 
-/// How many connections were served.
-fn last_line(alloc: Global, connections: u32) -> Result<Vec<u8>, AllocError>
+/// How many clients came.
+fn last_line(alloc: Global, connections: u64) -> Result<Vec<u8>, AllocError>
     ensures { IfOk result (λ line. line.items ≡ last_line connections) }
 {
     let mut out = Vec::new(alloc);
-    push(&mut out, b"served ", u64::from(connections))?;
+    push(&mut out, b"served ", connections)?;
     out.extend_from_slice(b"\n")?;
     Ok(out)
 }
@@ -65,11 +65,11 @@ pub fn tell_first<W: Write>(
     }
 }
 
-/// Prints how many connections were served.
+/// Prints how many clients came.
 pub fn tell_last<W: Write>(
     alloc: Global,
     writer: &mut W,
-    connections: u32,
+    connections: u64,
 ) -> Result<(), ServeFault>
     ensures ok { OnOk result
         (Appends (W.contents writer.old) (W.contents writer.new) (last_line connections)) }

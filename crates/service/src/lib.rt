@@ -1,6 +1,8 @@
 //! What is asked of a desk that is to serve.
 #![tactic(auto)]
 
+use wire::Version;
+
 /// What is asked of a desk that is to serve.
 #[derive(Clone, Copy)]
 pub struct Service<'a> {
@@ -10,13 +12,17 @@ pub struct Service<'a> {
     pub desk: u8,
     /// The path of its store.
     pub store: &'a str,
-    /// How many connections are served.
-    pub connections: u32,
-    /// The version of the wire in which frames for other desks are pushed, 1 or 2.
-    pub wire: u8,
-    /// How many seconds a read waits for bytes of the client, and a write for the client to take
-    /// bytes; without it both wait as long as the connection stands.
-    pub patience: Option<u32>,
+    /// How many seconds a client may be silent, and take nothing of what is sent to it.
+    pub patience: u32,
+    /// How many connections are served; without it, as many as come.
+    pub connections: Option<u32>,
+    /// The version of the wire in which frames for other desks are pushed.
+    pub wire: Version,
+    /// The period of the desk's own Ticks, 100 to 60,000 milliseconds; without it, the desk gives
+    /// itself none.
+    pub tick: Option<u32>,
+    /// Whether no lines about other desks are written.
+    pub quiet: bool,
     /// Where the desks of the hall listen, in the order of their numbers.
     pub addresses: &'a [&'a str],
 }

@@ -7,13 +7,13 @@ use Rattle.learner.specs.declared.event.DeskEvent.TheVariants.{Deliver, Tick}
 use Rattle.wire.specs.declared.frame.What.{What}
 use Rattle.wire.specs.declared.frame.What.TheVariants as what
 use Rattle.store.specs.declared.home.Home.{Home}
-use Rattle.serving.specs.Making.{Way, Outside, outside_of, Makes}
+use Rattle.serving.specs.Making.{Way, Outside, Makes}
 use Rattle.serving.specs.Answering.{answer_of, answer_first, state, told_what, printed}
 use Rattle.serving.specs.model.Requests.{Answers, AnswersSome, FailsToAnswer}
 use Rattle.answers.specs.Seen.{Seen}
 use Rattle.serving.specs.Nodes.{Fate, reply}
 use Rattle.serving.specs.model.Reaching.{at, service, Reaches, DoesPart, DoesTake}
-use Rattle.serving.specs.Serving.{Act, Service, first_fate, take, begun, served, answer, pushes_of}
+use Rattle.serving.specs.Serving.{Act, Service, first_fate, take, begun, served, answer}
 use Rattle.serving.specs.Serving.{seen_after}
 use Rattle.serving.specs.declared.calls.Answer.{Answer}
 use Rattle.serving.specs.declared.request.Request.{Request}

@@ -1,6 +1,6 @@
 -- Entries that are delivered one after the other, and what comes of the last one.
 use Rattle.std.proofs.Common.{◌≡◌, refl, sym, ap, subst, ◌∙◌, ℕ, ◌+◌, Bool, true, false, cond, List}
-use Rattle.std.proofs.Common.{[], ◌∷◌, ◌++◌, Option, None, Result, Ok, Err}
+use Rattle.std.proofs.Common.{[], ◌∷◌, ◌++◌, Option}
 use Rattle.std.proofs.lemmas.List.{append-nil}
 use Rattle.acceptor.specs.declared.entry.Entry.{Entry}
 use Rattle.acceptor.specs.declared.message.Message.{Message}
@@ -8,12 +8,12 @@ use Rattle.store.specs.declared.home.Home.{Home}
 use Rattle.serving.specs.Adding.{Push}
 use Rattle.serving.specs.Making.{Way, Outside, outside_of, Makes}
 use Rattle.answers.specs.Seen.{Seen}
-use Rattle.serving.specs.Nodes.{Fate, reply}
+use Rattle.serving.specs.Nodes.{Fate}
 use Rattle.serving.specs.declared.calls.Answer.{Answer}
 use Rattle.serving.specs.declared.request.Run.{Run}
 use Rattle.serving.specs.declared.request.Request.TheVariants.{Learned}
 use Rattle.serving.specs.model.Calling.{Calls, IsCall, LosesMessages}
-use Rattle.serving.specs.model.Reaching.{Place, at, service, Reaches, did_call, OnlyAdds, Did, Does}
+use Rattle.serving.specs.model.Reaching.{Place, at, service, Reaches, did_call, OnlyAdds, Does}
 use Rattle.serving.specs.model.Reaching.{DoesPart}
 use Rattle.serving.specs.Serving.{Act, Service, waits, call, decided, unless_down, learn, learn_all}
 use Rattle.serving.specs.Serving.{settle_by}

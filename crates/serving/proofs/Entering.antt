@@ -1,5 +1,5 @@
 -- An entry that is handed in, and Start behind it.
-use Rattle.std.proofs.Common.{◌≡◌, refl, sym, ap, subst, ◌∙◌, ℕ, List, [], ◌∷◌, ◌++◌, Option, Some}
+use Rattle.std.proofs.Common.{◌≡◌, refl, sym, ap, subst, ◌∙◌, ℕ, List, [], ◌∷◌, Option, Some}
 use Rattle.std.proofs.Common.{Result, Ok, Err}
 use Rattle.std.proofs.lemmas.List.{append-nil}
 use Rattle.acceptor.specs.declared.entry.Entry.{Entry}
@@ -12,16 +12,16 @@ use Rattle.store.specs.declared.home.Home.{Home}
 use Rattle.wire.specs.declared.frame.What.{What}
 use Rattle.wire.specs.declared.frame.What.TheVariants as what
 use Rattle.serving.specs.Adding.{Push}
-use Rattle.serving.specs.Making.{Way, Outside, outside_of, Makes}
+use Rattle.serving.specs.Making.{Way, Outside, outside_of}
 use Rattle.serving.specs.Answering.{answer_of, answer_first}
 use Rattle.serving.specs.model.Calling.{Calls, IsCall, LosesMessages}
 use Rattle.serving.specs.model.Requests.{AnswersSome}
 use Rattle.answers.specs.Seen.{Seen}
 use Rattle.serving.specs.Nodes.{Fate, reply}
-use Rattle.serving.specs.model.Reaching.{Place, at, service, Reaches, did_call, OnlyAdds, Did, Does}
+use Rattle.serving.specs.model.Reaching.{at, service, Reaches, did_call, OnlyAdds, Did, Does}
 use Rattle.serving.specs.model.Reaching.{DoesPart}
-use Rattle.serving.specs.Serving.{Act, Called, Service, first_fate, call, settle_by, settle}
-use Rattle.serving.specs.Serving.{entered_by, enter, begun, pushes_of, waiting_after}
+use Rattle.serving.specs.Serving.{Service, call, settle_by, settle}
+use Rattle.serving.specs.Serving.{entered_by, enter, waiting_after}
 use Rattle.serving.specs.declared.calls.Answer.{Answer}
 use Rattle.serving.specs.declared.calls.Answer.TheVariants.{Taken, Refused}
 use Rattle.serving.specs.declared.request.Request.TheVariants.{Entered}

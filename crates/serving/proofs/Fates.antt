@@ -13,7 +13,6 @@ use Rattle.serving.specs.model.Calling.{Calls, IsCall, LosesMessages}
 use Rattle.serving.specs.declared.calls.Answer.{Answer}
 use Rattle.serving.specs.Answering.{answer_of}
 use Rattle.serving.specs.Serving.{waiting_after}
-use Rattle.serving.specs.declared.calls.Answer.TheVariants.{Refused}
 use Rattle.store.specs.declared.home.Home.{Home}
 use Rattle.roles.specs.declared.fault.NodeFault.{NodeFault}
 use Rattle.roles.specs.declared.fault.NodeFault.TheVariants.{Busy, LogFull, BallotsSpent, NoMemory}

@@ -18,4 +18,5 @@ pub mod Said
 pub mod Delivered
 pub mod Told
 pub mod OneFrame
+pub mod OwnTicks
 pub mod Sheets

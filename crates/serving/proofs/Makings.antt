@@ -1,5 +1,5 @@
 -- Calls and pushes that are made, one after the other.
-use Rattle.std.proofs.Common.{◌≡◌, refl, sym, ap, subst, ◌∙◌, ℕ, List, [], ◌∷◌, ◌++◌, map, Option}
+use Rattle.std.proofs.Common.{◌≡◌, refl, sym, ap, subst, ℕ, List, [], ◌∷◌, ◌++◌, map, Option}
 use Rattle.std.proofs.lemmas.List.{append-nil}
 use Rattle.acceptor.specs.declared.message.Message.{Message}
 use Rattle.learner.specs.declared.event.DeskEvent.{DeskEvent}
@@ -8,7 +8,7 @@ use Rattle.serving.specs.Adding.{Push, Hands}
 use Rattle.wire.specs.declared.values.Version.{Version}
 use Rattle.serving.specs.Making.{Handling, Way, Call, calls_of, Lead, Outside, outside_of, Makes}
 use Rattle.answers.specs.Seen.{Seen}
-use Rattle.serving.specs.Nodes.{Fate, reply}
+use Rattle.serving.specs.Nodes.{Fate}
 use Rattle.serving.specs.Telling.{run_pushed}
 use Rattle.serving.specs.Serving.{Act, Called, Pushed, Answered, pushed, pushes_of}
 use Rattle.serving.specs.model.Calling.{IsCall}

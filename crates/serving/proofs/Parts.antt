@@ -15,7 +15,7 @@ use Rattle.serving.specs.Nodes.{Fate, reply}
 use Rattle.serving.specs.model.Pushing.{PushesPart}
 use Rattle.serving.specs.model.Reaching.{Place, at, service, Reaches, did_call, OnlyAdds, Did}
 use Rattle.serving.specs.model.Reaching.{DoesPart}
-use Rattle.serving.specs.Serving.{Act, Called, Pushed, Service, pushes_of, call, settle_by, deliver}
+use Rattle.serving.specs.Serving.{Act, Pushed, Service, call, settle_by, deliver}
 use Rattle.serving.specs.Serving.{push_all, in_front, from_own, to_others, waiting_after}
 use Rattle.serving.proofs.Additions.{adds_both, adds_deliver, adds_settle}
 use Rattle.serving.proofs.Makings.{Makes-nil, Makes-trans, Makes-pushes, Makes-call}

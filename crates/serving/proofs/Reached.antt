@@ -14,7 +14,7 @@ use Rattle.answers.specs.Seen.{Seen}
 use Rattle.serving.specs.Nodes.{Fate}
 use Rattle.serving.specs.model.Pushing.{Leads}
 use Rattle.serving.specs.model.Reaching.{Place, at, service, Reaches, did_call, Did, Does, DoesCall}
-use Rattle.serving.specs.Serving.{Act, Called, Pushed, Service, pushed, pushes_of, seen_after, call}
+use Rattle.serving.specs.Serving.{Act, Pushed, Service, seen_after, call}
 use Rattle.serving.specs.Serving.{settle_by, deliver, push_all, in_front, from_own, to_others}
 use Rattle.serving.proofs.Makings.{Makes-trans, Makes-call}
 

@@ -1,5 +1,5 @@
 -- A request that has no answer: what is done for it, and Start behind it.
-use Rattle.std.proofs.Common.{◌≡◌, ◌∙◌, ℕ, List, [], ◌++◌, length, Option, None}
+use Rattle.std.proofs.Common.{◌≡◌, ◌∙◌, ℕ, List, [], ◌++◌, length, None}
 use Rattle.store.specs.declared.home.Home.{Home}
 use Rattle.serving.specs.Making.{Way, Outside}
 use Rattle.answers.specs.Seen.{Seen}

@@ -1,6 +1,6 @@
 -- A run of entries: what is gathered, the frame that it is, and what comes of it.
-use Rattle.std.proofs.Common.{◌≡◌, refl, sym, ap, subst, ◌∙◌, ℕ, zero, suc, ◌+◌, ◌≤◌, ◌<◌, ◌^◌}
-use Rattle.std.proofs.Common.{Bool, true, false, cond, eqb, ltb, List, [], ◌∷◌, ◌++◌, length, take}
+use Rattle.std.proofs.Common.{◌≡◌, refl, sym, ap, subst, ◌∙◌, ℕ, suc, ◌+◌, ◌≤◌, ◌<◌, ◌^◌}
+use Rattle.std.proofs.Common.{Bool, true, false, cond, eqb, List, [], ◌∷◌, ◌++◌, length}
 use Rattle.std.proofs.Common.{Option, None, Some, append_assoc, arith}
 use Rattle.std.specs.List.{AllByRecursion}
 use Rattle.std.proofs.lemmas.Bool.{eqb-true, ltb-true}
@@ -11,7 +11,6 @@ use Rattle.acceptor.specs.declared.message.Body.TheVariants as body
 use Rattle.acceptor.specs.declared.message.Message.{Message}
 use Rattle.learner.specs.Ranges.{AreInRange, IsInRange}
 use Rattle.learner.specs.Steps.{is_in_range}
-use Rattle.learner.specs.declared.event.DeskEvent.{DeskEvent}
 use Rattle.learner.specs.declared.event.DeskEvent.TheVariants.{Deliver}
 use Rattle.store.specs.declared.home.Home.{Home}
 use Rattle.wire.specs.declared.frame.Frame.{Frame}
@@ -23,7 +22,7 @@ use Rattle.serving.specs.Adding.{Push, Hands}
 use Rattle.serving.specs.Making.{Way, Outside, outside_of, Makes}
 use Rattle.answers.specs.Seen.{Seen}
 use Rattle.serving.specs.Nodes.{Fate}
-use Rattle.serving.specs.Serving.{Act, Answered, Service, call, settle_by, settle, hand_out}
+use Rattle.serving.specs.Serving.{Act, Answered, Service, call, settle_by, hand_out}
 use Rattle.serving.specs.Serving.{answer_out, tell}
 use Rattle.serving.specs.Telling.{with_entry, decided_at, entry_told, entries_told, entries_said}
 use Rattle.serving.specs.Telling.{run_of, run_frame, run_pushed}
@@ -32,10 +31,10 @@ use Rattle.serving.specs.declared.request.Run.{Run}
 use Rattle.serving.specs.declared.request.Request.TheVariants.{Lagging}
 use Rattle.serving.specs.model.Calling.{Calls, IsCall, LosesMessages}
 use Rattle.serving.specs.model.Gathering.{Gathers, IsRun}
-use Rattle.serving.specs.model.Reaching.{Place, at, service, Reaches, did_call, OnlyAdds, Did, Does}
+use Rattle.serving.specs.model.Reaching.{at, service, Reaches, did_call, OnlyAdds, Does}
 use Rattle.serving.specs.model.Reaching.{DoesPart}
 use Rattle.serving.proofs.Additions.{adds_settle}
-use Rattle.serving.proofs.Makings.{Makes-nil, Makes-trans, Makes-call}
+use Rattle.serving.proofs.Makings.{Makes-trans, Makes-call}
 use Rattle.serving.proofs.Parts.{part_of, lost}
 use Rattle.serving.proofs.Reached.{stays, goes_on, calls_once}
 use Rattle.serving.proofs.Said.{IsSaid}

@@ -1,23 +1,22 @@
 -- What holds after each turn of a connection.
-use Rattle.std.proofs.Common.{◌≡◌, inl, inr, refl, sym, ap, subst, ◌∙◌, ℕ, ◌+◌, ◌<◌, ◌≤◌, List, []}
+use Rattle.std.proofs.Common.{◌≡◌, inl, inr, refl, sym, ap, subst, ◌∙◌, ℕ, ◌<◌, ◌≤◌, List, []}
 use Rattle.std.proofs.Common.{◌∷◌, ◌++◌, length, length-append, Option, None, Some, arith}
 use Rattle.std.proofs.lemmas.List.{append-nil, append_assoc}
 use Rattle.std.specs.List.{flat_map, AllByRecursion}
 use Rattle.answers.specs.declared.desk.Desk.{Ghosts as DeskOf}
-use Rattle.answers.specs.Seen.{Seen}
 use Rattle.store.specs.declared.home.Home.{Home}
 use Rattle.wire.specs.declared.fault.WireFault.{WireFault}
 use Rattle.wire.specs.declared.frame.Frame.{Frame}
 use Rattle.wire.specs.Ranges.{IsFrame}
 use Rattle.wire.specs.Spelling.{spelling}
-use Rattle.wire.specs.Stream.{Breaks, Feeds, IsBegun, IsKept, IsOfStream, Reader, Waits, front}
+use Rattle.wire.specs.Stream.{IsBegun, IsKept, Reader, front}
 use Rattle.wire.specs.Stream.{holding, keeps}
 use Rattle.serving.specs.declared.ends.End.{End}
 use Rattle.serving.specs.declared.ends.End.TheVariants as end
 use Rattle.serving.specs.Connection.{Begun, AreBegun, Sides, sides, Serves, frames_of}
-use Rattle.serving.specs.Making.{Way, Outside, speaking}
-use Rattle.serving.specs.Turns.{Talk, BeginsNext, LeavesAt, OnlyReads, ReadsTo, Receives, Rests}
-use Rattle.serving.specs.Turns.{RunsOut, WantsRead, after_sent, broken_by, ended, new_talk}
+use Rattle.serving.specs.Making.{Way, Outside}
+use Rattle.serving.specs.Turns.{Talk, BeginsNext, LeavesAt, OnlyReads, ReadsTo}
+use Rattle.serving.specs.Turns.{RunsOut, WantsRead, after_sent, broken_by, new_talk}
 use Rattle.serving.specs.TurnLaw.{AreServed, Came, Began, Follow, IsQuiet, Place, Rested, Stands}
 use Rattle.serving.specs.TurnLaw.{Took, Turn, Turns, TurnsServe, came_in, handed_out, received}
 use Rattle.serving.specs.TurnLaw.{sides_in, taken_in}

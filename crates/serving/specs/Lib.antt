@@ -9,4 +9,5 @@ pub mod Connection
 pub mod Sessions
 pub mod Turns
 pub mod TurnLaw
+pub mod OwnTicks
 pub mod model

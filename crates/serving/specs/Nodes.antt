@@ -1,5 +1,5 @@
 -- What is seen of a desk while it serves, and what a call of it may come to.
-use Rattle.std.specs.Prelude.{Bool, true, if◌then◌else◌, List, Result, Ok, Err}
+use Rattle.std.specs.Prelude.{true, if◌then◌else◌, List, Result, Ok, Err}
 use Rattle.acceptor.specs.declared.message.Message.{Message}
 use Rattle.proposer.specs.declared.fault.Refusal.{Refusal}
 use Rattle.learner.specs.declared.event.DeskEvent.{DeskEvent}

@@ -42,8 +42,8 @@ impl Session {
         Ok(())
     }
 
-    /// A client gives the desk a tick.
-    fn tick<D: Desk, P: Peers>(self, node: &mut D, peers: &mut P) -> Result<What, NoMemory>
+    /// The desk is given a Tick, and this is what a client is answered that gave it.
+    pub fn tick<D: Desk, P: Peers>(self, node: &mut D, peers: &mut P) -> Result<What, NoMemory>
         requires home { D.home_of node.old ≡ self.home }
         ensures ok { IfOk result (Ticks D.Desk P.Peers self
             (desks node.old peers.old) (desks node.new peers.new)) }

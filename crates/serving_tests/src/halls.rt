@@ -1,18 +1,16 @@
-//! A hall of three desks over TCP and over files, in one process without threads: each desk in turn
-//! serves the connections that wait for it.
+//! A hall of three desks over files, in one process without threads: each desk in turn serves the
+//! connections that wait for it.
 
 ghost use Rattle.std.specs.Prelude.{None};
 
-use crate::sockets_of_one::{expect, send};
+use crate::frames::expect;
 use crate::stores::{Stores, open};
 use node::Node;
-use serving::Peers;
-use sockets::{AllEnd, Listener, SocketPeers, serve_all};
+use serving::{End, Peers, serve_connection};
 use sqlite::{Alter, Connection, Error, File, FileStore};
 use std::alloc::Global;
-use std::fs;
-use std::net::{SocketAddr, TcpStream};
 use std::test::Fail;
+use std::{fs, mem};
 use store::keeper::Keeper;
 use store::sql::SqlKeeper;
 
@@ -36,31 +34,59 @@ impl Stores for InFiles<'_> {
     }
 }
 
-/// Pushes frames over TCP, and counts the connections that wait for each desk.
+/// The connections that wait for each desk, at its number: the bytes that come on each.
 #[derive(Drop)]
-struct Counting<'a> {
-    peers: SocketPeers<'a, HostRuntime>,
-    waiting: [u32; 4],
+struct Waiting {
+    alloc: Global,
+    connections: [Vec<Vec<u8>>; 4],
 }
 
-impl Peers for Counting<'_> {
+impl Waiting {
+    fn new(alloc: Global) -> Waiting {
+        Waiting {
+            alloc,
+            connections: [
+                Vec::new(alloc),
+                Vec::new(alloc),
+                Vec::new(alloc),
+                Vec::new(alloc),
+            ],
+        }
+    }
+
+    /// A connection waits for a desk. It is lost where memory is refused.
+    fn add(&mut self, desk: u8, bytes: &[u8]) {
+        if let Some(connections) = self.connections.get_mut(usize::from(desk)) {
+            if let Ok(copy) = Vec::from_slice(self.alloc, bytes) {
+                let _ = connections.push(copy);
+            }
+        }
+    }
+
+    /// Takes the connections that wait for a desk.
+    fn take(&mut self, desk: u8) -> Vec<Vec<u8>> {
+        let none = Vec::new(self.alloc);
+        match self.connections.get_mut(usize::from(desk)) {
+            Some(connections) => mem::replace(connections, none),
+            None => none,
+        }
+    }
+}
+
+impl Peers for Waiting {
     ghost use Rattle.std.specs.Prelude.{None};
 
     ghost handed = { λ _. None };
 
     fn push(&mut self, to: u8, frame: &[u8]) {
-        if let Some(waiting) = self.waiting.get_mut(usize::from(to)) {
-            *waiting = waiting.saturating_add(1);
-        }
-        self.peers.push(to, frame);
+        self.add(to, frame);
     }
 }
 
-/// A desk, and where it listens.
+/// A desk.
 #[derive(Drop)]
 struct Place<K: Keeper> {
     number: u8,
-    listener: Listener,
     node: Node<K>,
 }
 
@@ -69,33 +95,32 @@ struct Place<K: Keeper> {
 fn serve_waiting<K: Keeper + Drop>(
     alloc: Global,
     place: &mut Place<K>,
-    hall: &mut Counting<'_>,
+    hall: &mut Waiting,
 ) -> Result<bool, Fail> {
-    let Some(waiting) = hall.waiting.get_mut(usize::from(place.number)) else {
-        return Ok(false);
-    };
-    let count = *waiting;
-    *waiting = 0;
     let wire = if place.number == 1 { 1 } else { 2 };
-    let served = serve_all(
-        alloc,
-        &mut place.listener,
-        count,
-        &mut place.node,
-        hall,
-        wire,
-    );
-    if served.end != AllEnd::All {
-        return Err(Fail::from("not all were served"));
+    let waiting = hall.take(place.number);
+    for bytes in waiting.iter() {
+        let mut answers = Vec::new(alloc);
+        let served = serve_connection(
+            alloc,
+            bytes.as_slice(),
+            &mut answers,
+            &mut place.node,
+            hall,
+            wire,
+        );
+        if served.end != End::End {
+            return Err(Fail::from("a connection did not end well"));
+        }
     }
-    Ok(count > 0)
+    Ok(!waiting.is_empty())
 }
 
 /// Each desk in turn serves what waits for it, so often or until nothing waits.
 fn serve_rounds<K: Keeper + Drop>(
     alloc: Global,
     places: &mut [Place<K>],
-    hall: &mut Counting<'_>,
+    hall: &mut Waiting,
     most: u32,
 ) -> Result<(), Fail> {
     for _ in 0..most {
@@ -123,21 +148,6 @@ fn submits(alloc: Global, first: u64, behind: u64) -> Result<Vec<u8>, Fail> {
     Ok(frames)
 }
 
-/// A client that hands in commands with these ids at once. It has to stay until it is answered.
-fn hand_in(
-    rt: &HostRuntime,
-    hall: &mut Counting<'_>,
-    addresses: &[Option<SocketAddr>],
-    first: u64,
-    behind: u64,
-) -> Result<TcpStream, Fail> {
-    let Some(Some(address)) = addresses.first() else {
-        return Err(Fail::from("no address"));
-    };
-    hall.waiting = [0, 1, 0, 0];
-    send(rt, address, &submits(rt.alloc(), first, behind)?)
-}
-
 /// Each desk's log has the ids from 1 on, in their order, and is so long.
 fn have_all<K: Keeper + Drop>(places: &[Place<K>], length: u32) -> Result<(), Fail> {
     expect(places.len() == 3, "three desks")?;
@@ -152,24 +162,20 @@ fn have_all<K: Keeper + Drop>(places: &[Place<K>], length: u32) -> Result<(), Fa
     Ok(())
 }
 
-/// Closes the desk at this place, in the middle of what it has to learn; its listener stays.
+/// Closes the desk at this place, in the middle of what it has to learn.
 fn close<K: Keeper + Drop>(
     places: &mut Vec<Place<K>>,
     index: usize,
     learned: (u32, u32),
-) -> Result<Listener, Fail> {
+) -> Result<(), Fail> {
     if index >= places.len() {
         return Err(Fail::from("no such desk"));
     }
-    let Place {
-        number: _,
-        listener,
-        node,
-    } = places.swap_remove(index);
-    if node.log().len() <= learned.0 || learned.1 <= node.log().len() {
-        return Err(Fail::from("not in the middle"));
-    }
-    Ok(listener)
+    let length = places.swap_remove(index).node.log().len();
+    expect(
+        learned.0 < length && length < learned.1,
+        "closed in the middle",
+    )
 }
 
 /// Opens a desk over its store.
@@ -178,28 +184,23 @@ fn join<S: Alter + Drop>(
     places: &mut Vec<Place<SqlKeeper<S>>>,
     found: Result<Connection<S>, Error>,
     number: u8,
-    listener: Listener,
 ) -> Result<(), Fail> {
     let place = Place {
         number,
-        listener,
         node: open(alloc, found, number)?,
     };
     places.push(place)?;
     Ok(())
 }
 
-/// Opens three desks, and tells where they listen.
+/// Opens three desks.
 fn join_all<D: Stores>(
-    rt: &HostRuntime,
+    alloc: Global,
     stores: &D,
     places: &mut Vec<Place<SqlKeeper<D::Store>>>,
-    addresses: &mut Vec<Option<SocketAddr>>,
 ) -> Result<(), Fail> {
     for number in 1..4 {
-        let listener = Listener::bind(rt, "127.0.0.1:0", None)?;
-        addresses.push(Some(listener.address()?))?;
-        join(rt.alloc(), places, stores.find(number), number, listener)?;
+        join(alloc, places, stores.find(number), number)?;
     }
     Ok(())
 }
@@ -207,40 +208,34 @@ fn join_all<D: Stores>(
 /// The hall decides 20 commands. Then it takes a burst of 30, and desk 2 is closed and opened again
 /// on its file while they are decided.
 fn decide<D: Stores>(
-    rt: &HostRuntime,
+    alloc: Global,
     stores: &D,
     places: &mut Vec<Place<SqlKeeper<D::Store>>>,
-    addresses: &[Option<SocketAddr>],
 ) -> Result<(), Fail> {
-    let alloc = rt.alloc();
-    let mut hall = Counting {
-        peers: SocketPeers::new(rt, addresses),
-        waiting: [0; 4],
-    };
-    let _first = hand_in(rt, &mut hall, addresses, 1, 21)?;
+    let mut hall = Waiting::new(alloc);
+    hall.add(1, &submits(alloc, 1, 21)?);
     serve_rounds(alloc, places, &mut hall, 1000)?;
     have_all(places, 20)?;
-    let _second = hand_in(rt, &mut hall, addresses, 21, 51)?;
+    hall.add(1, &submits(alloc, 21, 51)?);
     serve_rounds(alloc, places, &mut hall, 5)?;
-    let listener = close(places, 1, (20, 50))?;
-    join(alloc, places, stores.find(2), 2, listener)?;
+    close(places, 1, (20, 50))?;
+    join(alloc, places, stores.find(2), 2)?;
     serve_rounds(alloc, places, &mut hall, 1000)?;
     have_all(places, 50)
 }
 
 /// Three desks over these stores decide what clients hand in.
-fn decide_over<D: Stores>(rt: &HostRuntime, stores: &D) -> Result<(), Fail> {
-    let mut places = Vec::new(rt.alloc());
-    let mut addresses = Vec::new(rt.alloc());
-    join_all(rt, stores, &mut places, &mut addresses)?;
-    decide(rt, stores, &mut places, &addresses)
+fn decide_over<D: Stores>(alloc: Global, stores: &D) -> Result<(), Fail> {
+    let mut places = Vec::new(alloc);
+    join_all(alloc, stores, &mut places)?;
+    decide(alloc, stores, &mut places)
 }
 
 #[test]
 fn three_desks_decide_a_burst(rt: HostRuntime) -> Result<(), Fail> {
     let _ = fs::remove_dir_all(&rt, "desk_hall_files");
     fs::create_dir(&rt, "desk_hall_files")?;
-    decide_over(&rt, &InFiles { rt: &rt })?;
+    decide_over(rt.alloc(), &InFiles { rt: &rt })?;
     fs::remove_dir_all(&rt, "desk_hall_files")?;
     Ok(())
 }

@@ -2,7 +2,7 @@
 
 ghost use Rattle.std.specs.Prelude.{None};
 
-use crate::sockets_of_one::{FINE, Nobody, STOP, TAKEN_PENDING, TICK, expect};
+use crate::frames::{FINE, Nobody, STOP, TAKEN_PENDING, TICK, expect};
 use multiplex::{
     Accepted, Clients, Given, Links, Over, Ready, ServedEach, Taken, Terms, serve_each,
 };
@@ -14,7 +14,7 @@ use wire::Version;
 
 /// What comes next.
 #[derive(Clone, Copy)]
-enum Coming {
+pub(crate) enum Coming {
     /// Another client.
     Another,
     /// This client, which gives these bytes.
@@ -27,23 +27,39 @@ enum Coming {
 
 /// To hall 7 and desk 1: Submit of the text `CLOSE 333 1` under the id 5, and Ask for it, cut
 /// within the first frame.
-const FRONT: &[u8] = b"\0\0\0\x1d\x01\0\0\0\x07\0\x01\x10\0\0\0\0\0\0\0\x05";
+pub(crate) const FRONT: &[u8] = b"\0\0\0\x1d\x01\0\0\0\x07\0\x01\x10\0\0\0\0\0\0\0\x05";
 
-const REST: &[u8] = b"\0\x0bCLOSE 333 1\0\0\0\x10\x01\0\0\0\x07\0\x01\x11\0\0\0\0\0\0\0\x05";
+pub(crate) const REST: &[u8] =
+    b"\0\x0bCLOSE 333 1\0\0\0\x10\x01\0\0\0\x07\0\x01\x11\0\0\0\0\0\0\0\x05";
 
 /// How many bytes a client takes at once.
 const AT_ONCE: usize = 7;
 
 /// Clients that do what the script says.
 #[derive(Drop)]
-struct Script {
+pub(crate) struct Script {
     coming: &'static [Coming],
     piece: &'static [u8],
     /// What the clients with the numbers 0 and 1 took.
-    first: Vec<u8>,
-    second: Vec<u8>,
+    pub(crate) first: Vec<u8>,
+    pub(crate) second: Vec<u8>,
     /// Whose connections were ended, in order.
     closed: Vec<u64>,
+    /// For how long it was to be waited, each time that something could come.
+    pub(crate) waits: Vec<u64>,
+}
+
+impl Script {
+    pub(crate) fn new(alloc: Global, coming: &'static [Coming]) -> Script {
+        Script {
+            coming,
+            piece: b"",
+            first: Vec::new(alloc),
+            second: Vec::new(alloc),
+            closed: Vec::new(alloc),
+            waits: Vec::new(alloc),
+        }
+    }
 }
 
 impl Clients for Script {
@@ -51,7 +67,8 @@ impl Clients for Script {
 
     ghost happened = { λ _. None };
 
-    fn ready(&mut self, _wait: u64) -> Ready {
+    fn ready(&mut self, wait: u64) -> Ready {
+        let _ = self.waits.push(wait);
         self.piece = b"";
         let Some((next, rest)) = self.coming.split_first() else {
             return Ready::Failed;
@@ -145,10 +162,11 @@ fn check_three(
         most: u64::MAX,
         patience: 30_000,
     };
-    let served = serve_each(alloc, terms, script, node, &mut Nobody);
+    let served = serve_each(alloc, terms, None, script, node, &mut Nobody);
     let stopped = ServedEach {
         connections: 3,
         over: Over::Stopped,
+        starved: false,
     };
     expect(
         served == stopped,
@@ -172,13 +190,7 @@ fn check_three(
 #[test]
 fn serves_three_clients_side_by_side(rt: HostRuntime) -> Result<(), Fail> {
     let alloc = rt.alloc();
-    let mut script = Script {
-        coming: THREE,
-        piece: b"",
-        first: Vec::new(alloc),
-        second: Vec::new(alloc),
-        closed: Vec::new(alloc),
-    };
+    let mut script = Script::new(alloc, THREE);
     let mut node = Node::open(alloc, MemoryKeeper::new(alloc, 7, 1, 3)?)?;
     check_three(alloc, &mut script, &mut node)
 }

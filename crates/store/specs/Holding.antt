@@ -74,9 +74,9 @@ pub record Holds (home : Home) (db : Trees) (s : Stored) (log : List Entry) : Ty
 
 -- a row that a query gives begins with the columns of this desk
 abbrev pub IsRowOf : Row → Home → Type 0
-IsRowOf row home =
-    (column row 0 ≡ Int (pos 1)) × (column row 1 ≡ Int (pos home.hall))
-    × (column row 2 ≡ Int (pos home.desk)) × (column row 3 ≡ Int (pos home.desks))
+IsRowOf held home =
+    (column held 0 ≡ Int (pos 1)) × (column held 1 ≡ Int (pos home.hall))
+    × (column held 2 ≡ Int (pos home.desk)) × (column held 3 ≡ Int (pos home.desks))
 
 -- a row that a query gives has a ballot in two columns from a place on
 abbrev pub HasBallot : Row → ℕ → Ballot → Type 0

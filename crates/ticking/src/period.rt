@@ -9,7 +9,7 @@ use std::marker::Model;
 /// The period of a desk's ticks: 100 to 60,000 milliseconds.
 ///
 /// A contract sees the number of milliseconds.
-#[derive(Clone, Copy, Debug, PartialEq, Eq, Drop)]
+#[derive(Clone, Copy, Debug, PartialEq, Eq)]
 pub struct Period {
     milliseconds: u32,
 }

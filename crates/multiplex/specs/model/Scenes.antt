@@ -6,7 +6,7 @@ use Rattle.serving.specs.Making.{speaking}
 use Rattle.serving.specs.Turns.{new_talk}
 use Rattle.store.specs.declared.home.Home.{Home}
 use Rattle.wire.specs.declared.values.Version.{Version}
-use Rattle.multiplex.specs.Happenings.{Happened, Tells, Closed, Named}
+use Rattle.multiplex.specs.Happenings.{Happened, Tells, Closed, Named, Round}
 use Rattle.multiplex.specs.Passing.{Change, Changes, Lobby, Pass, Room, Step, Takes, guest, lobby}
 use Rattle.multiplex.specs.Passing.{over_by, told, told_all, told_change}
 use Rattle.multiplex.specs.declared.ends.Over.{Over}
@@ -14,11 +14,11 @@ use Rattle.multiplex.specs.declared.ends.Why.{Why}
 use Rattle.multiplex.specs.declared.table.Guest.{Guest}
 use Rattle.multiplex.specs.declared.table.Table.{Table}
 use Rattle.multiplex.specs.declared.table.Terms.{Terms}
-use Rattle.multiplex.specs.Scenes.{Scene, in_room}
+use Rattle.multiplex.specs.Scenes.{Scene, in_room, scene}
 use Rattle.multiplex.specs.model.Visiting.{Spot, TalksOn, spot}
 
 abbrev pub lobby_of : Table → Option Over → Lobby
-lobby_of t over = lobby t.guests.items t.next t.time over
+lobby_of t over = lobby t.guests.items t.next t.time t.own over
 
 abbrev pub room_of : {V U C : Type 0} → (d : DeskOf V) → PeersOf U → (version : Version) → Table
     → Option Over → Scene V U C → Room (speaking d.handles version)
@@ -32,6 +32,7 @@ pub record Loses {C : Type 0} (happened : C → Option (List Happened)) (over : 
   pub left : new.guests.items ≡ before ++ after
   pub next : new.next ≡ old.next
   pub time : new.time ≡ old.time
+  pub own : new.own ≡ old.own
   pub ends : over ≡ over_by gone.talk.end
   pub told : Tells (happened c) (happened later) (Closed gone.number ∷ [])
 
@@ -76,6 +77,7 @@ pub record Welcomes {C : Type 0} (happened : C → Option (List Happened)) (home
     (wire : Version) (old new : Table) (c later : C) : Type 0 where
   pub next : new.next ≡ old.next + 1
   pub time : new.time ≡ old.time
+  pub own : new.own ≡ old.own
   pub either :
       ((new.guests.items ≡ old.guests.items ++ guest old.next (new_talk home wire) old.time ∷ [])
       × Tells (happened c) (happened later) [])
@@ -118,3 +120,10 @@ abbrev pub Does : {V U C : Type 0} → DeskOf V → PeersOf U → (C → Option 
     → Terms → Option Over → Table → Table → Scene V U C → Scene V U C → Type 0
 Does d p happened home t over old new a b =
     (steps : List Step) × Steps d p happened home t over old new a b steps
+
+-- a round was over, which is told, and steps were taken
+abbrev pub DoesRound : {V U C : Type 0} → DeskOf V → PeersOf U → (C → Option (List Happened)) → Home
+    → Terms → ℕ → Option Over → Table → Table → Scene V U C → Scene V U C → Type 0
+DoesRound {V} {U} {C} d p happened home t now over old new a b =
+    (c : C) → Tells (happened c) (happened a.clients) (Round now ∷ [])
+    → Does d p happened home t over old new (scene a.node a.peers c) b

@@ -11,5 +11,5 @@ returns c =
     (c.option-first_id.ensures.rule
     ∙ ap (λ p. option_rule (codes "first-id") (Some p)) c.unsigned.ensures)
     c.in_ok-command-2.ensures.app c.in_ok-command-2.ensures.local in
-    added_last c.with_argument-2.result c.in_ok-command-2.command _ c.wait_flag.result _ one
-    c.wait_flag.ensures.rule c.with_argument-2.ensures.app c.with_argument-2.ensures.local
+    added_last c.with_argument-2.result c.in_ok-command-2.command _ c.flag-wait.result _ one
+    c.flag-wait.ensures.rule c.with_argument-2.ensures.app c.with_argument-2.ensures.local

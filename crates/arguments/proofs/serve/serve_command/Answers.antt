@@ -22,17 +22,26 @@ returns c =
     ∙ ap (λ p. option_rule (codes "store") (Some p)) c.string.ensures)
     c.in_ok-command-3.ensures.app c.in_ok-command-3.ensures.local in
     let four =
-    added c.in_ok-command-3.command c.in_ok-command-4.command _ c.option-connections.result _ three
-    (c.option-connections.ensures.rule
-    ∙ ap (λ p. option_rule (codes "connections") (Some p)) c.unsigned-3.ensures)
-    c.in_ok-command-4.ensures.app c.in_ok-command-4.ensures.local in
+    added c.in_ok-command-3.command c.in_ok-command-4.command _
+    c.optional_number-patience.result _ three
+    c.optional_number-patience.ensures.rule c.in_ok-command-4.ensures.app
+    c.in_ok-command-4.ensures.local in
     let five =
-    added c.in_ok-command-4.command c.in_ok-command-5.command _ c.patience_option.result _ four
-    c.patience_option.ensures.rule c.in_ok-command-5.ensures.app
+    added c.in_ok-command-4.command c.in_ok-command-5.command _
+    c.optional_number-connections.result _ four
+    c.optional_number-connections.ensures.rule c.in_ok-command-5.ensures.app
     c.in_ok-command-5.ensures.local in
     let six =
-    added c.in_ok-command-5.command c.in_ok-command-6.command _ c.wire_option.result _ five
-    c.wire_option.ensures.rule c.in_ok-command-6.ensures.app
+    added c.in_ok-command-5.command c.in_ok-command-6.command _ c.optional_number-wire.result _ five
+    c.optional_number-wire.ensures.rule c.in_ok-command-6.ensures.app
     c.in_ok-command-6.ensures.local in
-    added_last c.with_argument-7.result c.in_ok-command-6.command _ c.address_value.result _ six
-    c.address_value.ensures.rule c.with_argument-7.ensures.app c.with_argument-7.ensures.local
+    let seven =
+    added c.in_ok-command-6.command c.in_ok-command-7.command _ c.optional_number-tick.result _ six
+    c.optional_number-tick.ensures.rule c.in_ok-command-7.ensures.app
+    c.in_ok-command-7.ensures.local in
+    let eight =
+    added c.in_ok-command-7.command c.in_ok-command-8.command _ c.flag-quiet.result _ seven
+    c.flag-quiet.ensures.rule c.in_ok-command-8.ensures.app
+    c.in_ok-command-8.ensures.local in
+    added_last c.with_argument-9.result c.in_ok-command-8.command _ c.address_value.result _ eight
+    c.address_value.ensures.rule c.with_argument-9.ensures.app c.with_argument-9.ensures.local

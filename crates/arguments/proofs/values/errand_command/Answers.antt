@@ -21,5 +21,6 @@ returns c =
     (c.option-to.ensures.rule
     ∙ ap (λ p. option_rule (codes "to") (Some p)) c.string.ensures)
     c.in_ok-command-3.ensures.app c.in_ok-command-3.ensures.local in
-    added_last c.with_argument-4.result c.in_ok-command-3.command _ c.wait_option.result _ three
-    c.wait_option.ensures.rule c.with_argument-4.ensures.app c.with_argument-4.ensures.local
+    added_last c.with_argument-4.result c.in_ok-command-3.command _
+    c.optional_number-patience.result _ three c.optional_number-patience.ensures.rule
+    c.with_argument-4.ensures.app c.with_argument-4.ensures.local

@@ -2,12 +2,13 @@ use Rattle.std.proofs.Common.{◌≡◌, ◌/◌, refl, ap, Err, [], arith, rule
 use Rattle.batch.specs.Dialing.{place_of}
 use Rattle.batch.specs.Asking.{IsFull, IsTicked, IsTurnedDown, asked_so}
 use Rattle.batch.specs.model.Trying.{IsLastTry}
-use Rattle.batch.proofs.Trying.{adds_none, fails_by, goes_on, if_tried, if_turned_off, tick_last}
+use Rattle.batch.proofs.Going.{goes_none}
+use Rattle.batch.proofs.Trying.{fails_by, goes_on, if_tried, if_turned_off, tick_last}
 use Rattle.batch.proofs.Trying.{tick_last_try, tried, tries_of, turned_down_for, turned_off}
 use Rattle.batch.proofs.entering.asked_until_taken.Goals as goal
 
 pub loop-tries-init : goal.loop-tries-init
-loop-tries-init g c = ([], adds_none (place_of c.args.contact) _, (refl, refl))
+loop-tries-init g c = ([], goes_none (place_of c.args.contact) _, (refl, refl))
 
 pub returns-in-Ok-clause-ok : goal.returns-in-Ok-clause-ok
 returns-in-Ok-clause-ok g c =

@@ -2,13 +2,14 @@ use Rattle.std.proofs.Common.{◌≡◌, ◌<◌, ◌/◌, inr, refl, subst, Err
 use Rattle.wire.specs.declared.frame.Frame.{Frame}
 use Rattle.batch.specs.Dialing.{place_of}
 use Rattle.batch.specs.Asking.{IsAnswer, IsTicked, IsWaiting, ask_of, asked_so}
-use Rattle.batch.proofs.Trying.{Ends, adds_none, asks_failed, asks_lost, awaits, fails_by, goes_on}
+use Rattle.batch.proofs.Going.{goes_none}
+use Rattle.batch.proofs.Trying.{Ends, asks_failed, asks_lost, awaits, fails_by, goes_on}
 use Rattle.batch.proofs.Trying.{put_off_for, tick_last, tick_last_asked, told_of, told_once}
 use Rattle.batch.proofs.Trying.{tries_of, waits_on}
 use Rattle.batch.proofs.entering.decided.Goals as goal
 
 pub loop-tries-init : goal.loop-tries-init
-loop-tries-init g c = ([], adds_none (place_of c.args.contact) _, (refl, refl))
+loop-tries-init g c = ([], goes_none (place_of c.args.contact) _, (refl, refl))
 
 pub returns-in_err-told-clause-err : goal.returns-in_err-told-clause-err
 returns-in_err-told-clause-err g c =
@@ -16,7 +17,7 @@ returns-in_err-told-clause-err g c =
     fails_by _ c.from_residual.result f (search rules)
     (asks_failed c.args.receiver c.args.id f c.loop-tries.tries (c.loop-tries.tries / 32) _ _ _
     (Err f) refl c.loop-tries.invariant
-    (told_of _ _ _ (ask_of c.args.receiver c.args.id) (Err f) c.request_to-ask.ensures
+    (told_of _ _ _ (ask_of c.args.receiver c.args.id) (Err f) c.request_to-question.ensures
     c.in_err-told.ensures.told))
 
 pub returns-in-Decided-clause-ok : goal.returns-in-Decided-clause-ok
@@ -25,7 +26,8 @@ returns-in-Decided-clause-ok g c =
     awaits c.args.receiver c.args.id _ _ _ c.in_ok-told.told
     (tries_of (IsWaiting ask) (IsTicked c.args.receiver) c.loop-tries.tries
     (c.loop-tries.tries / 32) _ _ c.loop-tries.invariant)
-    (told_of _ _ _ ask (Ok c.in_ok-told.told) c.request_to-ask.ensures c.in_ok-told.ensures.told)
+    (told_of _ _ _ ask (Ok c.in_ok-told.told) c.request_to-question.ensures
+    c.in_ok-told.ensures.told)
     (c.fate_of.ensures.decided c.in-Decided.is)
 
 pub returns-in-Unknown-clause-err : goal.returns-in-Unknown-clause-err
@@ -33,7 +35,7 @@ returns-in-Unknown-clause-err g c =
     asks_lost c.args.receiver c.args.id c.loop-tries.tries (c.loop-tries.tries / 32) _ _ _
     c.in_ok-told.told (c.fate_of.ensures.unknown c.in-Unknown.is) c.loop-tries.invariant
     (told_of _ _ _ (ask_of c.args.receiver c.args.id) (Ok c.in_ok-told.told)
-    c.request_to-ask.ensures c.in_ok-told.ensures.told)
+    c.request_to-question.ensures c.in_ok-told.ensures.told)
 
 pub returns-in_err-rest_behind-clause-err : goal.returns-in_err-rest_behind-clause-err
 returns-in_err-rest_behind-clause-err g c =
@@ -44,10 +46,11 @@ returns-in_err-rest_behind-clause-err g c =
     (tick_last (IsWaiting ask) r ask c.loop-tries.tries (c.loop-tries.tries / 32) _ _ _ _
     (asked_so ask (Ok c.in_ok-told.told)) f (Ends r c.args.id f) (put_off_for r ask)
     (tick_last_asked r c.args.id f) c.loop-tries.invariant
-    (told_of _ _ _ ask (Ok c.in_ok-told.told) c.request_to-ask.ensures c.in_ok-told.ensures.told) (
+    (told_of _ _ _ ask (Ok c.in_ok-told.told) c.request_to-question.ensures
+    c.in_ok-told.ensures.told) (
       refl,
       (
-        subst (λ (q : Frame). IsAnswer q c.in_ok-told.told) c.request_to-ask.ensures
+        subst (λ (q : Frame). IsAnswer q c.in_ok-told.told) c.request_to-question.ensures
             c.in_ok-told.ensures.answered,
         c.fate_of.ensures.waits c.in-Waits.is,
       ),
@@ -59,10 +62,11 @@ loop-tries-preserved g c =
     let ask = ask_of c.args.receiver c.args.id in
     goes_on (IsWaiting ask) c.args.receiver c.loop-tries.tries _ _ _ _
     (asked_so ask (Ok c.in_ok-told.told)) c.loop-tries.invariant
-    (told_of _ _ _ ask (Ok c.in_ok-told.told) c.request_to-ask.ensures c.in_ok-told.ensures.told) (
+    (told_of _ _ _ ask (Ok c.in_ok-told.told) c.request_to-question.ensures
+    c.in_ok-told.ensures.told) (
       refl,
       (
-        subst (λ (q : Frame). IsAnswer q c.in_ok-told.told) c.request_to-ask.ensures
+        subst (λ (q : Frame). IsAnswer q c.in_ok-told.told) c.request_to-question.ensures
             c.in_ok-told.ensures.answered,
         c.fate_of.ensures.waits c.in-Waits.is,
       ),

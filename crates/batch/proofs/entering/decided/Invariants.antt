@@ -1,10 +1,15 @@
 use Rattle.std.proofs.Common.{◌/◌}
 use Rattle.batch.specs.Dialing.{place_of}
 use Rattle.batch.specs.Asking.{Asks, Counts, IsTicked, IsWaiting, ask_of}
+use Rattle.batch.specs.model.Keeping.{standing}
 use Rattle.batch.proofs.entering.decided.Given as goal
 
 -- the command wasn't decided each time, and the desk was ticked after every 32nd
 abbrev pub invariant-loop-tries : goal.invariant-loop-tries
 invariant-loop-tries g l =
-    Asks (place_of l.contact) (g.A.Ask.asked l.initial.desk) (g.A.Ask.asked l.desk)
+    Asks (place_of l.contact) (standing g.D.Dial.dialed g.D.Reader.Read.remaining
+    g.D.Writer.Write.contents l.initial.dial
+    l.initial.held) (standing g.D.Dial.dialed g.D.Reader.Read.remaining g.D.Writer.Write.contents
+    l.dial
+    l.held)
     (Counts (IsWaiting (ask_of l.receiver l.id)) (IsTicked l.receiver) l.tries (l.tries / 32))

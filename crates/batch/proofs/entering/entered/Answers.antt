@@ -1,8 +1,15 @@
-use Rattle.std.proofs.Common.{rules}
+use Rattle.std.proofs.Common.{[], inl, inr, rules}
 use Rattle.std.proofs.lemmas.Result.{IfErr-weaker}
+use Rattle.batch.specs.Asking.{IsOfAsking}
+use Rattle.batch.specs.Dialing.{place_of}
 use Rattle.batch.proofs.Asked.{undecided}
+use Rattle.batch.proofs.Going.{goes_none}
 use Rattle.batch.proofs.Trying.{asks_text, fails_by, if_awaited, if_not_awaited}
 use Rattle.batch.proofs.entering.entered.Goals as goal
+
+pub returns-then-id-eq0-clause-err : goal.returns-then-id-eq0-clause-err
+returns-then-id-eq0-clause-err g c =
+    ([], goes_none (place_of c.args.contact) _, (tt, inl (tt, inr (inr tt))))
 
 pub returns-in_err-taken-clause-err : goal.returns-in_err-taken-clause-err
 returns-in_err-taken-clause-err g c =
@@ -24,6 +31,6 @@ pub returns-clause-cause : goal.returns-clause-cause
 returns-clause-cause g c =
     IfErr-weaker c.decided.result _ _
     (λ f h.
-    undecided g.A.Ask.fails f c.args.waits c.args.receiver c.args.id c.args.text.now
+    undecided IsOfAsking f c.args.waits c.args.receiver c.args.id c.args.text.now
     c.in_ok-taken.taken c.if-not-waits.false c.in_ok-taken.ensures.answer h)
     c.decided.ensures.cause

@@ -3,13 +3,14 @@ use Rattle.acceptor.specs.declared.entry.Entry.{Entry}
 use Rattle.wire.specs.declared.frame.What.TheVariants as what
 use Rattle.batch.specs.Dialing.{place_of}
 use Rattle.batch.specs.Asking.{request_to}
-use Rattle.batch.proofs.Trying.{adds_none, fails_by, if_asks_text}
+use Rattle.batch.proofs.Going.{goes_none}
+use Rattle.batch.proofs.Trying.{fails_by, if_asks_text}
 use Rattle.batch.proofs.entering.submitted.Goals as goal
 
 pub returns-in_err-entry-clause-err : goal.returns-in_err-entry-clause-err
 returns-in_err-entry-clause-err g c =
     fails_by _ c.from_residual.result c.in_err-entry.field-0.0 (search rules)
-    ([], adds_none (place_of c.args.contact) _, (tt, inr c.in_err-entry.ensures.other))
+    ([], goes_none (place_of c.args.contact) _, (tt, inr c.in_err-entry.ensures.other))
 
 pub returns-clause-err : goal.returns-clause-err
 returns-clause-err g c =

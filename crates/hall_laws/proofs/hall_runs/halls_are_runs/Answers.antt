@@ -1,8 +1,8 @@
-use Rattle.hall_laws.proofs.HallExample.{four_turns_are_a_run}
+use Rattle.hall_laws.proofs.HallExample.{small_run_is_a_run}
 use Rattle.hall_laws.proofs.HallRuns.{halls_are_runs as law, hall_logs_agree}
 use Rattle.hall_laws.proofs.HallRuns.{hall_entries_are_submitted, hall_messages_are_named}
 use Rattle.hall_laws.proofs.HallSheets.{hall_answers_wait, hall_sheets, hall_sheets_agree}
-use Rattle.hall_laws.proofs.HallTurns.{turns_are_events}
+use Rattle.hall_laws.proofs.HallTurns.{turns_are_events, own_ticks_are_events}
 use Rattle.hall_laws.proofs.hall_runs.halls_are_runs.Goals as goal
 
 pub returns-clause-run : goal.returns-clause-run
@@ -34,5 +34,8 @@ returns-clause-named g c = hall_messages_are_named _ c.calls_are_happenings.ensu
 pub returns-clause-turns : goal.returns-clause-turns
 returns-clause-turns g c = turns_are_events _
 
+pub returns-clause-ticks : goal.returns-clause-ticks
+returns-clause-ticks g c = own_ticks_are_events _
+
 pub returns-clause-example : goal.returns-clause-example
-returns-clause-example g c = four_turns_are_a_run _
+returns-clause-example g c = small_run_is_a_run _

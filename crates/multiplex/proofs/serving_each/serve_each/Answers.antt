@@ -5,17 +5,17 @@ use Rattle.multiplex.proofs.serving_each.serve_each.Goals as goal
 
 pub returns-in_default-clause-served : goal.returns-in_default-clause-served
 returns-in_default-clause-served g c =
-    serves_none g.D.Desk g.L.Peers g.C.Clients.happened c.args.terms c.args.node.now
-    c.args.links.now c.args.clients.now
+    serves_none g.D.Desk g.L.Peers g.C.Clients.happened c.args.terms c.args.period
+    c.args.node.now c.args.links.now c.args.clients.now
 
 pub returns-clause-served : goal.returns-clause-served
 returns-clause-served g c =
-    let table = c.in-Ok.ensures in
+    let table = c.in-Ok.ensures.empty in
     let over = c.serve_rounds-over.result in
-    serves_all g.D.Desk g.L.Peers g.C.Clients.happened c.args.terms over c.in-Ok.table
+    serves_all g.D.Desk g.L.Peers g.C.Clients.happened c.args.terms c.args.period over c.in-Ok.table
     c.serve_rounds-over.new.table c.let_all_go.new.table c.args.node.now
     c.serve_rounds-over.new.node c.args.links.now c.serve_rounds-over.new.links
     c.args.clients.now c.serve_rounds-over.new.clients c.let_all_go.new.clients
-    (lobby_same table.0 table.1 table.2 refl) c.serve_rounds-over.ensures.does
+    (lobby_same table.0 table.1 table.2 c.in-Ok.ensures.own refl) c.serve_rounds-over.ensures.does
     (c.let_all_go.ensures.told (g.D.Desk.home_of c.args.node.now) c.args.terms over)
     c.let_all_go.ensures.empty

@@ -1,7 +1,6 @@
-use Rattle.std.proofs.Common.{refl}
 use Rattle.multiplex.specs.declared.ends.Over.TheVariants as over
 use Rattle.multiplex.proofs.Shutting.{alters_both, alters_none}
-use Rattle.multiplex.proofs.Stepping.{does_answer, does_changes, does_round, does_stop}
+use Rattle.multiplex.proofs.Stepping.{does_answer, does_changes, does_stop}
 use Rattle.multiplex.proofs.serving_each.step.Goals as goal
 
 pub returns-in-Waits-clause-does : goal.returns-in-Waits-clause-does
@@ -26,15 +25,11 @@ returns-in-Client-clause-does g c =
 
 pub returns-in-Round-clause-does : goal.returns-in-Round-clause-does
 returns-in-Round-clause-does g c =
-    let home = g.D.Desk.home_of c.args.node.now in
-    does_round g.D.Desk g.L.Peers g.C.Clients.happened home c.args.terms c.let_go.result
-    c.in-Round.now c.args.table.now c.let_go.new.table c.args.node.now c.args.links.now
-    c.keep.new.self c.args.clients.now c.ready.new.self c.let_go.new.clients c.keep.ensures
-    c.in-Round.ensures (c.let_go.ensures.alters home c.args.terms refl)
+    c.end_round.ensures.does c.args.clients.now c.in-Round.ensures
 
 pub returns-in-Round-clause-kept : goal.returns-in-Round-clause-kept
 returns-in-Round-clause-kept g c =
-    c.let_go.ensures.kept (g.D.Desk.home_of c.args.node.now) c.args.terms.wire c.requires.kept
+    c.end_round.ensures.kept (g.D.Desk.home_of c.args.node.now) c.args.terms.wire c.requires.kept
 
 pub returns-in-Failed-clause-does : goal.returns-in-Failed-clause-does
 returns-in-Failed-clause-does g c =

@@ -19,6 +19,7 @@ returns g c =
         left = left_as guests place c.remove-guest.new.self.items c.remove-guest.ensures.by_index.2;
         next = refl;
         time = refl;
+        own = refl;
         ends = c.over_by.ensures ∙ ap over_by c.end.ensures;
         told = c.close.ensures;
       },

@@ -25,10 +25,15 @@ returns-in-None-clause-answers g c =
     let split = about table place old new at.within c.index_mut-guest.ensures.value in
     answers_stay g.D.Desk g.P.Peers g.C.Clients.happened (g.D.Desk.home_of c.args.node.now)
     c.args.terms c.args.number place table
-    (record { guests = with_item table.guests place new; next = table.next; time = table.time })
+    (record {
+      guests = with_item table.guests place new;
+      next = table.next;
+      time = table.time;
+      own = table.own;
+    })
     old new split.0 split.1 (scene c.args.node.now c.args.peers.now c.args.clients.now)
     (scene c.host.new.node c.host.new.peers c.host.new.clients) split.2 at.number at.same refl
-    refl refl c.in-None.ensures.hosts
+    refl refl refl c.in-None.ensures.hosts
 
 pub returns-in-Some-host-clause-answers : goal.returns-in-Some-host-clause-answers
 returns-in-Some-host-clause-answers g c =
@@ -44,11 +49,16 @@ returns-in-Some-host-clause-answers g c =
     answers_leave g.D.Desk g.P.Peers g.C.Clients.happened (g.D.Desk.home_of c.args.node.now)
     c.args.terms c.args.number c.in-Some-host.field-0 place c.shut.result
     table
-    (record { guests = with_item table.guests place new; next = table.next; time = table.time })
+    (record {
+      guests = with_item table.guests place new;
+      next = table.next;
+      time = table.time;
+      own = table.own;
+    })
     c.shut.new.table old new split.0 split.1
     (scene c.args.node.now c.args.peers.now c.args.clients.now) c.host.new.node c.host.new.peers
     c.host.new.clients c.shut.new.clients split.2 at.number at.same refl refl refl
-    c.in-Some-host.ensures.hosts c.shut.ensures
+    refl c.in-Some-host.ensures.hosts c.shut.ensures
 
 pub returns-in-Some-host-clause-kept : goal.returns-in-Some-host-clause-kept
 returns-in-Some-host-clause-kept g c =
@@ -63,6 +73,11 @@ returns-in-Some-host-clause-kept g c =
     let split = about table place old new at.within c.index_mut-guest.ensures.value in
     leave_keeps g.C.Clients.happened (g.D.Desk.home_of c.args.node.now) c.args.terms.wire place
     c.shut.result table
-    (record { guests = with_item table.guests place new; next = table.next; time = table.time })
+    (record {
+      guests = with_item table.guests place new;
+      next = table.next;
+      time = table.time;
+      own = table.own;
+    })
     c.shut.new.table old new split.0 split.1 c.host.new.clients c.shut.new.clients split.2 refl
-    refl refl c.shut.ensures c.requires.kept
+    refl refl refl c.shut.ensures c.requires.kept

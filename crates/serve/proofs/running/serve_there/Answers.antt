@@ -1,6 +1,9 @@
-use Rattle.std.proofs.Common.{inr}
-use Rattle.std.proofs.lemmas.Result.{IfErr-weaker}
+use Rattle.serve.proofs.There.{failed_there}
 use Rattle.serve.proofs.running.serve_there.Goals as goal
 
 pub returns-clause-err : goal.returns-clause-err
-returns-clause-err g c = IfErr-weaker _ _ _ (λ f h. inr h) c.serve_node.ensures.err
+returns-clause-err g c =
+    failed_there g.K.Keeper g.W.Write c.args.service c.terms_of.result
+    c.period_of.result c.args.node.now
+    c.serve_node.new.node c.args.writer.now c.serve_node.new.writer c.serve_node.result
+    c.terms_of.ensures c.period_of.ensures c.serve_node.ensures.err

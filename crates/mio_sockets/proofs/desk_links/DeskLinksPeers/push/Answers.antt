@@ -4,19 +4,24 @@ use Rattle.mio_sockets.specs.Wiring.{Line, has_number}
 use Rattle.mio_sockets.proofs.Pushing.{pushed_at, pushed_nowhere}
 use Rattle.mio_sockets.proofs.desk_links.DeskLinksPeers.push.Goals as goal
 
-pub returns-in-Some-clause-frame : goal.returns-in-Some-clause-frame
-returns-in-Some-clause-frame g c =
+pub returns-in-Some : goal.returns-in-Some
+returns-in-Some g c =
     let found =
     ap (λ (ls : List Line). position (has_number c.args.to) ls) (sym c.deref.ensures.value)
     ∙ sym c.place_of.ensures ∙ c.in-Some.is in
     rw (← c.self.view_is)
-    (pushed_at c.args.to c.args.frame.now c.self.inside.desks.items c.in-Some.place
-    c.index_mut-desk.result.now c.push.new.self found c.index_mut-desk.ensures.value c.push.ensures)
+    (record {
+      frame = pushed_at c.args.to c.args.frame.now _ _ c.self.inside.desks.items c.in-Some.place
+          c.index_mut-desk.result.now c.push.new.self c.write_now-due.new.self found
+          c.index_mut-desk.ensures.value c.push.ensures c.write_now-due.ensures;
+    })
 
-pub returns-in_default-clause-frame : goal.returns-in_default-clause-frame
-returns-in_default-clause-frame g c =
+pub returns-in_default : goal.returns-in_default
+returns-in_default g c =
     let none =
     ap (λ (ls : List Line). position (has_number c.args.to) ls) (sym c.deref.ensures.value)
     ∙ sym c.place_of.ensures ∙ c.in_default.is in
     rw (← c.self.view_is)
-    (pushed_nowhere c.args.to c.args.frame.now c.self.inside.desks.items none)
+    (record {
+      frame = pushed_nowhere c.args.to c.args.frame.now _ c.self.inside.desks.items none;
+    })

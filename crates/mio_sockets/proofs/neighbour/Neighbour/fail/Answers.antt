@@ -6,4 +6,5 @@ use Rattle.mio_sockets.proofs.neighbour.Neighbour.fail.Goals as goal
 pub returns : goal.returns
 returns g c =
     rw (← c.self.view_is)
-    (calls (step.Failed c.args.now) (record { desk = refl; address = refl }) refl c.failed.ensures c.close.ensures)
+    (calls (step.Failed c.args.now) (record { desk = refl; address = refl }) refl
+    c.failed.ensures c.close.ensures)

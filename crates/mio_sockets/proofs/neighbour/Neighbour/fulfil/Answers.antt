@@ -6,5 +6,6 @@ use Rattle.mio_sockets.proofs.neighbour.Neighbour.fulfil.Goals as goal
 pub returns-in-Close : goal.returns-in-Close
 returns-in-Close g c =
     rw (← c.self.view_is)
-    (calls step.Closed (record { desk = refl; address = refl }) refl (c.in-Close.ensures.between refl, c.closed.ensures)
+    (calls step.Closed (record { desk = refl; address = refl }) refl
+    (c.in-Close.ensures.between refl, c.closed.ensures)
     c.close.ensures)

@@ -6,4 +6,5 @@ use Rattle.mio_sockets.proofs.neighbour.Neighbour.look.Goals as goal
 pub returns-in-Open-opening : goal.returns-in-Open-opening
 returns-in-Open-opening g c =
     rw (← c.self.view_is)
-    (calls (step.Opened c.args.now) (record { desk = refl; address = refl }) refl c.opened.ensures c.opening.ensures)
+    (calls (step.Opened c.args.now) (record { desk = refl; address = refl }) refl
+    c.opened.ensures c.opening.ensures)

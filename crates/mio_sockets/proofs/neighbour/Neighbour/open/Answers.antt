@@ -9,11 +9,13 @@ pub returns-then-begun : goal.returns-then-begun
 returns-then-begun g c =
     let apart = subst (λ (n : Line). IsUnconnected n.link.stage) (sym c.self.view_is) c.requires in
     rw (← c.self.view_is)
-    (calls (step.Began c.args.now) (record { desk = refl; address = refl }) refl (apart, c.began.ensures) c.begin-begun.ensures)
+    (calls (step.Began c.args.now) (record { desk = refl; address = refl }) refl
+    (apart, c.began.ensures) c.begin-begun.ensures)
 
 pub returns-else-begun : goal.returns-else-begun
 returns-else-begun g c =
     let apart = subst (λ (n : Line). IsUnconnected n.link.stage) (sym c.self.view_is) c.requires in
     rw (← c.self.view_is)
-    (both (calls (step.Began c.args.now) (record { desk = refl; address = refl }) refl (apart, c.began.ensures) c.begin-begun.ensures)
+    (both (calls (step.Began c.args.now) (record { desk = refl; address = refl }) refl
+    (apart, c.began.ensures) c.begin-begun.ensures)
     c.fail-line.ensures)

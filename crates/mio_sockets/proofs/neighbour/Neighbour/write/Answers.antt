@@ -14,5 +14,6 @@ pub returns-in-Bytes : goal.returns-in-Bytes
 returns-in-Bytes g c =
     rw (← c.self.view_is)
     (sends c.args.now c.in-Bytes.count c.output-2.result.now c.output-2.ensures
-    c.in-Bytes.ensures.count.0 c.in-Bytes.ensures.count.1 (record { desk = refl; address = refl }) refl c.sent-in-Bytes.ensures
+    c.in-Bytes.ensures.count.0 c.in-Bytes.ensures.count.1
+    (record { desk = refl; address = refl }) refl c.sent-in-Bytes.ensures
     c.in-Bytes.ensures.told)

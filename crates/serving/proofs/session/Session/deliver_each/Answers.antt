@@ -1,4 +1,4 @@
-use Rattle.std.proofs.Common.{◌≡◌, rules, sym, subst, ◌∙◌, ◌+◌, ◌≤◌, List, [], length, arith}
+use Rattle.std.proofs.Common.{◌≡◌, rules, sym, subst, ◌∙◌, ◌+◌, ◌≤◌, [], length, arith}
 use Rattle.serving.specs.Making.{speaking}
 use Rattle.serving.proofs.Delivered.{begins, delivered, next_entry, ends_down, ends_all}
 use Rattle.serving.proofs.Delivered.{loses_entry}

@@ -2,7 +2,6 @@ use Rattle.std.proofs.Common.{rules, ◌≡◌, refl, ap, ◌∙◌}
 use Rattle.wire.specs.declared.frame.What.TheVariants as what
 use Rattle.serving.specs.Answering.{answer_first}
 use Rattle.serving.specs.declared.calls.Answer.TheVariants.{Taken}
-use Rattle.learner.specs.declared.event.DeskEvent.TheVariants.{Submit}
 use Rattle.serving.specs.Serving.{enter}
 use Rattle.serving.specs.declared.request.Request.TheVariants.{Entered}
 use Rattle.serving.proofs.Answered.{fails}

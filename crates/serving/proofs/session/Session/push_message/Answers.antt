@@ -1,4 +1,3 @@
-use Rattle.std.proofs.Common.{rules}
 use Rattle.serving.proofs.Pushed.{pushed_so}
 use Rattle.serving.proofs.session.Session.push_message.Goals as goal
 

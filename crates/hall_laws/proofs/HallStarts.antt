@@ -1,0 +1,170 @@
+-- A desk that has more to decide is given a Start.
+use Rattle.std.proofs.Common.{◌≡◌, inl, inr, refl, sym, ap, subst, ◌∙◌, ℕ, Bool}
+use Rattle.std.proofs.Common.{true, false, not, ◌&&◌, nat_lt, if◌then◌else◌, List, [], ◌∷◌, ◌++◌}
+use Rattle.std.proofs.Common.{length, Result, Ok, Err, arith}
+use Rattle.std.proofs.lemmas.Bool.Decides.{nat_tests}
+use Rattle.acceptor.specs.declared.entry.Entry.{Entry}
+use Rattle.acceptor.specs.declared.message.Message.{Message}
+use Rattle.answers.specs.Seen.{Seen}
+use Rattle.learner.specs.Steps.{Done, step}
+use Rattle.learner.specs.declared.event.DeskEvent.{DeskEvent}
+use Rattle.learner.specs.declared.event.DeskEvent.TheVariants.{Submit, Start, Tick, Deliver}
+use Rattle.proposer.specs.declared.fault.Refusal.{Refusal}
+use Rattle.roles.specs.declared.fault.NodeFault.{NodeFault}
+use Rattle.roles.specs.declared.fault.NodeFault.TheVariants.{Down}
+use Rattle.serving.specs.Making.{Call, calls_of}
+use Rattle.serving.specs.Nodes.{Fate, Goes, Starves, Breaks, by_fate, by_step, reply}
+use Rattle.serving.specs.Serving.{Act, Called, Service, answer_out, begun, call, enter, entered_by}
+use Rattle.serving.specs.Serving.{first_fate, grew, learn, learn_all, reply_to, served, settle}
+use Rattle.serving.specs.Serving.{settle_by, start_if_grown, take, tell}
+use Rattle.serving.specs.declared.request.Request.{Request}
+use Rattle.serving.specs.declared.request.Request.TheVariants.{Heard, Lagging, Learned, Entered}
+use Rattle.serving.specs.declared.request.Request.TheVariants.{Asked, Printed, Ticked, Stopped}
+use Rattle.serving.specs.declared.request.Request.TheVariants.{Strange, Ignored}
+use Rattle.store.specs.declared.home.Home.{Home}
+use Rattle.hall_laws.specs.HallGoing.{HasCall, StartsCome}
+use Rattle.hall_laws.specs.HallRuns.{IsTakenIn}
+use Rattle.hall_laws.proofs.Following.{follows_settle}
+use Rattle.hall_laws.proofs.OwnMessages.{calls_both}
+
+has_front : (e : DeskEvent) (cs ds : List Call) → HasCall e cs → HasCall e (cs ++ ds)
+has_front e [] ds h = absurd h
+has_front e (c ∷ cs) ds (inl is) = inl is
+has_front e (c ∷ cs) ds (inr h) = inr (has_front e cs ds h)
+
+has_later : (e : DeskEvent) (cs ds : List Call) → HasCall e ds → HasCall e (cs ++ ds)
+has_later e [] ds h = h
+has_later e (c ∷ cs) ds h = inr (has_later e cs ds h)
+
+-- a Start, and all that comes of it
+has_start : (home : Home) (s : Service)
+    → HasCall Start (calls_of (settle home (call home Start s)).done)
+unfolding call
+has_start home s =
+    let called : Service = call home Start s in
+    let one : List Act = Called Start (reply_to home Start s).result ∷ [] in
+    let more = follows_settle home called.left called in
+    subst (λ z. HasCall Start (calls_of z)) (sym more.done)
+    (subst (λ z. HasCall Start z) (sym (calls_both called.done more.more))
+    (has_front Start (calls_of called.done) (calls_of more.more)
+    (subst (λ z. HasCall Start z) (sym (calls_both s.done one))
+    (has_later Start (calls_of s.done) (calls_of one) (inl refl)))))
+
+after_growth : (home : Home) (before : ℕ) (s : Service)
+    → grew before (start_if_grown home before s).seen ≡ true
+    → HasCall Start (calls_of (start_if_grown home before s).done)
+unfolding start_if_grown
+after_growth home before s = go (grew before s.seen) refl
+  where
+    next : Bool → Service
+    next t = if t then settle home (call home Start s) else s
+
+    go : (t : Bool) → grew before s.seen ≡ t → grew before (next t).seen ≡ true
+        → HasCall Start (calls_of (next t).done)
+    go true is grown = has_start home s
+    go false is grown =
+        absurd (let two : false ≡ true = sym is ∙ grown in cc)
+
+-- ---- where the log has not grown
+
+second_false : (a b c : Bool) → b ≡ false → (a && b && c) ≡ true → ⊥
+second_false false b c least is = let two : false ≡ true = is in cc
+second_false true true c least is = let two : true ≡ false = least in cc
+second_false true false c least is = let two : false ≡ true = is in cc
+
+not_grown : (x s : Seen) → s.desk ≡ x.desk → grew (length x.desk.log) s ≡ true → ⊥
+not_grown x s same grown =
+    let least : nat_lt (length x.desk.log) (length s.desk.log) ≡ false =
+    ap (λ d. nat_lt (length x.desk.log) (length d.log)) same ∙ itself (length x.desk.log) in
+    second_false (not s.is_down) (nat_lt (length x.desk.log) (length s.desk.log))
+    (nat_lt 0 (length s.desk.queue)) least grown
+  where
+    itself : (n : ℕ) → nat_lt n n ≡ false
+    itself n = grind (arith, nat_tests)
+
+by_step_refused : (x : Seen) (r : Result Done Refusal) (why : NodeFault)
+    → (by_step x r).result ≡ Err why → (by_step x r).seen.desk ≡ x.desk
+by_step_refused x (Ok d) why is = absurd cc
+by_step_refused x (Err fault) why is = refl
+
+by_fate_refused : (home : Home) (x : Seen) (event : DeskEvent) (fate : Fate) (why : NodeFault)
+    → (by_fate home x event fate).result ≡ Err why
+    → (by_fate home x event fate).seen.desk ≡ x.desk
+by_fate_refused home x event Goes why is =
+    by_step_refused x (step home.desks home.desk x.desk event) why is
+by_fate_refused home x event Starves why is = refl
+by_fate_refused home x event Breaks why is = refl
+
+-- a call that is refused leaves the desk as it was
+refused_same : (home : Home) (x : Seen) (event : DeskEvent) (fate : Fate) (why : NodeFault)
+    → (reply home x event fate).result ≡ Err why → (reply home x event fate).seen.desk ≡ x.desk
+refused_same home x event fate why = go x.is_down
+  where
+    go : (b : Bool)
+        → (if b then record { result = Err Down; seen = x }
+        else by_fate home x event fate).result ≡ Err why
+        → (if b then record { result = Err Down; seen = x }
+        else by_fate home x event fate).seen.desk ≡ x.desk
+    go true is = refl
+    go false is = by_fate_refused home x event fate why is
+
+-- ---- an entry
+
+entry_grown : (home : Home) (x : Seen) (e : Entry) (s : Service)
+    (r : Result (List Message) NodeFault)
+    → ((why : NodeFault) → r ≡ Err why → s.seen.desk ≡ x.desk)
+    → grew (length x.desk.log) (entered_by home r s).seen ≡ true
+    → HasCall Start (calls_of (entered_by home r s).done)
+entry_grown home x e s (Ok ms) same grown = has_start home s
+entry_grown home x e s (Err why) same grown = absurd (not_grown x s.seen (same why refl) grown)
+
+-- a call that was refused takes nothing
+none_taken : (e : Entry) (why : NodeFault)
+    → IsTakenIn e (calls_of (Called (Submit e) (Err why) ∷ [])) → ⊥
+none_taken e why (inl is) = let two = is.1 in cc
+none_taken e why (inr none) = none
+
+entry_taken : (home : Home) (e : Entry) (s : Service) (r : Result (List Message) NodeFault)
+    → s.done ≡ Called (Submit e) r ∷ []
+    → IsTakenIn e (calls_of (entered_by home r s).done)
+    → HasCall Start (calls_of (entered_by home r s).done)
+entry_taken home e s (Ok ms) is taken = has_start home s
+entry_taken home e s (Err why) is taken =
+    absurd (none_taken e why (subst (λ z. IsTakenIn e (calls_of z)) is taken))
+
+-- ---- any request
+
+grown : (home : Home) (x : Seen) (fates : List Fate) (r : Request)
+    → grew (length x.desk.log) (served home x fates r).seen ≡ true
+    → HasCall Start (calls_of (served home x fates r).done)
+unfolding take tell learn_all enter call
+grown home x fates (Heard m) is =
+    after_growth home (length x.desk.log) (settle home (call home (Deliver m) (begun x fates))) is
+grown home x fates (Lagging m) is =
+    after_growth home (length x.desk.log) (answer_out home (call home (Deliver m) (begun x fates)))
+    is
+grown home x fates (Learned run) is =
+    after_growth home (length x.desk.log)
+    (settle_by home 16 (learn home run.from run.to run.pos run.entries (begun x fates))) is
+grown home x fates (Entered e) is =
+    entry_grown home x e (call home (Submit e) (begun x fates))
+    (reply_to home (Submit e) (begun x fates)).result
+    (λ why refused. refused_same home x (Submit e) (first_fate fates) why refused) is
+grown home x fates Ticked is =
+    after_growth home (length x.desk.log) (settle home (call home Tick (begun x fates))) is
+grown home x fates (Asked id) is = absurd (not_grown x x refl is)
+grown home x fates (Printed event round position style) is = absurd (not_grown x x refl is)
+grown home x fates Stopped is = absurd (not_grown x x refl is)
+grown home x fates Strange is = absurd (not_grown x x refl is)
+grown home x fates Ignored is = absurd (not_grown x x refl is)
+
+entered : (home : Home) (x : Seen) (fates : List Fate) (e : Entry)
+    → IsTakenIn e (calls_of (served home x fates (Entered e)).done)
+    → HasCall Start (calls_of (served home x fates (Entered e)).done)
+unfolding enter call
+entered home x fates e is =
+    entry_taken home e (call home (Submit e) (begun x fates))
+    (reply_to home (Submit e) (begun x fates)).result refl is
+
+pub starts_come : StartsCome
+starts_come = record { grown = grown; entered = entered }

@@ -1,0 +1,46 @@
+-- No more clients come than are asked for.
+use Rattle.std.proofs.Common.{sym, subst, ◌≤◌, ℕ, ◌∷◌, List, Option, arith, [], ap}
+use Rattle.store.specs.declared.home.Home.{Home}
+use Rattle.serving.specs.Making.{Way}
+use Rattle.multiplex.specs.Happenings.{Happened}
+use Rattle.multiplex.specs.Passing.{Change, Changed, Changes, Clock, Comes, IsServedEach, Lobby}
+use Rattle.multiplex.specs.Passing.{NoSocket, Pass, Room, Shut, Step, Stops, Stray, Takes, Ticked}
+use Rattle.multiplex.specs.Passing.{TurnedAway, Visit}
+use Rattle.multiplex.specs.declared.ends.ServedEach.{ServedEach}
+use Rattle.multiplex.specs.declared.table.Terms.{Terms}
+
+abbrev HasFew : Terms → Lobby → Type 0
+HasFew t l = l.next ≤ t.most
+
+few_changed : (home : Home) (t : Terms) (c : Change) (a b : Lobby)
+    → Changes home t c a b → HasFew t a → HasFew t b
+few_changed home t (Comes k) a b h few =
+    subst (λ l. HasFew t l) (sym h.enters) (omega (arith, h.wanted))
+few_changed home t (TurnedAway k) a b h few =
+    subst (λ l. HasFew t l) (sym h.enters) (omega (arith, h.wanted))
+few_changed home t NoSocket a b h few = subst (λ l. HasFew t l) (sym h.1) few
+few_changed home t (Stray k) a b h few = subst (λ l. HasFew t l) (sym h.2) few
+few_changed home t (Shut k w) a b h few = subst (λ l. HasFew t l) (sym h.3.left) few
+few_changed home t (Stops e) a b h few = subst (λ l. HasFew t l) (sym h.2) few
+
+few_taken : {V : Type 0} {way : Way V} (home : Home) (t : Terms) (s : Step) (a b : Room way)
+    → Takes home t s a b → HasFew t a.lobby → HasFew t b.lobby
+few_taken home t (Changed c) a b h few = few_changed home t c a.lobby b.lobby h.0 few
+few_taken home t (Clock now) a b h few = subst (λ l. HasFew t l) (sym h.left) few
+few_taken home t (Ticked now starved) a b h few = subst (λ l. HasFew t l) (sym h.left) few
+few_taken home t (Visit k turns fate) a b h few =
+    subst (λ l. HasFew t l) (sym h.4.left) few
+
+few_passed : {V : Type 0} {way : Way V} (home : Home) (t : Terms) (steps : List Step)
+    (a b : Room way) → Pass home t a steps b → HasFew t a.lobby → HasFew t b.lobby
+few_passed home t [] a b h few = subst (λ l. HasFew t l) (ap (λ z. z.lobby) h) few
+few_passed home t (s ∷ ss) a b h few =
+    few_passed home t ss h.0 b h.2 (few_taken home t s a h.0 h.1 few)
+
+pub few_come : {V : Type 0} {way : Way V} (served : ServedEach) (home : Home) (t : Terms)
+    (period : Option ℕ) (a b : Room way) (before after : Option (List Happened)) (steps : List Step)
+    → IsServedEach served home t period a b before after steps → served.connections ≤ t.most
+few_come served home t period a b before after steps h =
+    subst (λ n. n ≤ t.most) (sym h.counted)
+    (few_passed home t steps a b h.pass
+    (subst (λ l. HasFew t l) (sym h.first) (omega arith)))

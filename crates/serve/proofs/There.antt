@@ -1,0 +1,30 @@
+-- A desk that serves at its address, on the terms that its arguments say.
+use Rattle.std.proofs.Common.{◌≡◌, ℕ, Option, inr, subst, length, Result, IfErr}
+use Rattle.std.proofs.lemmas.Result.{IfErr-weaker}
+use Rattle.std.specs.declared.io.Write.{Ghosts as WriteOf}
+use Rattle.multiplex.specs.declared.table.Terms.{Terms}
+use Rattle.replica.specs.Nodes.{NodeValue}
+use Rattle.store.specs.declared.keeper.Keeper.{Ghosts as KeeperOf}
+use Rattle.serve.specs.Printing.{output}
+use Rattle.serve.specs.Serves.{FailsServing, FailsThere, period_of, resting, terms_of, turn}
+use Rattle.serve.specs.Serves.{unheard}
+use Rattle.serve.specs.declared.fault.ServeFault.{ServeFault}
+use Rattle.service.specs.declared.Service.{Service}
+
+abbrev FailsOn : {K X : Type 0} → KeeperOf K → WriteOf X → Terms → Option ℕ → NodeValue K
+    → NodeValue K → (before after : X) → ServeFault → Type 0
+FailsOn k w t period first last before after f =
+    FailsServing f (turn (k.home_of first.keeper) t period (length first.desk.log)
+    (output (w.contents before) (w.contents after)) unheard)
+    (resting k t.wire first) (resting k t.wire last)
+
+pub failed_there : {K X : Type 0} (k : KeeperOf K) (w : WriteOf X) (s : Service) (t : Terms)
+    (p : Option ℕ) (first last : NodeValue K) (before after : X) (r : Result (Unit {0}) ServeFault)
+    → t ≡ terms_of s → p ≡ period_of s.tick
+    → IfErr r (λ f. FailsOn k w t p first last before after f)
+    → IfErr r (λ f. FailsThere k w s first last before after f)
+failed_there k w s t p first last before after r is same h =
+    IfErr-weaker r (λ f. FailsOn k w (terms_of s) (period_of s.tick) first last before after f)
+    (λ f. FailsThere k w s first last before after f) (λ f ends. inr ends)
+    (subst (λ q. IfErr r (λ f. FailsOn k w (terms_of s) q first last before after f)) same
+    (subst (λ z. IfErr r (λ f. FailsOn k w z p first last before after f)) is h))

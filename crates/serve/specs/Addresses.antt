@@ -1,0 +1,23 @@
+-- The addresses at which a desk finds the other desks of its hall.
+use Rattle.std.specs.Prelude.{◌≡◌, ℕ, List, [], ◌∷◌, take, Option, IsSomeAnd}
+use Rattle.std.specs.Net.Grammar.{IsSocketText}
+use Rattle.std.specs.declared.net.SocketAddr.{SocketAddr}
+use Rattle.mio_sockets.specs.Wiring.{Line, lines_from}
+
+-- an address that was found for a text, or none: where the text spells an address, an IP address
+-- and a port, that one. What a host's name stands for, the system says.
+abbrev pub IsFoundFor : List ℕ → Option SocketAddr → Type 0
+IsFoundFor text found =
+    (a : SocketAddr) → IsSocketText text a → IsSomeAnd found (IsSocketText text)
+
+-- for each of the texts, in their order
+abbrev pub AreFoundFor : List (List ℕ) → List (Option SocketAddr) → Type 0
+AreFoundFor [] [] = Unit {0}
+AreFoundFor (text ∷ texts) (found ∷ founds) = IsFoundFor text found × AreFoundFor texts founds
+AreFoundFor _ _ = ⊥
+
+-- the links lead to what was found for the texts: that to desk 1 for the first one, and so on
+abbrev pub LeadTo : List (List ℕ) → List Line → Type 0
+LeadTo texts links =
+    (founds : List (Option SocketAddr)) × AreFoundFor texts founds
+    × (links ≡ lines_from 1 (take 5 founds))

@@ -1,0 +1,120 @@
+//! The sockets of a desk that serves: its clients, and the links to the other desks of its hall.
+
+ghost use Rattle.std.specs.Prelude.{IfOk, IfErr, map};
+ghost use Rattle.serve.specs.Addresses.{AreFoundFor, IsFoundFor, LeadTo};
+ghost use Rattle.serve.specs.Printing.{IsOfListener};
+
+use crate::fault::ServeFault;
+use mio_sockets::{DeskLinks, SocketClients, SocketLinks, SocketWires};
+use service::Service;
+use std::alloc::{AllocError, Global};
+use std::io;
+use std::io::{ErrorKind, Stderr, Write};
+use std::net::{Net, SocketAddr, ToSocketAddrs};
+
+/// The first address of a text, an IP address or a host's name and a port.
+fn address_of<R: Net>(net: &R, text: &str) -> Option<SocketAddr>
+    ensures { IsFoundFor text.now result }
+{
+    let Ok(mut found) = text.to_socket_addrs(net) else {
+        return None;
+    };
+    found.next()
+}
+
+/// The first addresses of these texts, in their order.
+fn addresses_of<R: Net>(
+    net: &R,
+    alloc: Global,
+    texts: &[&str],
+) -> Result<Vec<Option<SocketAddr>>, AllocError>
+    ensures { IfOk result (λ found. AreFoundFor (map (λ t. t.now) texts.now) found.items) }
+{
+    let mut found = Vec::with_capacity(alloc, texts.len())?;
+    for text in texts {
+        found.push(address_of(net, text))?;
+    }
+    Ok(found)
+}
+
+/// Why the desk's address can't be had.
+fn no_listener(error: &io::Error) -> ServeFault
+    ensures { IsOfListener result }
+{
+    if error.kind() == ErrorKind::OutOfMemory {
+        return ServeFault::NoMemory;
+    }
+    ServeFault::CannotListen
+}
+
+/// Listens at the desk's address.
+pub fn listen<'r>(
+    rt: &'r HostRuntime,
+    service: Service<'_>,
+) -> Result<SocketClients<'r, HostRuntime>, ServeFault>
+    ensures { IfErr result IsOfListener }
+{
+    let place = usize::from(service.desk).saturating_sub(1);
+    let found = match service.addresses.get(place) {
+        Some(text) => address_of(rt, text),
+        None => None,
+    };
+    let Some(address) = found else {
+        return Err(ServeFault::CannotListen);
+    };
+    match SocketClients::listen(rt, rt.alloc(), address) {
+        Ok(clients) => Ok(clients),
+        Err(error) => Err(no_listener(&error)),
+    }
+}
+
+/// Says of which desks no address was found.
+fn tell_missing<W: Write>(
+    lines: &mut W,
+    texts: &[&str],
+    addresses: &[Option<SocketAddr>],
+) -> io::Result<()> {
+    for (place, (text, address)) in texts.iter().zip(addresses).enumerate() {
+        if address.is_none() {
+            let desk = place + 1;
+            writeln!(lines, "desk {desk} at {text}: no such address")?;
+        }
+    }
+    lines.flush()
+}
+
+/// The links to the other desks, whose sockets the poll of the clients tells of. Where lines about
+/// other desks are wanted, it says of which no address was found.
+pub fn links_to<'r>(
+    rt: &'r HostRuntime,
+    service: Service<'_>,
+    clients: &SocketClients<'r, HostRuntime>,
+) -> Result<SocketLinks<'r, HostRuntime, Stderr>, ServeFault>
+    ensures links { IfOk result
+        (λ links. LeadTo (map (λ t. t.now) service.entry.addresses.now) links.lines) }
+    ensures err { IfErr result IsOfListener }
+{
+    let registry = match clients.registry() {
+        Ok(registry) => registry,
+        Err(error) => return Err(no_listener(&error)),
+    };
+    let Ok(addresses) = addresses_of(rt, rt.alloc(), service.addresses) else {
+        return Err(ServeFault::NoMemory);
+    };
+    let lines = if service.quiet {
+        None
+    } else {
+        let mut stderr = rt.stderr();
+        let _ = tell_missing(&mut stderr, service.addresses, &addresses);
+        Some(stderr)
+    };
+    match DeskLinks::new(
+        rt.alloc(),
+        &addresses,
+        SocketWires::new(rt, rt.alloc(), registry, service.hall),
+        lines,
+    ) {
+        Ok(links) => Ok(links),
+        Err(_) => Err(ServeFault::NoMemory),
+    }
+}

@@ -1,3 +1,0 @@
-pub mod Visiting
-pub mod Interleaving
-pub mod Silence

@@ -1,5 +1,0 @@
-use Rattle.sockets.proofs.Silence.{silence_changes_nothing}
-use Rattle.sockets.proofs.laws.silence_changes_nothing.Goals as goal
-
-pub returns : goal.returns
-returns g c = silence_changes_nothing g.D.Desk

@@ -1,3 +1,0 @@
-pub mod Listening
-pub mod Visits
-pub mod Connections
