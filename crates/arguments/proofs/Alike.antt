@@ -1,12 +1,14 @@
 -- A replay is asked for alike in the whole program and in the one that has no other subcommand.
-use Rattle.std.proofs.Common.{◌≡◌, ◌∷◌, [], ◌∙◌, List, Some, ap, codes, refl, sym}
+use Rattle.std.proofs.Common.{◌≡◌, ◌∷◌, [], ◌∙◌, List, Option, Some, ap, codes, refl, sym}
 use Rattle.std.specs.List.{fold}
 use Rattle.clap.proofs.OnLiterals.{clap_on_literals}
 use Rattle.clap.proofs.WalkLemmas.{walk_stopped}
 use Rattle.clap.specs.Simple.{built, entered, names_of}
 use Rattle.clap.specs.Walk.{Walk, nothing_held, stop_after, walk_from, walked}
 use Rattle.clap.specs.Words.{App, Text, subcommand_of}
-use Rattle.arguments.specs.Asking.{Asks, Parsers, desk_arguments}
+use Rattle.clap.specs.declared.builder.value_parser.ValueParser.{ValueParser}
+use Rattle.clap.specs.declared.builder.value_parser.ValueParser.TheVariants as parser
+use Rattle.arguments.specs.Asking.{Asks, ImportParsers, Parsers, desk_arguments}
 use Rattle.arguments.specs.Laws.{ReplayIsAskedAlike}
 use Rattle.arguments.specs.declared.task.Task.TheVariants as task
 use Rattle.replay_arguments.specs.Asking.{Asks as AsksReplay, RoundParsers, replay_program}
@@ -56,11 +58,28 @@ read_alike p own rest =
     (ap (entered (built (replay_program p.replay)))
     (stops (replay_program p.replay) rest (met_alone p.replay)))
 
+-- texts that are accepted, as a parser has them
+accepted : Text → Option ValueParser
+accepted text =
+    Some
+    (parser.Names
+    (record { ref_ptr = (0, 0); now = record { ref_ptr = (0, 0); now = text } ∷ [] }))
+
+-- some parsers of `import`, which are never asked here
+some_imported : ImportParsers
+unfolding accepted
+some_imported = record {
+  limits = accepted (codes "as-single");
+  names = accepted (codes "id");
+  limited = record { names = _; parsed = refl; are = refl };
+  named = record { names = _; parsed = refl; are = refl };
+}
+
 up : (own : Text) (rest : List Text) (t : ReplayTask)
     → AsksReplay (own ∷ codes "replay" ∷ rest) t
     → Asks (own ∷ codes "replay" ∷ rest) (task.Replay t.event t.round t.style)
 up own rest t (p, (name, rows, found, named, is)) =
-    let both : Parsers = record { replay = p; sheet = p } in
+    let both : Parsers = record { replay = p; sheet = p; imported = some_imported } in
     (both, (name, rows, read_alike both own rest ∙ found, (named, is.0, is.1)))
 
 down : (own : Text) (rest : List Text) (t : ReplayTask)

@@ -16,6 +16,13 @@ pub none_found : (f : Found) (id : Text) (r : Option (Bor Text))
 none_found f id None h is = sym (first_value-rows f id) ∙ sym h
 none_found f id (Some t) h is = cc
 
+-- what was given was not left out
+pub is_given : (f : Found) (id : Text) (r : Option (Bor Text)) (t : Bor Text)
+    → option_map (λ s. s.now) r ≡ first_value f id → r ≡ Some t
+    → first_of id (rows_of f) ≡ None → ⊥
+is_given f id None t h is none = cc
+is_given f id (Some u) t h is none = let there = h ∙ first_value-rows f id ∙ none in cc
+
 pub finds_named : (found : Option (Text × List Row)) (name : Text) (rows : List Row)
     (t : Option Task)
     → found ≡ Some (name, rows) → IfSome t (λ t. IsTask t name rows)
@@ -53,6 +60,7 @@ request_ids request.Stop name rows h = tt
 -- what was found has its ids in their range
 pub found_ids : (found : Option (Text × List Row)) (t : Task) → Finds found t → HasIds t
 found_ids found (task.Replay event round style) h = tt
+found_ids found (task.Import file options) h = tt
 found_ids found (task.Hall desks) h = tt
 found_ids found (task.EnterLines contact batch) h = tt
 found_ids found (task.Log store) h = tt

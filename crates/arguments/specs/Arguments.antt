@@ -30,21 +30,29 @@ numbers low high = Some (parser.Unsigned low high)
 abbrev pub any_text : Option ValueParser
 any_text = Some parser.String
 
--- a whole number from one to another, given after two hyphens and its id; it may be left out
+-- a value, given after two hyphens and its id; it may be left out
+abbrev pub optional_value_rule : Text → Option ValueParser → Rule
+optional_value_rule id parser = record (option_rule id parser) { required = false }
+
+-- a whole number from one to another
 abbrev pub optional_rule : Text → ℕ → ℕ → Rule
-optional_rule id low high = record (option_rule id (numbers low high)) { required = false }
+optional_rule id low high = optional_value_rule id (numbers low high)
 
 -- for how many seconds a desk is waited for, 1 to 3,600
 abbrev pub wait_seconds_rule : Rule
 wait_seconds_rule = optional_rule (codes "patience") 1 3600
 
+-- the arguments that name a desk of a hall
+abbrev pub home_arguments : Text → App
+home_arguments name =
+    with_rule (with_rule (new_app name)
+    (option_rule (codes "hall") (numbers 0 4294967295)))
+    (option_rule (codes "desk") (numbers 0 255))
+
 -- the arguments that every subcommand has that asks a desk
 abbrev pub errand_arguments : Text → App
 errand_arguments name =
-    with_rule (with_rule (with_rule (with_rule (new_app name)
-    (option_rule (codes "hall") (numbers 0 4294967295)))
-    (option_rule (codes "desk") (numbers 0 255)))
-    (option_rule (codes "to") any_text))
+    with_rule (with_rule (home_arguments name) (option_rule (codes "to") any_text))
     wait_seconds_rule
 
 -- the first value of the argument is this number in decimal, without a sign or leading zeros

@@ -1,6 +1,6 @@
 -- What the arguments of the program ask for, as its parser reads them: `clap` says which argument
 -- is the value of which name.
-use Rattle.std.specs.Prelude.{◌≡◌, true, false, ℕ, List, codes, map, Option, Some}
+use Rattle.std.specs.Prelude.{◌≡◌, true, false, ℕ, List, [], ◌∷◌, codes, map, Option, None, Some}
 use Rattle.clap.specs.Words.{App, Row, Text, all_of, first_of, new_app, one_of, subcommand_of}
 use Rattle.clap.specs.Words.{with_rule, with_subcommand}
 use Rattle.wire.specs.declared.values.SheetStyle.{SheetStyle}
@@ -8,7 +8,14 @@ use Rattle.wire.specs.declared.values.SheetStyle.TheVariants as asked
 use Rattle.wire.specs.declared.values.Version.{Version}
 use Rattle.wire.specs.declared.values.Version.TheVariants as version
 use Rattle.wire.specs.Ranges.{IsId}
+use Rattle.clap.specs.declared.builder.value_parser.ValueParser.{ValueParser}
+use Rattle.wcif.specs.declared.options.CumulativeLimits.{CumulativeLimits}
+use Rattle.wcif.specs.declared.options.CumulativeLimits.TheVariants as limits
+use Rattle.wcif.specs.declared.options.SameNames.{SameNames}
+use Rattle.wcif.specs.declared.options.SameNames.TheVariants as names
+use Rattle.wcif.specs.declared.options.Options.{Options}
 use Rattle.arguments.specs.Arguments.{IsFlag, IsGiven, IsNumberAt, IsNumberOr, any_text, csv_rule}
+use Rattle.arguments.specs.Arguments.{IsOneOf, optional_value_rule, home_arguments}
 use Rattle.arguments.specs.Arguments.{errand_arguments, flag_rule, numbers, option_rule}
 use Rattle.arguments.specs.Arguments.{optional_rule, value_rule, values_rule, wait_rule}
 use Rattle.batch.specs.declared.dialing.Contact.{Contact}
@@ -29,10 +36,8 @@ hall_arguments = with_rule (new_app (codes "hall")) (value_rule (codes "desks") 
 
 abbrev pub serve_arguments : App
 serve_arguments =
-    with_rule (with_rule (with_rule (with_rule (with_rule (with_rule (with_rule (with_rule
-    (with_rule (new_app (codes "serve"))
-    (option_rule (codes "hall") (numbers 0 4294967295)))
-    (option_rule (codes "desk") (numbers 0 255)))
+    with_rule (with_rule (with_rule (with_rule (with_rule (with_rule
+    (with_rule (home_arguments (codes "serve"))
     (option_rule (codes "store") any_text))
     (optional_rule (codes "patience") 1 86400))
     (optional_rule (codes "connections") 1 1000000))
@@ -43,6 +48,27 @@ serve_arguments =
 
 abbrev pub log_arguments : App
 log_arguments = with_rule (new_app (codes "log")) (option_rule (codes "store") any_text)
+
+-- how cumulative limits and how same names are imported, as it is typed
+abbrev pub as_single : List Text
+as_single = codes "as-single" ∷ []
+
+abbrev pub with_id : List Text
+with_id = codes "id" ∷ []
+
+-- the texts that are accepted at `import`
+pub record ImportParsers : Type 0 where
+  pub limits : Option ValueParser
+  pub names : Option ValueParser
+  pub limited : IsOneOf limits as_single
+  pub named : IsOneOf names with_id
+
+abbrev pub import_arguments : ImportParsers → App
+import_arguments p =
+    with_rule (with_rule (with_rule (new_app (codes "import"))
+    (option_rule (codes "wcif") any_text))
+    (optional_value_rule (codes "cumulative") p.limits))
+    (optional_value_rule (codes "same-names") p.names)
 
 abbrev pub enter_arguments : App
 enter_arguments =
@@ -69,16 +95,19 @@ sheet_arguments p =
     (value_rule (codes "position") (numbers 0 4294967295)))
     csv_rule
 
--- the texts that are accepted at `replay` and at `sheet`
+-- the texts that are accepted at `replay`, at `sheet` and at `import`
 pub record Parsers : Type 0 where
   pub replay : RoundParsers
   pub sheet : RoundParsers
+  pub imported : ImportParsers
 
 abbrev pub desk_arguments : Parsers → App
 desk_arguments p =
     with_subcommand (with_subcommand (with_subcommand (with_subcommand (with_subcommand
-    (with_subcommand (with_subcommand (with_subcommand (with_subcommand (with_subcommand named_app
+    (with_subcommand (with_subcommand (with_subcommand (with_subcommand (with_subcommand
+    (with_subcommand named_app
     (replay_arguments p.replay).top)
+    (import_arguments p.imported).top)
     hall_arguments.top)
     serve_arguments.top)
     log_arguments.top)
@@ -150,9 +179,29 @@ pub record IsService (s : Service) (rows : List Row) : Type 0 where
   pub quiet : IsFlag (codes "quiet") rows s.quiet
   pub addresses : all_of (codes "addr") rows ≡ Some (map (λ a. a.now) s.addresses.now)
 
+-- what becomes of time limits for several attempts together: `--cumulative as-single`, or nothing
+pub record IsLimits (rows : List Row) (way : CumulativeLimits) : Type 0 where
+  pub given : (text : Text) → first_of (codes "cumulative") rows ≡ Some text
+      → way ≡ limits.AsSingle
+  pub none : first_of (codes "cumulative") rows ≡ None → way ≡ limits.Refuse
+
+-- what becomes of a name that several persons have: `--same-names id`, or nothing
+pub record IsNames (rows : List Row) (way : SameNames) : Type 0 where
+  pub given : (text : Text) → first_of (codes "same-names") rows ≡ Some text
+      → way ≡ names.WithId
+  pub none : first_of (codes "same-names") rows ≡ None → way ≡ names.Refuse
+
+-- a competition's file, and how it is imported
+pub record IsImport (path : Text) (options : Options) (rows : List Row) : Type 0 where
+  pub file : first_of (codes "wcif") rows ≡ Some path
+  pub limits : IsLimits rows options.limits
+  pub names : IsNames rows options.names
+
 abbrev pub IsTask : Task → Text → List Row → Type 0
 IsTask (task.Replay event round style) name rows =
     (name ≡ codes "replay") × IsRound rows event round × IsPrinted rows style
+IsTask (task.Import file options) name rows =
+    (name ≡ codes "import") × IsImport file.now options rows
 IsTask (task.Hall desks) name rows =
     (name ≡ codes "hall") × IsNumberAt (codes "desks") rows desks
 IsTask (task.Carry errand) name rows = IsErrand errand name rows
@@ -173,6 +222,7 @@ HasId request.Stop = Unit {0}
 -- the ids of a task are in their range
 abbrev pub HasIds : Task → Type 0
 HasIds (task.Replay event round style) = Unit {0}
+HasIds (task.Import file options) = Unit {0}
 HasIds (task.Hall desks) = Unit {0}
 HasIds (task.Carry errand) = HasId errand.request
 HasIds (task.EnterLines contact batch) = Unit {0}

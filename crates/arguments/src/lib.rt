@@ -6,6 +6,7 @@ mod ask;
 mod enter;
 mod enter_lines;
 mod hall;
+mod import;
 mod laws;
 mod log;
 mod parsing;

@@ -9,6 +9,7 @@ use crate::ask::ask_command;
 use crate::enter::enter_command;
 use crate::enter_lines::enter_lines_command;
 use crate::hall::hall_command;
+use crate::import::import_command;
 use crate::log::log_command;
 use crate::serve::serve_command;
 use crate::sheet::sheet_command;
@@ -24,6 +25,7 @@ fn command<'a>(alloc: Global) -> Result<Command<'a>, AllocError>
 {
     let command = desk_command(alloc);
     let command = with_subcommand(command, replay_command(alloc)?)?;
+    let command = with_subcommand(command, import_command(alloc)?)?;
     let command = with_subcommand(command, hall_command(alloc)?)?;
     let command = with_subcommand(command, serve_command(alloc)?)?;
     let command = with_subcommand(command, log_command(alloc)?)?;

@@ -6,10 +6,12 @@ ghost use Rattle.arguments.specs.Arguments.{IsCommand, IsNumberOr, any_text, val
 ghost use Rattle.arguments.specs.Asking.{serve_arguments, wire_number, IsTask};
 
 use crate::task::{Task, of_four_bytes, of_one_byte};
-use crate::values::{flag, number_at, number_or, option, optional_at, optional_number};
+use crate::values::{
+    flag, home_command, number_at, number_or, option, optional_at, optional_number,
+};
 use clap::builder::ValueParser;
 use clap::{Arg, ArgAction, ArgMatches, Command};
-use replay_arguments::{plain_command, text_at, value, with_argument};
+use replay_arguments::{text_at, value, with_argument};
 use service::Service;
 use std::alloc::{AllocError, Global};
 use wire::Version;
@@ -55,23 +57,7 @@ fn address_value<'a>(alloc: Global) -> Arg<'a>
 pub fn serve_command<'a>(alloc: Global) -> Result<Command<'a>, AllocError>
     ensures { IfOk result (λ command. IsCommand command serve_arguments) }
 {
-    let command = plain_command(alloc, "serve", ABOUT, AFTER);
-    let hall = option(
-        alloc,
-        "hall",
-        "H",
-        "The hall's number, 0 to 4294967295",
-        ValueParser::unsigned(0, 4_294_967_295),
-    );
-    let command = with_argument(command, hall)?;
-    let desk = option(
-        alloc,
-        "desk",
-        "D",
-        "The desk's number, from 1",
-        ValueParser::unsigned(0, 255),
-    );
-    let command = with_argument(command, desk)?;
+    let command = home_command(alloc, "serve", ABOUT, AFTER)?;
     let store = option(
         alloc,
         "store",

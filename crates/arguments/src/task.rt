@@ -8,6 +8,7 @@ use crate::ask::asked_id;
 use crate::enter::entered;
 use crate::enter_lines::lines_of;
 use crate::hall::hall_of;
+use crate::import::import_of;
 use crate::log::log_of;
 use crate::serve::serve_of;
 use crate::sheet::sheet_of;
@@ -18,6 +19,7 @@ use formats::Event;
 use replay_arguments::replay_of;
 use service::Service;
 use sheets::Style;
+use wcif::Options;
 use wire::SheetStyle;
 
 /// What a client asks of a desk.
@@ -62,6 +64,11 @@ pub enum Task<'a> {
         event: Event,
         round: u8,
         style: Style,
+    },
+    /// The commands that set up the competition of a file.
+    Import {
+        file: &'a str,
+        options: Options,
     },
     /// A hall of so many desks, run from a script.
     Hall {
@@ -157,6 +164,7 @@ fn task_named<'m, 'a: 'm>(name: &str, found: &'m ArgMatches<'a>) -> Option<Task<
 {
     match name {
         "replay" => replayed(found),
+        "import" => import_of(found),
         "hall" => hall_of(found),
         "serve" => serve_of(found),
         "enter-lines" => lines_of(found),

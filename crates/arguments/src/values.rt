@@ -3,8 +3,9 @@
 ghost use Rattle.std.specs.Prelude.{◌≡◌, false, codes, IfOk, IfSome, Some};
 ghost use Rattle.clap.specs.Words.{found_of, rows_of, rule_of};
 ghost use Rattle.arguments.specs.Arguments.{IsCommand, IsGiven, IsNumberAt, IsNumberOr};
-ghost use Rattle.arguments.specs.Arguments.{errand_arguments, flag_rule, numbers, option_rule};
-ghost use Rattle.arguments.specs.Arguments.{optional_rule, value_rule};
+ghost use Rattle.arguments.specs.Arguments.{errand_arguments, flag_rule, home_arguments, numbers};
+ghost use Rattle.arguments.specs.Arguments.{option_rule};
+ghost use Rattle.arguments.specs.Arguments.{optional_rule, optional_value_rule, value_rule};
 ghost use Rattle.arguments.specs.Asking.{IsContact};
 ghost use Rattle.wire.specs.Ranges.{IsId};
 
@@ -30,6 +31,20 @@ pub fn option<'a>(
     value(alloc, id, name, help, parser).long(id)
 }
 
+/// A value, given after two hyphens and its id. It may be left out.
+pub fn optional_value<'a>(
+    alloc: Global,
+    id: &'a str,
+    name: &'a str,
+    help: &'a str,
+    parser: ValueParser<'a>,
+) -> Arg<'a>
+    ensures rule { rule_of result ≡ optional_value_rule id.entry.now (Some parser.entry) }
+    ensures local { result.global ≡ false }
+{
+    option(alloc, id, name, help, parser).required(false)
+}
+
 /// A whole number from `low` to `high`, given after two hyphens and its id. It may be left out.
 pub fn optional_number<'a>(
     alloc: Global,
@@ -42,7 +57,7 @@ pub fn optional_number<'a>(
     ensures rule { rule_of result ≡ optional_rule id.entry.now low high }
     ensures local { result.global ≡ false }
 {
-    option(alloc, id, name, help, ValueParser::unsigned(low, high)).required(false)
+    optional_value(alloc, id, name, help, ValueParser::unsigned(low, high))
 }
 
 /// A flag, given after two hyphens.
@@ -59,14 +74,14 @@ pub fn flag<'a>(alloc: Global, id: &'a str, help: &'a str) -> Arg<'a>
 /// For how many seconds a desk is waited for without the option `--patience`.
 const PATIENCE: u32 = 10;
 
-/// A subcommand that asks a desk: its hall, its number, its address, and how long to wait for it.
-pub fn errand_command<'a>(
+/// A subcommand that names a desk of a hall: the hall's number and its own.
+pub fn home_command<'a>(
     alloc: Global,
     name: &'a str,
     about: &'a str,
     after: &'a str,
 ) -> Result<Command<'a>, AllocError>
-    ensures { IfOk result (λ c. IsCommand c (errand_arguments name.entry.now)) }
+    ensures { IfOk result (λ c. IsCommand c (home_arguments name.entry.now)) }
 {
     let command = plain_command(alloc, name, about, after);
     let hall = option(
@@ -84,7 +99,19 @@ pub fn errand_command<'a>(
         "The desk's number, 1 to 5",
         ValueParser::unsigned(0, 255),
     );
-    let command = with_argument(command, desk)?;
+    with_argument(command, desk)
+}
+
+/// A subcommand that asks a desk: its hall, its number, its address, and how long to wait for it.
+pub fn errand_command<'a>(
+    alloc: Global,
+    name: &'a str,
+    about: &'a str,
+    after: &'a str,
+) -> Result<Command<'a>, AllocError>
+    ensures { IfOk result (λ c. IsCommand c (errand_arguments name.entry.now)) }
+{
+    let command = home_command(alloc, name, about, after)?;
     let to = option(
         alloc,
         "to",

@@ -1,5 +1,5 @@
 -- What an exit status says of the run.
-use Rattle.std.specs.Prelude.{◌≡◌, ◌⊎◌, ℕ, List, Option}
+use Rattle.std.specs.Prelude.{◌≡◌, ◌⊎◌, ℕ, List, Option, None}
 use Rattle.std.specs.Io.KnownBytes.{Keeps}
 use Rattle.clap.specs.Words.{Text}
 use Rattle.lines.specs.Bytes.{HasLeft, Sides}
@@ -12,6 +12,10 @@ use Rattle.batch.specs.Dialing.{Dialed, Told, place_of}
 use Rattle.batch.specs.Entering.{AsksAll}
 use Rattle.batch.specs.declared.dialing.Contact.{Contact}
 use Rattle.batch.specs.declared.lines_entered.Batch.{Batch}
+use Rattle.imports.specs.Printing.{FailsImport, PrintsImport}
+use Rattle.imports.specs.Printing.{status_of as status_of_import}
+use Rattle.imports.specs.declared.fault.ImportsFault.{ImportsFault}
+use Rattle.wcif.specs.declared.options.Options.{Options}
 use Rattle.wire.specs.Ranges.{IsDesk}
 use Rattle.stored_log.specs.StoredLogs.{PrintsLog, PrintsLogPart}
 use Rattle.stored_log.specs.declared.fault.LogFault.{LogFault}
@@ -62,6 +66,12 @@ EndsLog status old new =
     ((status ≡ 0) × PrintsLog old new)
     ⊎ ((e : LogFault) × (status ≡ status_of (fault_of_log e)) × PrintsAtMost e old new)
 
+-- a competition's commands were printed, or not
+abbrev pub EndsImport : ℕ → Options → Option (List ℕ) → Option (List ℕ) → Type 0
+EndsImport status options old new =
+    ((status ≡ 0) × PrintsImport options None old new)
+    ⊎ ((f : ImportsFault) × (status ≡ status_of_import f) × FailsImport f options None old new)
+
 -- what became of connections to desks before a run and afterwards, where that is told
 pub record Calls : Type 0 where
   pub old : Option (List Dialed)
@@ -104,6 +114,8 @@ abbrev pub Ends : Task → ℕ → Sides → Calls → Type 0
 Ends (task.Replay event round style) status s c =
     (input : List ℕ) × HasLeft s.had input
     × EndsReplay status (run_of style event round input s)
+Ends (task.Import file options) status s c =
+    Keeps s.had s.left × EndsImport status options s.old s.new
 Ends (task.Hall desks) status s c =
     (input : List ℕ) × HasLeft s.had input
     × EndsHall status (hall_run_of desks input s)

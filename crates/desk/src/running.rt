@@ -13,6 +13,7 @@ use command_line::borrowed;
 use errands::{DeskFault, carry, enter_all, tell, tell_asking};
 use fault_lines::{tell_bad_number, tell_fault, tell_parse_error, tell_replay, tell_run};
 use hall::hall;
+use imports::{print_file, tell_import};
 use lines::RunFault;
 use replay::replay;
 use serve::{ServeFault, serve};
@@ -73,6 +74,10 @@ fn run_task<D: Dial, R: Read, W: Write, F: Write>(
             let ran = replay(rt.alloc(), reader, writer, event, round, style);
             tell_replay(faults, ran)
         }
+        Task::Import { file, options } => match print_file(rt, file, options, writer) {
+            Ok(()) => 0,
+            Err(fault) => tell_import(faults, file, &fault),
+        },
         Task::Hall { desks } => {
             let ran = hall(rt.alloc(), reader, writer, desks);
             tell_run(faults, ran)
@@ -105,7 +110,7 @@ fn run_task<D: Dial, R: Read, W: Write, F: Write>(
 /// `faults`, or where they ask for help or the version, with its text on `writer`; 3 for a named
 /// refusal, 4 for a device that failed, 5 for `no memory`. The texts of these three are one line on
 /// `faults`: [`DeskFault`] has them. What each subcommand reads, writes and refuses is said at
-/// [`replay`](replay::replay), [`hall`](hall::hall) and [`carry`]. A desk is asked by `dial`.
+/// [`replay`](replay::replay), [`print_file`], [`hall`](hall::hall) and [`carry`]. A desk is asked by `dial`.
 pub fn run_arguments<'a, D: Dial, R: Read, W: Write, F: Write>(
     rt: &HostRuntime,
     dial: &mut D,

@@ -20,6 +20,7 @@ use Rattle.serving.specs.Serving.{answer_out}
 use Rattle.serving.specs.Telling.{run_of, entries_told}
 use Rattle.serving.specs.Turns.{Talk, new_talk}
 use Rattle.serving.specs.TurnLaw.{Place, Came, Turns}
+use Rattle.connections.specs.Connections.{Goes, place_of}
 use Rattle.store.specs.declared.home.Home.{Home}
 use Rattle.store.specs.declared.keeper.Keeper.{Ghosts}
 use Rattle.wire.specs.Ranges.{IsFrame}
@@ -30,7 +31,8 @@ use Rattle.wire.specs.declared.values.Version.TheVariants.{Two}
 use Rattle.hall_laws.specs.HallExample.{third_home, three_desks, tick_frame, says, said_frame}
 use Rattle.hall_laws.specs.HallExample.{first_of, begun_as, tick_acts, SmallRunIsARun}
 use Rattle.hall_laws.specs.HallRuns.{Station, Hall, HallEvent, TurnAt, TickedAt, seen_of, IsTick}
-use Rattle.hall_laws.specs.HallRuns.{TurnWasSent, HallGoes}
+use Rattle.hall_laws.specs.HallRuns.{AreDone, TurnWasSent, HallGoes, connections}
+use Rattle.hall_laws.proofs.HallFrames.{came_whole, talk_with}
 use Rattle.hall_laws.proofs.HallTurns.{with_station, takes_turn, ticks_itself}
 
 abbrev first_node : {K : Type 0} → K → NodeValue K
@@ -72,15 +74,7 @@ still {K} k keeper d event ms home holds steps range fits = record {
 -- ---- turns
 
 abbrev talk_of : Home → List Frame → ℕ → List ℕ → Talk
-talk_of home waiting frames pending = record {
-  home = home;
-  wire = Two;
-  stream = holding [];
-  waiting = waiting;
-  frames = frames;
-  pending = pending;
-  end = None;
-}
+talk_of home waiting frames pending = talk_with home Two waiting frames pending
 
 abbrev place_in : {K : Type 0} → (k : Ghosts K) → K → Talk → Place (speaking (Handles k) Two)
 place_in k keeper talk = record {
@@ -88,29 +82,6 @@ place_in k keeper talk = record {
   seen = seen_of (first_node keeper);
   outside = outside_of (speaking (Handles k) Two) (first_node keeper) None;
 }
-
-comes_in : {K : Type 0} (k : Ghosts K) (keeper : K) (home : Home) (f : Frame) → IsFrame f
-    → Turns (Came (spelling f)) (place_in k keeper (new_talk home Two))
-    (place_in k keeper (talk_of home (f ∷ []) 0 []))
-unfolding front
-comes_in k keeper home f is = (
-  record {
-    free = record { unended = refl; taken = refl };
-    served = refl;
-    unbroken = refl;
-  },
-  (
-    record { home = refl; wire = refl; frames = refl; pending = refl },
-    record {
-      rest = [];
-      whole = sym (append-nil (spelling f ++ []) ∙ append-nil (spelling f));
-      each = (is, tt);
-      ends = λ none. none;
-      keeps = refl;
-    },
-  ),
-  record { seen = refl; outside = refl },
-)
 
 abbrev as_begun : Frame → Begun
 as_begun f = record { frame = f; fates = [] }
@@ -324,18 +295,33 @@ small_run_is_a_run {K} k keeper own = (
         still k (keeper 2) 2 (Deliver (says 2)) [] (own 2 two_of_three).0
         (own 2 two_of_three).1 refl tt (λ j m less. absurd (omega arith))
 
-    first_turn : HallGoes k 3 one (three_desks keeper) (hall_1 keeper)
-    first_turn =
-        takes_turn k 3 1 (three_desks keeper) (first_of (Came (spelling tick_frame)))
-        (station (keeper 1) 1 (talk_of (third_home 1) (tick_frame ∷ []) 0 [])) [] one_of_three
-        refl
+    -- the bytes of a frame come to a desk that had no turn
+    bytes_come : (d : ℕ) (f : Frame) (w : Hall K) → IsDesk 3 d → IsFrame f
+        → w.desks d ≡ (three_desks keeper).desks d
+        → HallGoes k 3 (TurnAt d (first_of (Came (spelling f))) []) w
+        (with_station w d (station (keeper d) d (talk_of (third_home d) (f ∷ []) 0 [])) [])
+    bytes_come d f w ours is new =
+        let now = talk_of (third_home d) (f ∷ []) 0 [] in
+        let way = speaking (Handles k) Two in
+        let outside = outside_of (speaking (Handles k) Two) (first_node (keeper d)) None in
+        takes_turn k 3 d w (first_of (Came (spelling f))) (station (keeper d) d now) [] ours
+        (sym (ap (λ z. z.wire) new))
+        (subst
+        (λ z. Goes (first_of (Came (spelling f))) (connections k z.wire z)
+        (connections k z.wire (station (keeper d) d now)))
+        (sym new)
         (record {
-          turn = comes_in k (keeper 1) (third_home 1) tick_frame tick_is_frame;
-          others = λ j other.
-              only_one (talk_of (third_home 1) (tick_frame ∷ []) 0 [])
-              (new_talk (third_home 1) Two) j other;
-        })
-        refl tt
+          turn = came_whole way (seen_of (first_node (keeper d))) outside (third_home d) Two f is;
+          others = λ j other. only_one now (new_talk (third_home d) Two) j other;
+        }))
+        (subst
+        (λ z. AreDone (Came (spelling f)) (place_of (connections k z.wire z) 0)
+        (place_of (connections k z.wire (station (keeper d) d now)) 0) [])
+        (sym new) refl)
+        tt
+
+    first_turn : HallGoes k 3 one (three_desks keeper) (hall_1 keeper)
+    first_turn = bytes_come 1 tick_frame (three_desks keeper) one_of_three tick_is_frame refl
 
     second_turn : HallGoes k 3 two (hall_1 keeper) (hall_2 keeper)
     second_turn =
@@ -354,17 +340,7 @@ small_run_is_a_run {K} k keeper own = (
         (subst (λ z. TurnWasSent z [] (begun_as tick_frame)) (sym (own 1 one_of_three).0) tt)
 
     third_turn : HallGoes k 3 three (hall_2 keeper) (hall_3 keeper)
-    third_turn =
-        takes_turn k 3 2 (hall_2 keeper) (first_of (Came (spelling said_frame)))
-        (station (keeper 2) 2 (talk_of (third_home 2) (said_frame ∷ []) 0 [])) [] two_of_three
-        refl
-        (record {
-          turn = comes_in k (keeper 2) (third_home 2) said_frame said_is_frame;
-          others = λ j other.
-              only_one (talk_of (third_home 2) (said_frame ∷ []) 0 [])
-              (new_talk (third_home 2) Two) j other;
-        })
-        refl tt
+    third_turn = bytes_come 2 said_frame (hall_2 keeper) two_of_three said_is_frame refl
 
     fourth_turn : HallGoes k 3 four (hall_3 keeper) (hall_4 keeper)
     fourth_turn =

@@ -43,7 +43,7 @@ abbrev pub place : {V : Type 0} → (way : Way V) → Seen → Outside way → T
 place way seen outside talk = record { talk = talk; seen = seen; outside = outside }
 
 -- the bytes of a frame come
-came_whole : {V : Type 0} (way : Way V) (seen : Seen) (outside : Outside way) (home : Home)
+pub came_whole : {V : Type 0} (way : Way V) (seen : Seen) (outside : Outside way) (home : Home)
     (wire : Version) (f : Frame) → IsFrame f
     → Turns (Came (spelling f)) (place way seen outside (new_talk home wire))
     (place way seen outside (talk_with home wire (f ∷ []) 0 []))

@@ -36,6 +36,7 @@ use Rattle.multiplex.specs.declared.table.Terms.{Terms}
 use Rattle.multiplex.proofs.Apart.{Apart, Below, Other, instead, one_behind, others, without}
 use Rattle.multiplex.proofs.Placed.{all_as, all_back, all_both, all_front}
 use Rattle.multiplex.proofs.Shutting.{all_but}
+use Rattle.multiplex.proofs.Telling.{turns_both as told_both}
 
 -- ---- the turns of steps
 
@@ -548,85 +549,58 @@ SameCome k hs us = gave k hs ≡ received (turns_of k us)
 abbrev SameTaken : ℕ → List Happened → List TurnOf → Type 0
 SameTaken k hs us = took k hs ≡ handed_out (turns_of k us)
 
+-- What is told of a visit, and its turns, have the same bytes of one way, where each turn has: `run`
+-- gives those that are told, `part` those of a turn, `total` those of many.
+told_as_turned : (k j : ℕ) (run : List Happened → List ℕ) (part : Turn → List ℕ)
+    (total : List Turn → List ℕ)
+    → ((t : Turn) (ts : List Turn) → total (t ∷ ts) ≡ part t ++ total ts)
+    → ((t : Turn) (hs : List Happened)
+    → run (told_turns j (t ∷ []) ++ hs) ≡ cond (eqb j k) (part t ++ run hs) (run hs))
+    → (turns : List Turn) (hs : List Happened) (us : List TurnOf)
+    → run hs ≡ total (turns_of k us)
+    → run (told_turns j turns ++ hs) ≡ total (turns_of k (numbered j turns ++ us))
+told_as_turned k j run part total sums each [] hs us h = h
+told_as_turned k j run part total sums each (t ∷ ts) hs us h =
+    ap (λ z. run (z ++ hs)) (told_both j (t ∷ []) ts)
+    ∙ ap run (append_assoc (told_turns j (t ∷ [])) (told_turns j ts) hs)
+    ∙ each t (told_turns j ts ++ hs)
+    ∙ pick (eqb j k) (told_as_turned k j run part total sums each ts hs us h)
+  where
+    pick : (b : Bool)
+        → run (told_turns j ts ++ hs) ≡ total (turns_of k (numbered j ts ++ us))
+        → cond b (part t ++ run (told_turns j ts ++ hs)) (run (told_turns j ts ++ hs))
+        ≡ total (cond b (t ∷ turns_of k (numbered j ts ++ us)) (turns_of k (numbered j ts ++ us)))
+    pick true later = ap (λ z. part t ++ z) later ∙ sym (sums t (turns_of k (numbered j ts ++ us)))
+    pick false later = later
+
+-- nothing is added in either case
+either : (b : Bool) (bytes : List ℕ) → bytes ≡ cond b bytes bytes
+either true bytes = refl
+either false bytes = refl
+
 came_turns : (k j : ℕ) (turns : List Turn) (hs : List Happened) (us : List TurnOf)
     → SameCome k hs us → SameCome k (told_turns j turns ++ hs) (numbered j turns ++ us)
-came_turns k j [] hs us h = h
-came_turns k j (CameIn piece ∷ ts) hs us h =
-    pick (eqb j k) (came_turns k j ts hs us h)
+came_turns k j = told_as_turned k j (gave k) came_in received (λ t ts. refl) each
   where
-    pick : (b : Bool) → SameCome k (told_turns j ts ++ hs) (numbered j ts ++ us)
-        → cond b (piece ++ gave k (told_turns j ts ++ hs)) (gave k (told_turns j ts ++ hs))
-        ≡ received (cond b (CameIn piece ∷ turns_of k (numbered j ts ++ us))
-        (turns_of k (numbered j ts ++ us)))
-    pick true later = ap (λ z. piece ++ z) later
-    pick false later = later
-came_turns k j (TookOf bytes ∷ ts) hs us h =
-    pick (eqb j k) (came_turns k j ts hs us h)
-  where
-    pick : (b : Bool) → SameCome k (told_turns j ts ++ hs) (numbered j ts ++ us)
-        → gave k (told_turns j ts ++ hs)
-        ≡ received (cond b (TookOf bytes ∷ turns_of k (numbered j ts ++ us))
-        (turns_of k (numbered j ts ++ us)))
-    pick true later = later
-    pick false later = later
-came_turns k j (Began one ∷ ts) hs us h =
-    pick (eqb j k) (came_turns k j ts hs us h)
-  where
-    pick : (b : Bool) → SameCome k (told_turns j ts ++ hs) (numbered j ts ++ us)
-        → gave k (told_turns j ts ++ hs)
-        ≡ received (cond b (Began one ∷ turns_of k (numbered j ts ++ us))
-        (turns_of k (numbered j ts ++ us)))
-    pick true later = later
-    pick false later = later
-came_turns k j (Rested ∷ ts) hs us h =
-    pick (eqb j k) (came_turns k j ts hs us h)
-  where
-    pick : (b : Bool) → SameCome k (told_turns j ts ++ hs) (numbered j ts ++ us)
-        → gave k (told_turns j ts ++ hs)
-        ≡ received (cond b (Rested ∷ turns_of k (numbered j ts ++ us))
-        (turns_of k (numbered j ts ++ us)))
-    pick true later = later
-    pick false later = later
+    each : (t : Turn) (hs : List Happened)
+        → gave k (told_turns j (t ∷ []) ++ hs)
+        ≡ cond (eqb j k) (came_in t ++ gave k hs) (gave k hs)
+    each (CameIn piece) hs = refl
+    each (TookOf bytes) hs = either (eqb j k) (gave k hs)
+    each (Began one) hs = either (eqb j k) (gave k hs)
+    each Rested hs = either (eqb j k) (gave k hs)
 
 taken_turns : (k j : ℕ) (turns : List Turn) (hs : List Happened) (us : List TurnOf)
     → SameTaken k hs us → SameTaken k (told_turns j turns ++ hs) (numbered j turns ++ us)
-taken_turns k j [] hs us h = h
-taken_turns k j (TookOf bytes ∷ ts) hs us h =
-    pick (eqb j k) (taken_turns k j ts hs us h)
+taken_turns k j = told_as_turned k j (took k) taken_in handed_out (λ t ts. refl) each
   where
-    pick : (b : Bool) → SameTaken k (told_turns j ts ++ hs) (numbered j ts ++ us)
-        → cond b (bytes ++ took k (told_turns j ts ++ hs)) (took k (told_turns j ts ++ hs))
-        ≡ handed_out (cond b (TookOf bytes ∷ turns_of k (numbered j ts ++ us))
-        (turns_of k (numbered j ts ++ us)))
-    pick true later = ap (λ z. bytes ++ z) later
-    pick false later = later
-taken_turns k j (CameIn piece ∷ ts) hs us h =
-    pick (eqb j k) (taken_turns k j ts hs us h)
-  where
-    pick : (b : Bool) → SameTaken k (told_turns j ts ++ hs) (numbered j ts ++ us)
-        → took k (told_turns j ts ++ hs)
-        ≡ handed_out (cond b (CameIn piece ∷ turns_of k (numbered j ts ++ us))
-        (turns_of k (numbered j ts ++ us)))
-    pick true later = later
-    pick false later = later
-taken_turns k j (Began one ∷ ts) hs us h =
-    pick (eqb j k) (taken_turns k j ts hs us h)
-  where
-    pick : (b : Bool) → SameTaken k (told_turns j ts ++ hs) (numbered j ts ++ us)
-        → took k (told_turns j ts ++ hs)
-        ≡ handed_out (cond b (Began one ∷ turns_of k (numbered j ts ++ us))
-        (turns_of k (numbered j ts ++ us)))
-    pick true later = later
-    pick false later = later
-taken_turns k j (Rested ∷ ts) hs us h =
-    pick (eqb j k) (taken_turns k j ts hs us h)
-  where
-    pick : (b : Bool) → SameTaken k (told_turns j ts ++ hs) (numbered j ts ++ us)
-        → took k (told_turns j ts ++ hs)
-        ≡ handed_out (cond b (Rested ∷ turns_of k (numbered j ts ++ us))
-        (turns_of k (numbered j ts ++ us)))
-    pick true later = later
-    pick false later = later
+    each : (t : Turn) (hs : List Happened)
+        → took k (told_turns j (t ∷ []) ++ hs)
+        ≡ cond (eqb j k) (taken_in t ++ took k hs) (took k hs)
+    each (CameIn piece) hs = either (eqb j k) (took k hs)
+    each (TookOf bytes) hs = refl
+    each (Began one) hs = either (eqb j k) (took k hs)
+    each Rested hs = either (eqb j k) (took k hs)
 
 -- how a visit ends brings no bytes
 end_gives : (k j : ℕ) (fate : Option Why) (hs : List Happened)

@@ -1,7 +1,7 @@
 //! The Ticks that a desk gives itself.
 
 ghost use Rattle.std.specs.Prelude.{◌≡◌, ◌||◌};
-ghost use Rattle.multiplex.specs.Passing.{first_ticks, looked, shown, ticks_at};
+ghost use Rattle.multiplex.specs.Passing.{first_ticks, looked, over_if, shown, ticks_at};
 ghost use Rattle.multiplex.specs.model.Ticks.{MayTick, desks, left_at, own_of};
 
 use crate::ends::Over;
@@ -10,6 +10,17 @@ use serving::{Peers, tick};
 use std::alloc::Global;
 use ticking::{Period, Ticker};
 use wire::Version;
+
+/// Why serving is over by what was called of the desk, if it is.
+fn over_if_down<D: Desk>(node: &D) -> Option<Over>
+    ensures { result ≡ over_if (D.seen node.now).is_down }
+{
+    if node.is_down() {
+        Some(Over::Down)
+    } else {
+        None
+    }
+}
 
 /// When the desk gives itself a Tick, if it ever does.
 #[derive(Drop)]
@@ -87,10 +98,6 @@ impl OwnTicks {
         }
         let starved = tick(alloc, node, peers, wire).is_err();
         self.note(starved);
-        if node.is_down() {
-            Some(Over::Down)
-        } else {
-            None
-        }
+        over_if_down(node)
     }
 }

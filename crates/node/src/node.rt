@@ -165,6 +165,18 @@ impl<K: Keeper + Drop> Node<K> {
         self.replica.log()
     }
 
+    /// The keeper, with what it has kept.
+    pub fn into_keeper(self) -> K
+        ensures { result ≡ self.keeper }
+    {
+        let Node {
+            alloc: _,
+            replica,
+            kept: _,
+        } = self;
+        replica.into_keeper()
+    }
+
     /// What has become of a submitted id, by this desk's log and queue, also where the desk is
     /// Down.
     pub fn answer(&self, id: u64) -> Result<Told, NoMemory>

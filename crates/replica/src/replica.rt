@@ -228,4 +228,17 @@ impl<K: Keeper + Drop> Replica<K> {
     {
         self.desk.log()
     }
+
+    /// The keeper, with what it has kept.
+    pub fn into_keeper(self) -> K
+        ensures { result ≡ self.keeper }
+    {
+        let Replica {
+            alloc: _,
+            keeper,
+            desk: _,
+            is_down: _,
+        } = self;
+        keeper
+    }
 }

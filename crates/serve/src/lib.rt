@@ -2,6 +2,7 @@
 //! by side.
 #![tactic(auto)]
 
+mod closing;
 mod fault;
 mod hall;
 mod home;

@@ -7,6 +7,7 @@ ghost use Rattle.serve.specs.Serves.{FailsDesk, FailsKept, FailsNode, FailsThere
 ghost use Rattle.serve.specs.Serves.{RunsKept, ServesNode, ServesThere, ends_by, period_of, stage};
 ghost use Rattle.serve.specs.Serves.{terms_of};
 
+use crate::closing::{Close, close_node};
 use crate::fault::{ServeFault, fault_of_open};
 use crate::hall::{links_to, listen};
 use crate::home::home_of;
@@ -135,8 +136,9 @@ fn serve_there<K: Keeper + Drop, W: Write>(
     )
 }
 
-/// Opens the desk that a keeper keeps, which listens at its address and serves.
-fn serve_kept<K: Keeper + Drop, W: Write>(
+/// Opens the desk that a keeper keeps, which listens at its address and serves. At the end the
+/// keeper is closed, unless the desk is down.
+fn serve_kept<K: Keeper + Close + Drop, W: Write>(
     rt: &HostRuntime,
     service: Service<'_>,
     keeper: K,
@@ -157,7 +159,9 @@ fn serve_kept<K: Keeper + Drop, W: Write>(
         Ok(node) => node,
         Err(fault) => return Err(fault_of_open(fault_of_load(fault))),
     };
-    serve_there(rt, service, &mut node, writer)
+    let ended = serve_there(rt, service, &mut node, writer);
+    close_node(node);
+    ended
 }
 
 /// Opens a desk's file, listens at the desk's address, and serves the clients that come, side by
@@ -166,7 +170,9 @@ fn serve_kept<K: Keeper + Drop, W: Write>(
 ///
 /// Once it listens it prints `desk <d> of <n> len <len>`, and at its end `served <count>`. It ends
 /// once it has served as many connections as were asked for, where a client asks it to stop, and by
-/// a fault. Where a period is asked for, it gives itself Ticks.
+/// a fault. Where a period is asked for, it gives itself Ticks. At its end it closes the file, so
+/// that all stands in the file itself and nothing in the log beside it; no clause says that, since
+/// nothing is told of a file that was closed.
 ///
 /// `S` stands for what the file held.
 ///

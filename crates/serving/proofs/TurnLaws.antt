@@ -100,6 +100,38 @@ more_came bytes piece rest begun waiting none h =
       each = g.each;
     }
 
+-- the end came, and no frame is whole
+broke_off : {V : Type 0} {way : Way V} (e : End) (home : Home) (start a b : Place way)
+    (bytes taken piece rest : List ℕ) (begun : List Begun)
+    → Holds home start a bytes taken begun rest → WantsRead a.talk → OnlyReads a.talk b.talk
+    → IsQuiet a b → b.talk.end ≡ Some e → b.talk.waiting ≡ []
+    → Stands (Some e) home (sides_in start []) (sides_in a (taken ++ a.talk.pending)) begun
+    (rest ++ piece) a.talk.frames
+    → HoldsSome home start b (bytes ++ piece) taken
+broke_off e home start a b bytes taken piece rest begun h wants only quiet is none stands =
+    let begins = more_came bytes piece rest begun a.talk.waiting wants.served h.served.begins in (
+      begun,
+      rest ++ piece,
+      record {
+        place = only.home ∙ h.place;
+        spelled = subst (λ z. AllByRecursion IsFrame z) (sym none) tt;
+        stream = λ unended. absurd (some_end (sym is ∙ unended));
+        served = record {
+          begins =
+              subst (λ z. AreBegun (bytes ++ piece) begun (flat_map spelling z ++ (rest ++ piece)))
+              (sym none) begins;
+          counted = only.frames ∙ h.served.counted;
+          few = subst (λ z. z ≤ 64) (sym only.frames) h.served.few;
+          stands =
+              subst (λ z. Stands z home (sides_in start []) (sides_in b (taken ++ b.talk.pending))
+              begun (rest ++ piece) b.talk.frames) (sym is)
+              (quiet_as (Some e) home (sides_in start []) a b (taken ++ a.talk.pending)
+              (taken ++ b.talk.pending) begun (rest ++ piece) a.talk.frames b.talk.frames quiet
+              (ap (λ z. taken ++ z) only.pending) only.frames stands);
+        };
+      },
+    )
+
 -- the new frames wait, or the end came
 came_to : {V : Type 0} {way : Way V} (e : Option End) (home : Home) (start a b : Place way)
     (bytes taken piece rest : List ℕ) (begun : List Begun)
@@ -134,54 +166,13 @@ came_to (Some (end.Fault e)) home start a b bytes taken piece rest begun h wants
     is r =
     let serves = serves_of a.talk.end home _ _ begun rest _ wants.free.unended h.served.stands in
     let fed = subst (λ (z : Reader). z.held ++ piece ≡ rest ++ piece) (sym holds) refl in
-    let breaks = ap front (sym fed) ∙ r.0 in
-    let begins = more_came bytes piece rest begun a.talk.waiting wants.served h.served.begins in (
-      begun,
-      rest ++ piece,
-      record {
-        place = only.home ∙ h.place;
-        spelled = subst (λ z. AllByRecursion IsFrame z) (sym r.2) tt;
-        stream = λ none. absurd (some_end (sym is ∙ none));
-        served = record {
-          begins =
-              subst (λ z. AreBegun (bytes ++ piece) begun (flat_map spelling z ++ (rest ++ piece)))
-              (sym r.2) begins;
-          counted = only.frames ∙ h.served.counted;
-          few = subst (λ z. z ≤ 64) (sym only.frames) h.served.few;
-          stands =
-              subst (λ z. Stands z home (sides_in start []) (sides_in b (taken ++ b.talk.pending))
-              begun (rest ++ piece) b.talk.frames) (sym is)
-              (quiet_as (Some (end.Fault e)) home (sides_in start []) a b (taken ++ a.talk.pending)
-              (taken ++ b.talk.pending) begun (rest ++ piece) a.talk.frames b.talk.frames quiet
-              (ap (λ z. taken ++ z) only.pending) only.frames (serves.0, breaks, r.1));
-        };
-      },
-    )
+    broke_off (end.Fault e) home start a b bytes taken piece rest begun h wants only quiet is r.2
+    (serves.0, ap front (sym fed) ∙ r.0, r.1)
 came_to (Some end.NoMemory) home start a b bytes taken piece rest begun h wants only quiet holds is
     r =
     let serves = serves_of a.talk.end home _ _ begun rest _ wants.free.unended h.served.stands in
-    let begins = more_came bytes piece rest begun a.talk.waiting wants.served h.served.begins in (
-      begun,
-      rest ++ piece,
-      record {
-        place = only.home ∙ h.place;
-        spelled = subst (λ z. AllByRecursion IsFrame z) (sym r.1) tt;
-        stream = λ none. absurd (some_end (sym is ∙ none));
-        served = record {
-          begins =
-              subst (λ z. AreBegun (bytes ++ piece) begun (flat_map spelling z ++ (rest ++ piece)))
-              (sym r.1) begins;
-          counted = only.frames ∙ h.served.counted;
-          few = subst (λ z. z ≤ 64) (sym only.frames) h.served.few;
-          stands =
-              subst (λ z. Stands z home (sides_in start []) (sides_in b (taken ++ b.talk.pending))
-              begun (rest ++ piece) b.talk.frames) (sym is)
-              (quiet_as (Some end.NoMemory) home (sides_in start []) a b (taken ++ a.talk.pending)
-              (taken ++ b.talk.pending) begun (rest ++ piece) a.talk.frames b.talk.frames quiet
-              (ap (λ z. taken ++ z) only.pending) only.frames (inl serves.0));
-        };
-      },
-    )
+    broke_off end.NoMemory home start a b bytes taken piece rest begun h wants only quiet is r.1
+    (inl serves.0)
 came_to (Some end.End) home start a b bytes taken piece rest begun h wants only quiet holds is r =
     absurd r
 came_to (Some end.Stopped) home start a b bytes taken piece rest begun h wants only quiet holds is

@@ -8,6 +8,11 @@ returns-in-hall c =
     task_renamed c.args.name.now (codes "hall") (rows_of (found_of c.args.found.now))
     c.hall_of.result c.in-hall.is c.hall_of.ensures
 
+pub returns-in-import : goal.returns-in-import
+returns-in-import c =
+    task_renamed c.args.name.now (codes "import") (rows_of (found_of c.args.found.now))
+    c.import_of.result c.in-import.is c.import_of.ensures
+
 pub returns-in-replay : goal.returns-in-replay
 returns-in-replay c =
     task_renamed c.args.name.now (codes "replay") (rows_of (found_of c.args.found.now))

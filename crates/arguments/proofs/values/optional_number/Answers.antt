@@ -1,15 +1,11 @@
-use Rattle.std.proofs.Common.{◌∙◌, ap, Some, false}
-use Rattle.clap.specs.Words.{Rule, rule_of}
-use Rattle.clap.specs.declared.builder.arg.Arg.{Arg}
-use Rattle.arguments.specs.Arguments.{option_rule}
+use Rattle.std.proofs.Common.{◌∙◌, ap, Some}
+use Rattle.arguments.specs.Arguments.{optional_value_rule}
 use Rattle.arguments.proofs.values.optional_number.Goals as goal
 
 pub returns : goal.returns
 returns c = record {
   rule =
-      ap rule_of c.required.ensures
-      ∙ ap (λ (r : Rule). record r { required = false })
-      (c.option.ensures.rule
-      ∙ ap (λ p. option_rule c.args.id.now (Some p)) c.unsigned.ensures);
-  local = ap (λ (a : Arg). a.global) c.required.ensures ∙ c.option.ensures.local;
+      c.optional_value.ensures.rule
+      ∙ ap (λ p. optional_value_rule c.args.id.now (Some p)) c.unsigned.ensures;
+  local = c.optional_value.ensures.local;
 }

@@ -1,11 +1,11 @@
 use Rattle.std.proofs.Common.{sym, ap, subst, inr, ◌∙◌, ◌||◌}
 use Rattle.serving.specs.OwnTicks.{sides_alone}
-use Rattle.multiplex.specs.Passing.{TicksBy, over_if}
+use Rattle.multiplex.specs.Passing.{TicksBy}
 use Rattle.multiplex.proofs.Looking.{own_same, ticks_by}
 use Rattle.multiplex.proofs.own_ticks.OwnTicks.tick_if_due.Goals as goal
 
-pub returns-then-is_down-clause-ticks : goal.returns-then-is_down-clause-ticks
-returns-then-is_down-clause-ticks g c =
+pub returns-clause-ticks : goal.returns-clause-ticks
+returns-clause-ticks g c =
     let starved = c.is_err-starved.result in
     let old = c.args.self.now in
     let home = g.D.Desk.home_of c.args.node.now in
@@ -21,27 +21,6 @@ returns-then-is_down-clause-ticks g c =
         own =
             c.note.ensures
             ∙ own_same c.look.ensures.after (ap (λ z. starved || z) c.look.ensures.starved);
-        ends = ap over_if c.if-is_down.ensures;
-      },
-    )
-
-pub returns-else-is_down-clause-ticks : goal.returns-else-is_down-clause-ticks
-returns-else-is_down-clause-ticks g c =
-    let starved = c.is_err-starved.result in
-    let old = c.args.self.now in
-    let home = g.D.Desk.home_of c.args.node.now in
-    let a = sides_alone g.D.Desk g.P.Peers c.args.wire c.args.node.now c.args.peers.now in
-    let b = sides_alone g.D.Desk g.P.Peers c.args.wire c.tick.new.node c.tick.new.peers in
-    inr (
-      starved,
-      record {
-        due = sym c.if-not-look.ensures.due;
-        tick =
-            subst (λ z. TicksBy z home a b) (sym c.is_err-starved.ensures.value)
-            (ticks_by c.tick.result home a b c.tick.ensures.ok c.tick.ensures.err);
-        own =
-            c.note.ensures
-            ∙ own_same c.look.ensures.after (ap (λ z. starved || z) c.look.ensures.starved);
-        ends = ap over_if c.if-is_down.ensures;
+        ends = c.over_if_down.ensures;
       },
     )

@@ -1,0 +1,9 @@
+//! A competition's file, read and printed as the lines of a desk's commands.
+#![tactic(auto)]
+
+mod fault;
+mod printing;
+mod reading;
+
+pub use fault::{ImportsFault, tell_import};
+pub use printing::{print_file, print_import};

@@ -1,0 +1,27 @@
+//! A desk's file, closed when the desk has served.
+
+use node::Node;
+use sqlite::{FileFrom, FileStore, Start};
+use store::keeper::Keeper;
+use store::sql::SqlKeeper;
+
+/// A keeper that can be closed.
+pub trait Close {
+    /// Closes it, with all that it has kept.
+    fn close(self);
+}
+
+impl<S: Start> Close for SqlKeeper<FileStore<FileFrom<S>>> {
+    /// Copies what stands in the file's log into the file itself, so that who copies the file alone
+    /// has everything. Where the device refuses that, the log beside the file still has it.
+    fn close(self) {
+        let _ = self.into_connection().close();
+    }
+}
+
+/// Closes the keeper of a desk that has served. Where the desk is down, its file is left as it is.
+pub fn close_node<K: Keeper + Close + Drop>(node: Node<K>) {
+    if !node.is_down() {
+        node.into_keeper().close();
+    }
+}
