@@ -109,8 +109,10 @@ fn run_task<D: Dial, R: Read, W: Write, F: Write>(
 /// The status is 0 where it was done; 2 where the parser refused the arguments, with its text on
 /// `faults`, or where they ask for help or the version, with its text on `writer`; 3 for a named
 /// refusal, 4 for a device that failed, 5 for `no memory`. The texts of these three are one line on
-/// `faults`: [`DeskFault`] has them. What each subcommand reads, writes and refuses is said at
-/// [`replay`](replay::replay), [`print_file`], [`hall`](hall::hall) and [`carry`]. A desk is asked by `dial`.
+/// `faults`, but for those of a competition's file, of which there is one for each: [`DeskFault`]
+/// and [`tell_import`] have them. What each subcommand reads, writes and refuses is said at
+/// [`replay`](replay::replay), [`print_file`], [`hall`](hall::hall) and [`carry`]. A desk is asked
+/// by `dial`.
 pub fn run_arguments<'a, D: Dial, R: Read, W: Write, F: Write>(
     rt: &HostRuntime,
     dial: &mut D,

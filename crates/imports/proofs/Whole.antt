@@ -45,7 +45,7 @@ gives_none file.TooLong options (Some all) bytes front h =
     let is = ap length front in
     (all, refl, omega (arith, long, is, h))
 gives_none (file.NotJson e) options had bytes front h = (bytes, all_of had bytes front h.0, h)
-gives_none file.TooDeep options had bytes front h = (bytes, all_of had bytes front h.0, h)
+gives_none file.TooDeep options had bytes front h = (bytes, all_of had bytes front h.1, h)
 gives_none (file.Refused found) options had bytes front h =
     (bytes, all_of had bytes front h.1.short, h)
 gives_none file.NoMemory options None bytes front h = (bytes, tt, tt)

@@ -21,9 +21,9 @@ pub enum ImportsFault {
 }
 
 impl From<AllocError> for ImportsFault {
-    ghost use Rattle.imports.specs.declared.fault.ImportsFault.TheVariants.{NoMemory as OutOfMemory};
+    ghost use Rattle.imports.specs.declared.fault.ImportsFault.TheVariants as imports_fault;
 
-    ghost from_gives = { λ _ fault. fault ≡ OutOfMemory };
+    ghost from_gives = { λ _ fault. fault ≡ imports_fault.NoMemory };
 
     fn from(_: AllocError) -> ImportsFault {
         ImportsFault::NoMemory

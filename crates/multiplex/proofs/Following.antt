@@ -549,8 +549,8 @@ SameCome k hs us = gave k hs ≡ received (turns_of k us)
 abbrev SameTaken : ℕ → List Happened → List TurnOf → Type 0
 SameTaken k hs us = took k hs ≡ handed_out (turns_of k us)
 
--- What is told of a visit, and its turns, have the same bytes of one way, where each turn has: `run`
--- gives those that are told, `part` those of a turn, `total` those of many.
+-- What is told of a visit, and its turns, have the same bytes of one way, where each turn has:
+-- `run` gives those that are told, `part` those of a turn, `total` those of many.
 told_as_turned : (k j : ℕ) (run : List Happened → List ℕ) (part : Turn → List ℕ)
     (total : List Turn → List ℕ)
     → ((t : Turn) (ts : List Turn) → total (t ∷ ts) ≡ part t ++ total ts)

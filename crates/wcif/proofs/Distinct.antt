@@ -1,9 +1,9 @@
 -- Where nothing is said of the persons, no two accepted ones have one name.
-use Rattle.std.proofs.Common.{◌≡◌, ◌&&◌, ◌||◌, ◌==◌, ◌+◌, ℕ, Bool, true, false, not, cond, List, []}
+use Rattle.std.proofs.Common.{◌≡◌, ◌&&◌, ◌||◌, ℕ, Bool, true, false, not, cond, List, []}
 use Rattle.std.proofs.Common.{◌∷◌, ◌++◌, length, map}
 use Rattle.std.proofs.Common.{Option, Some, None, refl, ap, sym, ◌∙◌, eqb-true, is_some, nat_lt}
 use Rattle.std.proofs.Common.{◌⊎◌, inl, inr}
-use Rattle.std.specs.Prelude.{find, bytes_eq}
+use Rattle.std.specs.Prelude.{find}
 use Rattle.std.specs.List.{list_any}
 use Rattle.std.proofs.lemmas.Bool.{false≢true}
 use Rattle.std.proofs.lemmas.List.Folds.{list_any-append}
@@ -11,8 +11,6 @@ use Rattle.serde_json.specs.Data.{Data}
 use Rattle.texts.specs.Spelling.{is_name}
 use Rattle.texts.proofs.Numerals.{bytes_eq-same}
 use Rattle.wcif.specs.declared.options.SameNames.{SameNames}
-use Rattle.wcif.specs.declared.fault.Fault.{Fault}
-use Rattle.wcif.specs.declared.fault.PersonFault.{PersonFault}
 use Rattle.wcif.specs.declared.fault.PersonFault.TheVariants as fault
 use Rattle.wcif.specs.Persons.{is_accepted, number_of, is_number, has_number, name_as, has_name}
 use Rattle.wcif.specs.Persons.{name_faults, accepted_faults, most_events, number_faults}

@@ -1,10 +1,8 @@
 -- The registrations of an import are in the ranges of their fields.
 use Rattle.std.proofs.Common.{◌≡◌, ◌≤◌, ℕ, Bool, true, false, not, cond, List, [], ◌∷◌, ◌++◌}
-use Rattle.std.proofs.Common.{length}
 use Rattle.std.proofs.Common.{Option, Some, None, is_some, refl, ap, sym, ◌∙◌, eqb-true, ◌⊎◌, inl}
 use Rattle.std.proofs.Common.{inr}
 use Rattle.std.specs.Prelude.{find, IsTrue}
-use Rattle.std.specs.List.{list_any}
 use Rattle.std.proofs.lemmas.Bool.{false≢true}
 use Rattle.serde_json.specs.Data.{Data}
 use Rattle.texts.specs.Numerals.{within}
@@ -12,12 +10,11 @@ use Rattle.texts.specs.Spelling.{is_name}
 use Rattle.wcif.specs.declared.options.Options.{Options}
 use Rattle.wcif.specs.declared.options.SameNames.{SameNames}
 use Rattle.wcif.specs.declared.fault.PersonFault.TheVariants as fault
-use Rattle.wcif.specs.Persons.{is_accepted, number_of, is_number, has_number, name_as, has_name}
+use Rattle.wcif.specs.Persons.{is_accepted, number_of, is_number, has_number, name_as}
 use Rattle.wcif.specs.Persons.{name_faults, accepted_faults, number_faults, taken_faults}
 use Rattle.wcif.specs.Persons.{events_faults, event_ids, last_number}
-use Rattle.wcif.specs.Faults.{person_faults}
+use Rattle.wcif.specs.Faults.{person_faults, faults_in}
 use Rattle.wcif.specs.Told.{told_from}
-use Rattle.wcif.specs.Laws.{RegistrationsAreFit}
 use Rattle.wcif.proofs.Distinct.{front_none, back_none, map_none, no_cons, both_left, both_right}
 use Rattle.wcif.proofs.Distinct.{found_at, persons_free}
 use Rattle.wcif.proofs.Numbered.{ranged}
@@ -44,7 +41,7 @@ in_desk_range earlier (Some k) n none is = step (within 1 last_number k) refl no
         (rw (← same) found.1, rw (← same) found.2)
 
 -- nothing is said of an accepted person
-accepted_free : (how : SameNames) (events everyone earlier : List Data) (p : Data)
+pub accepted_free : (how : SameNames) (events everyone earlier : List Data) (p : Data)
     → person_faults how events everyone earlier p ≡ [] → is_accepted p ≡ true
     → accepted_faults how events everyone earlier p ≡ []
 unfolding person_faults
@@ -94,7 +91,10 @@ fit_from how events everyone earlier (x ∷ xs) n p none found =
         (fit_number how events everyone earlier x n free h.0, name)
     step (inr h) said later = later h
 
-pub fit : RegistrationsAreFit
-fit options persons events none n p found =
+pub fit_registered : (options : Options) (persons events : List Data)
+    → faults_in options (Some persons) (Some events) ≡ []
+    → (n : ℕ) (p : Data) → find (has_number n) persons ≡ Some p
+    → ((1 ≤ n) × (n ≤ last_number)) × IsTrue (is_name (name_as options.names persons p))
+fit_registered options persons events none n p found =
     fit_from options.names events persons [] persons n p
     (persons_free options persons events none) found

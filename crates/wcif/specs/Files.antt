@@ -43,8 +43,8 @@ FileFails options bytes (NotJson fault) =
     (length bytes ≤ most_bytes)
     × (IsUtf8 (without_mark bytes) → read (without_mark bytes) ≡ None)
 FileFails options bytes TooDeep =
-    (length bytes ≤ most_bytes)
-    × (d : Data) × (read (without_mark bytes) ≡ Some d) × (most_levels < depth d)
+    (d : Data) × (length bytes ≤ most_bytes) × IsUtf8 (without_mark bytes)
+    × (read (without_mark bytes) ≡ Some d) × (most_levels < depth d)
 FileFails options bytes (Refused found) =
     (d : Data) × Holds bytes d × (found.items ≡ faults options d) × (faults options d ≢ [])
 FileFails options bytes NoMemory = Unit {0}

@@ -21,6 +21,9 @@ mod text;
 pub use fault::{EventFault, Fault, PersonFault, RoundFault};
 pub use file::{FileFault, import_file};
 pub use importing::{ImportFault, import};
-pub use laws::{names_are_apart, registers_all, registrations_are_fit};
+pub use laws::{
+    accepts_all, commands_are_fit, does_all_lines, lists_are_held, names_are_apart,
+    prints_whole_lines, sets_up_meet,
+};
 pub use options::{CumulativeLimits, Options, SameNames};
 pub use text::print_lines;

@@ -1,4 +1,4 @@
-use Rattle.std.proofs.Common.{◌∙◌, ap, Some, false}
+use Rattle.std.proofs.Common.{◌∙◌, ap, false}
 use Rattle.clap.specs.Words.{Rule, rule_of}
 use Rattle.clap.specs.declared.builder.arg.Arg.{Arg}
 use Rattle.arguments.proofs.values.optional_value.Goals as goal

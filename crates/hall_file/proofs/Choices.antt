@@ -1,0 +1,171 @@
+-- What a file says leaves no choice.
+use Rattle.std.proofs.Common.{◌≡◌, ℕ, List, [], ◌∷◌, ◌++◌, map, length, refl, ap, sym}
+use Rattle.std.proofs.Common.{◌∙◌, arith, Some, Bool, true, false, ◌||◌}
+use Rattle.std.specs.List.{AllByRecursion, IsDistinct, list_any}
+use Rattle.std.specs.Prelude.{bytes_eq}
+use Rattle.std.proofs.lemmas.Bool.{false≢true}
+use Rattle.std.proofs.lemmas.List.{length-map}
+use Rattle.std.proofs.lemmas.Map.Keys.{IsDistinct-head, IsDistinct-tail}
+use Rattle.std.proofs.lemmas.Option.{same_Some}
+use Rattle.toml.specs.Data.{Data, string, as_str, as_array, Members, get_member}
+use Rattle.toml.specs.View.{items_of}
+use Rattle.hall_file.specs.Addresses.{IsAddress, is_count}
+use Rattle.hall_file.specs.Files.{SaysHall, Refuses, Opens}
+use Rattle.hall_file.specs.Members.{hall_name, desks_name, unknown_name}
+use Rattle.hall_file.specs.Members.{list_of, SaysDesks, FailsDesks, HasItem, hall_of}
+use Rattle.hall_file.proofs.Texts.{same_texts}
+use Rattle.hall_file.specs.declared.fault.DesksFault.{DesksFault}
+use Rattle.hall_file.specs.declared.fault.DesksFault.TheVariants.{NotList, BadCount, NotText}
+use Rattle.hall_file.specs.declared.fault.DesksFault.TheVariants.{NotAddress, Twice}
+use Rattle.hall_file.specs.declared.fault.HallFault.{HallFault}
+use Rattle.hall_file.specs.declared.fault.HallFault.TheVariants as fault
+use Rattle.hall_file.specs.declared.fault.Member.TheVariants as name
+
+same_items : (ds es : List Data) → items_of ds ≡ items_of es → ds ≡ es
+same_items [] [] e = refl
+same_items [] (x ∷ es) e = absurd (cc)
+same_items (d ∷ ds) [] e = absurd (cc)
+same_items (d ∷ ds) (x ∷ es) e =
+    let head : d ≡ x = cc in
+    let tail : items_of ds ≡ items_of es = cc in
+    rw (head, same_items ds es tail) refl
+
+same_lists : (ds es : List Data) → list_of ds ≡ list_of es → ds ≡ es
+same_lists ds es e = let inner : items_of ds ≡ items_of es = cc in same_items ds es inner
+
+same_strings : (xs ys : List (List ℕ)) → map string xs ≡ map string ys → xs ≡ ys
+same_strings [] [] e = refl
+same_strings [] (y ∷ ys) e = absurd (cc)
+same_strings (x ∷ xs) [] e = absurd (cc)
+same_strings (x ∷ xs) (y ∷ ys) e =
+    let head : x ≡ y = cc in
+    let tail : map string xs ≡ map string ys = cc in
+    rw (head, same_strings xs ys tail) refl
+
+-- texts that a list of items is, cut at one of the items
+record IsCut (desks front : List (List ℕ)) (d : Data) : Type 0 where
+  text : List ℕ
+  rest : List (List ℕ)
+  value : d ≡ string text
+  whole : desks ≡ front ++ text ∷ rest
+
+cut_at : (front desks : List (List ℕ)) (d : Data) (rest : List Data)
+    → map string front ++ d ∷ rest ≡ map string desks → IsCut desks front d
+cut_at [] [] d rest e = absurd (cc)
+cut_at [] (t ∷ desks) d rest e = record { text = t; rest = desks; value = cc; whole = refl }
+cut_at (f ∷ front) [] d rest e = absurd (cc)
+cut_at (f ∷ front) (t ∷ desks) d rest e =
+    let head : f ≡ t = cc in
+    let tail : map string front ++ d ∷ rest ≡ map string desks = cc in
+    let cut = cut_at front desks d rest tail in
+    record {
+      text = cut.text;
+      rest = cut.rest;
+      value = cut.value;
+      whole = ap (λ x. x ∷ desks) (sym head) ∙ ap (λ xs. f ∷ xs) cut.whole;
+    }
+
+all_here : (P : List ℕ → Type 0) (front : List (List ℕ)) (x : List ℕ) (rest : List (List ℕ))
+    → AllByRecursion P (front ++ x ∷ rest) → P x
+all_here P [] x rest all = all.0
+all_here P (y ∷ front) x rest all = all_here P front x rest all.1
+
+or_step : (b later : Bool) → (b || later) ≡ true → (b ≡ true → ⊥) → later ≡ true
+or_step true later e none = absurd (none refl)
+or_step false later e none = e
+
+-- of distinct texts none stands in front of itself
+apart_front : (front : List (List ℕ)) (text : List ℕ) (rest : List (List ℕ))
+    → IsDistinct bytes_eq (front ++ text ∷ rest) → list_any (bytes_eq text) front ≡ true → ⊥
+apart_front [] text rest distinct found = false≢true found
+apart_front (y ∷ front) text rest distinct found =
+    let apart = all_here (λ z. bytes_eq y z ≡ false) front text rest
+    (IsDistinct-head bytes_eq y (front ++ text ∷ rest) distinct) in
+    let others : (bytes_eq text y ≡ true → ⊥) = λ same.
+    false≢true (sym apart ∙ (same_texts y text).1 (sym ((same_texts text y).0 same))) in
+    apart_front front text rest (IsDistinct-tail bytes_eq y (front ++ text ∷ rest) distinct)
+    (or_step (bytes_eq text y) (list_any (bytes_eq text) front) found others)
+
+cut_of : (d one : Data) (front desks : List (List ℕ)) (k : ℕ) → SaysDesks d desks
+    → HasItem d front one k → IsCut desks front one
+cut_of d one front desks k says has =
+    cut_at front desks one has.rest
+    (same_lists (map string front ++ one ∷ has.rest) (map string desks)
+    (sym has.value ∙ says.value))
+
+-- a value that is a list of a hall's desks fails in no way
+desks_exclude : (d : Data) (desks : List (List ℕ)) (fault : DesksFault) → SaysDesks d desks
+    → FailsDesks d fault → ⊥
+desks_exclude d desks NotList says none =
+    let found = ap as_array says.value in absurd (cc)
+desks_exclude d desks (BadCount n) says (ds, value, counted, bad) =
+    let same = same_lists (map string desks) ds (sym says.value ∙ value) in
+    let count : length desks ≡ n = sym (length-map desks string) ∙ ap length same ∙ sym counted in
+    false≢true (sym bad ∙ ap is_count (sym count) ∙ says.count)
+desks_exclude d desks (NotText k) says (front, one, has, none) =
+    let cut = cut_of d one front desks k says has in
+    let found = ap as_str cut.value in absurd (cc)
+desks_exclude d desks (NotAddress k) says (front, text, has, wrong) =
+    let cut = cut_of d (string text) front desks k says has in
+    let same : text ≡ cut.text = cc in
+    wrong (rw same (all_here IsAddress front cut.text cut.rest
+    (rw cut.whole at says.addresses.each)))
+desks_exclude d desks (Twice k) says (front, text, has, address, found) =
+    let cut = cut_of d (string text) front desks k says has in
+    let same : text ≡ cut.text = cc in
+    apart_front front cut.text cut.rest (rw cut.whole at says.addresses.apart)
+    (rw (← same) found)
+
+-- a file is one document
+same_members : (bytes : List ℕ) (ms ns : Members) → Opens bytes ms → Opens bytes ns → ms ≡ ns
+same_members bytes ms ns one other =
+    same_Some ms ns (sym one.document.value ∙ other.document.value)
+
+-- a member is one value
+same_value : (name : List ℕ) (ms ns : Members) (d e : Data) → ms ≡ ns → get_member name ms ≡ Some d
+    → get_member name ns ≡ Some e → d ≡ e
+same_value name ms ns d e same one other =
+    same_Some d e (sym one ∙ ap (get_member name) same ∙ other)
+
+pub one_hall : (bytes : List ℕ) (hall other : ℕ) (desks others : List (List ℕ))
+    → SaysHall bytes hall desks → SaysHall bytes other others → (hall ≡ other) × (desks ≡ others)
+one_hall bytes hall other desks others a b =
+    let same = same_members bytes a.members b.members a.has_hall.known.opens
+    b.has_hall.known.opens in
+    let number = same_value hall_name a.members b.members a.has_hall.value b.has_hall.value same
+    a.has_hall.found b.has_hall.found in
+    let list = same_value desks_name a.members b.members a.value b.value same a.found b.found in
+    let oks = sym a.has_hall.says ∙ ap hall_of number ∙ b.has_hall.says in (
+      cc,
+      same_strings desks others (same_lists (map string desks) (map string others)
+          (sym a.says.value ∙ list ∙ b.says.value)),
+    )
+
+-- what a file that says a hall is refused for
+pub refused_for : (bytes : List ℕ) (hall : ℕ) (desks : List (List ℕ)) (why : HallFault)
+    → SaysHall bytes hall desks → Refuses bytes why → why ≡ fault.NoMemory
+refused_for bytes hall desks fault.TooLong a r =
+    absurd (omega (arith, a.has_hall.known.opens.short))
+refused_for bytes hall desks (fault.NotUtf8 line) a (short, no_text, at) =
+    absurd (no_text a.has_hall.known.opens.document.utf8)
+refused_for bytes hall desks (fault.NotToml line reason) a (short, text, none, kind, span, at) =
+    let value = a.has_hall.known.opens.document.value in absurd (cc)
+refused_for bytes hall desks (fault.Unknown line text) a (ms, opens, unknown, at) =
+    let same = same_members bytes ms a.members opens a.has_hall.known.opens in
+    let found = sym unknown ∙ ap unknown_name same ∙ a.has_hall.known.known in absurd (cc)
+refused_for bytes hall desks (fault.Missing name.Hall) a (ms, known, none) =
+    let same = same_members bytes ms a.members known.opens a.has_hall.known.opens in
+    let found = sym none ∙ ap (get_member hall_name) same ∙ a.has_hall.found in absurd (cc)
+refused_for bytes hall desks (fault.Hall line wrong) a (ms, known, d, found, fails, at) =
+    let same = same_members bytes ms a.members known.opens a.has_hall.known.opens in
+    let value = same_value hall_name ms a.members d a.has_hall.value same found
+    a.has_hall.found in
+    let both = sym fails ∙ ap hall_of value ∙ a.has_hall.says in absurd (cc)
+refused_for bytes hall desks (fault.Missing name.Desks) a (ms, other, has, none) =
+    let same = same_members bytes ms a.members has.known.opens a.has_hall.known.opens in
+    let found = sym none ∙ ap (get_member desks_name) same ∙ a.found in absurd (cc)
+refused_for bytes hall desks (fault.Desks line wrong) a (ms, other, has, d, found, fails, at) =
+    let same = same_members bytes ms a.members has.known.opens a.has_hall.known.opens in
+    let value = same_value desks_name ms a.members d a.value same found a.found in
+    absurd (desks_exclude a.value desks wrong a.says (rw value at fails))
+refused_for bytes hall desks fault.NoMemory a r = refl

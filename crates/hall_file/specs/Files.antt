@@ -1,0 +1,76 @@
+-- The file of a hall: what it says, and why a file says nothing.
+use Rattle.std.specs.Prelude.{◌≡◌, ◌≤◌, ◌<◌, ℕ, pos, List, map, length, Some, None, Ok, Err}
+use Rattle.std.specs.Prelude.{string_bytes}
+use Rattle.std.specs.Str.{IsUtf8}
+use Rattle.std.specs.Str.Lossy.{utf8_valid_len}
+use Rattle.toml.specs.Data.{Data, Members, no_members, member, integer, string, get_member}
+use Rattle.toml.specs.Parse.{parse_document}
+use Rattle.toml.specs.Errors.{IsWithin, IsMemory, span_start}
+use Rattle.hall_file.specs.Lines.{IsDocument, IsLineOf, line_at}
+use Rattle.hall_file.specs.Members.{hall_name, desks_name, unknown_name, hall_of, list_of}
+use Rattle.hall_file.specs.Members.{SaysDesks, FailsDesks}
+use Rattle.hall_file.specs.declared.fault.Member.TheVariants as name
+use Rattle.hall_file.specs.declared.fault.HallFault.{HallFault}
+use Rattle.hall_file.specs.declared.fault.HallFault.TheVariants.{TooLong, NotUtf8, NotToml}
+use Rattle.hall_file.specs.declared.fault.HallFault.TheVariants.{Unknown, Missing, Hall, Desks}
+use Rattle.hall_file.specs.declared.fault.HallFault.TheVariants.{NoMemory}
+
+-- 64 KiB
+abbrev pub most_bytes : ℕ
+most_bytes = 65536
+
+-- the file is not too long, and these are its members
+pub record Opens (bytes : List ℕ) (ms : Members) : Type 0 where
+  pub short : length bytes ≤ most_bytes
+  pub document : IsDocument bytes ms
+
+-- no member stands there but `hall` and `desks`
+pub record IsKnown (bytes : List ℕ) (ms : Members) : Type 0 where
+  pub opens : Opens bytes ms
+  pub known : unknown_name ms ≡ None
+
+-- and `hall` is this number
+pub record HasHall (bytes : List ℕ) (ms : Members) (hall : ℕ) : Type 0 where
+  pub known : IsKnown bytes ms
+  pub value : Data
+  pub found : get_member hall_name ms ≡ Some value
+  pub says : hall_of value ≡ Ok hall
+
+-- the file says this hall and the addresses of these desks
+pub record SaysHall (bytes : List ℕ) (hall : ℕ) (desks : List (List ℕ)) : Type 0 where
+  pub members : Members
+  pub has_hall : HasHall bytes members hall
+  pub value : Data
+  pub found : get_member desks_name members ≡ Some value
+  pub says : SaysDesks value desks
+
+-- why a file is refused: the first of these that applies
+abbrev pub Refuses : List ℕ → HallFault → Type 0
+Refuses bytes TooLong = most_bytes < length bytes
+Refuses bytes (NotUtf8 line) =
+    (length bytes ≤ most_bytes) × (IsUtf8 bytes → ⊥) × (line ≡ line_at bytes (utf8_valid_len bytes))
+Refuses bytes (NotToml line reason) =
+    (length bytes ≤ most_bytes) × IsUtf8 bytes × (parse_document bytes ≡ None)
+    × (IsMemory reason → ⊥) × IsWithin bytes reason × (line ≡ line_at bytes (span_start reason))
+Refuses bytes (Unknown line text) =
+    (ms : Members) × Opens bytes ms × (unknown_name ms ≡ Some (string_bytes text))
+    × IsLineOf bytes (string_bytes text) line
+Refuses bytes (Missing name.Hall) =
+    (ms : Members) × IsKnown bytes ms × (get_member hall_name ms ≡ None)
+Refuses bytes (Hall line fault) =
+    (ms : Members) × IsKnown bytes ms
+    × (d : Data) × (get_member hall_name ms ≡ Some d) × (hall_of d ≡ Err fault)
+    × IsLineOf bytes hall_name line
+Refuses bytes (Missing name.Desks) =
+    (ms : Members) × (hall : ℕ) × HasHall bytes ms hall × (get_member desks_name ms ≡ None)
+Refuses bytes (Desks line fault) =
+    (ms : Members) × (hall : ℕ) × HasHall bytes ms hall
+    × (d : Data) × (get_member desks_name ms ≡ Some d) × FailsDesks d fault
+    × IsLineOf bytes desks_name line
+Refuses bytes NoMemory = Unit {0}
+
+-- the members of a hall's file, in the order of their names
+abbrev pub members_of : ℕ → List (List ℕ) → Members
+members_of hall desks =
+    member desks_name (list_of (map string desks))
+    (member hall_name (integer (pos hall)) no_members)

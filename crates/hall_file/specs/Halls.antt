@@ -1,0 +1,26 @@
+-- The file of a hall as the program has it.
+use Rattle.std.specs.Prelude.{◌≡◌, ℕ, zero, suc, List, map, Option, Some, None, String, Vec}
+use Rattle.std.specs.Prelude.{string_bytes, slice_get}
+use Rattle.std.specs.declared.alloc.Global.{Global}
+use Rattle.toml.specs.Data.{Data, Members, get_member}
+use Rattle.hall_file.specs.Files.{SaysHall}
+use Rattle.hall_file.specs.Members.{desks_name, SaysDesks}
+use Rattle.hall_file.specs.declared.hall_file.HallFile.{HallFile}
+
+-- the addresses of the desks
+abbrev pub texts_of : HallFile → List (List ℕ)
+texts_of file = map string_bytes file.desks.items
+
+-- the address of a desk, counted from 1
+abbrev pub address_at : List (List ℕ) → ℕ → Option (List ℕ)
+address_at texts zero = None
+address_at texts (suc n) = slice_get texts n
+
+-- the bytes say this hall
+abbrev pub Says : List ℕ → HallFile → Type 0
+Says bytes file = SaysHall bytes file.hall (texts_of file)
+
+-- the member `desks` says these addresses
+abbrev pub FindsDesks : Members → Vec (String Global) Global → Type 0
+FindsDesks ms desks =
+    (d : Data) × (get_member desks_name ms ≡ Some d) × SaysDesks d (map string_bytes desks.items)

@@ -1,0 +1,20 @@
+//! The file that describes a hall: its number, and where its desks listen.
+#![tactic(auto)]
+
+mod address;
+mod fault;
+mod file;
+mod hall_file;
+mod laws;
+mod line;
+mod members;
+mod opening;
+mod printing;
+
+pub use address::is_address;
+pub use fault::{DesksFault, HallFault, HallNumberFault, Member};
+pub use file::read_hall;
+pub use hall_file::HallFile;
+pub use laws::{says_one_hall, says_or_is_refused};
+pub use opening::{OpenFault, read_hall_at};
+pub use printing::print_hall;

@@ -1,0 +1,58 @@
+//! The text of a hall's file.
+
+ghost use Rattle.std.specs.Prelude.{◌≡◌, ◌≤◌, map, string_bytes, length, IfOk};
+ghost use Rattle.toml.specs.Data.{string};
+ghost use Rattle.toml.specs.View.{view, table_view};
+ghost use Rattle.hall_file.specs.Addresses.{AreAddresses};
+ghost use Rattle.hall_file.specs.Files.{members_of, most_bytes};
+ghost use Rattle.hall_file.specs.Halls.{Says, texts_of};
+ghost use Rattle.hall_file.specs.Lines.{IsDocument};
+ghost use Rattle.hall_file.specs.Members.{list_of};
+
+use crate::hall_file::HallFile;
+use std::alloc::{AllocError, Global};
+use toml::{Table, Value};
+
+/// The addresses as a list.
+fn list_of(alloc: Global, desks: &[String]) -> Result<Value, AllocError>
+    ensures { IfOk result (λ v. view v ≡ list_of (map string (map string_bytes desks.now))) }
+{
+    let mut items = Vec::new(alloc);
+    for desk in desks {
+        items.push(Value::string(alloc, desk.as_str())?)?;
+    }
+    Ok(Value::Array(items))
+}
+
+/// The members of a hall's file.
+fn table_of(alloc: Global, hall: u32, desks: &[String]) -> Result<Table, AllocError>
+    ensures { IfOk result (λ t. table_view t ≡ members_of hall (map string_bytes desks.now)) }
+{
+    let addresses = list_of(alloc, desks)?;
+    let mut table = Table::new(alloc);
+    table.insert(String::from_str(alloc, "desks")?, addresses)?;
+    let number = Value::Integer(i64::from(hall));
+    table.insert(String::from_str(alloc, "hall")?, number)?;
+    Ok(table)
+}
+
+/// The text of a file that describes the hall: `desks` with an address on each line, then `hall`.
+/// [`read_hall`](crate::read_hall) gives back the same hall, where the addresses are such as it
+/// reads and the text has at most 65,536 bytes.
+///
+/// # Errors
+///
+/// Memory ran out.
+pub fn print_hall(alloc: Global, file: &HallFile) -> Result<String, AllocError>
+    ensures text { IfOk result (λ s. IsDocument (string_bytes s)
+        (members_of file.now.hall (texts_of file.now))) }
+    ensures reads_back { IfOk result (λ s. length (string_bytes s) ≤ most_bytes
+        → AreAddresses (texts_of file.now) → Says (string_bytes s) file.now) }
+{
+    let hall = file.hall;
+    let table = table_of(alloc, hall, &file.desks)?;
+    match toml::table_to_string_pretty(alloc, &table) {
+        Ok(text) => Ok(text),
+        Err(_) => Err(AllocError),
+    }
+}

@@ -1,0 +1,121 @@
+-- The commands of an import are in the ranges of their fields.
+use Rattle.std.proofs.Common.{◌≡◌, ◌≤◌, ℕ, Bool, true, false, cond, List, [], ◌∷◌, ◌++◌, map, subst}
+use Rattle.std.proofs.Common.{Option, Some, None, refl, sym, arith}
+use Rattle.std.specs.Prelude.{find, flat_map, unwrap_or}
+use Rattle.std.specs.List.{list_any, AllByRecursion}
+use Rattle.std.specs.Option.{option_map, option_to_list}
+use Rattle.std.proofs.lemmas.List.Elements.{All-from_recursion}
+use Rattle.serde_json.specs.Data.{Data}
+use Rattle.formats.specs.declared.events.Event.{Event}
+use Rattle.formats.specs.Events.{event_of_name}
+use Rattle.texts.specs.Fields.{round_id}
+use Rattle.texts.specs.Spelling.{IsFit}
+use Rattle.texts.specs.declared.command.Command.{Command}
+use Rattle.texts.specs.declared.command.Command.TheVariants.{Register, Open, Enter, SetEdition}
+use Rattle.texts.specs.declared.command.Settings.{Settings}
+use Rattle.wcif.specs.declared.options.CumulativeLimits.{CumulativeLimits}
+use Rattle.wcif.specs.declared.options.Options.{Options}
+use Rattle.wcif.specs.Commands.{editions, registered, registering, opened, entered, entering}
+use Rattle.wcif.specs.Commands.{entering_all, commands_of, numbers, is_of_second}
+use Rattle.wcif.specs.Events.{event_named, event_faults}
+use Rattle.wcif.specs.Faults.{faults_in}
+use Rattle.wcif.specs.Laws.{CommandsAreFit}
+use Rattle.wcif.specs.Persons.{has_number, last_number, text_of, event_ids, name_as}
+use Rattle.wcif.specs.Told.{told_from}
+use Rattle.wcif.proofs.Distinct.{front_none, back_none}
+use Rattle.wcif.proofs.Fitting.{fit_registered}
+use Rattle.wcif.proofs.HeldEvents.{holds_event}
+use Rattle.wcif.proofs.Opening.{opened_is}
+use Rattle.wcif.proofs.Together.{events_free}
+use Rattle.commands.proofs.Sizes.{all_append, all_flat_map}
+
+-- what is to be shown of each command of an import, given that its fields are in their ranges
+pub record HoldsOfEach (P : Command → Type 0) : Type 0 where
+  pub edition : P (SetEdition 2)
+  pub registration : (n : ℕ) (name : List ℕ) → IsFit (Register n name) → P (Register n name)
+  pub opening : (e : Event) (s : Settings) → IsFit (Open (round_id e 1) s)
+      → P (Open (round_id e 1) s)
+  pub entry : (e : Event) (n : ℕ) → IsFit (Enter e n) → P (Enter e n)
+
+each_edition : (P : Command → Type 0) → HoldsOfEach P → (events : List Data)
+    → AllByRecursion P (editions events)
+unfolding editions
+each_edition P each events = step (list_any (λ d. is_of_second (event_named d)) events)
+  where
+    step : (b : Bool) → AllByRecursion P (cond b (SetEdition 2 ∷ []) [])
+    step true = (each.edition, tt)
+    step false = tt
+
+-- openings of events of which nothing is said
+each_opening : (P : Command → Type 0) → HoldsOfEach P → (how : CumulativeLimits)
+    (persons earlier events : List Data)
+    → told_from (event_faults how persons) earlier events ≡ []
+    → AllByRecursion P (flat_map (opened how) events)
+each_opening P each how persons earlier [] none = tt
+each_opening P each how persons earlier (d ∷ ds) none =
+    let held = holds_event how persons earlier d
+    (front_none (event_faults how persons earlier d) _ none) in
+    all_append P (opened how d) (flat_map (opened how) ds)
+    (subst (AllByRecursion P) (sym (opened_is how persons earlier d held))
+    (each.opening held.event held.settings ((omega arith, omega arith), held.may.fit), tt))
+    (each_opening P each how persons (earlier ++ d ∷ []) ds
+    (back_none (event_faults how persons earlier d) _ none))
+
+-- entries of a number in the range
+each_entry : (P : Command → Type 0) → HoldsOfEach P → (n : ℕ) → (1 ≤ n) × (n ≤ last_number)
+    → (id : Data) → AllByRecursion P (entering n id)
+each_entry P each n range id = step (event_of_name (text_of id))
+  where
+    step : (o : Option Event)
+        → AllByRecursion P (option_to_list (option_map (λ e. Enter e n) o))
+    step None = tt
+    step (Some e) = (each.entry e n range, tt)
+
+each_number : (P : Command → Type 0) → HoldsOfEach P → (options : Options)
+    (persons events : List Data)
+    → faults_in options (Some persons) (Some events) ≡ [] → (n : ℕ)
+    → AllByRecursion P (registered options.names persons n)
+    × AllByRecursion P (entered persons n)
+unfolding registered entered
+each_number P each options persons events none n = step (find (has_number n) persons) refl
+  where
+    step : (o : Option Data) → find (has_number n) persons ≡ o
+        → AllByRecursion P (map (registering options.names persons n) (option_to_list o))
+        × AllByRecursion P (flat_map (entering_all n) (option_to_list o))
+    step None found = (tt, tt)
+    step (Some p) found =
+        let fits = fit_registered options persons events none n p found in
+        let entries : AllByRecursion P (entering_all n p) =
+        all_flat_map P (entering n) (each_entry P each n fits.0) (unwrap_or (event_ids p) []) in (
+          (each.registration n (name_as options.names persons p) fits, tt),
+          all_append P (entering_all n p) [] entries tt,
+        )
+
+pub each_command : (P : Command → Type 0) → HoldsOfEach P → (options : Options)
+    (persons events : List Data)
+    → faults_in options (Some persons) (Some events) ≡ []
+    → AllByRecursion P (commands_of options persons events)
+unfolding commands_of
+each_command P each options persons events none =
+    let numbered = each_number P each options persons events none in
+    let first : AllByRecursion P (flat_map (registered options.names persons) numbers) =
+    all_flat_map P (registered options.names persons) (λ n. (numbered n).0) numbers in
+    let last : AllByRecursion P (flat_map (entered persons) numbers) =
+    all_flat_map P (entered persons) (λ n. (numbered n).1) numbers in
+    let middle : AllByRecursion P (flat_map (opened options.limits) events) =
+    each_opening P each options.limits persons [] events
+    (events_free options persons events none) in
+    all_append P _ _
+    (all_append P _ _ (all_append P _ _ (each_edition P each events) first) middle) last
+
+pub fit : CommandsAreFit
+fit options persons events none =
+    All-from_recursion IsFit (commands_of options persons events)
+    (each_command IsFit
+    (record {
+      edition = (omega arith, omega arith);
+      registration = λ n name fits. fits;
+      opening = λ e s fits. fits;
+      entry = λ e n fits. fits;
+    })
+    options persons events none)
