@@ -80,8 +80,8 @@ def desks_fault(desks):
 
 
 def read(data):
-    if len(data) > 65536:
-        raise Fault("longer than 65536 bytes")
+    if len(data) > 8192:
+        raise Fault("longer than 8192 bytes")
     try:
         members = parsed(data)
     except UnicodeDecodeError as error:
@@ -134,7 +134,7 @@ def told(data):
 
 def told_path(path):
     if path == "/dev/zero":
-        return [f"{path}: longer than 65536 bytes"]
+        return [f"{path}: longer than 8192 bytes"]
     if not (DATA / path).is_file():
         return [f"{path}: cannot be read"]
     try:

@@ -15,9 +15,9 @@ use Rattle.hall_file.specs.declared.fault.HallFault.TheVariants.{TooLong, NotUtf
 use Rattle.hall_file.specs.declared.fault.HallFault.TheVariants.{Unknown, Missing, Hall, Desks}
 use Rattle.hall_file.specs.declared.fault.HallFault.TheVariants.{NoMemory}
 
--- 64 KiB
+-- 8 KiB
 abbrev pub most_bytes : ℕ
-most_bytes = 65536
+most_bytes = 8192
 
 -- the file is not too long, and these are its members
 pub record Opens (bytes : List ℕ) (ms : Members) : Type 0 where

@@ -52,8 +52,8 @@ pub enum DesksFault {
 /// Why a file is no hall's file. Each has one line for people. Lines are counted from 1.
 #[derive(Debug, Drop, Error)]
 pub enum HallFault {
-    /// The file has more than 65,536 bytes.
-    #[error("longer than 65536 bytes")]
+    /// The file has more than 8,192 bytes.
+    #[error("longer than 8192 bytes")]
     TooLong,
     /// It is not UTF-8. The line has the first byte that belongs to no character.
     #[error("line {line}: not UTF-8")]

@@ -12,8 +12,8 @@ use crate::members::{addresses_of, number_of, unknown_in};
 use std::alloc::Global;
 use toml::Table;
 
-/// The most bytes of a file: 64 KiB.
-pub(crate) const MOST_BYTES: usize = 65_536;
+/// The most bytes of a file: 8 KiB.
+pub(crate) const MOST_BYTES: usize = 8_192;
 
 /// The document that a file is.
 fn open_document(alloc: Global, bytes: &[u8]) -> Result<Table, HallFault>
@@ -109,7 +109,7 @@ fn read_desks(alloc: Global, bytes: &[u8], table: &Table) -> Result<Vec<String>,
 ///
 /// The first of these:
 ///
-/// - `TooLong` where the file has more than 65,536 bytes.
+/// - `TooLong` where the file has more than 8,192 bytes.
 /// - `NotUtf8` where it is not UTF-8, and `NotToml` where it is not TOML.
 /// - `Unknown` where it has another member: the first in the order of the names' bytes.
 /// - `Missing`, and then `Hall`, where `hall` is not there or is no such number.

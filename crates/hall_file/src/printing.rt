@@ -38,7 +38,7 @@ fn table_of(alloc: Global, hall: u32, desks: &[String]) -> Result<Table, AllocEr
 
 /// The text of a file that describes the hall: `desks` with an address on each line, then `hall`.
 /// [`read_hall`](crate::read_hall) gives back the same hall, where the addresses are such as it
-/// reads and the text has at most 65,536 bytes.
+/// reads and the text has at most 8,192 bytes.
 ///
 /// # Errors
 ///
