@@ -16,7 +16,7 @@ sys.path.append(str(Path(__file__).resolve().parent.parent / "scripts"))
 import running
 
 MOST = 300_000
-VERSIONS = {1: "One", 2: "Two"}
+VERSIONS = {1: "One", 2: "Two", 3: "Three"}
 EVENTS = ("Cube3", "Cube2", "Cube4", "Cube5", "Cube6", "Cube7", "Blind3", "FewestMoves",
           "OneHanded", "Clock",
           "Megaminx", "Pyraminx", "Skewb", "Square1", "Blind4", "Blind5", "MultiBlind")
@@ -30,6 +30,7 @@ CODES = ("Unread", "Repeat", "UnknownCompetitor", "NameTaken", "RoundUnknown", "
 REFUSALS = ("Busy", "LogFull", "BallotsSpent", "NoMemory", "Down", "NotThere", "NoSuchRound",
             "Foreign")
 STYLES = ("Text", "Table")
+ROLES = ("Idle", "Gathering", "Proposing", "Leading")
 
 
 class Bad(Exception):
@@ -75,9 +76,9 @@ class Fields:
         return f"Entry {{ id: {which}, text: {self.bytes(self.number(2, 0, 600))} }}"
 
     def decided(self):
-        """A position and the entries from there on: one, or in version 2 as many as a byte says."""
+        """A position and the entries from there: one in version 1, else as many as a byte says."""
         first = self.number(4, 0, 65_535)
-        count = self.number(1, 1, 16) if self.version == 2 else 1
+        count = self.number(1, 1, 16) if self.version > 1 else 1
         entries = [self.entry() for _ in range(count)]
         if first + count - 1 > 65_535:
             raise Bad
@@ -98,6 +99,36 @@ class Fields:
         said = answer if answer == "Done" else f"Refused({answer})"
         return f"Done {{ pos: {position}, answer: {said} }}"
 
+    def promised(self):
+        """A ballot, or none where all five bytes are zero."""
+        if self.data[self.at:self.at + 5] == bytes(5):
+            self.at += 5
+            return "None"
+        return f"Some({self.ballot()})"
+
+    def lengths(self):
+        """A length for each desk of a hall of three or five."""
+        desks = self.number(1)
+        if desks not in (3, 5):
+            raise Bad
+        lengths = [length_of_log(self) for _ in range(desks)]
+        return f"Of{'Three' if desks == 3 else 'Five'}({lengths})"
+
+    def standing(self):
+        named = [("length", length_of_log), ("waiting", byte), ("role", role),
+                 ("promised", Fields.promised), ("told", Fields.lengths)]
+        values = [f"{name}: {taken(self)}" for name, taken in named]
+        return f"Standing {{ {', '.join(values)} }}"
+
+    def log_entries(self):
+        """The position, the length of the log, and at most 400 entries that end within it."""
+        first, length = length_of_log(self), length_of_log(self)
+        count = self.number(2, 0, 400)
+        entries = [self.entry() for _ in range(count)]
+        if entries and first + count > length:
+            raise Bad
+        return f"{first}, length: {length}, entries: Entries {{ items: [{', '.join(entries)}] }}"
+
     def rest(self):
         return f"Bytes {{ items: {self.bytes(len(self.data) - self.at)} }}"
 
@@ -112,6 +143,10 @@ def style(fields):
 
 def refusal(fields):
     return fields.one_of(REFUSALS, 1)
+
+
+def role(fields):
+    return fields.one_of(ROLES, 0)
 
 
 def byte(fields):
@@ -148,11 +183,17 @@ KINDS = {
     35: ("Refused", [("refusal", refusal)]),
     36: ("Fine", []),
 }
+KINDS_OF_3 = {
+    21: ("Status", []),
+    22: ("Log", [("position", length_of_log)]),
+    37: ("Standing", [("standing", Fields.standing)]),
+    38: ("Entries", [("position", Fields.log_entries)]),
+}
 
 
 def goes(kind, sender, receiver):
     desk, client = range(1, 6), (0,)
-    from_, to = (desk, desk) if kind <= 7 else (client, desk) if kind <= 20 else (desk, client)
+    from_, to = (desk, desk) if kind <= 7 else (client, desk) if kind <= 22 else (desk, client)
     return sender in from_ and receiver in to
 
 
@@ -160,9 +201,10 @@ def frame(data):
     """The kind and the text of the frame behind a length, or the name of its fault."""
     if data[0] not in VERSIONS:
         return "BadVersion"
-    if data[7] not in KINDS:
+    kinds = KINDS | KINDS_OF_3 if data[0] == 3 else KINDS
+    if data[7] not in kinds:
         return "BadKind"
-    name, wanted = KINDS[data[7]]
+    name, wanted = kinds[data[7]]
     fields = Fields(data[8:], data[0])
     try:
         values = [f"{field}: {taken(fields)}" for field, taken in wanted]

@@ -1,8 +1,10 @@
 -- What is seen of a desk by whoever serves it.
-use Rattle.std.specs.Prelude.{Bool}
+use Rattle.std.specs.Prelude.{ℕ, Bool, List}
 use Rattle.learner.specs.Desks.{Desk}
 
--- all that the desk knows, and whether its store has failed
+-- all that the desk knows, whether its store has failed, and how many entries each desk's log has
+-- at least, as that desk told it
 pub record Seen : Type 0 where
   pub desk : Desk
   pub is_down : Bool
+  pub told : List ℕ

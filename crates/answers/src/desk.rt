@@ -1,23 +1,29 @@
 //! What whoever serves a desk needs of it.
 
-ghost use Rattle.std.specs.Prelude.{◌≡◌, ◌↔◌, ◌≤◌, List, Result, Err, Some, IfOk, OnOk, IfErr};
+ghost use Rattle.std.specs.Prelude.{◌≡◌, ◌⊎◌, ◌↔◌, ◌≤◌, List, Result, Err, Some, IfOk, OnOk, IfErr};
 ghost use Rattle.std.specs.Prelude.{true, false, length};
+ghost use Rattle.std.specs.List.{AllByRecursion};
+ghost use Rattle.acceptor.specs.Ballots.{no_ballot};
 ghost use Rattle.acceptor.specs.declared.message.Message.{Message as MessageValue};
 ghost use Rattle.learner.specs.declared.event.DeskEvent.{DeskEvent as EventValue};
 ghost use Rattle.learner.specs.Steps.{step, IsDesk};
 ghost use Rattle.answers.specs.Answers.{told, sheet_at, NoSheetAt};
 ghost use Rattle.roles.specs.declared.fault.NodeFault.{NodeFault as Refusal};
+ghost use Rattle.learner.specs.Ranges.{IsReal};
 ghost use Rattle.replica.specs.Handles.{Takes};
+ghost use Rattle.replica.specs.Lengths.{told_after};
 ghost use Rattle.answers.specs.Seen.{Seen};
 ghost use Rattle.store.specs.declared.home.Home.{Home as Place};
 
 use crate::answers::Told;
 use crate::fault::SheetFault;
 use acceptor::NoMemory;
+use acceptor::ballot::Ballot;
 use acceptor::message::Messages;
 use formats::Event as EventOf;
 use learner::event::DeskEvent;
 use learner::log::Log;
+use proposer::role::Role;
 use roles::NodeFault;
 use sheets::Style;
 use store::home::Home;
@@ -48,6 +54,8 @@ pub trait Desk {
             result }
         ensures ended { (seen self.old).is_down ≡ true
             → (result ≡ Err NodeFault.Down) × (seen self.new ≡ seen self.old) }
+        ensures told { (seen self.new).told
+            ≡ told_after (home_of self.old) event result (seen self.old).told }
         ensures down { (result ≡ Err NodeFault.Down) ↔ ((seen self.new).is_down ≡ true) }
         ensures home { home_of self.new ≡ home_of self.old };
 
@@ -59,6 +67,22 @@ pub trait Desk {
     /// How many entries wait in the queue.
     fn queued(&self) -> u8
         ensures { result ≡ length (seen self.now).desk.queue };
+
+    /// What it does for a ballot of its own.
+    fn role(&self) -> &Role
+        ensures { result.now ≡ (seen self.now).desk.role };
+
+    /// The highest ballot that it has promised, (0, 0) where it has promised none.
+    fn promised(&self) -> Ballot
+        ensures promised { result ≡ (seen self.now).desk.stored.promised }
+        ensures real { (result ≡ no_ballot) ⊎ IsReal (home_of self.now).desks result };
+
+    /// The greatest length of its log that each desk told this one, that of desk 1 first, at most
+    /// 65,536. It is 0 for a desk that told none, and for one that the hall does not have. A desk
+    /// tells the length of its log by a Behind, and that it is above a position by a Decided.
+    fn told(&self) -> [u32; 5]
+        ensures told { result ≡ (seen self.now).told }
+        ensures most { AllByRecursion (λ len. len ≤ 65536) result };
 
     /// Whether the store has failed.
     fn is_down(&self) -> bool

@@ -154,6 +154,7 @@ pub record IsErrand (e : Errand) (name : Text) (rows : List Row) : Type 0 where
 abbrev pub wire_number : Version → ℕ
 wire_number version.One = 1
 wire_number version.Two = 2
+wire_number version.Three = 3
 
 -- a desk of this hall that lines are entered at, the id of the first one, and whether `--wait` is
 -- there

@@ -3,3 +3,4 @@ pub mod Connections
 pub mod Entered
 pub mod Going
 pub mod Trying
+pub mod Parts

@@ -1,8 +1,8 @@
 //! Which frame answers a client's.
 
 ghost use Rattle.std.specs.Prelude.{◌≡◌};
-ghost use Rattle.client.specs.Answers.{answers, fits, is_fine, is_sheet_text, is_taken, is_told};
-ghost use Rattle.client.specs.Answers.{judged};
+ghost use Rattle.client.specs.Answers.{answers, fits, is_entries, is_fine, is_sheet_text};
+ghost use Rattle.client.specs.Answers.{is_standing, is_taken, is_told, judged};
 
 use crate::fault::ClientFault;
 use wire::{Frame, What};
@@ -43,6 +43,24 @@ fn is_fine(given: &What) -> bool
     }
 }
 
+fn is_standing(given: &What) -> bool
+    ensures { result ≡ is_standing given.now }
+{
+    match given {
+        What::Standing { .. } => true,
+        _ => false,
+    }
+}
+
+fn is_entries(wanted: u32, given: &What) -> bool
+    ensures { result ≡ is_entries wanted given.now }
+{
+    match given {
+        What::Entries { position, .. } => *position == wanted,
+        _ => false,
+    }
+}
+
 /// Whether a kind with its fields answers another.
 fn fits(asked: &What, given: &What) -> bool
     ensures { result ≡ fits asked.now given.now }
@@ -52,13 +70,16 @@ fn fits(asked: &What, given: &What) -> bool
         What::Ask { id } => is_told(*id, given),
         What::Sheet { .. } => is_sheet_text(given),
         What::Tick | What::Stop => is_fine(given),
+        What::Status => is_standing(given),
+        What::Log { position } => is_entries(*position, given),
         _ => false,
     }
 }
 
 /// Whether a frame is the answer to what was asked: it is of the hall that was meant, from the desk
 /// that was asked, and Taken of the id of a Submit, Told of the id of an Ask, the text of a sheet
-/// to a Sheet, or Fine to a Tick or a Stop.
+/// to a Sheet, Fine to a Tick or a Stop, Standing to a Status, or Entries from the position of a
+/// Log on.
 pub fn answers(asked: &Frame, given: &Frame) -> bool
     ensures { result ≡ answers asked.now given.now }
 {

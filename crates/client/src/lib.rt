@@ -2,7 +2,8 @@
 //!
 //! [`exchange`] writes the frame of a request and reads the frame that answers it; [`reply_text`]
 //! is the answer as the program prints it; [`sheet_version`] is the version of the wire that has
-//! the sheets of an event.
+//! the sheets of an event; [`status_request`] and [`log_request`] are the requests for where a desk
+//! stands and for its log.
 #![tactic(auto)]
 
 mod exchanging;
@@ -10,10 +11,12 @@ mod fault;
 mod hearing;
 mod judging;
 mod printing;
+mod standings;
 mod versions;
 
 pub use exchanging::exchange;
 pub use fault::{ClientFault, refusal_name};
 pub use judging::{answers, judged};
 pub use printing::reply_text;
+pub use standings::{answers_in_its_version, log_request, status_request};
 pub use versions::sheet_version;

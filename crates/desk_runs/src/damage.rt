@@ -6,7 +6,7 @@ use serving::End;
 use std::alloc::{AllocError, Global};
 use wire::WireFault;
 
-/// Numbers that no kind has.
+/// Numbers that no kind of version 1 or 2 has.
 const NO_KINDS: [u8; 8] = [0, 8, 15, 21, 31, 37, 128, 255];
 
 /// Adds so many random bytes.

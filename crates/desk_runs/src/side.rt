@@ -131,6 +131,7 @@ impl Side {
         let wire = match self.wire {
             Version::One => 1,
             Version::Two => 2,
+            Version::Three => 3,
         };
         serve_connection(
             alloc,

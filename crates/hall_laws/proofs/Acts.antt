@@ -95,16 +95,18 @@ Fits before (Err fault.LogFull) after = (before ≡ false) × (after ≡ false)
 Fits before (Err fault.BallotsSpent) after = (before ≡ false) × (after ≡ false)
 Fits before (Err fault.NoMemory) after = (before ≡ false) × (after ≡ false)
 
-step_fits : (x : Seen) (r : Result Done Refusal) → x.is_down ≡ false
-    → Fits x.is_down (by_step x r).result (by_step x r).seen.is_down
-step_fits x (Ok r) up = (up, up)
-step_fits x (Err refusal.Busy) up = (up, up)
-step_fits x (Err refusal.LogFull) up = (up, up)
-step_fits x (Err refusal.BallotsSpent) up = (up, up)
+step_fits : (home : Home) (event : DeskEvent) (x : Seen) (r : Result Done Refusal)
+    → x.is_down ≡ false
+    → Fits x.is_down (by_step home event x r).result (by_step home event x r).seen.is_down
+step_fits home event x (Ok r) up = (up, up)
+step_fits home event x (Err refusal.Busy) up = (up, up)
+step_fits home event x (Err refusal.LogFull) up = (up, up)
+step_fits home event x (Err refusal.BallotsSpent) up = (up, up)
 
 fate_fits : (home : Home) (x : Seen) (event : DeskEvent) (fate : Fate) → x.is_down ≡ false
     → Fits x.is_down (by_fate home x event fate).result (by_fate home x event fate).seen.is_down
-fate_fits home x event Goes up = step_fits x (step home.desks home.desk x.desk event) up
+fate_fits home x event Goes up =
+    step_fits home event x (step home.desks home.desk x.desk event) up
 fate_fits home x event Starves up = (up, up)
 fate_fits home x event Breaks up = refl
 

@@ -246,7 +246,7 @@ restarts n d w y is = (Answered (RestartAt d) ∷ [], is, none)
 
 pub stops_in : {K : Type 0} (k : Ghosts K) (n d : ℕ) (w : World) (event : DeskEvent)
     (x : Desk) (keeper : K) (y : NodeValue K)
-    → StandsFor k n d w (record { keeper = y.keeper; desk = x; is_down = false })
+    → StandsFor k n d w (record { keeper = y.keeper; desk = x; is_down = false; told = y.told })
     → IsSentTo d w.sent event → HoldsStep k keeper x (step n d x event)
     → k.may_hold keeper y.desk.stored y.desk.log → k.is_honest keeper
     → y.desk ≡ opened y.desk.stored y.desk.log

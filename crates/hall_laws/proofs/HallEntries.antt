@@ -21,7 +21,7 @@ use Rattle.serving.specs.Telling.{run_of}
 use Rattle.serving.specs.declared.request.Request.{Request}
 use Rattle.serving.specs.declared.request.Request.TheVariants.{Heard, Lagging, Learned, Entered}
 use Rattle.serving.specs.declared.request.Request.TheVariants.{Asked, Printed, Ticked, Stopped}
-use Rattle.serving.specs.declared.request.Request.TheVariants.{Strange, Ignored}
+use Rattle.serving.specs.declared.request.Request.TheVariants.{Inspected, Copied, Strange, Ignored}
 use Rattle.serving.specs.declared.request.Run.{Run}
 use Rattle.store.specs.declared.home.Home.{Home}
 use Rattle.wire.specs.declared.frame.What.{What}
@@ -188,6 +188,8 @@ entered_only home x fates Ticked =
 entered_only home x fates (Asked id) = λ e none. absurd none
 entered_only home x fates (Printed event round position style) = λ e none. absurd none
 entered_only home x fates Stopped = λ e none. absurd none
+entered_only home x fates Inspected = λ e none. absurd none
+entered_only home x fates (Copied position) = λ e none. absurd none
 entered_only home x fates Strange = λ e none. absurd none
 entered_only home x fates Ignored = λ e none. absurd none
 

@@ -4,12 +4,14 @@ use Rattle.std.proofs.Common.{false, if◌then◌else◌, eqb, List, [], ◌∷�
 use Rattle.std.proofs.Common.{Ok, Err, arith}
 use Rattle.std.proofs.lemmas.Bool.{ne_eqb}
 use Rattle.acceptor.specs.declared.message.Message.{Message}
+use Rattle.answers.specs.Seen.{Seen}
 use Rattle.learner.specs.Desks.{first_desk}
 use Rattle.learner.specs.Ranges.{AreInRange}
 use Rattle.learner.specs.Steps.{IsDesk, step}
 use Rattle.learner.specs.declared.event.DeskEvent.{DeskEvent}
 use Rattle.learner.specs.declared.event.DeskEvent.TheVariants.{Tick, Deliver}
 use Rattle.replica.specs.Handles.{Handles, Takes, FitInFrames}
+use Rattle.replica.specs.Lengths.{nothing_told, told_by}
 use Rattle.replica.specs.Nodes.{NodeValue}
 use Rattle.replica.specs.Stores.{HoldsDesk}
 use Rattle.serving.specs.Connection.{serve_frame, close_of, answer_bytes, Begun}
@@ -34,15 +36,21 @@ use Rattle.hall_laws.proofs.HallFrames.{came_whole, talk_with}
 use Rattle.hall_laws.proofs.HallTurns.{with_station, takes_turn, ticks_itself}
 
 abbrev first_node : {K : Type 0} → K → NodeValue K
-first_node keeper = record { keeper = keeper; desk = first_desk; is_down = false }
+first_node keeper =
+    record { keeper = keeper; desk = first_desk; is_down = false; told = nothing_told }
+
+-- what is seen of it
+abbrev first_seen : Seen
+first_seen = record { desk = first_desk; is_down = false; told = nothing_told }
 
 -- a call that changes nothing
 still : {K : Type 0} (k : Ghosts K) (keeper : K) (d : ℕ) (event : DeskEvent) (ms : List Message)
     → k.home_of keeper ≡ third_home d → HoldsDesk k keeper first_desk
     → step 3 d first_desk event ≡ Ok (record { desk = first_desk; messages = ms })
+    → told_by (third_home d) event nothing_told ≡ nothing_told
     → AreInRange 3 d ms → FitInFrames ms
     → Handles k (first_node keeper) event (Ok ms) (first_node keeper)
-still {K} k keeper d event ms home holds steps range fits = record {
+still {K} k keeper d event ms home holds steps told range fits = record {
   ended = λ down. absurd (let two : false ≡ true = down in cc);
   takes = λ up.
       subst
@@ -56,6 +64,7 @@ still {K} k keeper d event ms home holds steps range fits = record {
         err = tt;
       });
   entries = fits;
+  told = sym told ∙ ap (λ (z : Home). told_by z event nothing_told) (sym home);
   ignored = λ up is. (refl, refl);
   down = (λ is. absurd (no_fault is), λ is. absurd (let two : false ≡ true = is in cc));
   counted = λ up is. absurd (no_fault is);
@@ -87,8 +96,7 @@ as_begun f = record { frame = f; fates = [] }
 -- what the frame is answered
 abbrev answer_to : Home → Frame → List ℕ
 answer_to home f =
-    answer_bytes (serve_frame home (record { desk = first_desk; is_down = false })
-    (as_begun f)).answers
+    answer_bytes (serve_frame home first_seen (as_begun f)).answers
 
 ticks : {K : Type 0} (k : Ghosts K) (keeper : K)
     → Handles k (first_node keeper) Tick (Ok (says 2 ∷ says 3 ∷ [])) (first_node keeper)
@@ -150,14 +158,12 @@ abbrev hear_acts : List Act
 hear_acts = Called (Deliver (says 2)) (Ok []) ∷ []
 
 ticks_so : tick_acts
-    ≡ (serve_frame (third_home 1) (record { desk = first_desk; is_down = false })
-    (as_begun tick_frame)).acts
+    ≡ (serve_frame (third_home 1) first_seen (as_begun tick_frame)).acts
 unfolding serve_frame call settle_by start_if_grown take
 ticks_so = refl
 
 hears_so : hear_acts
-    ≡ (serve_frame (third_home 2) (record { desk = first_desk; is_down = false })
-    (as_begun said_frame)).acts
+    ≡ (serve_frame (third_home 2) first_seen (as_begun said_frame)).acts
 unfolding serve_frame call settle_by start_if_grown tell answer_out run_of entries_told
 hears_so = refl
 
@@ -285,13 +291,13 @@ small_run_is_a_run {K} k keeper own = (
         (first_node (keeper 1))
     handles_1 =
         still k (keeper 1) 1 Tick (says 2 ∷ says 3 ∷ []) (own 1 one_of_three).0
-        (own 1 one_of_three).1 refl named fits
+        (own 1 one_of_three).1 refl refl named fits
 
     handles_2 : Handles k (first_node (keeper 2)) (Deliver (says 2)) (Ok [])
         (first_node (keeper 2))
     handles_2 =
         still k (keeper 2) 2 (Deliver (says 2)) [] (own 2 two_of_three).0
-        (own 2 two_of_three).1 refl tt (λ j m less. absurd (omega arith))
+        (own 2 two_of_three).1 refl refl tt (λ j m less. absurd (omega arith))
 
     -- the bytes of a frame come to a desk that had no turn
     bytes_come : (d : ℕ) (f : Frame) (w : Hall K) → IsDesk 3 d → IsFrame f
@@ -365,8 +371,6 @@ small_run_is_a_run {K} k keeper own = (
         one_of_three refl (λ j. refl)
         (subst (λ z. IsTick z (as_begun tick_frame)) (sym (own 1 one_of_three).0) refl)
         (subst
-        (λ z.
-        (serve_frame z (record { desk = first_desk; is_down = false }) (as_begun tick_frame)).acts
-        ≡ tick_acts ++ [])
+        (λ z. (serve_frame z first_seen (as_begun tick_frame)).acts ≡ tick_acts ++ [])
         (sym (own 1 one_of_three).0) (sym ticks_so))
         (record { calls = (first_node (keeper 1), handles_1, refl); pushes = tt })

@@ -101,7 +101,8 @@ same_served : {K : Type 0} (k : Ghosts K) → CallsAreHappenings k → (n : ℕ)
     → ((hall_after h ss).desks j).node.desk ≡ w.desks j
     → ((hall_after h ss).desks j).node.is_down ≡ false
     → (served (home_at k ((hall_after h ss).desks j)) (seen_of ((hall_after h ss).desks j).node) []
-    r ≡ served (home_of (home_at k ((hall_after h ss).desks j)).hall n j) (up_at w j) [] r)
+    r ≡ served (home_of (home_at k ((hall_after h ss).desks j)).hall n j)
+    (up_at w j ((hall_after h ss).desks j).node.told) [] r)
     × (home_at k ((hall_after h ss).desks j)
     ≡ home_of (home_at k ((hall_after h ss).desks j)).hall n j)
 same_served {K} k law n h ss w j r is mine known up = (
@@ -121,8 +122,8 @@ same_served {K} k law n h ss w j r is mine known up = (
         let all = stands.stands.desks in
         λ i. record { hall = (home_at k x).hall; desk = one i; desks = all i }
 
-    seen_is : seen_of x.node ≡ up_at w j
-    seen_is = λ i. record { desk = known i; is_down = up i }
+    seen_is : seen_of x.node ≡ up_at w j x.node.told
+    seen_is = λ i. record { desk = known i; is_down = up i; told = x.node.told }
 
 moves : {K : Type 0} (k : Ghosts K) → CallsAreHappenings k → (n d : ℕ) (desks : List ℕ) (h : Hall K)
     (first : List (HallStep K)) (old : World) (ss : List (HallStep K)) (w v : World) (j : ℕ)
@@ -132,7 +133,7 @@ moves : {K : Type 0} (k : Ghosts K) → CallsAreHappenings k → (n d : ℕ) (de
     → Along k n d desks h first old ss w → IsDesk n j
     → ((hall_after h ss).desks j).node.is_down ≡ false
     → IsServedAs j w v (served (home_of (home_at k ((hall_after h ss).desks j)).hall n j)
-    (up_at w j) [] r)
+    (up_at w j ((hall_after h ss).desks j).node.told) [] r)
     → (y : Station K) → IsServedTo k r ((hall_after h ss).desks j) y
     → (y.node.is_down ≡ false
     → GoesOn k n j h ss events (acts_for k ((hall_after h ss).desks j) r) y)
@@ -172,12 +173,12 @@ moves {K} k law n d desks h first old ss w v j r events t turned owned a mine up
     x = (hall_after h ss).desks j
 
     s : Service
-    s = served (home_of (home_at k x).hall n j) (up_at w j) [] r
+    s = served (home_of (home_at k x).hall n j) (up_at w j x.node.told) [] r
 
     same : served (home_at k x) (seen_of x.node) [] r ≡ s
     same = (same_served k law n h ss w j r a.run mine (a.known j mine) up).0
 
-    node : seen_of y.node ≡ up_at v j
+    node : seen_of y.node ≡ up_at v j s.seen.told
     node = to.node ∙ ap (λ (z : Service). z.seen) same ∙ serves.seen
 
     goes : GoesOn k n j h ss events (acts_for k x r) y
@@ -251,7 +252,7 @@ tick_moves k law n d desks h first old ss w can a mine has =
     let y = works_along k n d desks h first old ss w d Ticked can a has (inl refl) in
     moves k law n d desks h first old ss w (turn n w d Tick) d Ticked
     (events_of_turn k d (hall_after h ss) DeskTicks) DeskTicks refl tt a mine (a.up d has)
-    (tick_turn (home_at k x).hall n d w mine) y.0 y.1
+    (tick_turn (home_at k x).hall n d w x.node.told mine) y.0 y.1
     (λ up. ticks_go_on k n d h ss y.0 a.run mine y.1)
 
 -- ---- a message
@@ -315,14 +316,14 @@ message_moves {K} k law n d desks h first old ss w i m major can a late is from 
     events number = comes_over m.to number f (acts_for k x r)
 
     serves : IsServedAs m.to w (turn n w m.to (Deliver m))
-        (served (home_of (home_at k x).hall n m.to) (up_at w m.to) [] r)
+        (served (home_of (home_at k x).hall n m.to) (up_at w m.to x.node.told) [] r)
     serves =
         subst (λ (z : Home). IsServedAs m.to w (turn n w m.to (Deliver m))
-        (served (home_of (home_at k x).hall n m.to) (up_at w m.to) []
+        (served (home_of (home_at k x).hall n m.to) (up_at w m.to x.node.told) []
         (request z f)))
         (sym (same_served k law n h ss w m.to Ticked a.run mine (a.known m.to mine)
         (a.up m.to to)).1)
-        (message_turn (home_at k x).hall n m.to w (g.desks m.from).wire m refl mine)
+        (message_turn (home_at k x).hall n m.to w x.node.told (g.desks m.from).wire m refl mine)
 
     go : (at : ℕ) × (length (hall_after h first).sent < at)
         × (nth_sent ((hall_after h first).sent ++ a.new) at ≡ Some m)

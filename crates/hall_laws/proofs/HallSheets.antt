@@ -72,7 +72,7 @@ hall_answers_wait {K} k law n h ss at d number one step is serves =
     (λ z. z ++ answer_bytes (serve_frame a.talk.home (seen_of x.node) one).answers)
     turn.turn.turn.0.free.taken)
 
-framed_is : (version : Version) (home : Home) (o : Option What) (w : What)
+pub framed_is : (version : Version) (home : Home) (o : Option What) (w : What)
     → framed_answer version home o ≡ answer_frame version home w ∷ [] → o ≡ Some w
 framed_is version home None w h =
     absurd (let none : [] ≡ answer_frame version home w ∷ [] = h in cc)

@@ -20,7 +20,7 @@ use Rattle.serving.specs.Serving.{settle_by, start_if_grown, take, tell}
 use Rattle.serving.specs.declared.request.Request.{Request}
 use Rattle.serving.specs.declared.request.Request.TheVariants.{Heard, Lagging, Learned, Entered}
 use Rattle.serving.specs.declared.request.Request.TheVariants.{Asked, Printed, Ticked, Stopped}
-use Rattle.serving.specs.declared.request.Request.TheVariants.{Strange, Ignored}
+use Rattle.serving.specs.declared.request.Request.TheVariants.{Inspected, Copied, Strange, Ignored}
 use Rattle.store.specs.declared.home.Home.{Home}
 use Rattle.hall_laws.specs.HallGoing.{HasCall, StartsCome}
 use Rattle.hall_laws.specs.HallRuns.{IsTakenIn}
@@ -82,16 +82,17 @@ not_grown x s same grown =
     itself : (n : ℕ) → nat_lt n n ≡ false
     itself n = grind (arith, nat_tests)
 
-by_step_refused : (x : Seen) (r : Result Done Refusal) (why : NodeFault)
-    → (by_step x r).result ≡ Err why → (by_step x r).seen.desk ≡ x.desk
-by_step_refused x (Ok d) why is = absurd cc
-by_step_refused x (Err fault) why is = refl
+by_step_refused : (home : Home) (event : DeskEvent) (x : Seen) (r : Result Done Refusal)
+    (why : NodeFault)
+    → (by_step home event x r).result ≡ Err why → (by_step home event x r).seen.desk ≡ x.desk
+by_step_refused home event x (Ok d) why is = absurd cc
+by_step_refused home event x (Err fault) why is = refl
 
 by_fate_refused : (home : Home) (x : Seen) (event : DeskEvent) (fate : Fate) (why : NodeFault)
     → (by_fate home x event fate).result ≡ Err why
     → (by_fate home x event fate).seen.desk ≡ x.desk
 by_fate_refused home x event Goes why is =
-    by_step_refused x (step home.desks home.desk x.desk event) why is
+    by_step_refused home event x (step home.desks home.desk x.desk event) why is
 by_fate_refused home x event Starves why is = refl
 by_fate_refused home x event Breaks why is = refl
 
@@ -155,6 +156,8 @@ grown home x fates Ticked is =
 grown home x fates (Asked id) is = absurd (not_grown x x refl is)
 grown home x fates (Printed event round position style) is = absurd (not_grown x x refl is)
 grown home x fates Stopped is = absurd (not_grown x x refl is)
+grown home x fates Inspected is = absurd (not_grown x x refl is)
+grown home x fates (Copied position) is = absurd (not_grown x x refl is)
 grown home x fates Strange is = absurd (not_grown x x refl is)
 grown home x fates Ignored is = absurd (not_grown x x refl is)
 

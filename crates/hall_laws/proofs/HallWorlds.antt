@@ -39,7 +39,7 @@ worlds_follow {K} k law n d h ss w r events y is mine at up done goes = record {
     here = record { hall = (home_at k x).hall; desk = d; desks = n }
 
     seen : Seen
-    seen = record { desk = w.desks d; is_down = false }
+    seen = record { desk = w.desks d; is_down = false; told = x.node.told }
 
     home_is : home_at k x ≡ here
     home_is =
@@ -48,13 +48,15 @@ worlds_follow {K} k law n d h ss w r events y is mine at up done goes = record {
         λ i. record { hall = (home_at k x).hall; desk = one i; desks = all i }
 
     seen_is : seen_of x.node ≡ seen
-    seen_is = let known = at.desks d mine in λ i. record { desk = known i; is_down = up i }
+    seen_is =
+        let known = at.desks d mine in
+        λ i. record { desk = known i; is_down = up i; told = x.node.told }
 
     same : served (home_at k x) (seen_of x.node) [] r ≡ served here seen [] r
     same = λ i. served (home_is i) (seen_is i) [] r
 
     after : World
-    after = served_in n (home_at k x).hall w d r
+    after = served_in n (home_at k x).hall x.node.told w d r
 
     go : (j : ℕ) → IsDesk n j → (b : Bool) → eqb j d ≡ b
         → (g.desks j).node.desk ≡ after.desks j

@@ -29,3 +29,4 @@ pub mod HallWorlds
 pub mod ServedTurns
 pub mod HallServing
 pub mod HallDeciding
+pub mod HallCopies

@@ -76,7 +76,7 @@ delivered_from : (home : Home) (x : Seen) (m : Message) (fate : Fate)
 delivered_from home x m fate = go x.is_down fate
   where
     heeded : (t : Bool)
-        → AllFrom home.desk (waiting_after [] (by_step x
+        → AllFrom home.desk (waiting_after [] (by_step home (Deliver m) x
         (if t then Ok (done x.desk (on_body home.desks home.desk x.desk m.from m.body))
         else Ok (idle x.desk))).result)
     heeded true = body_from home.desks home.desk x.desk m.from m.body

@@ -226,7 +226,7 @@ only_there true fate o text h =
     absurd (let k : what.Refused refusal.NotThere ≡ what.SheetText text = h in cc)
 only_there false fate o text h = (refl, only_sheets fate o text h)
 
-inside : {a b : What} → Some a ≡ Some b → a ≡ b
+pub inside : {a b : What} → Some a ≡ Some b → a ≡ b
 inside h = cc
 
 pub sheets_law : SheetsAreOfTheLog

@@ -48,14 +48,14 @@ use Rattle.hall_laws.proofs.OwnMessages.{calls_both, calls_of_pushes, no_calls, 
 abbrev pub home_of : ℕ → ℕ → ℕ → Home
 home_of hall n d = record { hall = hall; desk = d; desks = n }
 
--- a desk that is up
-abbrev pub up_at : World → ℕ → Seen
-up_at w d = record { desk = w.desks d; is_down = false }
+-- a desk that is up, and was told these lengths of logs
+abbrev pub up_at : World → ℕ → List ℕ → Seen
+up_at w d told = record { desk = w.desks d; is_down = false; told = told }
 
 -- What was served so far has led from world W to w, and desk d has these messages to deliver to
--- itself.
+-- itself. What it was told of the lengths of logs is no matter of the world.
 pub record Mirrors (d : ℕ) (W w : World) (s : Service) (ms : List Message) : Type 0 where
-  pub seen : s.seen ≡ up_at w d
+  pub seen : s.seen ≡ up_at w d s.seen.told
   pub own : to_itself d s.waiting ≡ ms
   pub fates : s.fates ≡ []
   pub others : (j : ℕ) → ¬ (d ≡ j) → w.desks j ≡ W.desks j
@@ -84,15 +84,21 @@ mirrors_call hall n d W w event s ms ours h =
     (ms ++ says_itself n w d event)) (sym same)
     (subst (λ (t : Bool). Mirrors d W
     (if t then world_after w d (step n d (w.desks d) event) else w)
-    (answered s event (by_step (up_at w d) (step n d (w.desks d) event)))
+    (answered s event (by_step home event here (step n d (w.desks d) event)))
     (ms ++ says_itself n w d event)) (sym (desk_test n d ours))
     (go (step n d (w.desks d) event)))
   where
-    same : reply (home_of hall n d) s.seen event (first_fate s.fates)
-        ≡ by_step (up_at w d) (step n d (w.desks d) event)
+    home : Home
+    home = home_of hall n d
+
+    here : Seen
+    here = up_at w d s.seen.told
+
+    same : reply home s.seen event (first_fate s.fates)
+        ≡ by_step home event here (step n d (w.desks d) event)
     same =
-        ap (λ z. reply (home_of hall n d) z event (first_fate s.fates)) h.seen
-        ∙ ap (λ z. reply (home_of hall n d) (up_at w d) event (first_fate z)) h.fates
+        ap (λ z. reply home z event (first_fate s.fates)) h.seen
+        ∙ ap (λ z. reply home here event (first_fate z)) h.fates
 
     later : (fs : List Fate) → fs ≡ []
         → later_fates fs ≡ []
@@ -106,12 +112,15 @@ mirrors_call hall n d W w event s ms ours h =
     refused BallotsSpent = refl
 
     go : (r : Result Done Refusal)
-        → Mirrors d W (world_after w d r) (answered s event (by_step (up_at w d) r))
+        → Mirrors d W (world_after w d r) (answered s event (by_step home event here r))
         (ms ++ to_itself d (said r))
     go (Ok r) =
         record {
-          seen = ap (λ (x : Desk). record { desk = x; is_down = false })
-              (sym (put_self w.desks d r.desk));
+          seen = ap (λ (x : Desk). record {
+            desk = x;
+            is_down = false;
+            told = (by_step home event here (Ok r)).seen.told;
+          }) (sym (put_self w.desks d r.desk));
           own = itself_both d s.waiting r.messages ∙ ap (λ z. z ++ to_itself d r.messages) h.own;
           fates = later s.fates h.fates;
           others = λ j ne. put_other w.desks d r.desk j ne ∙ h.others j ne;
@@ -279,8 +288,9 @@ mirrors_start hall n d before W s e ours h =
         (mirrors_call hall n d W e.world Start s [] ours at) refl in q.at)
     go false = at
 
-first_mirrors : (d : ℕ) (w : World) → Mirrors d w w (begun (up_at w d) []) []
-first_mirrors d w =
+first_mirrors : (d : ℕ) (w : World) (told : List ℕ)
+    → Mirrors d w w (begun (up_at w d told) []) []
+first_mirrors d w told =
     record {
       seen = refl;
       own = refl;
@@ -291,34 +301,37 @@ first_mirrors d w =
 
 -- what was served has led from the one world to the other
 pub record IsServedAs (d : ℕ) (w v : World) (s : Service) : Type 0 where
-  pub seen : s.seen ≡ up_at v d
+  pub seen : s.seen ≡ up_at v d s.seen.told
   pub others : (j : ℕ) → ¬ (d ≡ j) → v.desks j ≡ w.desks j
   pub sent : v.sent ≡ w.sent ++ all_handed_out (calls_of s.done)
 
 served_as : (d : ℕ) (w v : World) (s : Service) → Mirrors d w v s [] → IsServedAs d w v s
 served_as d w v s h = record { seen = h.seen; others = h.others; sent = h.sent }
 
-take_turn : (hall n d : ℕ) (w : World) (event : DeskEvent) → IsDesk n d
-    → Mirrors d w (turn n w d event) (take (home_of hall n d) event (begun (up_at w d) [])) []
+take_turn : (hall n d : ℕ) (w : World) (told : List ℕ) (event : DeskEvent) → IsDesk n d
+    → Mirrors d w (turn n w d event) (take (home_of hall n d) event (begun (up_at w d told) [])) []
 unfolding take settle_by call
-take_turn hall n d w event ours =
+take_turn hall n d w told event ours =
     mirrors_start hall n d (length (w.desks d).log) w
-    (settle home (call home event (begun (up_at w d) [])))
+    (settle home (call home event first))
     (settled n d 16 (at_desk n w d event) (says_itself n w d event)) ours
-    (mirrors_settle hall n d 16 w (at_desk n w d event) (call home event (begun (up_at w d) []))
+    (mirrors_settle hall n d 16 w (at_desk n w d event) (call home event first)
     (says_itself n w d event) ours
-    (mirrors_call hall n d w w event (begun (up_at w d) []) [] ours (first_mirrors d w))
-    (left_call home event (begun (up_at w d) [])))
+    (mirrors_call hall n d w w event first [] ours (first_mirrors d w told))
+    (left_call home event first))
   where
     home : Home
     home = home_of hall n d
 
+    first : Service
+    first = begun (up_at w d told) []
+
 -- a Tick
-pub tick_turn : (hall n d : ℕ) (w : World) → IsDesk n d
-    → IsServedAs d w (turn n w d Tick) (served (home_of hall n d) (up_at w d) [] Ticked)
-tick_turn hall n d w ours =
-    served_as d w (turn n w d Tick) (take (home_of hall n d) Tick (begun (up_at w d) []))
-    (take_turn hall n d w Tick ours)
+pub tick_turn : (hall n d : ℕ) (w : World) (told : List ℕ) → IsDesk n d
+    → IsServedAs d w (turn n w d Tick) (served (home_of hall n d) (up_at w d told) [] Ticked)
+tick_turn hall n d w told ours =
+    served_as d w (turn n w d Tick) (take (home_of hall n d) Tick (begun (up_at w d told) []))
+    (take_turn hall n d w told Tick ours)
 
 -- ---- a message
 
@@ -388,21 +401,24 @@ mirrors_answer hall n d k W w s ms ours h left = go (run_of d s.waiting) refl
           left = left;
         })
 
-tell_turn : (hall n d : ℕ) (w : World) (m : Message) → IsDesk n d
-    → Mirrors d w (turn n w d (Deliver m)) (tell (home_of hall n d) m (begun (up_at w d) [])) []
+tell_turn : (hall n d : ℕ) (w : World) (told : List ℕ) (m : Message) → IsDesk n d
+    → Mirrors d w (turn n w d (Deliver m))
+    (tell (home_of hall n d) m (begun (up_at w d told) [])) []
 unfolding tell
-tell_turn hall n d w m ours =
+tell_turn hall n d w told m ours =
     mirrors_start hall n d (length (w.desks d).log) w
-    (answer_out home (call home (Deliver m) (begun (up_at w d) [])))
+    (answer_out home (call home (Deliver m) first))
     (settled n d 16 (at_desk n w d (Deliver m)) (says_itself n w d (Deliver m))) ours
-    (mirrors_answer hall n d 15 w (at_desk n w d (Deliver m))
-    (call home (Deliver m) (begun (up_at w d) []))
+    (mirrors_answer hall n d 15 w (at_desk n w d (Deliver m)) (call home (Deliver m) first)
     (says_itself n w d (Deliver m)) ours
-    (mirrors_call hall n d w w (Deliver m) (begun (up_at w d) []) [] ours (first_mirrors d w))
-    (left_call home (Deliver m) (begun (up_at w d) [])))
+    (mirrors_call hall n d w w (Deliver m) first [] ours (first_mirrors d w told))
+    (left_call home (Deliver m) first))
   where
     home : Home
     home = home_of hall n d
+
+    first : Service
+    first = begun (up_at w d told) []
 
 learns_one : (home : Home) (from to pos : ℕ) (e : Entry) (s : Service)
     → call home (decided from to pos e) (waits [] s.left s)
@@ -417,25 +433,28 @@ learns_one home from to pos e s = go (called home).seen.is_down
     go true = refl
     go false = refl
 
-learn_turn : (hall n d : ℕ) (w : World) (from pos : ℕ) (e : Entry) → IsDesk n d
+learn_turn : (hall n d : ℕ) (w : World) (told : List ℕ) (from pos : ℕ) (e : Entry) → IsDesk n d
     → Mirrors d w (turn n w d (Deliver (message from d (Decided pos e))))
     (learn_all (home_of hall n d)
-    (record { from = from; to = d; pos = pos; entries = e ∷ [] }) (begun (up_at w d) [])) []
+    (record { from = from; to = d; pos = pos; entries = e ∷ [] }) (begun (up_at w d told) [])) []
 unfolding learn_all
-learn_turn hall n d w from pos e ours =
+learn_turn hall n d w told from pos e ours =
     mirrors_start hall n d (length (w.desks d).log) w
-    (settle_by home 16 (learn home from d pos (e ∷ []) (begun (up_at w d) [])))
+    (settle_by home 16 (learn home from d pos (e ∷ []) first))
     (settled n d 16 (at_desk n w d event) (says_itself n w d event)) ours
     (subst (λ (s : Service). MirrorsEnd d w (settle_by home 16 s)
     (settled n d 16 (at_desk n w d event) (says_itself n w d event)))
-    (learns_one home from d pos e (begun (up_at w d) []))
-    (mirrors_settle hall n d 16 w (at_desk n w d event) (call home event (begun (up_at w d) []))
+    (learns_one home from d pos e first)
+    (mirrors_settle hall n d 16 w (at_desk n w d event) (call home event first)
     (says_itself n w d event) ours
-    (mirrors_call hall n d w w event (begun (up_at w d) []) [] ours (first_mirrors d w))
-    (left_call home event (begun (up_at w d) []))))
+    (mirrors_call hall n d w w event first [] ours (first_mirrors d w told))
+    (left_call home event first)))
   where
     home : Home
     home = home_of hall n d
+
+    first : Service
+    first = begun (up_at w d told) []
 
     event : DeskEvent
     event = Deliver (message from d (Decided pos e))
@@ -455,29 +474,30 @@ message_asked hall n d version from body =
     let two : (d == d) ≡ true = grind (arith, nat_tests) in
     asked_by _ _ (ours from d (what_of body)) (strange (what_of body)) _ one two refl
 
-by_body : (hall n d : ℕ) (w : World) (from : ℕ) (body : Body) → IsDesk n d
+by_body : (hall n d : ℕ) (w : World) (told : List ℕ) (from : ℕ) (body : Body) → IsDesk n d
     → Mirrors d w (turn n w d (Deliver (message from d body)))
-    (served (home_of hall n d) (up_at w d) [] (ours from d (what_of body))) []
-by_body hall n d w from (Prepare b pos) is = take_turn hall n d w _ is
-by_body hall n d w from (Promise b pos vote) is = take_turn hall n d w _ is
-by_body hall n d w from (Accept b pos e) is = take_turn hall n d w _ is
-by_body hall n d w from (Accepted b pos) is = take_turn hall n d w _ is
-by_body hall n d w from (Nack b pos promised) is = take_turn hall n d w _ is
-by_body hall n d w from (Behind len) is = tell_turn hall n d w _ is
-by_body hall n d w from (Decided pos e) is = learn_turn hall n d w from pos e is
+    (served (home_of hall n d) (up_at w d told) [] (ours from d (what_of body))) []
+by_body hall n d w told from (Prepare b pos) is = take_turn hall n d w told _ is
+by_body hall n d w told from (Promise b pos vote) is = take_turn hall n d w told _ is
+by_body hall n d w told from (Accept b pos e) is = take_turn hall n d w told _ is
+by_body hall n d w told from (Accepted b pos) is = take_turn hall n d w told _ is
+by_body hall n d w told from (Nack b pos promised) is = take_turn hall n d w told _ is
+by_body hall n d w told from (Behind len) is = tell_turn hall n d w told _ is
+by_body hall n d w told from (Decided pos e) is = learn_turn hall n d w told from pos e is
 
 -- the frame of a message
-pub message_turn : (hall n d : ℕ) (w : World) (version : Version) (m : Message) → m.to ≡ d
-    → IsDesk n d
+pub message_turn : (hall n d : ℕ) (w : World) (told : List ℕ) (version : Version) (m : Message)
+    → m.to ≡ d → IsDesk n d
     → IsServedAs d w (turn n w d (Deliver m))
-    (served (home_of hall n d) (up_at w d) [] (request (home_of hall n d) (framed version hall m)))
-message_turn hall n d w version m to is =
+    (served (home_of hall n d) (up_at w d told) []
+    (request (home_of hall n d) (framed version hall m)))
+message_turn hall n d w told version m to is =
     subst (λ (z : ℕ). IsServedAs d w (turn n w d (Deliver (message m.from z m.body)))
-    (served (home_of hall n d) (up_at w d) []
+    (served (home_of hall n d) (up_at w d told) []
     (request (home_of hall n d) (framed version hall (message m.from z m.body))))) (sym to)
     (subst (λ (r : Request). IsServedAs d w (turn n w d (Deliver (message m.from d m.body)))
-    (served (home_of hall n d) (up_at w d) [] r))
+    (served (home_of hall n d) (up_at w d told) [] r))
     (sym (message_asked hall n d version m.from m.body))
     (served_as d w (turn n w d (Deliver (message m.from d m.body)))
-    (served (home_of hall n d) (up_at w d) [] (ours m.from d (what_of m.body)))
-    (by_body hall n d w m.from m.body is)))
+    (served (home_of hall n d) (up_at w d told) [] (ours m.from d (what_of m.body)))
+    (by_body hall n d w told m.from m.body is)))

@@ -144,7 +144,7 @@ matches n desks a b (DeliverNth (suc k)) h = go (slice_get a k) refl
     go None e = none e
 
 -- a happening among the real desks is its group of events of the world
-abbrev Continues : ℕ → World → World → Happening → Type 0
+abbrev pub Continues : ℕ → World → World → Happening → Type 0
 Continues n real w h =
     (there : WorldEvent) × IsSameEvent real.sent w.sent (event_of h) there
     × Follows (goes_on n real h) (run n w (group real h there))
@@ -191,7 +191,7 @@ run_more : (n : ℕ) (w : World) (xs ys : List WorldEvent)
 run_more n w [] ys = refl
 run_more n w (x ∷ xs) ys = run_more n (happens n w x) xs ys
 
-one_more : (n : ℕ) (real w : World) (h : Happening) → Follows real w → Continues n real w h
+pub one_more : (n : ℕ) (real w : World) (h : Happening) → Follows real w → Continues n real w h
 one_more n real w (Answered e) f = answered
   where
     same : world_of real.desks w.sent ≡ w

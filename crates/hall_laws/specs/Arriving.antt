@@ -16,7 +16,7 @@ use Rattle.serving.specs.Telling.{run_frame, run_pushed, entries_said}
 use Rattle.serving.specs.declared.request.Request.{Request}
 use Rattle.serving.specs.declared.request.Request.TheVariants.{Heard, Lagging, Learned, Entered}
 use Rattle.serving.specs.declared.request.Request.TheVariants.{Asked, Printed, Ticked, Stopped}
-use Rattle.serving.specs.declared.request.Request.TheVariants.{Strange, Ignored}
+use Rattle.serving.specs.declared.request.Request.TheVariants.{Inspected, Copied, Strange, Ignored}
 use Rattle.serving.specs.declared.request.Run.{Run}
 
 -- a Decided for each of the entries, the first one at a position and the others after it
@@ -34,6 +34,8 @@ delivers (Asked id) = []
 delivers (Printed event round position style) = []
 delivers Ticked = []
 delivers Stopped = []
+delivers Inspected = []
+delivers (Copied position) = []
 delivers Strange = []
 delivers Ignored = []
 

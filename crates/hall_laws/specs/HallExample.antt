@@ -6,6 +6,7 @@ use Rattle.acceptor.specs.declared.message.Message.{Message}
 use Rattle.learner.specs.Desks.{first_desk}
 use Rattle.learner.specs.Steps.{IsDesk}
 use Rattle.learner.specs.declared.event.DeskEvent.TheVariants.{Tick, Deliver}
+use Rattle.replica.specs.Lengths.{nothing_told}
 use Rattle.replica.specs.Stores.{HoldsDesk}
 use Rattle.serving.specs.Serving.{Act, Called, Pushed, framed}
 use Rattle.serving.specs.Turns.{new_talk}
@@ -28,7 +29,13 @@ abbrev pub three_desks : {K : Type 0} → (ℕ → K) → Hall K
 three_desks keeper = record {
   desks = λ d.
       record {
-        node = record { keeper = keeper d; desk = first_desk; is_down = false };
+        node =
+            record {
+              keeper = keeper d;
+              desk = first_desk;
+              is_down = false;
+              told = nothing_told;
+            };
         talks = λ j. new_talk (third_home d) Two;
         wire = Two;
         handed = None;

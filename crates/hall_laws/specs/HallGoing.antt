@@ -140,12 +140,13 @@ RunsGoOn {K} k =
 
 -- ---- in the world
 
--- the world in which desk d of n has served this request, in a hall of this number
-abbrev pub served_in : ℕ → ℕ → World → ℕ → Request → World
-served_in n hall w d r =
+-- The world in which desk d of n has served this request, in a hall of this number, where it was
+-- told these lengths of logs: the world does not know them.
+abbrev pub served_in : ℕ → ℕ → List ℕ → World → ℕ → Request → World
+served_in n hall told w d r =
     let s =
     served (record { hall = hall; desk = d; desks = n })
-    (record { desk = w.desks d; is_down = false }) [] r in
+    (record { desk = w.desks d; is_down = false; told = told }) [] r in
     with_desk w d s.seen.desk (all_handed_out (calls_of s.done))
 
 -- Where the hall has come to a world and goes on so, at a desk that is up, it comes to the world in
@@ -158,7 +159,8 @@ WorldsFollow {K} k =
     → let x = (hall_after h steps).desks d in
     x.node.is_down ≡ false → IsServedTo k r x y
     → (goes : GoesOn k n d h steps events (acts_for k x r) y)
-    → IsWorld n (hall_after h (steps ++ goes.more)) (served_in n (home_at k x).hall w d r)
+    → IsWorld n (hall_after h (steps ++ goes.more))
+    (served_in n (home_at k x).hall x.node.told w d r)
 
 -- ---- a Start
 

@@ -59,7 +59,7 @@ pub record Hall (K : Type 0) : Type 0 where
   pub sent : List Message
 
 abbrev pub seen_of : {K : Type 0} → NodeValue K → Seen
-seen_of node = record { desk = node.desk; is_down = node.is_down }
+seen_of node = record { desk = node.desk; is_down = node.is_down; told = node.told }
 
 abbrev pub home_at : {K : Type 0} → Ghosts K → Station K → Home
 home_at k x = k.home_of x.node.keeper

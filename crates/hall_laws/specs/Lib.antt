@@ -8,3 +8,4 @@ pub mod HallExample
 pub mod HallProgress
 pub mod HallGoing
 pub mod HallServing
+pub mod Copying

@@ -18,7 +18,7 @@ use Rattle.serving.specs.Telling.{run_of}
 use Rattle.serving.specs.declared.request.Request.{Request}
 use Rattle.serving.specs.declared.request.Request.TheVariants.{Heard, Lagging, Learned, Entered}
 use Rattle.serving.specs.declared.request.Request.TheVariants.{Asked, Printed, Ticked, Stopped}
-use Rattle.serving.specs.declared.request.Request.TheVariants.{Strange, Ignored}
+use Rattle.serving.specs.declared.request.Request.TheVariants.{Inspected, Copied, Strange, Ignored}
 use Rattle.serving.specs.declared.request.Run.{Run}
 use Rattle.store.specs.declared.home.Home.{Home}
 
@@ -76,6 +76,8 @@ left_out (Asked id) = 0
 left_out (Printed event round position style) = 0
 left_out Ticked = 0
 left_out Stopped = 0
+left_out Inspected = 0
+left_out (Copied position) = 0
 left_out Strange = 0
 left_out Ignored = 0
 
@@ -117,6 +119,8 @@ runs_due home (Asked id) acts = []
 runs_due home (Printed event round position style) acts = []
 runs_due home Ticked acts = []
 runs_due home Stopped acts = []
+runs_due home Inspected acts = []
+runs_due home (Copied position) acts = []
 runs_due home Strange acts = []
 runs_due home Ignored acts = []
 
@@ -138,6 +142,8 @@ asks_for (Asked id) = []
 asks_for (Printed event round position style) = []
 asks_for Ticked = Tick ∷ []
 asks_for Stopped = []
+asks_for Inspected = []
+asks_for (Copied position) = []
 asks_for Strange = []
 asks_for Ignored = []
 

@@ -3,6 +3,7 @@
 #![tactic(auto)]
 
 mod arriving;
+mod copying;
 mod hall_going;
 mod hall_runs;
 mod hall_serving;
@@ -12,6 +13,7 @@ mod served;
 mod stops;
 
 pub use arriving::messages_arrive;
+pub use copying::copies_are_of_logs;
 pub use hall_going::halls_go_on;
 pub use hall_runs::{halls_are_not_stuck, halls_are_runs};
 pub use hall_serving::majorities_decide;

@@ -3,4 +3,4 @@ use Rattle.answers.specs.Seen.{Seen}
 use Rattle.replica.specs.Nodes.{NodeValue}
 
 abbrev pub seen_of : {K : Type 0} → NodeValue K → Seen
-seen_of node = record { desk = node.desk; is_down = node.is_down }
+seen_of node = record { desk = node.desk; is_down = node.is_down; told = node.told }

@@ -5,11 +5,13 @@ ghost use Rattle.replica.specs.Handles.{Handles};
 
 use crate::node::Node;
 use acceptor::NoMemory;
+use acceptor::ballot::Ballot;
 use acceptor::message::Messages;
 use answers::{Desk, SheetFault, Told};
 use formats::Event as EventOf;
 use learner::event::DeskEvent;
 use learner::log::Log;
+use proposer::role::Role;
 use replica::NodeFault;
 use sheets::Style;
 use store::home::Home;
@@ -36,6 +38,18 @@ impl<K: Keeper + Drop> Desk for Node<K> {
 
     fn queued(&self) -> u8 {
         Node::queued(self)
+    }
+
+    fn role(&self) -> &Role {
+        Node::role(self)
+    }
+
+    fn promised(&self) -> Ballot {
+        Node::promised(self)
+    }
+
+    fn told(&self) -> [u32; 5] {
+        Node::told(self)
     }
 
     fn is_down(&self) -> bool {

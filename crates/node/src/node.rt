@@ -1,6 +1,9 @@
 //! One desk of a hall: its replicated log, and what the log's entries have come to.
 
 ghost use Rattle.std.specs.Prelude.{◌≡◌, ◌⊎◌, ◌≤◌, Err, Some, IfOk, OnOk, IfErr, length};
+ghost use Rattle.std.specs.List.{AllByRecursion};
+ghost use Rattle.acceptor.specs.Ballots.{no_ballot};
+ghost use Rattle.learner.specs.Ranges.{IsReal};
 ghost use Rattle.answers.specs.Answers.{told, sheet_at, NoSheetAt};
 ghost use Rattle.node.specs.model.KeptMeets.{IsKeptOf};
 ghost use Rattle.replica.specs.Handles.{Handles};
@@ -9,10 +12,12 @@ ghost use Rattle.store.specs.Ranges.{IsHome};
 
 use crate::kept_meet::KeptMeet;
 use acceptor::NoMemory;
+use acceptor::ballot::Ballot;
 use acceptor::message::Messages;
 use answers::{SheetFault, Told};
 use learner::event::DeskEvent;
 use learner::log::Log;
+use proposer::role::Role;
 use replica::{NodeFault, Replica};
 use sheets::Style;
 use std::alloc::Global;
@@ -127,13 +132,41 @@ impl<K: Keeper + Drop> Node<K> {
         self.replica.queue().len() as u8
     }
 
+    /// What the desk does for a ballot of its own.
+    pub fn role(&self) -> &Role
+        ensures { result.now ≡ self.now.desk.role }
+    {
+        self.replica.role()
+    }
+
+    /// The highest ballot that the desk has promised, (0, 0) where it has promised none.
+    pub fn promised(&self) -> Ballot
+        ensures promised { result ≡ self.now.desk.stored.promised }
+        ensures real { (result ≡ no_ballot)
+            ⊎ IsReal (K.home_of self.now.keeper).desks result }
+    {
+        self.replica.promised()
+    }
+
+    /// The greatest length of its log that each desk told this one, that of desk 1 first, at most
+    /// 65,536: a Behind tells the length of its sender's log, and a Decided that it is above a
+    /// position. It is 0 for a desk that told none since this one was opened, and for one that the
+    /// hall does not have.
+    pub fn told(&self) -> [u32; 5]
+        ensures told { result ≡ self.now.told }
+        ensures most { AllByRecursion (λ len. len ≤ 65536) result }
+    {
+        self.replica.told()
+    }
+
     /// Takes an event: does the step of the protocol, with its one change committed to the store
     /// before any message is handed out.
     ///
     /// The messages are in the order in which they are to be sent. Each is from this desk to a desk
     /// of the hall, with its fields in the ranges of a frame. A message for another desk, from none
     /// of the hall, or with a field out of its range does nothing, as does any message that the
-    /// protocol ignores: the answer is Ok, and nothing is stored.
+    /// protocol ignores: the answer is Ok, and nothing is stored. Where the answer is Ok, what a
+    /// message of a desk of the hall tells of that desk's log is seen in `told` from then on.
     ///
     /// At a desk that is Down every event is Down. Else a submission is Busy with 64 entries in the
     /// queue, and it is LogFull with 65,536 in the log; a Start is LogFull at an idle or leading

@@ -19,6 +19,7 @@ use Rattle.store.specs.declared.keeper.Keeper.{Ghosts}
 use Rattle.roles.specs.declared.fault.NodeFault.{NodeFault}
 use Rattle.roles.specs.declared.fault.NodeFault.TheVariants.{Down}
 use Rattle.roles.specs.Faults.{refused_as}
+use Rattle.replica.specs.Lengths.{told_after}
 use Rattle.replica.specs.Nodes.{NodeValue}
 use Rattle.replica.specs.Stores.{HoldsDesk, HoldsStep}
 
@@ -66,6 +67,8 @@ pub record Handles {K : Type 0} (k : Ghosts K) (old : NodeValue K) (event : Desk
       old.is_down ≡ false
       → Takes (step_at home old.desk event) home.desks home.desk old.desk new.desk result
   pub entries : IfOk result FitInFrames
+  -- it has heard what the message tells of its sender's log, where it was taken
+  pub told : new.told ≡ told_after (k.home_of old.keeper) event result old.told
   -- a message that the protocol ignores is taken, and the store is not asked
   pub ignored : let home = k.home_of old.keeper in
       old.is_down ≡ false → IsIgnored home.desks home.desk old.desk event

@@ -1,5 +1,6 @@
 pub mod Nodes
 pub mod Stores
+pub mod Lengths
 pub mod Handles
 pub mod Opens
 pub mod model

@@ -4,6 +4,7 @@ use Rattle.store.specs.declared.fault.LoadFault.{LoadFault}
 use Rattle.store.specs.declared.fault.LoadFault.TheVariants.{Device, NoMemory}
 use Rattle.store.specs.declared.keeper.Keeper.{Ghosts}
 use Rattle.roles.specs.Opening.{opened}
+use Rattle.replica.specs.Lengths.{nothing_told}
 use Rattle.replica.specs.Nodes.{NodeValue}
 use Rattle.replica.specs.Stores.{HasKept, HoldsDesk, HoldsNoOther, KeepsStill}
 
@@ -12,6 +13,8 @@ pub record Opens {K : Type 0} (k : Ghosts K) (keeper : K) (node : NodeValue K) :
   pub up : node.is_down ≡ false
   -- it is idle, and nothing waits
   pub first : node.desk ≡ opened node.desk.stored node.desk.log
+  -- what the desks told it is not stored
+  pub told : node.told ≡ nothing_told
   -- it has what the store held, and that is what the keeper kept
   pub loaded : k.is_honest node.keeper → k.may_hold keeper node.desk.stored node.desk.log
   pub same : HasKept k keeper node.keeper node.desk

@@ -7,6 +7,7 @@
 
 mod entries;
 mod handling;
+mod lengths;
 mod replica;
 
 pub use learner::event::DeskEvent;

@@ -2,19 +2,26 @@
 
 ghost use Rattle.std.specs.Prelude.{◌≡◌, ◌≢◌, ◌⊎◌, ◌↔◌, ◌≤◌, ◌<◌, Err, true};
 ghost use Rattle.std.specs.Prelude.{false, IsOk, IfOk, OnOk, IfErr, IsTrue, length};
+ghost use Rattle.std.specs.List.{AllByRecursion};
+ghost use Rattle.acceptor.specs.Ballots.{no_ballot};
+ghost use Rattle.learner.specs.Ranges.{IsReal};
 ghost use Rattle.store.specs.Ranges.{IsHome};
 ghost use Rattle.roles.specs.Opening.{opened};
 ghost use Rattle.replica.specs.Handles.{FitInFrames, Handles};
+ghost use Rattle.replica.specs.Lengths.{nothing_told, told_after};
 ghost use Rattle.replica.specs.Opens.{GivesBack, Opens};
 ghost use Rattle.replica.specs.model.Planning.{Ignores, TakesAt, step_of};
 ghost use Rattle.replica.specs.Stores.{HasKept, HoldsDesk, HoldsNoOther, HoldsStep, KeepsStill};
 
 use crate::entries::look_at_all;
 use crate::handling::take_event;
+use crate::lengths::told_by;
+use acceptor::ballot::Ballot;
 use acceptor::entry::Entry;
 use acceptor::message::Messages;
 use learner::event::DeskEvent;
 use learner::log::Log;
+use proposer::role::Role;
 use roles::{NodeFault, Running};
 use std::alloc::Global;
 use std::marker::Model;
@@ -32,6 +39,7 @@ pub struct Replica<K: Keeper> {
     keeper: K,
     desk: Running,
     is_down: bool,
+    told: [u32; 5],
 }
 
 // It is written out, so that a caller does not prove again how each part is dropped.
@@ -42,23 +50,31 @@ impl<K: Keeper + Drop> Drop for Replica<K> {
             keeper: _,
             desk: _,
             is_down: _,
+            told: _,
         } = self;
     }
 }
 
 impl<K: Keeper> Model for Replica<K> {
-    ghost use Rattle.std.specs.Prelude.{◌≡◌, false};
+    ghost use Rattle.std.specs.Prelude.{◌≡◌, ◌≤◌, false};
+    ghost use Rattle.std.specs.List.{AllByRecursion};
     ghost use Rattle.replica.specs.Nodes.{NodeValue};
 
     ghost Value = { NodeValue K };
 
-    ghost view = { λ n. record { keeper = n.keeper; desk = n.desk.desk; is_down = n.is_down } };
+    ghost view = { λ n. record {
+      keeper = n.keeper;
+      desk = n.desk.desk;
+      is_down = n.is_down;
+      told = n.told;
+    } };
 
     ghost invariant = { λ n. ((K.home_of n.keeper).desk ≡ n.desk.number)
         × ((K.home_of n.keeper).desks ≡ n.desk.desks)
         × (n.is_down ≡ false → K.is_down n.keeper ≡ false)
         × (n.is_down ≡ false → K.is_honest n.keeper
-        → K.keeps n.keeper n.desk.desk.stored n.desk.desk.log) };
+        → K.keeps n.keeper n.desk.desk.stored n.desk.desk.log)
+        × AllByRecursion (λ len. len ≤ 65536) n.told };
 }
 
 impl<K: Keeper + Drop> Replica<K> {
@@ -100,6 +116,7 @@ impl<K: Keeper + Drop> Replica<K> {
     fn load(alloc: Global, keeper: K) -> Result<Replica<K>, (LoadFault, K)>
         ensures up { IfOk result (λ node. node.is_down ≡ false) }
         ensures first { IfOk result (λ node. node.desk ≡ opened node.desk.stored node.desk.log) }
+        ensures told { IfOk result (λ node. node.told ≡ nothing_told) }
         ensures loaded { IfOk result (λ node. K.is_honest node.keeper
             → K.may_hold keeper node.desk.stored node.desk.log) }
         ensures same { IfOk result (λ node. HasKept K.Keeper keeper node.keeper node.desk) }
@@ -131,6 +148,7 @@ impl<K: Keeper + Drop> Replica<K> {
                     keeper,
                     desk,
                     is_down: false,
+                    told: [0; 5],
                 }),
                 Err(_) => Err((LoadFault::NoMemory, keeper)),
             },
@@ -161,13 +179,41 @@ impl<K: Keeper + Drop> Replica<K> {
         self.desk.queue()
     }
 
+    /// What the desk does for a ballot of its own.
+    pub fn role(&self) -> &Role
+        ensures { result.now ≡ self.now.desk.role }
+    {
+        self.desk.role()
+    }
+
+    /// The highest ballot that the desk has promised, (0, 0) where it has promised none.
+    pub fn promised(&self) -> Ballot
+        ensures promised { result ≡ self.now.desk.stored.promised }
+        ensures real { (result ≡ no_ballot)
+            ⊎ IsReal (K.home_of self.now.keeper).desks result }
+    {
+        self.desk.promised()
+    }
+
+    /// The greatest length of its log that each desk told this one, that of desk 1 first, at most
+    /// 65,536: a Behind tells the length of its sender's log, and a Decided that it is above a
+    /// position. It is 0 for a desk that told none since this one was opened, and for one that the
+    /// hall does not have.
+    pub fn told(&self) -> [u32; 5]
+        ensures told { result ≡ self.now.told }
+        ensures most { AllByRecursion (λ len. len ≤ 65536) result }
+    {
+        self.told
+    }
+
     /// Takes an event: does the step of the protocol, with its one change committed to the store
     /// before any message is handed out.
     ///
     /// The messages are in the order in which they are to be sent. Each is from this desk to a desk
     /// of the hall, with its fields in the ranges of a frame. A message for another desk, from none
     /// of the hall, or with a field out of its range does nothing, as does any message that the
-    /// protocol ignores: the answer is Ok, and nothing is stored.
+    /// protocol ignores: the answer is Ok, and nothing is stored. Where the answer is Ok, what a
+    /// message of a desk of the hall tells of that desk's log is seen in `told` from then on.
     ///
     /// At a desk that is Down every event is Down. Else a submission is Busy with 64 entries in the
     /// queue, and it is LogFull with 65,536 in the log; a Start is LogFull at an idle or leading
@@ -190,6 +236,8 @@ impl<K: Keeper + Drop> Replica<K> {
         ensures takes { self.old.is_down ≡ false
             → TakesAt (K.home_of self.old.keeper) self.old.desk event self.new.desk result }
         ensures entries { IfOk result FitInFrames }
+        ensures told { let home = K.home_of self.old.keeper in
+            self.new.told ≡ told_after home event result self.old.told }
         ensures ignored { self.old.is_down ≡ false → Ignores K.Keeper self.old event
             → IsOk result × (self.new.keeper ≡ self.old.keeper) }
         ensures down { (result ≡ Err NodeFault.Down) ↔ (self.new.is_down ≡ true) }
@@ -207,8 +255,10 @@ impl<K: Keeper + Drop> Replica<K> {
         if self.is_down {
             return Err(NodeFault::Down);
         }
+        let told = told_by(self.home(), &event, self.told);
         match take_event(self.alloc, &mut self.keeper, &mut self.desk, event) {
             Ok(messages) => {
+                self.told = told;
                 look_at_all(messages.as_slice());
                 Ok(messages)
             }
@@ -238,6 +288,7 @@ impl<K: Keeper + Drop> Replica<K> {
             keeper,
             desk: _,
             is_down: _,
+            told: _,
         } = self;
         keeper
     }

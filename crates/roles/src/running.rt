@@ -18,6 +18,7 @@ use learner::log::Log;
 use proposer::fault::StepFault;
 use proposer::plan::Plan;
 use proposer::proposer::Proposer;
+use proposer::role::Role;
 use std::alloc::{AllocError, Global};
 use std::marker::Model;
 
@@ -46,11 +47,12 @@ impl Model for Running {
 
 impl Running {
     ghost use Rattle.std.specs.Prelude.{◌≤◌, ◌⊎◌, [], None, Ok, IsOk, IsOkAnd, OnOk, OnErr, length};
+    ghost use Rattle.acceptor.specs.Ballots.{no_ballot};
     ghost use Rattle.acceptor.specs.declared.message.Body.TheVariants.{Prepare, Accept};
     ghost use Rattle.learner.specs.declared.event.DeskEvent.TheVariants.{Submit, Start, Tick};
     ghost use Rattle.learner.specs.declared.event.DeskEvent.TheVariants.{Deliver};
     ghost use Rattle.learner.specs.Desks.{adopt, restarted};
-    ghost use Rattle.learner.specs.Ranges.{DeskIsInRange};
+    ghost use Rattle.learner.specs.Ranges.{DeskIsInRange, IsReal};
     ghost use Rattle.learner.specs.Steps.{IsDesk, answered, done, on_body, step};
     ghost use Rattle.proposer.specs.Plans.{IsNothing};
     ghost use Rattle.proposer.specs.Refusals.{PlansAs, RefusesAs};
@@ -117,6 +119,21 @@ impl Running {
         ensures short { length result.now ≤ 64 }
     {
         self.proposer.queue()
+    }
+
+    /// What the desk does for a ballot of its own.
+    pub fn role(&self) -> &Role
+        ensures { result.now ≡ self.now.desk.role }
+    {
+        self.proposer.role()
+    }
+
+    /// The highest ballot that the desk has promised, (0, 0) where it has promised none.
+    pub fn promised(&self) -> Ballot
+        ensures promised { result ≡ self.now.desk.stored.promised }
+        ensures real { (result ≡ no_ballot) ⊎ IsReal self.now.desks result }
+    {
+        self.stored.promised
     }
 
     /// Loses what is not stored: the role, the queue, and the greatest number that the desk has

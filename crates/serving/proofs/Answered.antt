@@ -8,7 +8,8 @@ use Rattle.wire.specs.declared.frame.What.{What}
 use Rattle.wire.specs.declared.frame.What.TheVariants as what
 use Rattle.store.specs.declared.home.Home.{Home}
 use Rattle.serving.specs.Making.{Way, Outside, Makes}
-use Rattle.serving.specs.Answering.{answer_of, answer_first, state, told_what, printed}
+use Rattle.serving.specs.Answering.{answer_of, answer_first, state, told_what, printed, standing}
+use Rattle.serving.specs.Answering.{copied}
 use Rattle.serving.specs.model.Requests.{Answers, AnswersSome, FailsToAnswer}
 use Rattle.answers.specs.Seen.{Seen}
 use Rattle.serving.specs.Nodes.{Fate, reply}
@@ -18,7 +19,8 @@ use Rattle.serving.specs.Serving.{seen_after}
 use Rattle.serving.specs.declared.calls.Answer.{Answer}
 use Rattle.serving.specs.declared.request.Request.{Request}
 use Rattle.serving.specs.declared.request.Request.TheVariants.{Heard, Ticked, Asked, Printed}
-use Rattle.serving.specs.declared.request.Request.TheVariants.{Stopped, Strange, Ignored}
+use Rattle.serving.specs.declared.request.Request.TheVariants.{Inspected, Copied, Stopped, Strange}
+use Rattle.serving.specs.declared.request.Request.TheVariants.{Ignored}
 use Rattle.wire.specs.declared.values.ClientRefusal.TheVariants as refusal
 use Rattle.formats.specs.declared.events.Event.{Event as EventOf}
 use Rattle.wire.specs.declared.values.SheetStyle.{SheetStyle as Style}
@@ -161,6 +163,36 @@ prints home r event round position style x w a is h =
       record {
         answer_is = ap
             (λ z. Some z) h.1;
+        made = Makes-nil home.hall a;
+        node = refl;
+        calls = refl;
+      },
+    )
+
+-- how the desk stands, and entries of its log: so it is too
+pub inspects : {V : Type 0} {way : Way V} (home : Home) (r : Request) (x : Seen) (w : What)
+    (a : Outside way)
+    → r ≡ Inspected → w ≡ what.Standing (standing home x) → AnswersSome home x x r (Some w) a a
+inspects home r x w a is h =
+    subst (λ z. AnswersSome home x x z (Some w) a a) (sym is) (
+      [],
+      record {
+        answer_is = ap (λ z. Some z) h;
+        made = Makes-nil home.hall a;
+        node = refl;
+        calls = refl;
+      },
+    )
+
+pub copies : {V : Type 0} {way : Way V} (home : Home) (r : Request) (position : ℕ) (x : Seen)
+    (w : What) (a : Outside way)
+    → r ≡ Copied position → (fate : Fate) × (w ≡ copied x fate position)
+    → AnswersSome home x x r (Some w) a a
+copies home r position x w a is h =
+    subst (λ z. AnswersSome home x x z (Some w) a a) (sym is) (
+      h.0 ∷ [],
+      record {
+        answer_is = ap (λ z. Some z) h.1;
         made = Makes-nil home.hall a;
         node = refl;
         calls = refl;

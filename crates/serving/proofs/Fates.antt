@@ -19,11 +19,12 @@ use Rattle.roles.specs.declared.fault.NodeFault.TheVariants.{Busy, LogFull, Ball
 use Rattle.roles.specs.declared.fault.NodeFault.TheVariants.{Down}
 use Rattle.roles.specs.Faults.{refused_as}
 use Rattle.replica.specs.Handles.{Takes}
+use Rattle.replica.specs.Lengths.{told_by, told_after}
 use Rattle.answers.specs.Seen.{Seen}
 use Rattle.serving.specs.Nodes.{Fate, Goes, Starves, Breaks, by_step, reply}
 
-abbrev at : Desk → Bool → Seen
-at x b = record { desk = x; is_down = b }
+abbrev at : Desk → Bool → List ℕ → Seen
+at x b t = record { desk = x; is_down = b; told = t }
 
 abbrev failed : NodeFault → Result (List Message) NodeFault
 failed fault = Err fault
@@ -54,106 +55,124 @@ ComesSome : Home → DeskEvent → Seen → Seen → Result (List Message) NodeF
 ComesSome home event x y r = (fate : Fate) × Comes home event fate x y r
 
 -- a step of the protocol
-comes_ok : (home : Home) (x y : Desk) (event : DeskEvent) (ms : List Message)
+comes_ok : (home : Home) (x y : Desk) (t : List ℕ) (event : DeskEvent) (ms : List Message)
     → step home.desks home.desk x event ≡ Ok (record { desk = y; messages = ms })
-    → Comes home event Goes (at x false) (at y false) (Ok ms)
-comes_ok home x y event ms s = record {
-  answer = ap (λ r. (by_step (at x false) r).result) (sym s);
-  seen = ap (λ r. (by_step (at x false) r).seen) (sym s);
+    → Comes home event Goes (at x false t) (at y false (told_by home event t)) (Ok ms)
+comes_ok home x y t event ms s = record {
+  answer = ap (λ r. (by_step home event (at x false t) r).result) (sym s);
+  seen = ap (λ r. (by_step home event (at x false t) r).seen) (sym s);
 }
 
 -- a refusal of the protocol
-comes_refused : (home : Home) (x : Desk) (event : DeskEvent) (why : Refusal)
+comes_refused : (home : Home) (x : Desk) (t : List ℕ) (event : DeskEvent) (why : Refusal)
     → step home.desks home.desk x event ≡ Err why
-    → Comes home event Goes (at x false) (at x false) (failed (refused_as why))
-comes_refused home x event why s = record {
-  answer = ap (λ r. (by_step (at x false) r).result) (sym s);
-  seen = ap (λ r. (by_step (at x false) r).seen) (sym s);
+    → Comes home event Goes (at x false t) (at x false t) (failed (refused_as why))
+comes_refused home x t event why s = record {
+  answer = ap (λ r. (by_step home event (at x false t) r).result) (sym s);
+  seen = ap (λ r. (by_step home event (at x false t) r).seen) (sym s);
 }
 
 -- a refusal other than Down at a node that is not down
-comes_up : (home : Home) (x : Desk) (event : DeskEvent) (fault : NodeFault)
+comes_up : (home : Home) (x : Desk) (told : List ℕ) (event : DeskEvent) (fault : NodeFault)
     → (fault ≡ Down → ⊥)
     → Takes (step home.desks home.desk x event) home.desks home.desk x x (Err fault)
-    → ComesSome home event (at x false) (at x false) (failed fault)
+    → ComesSome home event (at x false told) (at x false told) (failed fault)
 unfolding ComesSome
-comes_up home x event Busy up t =
-    (Goes, comes_refused home x event refusal.Busy ((t.refused refusal.Busy).0 refl))
-comes_up home x event LogFull up t =
-    (Goes, comes_refused home x event refusal.LogFull ((t.refused refusal.LogFull).0 refl))
-comes_up home x event BallotsSpent up t = (
+comes_up home x told event Busy up t =
+    (Goes, comes_refused home x told event refusal.Busy ((t.refused refusal.Busy).0 refl))
+comes_up home x told event LogFull up t =
+    (Goes, comes_refused home x told event refusal.LogFull ((t.refused refusal.LogFull).0 refl))
+comes_up home x told event BallotsSpent up t = (
   Goes,
-  comes_refused home x event refusal.BallotsSpent
+  comes_refused home x told event refusal.BallotsSpent
       ((t.refused refusal.BallotsSpent).0 refl),
 )
-comes_up home x event NoMemory up t = (Starves, record { answer = refl; seen = refl })
-comes_up home x event Down up t = absurd (up refl)
+comes_up home x told event NoMemory up t = (Starves, record { answer = refl; seen = refl })
+comes_up home x told event Down up t = absurd (up refl)
 
 -- what is known of a call of `handle`
-record Known (home : Home) (event : DeskEvent) (x y : Desk) (a b : Bool)
+record Known (home : Home) (event : DeskEvent) (x y : Desk) (a b : Bool) (t u : List ℕ)
     (r : Result (List Message) NodeFault) : Type 0 where
   pub takes : a ≡ false
       → Takes (step home.desks home.desk x event) home.desks home.desk x y r
-  pub ended : a ≡ true → (r ≡ failed Down) × (at y b ≡ at x a)
+  pub ended : a ≡ true → (r ≡ failed Down) × (at y b u ≡ at x a t)
+  pub told : u ≡ told_after home event r t
   pub down : (r ≡ failed Down) ↔ (b ≡ true)
 
-comes_err : (home : Home) (x y : Desk) (event : DeskEvent) (fault : NodeFault)
+comes_err : (home : Home) (x y : Desk) (told : List ℕ) (event : DeskEvent) (fault : NodeFault)
     → (fault ≡ Down → ⊥)
     → Takes (step home.desks home.desk x event) home.desks home.desk x y (Err fault)
-    → ComesSome home event (at x false) (at y false) (failed fault)
-comes_err home x y event fault up t =
-    subst (λ z. ComesSome home event (at x false) (at z false) (failed fault)) (sym t.err)
-    (comes_up home x event fault up
+    → ComesSome home event (at x false told) (at y false told) (failed fault)
+comes_err home x y told event fault up t =
+    subst (λ z. ComesSome home event (at x false told) (at z false told) (failed fault))
+    (sym t.err)
+    (comes_up home x told event fault up
     (subst (λ z. Takes (step home.desks home.desk x event) home.desks home.desk x z (Err fault))
     t.err t))
 
-comes_down : (home : Home) (x y : Desk) (event : DeskEvent)
+comes_down : (home : Home) (x y : Desk) (told : List ℕ) (event : DeskEvent)
     → Takes (step home.desks home.desk x event) home.desks home.desk x y (Err Down)
-    → ComesSome home event (at x false) (at y true) (failed Down)
+    → ComesSome home event (at x false told) (at y true told) (failed Down)
 unfolding ComesSome
-comes_down home x y event t =
-    (Breaks, record { answer = refl; seen = ap (λ z. at z true) t.err })
+comes_down home x y told event t =
+    (Breaks, record { answer = refl; seen = ap (λ z. at z true told) t.err })
 
-comes_either : (home : Home) (event : DeskEvent) (x y : Desk) (a b : Bool)
+-- what was told after it is what the answer says
+comes_told : (home : Home) (event : DeskEvent) (x y : Desk) (a b : Bool) (t u v : List ℕ)
     (r : Result (List Message) NodeFault)
-    → Known home event x y a b r → ComesSome home event (at x a) (at y b) r
+    → u ≡ v → ComesSome home event (at x a t) (at y b v) r
+    → ComesSome home event (at x a t) (at y b u) r
+comes_told home event x y a b t u v r is h =
+    subst (λ z. ComesSome home event (at x a t) (at y b z) r) (sym is) h
+
+comes_either : (home : Home) (event : DeskEvent) (x y : Desk) (a b : Bool) (t u : List ℕ)
+    (r : Result (List Message) NodeFault)
+    → Known home event x y a b t u r → ComesSome home event (at x a t) (at y b u) r
 unfolding ComesSome
-comes_either home event x y true b r k =
+comes_either home event x y true b t u r k =
     (Goes, record { answer = (k.ended refl).0; seen = (k.ended refl).1 })
-comes_either home event x y false false (Ok ms) k =
-    (Goes, comes_ok home x y event ms (k.takes refl).ok)
-comes_either home event x y false true (Ok ms) k =
+comes_either home event x y false false t u (Ok ms) k =
+    comes_told home event x y false false t u (told_by home event t) (Ok ms) k.told
+    (Goes, comes_ok home x y t event ms (k.takes refl).ok)
+comes_either home event x y false true t u (Ok ms) k =
     absurd (let e : ok ms ≡ failed Down = k.down.1 refl in cc)
-comes_either home event x y false true (Err Down) k = comes_down home x y event (k.takes refl)
-comes_either home event x y false false (Err Down) k =
+comes_either home event x y false true t u (Err Down) k =
+    comes_told home event x y false true t u t (Err Down) k.told
+    (comes_down home x y t event (k.takes refl))
+comes_either home event x y false false t u (Err Down) k =
     absurd (let e : false ≡ true = k.down.0 refl in cc)
-comes_either home event x y false false (Err Busy) k =
-    comes_err home x y event Busy (λ e. cc) (k.takes refl)
-comes_either home event x y false false (Err LogFull) k =
-    comes_err home x y event LogFull (λ e. cc) (k.takes refl)
-comes_either home event x y false false (Err BallotsSpent) k =
-    comes_err home x y event BallotsSpent (λ e. cc) (k.takes refl)
-comes_either home event x y false false (Err NoMemory) k =
-    comes_err home x y event NoMemory (λ e. cc) (k.takes refl)
-comes_either home event x y false true (Err Busy) k =
+comes_either home event x y false false t u (Err Busy) k =
+    comes_told home event x y false false t u t (Err Busy) k.told
+    (comes_err home x y t event Busy (λ e. cc) (k.takes refl))
+comes_either home event x y false false t u (Err LogFull) k =
+    comes_told home event x y false false t u t (Err LogFull) k.told
+    (comes_err home x y t event LogFull (λ e. cc) (k.takes refl))
+comes_either home event x y false false t u (Err BallotsSpent) k =
+    comes_told home event x y false false t u t (Err BallotsSpent) k.told
+    (comes_err home x y t event BallotsSpent (λ e. cc) (k.takes refl))
+comes_either home event x y false false t u (Err NoMemory) k =
+    comes_told home event x y false false t u t (Err NoMemory) k.told
+    (comes_err home x y t event NoMemory (λ e. cc) (k.takes refl))
+comes_either home event x y false true t u (Err Busy) k =
     absurd (let e : failed Busy ≡ failed Down = k.down.1 refl in cc)
-comes_either home event x y false true (Err LogFull) k =
+comes_either home event x y false true t u (Err LogFull) k =
     absurd (let e : failed LogFull ≡ failed Down = k.down.1 refl in cc)
-comes_either home event x y false true (Err BallotsSpent) k =
+comes_either home event x y false true t u (Err BallotsSpent) k =
     absurd (let e : failed BallotsSpent ≡ failed Down = k.down.1 refl in cc)
-comes_either home event x y false true (Err NoMemory) k =
+comes_either home event x y false true t u (Err NoMemory) k =
     absurd (let e : failed NoMemory ≡ failed Down = k.down.1 refl in cc)
 
 comes : (home : Home) (x y : Seen) (event : DeskEvent) (r : Result (List Message) NodeFault)
     → (x.is_down ≡ false
     → Takes (step home.desks home.desk x.desk event) home.desks home.desk x.desk y.desk r)
     → (x.is_down ≡ true → (r ≡ failed Down) × (y ≡ x))
+    → y.told ≡ told_after home event r x.told
     → (r ≡ failed Down) ↔ (y.is_down ≡ true)
     → (fate : Fate) × Comes home event fate x y r
 unfolding ComesSome
-comes home x y event r t e d =
-    comes_either home event x.desk y.desk x.is_down y.is_down r
-    (record { takes = t; ended = e; down = d })
+comes home x y event r t e told d =
+    comes_either home event x.desk y.desk x.is_down y.is_down x.told y.told r
+    (record { takes = t; ended = e; told = told; down = d })
 
 -- the call, with the messages that wait
 pub calls_so : {V : Type 0} (way : Handling V) (home : Home) (x y : Seen) (event : DeskEvent)
@@ -161,11 +180,12 @@ pub calls_so : {V : Type 0} (way : Handling V) (home : Home) (x y : Seen) (event
     → (x.is_down ≡ false
     → Takes (step home.desks home.desk x.desk event) home.desks home.desk x.desk y.desk r)
     → (x.is_down ≡ true → (r ≡ failed Down) × (y ≡ x))
+    → y.told ≡ told_after home event r x.told
     → (r ≡ failed Down) ↔ (y.is_down ≡ true)
     → way u event r v → answer ≡ answer_of r → more ≡ waiting_after ms r
     → (fate : Fate) × Calls home event fate x y ms more answer × IsCall way home event fate x u v
-calls_so way home x y event r ms more answer u v t e d made is waits =
-    let f = comes home x y event r t e d in (
+calls_so way home x y event r ms more answer u v t e told d made is waits =
+    let f = comes home x y event r t e told d in (
       f.0,
       record {
         answer_is = is ∙ ap answer_of f.1.answer;
@@ -181,11 +201,12 @@ pub loses_so : {V : Type 0} (way : Handling V) (home : Home) (x y : Seen) (event
     → (x.is_down ≡ false
     → Takes (step home.desks home.desk x.desk event) home.desks home.desk x.desk y.desk r)
     → (x.is_down ≡ true → (r ≡ failed Down) × (y ≡ x))
+    → y.told ≡ told_after home event r x.told
     → (r ≡ failed Down) ↔ (y.is_down ≡ true)
     → way u event r v
     → (fate : Fate) × LosesMessages home event fate x y × IsCall way home event fate x u v
-loses_so way home x y event r u v t e d made =
-    let f = comes home x y event r t e d in
+loses_so way home x y event r u v t e told d made =
+    let f = comes home x y event r t e told d in
     (f.0, record { seen = f.1.seen }, subst (λ z. way u event z v) f.1.answer made)
 
 -- a refusal other than Down leaves the messages that wait

@@ -20,3 +20,5 @@ pub mod Told
 pub mod OneFrame
 pub mod OwnTicks
 pub mod Sheets
+pub mod Prefixes
+pub mod Standings

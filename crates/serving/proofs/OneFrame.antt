@@ -1,6 +1,6 @@
 -- A frame: its request, the answer, and how it ends the connection.
 use Rattle.std.proofs.Common.{◌≡◌, ◌≢◌, refl, sym, ap, subst, ◌∙◌, arith, ℕ, ◌^◌, ◌<◌, ◌≤◌, List}
-use Rattle.std.proofs.Common.{[], Option, None, Some}
+use Rattle.std.proofs.Common.{[], Option, None, Some, IfSome}
 use Rattle.std.proofs.lemmas.List.{append-nil}
 use Rattle.std.specs.Io.KnownBytes.{Appends}
 use Rattle.store.specs.declared.home.Home.{Home}
@@ -10,7 +10,7 @@ use Rattle.wire.specs.declared.values.Version.{Version}
 use Rattle.wire.specs.declared.frame.Frame.{Frame}
 use Rattle.wire.specs.declared.frame.What.{What}
 use Rattle.serving.specs.Making.{Way, Outside}
-use Rattle.serving.specs.Answering.{IsAnswer}
+use Rattle.serving.specs.Answering.{IsAnswer, IsAnswerIn}
 use Rattle.serving.specs.Asking.{request, ending, close_by}
 use Rattle.lines.specs.Bytes.{AppendsPart}
 use Rattle.serving.specs.model.Writing.{WriteEnds}
@@ -25,14 +25,24 @@ use Rattle.serving.specs.declared.ends.FrameFault.{FrameFault}
 use Rattle.serving.specs.declared.ends.FrameFault.TheVariants as fault
 use Rattle.serving.specs.declared.request.Request.{Request}
 
--- an answer of a desk is a frame, in each version
+-- what is said of an answer, where there is one
+pub some_is : (v : Version) {o : Option What} {w : What} → o ≡ Some w
+    → IfSome o (IsAnswerIn v) → IsAnswerIn v w
+some_is v is h = subst (λ z. IfSome z (IsAnswerIn v)) is h
+
+-- an answer in each version is one in this version
+pub in_version : (v : Version) {w : What} → IsAnswer w → IsAnswerIn v w
+in_version v h = record { body = h.body v; way = h.way }
+
+-- an answer of a desk in a version is a frame of it
 pub answer_is_frame : (v : Version) (home : Home) (w : What) → home.hall < 2 ^ 32
-    → IsDesk home.desks home.desk → home.desks ≤ 5 → IsAnswer w → IsFrame (answer_frame v home w)
+    → IsDesk home.desks home.desk → home.desks ≤ 5 → IsAnswerIn v w
+    → IsFrame (answer_frame v home w)
 answer_is_frame v home w small ours few h = record {
   hall = small;
   goes = subst (λ (z : Direction). Goes z home.desk 0) (sym h.way)
       ((ours.0, omega (arith, ours.1, few)), refl);
-  body = h.body v;
+  body = h.body;
 }
 
 -- the frame was served whole

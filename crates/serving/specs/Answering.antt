@@ -1,7 +1,13 @@
 -- What a client is answered.
-use Rattle.std.specs.Prelude.{◌≡◌, ℕ, nat_lt, if◌then◌else◌, List, length, Option, None, Some}
+use Rattle.std.specs.Prelude.{◌≡◌, ℕ, nat_lt, ◌==◌, if◌then◌else◌, List, length, take, drop, Option}
+use Rattle.std.specs.Prelude.{None, Some}
 use Rattle.std.specs.Prelude.{Result, Ok, Err}
+use Rattle.acceptor.specs.declared.ballot.Ballot.{Ballot}
+use Rattle.acceptor.specs.declared.entry.Entry.{Entry}
 use Rattle.acceptor.specs.declared.message.Message.{Message}
+use Rattle.proposer.specs.declared.role.Role.{Role}
+use Rattle.proposer.specs.declared.role.Role.TheVariants as doing
+use Rattle.store.specs.declared.home.Home.{Home}
 use Rattle.formats.specs.declared.events.Event.{Event}
 use Rattle.answers.specs.Answers.{told, sheet_at}
 use Rattle.answers.specs.declared.answers.Told.{Told}
@@ -18,6 +24,11 @@ use Rattle.wire.specs.declared.values.CommandState.{CommandState}
 use Rattle.wire.specs.declared.values.CommandState.TheVariants.{Unknown, Pending, Done}
 use Rattle.wire.specs.declared.values.SheetStyle.{SheetStyle as Style}
 use Rattle.wire.specs.declared.values.SheetStyle.TheVariants as asked
+use Rattle.wire.specs.declared.values.DeskRole.{DeskRole}
+use Rattle.wire.specs.declared.values.DeskRole.TheVariants as role
+use Rattle.wire.specs.declared.standing.Standing.{Standing}
+use Rattle.wire.specs.declared.standing.Lengths.{Lengths}
+use Rattle.wire.specs.declared.standing.Lengths.TheVariants.{OfThree, OfFive}
 use Rattle.wire.specs.declared.frame.What.{What}
 use Rattle.wire.specs.declared.frame.What.TheVariants as what
 use Rattle.answers.specs.Seen.{Seen}
@@ -75,7 +86,50 @@ printed x fate event round position style =
     if nat_lt (length x.desk.log) position then what.Refused refusal.NotThere
     else printed_as fate (sheet x event round position style)
 
--- a frame of this kind and with these fields is one for a client
+-- ---- how the desk stands
+
+abbrev pub role_of : Role → DeskRole
+role_of doing.Idle = role.Idle
+role_of (doing.Gathering ballot pos heard) = role.Gathering
+role_of (doing.Proposing ballot pos e heard) = role.Proposing
+role_of (doing.Leading ballot) = role.Leading
+
+-- a promise, if there is one: real ballots have numbers from 1 on
+abbrev pub promised_of : Ballot → Option Ballot
+promised_of b = if b.number == 0 then None else Some b
+
+-- what the desks of a hall of so many told
+abbrev pub lengths_of_hall : ℕ → List ℕ → Lengths
+lengths_of_hall desks told = if desks == 3 then OfThree (take 3 told) else OfFive told
+
+abbrev pub standing : Home → Seen → Standing
+standing home x =
+    record {
+      length = length x.desk.log;
+      waiting = length x.desk.queue;
+      role = role_of x.desk.role;
+      promised = promised_of x.desk.stored.promised;
+      told = lengths_of_hall home.desks x.told;
+    }
+
+-- the log's entries from a position on, as many as an answer has
+abbrev pub entries_from : ℕ → List Entry → List Entry
+entries_from position log = take 400 (drop position log)
+
+abbrev pub copied : Seen → Fate → ℕ → What
+copied x Goes position =
+    what.Entries position (length x.desk.log) (entries_from position x.desk.log)
+copied x Starves position = what.Refused refusal.NoMemory
+copied x Breaks position = what.Refused refusal.NoMemory
+
+-- ---- ranges
+
+-- a frame of this kind and with these fields is one for a client, in each version
 pub record IsAnswer (w : What) : Type 0 where
   pub body : (version : Version) → IsBody version w
+  pub way : way_of w ≡ ToClient
+
+-- and in this version
+pub record IsAnswerIn (version : Version) (w : What) : Type 0 where
+  pub body : IsBody version w
   pub way : way_of w ≡ ToClient

@@ -1,10 +1,12 @@
 -- What a frame asks of this desk.
-use Rattle.std.specs.Prelude.{ℕ, ◌+◌, ◌^◌, ◌<◌, ◌≤◌, ◌==◌, ◌&&◌, if◌then◌else◌, Bool, length}
+use Rattle.std.specs.Prelude.{◌≡◌, ℕ, ◌+◌, ◌^◌, ◌<◌, ◌≤◌, ◌==◌, ◌&&◌, if◌then◌else◌, Bool, length}
 use Rattle.std.specs.Prelude.{Option, None, Some}
 use Rattle.acceptor.specs.declared.message.Body.{Body}
 use Rattle.acceptor.specs.declared.message.Body.TheVariants as body
-use Rattle.wire.specs.Ranges.{IsEntry, IsId}
+use Rattle.wire.specs.Ranges.{IsEntry, IsId, IsLogLength}
 use Rattle.wire.specs.declared.frame.Frame.{Frame}
+use Rattle.wire.specs.declared.values.Version.{Version}
+use Rattle.wire.specs.declared.values.Version.TheVariants.{Three}
 use Rattle.wire.specs.declared.frame.What.{What}
 use Rattle.wire.specs.declared.frame.What.TheVariants as what
 use Rattle.serving.specs.declared.ends.Close.{Close}
@@ -14,7 +16,7 @@ use Rattle.serving.specs.declared.request.Ending.TheVariants as ends
 use Rattle.serving.specs.declared.request.Request.{Request}
 use Rattle.serving.specs.declared.request.Request.TheVariants.{Heard, Lagging, Learned, Entered}
 use Rattle.serving.specs.declared.request.Request.TheVariants.{Asked, Printed, Ticked, Stopped}
-use Rattle.serving.specs.declared.request.Request.TheVariants.{Strange, Ignored}
+use Rattle.serving.specs.declared.request.Request.TheVariants.{Inspected, Copied, Strange, Ignored}
 use Rattle.answers.specs.Seen.{Seen}
 use Rattle.store.specs.declared.home.Home.{Home}
 
@@ -37,6 +39,10 @@ body_of (what.Told id s) = None
 body_of (what.SheetText bytes) = None
 body_of (what.Refused refusal) = None
 body_of what.Fine = None
+body_of what.Status = None
+body_of (what.Log position) = None
+body_of (what.Standing standing) = None
+body_of (what.Entries position length entries) = None
 
 abbrev pub heard : ℕ → ℕ → Option Body → Request
 heard from to None = Ignored
@@ -49,6 +55,8 @@ ours from to (what.Ask id) = Asked id
 ours from to (what.Sheet event round position style) = Printed event round position style
 ours from to what.Tick = Ticked
 ours from to what.Stop = Stopped
+ours from to what.Status = Inspected
+ours from to (what.Log position) = Copied position
 ours from to (what.Prepare b pos) = heard from to (body_of (what.Prepare b pos))
 ours from to (what.Promise b pos vote) = heard from to (body_of (what.Promise b pos vote))
 ours from to (what.Accept b pos e) = heard from to (body_of (what.Accept b pos e))
@@ -63,6 +71,8 @@ ours from to (what.Told id s) = Ignored
 ours from to (what.SheetText bytes) = Ignored
 ours from to (what.Refused refusal) = Ignored
 ours from to what.Fine = Ignored
+ours from to (what.Standing standing) = Ignored
+ours from to (what.Entries position length entries) = Ignored
 
 -- a frame for another desk or another hall: a client is told so
 abbrev pub strange : What → Request
@@ -71,6 +81,8 @@ strange (what.Ask id) = Strange
 strange (what.Sheet event round position style) = Strange
 strange what.Tick = Strange
 strange what.Stop = Strange
+strange what.Status = Strange
+strange (what.Log position) = Strange
 strange (what.Prepare b pos) = Ignored
 strange (what.Promise b pos vote) = Ignored
 strange (what.Accept b pos e) = Ignored
@@ -83,6 +95,8 @@ strange (what.Told id s) = Ignored
 strange (what.SheetText bytes) = Ignored
 strange (what.Refused refusal) = Ignored
 strange what.Fine = Ignored
+strange (what.Standing standing) = Ignored
+strange (what.Entries position length entries) = Ignored
 
 abbrev pub is_ours : Home → Frame → Bool
 is_ours home f = (f.hall == home.hall) && (f.to == home.desk)
@@ -98,10 +112,27 @@ AsksInRange (Printed event round position style) = position < 2 ^ 32
 AsksInRange (Heard m) = Unit {0}
 AsksInRange (Lagging m) = Unit {0}
 AsksInRange (Learned run) = run.pos + length run.entries ≤ 65536
+AsksInRange Inspected = Unit {0}
+AsksInRange (Copied position) = IsLogLength position
 AsksInRange Ticked = Unit {0}
 AsksInRange Stopped = Unit {0}
 AsksInRange Strange = Unit {0}
 AsksInRange Ignored = Unit {0}
+
+-- what can be asked in a version: how the desk stands, and entries of its log, in version 3 alone
+abbrev pub IsAskedIn : Version → Request → Type 0
+IsAskedIn version (Entered e) = Unit {0}
+IsAskedIn version (Asked id) = Unit {0}
+IsAskedIn version (Printed event round position style) = Unit {0}
+IsAskedIn version Inspected = version ≡ Three
+IsAskedIn version (Copied position) = version ≡ Three
+IsAskedIn version (Heard m) = Unit {0}
+IsAskedIn version (Lagging m) = Unit {0}
+IsAskedIn version (Learned run) = Unit {0}
+IsAskedIn version Ticked = Unit {0}
+IsAskedIn version Stopped = Unit {0}
+IsAskedIn version Strange = Unit {0}
+IsAskedIn version Ignored = Unit {0}
 
 -- how a request ends the connection of itself: where the desk is down after it, or at a Stop
 abbrev pub ending : Request → Ending
@@ -113,6 +144,8 @@ ending Ticked = ends.IfDown
 ending Stopped = ends.AtStop
 ending (Asked id) = ends.Never
 ending (Printed event round position style) = ends.Never
+ending Inspected = ends.Never
+ending (Copied position) = ends.Never
 ending Strange = ends.Never
 ending Ignored = ends.Never
 

@@ -5,6 +5,7 @@ use Rattle.proposer.specs.declared.fault.Refusal.{Refusal}
 use Rattle.learner.specs.declared.event.DeskEvent.{DeskEvent}
 use Rattle.answers.specs.Seen.{Seen}
 use Rattle.learner.specs.Steps.{Done, step}
+use Rattle.replica.specs.Lengths.{told_by}
 use Rattle.roles.specs.Faults.{refused_as}
 use Rattle.roles.specs.declared.fault.NodeFault.{NodeFault}
 use Rattle.roles.specs.declared.fault.NodeFault.TheVariants.{NoMemory, Down}
@@ -22,16 +23,23 @@ pub record Reply : Type 0 where
   pub result : Result (List Message) NodeFault
   pub seen : Seen
 
-abbrev pub by_step : Seen → Result Done Refusal → Reply
-by_step x (Ok r) =
-    record { result = Ok r.messages; seen = record { desk = r.desk; is_down = x.is_down } }
-by_step x (Err why) = record { result = Err (refused_as why); seen = x }
+abbrev pub by_step : Home → DeskEvent → Seen → Result Done Refusal → Reply
+by_step home event x (Ok r) =
+    record {
+      result = Ok r.messages;
+      seen = record {
+        desk = r.desk;
+        is_down = x.is_down;
+        told = told_by home event x.told;
+      };
+    }
+by_step home event x (Err why) = record { result = Err (refused_as why); seen = x }
 
 abbrev pub by_fate : Home → Seen → DeskEvent → Fate → Reply
-by_fate home x event Goes = by_step x (step home.desks home.desk x.desk event)
+by_fate home x event Goes = by_step home event x (step home.desks home.desk x.desk event)
 by_fate home x event Starves = record { result = Err NoMemory; seen = x }
 by_fate home x event Breaks =
-    record { result = Err Down; seen = record { desk = x.desk; is_down = true } }
+    record { result = Err Down; seen = record { desk = x.desk; is_down = true; told = x.told } }
 
 -- a node that is down answers Down
 abbrev pub reply : Home → Seen → DeskEvent → Fate → Reply

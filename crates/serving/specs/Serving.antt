@@ -19,13 +19,14 @@ use Rattle.roles.specs.declared.fault.NodeFault.TheVariants as fault
 use Rattle.serving.specs.Adding.{Push}
 use Rattle.answers.specs.Seen.{Seen}
 use Rattle.serving.specs.Nodes.{Fate, Goes, Reply, reply}
-use Rattle.serving.specs.Answering.{answer_of, answer_first, state, told_what, printed}
+use Rattle.serving.specs.Answering.{answer_of, answer_first, state, told_what, printed, standing}
+use Rattle.serving.specs.Answering.{copied}
 use Rattle.serving.specs.Telling.{run_of, run_pushed}
 use Rattle.serving.specs.declared.request.Run.{Run}
 use Rattle.serving.specs.declared.request.Request.{Request}
 use Rattle.serving.specs.declared.request.Request.TheVariants.{Heard, Lagging, Learned, Entered}
 use Rattle.serving.specs.declared.request.Request.TheVariants.{Asked, Printed, Ticked, Stopped}
-use Rattle.serving.specs.declared.request.Request.TheVariants.{Strange, Ignored}
+use Rattle.serving.specs.declared.request.Request.TheVariants.{Inspected, Copied, Strange, Ignored}
 
 -- ---- messages as frames
 
@@ -262,6 +263,8 @@ answer home x fates (Entered e) =
 answer home x fates (Asked id) = Some (told_what id (first_fate fates) (state x id))
 answer home x fates (Printed event round position style) =
     Some (printed x (first_fate fates) event round position style)
+answer home x fates Inspected = Some (what.Standing (standing home x))
+answer home x fates (Copied position) = Some (copied x (first_fate fates) position)
 answer home x fates Ticked =
     Some (answer_first what.Fine
     (answer_of (reply_to home Tick (begun x fates)).result) (served home x fates Ticked).seen)

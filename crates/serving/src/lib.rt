@@ -6,6 +6,7 @@
 
 mod calls;
 mod connection;
+mod copies;
 mod ends;
 mod events;
 mod frames;
@@ -19,6 +20,7 @@ mod requests;
 mod runs;
 mod session;
 mod source;
+mod standing;
 mod streams;
 
 pub use answers::Desk;

@@ -3,7 +3,7 @@
 ghost use Rattle.std.specs.Option.{ForSome};
 ghost use Rattle.std.specs.Prelude.{◌≡◌, ◌<◌, ◌≢◌, None, Some, OnErr, IfOk};
 ghost use Rattle.wire.specs.Ranges.{IsId};
-ghost use Rattle.serving.specs.Answering.{IsAnswer, answer_first, refusal_of, state_of};
+ghost use Rattle.serving.specs.Answering.{IsAnswer, IsAnswerIn, answer_first, refusal_of, state_of};
 ghost use Rattle.serving.specs.Answering.{state, told_what, style_of, printed};
 ghost use Rattle.serving.specs.Connection.{answer_bytes, framed_answer};
 ghost use Rattle.serving.specs.Nodes.{Fate};
@@ -113,7 +113,7 @@ pub fn printed<D: Desk>(node: &D, event: Event, round: u8, position: u32, style:
 impl Session {
     /// The bytes of an answer of the desk to its client.
     fn spell_what(self, version: Version, what: What) -> Result<Vec<u8>, NoMemory>
-        requires in_range { IsAnswer what }
+        requires in_range { IsAnswerIn version what }
         ensures { IfOk result (λ bytes.
             bytes.items ≡ answer_bytes (framed_answer version self.home (Some what))) }
     {
@@ -130,7 +130,7 @@ impl Session {
 
     /// The bytes of the answer; where there is none, no bytes, and memory is not wanted.
     pub fn spell_answer(self, version: Version, answer: Option<What>) -> Result<Vec<u8>, NoMemory>
-        requires in_range { ForSome answer IsAnswer }
+        requires in_range { ForSome answer (IsAnswerIn version) }
         ensures bytes { IfOk result (λ bytes.
             bytes.items ≡ answer_bytes (framed_answer version self.home answer)) }
         ensures due { OnErr result (answer ≢ None) }

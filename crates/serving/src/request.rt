@@ -2,7 +2,8 @@
 
 ghost use Rattle.std.specs.Prelude.{◌≡◌};
 ghost use Rattle.wire.specs.Ranges.{IsFrame, IsBody};
-ghost use Rattle.serving.specs.Asking.{AsksInRange, ending, ours, request, strange};
+ghost use Rattle.wire.specs.declared.values.Version.{Version};
+ghost use Rattle.serving.specs.Asking.{AsksInRange, IsAskedIn, ending, ours, request, strange};
 
 use acceptor::entry::Entry;
 use acceptor::message::{Body, Message};
@@ -52,6 +53,12 @@ pub enum Request {
         position: u32,
         style: Style,
     },
+    /// A client asks how the desk stands.
+    Inspected,
+    /// A client asks for entries of the desk's log, from a position on.
+    Copied {
+        position: u32,
+    },
     /// A client gives the desk a tick.
     Ticked,
     /// A client asks the desk to end.
@@ -85,8 +92,12 @@ impl Request {
             | Request::Entered { .. }
             | Request::Ticked => Ending::IfDown,
             Request::Stopped => Ending::AtStop,
-            Request::Asked { .. } | Request::Printed { .. } | Request::Strange | Request::Ignored =>
-                Ending::Never,
+            Request::Asked { .. }
+            | Request::Printed { .. }
+            | Request::Inspected
+            | Request::Copied { .. }
+            | Request::Strange
+            | Request::Ignored => Ending::Never,
         }
     }
 }
@@ -95,11 +106,16 @@ impl Request {
 fn strange(what: What) -> Request
     ensures strange { result ≡ strange what }
     ensures in_range { AsksInRange result }
+    ensures asked { (version : Version) → IsAskedIn version result }
 {
     match what {
-        What::Submit { .. } | What::Ask { .. } | What::Sheet { .. } | What::Tick | What::Stop => {
-            Request::Strange
-        }
+        What::Submit { .. }
+        | What::Ask { .. }
+        | What::Sheet { .. }
+        | What::Tick
+        | What::Stop
+        | What::Status
+        | What::Log { .. } => Request::Strange,
         What::Prepare { .. }
         | What::Promise { .. }
         | What::Accept { .. }
@@ -111,7 +127,9 @@ fn strange(what: What) -> Request
         | What::Told { .. }
         | What::SheetText { .. }
         | What::Refused { .. }
-        | What::Fine => Request::Ignored,
+        | What::Fine
+        | What::Standing { .. }
+        | What::Entries { .. } => Request::Ignored,
     }
 }
 
@@ -129,6 +147,7 @@ fn ours(version: Version, from: u8, to: u8, what: What) -> Request
     requires { IsBody version what }
     ensures ours { result ≡ ours from to what }
     ensures in_range { AsksInRange result }
+    ensures asked { IsAskedIn version result }
 {
     match what {
         What::Submit { entry } => Request::Entered { entry },
@@ -146,6 +165,8 @@ fn ours(version: Version, from: u8, to: u8, what: What) -> Request
         },
         What::Tick => Request::Ticked,
         What::Stop => Request::Stopped,
+        What::Status => Request::Inspected,
+        What::Log { position } => Request::Copied { position },
         What::Prepare { ballot, pos } => heard(from, to, Body::Prepare { ballot, pos }),
         What::Promise { ballot, pos, vote } => heard(from, to, Body::Promise { ballot, pos, vote }),
         What::Accept { ballot, pos, entry } => heard(from, to, Body::Accept { ballot, pos, entry }),
@@ -182,7 +203,9 @@ fn ours(version: Version, from: u8, to: u8, what: What) -> Request
         | What::Told { .. }
         | What::SheetText { .. }
         | What::Refused { .. }
-        | What::Fine => Request::Ignored,
+        | What::Fine
+        | What::Standing { .. }
+        | What::Entries { .. } => Request::Ignored,
     }
 }
 
@@ -191,6 +214,7 @@ pub fn request_of(home: Home, frame: Frame) -> Request
     requires { IsFrame frame }
     ensures request { result ≡ request home frame }
     ensures in_range { AsksInRange result }
+    ensures asked { IsAskedIn frame.version result }
 {
     let Frame {
         version,

@@ -3,18 +3,21 @@
 ghost use Rattle.std.specs.Prelude.{◌≡◌, [], IfOk, OnOk, OnErr, IfSome};
 ghost use Rattle.learner.specs.Ranges.{AreInRange};
 ghost use Rattle.wire.specs.Ranges.{IsEntry};
-ghost use Rattle.serving.specs.Answering.{IsAnswer};
-ghost use Rattle.serving.specs.Asking.{AsksInRange};
+ghost use Rattle.wire.specs.declared.values.Version.{Version};
+ghost use Rattle.serving.specs.Answering.{IsAnswer, IsAnswerIn};
+ghost use Rattle.serving.specs.Asking.{AsksInRange, IsAskedIn};
 ghost use Rattle.serving.specs.model.Sessions.{Enters, EntersPart, Hears, HearsPart, Serves};
 ghost use Rattle.serving.specs.model.Sessions.{ServesPart, StartsNext, StartsNextPart, Ticks};
 ghost use Rattle.serving.specs.model.Sessions.{TicksPart, desks};
 
 use crate::calls::{Answer, call};
+use crate::copies::copied;
 use crate::events::MOST_OWN;
 use crate::peers::Peers;
 use crate::replies::{answer_first, asked, printed};
 use crate::request::Request;
 use crate::session::Session;
+use crate::standing::inspected;
 use acceptor::NoMemory;
 use acceptor::entry::Entry;
 use acceptor::message::Message;
@@ -118,7 +121,8 @@ impl Session {
             (desks node.old peers.old) (desks node.new peers.new)) }
         ensures err { OnErr result (ServesPart D.Desk P.Peers self request
             (desks node.old peers.old) (desks node.new peers.new)) }
-        ensures in_range { IfOk result (λ w. IfSome w IsAnswer) }
+        ensures in_range { (version : Version) → IsAskedIn version request
+            → IfOk result (λ w. IfSome w (IsAnswerIn version)) }
         ensures home { D.home_of node.new ≡ D.home_of node.old }
     {
         match request {
@@ -143,6 +147,8 @@ impl Session {
                 position,
                 style,
             } => Ok(Some(printed(node, event, round, position, style))),
+            Request::Inspected => Ok(Some(inspected(node))),
+            Request::Copied { position } => Ok(Some(copied(self.alloc, node, position))),
             Request::Stopped => Ok(Some(What::Fine)),
             Request::Strange => Ok(Some(What::Refused {
                 refusal: Refusal::Foreign,

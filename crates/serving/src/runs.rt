@@ -104,12 +104,12 @@ fn run_of(alloc: Global, home: Home, messages: &[Message]) -> Result<Option<Run>
 }
 
 /// What is said of the entries of a run: the first one in version 1, which is all that its frames
-/// hold, and all of them in version 2.
+/// hold, and all of them in the later versions.
 fn said(alloc: Global, version: Version, entries: Entries) -> Result<Entries, NoMemory>
     ensures { IfOk result (λ es. es ≡ entries_said version entries) }
 {
     match version {
-        Version::Two => Ok(entries),
+        Version::Two | Version::Three => Ok(entries),
         Version::One => {
             let first = match entries.as_slice() {
                 [] => return Ok(Entries::none(alloc)),

@@ -112,17 +112,17 @@ pub fn serve_source<D: Desk, S: Source, W: Write, P: Peers>(
 fn spoken(wire: u8) -> Version
     ensures { result ≡ spoken wire }
 {
-    if wire == 2 {
-        Version::Two
-    } else {
-        Version::One
+    match wire {
+        3 => Version::Three,
+        2 => Version::Two,
+        _ => Version::One,
     }
 }
 
 /// Serves a connection of a desk, frame by frame, until one of its ends: the stream's end, a Stop,
 /// 64 frames, 19,200,256 reads, a fault of the stream, a read or a write that fails, a store that
 /// fails, or want of memory. Each frame's answer is written before the next frame is begun, in the
-/// version of that frame. What is said to other desks is pushed in the version `wire`, 1 or 2; both
+/// version of that frame. What is said to other desks is pushed in the version `wire`, 1 to 3; all
 /// are read.
 pub fn serve_connection<D: Desk, R: Read + Drop, W: Write, P: Peers>(
     alloc: Global,

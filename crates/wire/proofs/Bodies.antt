@@ -21,16 +21,18 @@ use Rattle.wire.specs.declared.values.ClientRefusal.{ClientRefusal}
 use Rattle.wire.specs.declared.values.ClientRefusal.TheVariants as refusal
 use Rattle.wire.specs.declared.values.CommandState.{CommandState}
 use Rattle.wire.specs.declared.values.CommandState.TheVariants.{Unknown, Pending, Done}
+use Rattle.wire.specs.declared.values.DeskRole.{DeskRole}
+use Rattle.wire.specs.declared.values.DeskRole.TheVariants.{Idle, Gathering, Proposing, Leading}
 use Rattle.wire.specs.declared.values.SheetStyle.{SheetStyle}
 use Rattle.wire.specs.declared.values.SheetStyle.TheVariants.{Text, Table}
 use Rattle.wire.specs.Fields.{byte_at, number_at, two, numbered}
 use Rattle.wire.specs.declared.values.Version.{Version}
 use Rattle.wire.specs.Numbers.{last_event, answers, answer_number, refusals, refusal_number, styles}
-use Rattle.wire.specs.Numbers.{style_number}
+use Rattle.wire.specs.Numbers.{style_number, roles, role_number}
 use Rattle.wire.specs.Ranges.{IsBallot, IsPosition, IsId, IsEntry, IsReport, IsCommandState}
-use Rattle.wire.specs.Ranges.{IsEventOf}
+use Rattle.wire.specs.Ranges.{IsEventOf, IsLogLength}
 use Rattle.wire.specs.Reading.{ballot_at, limited_at, position_at, id_at, entry_at, report_at}
-use Rattle.wire.specs.Reading.{member_at, event_at, state_at}
+use Rattle.wire.specs.Reading.{member_at, event_at, state_at, log_length_at}
 use Rattle.wire.specs.Spelling.{ballot_bytes, entry_bytes, report_bytes, state_bytes}
 use Rattle.wire.proofs.Taking.{IsBytes, IsBytes-rest, bind_some, passed, some_is, Takes, wide32}
 use Rattle.wire.proofs.Taking.{number_takes, number_again, byte_takes}
@@ -57,6 +59,9 @@ limited_field limit small = record {
 
 pub position_field : IsField u32 IsPosition position_at
 position_field = limited_field 65535 (omega arith)
+
+pub log_length_field : IsField u32 IsLogLength log_length_at
+log_length_field = limited_field 65536 (omega arith)
 
 pub any_field : IsField u32 (λ n. n < 2 ^ 32) (number_at w32)
 any_field = record {
@@ -125,6 +130,16 @@ style_found Table = refl
 pub style_field : IsField (λ (x : SheetStyle). style_number x ∷ []) (λ (x : SheetStyle). Unit {0})
     (member_at style_number styles)
 style_field = member_field style_number styles style_found
+
+role_found : (x : DeskRole) → numbered role_number roles (role_number x) ≡ Some x
+role_found Idle = refl
+role_found Gathering = refl
+role_found Proposing = refl
+role_found Leading = refl
+
+pub role_field : IsField (λ (x : DeskRole). role_number x ∷ []) (λ (x : DeskRole). Unit {0})
+    (member_at role_number roles)
+role_field = member_field role_number roles role_found
 
 refusal_found : (x : ClientRefusal) → numbered refusal_number refusals (refusal_number x) ≡ Some x
 refusal_found refusal.Busy = refl

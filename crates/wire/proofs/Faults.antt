@@ -11,62 +11,88 @@ use Rattle.wire.specs.declared.fault.WireFault.TheVariants.{NoMemory}
 use Rattle.wire.specs.declared.frame.Frame.{Frame}
 use Rattle.wire.specs.declared.frame.What.{What}
 use Rattle.wire.specs.declared.values.Version.{Version}
-use Rattle.wire.specs.declared.values.Version.TheVariants.{One, Two}
+use Rattle.wire.specs.declared.values.Version.TheVariants.{One, Two, Three}
 use Rattle.wire.specs.Numbers.{versions, version_number}
 use Rattle.wire.proofs.Sequences.{numbered_is}
 use Rattle.wire.specs.Laws.{AreBytes, IsVersion, length_at, IsLength, IsWhole, BeginsWithFrame}
-use Rattle.wire.specs.Laws.{IsFirstFault, IsFaultWhereFirst}
+use Rattle.wire.specs.Laws.{HasKind, LacksKind, IsFirstFault, IsFaultWhereFirst}
 use Rattle.wire.specs.Ranges.{way_of}
 use Rattle.wire.specs.Reading.{between, what_of, is_kind, goes, frame_from, frame_in, version_of}
 use Rattle.wire.specs.Reading.{frame_of}
 use Rattle.wire.specs.Stream.{Front, Waits, Begins, Breaks, by_frame, by_length, front}
 use Rattle.wire.proofs.FieldLaws.{between_is, between_holds}
 use Rattle.wire.proofs.Streams.{front_takes, front_again}
+use Rattle.wire.proofs.Taking.{some_is}
+use Rattle.wire.proofs.Whole.{version_again}
 
 -- ---- the bytes after a length: the version and the kind that a fault, or a frame, shows
 
 abbrev Shows : Result Frame WireFault → ℕ → ℕ → Type 0
-Shows (Ok f) version kind = IsVersion version × (is_kind kind ≡ true)
+Shows (Ok f) version kind = HasKind version kind
 Shows (Err BadLength) version kind = ⊥
 Shows (Err BadVersion) version kind = IsVersion version → ⊥
-Shows (Err BadKind) version kind = IsVersion version × (is_kind kind ≡ false)
-Shows (Err BadBody) version kind = IsVersion version × (is_kind kind ≡ true)
+Shows (Err BadKind) version kind = LacksKind version kind
+Shows (Err BadBody) version kind = HasKind version kind
 Shows (Err NoMemory) version kind = ⊥
 
-from_shows : (v : Version) (hall from to version kind : ℕ) (o : Option What) → IsVersion version
-    → is_kind kind ≡ true → Shows (frame_from v hall from to o) version kind
-from_shows v hall from to version kind None is k = (is, k)
+from_shows : (v : Version) (hall from to version kind : ℕ) (o : Option What)
+    → version ≡ version_number v → is_kind v kind ≡ true
+    → Shows (frame_from v hall from to o) version kind
+from_shows v hall from to version kind None is k = (v, is, k)
 from_shows v hall from to version kind (Some w) is k = go (goes (way_of w) from to) where
   go : (b : Bool) → Shows (cond b
       (Ok (record { version = v; hall = hall; from = from; to = to; what = w }))
       (Err BadBody)) version kind
-  go true = (is, k)
-  go false = (is, k)
+  go true = (v, is, k)
+  go false = (v, is, k)
 
-kind_shows : (version kind : ℕ) (r : Result Frame WireFault) → IsVersion version
-    → (is_kind kind ≡ true → Shows r version kind) → (b : Bool) → is_kind kind ≡ b
-    → Shows (cond (not b) (Err BadKind) r) version kind
-kind_shows version kind r v later true e = later e
-kind_shows version kind r v later false e = (v, e)
-
--- a number that is that of a version is 1 or 2
-is_version : (n : ℕ) (v : Version) → version_of n ≡ Some v → IsVersion n
-is_version n One e = inl (sym (numbered_is version_number versions n One e))
-is_version n Two e = inr (sym (numbered_is version_number versions n Two e))
+kind_shows : (v : Version) (version kind : ℕ) (r : Result Frame WireFault)
+    → version ≡ version_number v → (is_kind v kind ≡ true → Shows r version kind) → (b : Bool)
+    → is_kind v kind ≡ b → Shows (cond (not b) (Err BadKind) r) version kind
+kind_shows v version kind r is later true e = later e
+kind_shows v version kind r is later false e = (v, is, e)
 
 no_version : (n : ℕ) → version_of n ≡ None → IsVersion n → ⊥
 no_version n e (inl one) = let bad : Some One ≡ None =
     subst (λ (k : ℕ). version_of k ≡ None) one e in absurd cc
-no_version n e (inr two) = let bad : Some Two ≡ None =
+no_version n e (inr (inl two)) = let bad : Some Two ≡ None =
     subst (λ (k : ℕ). version_of k ≡ None) two e in absurd cc
+no_version n e (inr (inr three)) = let bad : Some Three ≡ None =
+    subst (λ (k : ℕ). version_of k ≡ None) three e in absurd cc
 
 version_shows : (o : Option Version) (version hall from to kind : ℕ) (bytes : List ℕ)
     → version_of version ≡ o → Shows (frame_in o hall from to kind bytes) version kind
 version_shows None version hall from to kind bytes is = no_version version is
 version_shows (Some v) version hall from to kind bytes is =
-    let known = is_version version v is in
-    kind_shows version kind (frame_from v hall from to (what_of v kind bytes)) known
-    (from_shows v hall from to version kind (what_of v kind bytes) known) (is_kind kind) refl
+    let number : version ≡ version_number v =
+    sym (numbered_is version_number versions version v is) in
+    kind_shows v version kind (frame_from v hall from to (what_of v kind bytes)) number
+    (from_shows v hall from to version kind (what_of v kind bytes) number) (is_kind v kind) refl
+
+-- a number that is that of a version is 1, 2 or 3
+is_version : (n : ℕ) (v : Version) → n ≡ version_number v → IsVersion n
+is_version n One e = inl e
+is_version n Two e = inr (inl e)
+is_version n Three e = inr (inr e)
+
+has_version : (n kind : ℕ) → HasKind n kind → IsVersion n
+has_version n kind has = is_version n has.0 has.1
+
+lacks_version : (n kind : ℕ) → LacksKind n kind → IsVersion n
+lacks_version n kind lacks = is_version n lacks.0 lacks.1
+
+-- versions with one number are one
+same_version : (u v : Version) → version_number u ≡ version_number v → u ≡ v
+same_version u v e = some_is u v (sym (version_again u) ∙ ap version_of e ∙ version_again v)
+
+true_not_false : (b : Bool) → b ≡ true → b ≡ false → ⊥
+true_not_false b t f = let bad : true ≡ false = sym t ∙ f in absurd cc
+
+not_both : (n kind : ℕ) → HasKind n kind → LacksKind n kind → ⊥
+not_both n kind has lacks =
+    let same : has.0 ≡ lacks.0 = same_version has.0 lacks.0 (sym has.1 ∙ lacks.1) in
+    true_not_false (is_kind lacks.0 kind)
+    (subst (λ (v : Version). is_kind v kind ≡ true) same has.2) lacks.2
 
 frame_shows : (bytes : List ℕ) → 8 ≤ length bytes → Shows (frame_of bytes) (get_or bytes 0 0)
     (get_or bytes 7 0)
@@ -88,23 +114,20 @@ frame_shows (version ∷ a ∷ b ∷ c ∷ d ∷ from ∷ to ∷ kind ∷ bytes)
 abbrev pub Tells : Front → List ℕ → Type 0
 Tells Waits bytes = (4 ≤ length bytes → IsLength (length_at bytes)
     × (length bytes < 4 + length_at bytes))
-Tells (Begins f rest) bytes = IsWhole bytes × IsVersion (get_or bytes 4 0)
-    × (is_kind (get_or bytes 11 0) ≡ true)
+Tells (Begins f rest) bytes = IsWhole bytes × HasKind (get_or bytes 4 0) (get_or bytes 11 0)
 Tells (Breaks BadLength) bytes = (4 ≤ length bytes) × (IsLength (length_at bytes) → ⊥)
 Tells (Breaks BadVersion) bytes = IsWhole bytes × (IsVersion (get_or bytes 4 0) → ⊥)
-Tells (Breaks BadKind) bytes = IsWhole bytes × IsVersion (get_or bytes 4 0)
-    × (is_kind (get_or bytes 11 0) ≡ false)
-Tells (Breaks BadBody) bytes = IsWhole bytes × IsVersion (get_or bytes 4 0)
-    × (is_kind (get_or bytes 11 0) ≡ true)
+Tells (Breaks BadKind) bytes = IsWhole bytes × LacksKind (get_or bytes 4 0) (get_or bytes 11 0)
+Tells (Breaks BadBody) bytes = IsWhole bytes × HasKind (get_or bytes 4 0) (get_or bytes 11 0)
 Tells (Breaks NoMemory) bytes = ⊥
 
 by_frame_tells : (r : Result Frame WireFault) (rest bytes : List ℕ) → IsWhole bytes
     → Shows r (get_or bytes 4 0) (get_or bytes 11 0) → Tells (by_frame r rest) bytes
-by_frame_tells (Ok f) rest bytes whole s = (whole, s.0, s.1)
+by_frame_tells (Ok f) rest bytes whole s = (whole, s)
 by_frame_tells (Err BadLength) rest bytes whole s = absurd s
 by_frame_tells (Err BadVersion) rest bytes whole s = (whole, s)
-by_frame_tells (Err BadKind) rest bytes whole s = (whole, s.0, s.1)
-by_frame_tells (Err BadBody) rest bytes whole s = (whole, s.0, s.1)
+by_frame_tells (Err BadKind) rest bytes whole s = (whole, s)
+by_frame_tells (Err BadBody) rest bytes whole s = (whole, s)
 by_frame_tells (Err NoMemory) rest bytes whole s = absurd s
 
 -- a byte after the length
@@ -193,15 +216,12 @@ first_is : (bytes : List ℕ) (e : WireFault) → Tells (Breaks e) bytes → (Be
 first_is bytes BadLength t none = t
 first_is bytes BadVersion t none = t
 first_is bytes BadKind t none = t
-first_is bytes BadBody t none = (t.0, t.1, t.2, none)
+first_is bytes BadBody t none = (t.0, t.1, none)
 first_is bytes NoMemory t none = t
 
 breaks_first : (bytes : List ℕ) (e : WireFault) → front bytes ≡ Breaks e → IsFirstFault e bytes
 breaks_first bytes e b = first_is bytes e (subst (λ (x : Front). Tells x bytes) b (tells bytes))
     (no_frame bytes e b)
-
-true_not_false : (b : Bool) → b ≡ true → b ≡ false → ⊥
-true_not_false b t f = let bad : true ≡ false = sym t ∙ f in absurd cc
 
 -- one fault at most is the first
 one_first : (bytes : List ℕ) (a b : WireFault) → IsFirstFault a bytes → IsFirstFault b bytes → a ≡ b
@@ -212,17 +232,17 @@ one_first bytes BadLength BadBody p q = absurd (p.1 q.0.counted)
 one_first bytes BadLength NoMemory p q = absurd q
 one_first bytes BadVersion BadLength p q = absurd (q.1 p.0.counted)
 one_first bytes BadVersion BadVersion p q = refl
-one_first bytes BadVersion BadKind p q = absurd (p.1 q.1)
-one_first bytes BadVersion BadBody p q = absurd (p.1 q.1)
+one_first bytes BadVersion BadKind p q = absurd (p.1 (lacks_version _ _ q.1))
+one_first bytes BadVersion BadBody p q = absurd (p.1 (has_version _ _ q.1))
 one_first bytes BadVersion NoMemory p q = absurd q
 one_first bytes BadKind BadLength p q = absurd (q.1 p.0.counted)
-one_first bytes BadKind BadVersion p q = absurd (q.1 p.1)
+one_first bytes BadKind BadVersion p q = absurd (q.1 (lacks_version _ _ p.1))
 one_first bytes BadKind BadKind p q = refl
-one_first bytes BadKind BadBody p q = absurd (true_not_false (is_kind (get_or bytes 11 0)) q.2 p.2)
+one_first bytes BadKind BadBody p q = absurd (not_both _ _ q.1 p.1)
 one_first bytes BadKind NoMemory p q = absurd q
 one_first bytes BadBody BadLength p q = absurd (q.1 p.0.counted)
-one_first bytes BadBody BadVersion p q = absurd (q.1 p.1)
-one_first bytes BadBody BadKind p q = absurd (true_not_false (is_kind (get_or bytes 11 0)) p.2 q.2)
+one_first bytes BadBody BadVersion p q = absurd (q.1 (has_version _ _ p.1))
+one_first bytes BadBody BadKind p q = absurd (not_both _ _ p.1 q.1)
 one_first bytes BadBody BadBody p q = refl
 one_first bytes BadBody NoMemory p q = absurd q
 one_first bytes NoMemory b p q = absurd p
@@ -245,9 +265,9 @@ no_wait bytes NoMemory p t = p
 no_begin : (bytes : List ℕ) (e : WireFault) (f : Frame) (rest : List ℕ) → IsFirstFault e bytes
     → BeginsWithFrame bytes → Tells (Begins f rest) bytes → ⊥
 no_begin bytes BadLength f rest p has t = p.1 t.0.counted
-no_begin bytes BadVersion f rest p has t = p.1 t.1
-no_begin bytes BadKind f rest p has t = true_not_false (is_kind (get_or bytes 11 0)) t.2 p.2
-no_begin bytes BadBody f rest p has t = p.3 has
+no_begin bytes BadVersion f rest p has t = p.1 (has_version _ _ t.1)
+no_begin bytes BadKind f rest p has t = not_both _ _ t.1 p.1
+no_begin bytes BadBody f rest p has t = p.2 has
 no_begin bytes NoMemory f rest p has t = p
 
 first_breaks : (bytes : List ℕ) (e : WireFault) → AreBytes bytes → IsFirstFault e bytes

@@ -10,10 +10,13 @@ use Rattle.formats.specs.Events.{event_number}
 use Rattle.wire.specs.declared.values.CommandState.{CommandState}
 use Rattle.wire.specs.declared.values.SheetStyle.{SheetStyle}
 use Rattle.wire.specs.declared.values.Version.{Version}
+use Rattle.wire.specs.declared.values.Version.TheVariants.{Three}
 use Rattle.wire.specs.declared.frame.What.{What}
+use Rattle.wire.specs.declared.frame.What.TheVariants as variant
 use Rattle.wire.specs.declared.frame.What.TheVariants.{Prepare, Promise, Accept, Accepted, Nack}
 use Rattle.wire.specs.declared.frame.What.TheVariants.{Behind, Decided, Submit, Ask, Sheet, Tick}
 use Rattle.wire.specs.declared.frame.What.TheVariants.{Stop, Taken, Told, SheetText, Refused, Fine}
+use Rattle.wire.specs.declared.frame.What.TheVariants.{Status, Log}
 use Rattle.wire.specs.Fields.{byte_at, number_at, two, all_of}
 use Rattle.wire.specs.Numbers.{refusals, refusal_number, styles, style_number}
 use Rattle.wire.specs.Ranges.{IsBallot, IsPosition, IsId, IsEntry, IsReport, IsCommandState}
@@ -22,15 +25,18 @@ use Rattle.wire.specs.Ranges.{IsBody}
 use Rattle.wire.specs.Reading.{ballot_at, limited_at, position_at, id_at, entry_at, report_at}
 use Rattle.wire.specs.Reading.{member_at, event_at, state_at, prepare_of, promise_of, accept_of}
 use Rattle.wire.specs.Reading.{accepted_of, nack_of, behind_of, decided_of, submit_of, ask_of}
-use Rattle.wire.specs.Reading.{sheet_of, taken_of, told_of, refused_of, what_of}
+use Rattle.wire.specs.Reading.{sheet_of, taken_of, told_of, refused_of, what_of, log_length_at}
+use Rattle.wire.specs.Reading.{log_of, standing_of, entries_of}
 use Rattle.wire.specs.Spelling.{ballot_bytes, entry_bytes, report_bytes, state_bytes, kind_of}
 use Rattle.wire.specs.Spelling.{body}
 use Rattle.wire.proofs.Taking.{IsBytes, bind_some, some_is}
 use Rattle.wire.proofs.Sequences.{IsField, two_fields, all_takes, all_again}
 use Rattle.wire.proofs.Runs.{run_takes, run_again}
+use Rattle.wire.proofs.LogRuns.{log_takes, log_again}
+use Rattle.wire.proofs.Standings.{parts_at, standing_from, parts_field}
 use Rattle.wire.proofs.Bodies.{u32, u64, ballot_field, limited_field, position_field, any_field}
 use Rattle.wire.proofs.Bodies.{byte_field, id_field, entry_field, report_field, event_field}
-use Rattle.wire.proofs.Bodies.{style_field, refusal_field, standing_field}
+use Rattle.wire.proofs.Bodies.{style_field, refusal_field, standing_field, log_length_field}
 
 -- the bytes are the fields of this kind, in this version
 pub record IsWhat (v : Version) (kind : ℕ) (bytes : List ℕ) (w : What) : Type 0 where
@@ -228,6 +234,42 @@ refused_takes v bytes w fits e =
     subst (λ (y : What). IsWhat v 35 bytes y) (some_is (Refused a.0) w a.2)
     (record { number = refl; spelled = t.0; fits = tt })
 
+pub position_takes : (v : Version) (bytes : List ℕ) (w : What) → v ≡ Three → IsBytes bytes
+    → log_of bytes ≡ Some w → IsWhat v 22 bytes w
+position_takes v bytes w three fits e =
+    let a = bind_some (all_of log_length_at bytes) (λ x. Some (Log x)) w e in
+    let t = all_takes _ _ _ log_length_field bytes a.0 fits a.1 in
+    subst (λ (y : What). IsWhat v 22 bytes y) (some_is (Log a.0) w a.2)
+    (record { number = refl; spelled = t.0; fits = (three, t.1) })
+
+pub standing_takes : (v : Version) (bytes : List ℕ) (w : What) → v ≡ Three → IsBytes bytes
+    → standing_of bytes ≡ Some w → IsWhat v 37 bytes w
+standing_takes v bytes w three fits e =
+    let a = bind_some (all_of parts_at bytes) (λ x. Some (variant.Standing (standing_from x))) w
+    e in
+    let t = all_takes _ _ _ parts_field bytes a.0 fits a.1 in
+    subst (λ (y : What). IsWhat v 37 bytes y) (some_is (variant.Standing (standing_from a.0)) w a.2)
+    (record {
+      number = refl;
+      spelled = t.0;
+      fits = (
+        three,
+        record {
+          log = t.1.0;
+          queue = t.1.1.0;
+          promised = t.1.1.1.1.0;
+          told = t.1.1.1.1.1;
+        },
+      );
+    })
+
+pub entries_takes : (v : Version) (bytes : List ℕ) (w : What) → v ≡ Three → IsBytes bytes
+    → entries_of bytes ≡ Some w → IsWhat v 38 bytes w
+entries_takes v bytes w three fits e =
+    let log = log_takes bytes w fits e in
+    subst (λ (y : What). IsWhat v 38 bytes y) (sym log.is)
+    (record { number = refl; spelled = log.spelled; fits = (three, log.fits) })
+
 -- ---- what is spelled so is read
 
 pub what_again : (v : Version) (w : What) → IsBody v w
@@ -257,3 +299,11 @@ what_again v (Told id s) fits = rw (all_again _ _ _ is_field (id, s) fits) refl
 what_again v (SheetText bytes) fits = refl
 what_again v (Refused refusal) fits = rw (all_again _ _ _ refusal_field refusal tt) refl
 what_again v Fine fits = refl
+what_again v Status fits = refl
+what_again v (Log position) fits = rw (all_again _ _ _ log_length_field position fits.1) refl
+what_again v (variant.Standing s) fits =
+    rw (all_again _ _ _ parts_field (s.length, (s.waiting, (s.role, (s.promised, s.told))))
+    (fits.1.log, (fits.1.queue, (tt, (fits.1.promised, fits.1.told)))))
+    refl
+what_again v (variant.Entries position len entries) fits =
+    rw (log_again position len entries fits.1) refl

@@ -2,7 +2,10 @@ pub mod Taking
 pub mod FieldLaws
 pub mod Sequences
 pub mod Bodies
+pub mod Many
 pub mod Runs
+pub mod LogRuns
+pub mod Standings
 pub mod Frames
 pub mod Whole
 pub mod WhatKind

@@ -1,26 +1,36 @@
 -- The fields of a Decided: what is read is spelled so and in its ranges, and what is spelled so is
 -- read.
-use Rattle.std.proofs.Common.{◌≡◌, ℕ, zero, suc, ◌+◌, ◌*◌, ◌<◌, ◌≤◌, cond, leb, List, [], ◌∷◌, ◌++◌}
+use Rattle.std.proofs.Common.{◌≡◌, ℕ, ◌+◌, ◌*◌, ◌<◌, ◌≤◌, cond, leb, List, [], ◌∷◌, ◌++◌}
 use Rattle.std.proofs.Common.{length, get_or, take, Some, None, Result, Ok, Err, OnOk, refl, sym}
 use Rattle.std.proofs.Common.{ap, subst, ◌∙◌, append_assoc, arith}
 use Rattle.std.specs.List.{flat_map, AllByRecursion}
 use Rattle.std.proofs.lemmas.Bool.{leb-true, le-leb}
-use Rattle.std.proofs.lemmas.List.{length-append, append-nil, take_more, flat_map_more}
+use Rattle.std.proofs.lemmas.List.{length-append, take_more, flat_map_more}
 use Rattle.acceptor.specs.declared.entry.Entry.{Entry}
 use Rattle.wire.specs.declared.frame.What.{What}
 use Rattle.wire.specs.declared.frame.What.TheVariants.{Decided}
 use Rattle.wire.specs.declared.values.Version.{Version}
-use Rattle.wire.specs.declared.values.Version.TheVariants.{One, Two}
+use Rattle.wire.specs.declared.values.Version.TheVariants.{One, Two, Three}
 use Rattle.wire.specs.Fields.{◌>>=◌, byte_at, all_of}
 use Rattle.wire.specs.Ranges.{IsEntry, IsPosition, IsCount, AreDecided}
-use Rattle.wire.specs.Reading.{between, position_at, entry_at, count_at, entries_at, decided_of}
+use Rattle.wire.specs.Reading.{between, position_at, entry_at, told_count_at, count_at, entries_at}
+use Rattle.wire.specs.Reading.{decided_of}
 use Rattle.wire.specs.Spelling.{entry_bytes, count_bytes, decided_bytes}
-use Rattle.wire.proofs.Taking.{IsBytes, bind_some, passed, some_is, Takes, Takes-then}
+use Rattle.wire.proofs.Taking.{IsBytes, bind_some, passed, some_is, Takes}
 use Rattle.wire.proofs.FieldLaws.{between_is, between_holds}
-use Rattle.wire.proofs.Sequences.{IsField, all_takes, all_again}
+use Rattle.wire.proofs.Sequences.{IsField, AreMany, many_field, all_takes, all_again}
 use Rattle.wire.proofs.Bodies.{u32, position_field, byte_field, entry_field}
 
 -- ---- the count
+
+told_takes : (bytes : List ℕ) (x : ℕ × List ℕ) → IsBytes bytes → told_count_at bytes ≡ Some x
+    → Takes bytes (x.0 ∷ []) x.1 × ((1 ≤ x.0) × (x.0 ≤ 16))
+told_takes bytes x fits e =
+    let a = bind_some (byte_at bytes) (λ n. cond (between 1 16 n.0) (Some n) None) x e in
+    let c = passed (between 1 16 a.0.0) a.0 x a.2 in
+    let t = byte_field.takes bytes a.0 fits a.1 in
+    subst (λ (y : ℕ × List ℕ). Takes bytes (y.0 ∷ []) y.1 × ((1 ≤ y.0) × (y.0 ≤ 16))) c.1
+    (t.0, between_is 1 16 a.0.0 c.0)
 
 count_takes : (v : Version) (bytes : List ℕ) (x : ℕ × List ℕ) → IsBytes bytes
     → count_at v bytes ≡ Some x → Takes bytes (count_bytes v x.0) x.1 × IsCount v x.0
@@ -28,64 +38,19 @@ unfolding count_at
 count_takes One bytes x fits e =
     subst (λ (y : ℕ × List ℕ). Takes bytes (count_bytes One y.0) y.1 × IsCount One y.0)
     (some_is (1, bytes) x e) (record { parts = refl; are_bytes = fits }, refl)
-count_takes Two bytes x fits e =
-    let a = bind_some (byte_at bytes) (λ n. cond (between 1 16 n.0) (Some n) None) x e in
-    let c = passed (between 1 16 a.0.0) a.0 x a.2 in
-    let t = byte_field.takes bytes a.0 fits a.1 in
-    subst (λ (y : ℕ × List ℕ). Takes bytes (count_bytes Two y.0) y.1 × IsCount Two y.0) c.1
-    (t.0, between_is 1 16 a.0.0 c.0)
+count_takes Two bytes x fits e = told_takes bytes x fits e
+count_takes Three bytes x fits e = told_takes bytes x fits e
 
 count_again : (v : Version) (n : ℕ) (rest : List ℕ) → IsCount v n
     → count_at v (count_bytes v n ++ rest) ≡ Some (n, rest)
 unfolding count_at byte_at
 count_again One n rest fits = ap (λ (k : ℕ). Some (k, rest)) (sym fits)
 count_again Two n rest fits = rw (between_holds 1 16 n fits.0 fits.1) refl
+count_again Three n rest fits = rw (between_holds 1 16 n fits.0 fits.1) refl
 
--- ---- entries, one after the other
-
-abbrev AreSoMany : ℕ → List Entry → Type 0
-AreSoMany n es = (length es ≡ n) × AllByRecursion IsEntry es
-
-entries_takes : (n : ℕ) (bytes : List ℕ) (x : List Entry × List ℕ) → IsBytes bytes
-    → entries_at n bytes ≡ Some x → Takes bytes (flat_map entry_bytes x.0) x.1 × AreSoMany n x.0
-unfolding entries_at
-entries_takes zero bytes x fits e =
-    subst (λ (y : List Entry × List ℕ). Takes bytes (flat_map entry_bytes y.0) y.1
-    × AreSoMany zero y.0) (some_is ([], bytes) x e)
-    (record { parts = refl; are_bytes = fits }, (refl, tt))
-entries_takes (suc n) bytes x fits e =
-    let a = bind_some (entry_at bytes)
-    (λ y. entries_at n y.1 >>= λ z. Some (y.0 ∷ z.0, z.1)) x e in
-    let b = bind_some (entries_at n a.0.1) (λ z. Some (a.0.0 ∷ z.0, z.1)) x a.2 in
-    let t0 = entry_field.takes bytes a.0 fits a.1 in
-    let t1 = entries_takes n a.0.1 b.0 t0.0.are_bytes b.1 in
-    let made : List Entry × List ℕ = (a.0.0 ∷ b.0.0, b.0.1) in
-    subst (λ (y : List Entry × List ℕ). Takes bytes (flat_map entry_bytes y.0) y.1
-    × AreSoMany (suc n) y.0) (some_is made x b.2) (
-      Takes-then bytes (entry_bytes a.0.0) a.0.1 (flat_map entry_bytes b.0.0) b.0.1 t0.0 t1.0,
-      (ap (λ (k : ℕ). suc k) t1.1.0, (t0.1, t1.1.1)),
-    )
-
-entries_again : (es : List Entry) (rest : List ℕ) → AllByRecursion IsEntry es
-    → entries_at (length es) (flat_map entry_bytes es ++ rest) ≡ Some (es, rest)
-unfolding entries_at
-entries_again [] rest fits = refl
-entries_again (e ∷ es) rest fits =
-    let regrouped : flat_map entry_bytes (e ∷ es) ++ rest ≡ entry_bytes
-    e ++ (flat_map entry_bytes es ++ rest) =
-    append_assoc (entry_bytes e) (flat_map entry_bytes es) rest in
-    ap (entries_at (suc (length es))) regrouped ∙ rw (
-      entry_field.again e (flat_map entry_bytes es ++ rest) fits.0,
-      entries_again es rest fits.1,
-    ) refl
-
-entries_field : (n : ℕ) → IsField (flat_map entry_bytes) (AreSoMany n) (entries_at n)
-entries_field n = record {
-  takes = entries_takes n;
-  again = λ es rest fits.
-      subst (λ (k : ℕ). entries_at k (flat_map entry_bytes es ++ rest) ≡ Some (es, rest)) fits.0
-      (entries_again es rest fits.1);
-}
+-- so many entries, one after the other
+pub entries_field : (n : ℕ) → IsField (flat_map entry_bytes) (AreMany IsEntry n) (entries_at n)
+entries_field n = many_field entry_bytes IsEntry entry_at entry_field n
 
 -- ---- the whole
 
@@ -100,7 +65,7 @@ pub record IsRun (v : Version) (bytes : List ℕ) (w : What) : Type 0 where
 joined : (v : Version) (pos n : ℕ) (bytes x y : List ℕ) (es : List Entry) → bytes ≡ u32 pos ++ x
     → x ≡ count_bytes v n ++ y → y ≡ flat_map entry_bytes es → length es ≡ n
     → bytes ≡ decided_bytes v pos es
-joined v pos n bytes x y es e f g many = rw (e, f, g, many) refl
+joined v pos n bytes x y es e f g so_many = rw (e, f, g, so_many) refl
 
 pub run_takes : (v : Version) (bytes : List ℕ) (w : What) → IsBytes bytes
     → decided_of v bytes ≡ Some w → IsRun v bytes w
@@ -117,15 +82,15 @@ run_takes v bytes w fits e =
     let t0 = position_field.takes bytes a.0 fits a.1 in
     let t1 = count_takes v a.0.1 b.0 t0.0.are_bytes b.1 in
     let t2 = all_takes _ _ _ (entries_field b.0.0) b.0.1 c.0 t1.0.are_bytes c.1 in
-    let many : length c.0 ≡ b.0.0 = t2.1.0 in
+    let so_many : length c.0 ≡ b.0.0 = t2.1.0 in
     record {
       pos = a.0.0;
       entries = c.0;
       is = sym {a = Decided a.0.0 c.0} d.1;
-      spelled = joined v a.0.0 b.0.0 bytes a.0.1 b.0.1 c.0 t0.0.parts t1.0.parts t2.0 many;
+      spelled = joined v a.0.0 b.0.0 bytes a.0.1 b.0.1 c.0 t0.0.parts t1.0.parts t2.0 so_many;
       fits = (
-        subst (λ (k : ℕ). IsCount v k) (sym many) t1.1,
-        subst (λ (k : ℕ). a.0.0 + k ≤ 65536) (sym many) (leb-true _ _ d.0),
+        subst (λ (k : ℕ). IsCount v k) (sym {a = length c.0} so_many) t1.1,
+        subst (λ (k : ℕ). a.0.0 + k ≤ 65536) (sym {a = length c.0} so_many) (leb-true _ _ d.0),
         t2.1.1,
       );
     }
@@ -133,6 +98,7 @@ run_takes v bytes w fits e =
 counted : (v : Version) (n : ℕ) → IsCount v n → 1 ≤ n
 counted One n fits = omega (arith, fits)
 counted Two n fits = fits.0
+counted Three n fits = fits.0
 
 pub run_again : (v : Version) (pos : ℕ) (entries : List Entry) → AreDecided v pos entries
     → decided_of v (decided_bytes v pos entries) ≡ Some (Decided pos entries)
@@ -149,7 +115,7 @@ run_again v pos entries fits =
 
 -- ---- lengths
 
-entries_short : (es : List Entry) → AllByRecursion IsEntry es
+pub entries_short : (es : List Entry) → AllByRecursion IsEntry es
     → length (flat_map entry_bytes es) ≤ 610 * length es
 entries_short [] fits = omega arith
 entries_short (e ∷ es) fits =
@@ -160,6 +126,7 @@ entries_short (e ∷ es) fits =
 count_most : (v : Version) (n : ℕ) → IsCount v n → (n ≤ 16) × (length (count_bytes v n) ≤ 1)
 count_most One n fits = (omega (arith, fits), omega arith)
 count_most Two n fits = (fits.1, omega arith)
+count_most Three n fits = (fits.1, omega arith)
 
 pub run_short : (v : Version) (pos : ℕ) (entries : List Entry) → AreDecided v pos entries
     → length (decided_bytes v pos entries) ≤ 299992
@@ -177,16 +144,22 @@ run_short v pos entries fits =
 
 -- ---- putting entries, one after the other
 
+-- one more of a sort was put
+pub put_one_more : {A : Type 0} (s : A → List ℕ) (xs : List A) (i : ℕ) (x : A) (out : List ℕ)
+    → i < length xs → x ≡ get_or xs i x
+    → (out ++ flat_map s (take i xs)) ++ s x ≡ out ++ flat_map s (take (i + 1) xs)
+put_one_more {A} s xs i x out lt is =
+    let more : take (i + 1) xs ≡ take i xs ++ x ∷ [] =
+    take_more xs i x lt ∙ ap (λ (y : A). take i xs ++ y ∷ []) (sym is) in
+    flat_map_more s out (take i xs) x
+    ∙ ap (λ (ys : List A). out ++ flat_map s ys) (sym more)
+
 -- one more entry was put
 pub put_more : (es : List Entry) (i : ℕ) (e : Entry) (out : List ℕ) → i < length es
     → e ≡ get_or es i e
     → (out ++ flat_map entry_bytes (take i es)) ++ entry_bytes e
     ≡ out ++ flat_map entry_bytes (take (i + 1) es)
-put_more es i e out lt is =
-    let more : take (i + 1) es ≡ take i es ++ e ∷ [] =
-    take_more es i e lt ∙ ap (λ (x : Entry). take i es ++ x ∷ []) (sym is) in
-    flat_map_more entry_bytes out (take i es) e
-    ∙ ap (λ (x : List Entry). out ++ flat_map entry_bytes x) (sym more)
+put_more es i e out lt is = put_one_more entry_bytes es i e out lt is
 
 -- a ballot and a position were put, and then what stands after them
 placed : (out b p e : List ℕ) → (out ++ (b ++ p)) ++ e ≡ out ++ (b ++ (p ++ e))
@@ -197,9 +170,3 @@ pub put_behind : {T E : Type 0} (r : Result T E) (new mid old b p e : List ℕ)
 put_behind (Ok x) new mid old b p e is h =
     h ∙ ap (λ (z : List ℕ). z ++ e) is ∙ placed old b p e
 put_behind (Err x) new mid old b p e is h = tt
-
--- no entry was put after others
-pub none_pushed : (n : ℕ) (bytes : List ℕ) (es : List Entry) → n ≡ 0
-    → (x : List Entry) × (rest : List ℕ) × (entries_at n bytes ≡ Some (x, rest)) × (es ≡ es ++ x)
-unfolding entries_at
-none_pushed n bytes es e = ([], bytes, rw e refl, sym (append-nil es))

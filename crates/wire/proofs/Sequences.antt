@@ -1,9 +1,11 @@
 -- Fields one after the other, all of the bytes, and a byte that numbers a member of a list.
-use Rattle.std.proofs.Common.{◌≡◌, ℕ, Bool, true, false, cond, eqb, List, [], ◌∷◌, ◌++◌, length}
+use Rattle.std.proofs.Common.{◌≡◌, ℕ, zero, suc, Bool, true, false, cond, eqb, List, [], ◌∷◌}
+use Rattle.std.proofs.Common.{◌++◌, length}
+use Rattle.std.specs.List.{flat_map, AllByRecursion}
 use Rattle.std.proofs.Common.{Some, None, refl, sym, ap, subst, ◌∙◌, append_assoc}
 use Rattle.std.proofs.lemmas.Bool.{eqb-true}
 use Rattle.std.proofs.lemmas.List.{append-nil, nil_from_length}
-use Rattle.wire.specs.Fields.{Read, ◌>>=◌, byte_at, two, all_of, numbered}
+use Rattle.wire.specs.Fields.{Read, ◌>>=◌, byte_at, two, many, all_of, numbered}
 use Rattle.wire.specs.Reading.{member_at}
 use Rattle.wire.proofs.Taking.{IsBytes, bind_some, passed, some_is, Takes, Takes-then, byte_takes}
 
@@ -50,6 +52,52 @@ pub all_again : {A : Type 0} (s : A → List ℕ) (F : A → Type 0) (r : List �
 all_again s F r f x fits =
     let read : r (s x) ≡ Some (x, []) = ap r (sym (append-nil (s x))) ∙ f.again x [] fits in
     rw read refl
+
+-- ---- so many fields of one sort
+
+abbrev pub AreMany : {A : Type 0} → (A → Type 0) → ℕ → List A → Type 0
+AreMany F n xs = (length xs ≡ n) × AllByRecursion F xs
+
+many_takes : {A : Type 0} (s : A → List ℕ) (F : A → Type 0) (r : List ℕ → Read A) → IsField s F r
+    → (n : ℕ) (bytes : List ℕ) (x : List A × List ℕ) → IsBytes bytes → many r n bytes ≡ Some x
+    → Takes bytes (flat_map s x.0) x.1 × AreMany F n x.0
+unfolding many
+many_takes {A} s F r f zero bytes x fits e =
+    subst (λ (y : List A × List ℕ). Takes bytes (flat_map s y.0) y.1 × AreMany F zero y.0)
+    (some_is ([], bytes) x e) (record { parts = refl; are_bytes = fits }, (refl, tt))
+many_takes {A} s F r f (suc n) bytes x fits e =
+    let a = bind_some (r bytes) (λ y. many r n y.1 >>= λ z. Some (y.0 ∷ z.0, z.1)) x e in
+    let b = bind_some (many r n a.0.1) (λ z. Some (a.0.0 ∷ z.0, z.1)) x a.2 in
+    let t0 = f.takes bytes a.0 fits a.1 in
+    let t1 = many_takes s F r f n a.0.1 b.0 t0.0.are_bytes b.1 in
+    let made : List A × List ℕ = (a.0.0 ∷ b.0.0, b.0.1) in
+    subst (λ (y : List A × List ℕ). Takes bytes (flat_map s y.0) y.1 × AreMany F (suc n) y.0)
+    (some_is made x b.2) (
+      Takes-then bytes (s a.0.0) a.0.1 (flat_map s b.0.0) b.0.1 t0.0 t1.0,
+      (ap (λ (k : ℕ). suc k) t1.1.0, (t0.1, t1.1.1)),
+    )
+
+many_again : {A : Type 0} (s : A → List ℕ) (F : A → Type 0) (r : List ℕ → Read A) → IsField s F r
+    → (xs : List A) (rest : List ℕ) → AllByRecursion F xs
+    → many r (length xs) (flat_map s xs ++ rest) ≡ Some (xs, rest)
+unfolding many
+many_again s F r f [] rest fits = refl
+many_again s F r f (x ∷ xs) rest fits =
+    let regrouped : flat_map s (x ∷ xs) ++ rest ≡ s x ++ (flat_map s xs ++ rest) =
+    append_assoc (s x) (flat_map s xs) rest in
+    ap (many r (suc (length xs))) regrouped ∙ rw (
+      f.again x (flat_map s xs ++ rest) fits.0,
+      many_again s F r f xs rest fits.1,
+    ) refl
+
+pub many_field : {A : Type 0} (s : A → List ℕ) (F : A → Type 0) (r : List ℕ → Read A)
+    → IsField s F r → (n : ℕ) → IsField (flat_map s) (AreMany F n) (many r n)
+many_field {A} s F r f n = record {
+  takes = many_takes s F r f n;
+  again = λ xs rest fits.
+      subst (λ (k : ℕ). many r k (flat_map s xs ++ rest) ≡ Some (xs, rest)) fits.0
+      (many_again s F r f xs rest fits.1);
+}
 
 -- ---- one byte for a member of a list
 

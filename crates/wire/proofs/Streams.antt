@@ -13,9 +13,11 @@ use Rattle.wire.specs.declared.values.CommandState.{CommandState}
 use Rattle.wire.specs.declared.values.CommandState.TheVariants as states
 use Rattle.wire.specs.declared.values.Version.{Version}
 use Rattle.wire.specs.declared.frame.What.{What}
+use Rattle.wire.specs.declared.frame.What.TheVariants as variant
 use Rattle.wire.specs.declared.frame.What.TheVariants.{Prepare, Promise, Accept, Accepted, Nack}
 use Rattle.wire.specs.declared.frame.What.TheVariants.{Behind, Decided, Submit, Ask, Sheet, Tick}
 use Rattle.wire.specs.declared.frame.What.TheVariants.{Stop, Taken, Told, SheetText, Refused, Fine}
+use Rattle.wire.specs.declared.frame.What.TheVariants.{Status, Log}
 use Rattle.wire.specs.Ranges.{IsReport, IsBody, IsFrame}
 use Rattle.wire.specs.Reading.{between, frame_of}
 use Rattle.wire.specs.Spelling.{report_bytes, state_bytes, body, inside, spelling}
@@ -23,6 +25,8 @@ use Rattle.wire.specs.Stream.{Front, Waits, Begins, Breaks, by_frame, by_length,
 use Rattle.wire.proofs.Taking.{IsBytes, IsBytes-take, IsBytes-drop, wide32}
 use Rattle.wire.proofs.FieldLaws.{between_is, between_holds}
 use Rattle.wire.proofs.Runs.{run_short}
+use Rattle.wire.proofs.LogRuns.{log_short}
+use Rattle.wire.proofs.Standings.{standing_short}
 use Rattle.wire.proofs.Whole.{frame_takes, frame_again}
 
 -- ---- lengths
@@ -54,6 +58,10 @@ body_short v (Told id s) h = omega (arith, state_short s)
 body_short v (SheetText bytes) h = h
 body_short v (Refused refusal) h = omega arith
 body_short v Fine h = omega arith
+body_short v Status h = omega arith
+body_short v (Log position) h = omega arith
+body_short v (variant.Standing s) h = standing_short s h.1
+body_short v (variant.Entries position len entries) h = log_short position len entries h.1
 
 inside_length : (f : Frame) → IsFrame f → (8 ≤ length (inside f)) × (length (inside f) ≤ 300000)
 inside_length f fits =

@@ -1,7 +1,7 @@
 -- The kind of what was read.
 use Rattle.std.proofs.Common.{◌≡◌, ℕ, ◌+◌, ◌≤◌, Bool, true, false, cond, eqb, leb, List, [], ◌∷◌}
 use Rattle.std.proofs.Common.{length, get_or, drop, Option, Some, None, Result, Ok, Err, refl, sym}
-use Rattle.std.proofs.Common.{ap, subst, ◌∙◌, arith}
+use Rattle.std.proofs.Common.{ap, subst, ◌∙◌, ◌||◌, arith}
 use Rattle.std.specs.Prelude.{IsOk}
 use Rattle.std.specs.Int.{w32, from_be_bytes}
 use Rattle.std.proofs.lemmas.Bool.{eqb-true}
@@ -13,9 +13,11 @@ use Rattle.wire.specs.declared.frame.What.{What}
 use Rattle.wire.specs.Fields.{◌>>=◌, all_of}
 use Rattle.wire.specs.Ranges.{way_of_kind, way_of}
 use Rattle.wire.specs.declared.frame.What.TheVariants.{Decided}
+use Rattle.wire.specs.declared.frame.What.TheVariants as variant
 use Rattle.wire.specs.declared.values.Version.{Version}
 use Rattle.wire.specs.Reading.{position_at, count_at, entries_at, decided_of, what_of, is_kind}
-use Rattle.wire.specs.Reading.{goes, frame_from, frame_in, version_of, frame_of}
+use Rattle.wire.specs.Reading.{goes, frame_from, frame_in, version_of, frame_of, log_length_at}
+use Rattle.wire.specs.Reading.{log_count_at, entries_of}
 use Rattle.wire.specs.Spelling.{kind_of}
 use Rattle.wire.proofs.Taking.{bind_some, some_is}
 use Rattle.wire.specs.model.Gives.{LacksBody, GivesFrame}
@@ -57,6 +59,26 @@ run_made v bytes w e =
     (λ es. cond (leb (a.0.0 + b.0.0) 65536) (Some (Decided a.0.0 es)) None) w b.2 in
     empty_made (leb (a.0.0 + b.0.0) 65536) (Decided a.0.0 c.0) 7 w refl c.2
 
+log_made : (bytes : List ℕ) (w : What) → entries_of bytes ≡ Some w → kind_of w ≡ 38
+log_made bytes w e =
+    let a = bind_some (log_length_at bytes)
+    (λ p. log_length_at p.1 >>= λ l. log_count_at l.1 >>= λ c. all_of (entries_at c.0) c.1
+    >>= λ es. cond (eqb c.0 0 || leb (p.0 + c.0) l.0) (Some (variant.Entries p.0 l.0 es)) None)
+    w e in
+    let b = bind_some (log_length_at a.0.1)
+    (λ l. log_count_at l.1 >>= λ c. all_of (entries_at c.0) c.1
+    >>= λ es. cond (eqb c.0 0 || leb (a.0.0 + c.0) l.0) (Some (variant.Entries a.0.0 l.0 es)) None)
+    w a.2 in
+    let c = bind_some (log_count_at b.0.1)
+    (λ c. all_of (entries_at c.0) c.1
+    >>= λ es. cond (eqb c.0 0 || leb (a.0.0 + c.0) b.0.0)
+    (Some (variant.Entries a.0.0 b.0.0 es)) None) w b.2 in
+    let d = bind_some (all_of (entries_at c.0.0) c.0.1)
+    (λ es. cond (eqb c.0.0 0 || leb (a.0.0 + c.0.0) b.0.0)
+    (Some (variant.Entries a.0.0 b.0.0 es)) None) w c.2 in
+    empty_made (eqb c.0.0 0 || leb (a.0.0 + c.0.0) b.0.0) (variant.Entries a.0.0 b.0.0 d.0) 38 w
+    refl d.2
+
 pub kind_is : (v : Version) (kind : ℕ) (bytes : List ℕ) (w : What)
     → what_of v kind bytes ≡ Some w → kind_of w ≡ kind
 unfolding what_of
@@ -73,12 +95,16 @@ kind_is v kind bytes w e =
     (pick kind 18 w _ _ (made _ _ 18 w (λ x. refl))
     (pick kind 19 w _ _ (empty_made _ _ 19 w refl)
     (pick kind 20 w _ _ (empty_made _ _ 20 w refl)
+    (pick kind 21 w _ _ (empty_made _ _ 21 w refl)
+    (pick kind 22 w _ _ (made _ _ 22 w (λ x. refl))
     (pick kind 32 w _ _ (made _ _ 32 w (λ x. refl))
     (pick kind 33 w _ _ (made _ _ 33 w (λ x. refl))
     (pick kind 34 w _ _ (λ h. empty_made true _ 34 w refl h)
     (pick kind 35 w _ _ (made _ _ 35 w (λ x. refl))
     (pick kind 36 w _ _ (empty_made _ _ 36 w refl)
-    (λ h. absurd cc))))))))))))))))) e
+    (pick kind 37 w _ _ (made _ _ 37 w (λ x. refl))
+    (pick kind 38 w _ _ (log_made bytes w)
+    (λ h. absurd cc))))))))))))))))))))) e
 
 -- a sender or a receiver that does not fit the kind, whatever was read
 pub turned_away : (v : Version) (hall from to kind : ℕ) (o : Option What)
@@ -118,16 +144,19 @@ hall_at bytes =
 pub record IsGood (v : Version) (bytes : List ℕ) : Type 0 where
   pub eight : 8 ≤ length bytes
   pub version : version_of (get_or bytes 0 0) ≡ Some v
-  pub kind : is_kind (get_or bytes 7 0) ≡ true
+  pub kind : is_kind v (get_or bytes 7 0) ≡ true
   pub goes : goes (way_of_kind (get_or bytes 7 0)) (get_or bytes 5 0) (get_or bytes 6 0) ≡ true
 
 read_by_kind : (v : Version) (o : Option Version) (kind hall from to : ℕ) (bytes : List ℕ)
-    → o ≡ Some v → is_kind kind ≡ true
+    → o ≡ Some v → is_kind v kind ≡ true
     → frame_in o hall from to kind bytes ≡ frame_from v hall from to (what_of v kind bytes)
 read_by_kind v None kind hall from to bytes is k = absurd cc
 read_by_kind v (Some u) kind hall from to bytes is k =
     subst (λ (x : Version). frame_in (Some u) hall from to kind bytes
-    ≡ frame_from x hall from to (what_of x kind bytes)) (some_is u v is) (rw k refl)
+    ≡ frame_from x hall from to (what_of x kind bytes)) (some_is u v is)
+    (let same : is_kind u kind ≡ true =
+    subst (λ (x : Version). is_kind x kind ≡ true) (sym (some_is u v is)) k in
+    rw same refl)
 
 good_is : (v : Version) (bytes : List ℕ) → IsGood v bytes
     → frame_of bytes ≡ frame_from v (hall_at bytes) (get_or bytes 5 0) (get_or bytes 6 0)

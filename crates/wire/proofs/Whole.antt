@@ -3,21 +3,24 @@ use Rattle.std.proofs.Common.{◌≡◌, ℕ, suc, ◌^◌, ◌<◌, ◌≤◌, 
 use Rattle.std.proofs.Common.{[], ◌∷◌, ◌++◌, length, Option, Some, None, Result, Ok, Err, refl, sym}
 use Rattle.std.proofs.Common.{ap, subst, ◌∙◌, arith}
 use Rattle.std.specs.Int.{w32, to_be_bytes, from_be_bytes}
-use Rattle.std.proofs.lemmas.Bool.{eqb-true}
+use Rattle.std.proofs.lemmas.Bool.{eqb-true, or_right}
 use Rattle.std.proofs.lemmas.List.{nil_from_length}
 use Rattle.wire.specs.declared.fault.WireFault.{WireFault}
 use Rattle.wire.specs.declared.fault.WireFault.TheVariants.{BadKind, BadBody}
 use Rattle.wire.specs.declared.frame.Frame.{Frame}
 use Rattle.wire.specs.declared.frame.What.{What}
+use Rattle.wire.specs.declared.frame.What.TheVariants as variant
 use Rattle.wire.specs.declared.frame.What.TheVariants.{Prepare, Promise, Accept, Accepted, Nack}
 use Rattle.wire.specs.declared.frame.What.TheVariants.{Behind, Decided, Submit, Ask, Sheet, Tick}
 use Rattle.wire.specs.declared.frame.What.TheVariants.{Stop, Taken, Told, SheetText, Refused, Fine}
+use Rattle.wire.specs.declared.frame.What.TheVariants.{Status, Log}
+use Rattle.std.specs.List.{list_any}
 use Rattle.wire.specs.Ranges.{Way, Between, FromClient, ToClient, way_of, Goes, IsBody, IsFrame}
 use Rattle.wire.specs.declared.values.Version.{Version}
-use Rattle.wire.specs.declared.values.Version.TheVariants.{One, Two}
+use Rattle.wire.specs.declared.values.Version.TheVariants.{One, Two, Three}
 use Rattle.wire.specs.Numbers.{versions, version_number}
 use Rattle.wire.specs.Reading.{empty_of, what_of, is_kind, is_desk, goes, frame_from, frame_in}
-use Rattle.wire.specs.Reading.{version_of, frame_of}
+use Rattle.wire.specs.Reading.{version_of, frame_of, first_kinds}
 use Rattle.wire.specs.Spelling.{kind_of, body, inside}
 use Rattle.wire.proofs.Taking.{IsBytes, IsBytes-take, passed, wide32}
 use Rattle.wire.proofs.FieldLaws.{and_true, both_true, between_is, between_holds}
@@ -25,6 +28,7 @@ use Rattle.wire.proofs.Sequences.{numbered_is}
 use Rattle.wire.proofs.Frames.{IsWhat, prepare_takes, promise_takes, accept_takes, accepted_takes}
 use Rattle.wire.proofs.Frames.{nack_takes, behind_takes, decided_takes, submit_takes, ask_takes}
 use Rattle.wire.proofs.Frames.{sheet_takes, taken_takes, told_takes, refused_takes, what_again}
+use Rattle.wire.proofs.Frames.{position_takes, standing_takes, entries_takes}
 
 -- a kind without fields
 empty_takes : (v : Version) (kind : ℕ) (what : What) (bytes : List ℕ) (w : What)
@@ -52,10 +56,42 @@ pick v kind k bytes w x y here there e = go (eqb kind k) refl e where
   go true t h = subst (λ (n : ℕ). IsWhat v n bytes w) (sym (eqb-true _ _ t)) (here h)
   go false t h = there h
 
-pub what_takes : (v : Version) (kind : ℕ) (bytes : List ℕ) (w : What) → IsBytes bytes
-    → length bytes ≤ 299992 → what_of v kind bytes ≡ Some w → IsWhat v kind bytes w
+-- whether a kind is one of every version
+abbrev is_first : ℕ → Bool
+is_first kind = list_any (λ k. eqb k kind) first_kinds
+
+-- a kind of every version is one of this version
+first_kind : (v : Version) (kind : ℕ) → is_first kind ≡ true → is_kind v kind ≡ true
+first_kind One kind e = e
+first_kind Two kind e = e
+first_kind Three kind e =
+    or_right (eqb 21 kind) _ (or_right (eqb 22 kind) _ (or_right (eqb 37 kind) _
+    (or_right (eqb 38 kind) _ e)))
+
+-- the version of a kind that is none of them is 3
+later_kind : (v : Version) (kind : ℕ) → is_first kind ≡ false → is_kind v kind ≡ true → v ≡ Three
+later_kind One kind none e = let bad : true ≡ false = sym e ∙ none in absurd cc
+later_kind Two kind none e = let bad : true ≡ false = sym e ∙ none in absurd cc
+later_kind Three kind none e = refl
+
+-- the test of a kind that is none of them
+pick_later : (v : Version) (kind k : ℕ) (bytes : List ℕ) (w : What) (x y : Option What)
+    → is_kind v kind ≡ true → is_first k ≡ false
+    → (v ≡ Three → x ≡ Some w → IsWhat v k bytes w) → (y ≡ Some w → IsWhat v kind bytes w)
+    → cond (eqb kind k) x y ≡ Some w → IsWhat v kind bytes w
+pick_later v kind k bytes w x y has none here there e = go (eqb kind k) refl e where
+  go : (b : Bool) → eqb kind k ≡ b → cond b x y ≡ Some w → IsWhat v kind bytes w
+  go true t h =
+      let three : v ≡ Three =
+      later_kind v k none (subst (λ (n : ℕ). is_kind v n ≡ true) (eqb-true _ _ t) has) in
+      subst (λ (n : ℕ). IsWhat v n bytes w) (sym (eqb-true _ _ t)) (here three h)
+  go false t h = there h
+
+pub what_takes : (v : Version) (kind : ℕ) (bytes : List ℕ) (w : What) → is_kind v kind ≡ true
+    → IsBytes bytes → length bytes ≤ 299992 → what_of v kind bytes ≡ Some w
+    → IsWhat v kind bytes w
 unfolding what_of
-what_takes v kind bytes w fits short e =
+what_takes v kind bytes w has fits short e =
     pick v kind 1 bytes w _ _ (prepare_takes v bytes w fits)
     (pick v kind 2 bytes w _ _ (promise_takes v bytes w fits)
     (pick v kind 3 bytes w _ _ (accept_takes v bytes w fits)
@@ -68,12 +104,20 @@ what_takes v kind bytes w fits short e =
     (pick v kind 18 bytes w _ _ (sheet_takes v bytes w fits)
     (pick v kind 19 bytes w _ _ (empty_takes v 19 Tick bytes w refl refl tt)
     (pick v kind 20 bytes w _ _ (empty_takes v 20 Stop bytes w refl refl tt)
+    (pick_later v kind 21 bytes w _ _ has refl
+    (λ three. empty_takes v 21 Status bytes w refl refl three)
+    (pick_later v kind 22 bytes w _ _ has refl
+    (λ three. position_takes v bytes w three fits)
     (pick v kind 32 bytes w _ _ (taken_takes v bytes w fits)
     (pick v kind 33 bytes w _ _ (told_takes v bytes w fits)
     (pick v kind 34 bytes w _ _ (text_takes v bytes w short)
     (pick v kind 35 bytes w _ _ (refused_takes v bytes w fits)
     (pick v kind 36 bytes w _ _ (empty_takes v 36 Fine bytes w refl refl tt)
-    (λ h. absurd cc))))))))))))))))) e
+    (pick_later v kind 37 bytes w _ _ has refl
+    (λ three. standing_takes v bytes w three fits)
+    (pick_later v kind 38 bytes w _ _ has refl
+    (λ three. entries_takes v bytes w three fits)
+    (λ h. absurd cc))))))))))))))))))))) e
 
 -- ---- the bytes after a length
 
@@ -96,24 +140,33 @@ goes_holds FromClient from to h = both_true (eqb from 0) (is_desk to) (is_zero f
 goes_holds ToClient from to h = both_true (is_desk from) (eqb to 0)
     (between_holds 1 5 from h.0.0 h.0.1) (is_zero to h.1)
 
-kind_is : (w : What) → is_kind (kind_of w) ≡ true
-kind_is (Prepare b pos) = refl
-kind_is (Promise b pos vote) = refl
-kind_is (Accept b pos e) = refl
-kind_is (Accepted b pos) = refl
-kind_is (Nack b pos promised) = refl
-kind_is (Behind len) = refl
-kind_is (Decided pos e) = refl
-kind_is (Submit e) = refl
-kind_is (Ask id) = refl
-kind_is (Sheet event round position style) = refl
-kind_is Tick = refl
-kind_is Stop = refl
-kind_is (Taken id) = refl
-kind_is (Told id s) = refl
-kind_is (SheetText bytes) = refl
-kind_is (Refused refusal) = refl
-kind_is Fine = refl
+-- a kind of version 3
+is_later : (v : Version) (kind : ℕ) → v ≡ Three → is_kind Three kind ≡ true
+    → is_kind v kind ≡ true
+is_later v kind three e = subst (λ (x : Version). is_kind x kind ≡ true) (sym three) e
+
+kind_is : (v : Version) (w : What) → IsBody v w → is_kind v (kind_of w) ≡ true
+kind_is v (Prepare b pos) fits = first_kind v 1 refl
+kind_is v (Promise b pos vote) fits = first_kind v 2 refl
+kind_is v (Accept b pos e) fits = first_kind v 3 refl
+kind_is v (Accepted b pos) fits = first_kind v 4 refl
+kind_is v (Nack b pos promised) fits = first_kind v 5 refl
+kind_is v (Behind len) fits = first_kind v 6 refl
+kind_is v (Decided pos e) fits = first_kind v 7 refl
+kind_is v (Submit e) fits = first_kind v 16 refl
+kind_is v (Ask id) fits = first_kind v 17 refl
+kind_is v (Sheet event round position style) fits = first_kind v 18 refl
+kind_is v Tick fits = first_kind v 19 refl
+kind_is v Stop fits = first_kind v 20 refl
+kind_is v (Taken id) fits = first_kind v 32 refl
+kind_is v (Told id s) fits = first_kind v 33 refl
+kind_is v (SheetText bytes) fits = first_kind v 34 refl
+kind_is v (Refused refusal) fits = first_kind v 35 refl
+kind_is v Fine fits = first_kind v 36 refl
+kind_is v Status fits = is_later v 21 fits refl
+kind_is v (Log position) fits = is_later v 22 fits.0 refl
+kind_is v (variant.Standing standing) fits = is_later v 37 fits.0 refl
+kind_is v (variant.Entries position len entries) fits = is_later v 38 fits.0 refl
 
 -- a test that refused nothing
 let_by : {A : Type 0} (b : Bool) (x : WireFault) (y : Result A WireFault) (z : A)
@@ -163,9 +216,10 @@ in_takes : (o : Option Version) (n hall from to kind : ℕ) (bytes : List ℕ) (
     → IsFrame f × (n ∷ to_be_bytes w32 hall ++ from ∷ to ∷ kind ∷ bytes ≡ inside f)
 in_takes None n hall from to kind bytes f is small fits short e = absurd cc
 in_takes (Some v) n hall from to kind bytes f is small fits short e =
-    let k = let_by (is_kind kind) BadKind (frame_from v hall from to (what_of v kind bytes)) f e in
+    let k = let_by (is_kind v kind) BadKind (frame_from v hall from to (what_of v kind bytes)) f
+    e in
     let t = from_takes v hall from to kind bytes (what_of v kind bytes) f small
-    (λ w h. what_takes v kind bytes w fits short h) k.1 in (
+    (λ w h. what_takes v kind bytes w k.0 fits short h) k.1 in (
       t.0,
       ap (λ (m : ℕ). m ∷ (to_be_bytes w32 hall ++ from ∷ to ∷ kind ∷ bytes))
           (sym (version_is n v is)) ∙ t.1,
@@ -196,9 +250,10 @@ frame_takes (version ∷ a ∷ b ∷ c ∷ d ∷ from ∷ to ∷ kind ∷ bytes)
     ap (λ (h : List ℕ). version ∷ (h ++ from ∷ to ∷ kind ∷ bytes)) (sym same) in
     record { fits = t.0; spelled = front ∙ t.1 }
 
-version_again : (v : Version) → version_of (version_number v) ≡ Some v
+pub version_again : (v : Version) → version_of (version_number v) ≡ Some v
 version_again One = refl
 version_again Two = refl
+version_again Three = refl
 
 framed : (a b c d : ℕ) (f : Frame) → from_be_bytes w32 (a ∷ b ∷ c ∷ d ∷ []) ≡ f.hall → IsFrame f
     → frame_of (version_number f.version ∷ a ∷ b ∷ c ∷ d ∷ f.from ∷ f.to ∷ kind_of f.what ∷
@@ -206,7 +261,7 @@ framed : (a b c d : ℕ) (f : Frame) → from_be_bytes w32 (a ∷ b ∷ c ∷ d 
 unfolding frame_of
 framed a b c d f hall fits = rw (
   version_again f.version,
-  kind_is f.what,
+  kind_is f.version f.what fits.body,
   what_again f.version f.what fits.body,
   goes_holds
       (way_of f.what) f.from f.to fits.goes,

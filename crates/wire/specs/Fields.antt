@@ -1,6 +1,6 @@
 -- Reading fields one after the other: each gives a value and the bytes after it, or nothing.
-use Rattle.std.specs.Prelude.{ℕ, ◌==◌, List, [], ◌∷◌, length, take, drop, find, Option, Some, None}
-use Rattle.std.specs.Prelude.{nat_lt, if◌then◌else◌}
+use Rattle.std.specs.Prelude.{ℕ, zero, suc, ◌==◌, List, [], ◌∷◌, length, take, drop, find, Option}
+use Rattle.std.specs.Prelude.{Some, None, nat_lt, if◌then◌else◌}
 use Rattle.std.specs.Int.{Width, byte_len, from_be_bytes}
 
 -- a value and what stands after it
@@ -24,6 +24,11 @@ byte_at (b ∷ bytes) = Some (b, bytes)
 -- one field, then another
 abbrev pub two : {A B : Type 0} → (List ℕ → Read A) → (List ℕ → Read B) → List ℕ → Read (A × B)
 two first second bytes = first bytes >>= λ x. second x.1 >>= λ y. Some ((x.0, y.0), y.1)
+
+-- so many fields of one sort, one after the other
+unfoldable pub many : {A : Type 0} → (List ℕ → Read A) → ℕ → List ℕ → Read (List A)
+many read zero bytes = Some ([], bytes)
+many read (suc n) bytes = read bytes >>= λ x. many read n x.1 >>= λ y. Some (x.0 ∷ y.0, y.1)
 
 -- nothing is left
 abbrev pub ended : List ℕ → Option (Unit {0})

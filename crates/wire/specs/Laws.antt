@@ -6,6 +6,8 @@ use Rattle.wire.specs.declared.fault.WireFault.{WireFault}
 use Rattle.wire.specs.declared.fault.WireFault.TheVariants.{BadLength, BadVersion, BadKind, BadBody}
 use Rattle.wire.specs.declared.fault.WireFault.TheVariants.{NoMemory}
 use Rattle.wire.specs.declared.frame.Frame.{Frame}
+use Rattle.wire.specs.declared.values.Version.{Version}
+use Rattle.wire.specs.Numbers.{version_number}
 use Rattle.wire.specs.Ranges.{IsFrame}
 use Rattle.wire.specs.Spelling.{spelling}
 use Rattle.wire.specs.Reading.{is_kind}
@@ -41,17 +43,24 @@ abbrev pub BeginsWithFrame : List ℕ → Type 0
 BeginsWithFrame bytes = (f : Frame) × (rest : List ℕ) × IsFrame f × (bytes ≡ spelling f ++ rest)
 
 abbrev pub IsVersion : ℕ → Type 0
-IsVersion n = (n ≡ 1) ⊎ (n ≡ 2)
+IsVersion n = (n ≡ 1) ⊎ (n ≡ 2) ⊎ (n ≡ 3)
+
+-- whether the version with this number has the kind with that one
+abbrev pub HasKind : ℕ → ℕ → Type 0
+HasKind number kind = (v : Version) × (number ≡ version_number v) × (is_kind v kind ≡ true)
+
+abbrev pub LacksKind : ℕ → ℕ → Type 0
+LacksKind number kind = (v : Version) × (number ≡ version_number v) × (is_kind v kind ≡ false)
 
 -- which fault is the first: the version is byte 4, the kind byte 11
 abbrev pub IsFirstFault : WireFault → List ℕ → Type 0
 IsFirstFault BadLength bytes = (4 ≤ length bytes) × ¬ IsLength (length_at bytes)
 IsFirstFault BadVersion bytes = IsWhole bytes × ¬ IsVersion (slice_index bytes 4)
 IsFirstFault BadKind bytes =
-    IsWhole bytes × IsVersion (slice_index bytes 4) × (is_kind (slice_index bytes 11) ≡ false)
+    IsWhole bytes × LacksKind (slice_index bytes 4) (slice_index bytes 11)
 IsFirstFault BadBody bytes =
-    IsWhole bytes × IsVersion (slice_index bytes 4)
-    × (is_kind (slice_index bytes 11) ≡ true) × ¬ BeginsWithFrame bytes
+    IsWhole bytes × HasKind (slice_index bytes 4) (slice_index bytes 11)
+    × ¬ BeginsWithFrame bytes
 IsFirstFault NoMemory bytes = ⊥
 
 -- a fault stands at the front of bytes exactly where it is the first

@@ -1,26 +1,30 @@
--- The numbers that versions, answers and refusals have on the wire.
+-- The numbers that versions, answers, refusals and roles have on the wire.
 use Rattle.std.specs.Prelude.{ℕ, List, [], ◌∷◌, map}
 use Rattle.texts.specs.declared.answer.Answer.{Answer}
 use Rattle.texts.specs.declared.answer.Answer.TheVariants.{Done, Refused}
 use Rattle.texts.specs.Codes.{every_code, code_number}
 use Rattle.wire.specs.declared.values.ClientRefusal.{ClientRefusal}
 use Rattle.wire.specs.declared.values.ClientRefusal.TheVariants as refusal
+use Rattle.wire.specs.declared.values.DeskRole.{DeskRole}
+use Rattle.wire.specs.declared.values.DeskRole.TheVariants.{Idle, Gathering, Proposing, Leading}
 use Rattle.wire.specs.declared.values.SheetStyle.{SheetStyle}
 use Rattle.wire.specs.declared.values.SheetStyle.TheVariants.{Text, Table}
 use Rattle.wire.specs.declared.values.Version.{Version}
-use Rattle.wire.specs.declared.values.Version.TheVariants.{One, Two}
+use Rattle.wire.specs.declared.values.Version.TheVariants.{One, Two, Three}
 
 abbrev pub version_number : Version → ℕ
 version_number One = 1
 version_number Two = 2
+version_number Three = 3
 
 abbrev pub versions : List Version
-versions = One ∷ Two ∷ []
+versions = One ∷ Two ∷ Three ∷ []
 
 -- the last event whose sheets can be asked for in a version
 abbrev pub last_event : Version → ℕ
 last_event One = 16
 last_event Two = 17
+last_event Three = 17
 
 abbrev pub refusal_number : ClientRefusal → ℕ
 refusal_number refusal.Busy = 1
@@ -51,3 +55,13 @@ refusals =
 
 abbrev pub styles : List SheetStyle
 styles = Text ∷ Table ∷ []
+
+-- what a desk does for its ballots
+abbrev pub role_number : DeskRole → ℕ
+role_number Idle = 0
+role_number Gathering = 1
+role_number Proposing = 2
+role_number Leading = 3
+
+abbrev pub roles : List DeskRole
+roles = Idle ∷ Gathering ∷ Proposing ∷ Leading ∷ []

@@ -1,6 +1,6 @@
 -- What a frame may hold: the ranges of its fields.
-use Rattle.std.specs.Prelude.{◌≡◌, ℕ, ◌+◌, ◌^◌, ◌≤◌, ◌<◌, List, length, Option, Some, None, nat_le}
-use Rattle.std.specs.Prelude.{if◌then◌else◌}
+use Rattle.std.specs.Prelude.{◌≡◌, ◌⊎◌, ℕ, ◌+◌, ◌^◌, ◌≤◌, ◌<◌, List, length, Option, Some, None}
+use Rattle.std.specs.Prelude.{nat_le, if◌then◌else◌}
 use Rattle.std.specs.List.{AllByRecursion}
 use Rattle.acceptor.specs.declared.ballot.Ballot.{Ballot}
 use Rattle.acceptor.specs.declared.entry.Entry.{Entry}
@@ -9,13 +9,18 @@ use Rattle.wire.specs.declared.frame.Frame.{Frame}
 use Rattle.wire.specs.declared.values.CommandState.{CommandState}
 use Rattle.wire.specs.declared.values.CommandState.TheVariants.{Unknown, Pending, Done}
 use Rattle.wire.specs.declared.frame.What.{What}
+use Rattle.wire.specs.declared.frame.What.TheVariants as variant
 use Rattle.wire.specs.declared.frame.What.TheVariants.{Prepare, Promise, Accept, Accepted, Nack}
 use Rattle.wire.specs.declared.frame.What.TheVariants.{Behind, Decided, Submit, Ask, Sheet, Tick}
 use Rattle.wire.specs.declared.frame.What.TheVariants.{Stop, Taken, Told, SheetText, Refused, Fine}
+use Rattle.wire.specs.declared.frame.What.TheVariants.{Status, Log}
+use Rattle.wire.specs.declared.standing.Lengths.{Lengths}
+use Rattle.wire.specs.declared.standing.Lengths.TheVariants.{OfThree, OfFive}
+use Rattle.wire.specs.declared.standing.Standing.{Standing}
 use Rattle.formats.specs.declared.events.Event.{Event}
 use Rattle.formats.specs.Events.{event_number}
 use Rattle.wire.specs.declared.values.Version.{Version}
-use Rattle.wire.specs.declared.values.Version.TheVariants.{One, Two}
+use Rattle.wire.specs.declared.values.Version.TheVariants.{One, Two, Three}
 pub use Rattle.wire.specs.Entries.{IsId, IsEntry}
 use Rattle.wire.specs.Numbers.{last_event}
 use Rattle.wire.specs.Spelling.{kind_of}
@@ -47,6 +52,7 @@ IsCommandState (Done pos answer) = IsPosition pos
 abbrev pub IsCount : Version → ℕ → Type 0
 IsCount One n = n ≡ 1
 IsCount Two n = (1 ≤ n) × (n ≤ 16)
+IsCount Three n = (1 ≤ n) × (n ≤ 16)
 
 -- the entries from a position on, of which the last stands at 65,535 at most
 abbrev pub AreDecided : Version → ℕ → List Entry → Type 0
@@ -58,8 +64,36 @@ AreDecided version pos entries =
 abbrev pub IsEventOf : Version → Event → Type 0
 IsEventOf version event = event_number event ≤ last_event version
 
+-- how many entries a log has, or a position in it, its end included
+abbrev pub IsLogLength : ℕ → Type 0
+IsLogLength n = n ≤ 65536
+
+abbrev pub IsPromised : Option Ballot → Type 0
+IsPromised None = Unit {0}
+IsPromised (Some b) = IsBallot b
+
+abbrev pub AreLengths : Lengths → Type 0
+AreLengths (OfThree lengths) = (length lengths ≡ 3) × AllByRecursion IsLogLength lengths
+AreLengths (OfFive lengths) = (length lengths ≡ 5) × AllByRecursion IsLogLength lengths
+
+-- how a desk stands: its log, its queue of at most 255 commands, its ballots, and the hall's logs
+pub record IsStanding (s : Standing) : Type 0 where
+  pub log : IsLogLength s.length
+  pub queue : s.waiting < 256
+  pub promised : IsPromised s.promised
+  pub told : AreLengths s.told
+
+-- at most 400 entries of a log of this length, from a position on: none, or they end within the
+-- log. So there is none where the log ends at the position or before it.
+pub record AreOfLog (position len : ℕ) (entries : List Entry) : Type 0 where
+  pub from : IsLogLength position
+  pub log : IsLogLength len
+  pub most : length entries ≤ 400
+  pub within : (length entries ≡ 0) ⊎ (position + length entries ≤ len)
+  pub each : AllByRecursion IsEntry entries
+
 -- the fields of a kind in a version; a sheet and all that stands in front of it fill at most
--- 300,000 bytes
+-- 300,000 bytes. Four kinds are of version 3 alone.
 abbrev pub IsBody : Version → What → Type 0
 IsBody v (Prepare b pos) = IsBallot b × IsPosition pos
 IsBody v (Promise b pos vote) = IsBallot b × IsPosition pos × IsReport vote
@@ -74,11 +108,15 @@ IsBody v (Sheet event round position style) =
     IsEventOf v event × (round < 256) × (position < 2 ^ 32)
 IsBody v Tick = Unit {0}
 IsBody v Stop = Unit {0}
+IsBody v Status = v ≡ Three
+IsBody v (Log position) = (v ≡ Three) × IsLogLength position
 IsBody v (Taken id) = IsId id
 IsBody v (Told id s) = IsId id × IsCommandState s
 IsBody v (SheetText bytes) = length bytes ≤ 299992
 IsBody v (Refused refusal) = Unit {0}
 IsBody v Fine = Unit {0}
+IsBody v (variant.Standing standing) = (v ≡ Three) × IsStanding standing
+IsBody v (variant.Entries position len entries) = (v ≡ Three) × AreOfLog position len entries
 
 -- who sends a kind to whom: desk to desk, client to desk, desk to client
 pub data Way : Type 0 where
@@ -89,7 +127,7 @@ pub data Way : Type 0 where
 abbrev pub way_of_kind : ℕ → Way
 way_of_kind kind =
     if nat_le kind 7 then Between
-    else if nat_le kind 20 then FromClient
+    else if nat_le kind 22 then FromClient
     else ToClient
 
 abbrev pub way_of : What → Way

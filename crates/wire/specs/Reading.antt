@@ -1,6 +1,7 @@
 -- The frame that bytes spell, field by field from the left.
-use Rattle.std.specs.Prelude.{ℕ, zero, suc, ◌+◌, Bool, ◌&&◌, List, [], ◌∷◌, length, take, drop}
-use Rattle.std.specs.Prelude.{Option, Some, None, Result, Ok, Err, not, nat_le, ◌==◌, if◌then◌else◌}
+use Rattle.std.specs.Prelude.{ℕ, zero, suc, ◌+◌, Bool, ◌&&◌, ◌||◌, List, [], ◌∷◌, length, take}
+use Rattle.std.specs.Prelude.{drop, Option, Some, None, Result, Ok, Err, not, nat_le, ◌==◌}
+use Rattle.std.specs.Prelude.{if◌then◌else◌}
 use Rattle.std.specs.List.{list_any}
 use Rattle.std.specs.Int.{w16, w32, w64, from_be_bytes}
 use Rattle.acceptor.specs.declared.ballot.Ballot.{Ballot}
@@ -14,15 +15,19 @@ use Rattle.wire.specs.declared.frame.Frame.{Frame}
 use Rattle.wire.specs.declared.values.CommandState.{CommandState}
 use Rattle.wire.specs.declared.values.CommandState.TheVariants.{Unknown, Pending, Done}
 use Rattle.wire.specs.declared.frame.What.{What}
+use Rattle.wire.specs.declared.frame.What.TheVariants as variant
 use Rattle.wire.specs.declared.frame.What.TheVariants.{Prepare, Promise, Accept, Accepted, Nack}
 use Rattle.wire.specs.declared.frame.What.TheVariants.{Behind, Decided, Submit, Ask, Sheet, Tick}
 use Rattle.wire.specs.declared.frame.What.TheVariants.{Stop, Taken, Told, SheetText, Refused, Fine}
-use Rattle.wire.specs.Fields.{Read, ◌>>=◌, number_at, byte_at, two, all_of, numbered}
+use Rattle.wire.specs.declared.frame.What.TheVariants.{Status, Log}
+use Rattle.wire.specs.declared.standing.Lengths.{Lengths}
+use Rattle.wire.specs.declared.standing.Lengths.TheVariants.{OfThree, OfFive}
+use Rattle.wire.specs.Fields.{Read, ◌>>=◌, number_at, byte_at, two, many, all_of, numbered}
 use Rattle.wire.specs.Ranges.{Way, Between, FromClient, ToClient, way_of}
 use Rattle.wire.specs.declared.values.Version.{Version}
-use Rattle.wire.specs.declared.values.Version.TheVariants.{One, Two}
+use Rattle.wire.specs.declared.values.Version.TheVariants.{One, Two, Three}
 use Rattle.wire.specs.Numbers.{versions, version_number, last_event, answers, answer_number}
-use Rattle.wire.specs.Numbers.{refusals, refusal_number, styles, style_number}
+use Rattle.wire.specs.Numbers.{refusals, refusal_number, styles, style_number, roles, role_number}
 
 abbrev pub between : ℕ → ℕ → ℕ → Bool
 between low high n = nat_le low n && nat_le n high
@@ -89,20 +94,58 @@ state_at (suc (suc zero) ∷ rest) = do
   Some (Done done.0.0 done.0.1, done.1)
 state_at (suc (suc (suc b)) ∷ rest) = None
 
--- how many entries a Decided has: one in version 1; in version 2 a byte says it
-unfoldable pub count_at : Version → List ℕ → Read ℕ
-count_at One bytes = Some (1, bytes)
-count_at Two bytes = do
+-- a byte that says how many entries follow
+abbrev pub told_count_at : List ℕ → Read ℕ
+told_count_at bytes = do
   n ← byte_at bytes
   if between 1 16 n.0 then Some n else None
 
+-- how many entries a Decided has: one in version 1; in versions 2 and 3 a byte says it
+unfoldable pub count_at : Version → List ℕ → Read ℕ
+count_at One bytes = Some (1, bytes)
+count_at Two bytes = told_count_at bytes
+count_at Three bytes = told_count_at bytes
+
 -- so many entries, one after the other
-unfoldable pub entries_at : ℕ → List ℕ → Read (List Entry)
-entries_at zero bytes = Some ([], bytes)
-entries_at (suc n) bytes = do
-  first ← entry_at bytes
-  others ← entries_at n first.1
-  Some (first.0 ∷ others.0, others.1)
+abbrev pub entries_at : ℕ → List ℕ → Read (List Entry)
+entries_at n bytes = many entry_at n bytes
+
+-- how many entries an Entries has: two bytes, at most 400
+unfoldable pub log_count_at : List ℕ → Read ℕ
+log_count_at bytes = do
+  n ← number_at w16 bytes
+  if nat_le n.0 400 then Some n else None
+
+-- the length of a log, or a position in it, its end included
+abbrev pub log_length_at : List ℕ → Read ℕ
+log_length_at bytes = limited_at 65536 bytes
+
+-- a promised ballot, or none: five zero bytes
+unfoldable pub promised_at : List ℕ → Read (Option Ballot)
+promised_at bytes = do
+  round ← number_at w32 bytes
+  desk ← byte_at round.1
+  if (round.0 == 0) && (desk.0 == 0)
+      then Some (None, desk.1)
+      else if is_ballot round.0 desk.0
+      then Some (Some (record { number = round.0; desk = desk.0 }), desk.1)
+      else None
+
+abbrev pub three_at : List ℕ → Read Lengths
+three_at bytes = many log_length_at 3 bytes >>= λ x. Some (OfThree x.0, x.1)
+
+abbrev pub five_at : List ℕ → Read Lengths
+five_at bytes = many log_length_at 5 bytes >>= λ x. Some (OfFive x.0, x.1)
+
+-- a length for each desk of a hall, which has three or five
+unfoldable pub lengths_at : List ℕ → Read Lengths
+lengths_at bytes = do
+  desks ← byte_at bytes
+  if desks.0 == 3
+      then three_at desks.1
+      else if desks.0 == 5
+      then five_at desks.1
+      else None
 
 -- an event whose sheets can be asked for in a version
 unfoldable pub event_at : Version → List ℕ → Read Event
@@ -164,17 +207,51 @@ told_of bytes = all_of (two id_at state_at) bytes >>= λ x. Some (Told x.0 x.1)
 abbrev pub refused_of : List ℕ → Option What
 refused_of bytes = all_of (member_at refusal_number refusals) bytes >>= λ x. Some (Refused x)
 
+abbrev pub log_of : List ℕ → Option What
+log_of bytes = all_of log_length_at bytes >>= λ x. Some (Log x)
+
+abbrev pub standing_of : List ℕ → Option What
+standing_of bytes =
+    all_of (two log_length_at
+    (two byte_at (two (member_at role_number roles) (two promised_at lengths_at))))
+    bytes
+    >>= λ x. Some (variant.Standing (record {
+      length = x.0;
+      waiting = x.1.0;
+      role = x.1.1.0;
+      promised = x.1.1.1.0;
+      told = x.1.1.1.1;
+    }))
+
+abbrev pub entries_of : List ℕ → Option What
+entries_of bytes = do
+  pos ← log_length_at bytes
+  len ← log_length_at pos.1
+  count ← log_count_at len.1
+  entries ← all_of (entries_at count.0) count.1
+  if (count.0 == 0) || nat_le (pos.0 + count.0) len.0
+      then Some (variant.Entries pos.0 len.0 entries)
+      else None
+
 -- a kind without fields
 abbrev pub empty_of : What → List ℕ → Option What
 empty_of what bytes = if length bytes == 0 then Some what else None
 
-abbrev pub kinds : List ℕ
-kinds = 1 ∷ 2 ∷ 3 ∷ 4 ∷ 5 ∷ 6 ∷ 7 ∷ 16 ∷ 17 ∷ 18 ∷ 19 ∷ 20 ∷ 32 ∷ 33 ∷ 34 ∷ 35 ∷ 36 ∷ []
+-- the kinds of every version
+abbrev pub first_kinds : List ℕ
+first_kinds =
+    1 ∷ 2 ∷ 3 ∷ 4 ∷ 5 ∷ 6 ∷ 7 ∷ 16 ∷ 17 ∷ 18 ∷ 19 ∷ 20 ∷ 32 ∷ 33 ∷ 34 ∷ 35 ∷ 36 ∷ []
 
-abbrev pub is_kind : ℕ → Bool
-is_kind kind = list_any (λ k. k == kind) kinds
+-- the kinds of a version: version 3 has four more
+abbrev pub kinds : Version → List ℕ
+kinds One = first_kinds
+kinds Two = first_kinds
+kinds Three = 21 ∷ 22 ∷ 37 ∷ 38 ∷ first_kinds
 
--- the fields of the kind with this number, in a version
+abbrev pub is_kind : Version → ℕ → Bool
+is_kind version kind = list_any (λ k. k == kind) (kinds version)
+
+-- the fields of the kind with this number, in a version that has the kind
 unfoldable pub what_of : Version → ℕ → List ℕ → Option What
 what_of version kind bytes =
     if kind == 1 then prepare_of bytes
@@ -189,11 +266,15 @@ what_of version kind bytes =
     else if kind == 18 then sheet_of version bytes
     else if kind == 19 then empty_of Tick bytes
     else if kind == 20 then empty_of Stop bytes
+    else if kind == 21 then empty_of Status bytes
+    else if kind == 22 then log_of bytes
     else if kind == 32 then taken_of bytes
     else if kind == 33 then told_of bytes
     else if kind == 34 then Some (SheetText bytes)
     else if kind == 35 then refused_of bytes
     else if kind == 36 then empty_of Fine bytes
+    else if kind == 37 then standing_of bytes
+    else if kind == 38 then entries_of bytes
     else None
 
 abbrev pub is_desk : ℕ → Bool
@@ -216,7 +297,7 @@ frame_from version hall from to (Some what) =
 abbrev pub frame_in : Option Version → ℕ → ℕ → ℕ → ℕ → List ℕ → Result Frame WireFault
 frame_in None hall from to kind bytes = Err BadVersion
 frame_in (Some version) hall from to kind bytes =
-    if not (is_kind kind) then Err BadKind
+    if not (is_kind version kind) then Err BadKind
     else frame_from version hall from to (what_of version kind bytes)
 
 abbrev pub version_of : ℕ → Option Version

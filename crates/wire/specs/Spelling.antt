@@ -10,12 +10,18 @@ use Rattle.wire.specs.declared.frame.Frame.{Frame}
 use Rattle.wire.specs.declared.values.CommandState.{CommandState}
 use Rattle.wire.specs.declared.values.CommandState.TheVariants.{Unknown, Pending, Done}
 use Rattle.wire.specs.declared.frame.What.{What}
+use Rattle.wire.specs.declared.frame.What.TheVariants as variant
 use Rattle.wire.specs.declared.frame.What.TheVariants.{Prepare, Promise, Accept, Accepted, Nack}
 use Rattle.wire.specs.declared.frame.What.TheVariants.{Behind, Decided, Submit, Ask, Sheet, Tick}
 use Rattle.wire.specs.declared.frame.What.TheVariants.{Stop, Taken, Told, SheetText, Refused, Fine}
+use Rattle.wire.specs.declared.frame.What.TheVariants.{Status, Log}
+use Rattle.wire.specs.declared.standing.Lengths.{Lengths}
+use Rattle.wire.specs.declared.standing.Lengths.TheVariants.{OfThree, OfFive}
+use Rattle.wire.specs.declared.standing.Standing.{Standing}
 use Rattle.wire.specs.declared.values.Version.{Version}
-use Rattle.wire.specs.declared.values.Version.TheVariants.{One, Two}
-use Rattle.wire.specs.Numbers.{answer_number, refusal_number, style_number, version_number}
+use Rattle.wire.specs.declared.values.Version.TheVariants.{One, Two, Three}
+use Rattle.wire.specs.Numbers.{answer_number, refusal_number, role_number, style_number}
+use Rattle.wire.specs.Numbers.{version_number}
 
 abbrev pub ballot_bytes : Ballot → List ℕ
 ballot_bytes b = to_be_bytes w32 b.number ++ b.desk ∷ []
@@ -50,20 +56,51 @@ kind_of (Ask id) = 17
 kind_of (Sheet event round position style) = 18
 kind_of Tick = 19
 kind_of Stop = 20
+kind_of Status = 21
+kind_of (Log position) = 22
 kind_of (Taken id) = 32
 kind_of (Told id s) = 33
 kind_of (SheetText bytes) = 34
 kind_of (Refused refusal) = 35
 kind_of Fine = 36
+kind_of (variant.Standing standing) = 37
+kind_of (variant.Entries position len entries) = 38
 
--- how many entries a Decided has, which only version 2 says
+-- how many entries a Decided has, which version 1 does not say
 abbrev pub count_bytes : Version → ℕ → List ℕ
 count_bytes One n = []
 count_bytes Two n = n ∷ []
+count_bytes Three n = n ∷ []
 
 abbrev pub decided_bytes : Version → ℕ → List Entry → List ℕ
 decided_bytes version pos entries =
     to_be_bytes w32 pos ++ count_bytes version (length entries) ++ flat_map entry_bytes entries
+
+-- the ballot that a desk has promised; five zero bytes where it has promised none
+abbrev pub promised_bytes : Option Ballot → List ℕ
+promised_bytes None = 0 ∷ 0 ∷ 0 ∷ 0 ∷ 0 ∷ []
+promised_bytes (Some b) = ballot_bytes b
+
+-- a length for each desk of the hall, in the order of the desks
+abbrev pub lengths_of : Lengths → List ℕ
+lengths_of (OfThree lengths) = lengths
+lengths_of (OfFive lengths) = lengths
+
+-- how many desks the hall has, and a length for each
+abbrev pub lengths_bytes : Lengths → List ℕ
+lengths_bytes told =
+    length (lengths_of told) ∷ flat_map (λ n. to_be_bytes w32 n) (lengths_of told)
+
+abbrev pub standing_bytes : Standing → List ℕ
+standing_bytes s =
+    to_be_bytes w32 s.length ++ s.waiting ∷ role_number s.role ∷
+    promised_bytes s.promised ++ lengths_bytes s.told
+
+-- a position, the length of the log, how many entries follow, and the entries
+abbrev pub log_bytes : ℕ → ℕ → List Entry → List ℕ
+log_bytes position len entries =
+    to_be_bytes w32 position ++ to_be_bytes w32 len ++
+    to_be_bytes w16 (length entries) ++ flat_map entry_bytes entries
 
 -- the fields of a frame of a version, in their order
 abbrev pub body : Version → What → List ℕ
@@ -80,11 +117,15 @@ body v (Sheet event round position style) =
     event_number event ∷ round ∷ to_be_bytes w32 position ++ style_number style ∷ []
 body v Tick = []
 body v Stop = []
+body v Status = []
+body v (Log position) = to_be_bytes w32 position
 body v (Taken id) = to_be_bytes w64 id
 body v (Told id s) = to_be_bytes w64 id ++ state_bytes s
 body v (SheetText bytes) = bytes
 body v (Refused refusal) = refusal_number refusal ∷ []
 body v Fine = []
+body v (variant.Standing standing) = standing_bytes standing
+body v (variant.Entries position len entries) = log_bytes position len entries
 
 -- what stands after the length: version, hall, sender, receiver, kind, fields
 abbrev pub inside : Frame → List ℕ

@@ -1,4 +1,4 @@
-//! Entries in a row, as a Decided has them.
+//! Entries in a row, as a Decided and an Entries have them.
 
 use crate::NoMemory;
 use acceptor::entry::Entry;

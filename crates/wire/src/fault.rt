@@ -10,9 +10,9 @@ use std::alloc::{AllocError, AllocFailed};
 pub enum WireFault {
     /// The length is not 8 to 300,000. It is known with the four bytes of the length.
     BadLength,
-    /// The version is neither 1 nor 2. This and the faults below are known with the whole frame.
+    /// The version is neither 1, 2 nor 3. This and the faults below are known with the whole frame.
     BadVersion,
-    /// No kind has this number.
+    /// No kind of the version has this number.
     BadKind,
     /// A field is out of its range, the sender or receiver does not fit the kind, or there are too
     /// few or too many bytes.

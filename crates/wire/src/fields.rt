@@ -1,21 +1,23 @@
 //! The fields of a frame, from bytes: each gives a value and what stands after it. None takes
 //! memory.
 
-ghost use Rattle.std.specs.Prelude.{◌≡◌, IfOk, IfErr, IfSome, option_map};
+ghost use Rattle.std.specs.Prelude.{◌≡◌, ◌≤◌, IfOk, IfErr, IfSome, option_map};
 ghost use Rattle.std.specs.Int.{w16, w32, w64};
 ghost use Rattle.acceptor.specs.Entries.{IsId, IsText};
 ghost use Rattle.formats.specs.Events.{all_events, event_number};
-ghost use Rattle.wire.specs.Fields.{number_at, byte_at, numbered, ended};
+ghost use Rattle.wire.specs.Fields.{number_at, byte_at, many, numbered, ended};
 ghost use Rattle.wire.specs.Numbers.{answers, answer_number, refusals, refusal_number, styles};
-ghost use Rattle.wire.specs.Numbers.{style_number};
+ghost use Rattle.wire.specs.Numbers.{style_number, roles, role_number};
 ghost use Rattle.wire.specs.Reading.{ballot_at, limited_at, position_at, id_at, text_at, entry_at};
-ghost use Rattle.wire.specs.Reading.{report_at, member_at, event_at, state_at};
+ghost use Rattle.wire.specs.Reading.{report_at, member_at, event_at, state_at, log_length_at};
+ghost use Rattle.wire.specs.Reading.{promised_at, lengths_at};
 ghost use Rattle.wire.specs.declared.fault.WireFault.TheVariants.{NoMemory};
 ghost use Rattle.wire.specs.model.Gives.{GivesField};
 ghost use Rattle.wire.specs.model.Parts.{part_entry, part_report, IsPart};
 
 use crate::fault::WireFault;
-use crate::values::{ClientRefusal, CommandState, SheetStyle, Version};
+use crate::standing::Lengths;
+use crate::values::{ClientRefusal, CommandState, DeskRole, SheetStyle, Version};
 use acceptor::MOST_ENTRIES;
 use acceptor::ballot::Ballot;
 use acceptor::entry::{Entry, EntryFault};
@@ -25,7 +27,7 @@ use std::alloc::Global;
 use texts::{Answer, Code};
 
 #[tactic(auto, unfolding(crate::specs::Fields::number_at))]
-fn u16_of(bytes: &[u8]) -> Result<(u16, &[u8]), WireFault>
+pub(crate) fn u16_of(bytes: &[u8]) -> Result<(u16, &[u8]), WireFault>
     ensures { GivesField (λ x. (x.0, x.1.now)) result (number_at w16 bytes.now) }
 {
     if bytes.len() < 2 {
@@ -87,7 +89,8 @@ pub(crate) fn ballot_of(bytes: &[u8]) -> Result<(Ballot, &[u8]), WireFault>
 /// A number of four bytes, at most `limit`.
 #[tactic(auto, unfolding(crate::specs::Reading::limited_at))]
 pub(crate) fn limited_of(limit: u32, bytes: &[u8]) -> Result<(u32, &[u8]), WireFault>
-    ensures { GivesField (λ x. (x.0, x.1.now)) result (limited_at limit bytes.now) }
+    ensures value { GivesField (λ x. (x.0, x.1.now)) result (limited_at limit bytes.now) }
+    ensures in_range { IfOk result (λ x. x.0 ≤ limit) }
 {
     let (number, rest) = u32_of(bytes)?;
     if number <= limit {
@@ -101,6 +104,71 @@ pub(crate) fn position_of(bytes: &[u8]) -> Result<(u32, &[u8]), WireFault>
     ensures { GivesField (λ x. (x.0, x.1.now)) result (position_at bytes.now) }
 {
     limited_of(MOST_ENTRIES - 1, bytes)
+}
+
+/// The length of a log, or a position in it, its end included.
+pub(crate) fn log_length_of(bytes: &[u8]) -> Result<(u32, &[u8]), WireFault>
+    ensures value { GivesField (λ x. (x.0, x.1.now)) result (log_length_at bytes.now) }
+    ensures in_range { IfOk result (λ x. x.0 ≤ 65536) }
+{
+    limited_of(MOST_ENTRIES, bytes)
+}
+
+/// A promised ballot, or none: five zero bytes.
+#[tactic(auto, unfolding(crate::specs::Reading::promised_at))]
+pub(crate) fn promised_of(bytes: &[u8]) -> Result<(Option<Ballot>, &[u8]), WireFault>
+    ensures { GivesField (λ x. (x.0, x.1.now)) result (promised_at bytes.now) }
+{
+    let (number, rest) = u32_of(bytes)?;
+    let (desk, rest) = byte_of(rest)?;
+    if number == 0 && desk == 0 {
+        Ok((None, rest))
+    } else if 1 <= number && 1 <= desk && desk <= 5 {
+        Ok((Some(Ballot { number, desk }), rest))
+    } else {
+        Err(WireFault::BadBody)
+    }
+}
+
+#[tactic(auto, unfolding(crate::specs::Fields::many))]
+fn three_of(bytes: &[u8]) -> Result<([u32; 3], &[u8]), WireFault>
+    ensures { GivesField (λ x. (x.0, x.1.now)) result (many log_length_at 3 bytes.now) }
+{
+    let (first, rest) = log_length_of(bytes)?;
+    let (second, rest) = log_length_of(rest)?;
+    let (third, rest) = log_length_of(rest)?;
+    Ok(([first, second, third], rest))
+}
+
+#[tactic(auto, unfolding(crate::specs::Fields::many))]
+fn five_of(bytes: &[u8]) -> Result<([u32; 5], &[u8]), WireFault>
+    ensures { GivesField (λ x. (x.0, x.1.now)) result (many log_length_at 5 bytes.now) }
+{
+    let (first, rest) = log_length_of(bytes)?;
+    let (second, rest) = log_length_of(rest)?;
+    let (third, rest) = log_length_of(rest)?;
+    let (fourth, rest) = log_length_of(rest)?;
+    let (fifth, rest) = log_length_of(rest)?;
+    Ok(([first, second, third, fourth, fifth], rest))
+}
+
+/// The lengths of the logs of a hall's desks, three or five.
+#[tactic(auto, unfolding(crate::specs::Reading::lengths_at))]
+pub(crate) fn lengths_of(bytes: &[u8]) -> Result<(Lengths, &[u8]), WireFault>
+    ensures { GivesField (λ x. (x.0, x.1.now)) result (lengths_at bytes.now) }
+{
+    let (desks, rest) = byte_of(bytes)?;
+    match desks {
+        3 => {
+            let (lengths, rest) = three_of(rest)?;
+            Ok((Lengths::OfThree(lengths), rest))
+        }
+        5 => {
+            let (lengths, rest) = five_of(rest)?;
+            Ok((Lengths::OfFive(lengths), rest))
+        }
+        _ => Err(WireFault::BadBody),
+    }
 }
 
 #[tactic(auto, unfolding(crate::specs::Reading::id_at))]
@@ -260,6 +328,15 @@ pub(crate) fn refusal_of(bytes: &[u8]) -> Result<(ClientRefusal, &[u8]), WireFau
     let (number, rest) = byte_of(bytes)?;
     let refusal = there(ClientRefusal::from_number(number))?;
     Ok((refusal, rest))
+}
+
+#[tactic(auto, unfolding(crate::specs::Reading::member_at))]
+pub(crate) fn role_of(bytes: &[u8]) -> Result<(DeskRole, &[u8]), WireFault>
+    ensures { GivesField (λ x. (x.0, x.1.now)) result (member_at role_number roles bytes.now) }
+{
+    let (number, rest) = byte_of(bytes)?;
+    let role = there(DeskRole::from_number(number))?;
+    Ok((role, rest))
 }
 
 /// Done is 0, and a refusal the number of its code.

@@ -4,6 +4,7 @@ ghost use Rattle.std.specs.Prelude.{◌≡◌};
 
 use crate::bytes::Bytes;
 use crate::entries::Entries;
+use crate::standing::Standing;
 use crate::values::{ClientRefusal, CommandState, SheetStyle, Version};
 use acceptor::ballot::Ballot;
 use acceptor::entry::Entry;
@@ -30,9 +31,10 @@ pub struct Frame {
 ///
 /// A frame has a spelling where each field is in its range. A ballot has a round of at least 1 and
 /// a desk of 1 to 5; a position is at most 65,535; an id is 1 to 2^63 - 1; an entry has an id and a
-/// text of at most 600 bytes. A Decided has one entry in version 1 and 1 to 16 in version 2, for
-/// consecutive positions, and a Sheet an event of 1 to 16 or 1 to 17. Prepare to Decided go from a
-/// desk to a desk, Submit to Stop from a client (0) to a desk, and Taken to Fine from a desk to a
+/// text of at most 600 bytes. A Decided has one entry in version 1 and 1 to 16 in the later ones,
+/// for consecutive positions, and a Sheet an event of 1 to 16 or 1 to 17. Status, Log, Standing and
+/// Entries are kinds of version 3 alone. Prepare to Decided go from a desk to a desk; Submit, Ask,
+/// Sheet, Tick, Stop, Status and Log from a client (0) to a desk; the others from a desk to a
 /// client.
 #[derive(PartialEq, Eq, Debug, Drop)]
 pub enum What {
@@ -112,12 +114,30 @@ pub enum What {
     },
     /// The desk did it.
     Fine,
+    /// A client asks how the desk stands.
+    Status,
+    /// A client asks for entries of the desk's log, from this position on, at most 65,536.
+    Log {
+        position: u32,
+    },
+    /// How the desk stands.
+    Standing {
+        standing: Standing,
+    },
+    /// Entries of the desk's log from `position` on, which has `length` entries; both are at most
+    /// 65,536. There are at most 400 entries. They end within the log, so there is none where the
+    /// log ends at the position or before it.
+    Entries {
+        position: u32,
+        length: u32,
+        entries: Entries,
+    },
 }
 
 impl What {
     ghost use Rattle.wire.specs.Spelling.{kind_of};
 
-    /// The number of the kind: 1 to 7 between desks, 16 to 20 from a client, 32 to 36 to a client.
+    /// The number of the kind: 1 to 7 between desks, 16 to 22 from a client, 32 to 38 to a client.
     pub fn kind(&self) -> u8
         ensures { result ≡ kind_of self.now }
     {
@@ -139,6 +159,10 @@ impl What {
             What::SheetText { .. } => 34,
             What::Refused { .. } => 35,
             What::Fine => 36,
+            What::Status => 21,
+            What::Log { .. } => 22,
+            What::Standing { .. } => 37,
+            What::Entries { .. } => 38,
         }
     }
 }

@@ -6,18 +6,20 @@ ghost use Rattle.wire.specs.declared.frame.What.TheVariants.{SheetText};
 ghost use Rattle.wire.specs.Ranges.{way_of_kind};
 ghost use Rattle.wire.specs.Reading.{prepare_of, promise_of, accept_of, accepted_of, nack_of};
 ghost use Rattle.wire.specs.Reading.{behind_of, submit_of, ask_of, sheet_of, taken_of, told_of};
-ghost use Rattle.wire.specs.Reading.{refused_of, empty_of, what_of, is_kind, is_desk, goes};
-ghost use Rattle.wire.specs.Reading.{frame_of};
+ghost use Rattle.wire.specs.Reading.{refused_of, log_of, standing_of, empty_of, what_of, is_kind};
+ghost use Rattle.wire.specs.Reading.{is_desk, goes, frame_of};
 ghost use Rattle.wire.specs.model.Gives.{GivesBody, GivesFrame};
 
 use crate::bytes::Bytes;
 use crate::decided::decided_of;
 use crate::fault::WireFault;
 use crate::fields::{
-    ballot_of, byte_of, end, entry_of, event_of, id_of, limited_of, position_of, refusal_of,
-    report_of, state_of, style_of, u32_of,
+    ballot_of, byte_of, end, entry_of, event_of, id_of, lengths_of, limited_of, log_length_of,
+    position_of, promised_of, refusal_of, report_of, role_of, state_of, style_of, u32_of,
 };
 use crate::frame::{Frame, What};
+use crate::log_entries::entries_of;
+use crate::standing::Standing;
 use crate::values::Version;
 use acceptor::MOST_ENTRIES;
 use std::alloc::Global;
@@ -145,6 +147,33 @@ fn refused_of(bytes: &[u8]) -> Result<What, WireFault>
     Ok(What::Refused { refusal })
 }
 
+fn log_of(bytes: &[u8]) -> Result<What, WireFault>
+    ensures { GivesBody result (log_of bytes.now) }
+{
+    let (position, rest) = log_length_of(bytes)?;
+    end(rest)?;
+    Ok(What::Log { position })
+}
+
+fn standing_of(bytes: &[u8]) -> Result<What, WireFault>
+    ensures { GivesBody result (standing_of bytes.now) }
+{
+    let (length, rest) = log_length_of(bytes)?;
+    let (waiting, rest) = byte_of(rest)?;
+    let (role, rest) = role_of(rest)?;
+    let (promised, rest) = promised_of(rest)?;
+    let (told, rest) = lengths_of(rest)?;
+    end(rest)?;
+    let standing = Standing {
+        length,
+        waiting,
+        role,
+        promised,
+        told,
+    };
+    Ok(What::Standing { standing })
+}
+
 fn sheet_text_of(alloc: Global, bytes: &[u8]) -> Result<What, WireFault>
     ensures value { IfOk result (λ what. what ≡ SheetText bytes.now) }
     ensures memory { IfErr result (λ e. e ≡ NoMemory) }
@@ -161,7 +190,7 @@ fn empty_of(what: What, bytes: &[u8]) -> Result<What, WireFault>
     Ok(what)
 }
 
-/// The fields of the kind with this number.
+/// The fields of the kind with this number, in a version that has the kind.
 #[tactic(auto, unfolding(crate::specs::Reading::what_of))]
 fn what_of(alloc: Global, version: Version, kind: u8, bytes: &[u8]) -> Result<What, WireFault>
     ensures { GivesBody result (what_of version kind bytes.now) }
@@ -179,19 +208,27 @@ fn what_of(alloc: Global, version: Version, kind: u8, bytes: &[u8]) -> Result<Wh
         18 => sheet_of(version, bytes),
         19 => empty_of(What::Tick, bytes),
         20 => empty_of(What::Stop, bytes),
+        21 => empty_of(What::Status, bytes),
+        22 => log_of(bytes),
         32 => taken_of(bytes),
         33 => told_of(bytes),
         34 => sheet_text_of(alloc, bytes),
         35 => refused_of(bytes),
         36 => empty_of(What::Fine, bytes),
+        37 => standing_of(bytes),
+        38 => entries_of(alloc, bytes),
         _ => Err(WireFault::BadBody),
     }
 }
 
-fn is_kind(kind: u8) -> bool
-    ensures { result ≡ is_kind kind }
+/// Whether a kind of the version has this number.
+fn is_kind(version: Version, kind: u8) -> bool
+    ensures { result ≡ is_kind version kind }
 {
-    matches!(kind, 1..=7 | 16..=20 | 32..=36)
+    match version {
+        Version::One | Version::Two => matches!(kind, 1..=7 | 16..=20 | 32..=36),
+        Version::Three => matches!(kind, 1..=7 | 16..=22 | 32..=38),
+    }
 }
 
 fn is_desk(number: u8) -> bool
@@ -200,14 +237,14 @@ fn is_desk(number: u8) -> bool
     1 <= number && number <= 5
 }
 
-/// The sender and the receiver fit the kind: 1 to 7 go from a desk to a desk, 16 to 20 from a
-/// client to a desk, 32 to 36 from a desk to a client.
+/// The sender and the receiver fit the kind: 1 to 7 go from a desk to a desk, 16 to 22 from a
+/// client to a desk, 32 to 38 from a desk to a client.
 fn goes(kind: u8, from: u8, to: u8) -> bool
     ensures { result ≡ goes (way_of_kind kind) from to }
 {
     if kind <= 7 {
         is_desk(from) && is_desk(to)
-    } else if kind <= 20 {
+    } else if kind <= 22 {
         from == 0 && is_desk(to)
     } else {
         is_desk(from) && to == 0
@@ -226,7 +263,7 @@ pub(crate) fn frame_of(alloc: Global, bytes: &[u8]) -> Result<Frame, WireFault>
     let Some(version) = Version::from_number(*number) else {
         return Err(WireFault::BadVersion);
     };
-    if !is_kind(*kind) {
+    if !is_kind(version, *kind) {
         return Err(WireFault::BadKind);
     }
     if !goes(*kind, *from, *to) {

@@ -1,5 +1,5 @@
 //! The values that only frames have: their versions, styles of sheets, what became of a command,
-//! refusals.
+//! refusals, what a desk does for a ballot.
 
 ghost use Rattle.std.specs.Prelude.{◌≡◌};
 
@@ -9,7 +9,7 @@ use texts::Answer;
 /// The last event whose sheets can be asked for in version 1.
 const LAST_OF_ONE: Event = Event::Blind5;
 
-/// The last event whose sheets can be asked for in version 2.
+/// The last event whose sheets can be asked for in versions 2 and 3.
 const LAST_OF_TWO: Event = Event::MultiBlind;
 
 /// The version of the wire in which a frame is spelled.
@@ -19,6 +19,8 @@ pub enum Version {
     One,
     /// A Decided has 1 to 16 entries, and sheets are those of the events 1 to 17.
     Two,
+    /// Version 2 and four kinds more: Status, Log, Standing and Entries.
+    Three,
 }
 
 /// How a sheet is printed.
@@ -62,12 +64,25 @@ pub enum ClientRefusal {
     Foreign,
 }
 
+/// What a desk does for a ballot of its own.
+#[derive(Clone, Copy, Debug, PartialEq, Eq)]
+pub enum DeskRole {
+    /// Nothing. 0 in a frame.
+    Idle,
+    /// It gathers promises. 1 in a frame.
+    Gathering,
+    /// It asks for votes at a position. 2 in a frame.
+    Proposing,
+    /// It leads: its ballot is promised for the positions to come. 3 in a frame.
+    Leading,
+}
+
 impl Version {
     ghost use Rattle.wire.specs.Fields.{numbered};
     ghost use Rattle.wire.specs.Numbers.{versions, version_number, last_event};
 
     /// All versions.
-    pub const ALL: [Version; 2] = [Version::One, Version::Two];
+    pub const ALL: [Version; 3] = [Version::One, Version::Two, Version::Three];
 
     /// The version's number, with which what stands after a frame's length begins.
     pub fn number(self) -> u8
@@ -76,6 +91,7 @@ impl Version {
         match self {
             Version::One => 1,
             Version::Two => 2,
+            Version::Three => 3,
         }
     }
 
@@ -95,7 +111,7 @@ impl Version {
     {
         match self {
             Version::One => LAST_OF_ONE.number(),
-            Version::Two => LAST_OF_TWO.number(),
+            Version::Two | Version::Three => LAST_OF_TWO.number(),
         }
     }
 }
@@ -168,5 +184,40 @@ impl ClientRefusal {
             .iter()
             .copied()
             .find(|refusal| refusal.number() == number)
+    }
+}
+
+impl DeskRole {
+    ghost use Rattle.wire.specs.Fields.{numbered};
+    ghost use Rattle.wire.specs.Numbers.{roles, role_number};
+
+    /// All roles, in the order of their numbers.
+    pub const ALL: [DeskRole; 4] = [
+        DeskRole::Idle,
+        DeskRole::Gathering,
+        DeskRole::Proposing,
+        DeskRole::Leading,
+    ];
+
+    /// The role's number in a frame.
+    pub fn number(self) -> u8
+        ensures { result ≡ role_number self }
+    {
+        match self {
+            DeskRole::Idle => 0,
+            DeskRole::Gathering => 1,
+            DeskRole::Proposing => 2,
+            DeskRole::Leading => 3,
+        }
+    }
+
+    /// The role that has a number, if one has it.
+    pub fn from_number(number: u8) -> Option<DeskRole>
+        ensures { result ≡ numbered role_number roles number }
+    {
+        DeskRole::ALL
+            .iter()
+            .copied()
+            .find(|role| role.number() == number)
     }
 }

@@ -1,16 +1,18 @@
 //! Frames as bytes.
 
 ghost use Rattle.std.specs.Prelude.{◌≡◌, ◌≤◌, ◌<◌, ◌++◌, IfOk, OnOk, length};
-ghost use Rattle.std.specs.Int.{w32, w64, to_be_bytes};
+ghost use Rattle.std.specs.Int.{w16, w32, w64, to_be_bytes};
 ghost use Rattle.wire.specs.Numbers.{answer_number};
 ghost use Rattle.wire.specs.Ranges.{IsFrame, IsBody};
 ghost use Rattle.std.specs.List.{flat_map};
 ghost use Rattle.wire.specs.Spelling.{ballot_bytes, text_bytes, entry_bytes, count_bytes};
+ghost use Rattle.wire.specs.Spelling.{promised_bytes, lengths_bytes, standing_bytes, log_bytes};
 ghost use Rattle.wire.specs.Spelling.{report_bytes, state_bytes, body, inside};
 ghost use Rattle.wire.specs.Spelling.{spelling};
 
 use crate::NoMemory;
 use crate::frame::{Frame, What};
+use crate::standing::{Lengths, Standing};
 use crate::values::{CommandState, Version};
 use acceptor::ballot::Ballot;
 use acceptor::entry::Entry;
@@ -102,14 +104,14 @@ fn put_state(out: &mut Vec<u8>, state: CommandState) -> Result<(), NoMemory>
     Ok(())
 }
 
-/// How many entries a Decided has, which only version 2 says.
+/// How many entries a Decided has, which version 1 does not say.
 fn put_count(out: &mut Vec<u8>, version: Version, count: usize) -> Result<(), NoMemory>
     requires { count < 256 }
     ensures { OnOk result (out.new.items ≡ out.old.items ++ count_bytes version count) }
 {
     match version {
         Version::One => Ok(()),
-        Version::Two => {
+        Version::Two | Version::Three => {
             out.push(count as u8)?;
             Ok(())
         }
@@ -124,6 +126,65 @@ fn put_entries(out: &mut Vec<u8>, entries: &[Entry]) -> Result<(), NoMemory>
         put_entry(out, entry)?;
     }
     Ok(())
+}
+
+/// The ballot that was promised, or five zero bytes.
+fn put_promised(out: &mut Vec<u8>, promised: Option<Ballot>) -> Result<(), NoMemory>
+    ensures { OnOk result (out.new.items ≡ out.old.items ++ promised_bytes promised) }
+{
+    match promised {
+        None => out.extend_from_slice(&[0; 5]),
+        Some(ballot) => put_ballot(out, ballot),
+    }
+}
+
+/// The lengths of logs, one after the other.
+#[tactic(auto, using(crate::proofs::Standings::put_number_more))]
+fn put_numbers(out: &mut Vec<u8>, numbers: &[u32]) -> Result<(), NoMemory>
+    ensures { OnOk result
+        (out.new.items ≡ out.old.items ++ flat_map (λ n. to_be_bytes w32 n) numbers.now) }
+{
+    for number in numbers {
+        put_u32(out, *number)?;
+    }
+    Ok(())
+}
+
+/// How many desks the hall has, and a length for each.
+fn put_lengths(out: &mut Vec<u8>, told: Lengths) -> Result<(), NoMemory>
+    ensures { OnOk result (out.new.items ≡ out.old.items ++ lengths_bytes told) }
+{
+    match told {
+        Lengths::OfThree(lengths) => {
+            out.push(3)?;
+            put_numbers(out, &lengths)
+        }
+        Lengths::OfFive(lengths) => {
+            out.push(5)?;
+            put_numbers(out, &lengths)
+        }
+    }
+}
+
+fn put_standing(out: &mut Vec<u8>, standing: Standing) -> Result<(), NoMemory>
+    ensures { OnOk result (out.new.items ≡ out.old.items ++ standing_bytes standing) }
+{
+    put_u32(out, standing.length)?;
+    out.extend_from_slice(&[standing.waiting, standing.role.number()])?;
+    put_promised(out, standing.promised)?;
+    put_lengths(out, standing.told)
+}
+
+/// A position, the length of the log, how many entries follow, and the entries.
+fn put_log(out: &mut Vec<u8>, position: u32, len: u32, entries: &[Entry]) -> Result<(), NoMemory>
+    requires { length entries.now ≤ 400 }
+    ensures { OnOk result
+        (out.new.items ≡ out.old.items ++ log_bytes position len entries.now) }
+{
+    put_u32(out, position)?;
+    put_u32(out, len)?;
+    out.extend_from_slice(&(entries.len() as u16).to_be_bytes())?;
+    put_entries(out, entries)
 }
 
 /// The fields of a frame of this version, in their order.
@@ -179,7 +240,14 @@ fn put_body(out: &mut Vec<u8>, version: Version, what: &What) -> Result<(), NoMe
             out.push(refusal.number())?;
             Ok(())
         }
-        What::Tick | What::Stop | What::Fine => Ok(()),
+        What::Log { position } => put_u32(out, *position),
+        What::Standing { standing } => put_standing(out, *standing),
+        What::Entries {
+            position,
+            length,
+            entries,
+        } => put_log(out, *position, *length, entries.as_slice()),
+        What::Tick | What::Stop | What::Fine | What::Status => Ok(()),
     }
 }
 

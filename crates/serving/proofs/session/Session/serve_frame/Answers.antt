@@ -1,9 +1,16 @@
 use Rattle.std.proofs.Common.{refl, ap, ◌∙◌}
 use Rattle.serving.specs.Asking.{close_by}
 use Rattle.serving.specs.declared.ends.FrameFault.TheVariants as fault
-use Rattle.serving.proofs.OneFrame.{serves, answer_fails, request_fails}
+use Rattle.serving.proofs.OneFrame.{serves, answer_fails, request_fails, some_is}
 use Rattle.serving.proofs.Parts.{given_err}
 use Rattle.serving.proofs.session.Session.serve_frame.Goals as goal
+
+pub spell_answer-requires : goal.spell_answer-requires
+spell_answer-requires g c = record {
+  in_range = λ w is.
+      some_is c.args.frame.version is
+      (c.in_ok-answer.ensures.in_range c.args.frame.version c.request_of-request.ensures.asked);
+}
 
 pub returns-in_err-answer-clause-err : goal.returns-in_err-answer-clause-err
 returns-in_err-answer-clause-err g c =

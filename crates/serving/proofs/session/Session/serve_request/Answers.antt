@@ -1,4 +1,8 @@
-use Rattle.serving.proofs.Answered.{asks, prints, stops, estranges, ignores}
+use Rattle.std.proofs.Common.{ap, ◌∙◌}
+use Rattle.wire.specs.declared.frame.What.TheVariants as what
+use Rattle.serving.specs.Answering.{standing}
+use Rattle.serving.proofs.OneFrame.{in_version}
+use Rattle.serving.proofs.Answered.{asks, prints, inspects, copies, stops, estranges, ignores}
 use Rattle.serving.proofs.session.Session.serve_request.Goals as goal
 
 pub returns-in-Asked-clause-ok : goal.returns-in-Asked-clause-ok
@@ -11,6 +15,17 @@ returns-in-Printed-clause-ok g c =
     c.in-Printed.position
     c.in-Printed.style _ _ _ c.in-Printed.is c.printed.ensures.what
 
+pub returns-in-Inspected-clause-ok : goal.returns-in-Inspected-clause-ok
+returns-in-Inspected-clause-ok g c =
+    let seen = g.D.Desk.seen c.args.node.now in
+    inspects c.args.self.home c.args.request _ _ _ c.in-Inspected.is
+    (c.inspected.ensures.what ∙ ap (λ home. what.Standing (standing home seen)) c.requires.home)
+
+pub returns-in-Copied-clause-ok : goal.returns-in-Copied-clause-ok
+returns-in-Copied-clause-ok g c =
+    copies c.args.self.home c.args.request c.in-Copied.position _ _ _ c.in-Copied.is
+    c.copied.ensures.what
+
 pub returns-in-Stopped-clause-ok : goal.returns-in-Stopped-clause-ok
 returns-in-Stopped-clause-ok g c = stops c.args.self.home c.args.request _ _ c.in-Stopped.is
 
@@ -19,3 +34,11 @@ returns-in-Strange-clause-ok g c = estranges c.args.self.home c.args.request _ _
 
 pub returns-in-Ignored-clause-ok : goal.returns-in-Ignored-clause-ok
 returns-in-Ignored-clause-ok g c = ignores c.args.self.home c.args.request _ _ c.in-Ignored.is
+
+pub returns-in-Asked-clause-in_range : goal.returns-in-Asked-clause-in_range
+returns-in-Asked-clause-in_range g c =
+    λ version asked. in_version version c.asked.ensures.in_range
+
+pub returns-in-Printed-clause-in_range : goal.returns-in-Printed-clause-in_range
+returns-in-Printed-clause-in_range g c =
+    λ version asked. in_version version c.printed.ensures.in_range

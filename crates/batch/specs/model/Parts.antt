@@ -1,0 +1,28 @@
+-- One request for a part of a log.
+use Rattle.std.specs.Prelude.{◌≡◌, ◌++◌, ◌∷◌, [], ℕ, ◌≤◌, List, length, Result, Ok}
+use Rattle.acceptor.specs.declared.entry.Entry.{Entry}
+use Rattle.wire.specs.declared.frame.What.{What}
+use Rattle.batch.specs.Asking.{IsAnswer}
+use Rattle.batch.specs.Dialing.{GoesBy, Way, asked_so}
+use Rattle.batch.specs.Logs.{IsNoPart, IsPart, log_of}
+use Rattle.batch.specs.declared.asking.Receiver.{Receiver}
+use Rattle.batch.specs.declared.fault.BatchFault.{BatchFault}
+
+-- the request for what stands behind these entries was made, and answered by a part that comes
+-- behind them
+pub record AddsPart (w : Way) (r : Receiver) (before : List Entry) (told : ℕ) (after : List Entry)
+    (len : ℕ) : Type 0 where
+  pub answer : What
+  pub entries : List Entry
+  pub goes : GoesBy w (asked_so (log_of r (length before)) (Ok answer) ∷ [])
+  pub comes : IsAnswer (log_of r (length before)) answer
+  pub part : IsPart (length before) told len entries answer
+  pub behind : after ≡ before ++ entries
+  pub most : len ≤ 65536
+
+-- it was made, and no part came
+pub record FailsPart (w : Way) (r : Receiver) (before : List Entry) (told : ℕ) (f : BatchFault)
+    : Type 0 where
+  pub answer : Result What BatchFault
+  pub goes : GoesBy w (asked_so (log_of r (length before)) answer ∷ [])
+  pub fails : IsNoPart f (length before) told answer

@@ -1,0 +1,33 @@
+-- How a client asks a desk where it stands and for its log: both in version 3 of the wire.
+use Rattle.std.specs.Prelude.{◌≡◌, ℕ, true}
+use Rattle.wire.specs.Ranges.{IsFrame}
+use Rattle.wire.specs.declared.frame.Frame.{Frame}
+use Rattle.wire.specs.declared.frame.What.{What}
+use Rattle.wire.specs.declared.frame.What.TheVariants as what
+use Rattle.wire.specs.declared.values.Version.TheVariants.{Three}
+use Rattle.client.specs.Answers.{answers}
+
+-- a request of a client, which is 0, to a desk of a hall, in version 3
+abbrev pub request_in_three : (hall desk : ℕ) → What → Frame
+request_in_three hall desk asked =
+    record { version = Three; hall = hall; from = 0; to = desk; what = asked }
+
+-- where does the desk stand?
+abbrev pub status_request : (hall desk : ℕ) → Frame
+status_request hall desk = request_in_three hall desk what.Status
+
+-- what stands in its log from this position on?
+abbrev pub log_request : (hall desk position : ℕ) → Frame
+log_request hall desk position = request_in_three hall desk (what.Log position)
+
+-- it asks where the desk stands, or for its log
+abbrev pub IsOfThree : What → Type 0
+IsOfThree what.Status = Unit {0}
+IsOfThree (what.Log position) = Unit {0}
+IsOfThree _ = ⊥
+
+-- each frame that answers a Status or a Log is in the version in which it was asked, which is 3
+abbrev pub AnswersInItsVersion : Type 0
+AnswersInItsVersion =
+    (asked given : Frame) → IsFrame asked → IsFrame given → IsOfThree asked.what
+    → answers asked given ≡ true → (asked.version ≡ Three) × (given.version ≡ Three)

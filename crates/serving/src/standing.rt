@@ -1,0 +1,67 @@
+//! How a desk stands, as it answers a client that asks for it.
+
+ghost use Rattle.std.specs.Prelude.{◌≡◌, ◌≤◌};
+ghost use Rattle.std.specs.List.{AllByRecursion};
+ghost use Rattle.wire.specs.Ranges.{AreLengths};
+ghost use Rattle.wire.specs.declared.values.Version.TheVariants.{Three};
+ghost use Rattle.wire.specs.declared.frame.What.TheVariants.{Standing as StandingOf};
+ghost use Rattle.serving.specs.Answering.{IsAnswerIn, lengths_of_hall, promised_of, role_of};
+ghost use Rattle.serving.specs.Answering.{standing};
+
+use acceptor::ballot::Ballot;
+use answers::Desk;
+use proposer::role::Role;
+use wire::{DeskRole, Lengths, Standing, What};
+
+/// What a desk does for a ballot of its own, in a frame's words.
+fn role_of(role: &Role) -> DeskRole
+    ensures { result ≡ role_of role.now }
+{
+    match role {
+        Role::Idle => DeskRole::Idle,
+        Role::Gathering { .. } => DeskRole::Gathering,
+        Role::Proposing { .. } => DeskRole::Proposing,
+        Role::Leading { .. } => DeskRole::Leading,
+    }
+}
+
+/// The highest promised ballot, if any was promised, where a desk of a hall of so many has this one.
+fn promised_of(promised: Ballot) -> Option<Ballot>
+    ensures { result ≡ promised_of promised }
+{
+    if promised.number == 0 {
+        None
+    } else {
+        Some(promised)
+    }
+}
+
+/// What the desks of a hall of so many told of the lengths of their logs.
+fn lengths_of_hall(desks: u8, told: [u32; 5]) -> Lengths
+    requires most { AllByRecursion (λ len. len ≤ 65536) told }
+    ensures lengths { result ≡ lengths_of_hall desks told }
+    ensures in_range { AreLengths result }
+{
+    if desks == 3 {
+        Lengths::OfThree([told[0], told[1], told[2]])
+    } else {
+        Lengths::OfFive(told)
+    }
+}
+
+/// How the desk stands.
+pub fn inspected<D: Desk>(node: &D) -> What
+    ensures what { result ≡ StandingOf (standing (D.home_of node.now) (D.seen node.now)) }
+    ensures in_range { IsAnswerIn Three result }
+{
+    let promised = promised_of(node.promised());
+    What::Standing {
+        standing: Standing {
+            length: node.log().len(),
+            waiting: node.queued(),
+            role: role_of(node.role()),
+            promised,
+            told: lengths_of_hall(node.home().desks, node.told()),
+        },
+    }
+}
