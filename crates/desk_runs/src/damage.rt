@@ -88,7 +88,7 @@ fn put_out_of_range(
     stream.extend_from_slice(&framed(alloc, 1, (7, from, 1), kind, &body)?)
 }
 
-/// The end that random bytes come to, whose fifth is never 1 or 2: their length is bad, they are no
+/// The end that random bytes come to, whose fifth is never 1 to 3: their length is bad, they are no
 /// whole frame, or they have a bad version.
 fn end_of_random(bytes: &[u8]) -> End {
     let [a, b, c, d, ..] = bytes else {
@@ -115,7 +115,7 @@ fn put_bytes(alloc: Global, rng: &mut SplitMix64, stream: &mut Vec<u8>) -> Resul
         }
     }
     if let Some(version) = bytes.get_mut(4) {
-        *version = (*version).max(3);
+        *version = (*version).max(4);
     }
     stream.extend_from_slice(&bytes)?;
     Ok(end_of_random(&bytes))
@@ -139,7 +139,7 @@ pub fn put_damage(
             put_length(rng, stream, length)
         }
         4 => {
-            let version = byte(rng, 3, 200);
+            let version = byte(rng, 4, 200);
             put_changed(alloc, rng, stream, 4, version)?;
             Ok(End::Fault(WireFault::BadVersion))
         }
