@@ -1,0 +1,4 @@
+pub mod Overlaps
+pub mod Holding
+pub mod Fronts
+pub mod Sheets

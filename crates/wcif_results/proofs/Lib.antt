@@ -1,0 +1,12 @@
+pub mod Adding
+pub mod Left
+pub mod Lines
+pub mod ListsFound
+pub mod Depths
+pub mod Texts
+pub mod FilledRounds
+pub mod MeetIds
+pub mod Numerals
+pub mod ReadBack
+pub mod Short
+pub mod Staying

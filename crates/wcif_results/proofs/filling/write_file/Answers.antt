@@ -1,0 +1,21 @@
+use Rattle.std.proofs.Common.{map, codes}
+use Rattle.wcif_results.specs.Filled.{each, filled_event}
+use Rattle.wcif_results.specs.model.Opened.{round_view}
+use Rattle.wcif_results.proofs.Adding.{one_more}
+use Rattle.wcif_results.proofs.Left.{members_left, member_numbers}
+use Rattle.wcif_results.proofs.filling.write_file.Goals as goal
+
+pub write_file_member-requires : goal.write_file_member-requires
+write_file_member-requires c =
+    (member_numbers _ c.loop-member.member-index _ _ c.loop-member-test.true c.member-item.is
+    c.loop-member.invariant.1).0
+
+pub loop-member-preserved : goal.loop-member-preserved
+loop-member-preserved c = (
+  one_more _ _
+      (members_left (codes "events") (each (filled_event (map round_view c.args.rounds.now))) _
+      c.loop-member.member-index _ _ c.loop-member-test.true c.member-item.is)
+      c.loop-member.invariant.0 c.in_ok-write_file_member.ensures,
+  (member_numbers _ c.loop-member.member-index _ _ c.loop-member-test.true c.member-item.is
+      c.loop-member.invariant.1).1,
+)

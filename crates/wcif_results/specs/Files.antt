@@ -1,0 +1,52 @@
+-- A competition's file read, and written with the results of a meet.
+use Rattle.std.specs.Prelude.{◌≡◌, ◌≢◌, ◌≤◌, ◌<◌, ℕ, List, [], length, Some, None}
+use Rattle.std.specs.Str.{IsUtf8}
+use Rattle.json.specs.Json.{Json, document}
+use Rattle.json.specs.Print.{print}
+use Rattle.json.specs.Tree.{depth, json_tokens}
+use Rattle.texts.specs.declared.command.Command.{Command}
+use Rattle.wcif.specs.Files.{most_bytes, most_levels, without_mark}
+use Rattle.wcif_results.specs.declared.exporting.ExportFault.{ExportFault}
+use Rattle.wcif_results.specs.declared.exporting.ExportFault.TheVariants.{TooLong, NotJson, TooDeep}
+use Rattle.wcif_results.specs.declared.exporting.ExportFault.TheVariants.{Refused, NoMemory}
+use Rattle.wcif_results.specs.Faults.{faults}
+use Rattle.wcif_results.specs.Filled.{filled}
+
+-- the file is within the limits, and this is its JSON value
+pub record Holds (bytes : List ℕ) (d : Json) : Type 0 where
+  pub short : length bytes ≤ most_bytes
+  pub utf8 : IsUtf8 (without_mark bytes)
+  pub value : document (without_mark bytes) ≡ Some d
+  pub shallow : depth d ≤ most_levels
+
+-- a text of the value, without white space, that reads back as the value
+pub record IsTextOf (text : List ℕ) (d : Json) : Type 0 where
+  pub printed : text ≡ print (json_tokens d)
+  pub reads_back : document text ≡ Some d
+  pub utf8 : IsUtf8 text
+
+-- the file has a place for all of the meet, and the text is the file with the meet's results
+abbrev pub Exports : List Command → List ℕ → List ℕ → Type 0
+Exports cs bytes text =
+    (d : Json) × Holds bytes d × (faults cs d ≡ []) × IsTextOf text (filled cs d)
+
+-- the fault says that the file is no JSON
+abbrev pub IsNotJson : ExportFault → Type 0
+IsNotJson TooLong = ⊥
+IsNotJson (NotJson line column) = Unit {0}
+IsNotJson TooDeep = ⊥
+IsNotJson (Refused found) = ⊥
+IsNotJson NoMemory = ⊥
+
+-- why nothing is exported
+abbrev pub ExportFails : List Command → List ℕ → ExportFault → Type 0
+ExportFails cs bytes TooLong = most_bytes < length bytes
+ExportFails cs bytes (NotJson line column) =
+    (length bytes ≤ most_bytes)
+    × (IsUtf8 (without_mark bytes) → document (without_mark bytes) ≡ None)
+ExportFails cs bytes TooDeep =
+    (d : Json) × (length bytes ≤ most_bytes) × IsUtf8 (without_mark bytes)
+    × (document (without_mark bytes) ≡ Some d) × (most_levels < depth d)
+ExportFails cs bytes (Refused found) =
+    (d : Json) × Holds bytes d × (found.items ≡ faults cs d) × (faults cs d ≢ [])
+ExportFails cs bytes NoMemory = Unit {0}

@@ -1,0 +1,10 @@
+pub mod Encoding
+pub mod Faults
+pub mod Files
+pub mod Filled
+pub mod Laws
+pub mod MeetRounds
+pub mod MultiBlind
+pub mod Results
+pub mod Written
+pub mod model

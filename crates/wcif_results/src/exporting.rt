@@ -1,0 +1,126 @@
+//! A competition's file with the results of a meet.
+
+ghost use Rattle.std.specs.Prelude.{◌≡◌, ◌≤◌, map, IfOk, IfErr};
+ghost use Rattle.json.specs.Tree.{HasNumbers, depth};
+ghost use Rattle.json.specs.Value.{value_view};
+ghost use Rattle.wcif.specs.Files.{without_mark, most_levels};
+ghost use Rattle.wcif_results.specs.Files.{IsTextOf, IsNotJson, Exports, ExportFails};
+ghost use Rattle.wcif_results.specs.Filled.{filled_file};
+ghost use Rattle.wcif_results.specs.model.Opened.{round_view};
+
+use crate::fault::Fault;
+use crate::faults::faults_of;
+use crate::filling::write_file;
+use crate::meet_rounds::{MeetRound, meet_rounds};
+use crate::nesting::nests_within;
+use attempts::NoMemory;
+use commands::Meet;
+use json::{Error, Scratch, Value, Writer};
+use std::alloc::{AllocError, Global};
+
+/// The most bytes of a file: 64 MiB.
+const MOST_BYTES: usize = 67_108_864;
+
+/// How deep lists and objects may nest in a file.
+const MOST_LEVELS: u32 = 64;
+
+/// Why nothing is exported.
+#[derive(Drop)]
+pub enum ExportFault {
+    /// The file has more than 64 MiB.
+    TooLong,
+    /// The file is no JSON in UTF-8, or nests more than 128 deep. The line and the column are
+    /// counted from 1, in bytes; they are 0 where no place is known.
+    NotJson { line: usize, column: usize },
+    /// Lists and objects nest more than 64 deep.
+    TooDeep,
+    /// The file has no place for this of the meet: one fault at least.
+    Refused(Vec<Fault>),
+    /// Memory ran out.
+    NoMemory,
+}
+
+impl From<AllocError> for ExportFault {
+    ghost use Rattle.wcif_results.specs.declared.exporting.ExportFault.TheVariants as export_fault;
+
+    ghost from_gives = { λ _ fault. fault ≡ export_fault.NoMemory };
+
+    fn from(_: AllocError) -> ExportFault {
+        ExportFault::NoMemory
+    }
+}
+
+/// The file without a byte-order mark at the front.
+#[tactic(auto, unfolding(wcif::specs::Files::without_mark))]
+fn without_mark(bytes: &[u8]) -> &[u8]
+    ensures { result.now ≡ without_mark bytes.now }
+{
+    match bytes.strip_prefix(b"\xef\xbb\xbf".as_slice()) {
+        Some(rest) => rest,
+        None => bytes,
+    }
+}
+
+/// That a text is no JSON, with the place where `serde_json` stops in it.
+fn not_json(alloc: Global, text: &[u8]) -> ExportFault
+    ensures { IsNotJson result }
+{
+    match serde_json::Value::from_slice(alloc, text) {
+        Ok(_) => ExportFault::NotJson { line: 0, column: 0 },
+        Err(error) => ExportFault::NotJson {
+            line: error.line(),
+            column: error.column(),
+        },
+    }
+}
+
+/// The text of a file with the results of these rounds.
+fn text_of(alloc: Global, rounds: &[MeetRound<'_>], file: &Value<'_>) -> Result<Vec<u8>, NoMemory>
+    requires numbers { HasNumbers (value_view file.now) }
+    requires shallow { depth (value_view file.now) ≤ most_levels }
+    ensures { IfOk result (λ text. IsTextOf text.items
+        (filled_file (map round_view rounds.now) (value_view file.now))) }
+{
+    let mut out = Writer::new(Vec::new(alloc));
+    write_file(&mut out, rounds, file)?;
+    Ok(out.into_inner())
+}
+
+/// A competition's file in the WCA Competition Interchange Format with the results of a meet: the
+/// `results` of each round that the meet has are those of the meet.
+///
+/// Every other member stands as it was and where it was: numbers are spelled as they were, texts
+/// have their characters, and members that come twice stay. White space goes, and the shortest
+/// escapes stand in texts. A byte-order mark at the front is dropped.
+///
+/// # Errors
+///
+/// - `TooLong` where the file has more than 64 MiB.
+/// - `NotJson` where it is no JSON in UTF-8.
+/// - `TooDeep` where lists and objects nest more than 64 deep.
+/// - `Refused` where the file lacks a round of the meet, or an entrant's number is no
+///   `registrantId` of its persons: every fault, by rounds in the order of the events' numbers.
+/// - `NoMemory` where memory ran out.
+pub fn export(alloc: Global, bytes: &[u8], meet: &Meet) -> Result<Vec<u8>, ExportFault>
+    ensures ok { IfOk result (λ text. Exports meet.now.accepted bytes.now text.items) }
+    ensures err { IfErr result (ExportFails meet.now.accepted bytes.now) }
+{
+    if bytes.len() > MOST_BYTES {
+        return Err(ExportFault::TooLong);
+    }
+    let mut scratch = Scratch::new(alloc);
+    let file = match Value::from_slice(alloc, without_mark(bytes), &mut scratch) {
+        Ok(file) => file,
+        Err(Error::OutOfMemory) => return Err(ExportFault::NoMemory),
+        Err(_) => return Err(not_json(alloc, without_mark(bytes))),
+    };
+    if !nests_within(&file, MOST_LEVELS) {
+        return Err(ExportFault::TooDeep);
+    }
+    let rounds = meet_rounds(alloc, meet)?;
+    let faults = faults_of(alloc, &rounds, &file)?;
+    if !faults.is_empty() {
+        return Err(ExportFault::Refused(faults));
+    }
+    Ok(text_of(alloc, &rounds, &file)?)
+}

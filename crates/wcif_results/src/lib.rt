@@ -1,0 +1,19 @@
+//! The results of a meet in a competition's file of the WCA Competition Interchange Format.
+#![tactic(auto)]
+
+mod encoding;
+mod exporting;
+mod fault;
+mod faults;
+mod filling;
+mod laws;
+mod meet_rounds;
+mod nesting;
+mod reading;
+mod results;
+
+pub use encoding::{attempt_result, average_result, best_result};
+pub use exporting::{ExportFault, export};
+pub use fault::Fault;
+pub use laws::{multi_blind_is_the_wcas, others_stay, results_read_back, ten_digits_read_back};
+pub use results::write_results;
