@@ -2,7 +2,9 @@
 use Rattle.std.proofs.Common.{◌≡◌, ℕ, ◌+◌, ◌<◌, ◌≤◌, zero, suc, List, [], ◌∷◌, ◌++◌, length, get_or}
 use Rattle.std.proofs.Common.{take, drop, ◌⊎◌, inl, inr, Option, None, Some, refl, sym, ap, ◌∙◌}
 use Rattle.std.proofs.Common.{append_assoc, append-nil, subst, drop-cons, arith, below_more}
-use Rattle.std.specs.Prelude.{Result, Ok, Err, OnErr, slice_get}
+use Rattle.std.proofs.Common.{◌-◌, leb-true, leb-false}
+use Rattle.std.specs.Prelude.{Result, Ok, Err, OnErr, OnOk, slice_get, nat_le, if◌then◌else◌, Bool}
+use Rattle.std.specs.Prelude.{true, false}
 use Rattle.std.specs.List.{All}
 use Rattle.std.specs.Io.KnownBytes.{Appends}
 use Rattle.std.proofs.KnownBytes.{Appends-nil}
@@ -12,11 +14,15 @@ use Rattle.acceptor.specs.Entries.{IsText}
 use Rattle.acceptor.specs.declared.entry.Entry.{Entry}
 use Rattle.lines.specs.Bytes.{Writes, AppendsPart}
 use Rattle.lines.proofs.Inputs.{part_front, waits_more, all_out, part_out, still_waits}
-use Rattle.archive.specs.Archive.{line_of, lines_behind, bytes_of, archive_text}
+use Rattle.archive.specs.Archive.{archive, archive_from, bytes_of, line_of, lines_behind}
+use Rattle.archive.specs.model.Firsts.{piece_from}
 
--- the lines from a position on
-abbrev pub rest_from : ℕ → List Entry → List ℕ
-rest_from pos es = bytes_of (lines_behind (take pos es) (drop pos es))
+-- the lines of the positions from one on, and those of them that are not left out
+abbrev pub lines_from : ℕ → List Entry → List (List ℕ)
+lines_from pos es = lines_behind (take pos es) (drop pos es)
+
+abbrev pub rest_from : (from pos : ℕ) → List Entry → List ℕ
+rest_from from pos es = bytes_of (drop (from - pos) (lines_from pos es))
 
 take-more : (es : List Entry) (k : ℕ) (e : Entry) → slice_get es k ≡ Some e
     → take (suc k) es ≡ take k es ++ e ∷ []
@@ -24,49 +30,77 @@ take-more [] k e h = absurd cc
 take-more (x ∷ es) zero e h = let same : x ≡ e = cc in ap (λ (y : Entry). y ∷ []) same
 take-more (x ∷ es) (suc k) e h = ap (λ (ys : List Entry). x ∷ ys) (take-more es k e h)
 
-rest-next : (pos : ℕ) (es : List Entry) (e : Entry) → slice_get es pos ≡ Some e
-    → rest_from pos es ≡ (line_of (take pos es) e ++ 10 ∷ []) ++ rest_from (pos + 1) es
-rest-next pos es e is =
+lines-next : (pos : ℕ) (es : List Entry) (e : Entry) → slice_get es pos ≡ Some e
+    → lines_from pos es ≡ line_of (take pos es) e ∷ lines_from (pos + 1) es
+lines-next pos es e is =
     let next : suc pos ≡ pos + 1 = omega arith in
-    ap (λ (xs : List Entry). bytes_of (lines_behind (take pos es) xs))
+    ap (λ (xs : List Entry). lines_behind (take pos es) xs)
     (drop-cons es pos e (slice_get_within es pos e is)
     ∙ ap (λ (x : Entry). x ∷ drop (suc pos) es) (get_or_from_slice_get es pos e e is))
-    ∙ ap
-    (λ (b : List Entry).
-    (line_of (take pos es) e ++ 10 ∷ []) ++ bytes_of (lines_behind b (drop (suc pos) es)))
+    ∙ ap (λ (b : List Entry). line_of (take pos es) e ∷ lines_behind b (drop (suc pos) es))
     (sym (take-more es pos e is))
-    ∙ ap (λ (n : ℕ). (line_of (take pos es) e ++ 10 ∷ []) ++ rest_from n es) next
+    ∙ ap (λ (n : ℕ). line_of (take pos es) e ∷ lines_from n es) next
 
-rest-end : (pos : ℕ) (es : List Entry) → length es ≤ pos → rest_from pos es ≡ []
-rest-end pos es past = rw (drop_all pos es past) refl
+-- a line that is left out, or not
+left_out : (n k : ℕ) (line : List ℕ) (more : List (List ℕ)) → n ≡ suc k
+    → bytes_of (drop n (line ∷ more)) ≡ bytes_of (drop k more)
+left_out n k line more is = ap (λ m. bytes_of (drop m (line ∷ more))) is
+
+kept_line : (n k : ℕ) (line : List ℕ) (more : List (List ℕ)) → n ≡ 0 → k ≡ 0
+    → bytes_of (drop n (line ∷ more)) ≡ (line ++ 10 ∷ []) ++ bytes_of (drop k more)
+kept_line n k line more none last =
+    ap (λ m. bytes_of (drop m (line ∷ more))) none
+    ∙ ap (λ m. (line ++ 10 ∷ []) ++ bytes_of (drop m more)) (sym last)
+
+piece-next : (from pos : ℕ) (line : List ℕ) (more : List (List ℕ)) (there : Bool)
+    → nat_le from pos ≡ there
+    → bytes_of (drop (from - pos) (line ∷ more))
+    ≡ (if there then line ++ 10 ∷ [] else []) ++ bytes_of (drop (from - (pos + 1)) more)
+piece-next from pos line more true h =
+    let le : from ≤ pos = leb-true from pos h in
+    kept_line (from - pos) (from - (pos + 1)) line more (omega (arith, le)) (omega (arith, le))
+piece-next from pos line more false h =
+    let lt : pos < from = leb-false from pos h in
+    left_out (from - pos) (from - (pos + 1)) line more (omega (arith, lt))
+
+rest-next : (from pos : ℕ) (es : List Entry) (e : Entry) → slice_get es pos ≡ Some e
+    → rest_from from pos es ≡ piece_from from es pos e ++ rest_from from (pos + 1) es
+rest-next from pos es e is =
+    ap (λ ls. bytes_of (drop (from - pos) ls)) (lines-next pos es e is)
+    ∙ piece-next from pos (line_of (take pos es) e) (lines_from (pos + 1) es) (nat_le from pos) refl
+
+rest-end : (from pos : ℕ) (es : List Entry) → length es ≤ pos → rest_from from pos es ≡ []
+rest-end from pos es past =
+    ap (λ l. bytes_of (drop (from - pos) (lines_behind (take pos es) l))) (drop_all pos es past)
+    ∙ ap bytes_of (drop_all (from - pos) [] (omega arith))
 
 -- the lines in front of a position were written or wait, and their entries' texts are in range
-pub record Archived (es : List Entry) (pos : ℕ) (old new : Option (List ℕ)) (out : List ℕ) : Type 0
-  where
-    pub text : List ℕ
-    pub front : List ℕ
-    pub written : Writes old new text front out
-    pub whole : text ++ rest_from pos es ≡ archive_text es
-    pub short : (k : ℕ) → k < pos → (d : Entry) → IsText (get_or es k d).text
+pub record Archived (from : ℕ) (es : List Entry) (pos : ℕ) (old new : Option (List ℕ))
+    (out : List ℕ) : Type 0 where
+  pub text : List ℕ
+  pub front : List ℕ
+  pub written : Writes old new text front out
+  pub whole : text ++ rest_from from pos es ≡ archive_from from es
+  pub short : (k : ℕ) → k < pos → (d : Entry) → IsText (get_or es k d).text
 
-pub begins : (es : List Entry) (old : Option (List ℕ)) (out : List ℕ) → out ≡ []
-    → Archived es 0 old old out
-begins es old out none = record {
+pub begins : (from : ℕ) (es : List Entry) (old : Option (List ℕ)) (out : List ℕ) → out ≡ []
+    → Archived from es 0 old old out
+begins from es old out none = record {
   text = [];
   front = [];
   written = record { parts = sym none; written = Appends-nil old };
-  whole = refl;
+  whole = ap (λ n. bytes_of (drop n (archive es))) (let k : from - 0 ≡ from = omega arith in k);
   short = λ k less. absurd (omega arith);
 }
 
-pub one_more : (es : List Entry) (pos : ℕ) (e : Entry) (old mid new : Option (List ℕ))
+pub one_more : (from : ℕ) (es : List Entry) (pos : ℕ) (e : Entry) (old mid new : Option (List ℕ))
     (out out' out'' : List ℕ)
-    → Archived es pos old mid out → slice_get es pos ≡ Some e → IsText e.text
-    → out' ≡ out ++ (line_of (take pos es) e ++ 10 ∷ [])
+    → Archived from es pos old mid out → slice_get es pos ≡ Some e → IsText e.text
+    → out' ≡ out ++ piece_from from es pos e
     → (front : List ℕ) × Writes mid new out' front out''
-    → Archived es (pos + 1) old new out''
-one_more es pos e old mid new out out' out'' a is fits said w =
-    let line : List ℕ = line_of (take pos es) e ++ 10 ∷ [] in
+    → Archived from es (pos + 1) old new out''
+one_more from es pos e old mid new out out' out'' a is fits said w =
+    let line : List ℕ = piece_from from es pos e in
     let text : a.text ++ line ≡ a.front ++ out' =
     ap (λ t. t ++ line) a.written.parts
     ∙ append_assoc a.front out line
@@ -77,8 +111,8 @@ one_more es pos e old mid new out out' out'' a is fits said w =
       written =
           waits_more old mid new (a.text ++ line) a.front out' w.0 out'' text a.written.written w.1;
       whole =
-          append_assoc a.text line (rest_from (pos + 1) es)
-          ∙ ap (λ t. a.text ++ t) (sym (rest-next pos es e is))
+          append_assoc a.text line (rest_from from (pos + 1) es)
+          ∙ ap (λ t. a.text ++ t) (sym (rest-next from pos es e is))
           ∙ a.whole;
       short =
           below_more (λ k. (d : Entry) → IsText (get_or es k d).text) pos a.short
@@ -87,50 +121,55 @@ one_more es pos e old mid new out out' out'' a is fits said w =
     }
 
 -- in front of the end there is an entry
-pub no_gap : (es : List Entry) (pos : ℕ) (old new : Option (List ℕ)) (out : List ℕ)
-    → slice_get es pos ≡ None → pos < length es → Archived es (pos + 1) old new out
-no_gap es pos old new out none there = step (slice_get_cases es pos).1
+pub no_gap : (from : ℕ) (es : List Entry) (pos : ℕ) (old new : Option (List ℕ)) (out : List ℕ)
+    → slice_get es pos ≡ None → pos < length es → Archived from es (pos + 1) old new out
+no_gap from es pos old new out none there = step (slice_get_cases es pos).1
   where
     step : ((x : Entry) × (pos < length es) × (slice_get es pos ≡ Some x) × (get_or es pos x ≡ x))
-        ⊎ ((length es ≤ pos) × (slice_get es pos ≡ None)) → Archived es (pos + 1) old new out
+        ⊎ ((length es ≤ pos) × (slice_get es pos ≡ None)) → Archived from es (pos + 1) old new out
     step (inl h) = absurd (let bad : None ≡ Some h.0 = sym none ∙ h.2 in cc)
     step (inr h) = absurd (omega (arith, h.0, there))
 
-part : (es : List Entry) (pos : ℕ) (old mid new : Option (List ℕ)) (out : List ℕ)
-    (a : Archived es pos old mid out) → AppendsPart old new a.text
-    → AppendsPart old new (archive_text es)
-part es pos old mid new out a front =
-    subst (AppendsPart old new) a.whole (part_front old new a.text (rest_from pos es) front)
+part : (from : ℕ) (es : List Entry) (pos : ℕ) (old mid new : Option (List ℕ)) (out : List ℕ)
+    (a : Archived from es pos old mid out) → AppendsPart old new a.text
+    → AppendsPart old new (archive_from from es)
+part from es pos old mid new out a front =
+    subst (AppendsPart old new) a.whole (part_front old new a.text (rest_from from pos es) front)
 
 -- what waits was not written whole
-pub unwritten : (es : List Entry) (pos : ℕ) (old mid new : Option (List ℕ)) (out : List ℕ)
-    → Archived es pos old mid out → AppendsPart mid new out → AppendsPart old new (archive_text es)
-unwritten es pos old mid new out a front =
-    part es pos old mid new out a (part_out old mid new a.text a.front out a.written front)
+pub unwritten : (from : ℕ) (es : List Entry) (pos : ℕ) (old mid new : Option (List ℕ))
+    (out : List ℕ) → Archived from es pos old mid out → AppendsPart mid new out
+    → AppendsPart old new (archive_from from es)
+unwritten from es pos old mid new out a front =
+    part from es pos old mid new out a (part_out old mid new a.text a.front out a.written front)
 
 -- what waits was not written
-pub forgotten : (es : List Entry) (pos : ℕ) (old new : Option (List ℕ)) (out : List ℕ)
-    → Archived es pos old new out → AppendsPart old new (archive_text es)
-forgotten es pos old new out a =
-    part es pos old new new out a (still_waits old new a.text a.front out a.written)
+pub forgotten : (from : ℕ) (es : List Entry) (pos : ℕ) (old new : Option (List ℕ)) (out : List ℕ)
+    → Archived from es pos old new out → AppendsPart old new (archive_from from es)
+forgotten from es pos old new out a =
+    part from es pos old new new out a (still_waits old new a.text a.front out a.written)
 
 -- all lines were written
-pub ends : (es : List Entry) (pos : ℕ) (old mid new : Option (List ℕ)) (out : List ℕ)
-    → Archived es pos old mid out → length es ≤ pos → Appends mid new out
-    → Appends old new (archive_text es)
-ends es pos old mid new out a past last =
-    let text : a.text ≡ archive_text es =
-    sym (append-nil a.text) ∙ ap (λ t. a.text ++ t) (sym (rest-end pos es past)) ∙ a.whole in
+pub ends : (from : ℕ) (es : List Entry) (pos : ℕ) (old mid new : Option (List ℕ)) (out : List ℕ)
+    → Archived from es pos old mid out → length es ≤ pos → Appends mid new out
+    → Appends old new (archive_from from es)
+ends from es pos old mid new out a past last =
+    let text : a.text ≡ archive_from from es =
+    sym (append-nil a.text) ∙ ap (λ t. a.text ++ t) (sym (rest-end from pos es past)) ∙ a.whole in
     subst (Appends old new) text (all_out old mid new a.text a.front out a.written last)
 
-pub all_short : (es : List Entry) (pos : ℕ) (old new : Option (List ℕ)) (out : List ℕ)
-    → Archived es pos old new out → length es ≤ pos → All (λ e. IsText e.text) es
-all_short es pos old new out a past = λ k d less. a.short k (omega arith) d
+pub all_short : (from : ℕ) (es : List Entry) (pos : ℕ) (old new : Option (List ℕ)) (out : List ℕ)
+    → Archived from es pos old new out → length es ≤ pos → All (λ e. IsText e.text) es
+all_short from es pos old new out a past = λ k d less. a.short k (omega arith) d
 
 -- what follows where the lines are not written
 pub if_unwritten : {A E P Q : Type 0} (r : Result A E) → (P → Q) → OnErr r P → OnErr r Q
 if_unwritten (Ok a) f h = h
 if_unwritten (Err e) f h = f h
+
+pub if_written : {A E P Q : Type 0} (r : Result A E) → (P → Q) → OnOk r P → OnOk r Q
+if_written (Ok a) f h = f h
+if_written (Err e) f h = h
 
 pub stopped_by : {A E P : Type 0} (r : Result A E) (e : E) → r ≡ Err e → P → OnErr r P
 stopped_by {A} {E} {P} r e is h = subst (λ x. OnErr x P) (sym is) h

@@ -1,7 +1,7 @@
 -- The archive of a log, a format of this project's own: the lines that `replay` reads in the log's
 -- place.
 use Rattle.std.specs.Prelude.{ℕ, ◌==◌, Bool, not, ◌&&◌, if◌then◌else◌, List, [], ◌∷◌, ◌++◌}
-use Rattle.std.specs.Prelude.{flat_map}
+use Rattle.std.specs.Prelude.{drop, flat_map}
 use Rattle.std.specs.List.{list_any}
 use Rattle.acceptor.specs.declared.entry.Entry.{Entry}
 use Rattle.lines.specs.Lines.{is_line}
@@ -32,3 +32,7 @@ bytes_of lines = flat_map (λ line. line ++ 10 ∷ []) lines
 
 abbrev pub archive_text : List Entry → List ℕ
 archive_text log = bytes_of (archive log)
+
+-- the lines from a position on: those of the positions in front of it are left out
+abbrev pub archive_from : ℕ → List Entry → List ℕ
+archive_from from log = bytes_of (drop from (archive log))

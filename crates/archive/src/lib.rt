@@ -5,4 +5,4 @@ pub mod laws;
 mod writing;
 
 pub use lines::RunFault;
-pub use writing::write_log;
+pub use writing::{write_log, write_log_from};

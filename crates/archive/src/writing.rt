@@ -7,9 +7,9 @@ ghost use Rattle.lines.specs.Bytes.{AppendsPart};
 ghost use Rattle.lines.specs.Lines.{is_line};
 ghost use Rattle.lines.specs.declared.fault.RunFault.TheVariants as run_fault;
 ghost use Rattle.learner.specs.Logs.{position_of};
-ghost use Rattle.archive.specs.Archive.{is_copied, line_of, archive_text};
+ghost use Rattle.archive.specs.Archive.{archive_from, archive_text, is_copied, line_of};
 ghost use Rattle.archive.specs.Replayed.{IsReplayed};
-ghost use Rattle.archive.specs.model.Firsts.{is_at, AddsLine};
+ghost use Rattle.archive.specs.model.Firsts.{is_at, AddsFrom, AddsLine};
 
 use crate::laws::archives_are_replayed;
 use acceptor::NoMemory;
@@ -67,6 +67,63 @@ fn push_line(out: &mut Vec<u8>, log: &Log, pos: u32, entry: &Entry) -> Result<()
     out.extend_from_slice(b"\n")
 }
 
+/// Adds the line of the entry at a position, and a line feed, where the position is not in front of
+/// `from`.
+fn push_from(
+    out: &mut Vec<u8>,
+    log: &Log,
+    from: u32,
+    pos: u32,
+    entry: &Entry,
+) -> Result<(), NoMemory>
+    ensures line { OnOk result
+        (AddsFrom from log.now.entries pos entry.now out.old.items out.new.items) }
+    ensures short { IsText entry.now.text }
+{
+    // That the text is short is said by the contract of this call.
+    let _ = entry.text();
+    if from <= pos {
+        push_line(out, log, pos, entry)
+    } else {
+        Ok(())
+    }
+}
+
+/// Writes a line for each position of a log from `from` on: the text of the entry there, where its
+/// id stands there for the first time in the whole log and the text has no line feed, else an empty
+/// one. A line feed ends each. Where the log ends at `from` or before, nothing is written.
+///
+/// After the lines of the positions in front of `from` these are the lines of [`write_log`].
+///
+/// # Errors
+///
+/// `Write` where a write fails, and `NoMemory` where memory runs out: a front part of the lines is
+/// written.
+pub fn write_log_from<W: Write>(
+    alloc: Global,
+    log: &Log,
+    from: u32,
+    writer: &mut W,
+) -> Result<(), RunFault>
+    ensures ok { OnOk result (Appends (W.contents writer.old) (W.contents writer.new)
+        (archive_from from log.now.entries)) }
+    ensures replayed { OnOk result (IsReplayed log.now.entries) }
+    ensures err { OnErr result (AppendsPart (W.contents writer.old) (W.contents writer.new)
+        (archive_from from log.now.entries)) }
+    ensures fault { IfErr result (λ e. (e ≡ run_fault.Write) ⊎ (e ≡ run_fault.NoMemory)) }
+{
+    archives_are_replayed();
+    let mut out = Vec::new(alloc);
+    for pos in 0..log.len() {
+        let Some(entry) = log.entry(pos) else {
+            continue;
+        };
+        push_from(&mut out, log, from, pos, entry)?;
+        write_long(writer, &mut out)?;
+    }
+    write_out(writer, &mut out)
+}
+
 /// Writes a line for each position of a log: the text of the entry there, where its id stands there
 /// for the first time and the text has no line feed, else an empty one. A line feed ends each.
 ///
@@ -86,14 +143,5 @@ pub fn write_log<W: Write>(alloc: Global, log: &Log, writer: &mut W) -> Result<(
         (archive_text log.now.entries)) }
     ensures fault { IfErr result (λ e. (e ≡ run_fault.Write) ⊎ (e ≡ run_fault.NoMemory)) }
 {
-    archives_are_replayed();
-    let mut out = Vec::new(alloc);
-    for pos in 0..log.len() {
-        let Some(entry) = log.entry(pos) else {
-            continue;
-        };
-        push_line(&mut out, log, pos, entry)?;
-        write_long(writer, &mut out)?;
-    }
-    write_out(writer, &mut out)
+    write_log_from(alloc, log, 0, writer)
 }

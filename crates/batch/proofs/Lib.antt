@@ -3,4 +3,5 @@ pub mod Connections
 pub mod Entered
 pub mod Going
 pub mod Trying
+pub mod Newest
 pub mod Parts

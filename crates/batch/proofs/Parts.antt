@@ -27,11 +27,11 @@ pub record IsGoing (r : Receiver) (log : List Entry) (told : ℕ) (asked : List 
 
 -- ---- what an answer to a Log has
 
-value_or : What → Result What ClientFault → What
+pub value_or : What → Result What ClientFault → What
 value_or other (Ok w) = w
 value_or other (Err e) = other
 
-judged_is : (w answer : What) (own : Bool) → judged_what w own ≡ Ok answer
+pub judged_is : (w answer : What) (own : Bool) → judged_what w own ≡ Ok answer
     → (w ≡ answer) × (own ≡ true)
 unfolding value_or
 judged_is (what.Refused refusal) answer own h =
@@ -42,7 +42,7 @@ judged_is w answer false h =
     let none : Result What ClientFault = Err client.NoAnswer in
     absurd (let k : none ≡ Ok answer = h in cc)
 
-last_of : (a b c : Bool) → (a && b && c) ≡ true → c ≡ true
+pub last_of : (a b c : Bool) → (a && b && c) ≡ true → c ≡ true
 last_of true true c h = h
 last_of true false c h = absurd (let k : false ≡ true = h in cc)
 last_of false b c h = absurd (let k : false ≡ true = h in cc)

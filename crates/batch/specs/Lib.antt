@@ -2,4 +2,5 @@ pub mod Asking
 pub mod Dialing
 pub mod Entering
 pub mod Logs
+pub mod Newest
 pub mod model

@@ -1,5 +1,5 @@
 //! Requests to a desk, one after the other over connections that are kept; many commands that are
-//! entered at one, a line each; and the log of one, part after part.
+//! entered at one, a line each; the log of one, part after part; and the newest sheet of a round.
 #![tactic(auto)]
 
 mod asking;
@@ -9,6 +9,7 @@ mod fault;
 mod keeping;
 mod lines_entered;
 mod log_asked;
+mod newest_asked;
 
 pub use asking::Receiver;
 pub use dialing::{Contact, Dial, Ending};
@@ -16,3 +17,4 @@ pub use fault::BatchFault;
 pub use keeping::ask_over;
 pub use lines_entered::{Batch, enter_lines};
 pub use log_asked::ask_log;
+pub use newest_asked::{RoundSheet, ask_newest};

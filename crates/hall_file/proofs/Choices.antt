@@ -127,6 +127,12 @@ same_value : (name : List ℕ) (ms ns : Members) (d e : Data) → ms ≡ ns → 
 same_value name ms ns d e same one other =
     same_Some d e (sym one ∙ ap (get_member name) same ∙ other)
 
+-- a list of texts is one of these texts alone
+pub same_texts_of : (texts desks : List (List ℕ))
+    → list_of (map string texts) ≡ list_of (map string desks) → desks ≡ texts
+same_texts_of texts desks e =
+    sym (same_strings texts desks (same_lists (map string texts) (map string desks) e))
+
 pub one_hall : (bytes : List ℕ) (hall other : ℕ) (desks others : List (List ℕ))
     → SaysHall bytes hall desks → SaysHall bytes other others → (hall ≡ other) × (desks ≡ others)
 one_hall bytes hall other desks others a b =

@@ -2,9 +2,10 @@
 use Rattle.std.specs.Prelude.{◌≡◌, ℕ, zero, suc, List, map, Option, Some, None, String, Vec}
 use Rattle.std.specs.Prelude.{string_bytes, slice_get}
 use Rattle.std.specs.declared.alloc.Global.{Global}
-use Rattle.toml.specs.Data.{Data, Members, get_member}
+use Rattle.toml.specs.Data.{Data, Members, get_member, string}
+use Rattle.hall_file.specs.Addresses.{AreAddresses}
 use Rattle.hall_file.specs.Files.{SaysHall}
-use Rattle.hall_file.specs.Members.{desks_name, SaysDesks}
+use Rattle.hall_file.specs.Members.{desks_name, list_of, SaysDesks}
 use Rattle.hall_file.specs.declared.hall_file.HallFile.{HallFile}
 
 -- the addresses of the desks
@@ -15,6 +16,16 @@ texts_of file = map string_bytes file.desks.items
 abbrev pub address_at : List (List ℕ) → ℕ → Option (List ℕ)
 address_at texts zero = None
 address_at texts (suc n) = slice_get texts n
+
+-- texts as the list of a file
+abbrev pub data_of : List (List ℕ) → Data
+data_of texts = list_of (map string texts)
+
+-- the hall has this number, and its desks listen at these texts, which are addresses
+pub record HasDesks (hall : ℕ) (texts : List (List ℕ)) (file : HallFile) : Type 0 where
+  pub number : file.hall ≡ hall
+  pub desks : texts_of file ≡ texts
+  pub addresses : AreAddresses texts
 
 -- the bytes say this hall
 abbrev pub Says : List ℕ → HallFile → Type 0

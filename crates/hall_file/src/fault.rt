@@ -112,8 +112,10 @@ impl<T: Drop> From<AllocFailed<T>> for HallFault {
 
 /// Why the addresses of a hall's desks are not had.
 #[derive(Drop)]
-pub(crate) enum DesksStop {
+pub enum DesksStop {
+    /// They are no addresses of a hall's desks.
     Fault(DesksFault),
+    /// Memory ran out.
     NoMemory,
 }
 

@@ -13,7 +13,7 @@ use std::alloc::Global;
 use toml::Table;
 
 /// The most bytes of a file: 8 KiB.
-pub(crate) const MOST_BYTES: usize = 8_192;
+pub const MOST_BYTES: usize = 8_192;
 
 /// The document that a file is.
 fn open_document(alloc: Global, bytes: &[u8]) -> Result<Table, HallFault>

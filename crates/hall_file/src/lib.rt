@@ -7,14 +7,16 @@ mod file;
 mod hall_file;
 mod laws;
 mod line;
+mod making;
 mod members;
 mod opening;
 mod printing;
 
 pub use address::is_address;
-pub use fault::{DesksFault, HallFault, HallNumberFault, Member};
-pub use file::read_hall;
+pub use fault::{DesksFault, DesksStop, HallFault, HallNumberFault, Member};
+pub use file::{MOST_BYTES, read_hall};
 pub use hall_file::HallFile;
 pub use laws::{says_one_hall, says_or_is_refused};
+pub use making::hall_of_addresses;
 pub use opening::{OpenFault, read_hall_at};
 pub use printing::print_hall;

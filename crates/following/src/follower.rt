@@ -1,0 +1,366 @@
+//! Which desk is followed, and what is to be done.
+
+ghost use Rattle.std.specs.Prelude.{◌≡◌, ◌≤◌};
+ghost use Rattle.following.specs.Following.{IsPlace, new_following, action_of, after_action};
+ghost use Rattle.following.specs.Following.{after_opened, after_answer, after_lost, wait_of};
+ghost use Rattle.following.specs.Following.{is_over, left_of, is_free, pace_left, is_silent};
+ghost use Rattle.following.specs.Following.{is_useless, is_connected, is_stopped, may_open};
+ghost use Rattle.following.specs.Following.{may_ask, last_of, stage_wait, answered_stage};
+ghost use Rattle.following.specs.Following.{is_behind_for, behind_from, behind_wait, next_desk};
+ghost use Rattle.following.specs.Following.{is_to_be_left};
+
+use crate::stages::{Action, Stage};
+use mirror::Taken;
+use std::marker::Model;
+
+/// The least time from one question to the next, in milliseconds.
+const PACE: u64 = 250;
+
+/// How long a desk may be silent, and how long it may be behind, in milliseconds.
+const PATIENCE: u64 = 2000;
+
+const BEHIND: u64 = 5000;
+
+/// Whether so many milliseconds have gone since then.
+fn is_over(now: u64, since: u64, millis: u64) -> bool
+    ensures { result ≡ is_over now since millis }
+{
+    now.saturating_sub(since) >= millis
+}
+
+/// What is left of so many milliseconds from then on.
+fn left_of(now: u64, since: u64, millis: u64) -> u64
+    ensures left { result ≡ left_of now since millis }
+    ensures most { result ≤ millis }
+{
+    millis.saturating_sub(now.saturating_sub(since))
+}
+
+/// Whether a quarter of a second has gone since then.
+fn is_free(last: Option<u64>, now: u64) -> bool
+    ensures { result ≡ is_free last now }
+{
+    match last {
+        None => true,
+        Some(since) => is_over(now, since, PACE),
+    }
+}
+
+/// What is left of the quarter of a second from then on.
+fn pace_left(last: Option<u64>, now: u64) -> u64
+    ensures left { result ≡ pace_left last now }
+    ensures most { result ≤ 250 }
+{
+    match last {
+        None => 0,
+        Some(since) => left_of(now, since, PACE),
+    }
+}
+
+/// Whether the desk has been silent for two seconds.
+fn is_silent(stage: Stage, now: u64) -> bool
+    ensures { result ≡ is_silent stage now }
+{
+    match stage {
+        Stage::Opening { since } | Stage::Asked { since } => is_over(now, since, PATIENCE),
+        _ => false,
+    }
+}
+
+/// Whether the connection is of no use.
+fn is_useless(stage: Stage) -> bool
+    ensures { result ≡ is_useless stage }
+{
+    matches!(stage, Stage::Useless { .. })
+}
+
+/// Whether nothing is asked any more.
+fn is_stopped(stage: Stage) -> bool
+    ensures { result ≡ is_stopped stage }
+{
+    matches!(stage, Stage::Stopped)
+}
+
+/// Whether there is a connection, or one is being opened.
+fn is_connected(stage: Stage) -> bool
+    ensures { result ≡ is_connected stage }
+{
+    !matches!(stage, Stage::Closed { .. } | Stage::Stopped)
+}
+
+/// Whether a connection may be opened now.
+fn may_open(stage: Stage, now: u64) -> bool
+    ensures { result ≡ may_open stage now }
+{
+    match stage {
+        Stage::Closed { last } => is_free(last, now),
+        _ => false,
+    }
+}
+
+/// Whether the desk may be asked now.
+fn may_ask(stage: Stage, now: u64) -> bool
+    ensures { result ≡ may_ask stage now }
+{
+    match stage {
+        Stage::Opened { .. } => true,
+        Stage::Answered { last } => is_free(last, now),
+        _ => false,
+    }
+}
+
+/// The time from which the pace counts.
+fn last_of(stage: Stage) -> Option<u64>
+    ensures { result ≡ last_of stage }
+{
+    match stage {
+        Stage::Closed { last } | Stage::Answered { last } => last,
+        Stage::Opening { since } | Stage::Opened { since } | Stage::Asked { since } => Some(since),
+        Stage::Useless { last } => Some(last),
+        Stage::Stopped => None,
+    }
+}
+
+/// How long it is until something is due in this stage.
+fn stage_wait(stage: Stage, now: u64) -> u64
+    ensures wait { result ≡ stage_wait stage now }
+    ensures soon { result ≤ 2000 }
+{
+    match stage {
+        Stage::Closed { last } | Stage::Answered { last } => pace_left(last, now),
+        Stage::Opening { since } | Stage::Asked { since } => left_of(now, since, PATIENCE),
+        Stage::Opened { .. } | Stage::Useless { .. } | Stage::Stopped => 0,
+    }
+}
+
+/// Whether the desk has been behind for five seconds.
+fn is_behind_for(behind: Option<u64>, now: u64) -> bool
+    ensures { result ≡ is_behind_for behind now }
+{
+    match behind {
+        None => false,
+        Some(since) => is_over(now, since, BEHIND),
+    }
+}
+
+/// How long it is until the desk has been behind for five seconds.
+fn behind_wait(behind: Option<u64>, now: u64) -> u64
+    ensures { result ≡ behind_wait behind now }
+{
+    match behind {
+        None => BEHIND,
+        Some(since) => left_of(now, since, BEHIND),
+    }
+}
+
+/// What the connection has come to with an answer to the question of this time: so many entries
+/// are held, and the desk's log is so long.
+fn answered_stage(taken: Option<Taken>, since: u64, held: u32, length: u32) -> Stage
+    ensures { result ≡ answered_stage taken since held length }
+{
+    let goes_on = held < length;
+    match taken {
+        Some(Taken::Differs { .. }) => Stage::Stopped,
+        Some(Taken::Gap) => Stage::Useless { last: since },
+        Some(Taken::Known) if goes_on => Stage::Useless { last: since },
+        Some(Taken::Grew) if goes_on => Stage::Answered { last: None },
+        Some(Taken::Known) | Some(Taken::Grew) | None => Stage::Answered { last: Some(since) },
+    }
+}
+
+/// Says which desk of a hall is asked for its log, from where and when. Its caller asks it again
+/// and again what is to be done (`act`), does it, and says what came of it.
+///
+/// One desk is followed at a time, the first at the beginning. A connection to it is opened and
+/// kept, and the desk is asked over it for what its log has beyond the entries that are held: a
+/// quarter of a second after the question before, or at once after an answer that brought new
+/// entries and left some of the log. The next desk is followed, after the last one the first, where
+/// a connection isn't opened in two seconds, a question isn't answered in two seconds, the desk has
+/// told for five seconds logs that are shorter than one that was told or than what is held, an
+/// answer brings nothing though the log goes on, or the connection is lost. Connections, too, are
+/// opened a quarter of a second after the last question or opening.
+///
+/// A contract sees the number of desks and the number of the one that is followed, what the
+/// connection has come to, how many entries are held, how long the longest log is that was told,
+/// and since when the desk is behind. Times are milliseconds of a clock that doesn't go back; where
+/// it does, the follower waits longer.
+#[derive(Drop)]
+pub struct Follower {
+    desks: u8,
+    desk: u8,
+    stage: Stage,
+    held: u32,
+    most: u32,
+    behind: Option<u64>,
+}
+
+impl Model for Follower {
+    ghost use Rattle.following.specs.Following.{Following, IsPlace};
+
+    ghost Value = { Following };
+
+    ghost view = { λ f. record {
+      desks = f.desks;
+      desk = f.desk;
+      stage = f.stage;
+      held = f.held;
+      most = f.most;
+      behind = f.behind;
+    } };
+
+    ghost invariant = { λ f. IsPlace f.desk f.desks };
+}
+
+impl Follower {
+    /// A follower of so many desks, 1 to 5, where so many entries are held. The first desk comes
+    /// first.
+    pub fn new(desks: u8, held: u32) -> Follower
+        requires { IsPlace 1 desks }
+        ensures { result ≡ new_following desks held }
+    {
+        Follower {
+            desks,
+            desk: 1,
+            stage: Stage::Closed { last: None },
+            held,
+            most: 0,
+            behind: None,
+        }
+    }
+
+    /// What is to be done now. It counts as begun.
+    pub fn act(&mut self, now: u64) -> Action
+        ensures action { result ≡ action_of self.old now }
+        ensures after { self.new ≡ after_action self.old now }
+    {
+        let action = self.action(now);
+        match action {
+            Action::Rest | Action::Stop => {}
+            Action::Open { .. } => self.stage = Stage::Opening { since: now },
+            Action::Ask { .. } => self.stage = Stage::Asked { since: now },
+            Action::Close { .. } => self.go_on(),
+        }
+        action
+    }
+
+    /// What is to be done now.
+    fn action(&self, now: u64) -> Action
+        ensures { result ≡ action_of self.now now }
+    {
+        let desk = self.desk;
+        if is_stopped(self.stage) {
+            Action::Stop
+        } else if self.is_to_be_left(now) {
+            Action::Close { desk }
+        } else if may_open(self.stage, now) {
+            Action::Open { desk }
+        } else if may_ask(self.stage, now) {
+            Action::Ask {
+                desk,
+                position: self.held,
+            }
+        } else {
+            Action::Rest
+        }
+    }
+
+    /// Whether the connection is to be closed and the next desk to be followed.
+    fn is_to_be_left(&self, now: u64) -> bool
+        ensures { result ≡ is_to_be_left self.now now }
+    {
+        is_connected(self.stage)
+            && (is_useless(self.stage)
+                || is_silent(self.stage, now)
+                || is_behind_for(self.behind, now))
+    }
+
+    /// Follows the next desk, without a connection.
+    fn go_on(&mut self)
+        ensures { self.new ≡ next_desk self.old }
+    {
+        self.desk = if self.desk == self.desks {
+            1
+        } else {
+            self.desk + 1
+        };
+        self.stage = Stage::Closed {
+            last: last_of(self.stage),
+        };
+        self.behind = None;
+    }
+
+    /// Says that the connection that was being opened is open. Where none was, nothing changes.
+    pub fn opened(&mut self)
+        ensures { self.new ≡ after_opened self.old }
+    {
+        if let Stage::Opening { since } = self.stage {
+            self.stage = Stage::Opened { since };
+        }
+    }
+
+    /// Says that the desk answered the question with entries of its log, which is so long, and what
+    /// came of them: what `mirror::Mirror::take` returned, None where it was refused memory, and
+    /// how many entries are held after it.
+    ///
+    /// Entries that differ from those that are held stop the follower for good. Otherwise, where no
+    /// question was asked or it was answered already, nothing changes.
+    pub fn answered(&mut self, now: u64, taken: Option<Taken>, held: u32, length: u32)
+        ensures { self.new ≡ after_answer self.old now taken held length }
+    {
+        if let Some(Taken::Differs { .. }) = taken {
+            self.stage = Stage::Stopped;
+            return;
+        }
+        if let Stage::Asked { since } = self.stage {
+            let is_behind = length < self.most.max(held);
+            self.stage = answered_stage(taken, since, held, length);
+            self.held = held;
+            self.most = self.most.max(length);
+            self.behind = if is_behind {
+                self.behind.or(Some(now))
+            } else {
+                None
+            };
+        }
+    }
+
+    /// Says that the connection is lost: it couldn't be opened, it failed, the desk ended it, or
+    /// what came over it is no answer. The next desk is followed. Where there was no connection,
+    /// nothing changes.
+    pub fn lost(&mut self)
+        ensures { self.new ≡ after_lost self.old }
+    {
+        if is_connected(self.stage) {
+            self.go_on();
+        }
+    }
+
+    /// In how many milliseconds something is due, if no other call is made: at most 2,000, and 0
+    /// where something is due already.
+    pub fn wait(&self, now: u64) -> u64
+        ensures wait { result ≡ wait_of self.now now }
+        ensures soon { result ≤ 2000 }
+    {
+        let wait = stage_wait(self.stage, now);
+        if is_connected(self.stage) {
+            wait.min(behind_wait(self.behind, now))
+        } else {
+            wait
+        }
+    }
+
+    /// The number of the desk that is followed, 1 to 5.
+    pub fn desk(&self) -> u8
+        ensures desk { result ≡ self.now.desk }
+        ensures place { IsPlace result self.now.desks }
+    {
+        self.desk
+    }
+
+    /// What the connection has come to.
+    pub fn stage(&self) -> Stage
+        ensures { result ≡ self.now.stage }
+    {
+        self.stage
+    }
+}

@@ -1,0 +1,5 @@
+pub mod Adding
+pub mod Depths
+pub mod Joined
+pub mod Left
+pub mod MeaningTokens

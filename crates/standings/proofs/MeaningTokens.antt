@@ -1,0 +1,47 @@
+-- The tokens of what the answers come to.
+use Rattle.std.proofs.Common.{◌≡◌, ◌<◌, ◌≤◌, ap, ◌∙◌, ℕ, Bool, List, ◌∷◌, codes, flat_map}
+use Rattle.std.proofs.Common.{length, subst, sym}
+use Rattle.json.specs.Json.{Members, boolean, member, no_members}
+use Rattle.json.specs.Token.{Token, begin_array}
+use Rattle.json.specs.Tree.{items_tokens, json_tokens, members_tokens}
+use Rattle.json.specs.Value.{items_of}
+use Rattle.standings.specs.AsJson.{lag_of, lags_json, meaning_members, natural}
+use Rattle.standings.specs.AsText.{in_order as is_in_order}
+use Rattle.standings.specs.Standings.{answered, every_desk, is_majority, size_of, status_of}
+use Rattle.standings.specs.declared.polled.Polled.{Polled}
+
+pub lags_tokens : (polled : List Polled) (desks : List ℕ) → desks ≡ every_desk
+    → begin_array ∷ items_tokens (items_of (flat_map (lag_of polled) desks))
+    ≡ json_tokens (lags_json polled)
+lags_tokens polled desks is =
+    ap (λ ds. begin_array ∷ items_tokens (items_of (flat_map (lag_of polled) ds))) is
+
+-- an index of the desks' numbers, and the end of them
+pub within_five : (desks : List ℕ) (i : ℕ) → desks ≡ every_desk → i < 5 → i < length desks
+within_five desks i is h = subst (λ ds. i < length ds) (sym is) h
+
+pub past_five : (desks : List ℕ) (i : ℕ) → desks ≡ every_desk → 5 ≤ i → length desks ≤ i
+past_five desks i is h = subst (λ ds. length ds ≤ i) (sym is) h
+
+-- the tokens of the members with these values
+abbrev pub tokens_with : List Polled → (size n : ℕ) (majority in_order : Bool) (status : ℕ)
+    → List Token
+tokens_with polled size n majority in_order status =
+    members_tokens (member (codes "size") (natural size) (member (codes "answered") (natural n)
+    (member (codes "majority") (boolean majority) (member (codes "in_order") (boolean in_order)
+    (member (codes "behind") (lags_json polled) (member (codes "status") (natural status)
+    no_members))))))
+
+pub meaning_tokens : (polled : List Polled) (size n : ℕ) (majority in_order : Bool) (status : ℕ)
+    → size ≡ size_of polled → n ≡ answered polled → majority ≡ is_majority polled
+    → in_order ≡ is_in_order polled → status ≡ status_of polled
+    → tokens_with polled size n majority in_order status ≡ members_tokens (meaning_members polled)
+meaning_tokens polled size n majority in_order status hs hn hm ho ht =
+    ap (λ k. tokens_with polled k n majority in_order status) hs
+    ∙ ap (λ k. tokens_with polled (size_of polled) k majority in_order status) hn
+    ∙ ap (λ b. tokens_with polled (size_of polled) (answered polled) b in_order status) hm
+    ∙ ap
+    (λ b. tokens_with polled (size_of polled) (answered polled) (is_majority polled) b status) ho
+    ∙ ap
+    (λ k. tokens_with polled (size_of polled) (answered polled) (is_majority polled)
+    (is_in_order polled) k) ht

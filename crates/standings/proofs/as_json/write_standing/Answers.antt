@@ -1,0 +1,13 @@
+use Rattle.standings.proofs.Adding.{then, wrote, wrote_last, on_ok}
+use Rattle.standings.proofs.as_json.write_standing.Goals as goal
+
+pub returns : goal.returns
+returns c =
+    on_ok c.end_object.result
+    (λ last. then (wrote c.in_ok-key.ensures) (then c.in_ok-write_byte.ensures (then (wrote
+    c.in_ok-key-2.ensures) (then c.in_ok-write_role.ensures (then (wrote c.in_ok-key-3.ensures)
+    (then c.in_ok-write_natural.ensures (then (wrote c.in_ok-key-4.ensures) (then
+    c.in_ok-write_byte-2.ensures (then (wrote c.in_ok-key-5.ensures) (then
+    c.in_ok-write_promised.ensures (then (wrote c.in_ok-key-6.ensures) (then
+    c.in_ok-write_told.ensures last))))))))))))
+    (wrote_last c.end_object.result c.end_object.ensures)

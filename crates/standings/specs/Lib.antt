@@ -1,0 +1,5 @@
+pub mod Standings
+pub mod AsText
+pub mod AsJson
+pub mod Reports
+pub mod Written

@@ -1,0 +1,113 @@
+-- What the answers of a hall's desks come to.
+use Rattle.std.specs.Prelude.{ℕ, ◌+◌, ◌-◌, ◌*◌, ◌/◌, ◌==◌, Bool, false, not, List, [], ◌∷◌}
+use Rattle.std.specs.Prelude.{count_by, fold, if◌then◌else◌, length, map, max, nat_lt}
+use Rattle.std.specs.List.{list_any}
+use Rattle.wire.specs.declared.standing.Lengths.{Lengths}
+use Rattle.wire.specs.declared.standing.Lengths.TheVariants.{OfThree, OfFive}
+use Rattle.wire.specs.Spelling.{lengths_of}
+use Rattle.standings.specs.declared.polled.Polled.{Polled}
+use Rattle.standings.specs.declared.polled.Reply.{Reply}
+use Rattle.standings.specs.declared.polled.Reply.TheVariants.{Stands, Earlier}
+
+-- the numbers that a desk can have
+abbrev pub every_desk : List ℕ
+every_desk = 1 ∷ 2 ∷ 3 ∷ 4 ∷ 5 ∷ []
+
+-- the greatest of these numbers, 0 where there is none
+abbrev pub greatest : List ℕ → ℕ
+greatest ns = fold max 0 ns
+
+-- ---- one answer
+
+abbrev pub desks_of : Lengths → ℕ
+desks_of (OfThree lengths) = 3
+desks_of (OfFive lengths) = 5
+
+-- how many desks the hall has, as a reply says, or 0
+abbrev pub desks_told : Reply → ℕ
+desks_told (Stands desk standing) = desks_of standing.told
+desks_told _ = 0
+
+-- the desk of this number answered, and said how it stands or not
+abbrev pub is_from : ℕ → Reply → Bool
+is_from desk (Stands other standing) = other == desk
+is_from desk (Earlier other) = other == desk
+is_from desk _ = false
+
+-- the desk of this number said how it stands
+abbrev pub stands_as : ℕ → Reply → Bool
+stands_as desk (Stands other standing) = other == desk
+stands_as desk _ = false
+
+-- the length of the log of the desk of this number, where it said how it stands, or 0
+abbrev pub length_as : ℕ → Reply → ℕ
+length_as desk (Stands other standing) = if other == desk then standing.length else 0
+length_as desk _ = 0
+
+-- the greatest length of a log that a reply tells, of the desk's own or of another's
+abbrev pub newest_told : Reply → ℕ
+newest_told (Stands desk standing) = max standing.length (greatest (lengths_of standing.told))
+newest_told _ = 0
+
+-- ---- all answers
+
+-- the greatest number of desks that one of them says the hall has, or 0
+abbrev pub most_told : List Polled → ℕ
+most_told polled = greatest (map (λ p. desks_told p.reply) polled)
+
+-- how many desks the hall has: as one of them says, and where none does, as many as were asked
+abbrev pub size_of : List Polled → ℕ
+size_of polled = if most_told polled == 0 then length polled else most_told polled
+
+-- the desk of this number answered, at whichever address
+abbrev pub answers : List Polled → ℕ → Bool
+answers polled desk = list_any (λ p. is_from desk p.reply) polled
+
+-- it said how it stands
+abbrev pub stands : List Polled → ℕ → Bool
+stands polled desk = list_any (λ p. stands_as desk p.reply) polled
+
+-- how many desks answered, and how many said how they stand, each counted once
+abbrev pub answered : List Polled → ℕ
+answered polled = count_by (answers polled) every_desk
+
+abbrev pub standing_count : List Polled → ℕ
+standing_count polled = count_by (stands polled) every_desk
+
+-- the length of the log of the desk of this number, as it said
+abbrev pub length_at : List Polled → ℕ → ℕ
+length_at polled desk = greatest (map (λ p. length_as desk p.reply) polled)
+
+-- the length of the longest log that is known
+abbrev pub newest : List Polled → ℕ
+newest polled = greatest (map (λ p. newest_told p.reply) polled)
+
+-- how many commands a desk that said how it stands lacks of that log
+abbrev pub behind_by : List Polled → ℕ → ℕ
+behind_by polled desk =
+    if stands polled desk then newest polled - length_at polled desk else 0
+
+abbrev pub is_behind : List Polled → ℕ → Bool
+is_behind polled desk = not (behind_by polled desk == 0)
+
+-- a desk that said how it stands lacks commands
+abbrev pub some_behind : List Polled → Bool
+some_behind polled = list_any (is_behind polled) every_desk
+
+-- more than half of the desks answered
+abbrev pub is_majority : List Polled → Bool
+is_majority polled = nat_lt (size_of polled) (answered polled * 2)
+
+-- how many more desks have to answer for a majority
+abbrev pub missing : List Polled → ℕ
+missing polled = size_of polled / 2 + 1 - answered polled
+
+-- how many desks of the hall were not asked
+abbrev pub unasked : List Polled → ℕ
+unasked polled = size_of polled - length polled
+
+-- the exit status: 0 where a majority answered and no desk is known to lack commands, 1 where a
+-- majority answered, else 3
+abbrev pub status_of : List Polled → ℕ
+status_of polled =
+    if is_majority polled then (if some_behind polled then 1 else 0) else 3

@@ -1,0 +1,33 @@
+//! What came of asking a desk how it stands.
+
+use wire::{ClientRefusal, Standing};
+
+/// What came of asking a desk how it stands.
+#[derive(Clone, Copy, Debug)]
+pub enum Reply {
+    /// The desk of this number, 1 to 5, stands so. It is another one than was asked for where the
+    /// addresses are not in the order of the desks.
+    Stands { desk: u8, standing: Standing },
+    /// The desk of this number, 1 to 5, answers other requests, and not this one: it is of an
+    /// earlier program.
+    Earlier { desk: u8 },
+    /// Nobody answers at the address.
+    CannotConnect,
+    /// The connection ended, and the bytes that came are not the answer.
+    NoAnswer,
+    /// The desk was waited for as long as is wanted, and there is no answer.
+    Late,
+    /// The desk refused.
+    Refused { refusal: ClientRefusal },
+}
+
+/// A desk that was asked.
+#[derive(Clone, Copy, Debug)]
+pub struct Polled<'a> {
+    /// The number of the desk that was asked for, at least 1.
+    pub asked: u8,
+    /// Where it was asked.
+    pub address: &'a str,
+    /// What came of it.
+    pub reply: Reply,
+}
