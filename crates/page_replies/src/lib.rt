@@ -1,0 +1,10 @@
+//! What a browser is answered: a page, that it has the page already, or why there is none.
+#![tactic(auto)]
+
+mod page;
+mod replies;
+mod tags;
+
+pub use page::Page;
+pub use replies::{is_fresh, reply};
+pub use tags::{entity_tag, names};
