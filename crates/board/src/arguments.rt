@@ -223,18 +223,18 @@ fn desk_of_hall<'a>(rt: &HostRuntime, found: &ArgMatches<'a>) -> Result<AskedDes
 
 /// The desk that is asked.
 fn desk_of<'a>(rt: &HostRuntime, found: &ArgMatches<'a>) -> Result<AskedDesk, Mistake<'a>> {
-    match found.get_str("hall") {
-        Some(_) => desk_of_words(rt, found),
-        None => desk_of_hall(rt, found),
+    if found.get_str("hall").is_none() {
+        return desk_of_hall(rt, found);
     }
+    desk_of_words(rt, found)
 }
 
 /// How many seconds the board waits for a browser.
 fn patience_of<'a>(found: &ArgMatches<'_>) -> Result<u64, Mistake<'a>> {
-    match found.get_str("patience") {
-        Some(_) => number_at(found, "patience"),
-        None => Ok(PATIENCE),
+    if found.get_str("patience").is_none() {
+        return Ok(PATIENCE);
     }
+    number_at(found, "patience")
 }
 
 /// What the arguments ask for.
