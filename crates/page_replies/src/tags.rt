@@ -1,7 +1,7 @@
 //! Entity tags (RFC 9110, sections 8.8.3 and 13.1.2).
 
-ghost use Rattle.std.specs.Prelude.{◌≡◌, IfOk, false};
-ghost use Rattle.http_header.specs.FieldValue.{plain_value};
+ghost use Rattle.std.specs.Prelude.{◌≡◌, IfOk, IsErrOf, false};
+ghost use Rattle.http_header.specs.FieldValue.{IsFieldValue, plain_value};
 ghost use Rattle.page_replies.specs.Tags.{begins, is_listed, is_open_after, names, tag_text};
 
 use http::HeaderValue;
@@ -29,7 +29,9 @@ pub fn entity_tag(
     position: u64,
     name: &[u8],
 ) -> Result<HeaderValue, HeaderValueError>
-    ensures { IfOk result (λ tag. tag ≡ plain_value (tag_text position name.now)) }
+    ensures tag { IfOk result (λ tag. tag ≡ plain_value (tag_text position name.now)) }
+    ensures invalid { IsErrOf result HeaderValueError.Invalid
+        → ¬ (IsFieldValue (tag_text position name.now)) }
 {
     match tag_bytes(alloc, position, name) {
         Ok(bytes) => HeaderValue::from_vec(bytes),
