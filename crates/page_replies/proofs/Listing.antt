@@ -1,5 +1,6 @@
 -- A tag that is looked for in a list of tags.
-use Rattle.std.proofs.Common.{◌≡◌, ◌<◌, ◌+◌, ℕ, Bool, true, false, ◌||◌, List, [], ◌∷◌, drop, get_or, length, sym, ap, subst, ◌∙◌, add-one, drop-cons}
+use Rattle.std.proofs.Common.{◌≡◌, ◌<◌, ◌+◌, ℕ, Bool, true, false, ◌||◌, List, [], ◌∷◌, drop}
+use Rattle.std.proofs.Common.{get_or, length, sym, ap, subst, ◌∙◌, add-one, drop-cons}
 use Rattle.page_replies.specs.Tags.{begins, is_listed, is_open_after}
 
 at_place : (xs : List ℕ) (i : ℕ) → i < length xs → drop i xs ≡ get_or xs i 0 ∷ drop (i + 1) xs

@@ -38,7 +38,8 @@ pub fn is_fresh(request: &Request<Bytes>, tag: &HeaderValue) -> bool
 /// One line of text as the body.
 fn tell(response: &mut Response, line: &'static [u8]) -> Result<(), AllocError>
     ensures status { response.new.status ≡ response.old.status }
-    ensures headers { OnOk result (fields_of response.new ≡ fields_of response.old ++ text_field ∷ []) }
+    ensures headers { OnOk result
+        (fields_of response.new ≡ fields_of response.old ++ text_field ∷ []) }
     ensures body { OnOk result (response.new.body.items ≡ response.old.body.items ++ line.now) }
 {
     let kind = HeaderValue::from_static("text/plain; charset=utf-8");
