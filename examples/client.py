@@ -3,9 +3,14 @@
 library alone. Its words, output, fault lines and statuses are those of `desk`; where the words are
 not understood it says so in one line:
 
-    examples/client.py enter --hall 7 --desk 1 --to 127.0.0.1:7001 5 'ENT 333 1'
-    examples/client.py ask   --hall 7 --desk 1 --to 127.0.0.1:7001 5
-    examples/client.py sheet --hall 7 --desk 1 --to 127.0.0.1:7001 333 1 5 --csv
+    examples/client.py enter  --hall 7 --desk 1 --to 127.0.0.1:7001 5 'ENT 333 1'
+    examples/client.py ask    --hall 7 --desk 1 --to 127.0.0.1:7001 5
+    examples/client.py sheet  --hall 7 --desk 1 --to 127.0.0.1:7001 333 1 5 --csv
+    examples/client.py log    --hall 7 --desk 1 --to 127.0.0.1:7001 --from 5
+    examples/client.py status --hall 7 --to 127.0.0.1:7001 127.0.0.1:7002 127.0.0.1:7003
+
+`sheet` without a position gives the newest sheet. Files of halls it does not read, and `enter` does
+not wait.
 """
 
 import argparse
@@ -14,6 +19,7 @@ import socket
 import struct
 import sys
 import time
+from argparse import Namespace
 
 EVENTS = """333 222 444 555 666 777 333bf 333fm 333oh clock minx pyram skewb sq1 444bf
 555bf 333mbf""".split()
@@ -21,9 +27,10 @@ CODES = """Done Unread Repeat UnknownCompetitor NameTaken RoundUnknown RoundOpen
 FormatNotAllowed CutoffNotAllowed LimitNotAllowed NoScramble ScrambleThere WrongOutcome Closed
 Already Full NotEntered OutOfOrder NoMoreAttempts NoSuchAttempt CutoffLost Unfinished""".split()
 REFUSALS = "Busy LogFull BallotsSpent NoMemory Down NotThere NoSuchRound Foreign".split()
-SUBMIT, ASK, SHEET, TICK, STOP = 16, 17, 18, 19, 20
-TAKEN, TOLD, SHEET_TEXT, REFUSED, FINE = 32, 33, 34, 35, 36
-FIRST, SECOND, CLIENT = 1, 2, 0  # versions of the wire; a client's number
+ROLES = "idle gathering proposing leading".split()
+SUBMIT, ASK, SHEET, TICK, STOP, STATUS, LOG = 16, 17, 18, 19, 20, 21, 22
+TAKEN, TOLD, SHEET_TEXT, REFUSED, FINE, STANDING, ENTRIES = 32, 33, 34, 35, 36, 37, 38
+FIRST, SECOND, THIRD, CLIENT = 1, 2, 3, 0  # versions of the wire; a client's number
 LEAST, MOST = 8, 300_000  # the values of a frame's length
 NO_ANSWER = "no answer", 4
 NOT_UNDERSTOOD = 2  # the status, at wrong words and at `--help`
@@ -84,7 +91,7 @@ def exchange(given, kind, body, wanted, spoken=FIRST):
             raise Fault(*NO_ANSWER)
         inside = read_exactly(stream, length, wait)
     version, of_hall, sender, to, got = struct.unpack(">BIBBB", inside[:8])
-    if version not in (FIRST, SECOND):
+    if version not in (FIRST, SECOND, THIRD):
         raise Fault(*NO_ANSWER)
     fields = inside[8:]
     if (to, got, len(fields)) == (CLIENT, REFUSED, 1) and 1 <= fields[0] <= 8:
@@ -114,11 +121,112 @@ def ask(given):
     return b"done %d %d %s\n" % (given.id, position, CODES[told[13]].encode())
 
 
+def standing(given):
+    """How a desk stands: its role, the length of its log, its queue, and what it was told."""
+    fields = exchange(given, STATUS, b"", STANDING, THIRD)
+    try:
+        length, waiting, role, _, _, desks = struct.unpack(">IBBIBB", fields[:12])
+        return ROLES[role], length, waiting, struct.unpack(f">{desks}I", fields[12:])
+    except (struct.error, IndexError):
+        raise Fault(*NO_ANSWER) from None
+
+
 def sheet(given):
     event = EVENTS.index(given.event) + 1
-    body = struct.pack(">BBIB", event, given.round, given.position, given.csv)
+    position = standing(given)[1] if given.position is None else given.position
+    body = struct.pack(">BBIB", event, given.round, position, given.csv)
     asked = given, SHEET, body, SHEET_TEXT
     return exchange(*asked, FIRST if event <= 16 else SECOND)
+
+
+def part_of_log(given, position):
+    """The length of a desk's log, and its entries from a position on, as many as come at once."""
+    fields = exchange(given, LOG, struct.pack(">I", position), ENTRIES, THIRD)
+    try:
+        start, length, count = struct.unpack(">IIH", fields[:10])
+        entries, rest = [], fields[10:]
+        for _ in range(count):
+            number, size = struct.unpack(">QH", rest[:10])
+            entries.append((number, rest[10:10 + size]))
+            rest = rest[10 + size:]
+    except struct.error:
+        raise Fault(*NO_ANSWER) from None
+    if start != position or rest:
+        raise Fault(*NO_ANSWER)
+    return length, entries
+
+
+def log(given):
+    """The lines that a replay reads: a text where its id comes for the first time, else nothing."""
+    entries, length = [], 0
+    while not length or len(entries) < length:
+        told, more = part_of_log(given, len(entries))
+        if told < length or not more and len(entries) < told:
+            raise Fault(*NO_ANSWER)  # a log only grows
+        length, entries = told, entries + more
+        if not length:
+            break
+    seen, lines = set(), []
+    for number, text in entries:
+        lines.append(b"" if number in seen or b"\n" in text else text)
+        seen.add(number)
+    return b"".join(line + b"\n" for line in lines[getattr(given, "from"):])
+
+
+def met(given, number, address, question):
+    """What is said of the desk of a number, the number of the desk that answers, and how it stands.
+    Who is foreign may be another one of the hall."""
+    said = "refused Foreign", None, None
+    for desk in [number, *(it for it in range(1, 6) if it != number)]:
+        asked = Namespace(hall=given.hall, desk=desk, to=address, patience=given.patience, id=1)
+        try:
+            answer = question(asked)
+        except Fault as fault:
+            said = fault.args[0], None, None
+            if said[0] != "refused Foreign":
+                return said
+            continue
+        name = "" if desk == number else f"this is desk {desk}  "
+        if question is ask:
+            return name + "an earlier program", desk, None
+        role, length, waiting, _ = answer
+        noun = "command" if length == 1 else "commands"
+        return f"{name}{role}  {length} {noun}  {waiting} waiting", desk, answer
+    return said
+
+
+def status(given):
+    """A line for each desk, and one for what they mean. The status is 0 where a majority answered
+    and none lacks a command, 1 where a majority answered, and else 3."""
+    rows = []
+    for number, address in enumerate(given.to, 1):
+        row = met(given, number, address, standing)
+        if row[0] == "no answer":
+            row = met(given, number, address, ask)
+        said = "no answer in time" if row[0].startswith("no answer from") else row[0]
+        rows.append((said, *row[1:]))
+    answers = {desk: how for _, desk, how in rows if how}
+    count = len({desk for _, desk, _ in rows if desk})
+    size = max((len(how[3]) for how in answers.values()), default=len(rows))
+    most = max((max(how[1], *how[3]) for how in answers.values()), default=0)
+    lines = [f"desk {number} of {size}  {row[0]}  {address}"
+             for number, (row, address) in enumerate(zip(rows, given.to), 1)]
+    if any(row[1] not in (None, number) for number, row in enumerate(rows, 1)):
+        lines.append("the addresses are not in the order of the desks")
+    lags = [(desk, most - how[1]) for desk, how in sorted(answers.items()) if how[1] < most]
+    late = "; ".join(f"desk {desk} is {lag} command{'s' * (lag != 1)} behind" for desk, lag in lags)
+    front = f"{count} of {size} desks answer{'s' * (count == 1)}: "
+    if 2 * count <= size:
+        missing, unasked = size // 2 + 1 - count, size - len(rows)
+        more = "another one runs" if missing == 1 else f"{missing} more run"
+        what = f"{unasked} {'was' if unasked == 1 else 'were'} not asked"
+        lines.append(front + (what if unasked else f"nothing is decided until {more}"))
+    elif len(answers) < size:
+        lines.append(front + "the hall goes on" + (late and "; " + late))
+    else:
+        lines.append(late or f"all {size} desks have all {most} command{'s' * (most != 1)}")
+    given.status = 3 if 2 * count <= size else int(bool(lags))
+    return "".join(line + "\n" for line in lines).encode()
 
 
 def bare(kind, given):
@@ -160,12 +268,18 @@ def in_range(low, high):
 def words():
     parser = Words(description="Asks a desk.")
     does = parser.add_subparsers(required=True)
-    for run in (enter, ask, sheet, tick, stop):
+    for run in (enter, ask, sheet, tick, stop, log, status):
         word = does.add_parser(run.__name__)
-        word.set_defaults(run=run)
+        word.set_defaults(run=run, status=0)
         word.add_argument("--hall", type=in_range(0, 2**32 - 1), required=True)
-        word.add_argument("--desk", type=in_range(0, 255), required=True)
-        word.add_argument("--to", required=True, metavar="ADDR")
+        if run is status:
+            word.set_defaults(desk=1)
+            word.add_argument("--to", required=True, metavar="ADDR", nargs="+")
+        else:
+            word.add_argument("--desk", type=in_range(0, 255), required=True)
+            word.add_argument("--to", required=True, metavar="ADDR")
+        if run is log:
+            word.add_argument("--from", type=in_range(0, 65_536), default=0)
         word.add_argument("--patience", type=in_range(1, 3600), default=10, metavar="SECONDS")
         if run in (enter, ask):
             word.add_argument("id", type=in_range(1, 2**63 - 1))
@@ -174,9 +288,12 @@ def words():
         if run is sheet:
             word.add_argument("event", choices=EVENTS)
             word.add_argument("round", type=in_range(1, 4))
-            word.add_argument("position", type=in_range(0, 2**32 - 1))
+            word.add_argument("position", type=in_range(0, 2**32 - 1), nargs="?")
             word.add_argument("--csv", action="store_true")
-    return parser.parse_args()
+    given = parser.parse_args()
+    if given.run is status and len(given.to) > 5:
+        parser.error("a hall has at most five desks")
+    return given
 
 
 def write(text):
@@ -194,10 +311,10 @@ def main():
             raise Fault("bad desk number", 3)
         write(given.run(given))
     except Fault as fault:
-        text, status = fault.args
+        text, number = fault.args
         print(text, file=sys.stderr)
-        return status
-    return 0
+        return number
+    return given.status
 
 
 if __name__ == "__main__":

@@ -77,16 +77,16 @@ some_imported = record {
 
 up : (own : Text) (rest : List Text) (t : ReplayTask)
     → AsksReplay (own ∷ codes "replay" ∷ rest) t
-    → Asks (own ∷ codes "replay" ∷ rest) (task.Replay t.event t.round t.style)
-up own rest t (p, (name, rows, found, named, is)) =
+    → Asks (own ∷ codes "replay" ∷ rest) (task.Replay t.event t.round t.style t.only_sheet)
+up own rest t (p, (name, rows, found, named, (round, printed, alone))) =
     let both : Parsers = record { replay = p; sheet = p; imported = some_imported } in
-    (both, (name, rows, read_alike both own rest ∙ found, (named, is.0, is.1)))
+    (both, (name, rows, read_alike both own rest ∙ found, (named, round, printed, alone)))
 
 down : (own : Text) (rest : List Text) (t : ReplayTask)
-    → Asks (own ∷ codes "replay" ∷ rest) (task.Replay t.event t.round t.style)
+    → Asks (own ∷ codes "replay" ∷ rest) (task.Replay t.event t.round t.style t.only_sheet)
     → AsksReplay (own ∷ codes "replay" ∷ rest) t
-down own rest t (p, (name, rows, found, (named, round, printed))) =
-    (p.replay, (name, rows, sym (read_alike p own rest) ∙ found, named, (round, printed)))
+down own rest t (p, (name, rows, found, (named, round, printed, alone))) =
+    (p.replay, (name, rows, sym (read_alike p own rest) ∙ found, named, (round, printed, alone)))
 
 pub asked_alike : ReplayIsAskedAlike
 asked_alike = λ own rest t. (up own rest t, down own rest t)

@@ -5,7 +5,8 @@ use Rattle.clap.specs.Words.{Row, Text, first_of, first_value, rows_of}
 use Rattle.clap.specs.declared.parser.matches.Found.{Found}
 use Rattle.clap.proofs.WalkLemmas.{first_value-rows}
 use Rattle.arguments.specs.Arguments.{IsNumberAt}
-use Rattle.arguments.specs.Asking.{Finds, HasId, HasIds, IsRequest, IsTask}
+use Rattle.arguments.specs.Asking.{Finds, HasId, HasIds, IsEntered, IsRequest, IsTask}
+use Rattle.wire.specs.Ranges.{IsId}
 use Rattle.arguments.specs.declared.task.Request.{Request}
 use Rattle.arguments.specs.declared.task.Request.TheVariants as request
 use Rattle.arguments.specs.declared.task.Task.{Task}
@@ -23,12 +24,13 @@ pub is_given : (f : Found) (id : Text) (r : Option (Bor Text)) (t : Bor Text)
 is_given f id None t h is none = cc
 is_given f id (Some u) t h is none = let there = h ∙ first_value-rows f id ∙ none in cc
 
-pub finds_named : (found : Option (Text × List Row)) (name : Text) (rows : List Row)
-    (t : Option Task)
-    → found ≡ Some (name, rows) → IfSome t (λ t. IsTask t name rows)
-    → IfSome t (λ t. Finds found t)
-finds_named found name rows None is h = tt
-finds_named found name rows (Some t) is h = (name, rows, is, h)
+-- what was given is what is found
+pub some_found : (f : Found) (id : Text) (r : Option (Bor Text)) (t : Bor Text)
+    → option_map (λ s. s.now) r ≡ first_value f id → r ≡ Some t
+    → first_of id (rows_of f) ≡ Some t.now
+some_found f id None t h is = cc
+some_found f id (Some u) t h is =
+    sym (first_value-rows f id) ∙ sym h ∙ ap (option_map (λ (s : Bor Text). s.now)) is
 
 -- the subcommand has another spelling of its name
 pub task_renamed : (name other : Text) (rows : List Row) (t : Option Task) → name ≡ other
@@ -51,18 +53,28 @@ renumbered_if id rows None n is h = tt
 renumbered_if id rows (Some m) n is h = renumbered id rows m n is h
 
 request_ids : (r : Request) (name : Text) (rows : List Row) → IsRequest r name rows → HasId r
-request_ids (request.Enter id text) name rows h = h.1
 request_ids (request.Ask id) name rows h = h.1
 request_ids (request.Sheet event round position style) name rows h = tt
 request_ids request.Tick name rows h = tt
 request_ids request.Stop name rows h = tt
 
+entered_ids : (id : Option ℕ) (text : Text) (rows : List Row) → IsEntered id text rows
+    → IfSome id IsId
+entered_ids None text rows h = tt
+entered_ids (Some id) text rows h = h.0
+
 -- what was found has its ids in their range
 pub found_ids : (found : Option (Text × List Row)) (t : Task) → Finds found t → HasIds t
-found_ids found (task.Replay event round style) h = tt
+found_ids found (task.Replay event round style only_sheet) h = tt
 found_ids found (task.Import file options) h = tt
 found_ids found (task.Hall desks) h = tt
-found_ids found (task.EnterLines contact batch) h = tt
+found_ids found (task.HallFile hall addresses) h = tt
+found_ids found (task.Carry place patience request) h = request_ids request h.0 h.1 h.3.0
+found_ids found (task.Newest place patience event round style) h = tt
+found_ids found (task.Enter place patience id text waits) h = entered_ids id text.now h.1 h.3.2
+found_ids found (task.EnterLines place patience lines) h = h.3.2.first_id.in_range
 found_ids found (task.Log store) h = tt
+found_ids found (task.CopyLog place patience start) h = tt
+found_ids found (task.Status desks patience json watches) h = tt
 found_ids found (task.Serve service) h = tt
-found_ids found (task.Carry errand) h = request_ids errand.request h.0 h.1 h.3.request
+found_ids found (task.ServeHall file wanted) h = tt

@@ -1,7 +1,8 @@
 -- What the arguments of the program ask for, as its parser reads them: `clap` says which argument
 -- is the value of which name.
-use Rattle.std.specs.Prelude.{◌≡◌, true, false, ℕ, List, [], ◌∷◌, codes, map, Option, None, Some}
-use Rattle.clap.specs.Words.{App, Row, Text, all_of, first_of, new_app, one_of, subcommand_of}
+use Rattle.std.specs.Prelude.{◌≡◌, ◌≤◌, true, false, Bool, ℕ, List, [], ◌∷◌, codes, length, map}
+use Rattle.std.specs.Prelude.{Option, None, Some, IfSome}
+use Rattle.clap.specs.Words.{App, Row, Text, all_of, first_of, new_app, subcommand_of}
 use Rattle.clap.specs.Words.{with_rule, with_subcommand}
 use Rattle.wire.specs.declared.values.SheetStyle.{SheetStyle}
 use Rattle.wire.specs.declared.values.SheetStyle.TheVariants as asked
@@ -14,14 +15,20 @@ use Rattle.wcif.specs.declared.options.CumulativeLimits.TheVariants as limits
 use Rattle.wcif.specs.declared.options.SameNames.{SameNames}
 use Rattle.wcif.specs.declared.options.SameNames.TheVariants as names
 use Rattle.wcif.specs.declared.options.Options.{Options}
-use Rattle.arguments.specs.Arguments.{IsFlag, IsGiven, IsNumberAt, IsNumberOr, any_text, csv_rule}
-use Rattle.arguments.specs.Arguments.{IsOneOf, optional_value_rule, home_arguments}
-use Rattle.arguments.specs.Arguments.{errand_arguments, flag_rule, numbers, option_rule}
-use Rattle.arguments.specs.Arguments.{optional_rule, value_rule, values_rule, wait_rule}
-use Rattle.batch.specs.declared.dialing.Contact.{Contact}
-use Rattle.batch.specs.declared.lines_entered.Batch.{Batch}
+use Rattle.arguments.specs.Arguments.{IsFlag, IsGiven, IsNumberAt, IsNumberOr, IsOneOf, IsTextOr}
+use Rattle.arguments.specs.Arguments.{any_text, bound, csv_rule, errand_arguments, explain_rule}
+use Rattle.arguments.specs.Arguments.{flag_rule, last_value_rule, located_arguments, numbers}
+use Rattle.arguments.specs.Arguments.{option_rule, optional_rule, optional_value_rule}
+use Rattle.arguments.specs.Arguments.{optional_values_rule, several, value_rule, values_rule}
+use Rattle.arguments.specs.Arguments.{wait_seconds_rule}
+use Rattle.service.specs.declared.Making.TheVariants.{AsNeeded}
 use Rattle.service.specs.declared.Service.{Service}
-use Rattle.arguments.specs.declared.task.Errand.{Errand}
+use Rattle.arguments.specs.declared.places.Desks.{Desks}
+use Rattle.arguments.specs.declared.places.Desks.TheVariants as desks
+use Rattle.arguments.specs.declared.places.Place.{Place}
+use Rattle.arguments.specs.declared.places.Place.TheVariants as place
+use Rattle.arguments.specs.declared.task.HallService.{HallService}
+use Rattle.arguments.specs.declared.task.Lines.{Lines}
 use Rattle.arguments.specs.declared.task.Request.{Request}
 use Rattle.arguments.specs.declared.task.Request.TheVariants as request
 use Rattle.arguments.specs.declared.task.Task.{Task}
@@ -34,20 +41,41 @@ pub use Rattle.replay_arguments.specs.Asking.{IsRound, IsPrinted}
 abbrev pub hall_arguments : App
 hall_arguments = with_rule (new_app (codes "hall")) (value_rule (codes "desks") (numbers 0 255))
 
+abbrev pub hall_file_arguments : App
+hall_file_arguments =
+    with_rule (with_rule (new_app (codes "hall-file"))
+    (option_rule (codes "hall") (numbers 0 4294967295)))
+    (values_rule (codes "addr") any_text)
+
 abbrev pub serve_arguments : App
 serve_arguments =
-    with_rule (with_rule (with_rule (with_rule (with_rule (with_rule
-    (with_rule (home_arguments (codes "serve"))
+    with_rule (with_rule (with_rule (with_rule (with_rule (with_rule (with_rule (with_rule
+    (with_rule (with_rule (located_arguments (codes "serve"))
+    (option_rule (codes "desk") (numbers 0 255)))
     (option_rule (codes "store") any_text))
+    (bound (flag_rule (codes "new"))))
     (optional_rule (codes "patience") 1 86400))
     (optional_rule (codes "connections") 1 1000000))
     (optional_rule (codes "wire") 1 2))
     (optional_rule (codes "tick") 100 60000))
     (flag_rule (codes "quiet")))
-    (values_rule (codes "addr") any_text)
+    explain_rule)
+    (bound (optional_values_rule (codes "addr") any_text))
 
 abbrev pub log_arguments : App
-log_arguments = with_rule (new_app (codes "log")) (option_rule (codes "store") any_text)
+log_arguments =
+    with_rule (with_rule (errand_arguments (codes "log"))
+    (bound (optional_value_rule (codes "store") any_text)))
+    (optional_rule (codes "from") 0 65536)
+
+abbrev pub status_arguments : App
+status_arguments =
+    with_rule (with_rule (with_rule (with_rule (with_rule (located_arguments (codes "status"))
+    (bound (several 1 5 (optional_value_rule (codes "to") any_text))))
+    wait_seconds_rule)
+    (flag_rule (codes "json")))
+    (flag_rule (codes "watch")))
+    explain_rule
 
 -- how cumulative limits and how same names are imported, as it is typed
 abbrev pub as_single : List Text
@@ -72,15 +100,19 @@ import_arguments p =
 
 abbrev pub enter_arguments : App
 enter_arguments =
-    with_rule (with_rule (errand_arguments (codes "enter"))
-    (value_rule (codes "id") (numbers 1 9223372036854775807)))
-    (value_rule (codes "text") any_text)
+    with_rule (with_rule (with_rule (errand_arguments (codes "enter"))
+    (flag_rule (codes "wait")))
+    (value_rule (codes "first") any_text))
+    (last_value_rule (codes "second") any_text)
 
 abbrev pub lines_arguments : App
 lines_arguments =
-    with_rule (with_rule (errand_arguments (codes "enter-lines"))
-    (option_rule (codes "first-id") (numbers 1 9223372036854775807)))
-    wait_rule
+    with_rule (with_rule (with_rule (with_rule (with_rule (errand_arguments (codes "enter-lines"))
+    (optional_rule (codes "first-id") 1 9223372036854775807))
+    (flag_rule (codes "wait")))
+    (flag_rule (codes "progress")))
+    (flag_rule (codes "stop-at-refusal")))
+    (flag_rule (codes "send-all"))
 
 abbrev pub ask_arguments : App
 ask_arguments =
@@ -92,7 +124,7 @@ sheet_arguments p =
     with_rule (with_rule (with_rule (with_rule (errand_arguments (codes "sheet"))
     (value_rule (codes "event") p.events))
     (value_rule (codes "round") p.rounds))
-    (value_rule (codes "position") (numbers 0 4294967295)))
+    (last_value_rule (codes "position") (numbers 0 4294967295)))
     csv_rule
 
 -- the texts that are accepted at `replay`, at `sheet` and at `import`
@@ -105,11 +137,13 @@ abbrev pub desk_arguments : Parsers → App
 desk_arguments p =
     with_subcommand (with_subcommand (with_subcommand (with_subcommand (with_subcommand
     (with_subcommand (with_subcommand (with_subcommand (with_subcommand (with_subcommand
-    (with_subcommand named_app
+    (with_subcommand (with_subcommand (with_subcommand named_app
     (replay_arguments p.replay).top)
     (import_arguments p.imported).top)
     hall_arguments.top)
+    hall_file_arguments.top)
     serve_arguments.top)
+    status_arguments.top)
     log_arguments.top)
     enter_arguments.top)
     lines_arguments.top)
@@ -120,16 +154,17 @@ desk_arguments p =
 
 -- ---- what their values say
 
+-- whether a sheet is asked for as a table
+abbrev pub is_table : SheetStyle → Bool
+is_table asked.Table = true
+is_table asked.Text = false
+
 -- whether `--csv` is there
-pub record IsAsked (rows : List Row) (style : SheetStyle) : Type 0 where
-  pub table : one_of (codes "csv") rows ≡ Some (codes "true") → style ≡ asked.Table
-  pub text : one_of (codes "csv") rows ≡ Some (codes "false") → style ≡ asked.Text
+abbrev pub IsAsked : List Row → SheetStyle → Type 0
+IsAsked rows style = IsFlag (codes "csv") rows (is_table style)
 
 -- the subcommand of this name with these values makes the request
 abbrev pub IsRequest : Request → Text → List Row → Type 0
-IsRequest (request.Enter id text) name rows =
-    (name ≡ codes "enter") × IsId id × IsNumberAt (codes "id") rows id
-    × (first_of (codes "text") rows ≡ Some text.now)
 IsRequest (request.Ask id) name rows =
     (name ≡ codes "ask") × IsId id × IsNumberAt (codes "id") rows id
 IsRequest (request.Sheet event round position style) name rows =
@@ -138,17 +173,62 @@ IsRequest (request.Sheet event round position style) name rows =
 IsRequest request.Tick name rows = name ≡ codes "tick"
 IsRequest request.Stop name rows = name ≡ codes "stop"
 
--- where a desk is asked, and for how many seconds it is waited for, 10 where none are given
-pub record IsContact (c : Contact) (rows : List Row) : Type 0 where
-  pub address : first_of (codes "to") rows ≡ Some c.address.now
-  pub patience : IsNumberOr (codes "patience") 10 rows c.patience
+-- the file of a hall that is given, or else `hall.toml`; the hall has no number beside it, and there
+-- is no value of this argument, which has the address of a desk
+pub record IsHallFile (file : Text) (address : Text) (rows : List Row) : Type 0 where
+  pub file_is : IsTextOr (codes "config") (codes "hall.toml") rows file
+  pub no_hall : first_of (codes "hall") rows ≡ None
+  pub no_address : first_of address rows ≡ None
 
--- and is for this desk of this hall at this address
-pub record IsErrand (e : Errand) (name : Text) (rows : List Row) : Type 0 where
-  pub hall : IsNumberAt (codes "hall") rows e.hall
-  pub desk : IsNumberAt (codes "desk") rows e.desk
-  pub contact : IsContact e.contact rows
-  pub request : IsRequest e.request name rows
+-- the number of a hall; there is no file beside it
+pub record IsHall (hall : ℕ) (rows : List Row) : Type 0 where
+  pub number : IsNumberAt (codes "hall") rows hall
+  pub no_file : first_of (codes "config") rows ≡ None
+
+-- which desk is asked, and where: that of a hall at an address, or one of a file's
+abbrev pub IsPlace : Place → List Row → Type 0
+IsPlace (place.Desk hall desk address) rows =
+    IsHall hall rows × IsNumberAt (codes "desk") rows desk
+    × (first_of (codes "to") rows ≡ Some address.now)
+IsPlace (place.File file desk) rows =
+    IsHallFile file.now (codes "to") rows × IsGiven (codes "desk") rows desk
+
+-- and for how many seconds it is waited for, 10 where none are given
+pub record IsPlaced (p : Place) (patience : ℕ) (rows : List Row) : Type 0 where
+  pub place : IsPlace p rows
+  pub seconds : IsNumberOr (codes "patience") 10 rows patience
+
+-- all values of an argument, from one to five
+pub record AreFew (id : Text) (texts : List Text) (rows : List Row) : Type 0 where
+  pub given : all_of id rows ≡ Some texts
+  pub some : 1 ≤ length texts
+  pub few : length texts ≤ 5
+
+-- which desks are asked, and where: those of a hall at these addresses, or a file's
+abbrev pub AreDesks : Desks → List Row → Type 0
+AreDesks (desks.Addresses hall addresses) rows =
+    IsHall hall rows × AreFew (codes "to") (map (λ a. a.now) addresses.now) rows
+AreDesks (desks.File file) rows = IsHallFile file.now (codes "to") rows
+
+-- a command's id and its text, or its text alone
+abbrev pub IsEntered : Option ℕ → Text → List Row → Type 0
+IsEntered (Some id) text rows =
+    IsId id × IsNumberAt (codes "first") rows id × (first_of (codes "second") rows ≡ Some text)
+IsEntered None text rows =
+    (first_of (codes "first") rows ≡ Some text) × (first_of (codes "second") rows ≡ None)
+
+-- the id of the first line, or that none is given
+pub record IsFirstId (id : Option ℕ) (rows : List Row) : Type 0 where
+  pub given : IsGiven (codes "first-id") rows id
+  pub in_range : IfSome id IsId
+
+-- how lines are entered
+pub record AreLines (lines : Lines) (rows : List Row) : Type 0 where
+  pub first_id : IsFirstId lines.first_id rows
+  pub waits : IsFlag (codes "wait") rows lines.waits
+  pub progress : IsFlag (codes "progress") rows lines.progress
+  pub stops : IsFlag (codes "stop-at-refusal") rows lines.stops_at_refusal
+  pub sends : IsFlag (codes "send-all") rows lines.sends_all
 
 -- the number of a version of the wire
 abbrev pub wire_number : Version → ℕ
@@ -156,29 +236,46 @@ wire_number version.One = 1
 wire_number version.Two = 2
 wire_number version.Three = 3
 
--- a desk of this hall that lines are entered at, the id of the first one, and whether `--wait` is
--- there
-pub record IsBatch (c : Contact) (b : Batch) (rows : List Row) : Type 0 where
-  pub hall : IsNumberAt (codes "hall") rows b.receiver.hall
-  pub desk : IsNumberAt (codes "desk") rows b.receiver.desk
-  pub contact : IsContact c rows
-  pub first_id : IsNumberAt (codes "first-id") rows b.first_id
-  pub waits : one_of (codes "wait") rows ≡ Some (codes "true") → b.waits ≡ true
-  pub goes_on : one_of (codes "wait") rows ≡ Some (codes "false") → b.waits ≡ false
-
 -- a desk of this hall, its file, for how many seconds a client may be silent, how many connections
 -- it serves, the version in which it pushes, whether it says nothing of other desks, and where the
 -- desks listen
 pub record IsService (s : Service) (rows : List Row) : Type 0 where
-  pub hall : IsNumberAt (codes "hall") rows s.hall
+  pub hall : IsHall s.hall rows
   pub desk : IsNumberAt (codes "desk") rows s.desk
   pub store : first_of (codes "store") rows ≡ Some s.store.now
+  pub making : s.making ≡ AsNeeded
   pub patience : IsNumberOr (codes "patience") 30 rows s.patience
   pub connections : IsGiven (codes "connections") rows s.connections
   pub wire : IsNumberOr (codes "wire") 1 rows (wire_number s.wire)
   pub tick : IsGiven (codes "tick") rows s.tick
   pub quiet : IsFlag (codes "quiet") rows s.quiet
   pub addresses : all_of (codes "addr") rows ≡ Some (map (λ a. a.now) s.addresses.now)
+
+-- of a desk of a file's hall the same, whether its store is made, and after how many milliseconds
+-- it ticks itself, 1,000 where none are given
+pub record IsHallService (s : HallService) (rows : List Row) : Type 0 where
+  pub desk : IsNumberAt (codes "desk") rows s.desk
+  pub store : first_of (codes "store") rows ≡ Some s.store.now
+  pub makes : IsFlag (codes "new") rows s.makes
+  pub patience : IsNumberOr (codes "patience") 30 rows s.patience
+  pub connections : IsGiven (codes "connections") rows s.connections
+  pub wire : IsNumberOr (codes "wire") 1 rows (wire_number s.wire)
+  pub tick : (n : ℕ) × (s.tick ≡ Some n) × IsNumberOr (codes "tick") 1000 rows n
+  pub quiet : IsFlag (codes "quiet") rows s.quiet
+
+-- the file of a stopped desk; no desk that runs is named beside it
+pub record IsStored (store : Text) (rows : List Row) : Type 0 where
+  pub given : first_of (codes "store") rows ≡ Some store
+  pub no_file : first_of (codes "config") rows ≡ None
+  pub no_hall : first_of (codes "hall") rows ≡ None
+  pub no_address : first_of (codes "to") rows ≡ None
+
+-- a desk that runs, and the position from which on its log is copied, 0 where none is given
+pub record IsCopied (p : Place) (patience start : ℕ) (rows : List Row) : Type 0 where
+  pub placed : IsPlaced p patience rows
+  pub position : IsNumberOr (codes "from") 0 rows start
+  pub within : start ≤ 65536
+  pub no_store : first_of (codes "store") rows ≡ None
 
 -- what becomes of time limits for several attempts together: `--cumulative as-single`, or nothing
 pub record IsLimits (rows : List Row) (way : CumulativeLimits) : Type 0 where
@@ -199,22 +296,40 @@ pub record IsImport (path : Text) (options : Options) (rows : List Row) : Type 0
   pub names : IsNames rows options.names
 
 abbrev pub IsTask : Task → Text → List Row → Type 0
-IsTask (task.Replay event round style) name rows =
+IsTask (task.Replay event round style only_sheet) name rows =
     (name ≡ codes "replay") × IsRound rows event round × IsPrinted rows style
+    × IsFlag (codes "only-sheet") rows only_sheet
 IsTask (task.Import file options) name rows =
     (name ≡ codes "import") × IsImport file.now options rows
 IsTask (task.Hall desks) name rows =
     (name ≡ codes "hall") × IsNumberAt (codes "desks") rows desks
-IsTask (task.Carry errand) name rows = IsErrand errand name rows
-IsTask (task.EnterLines contact batch) name rows =
-    (name ≡ codes "enter-lines") × IsBatch contact batch rows
-IsTask (task.Log store) name rows =
-    (name ≡ codes "log") × (first_of (codes "store") rows ≡ Some store.now)
-IsTask (task.Serve service) name rows = (name ≡ codes "serve") × IsService service rows
+IsTask (task.HallFile hall addresses) name rows =
+    (name ≡ codes "hall-file") × IsNumberAt (codes "hall") rows hall
+    × (all_of (codes "addr") rows ≡ Some (map (λ a. a.now) addresses.now))
+IsTask (task.Carry place patience request) name rows =
+    IsRequest request name rows × IsPlaced place patience rows
+IsTask (task.Newest place patience event round style) name rows =
+    (name ≡ codes "sheet") × IsPlaced place patience rows × IsRound rows event round
+    × IsAsked rows style × (first_of (codes "position") rows ≡ None)
+IsTask (task.Enter place patience id text waits) name rows =
+    (name ≡ codes "enter") × IsPlaced place patience rows × IsEntered id text.now rows
+    × IsFlag (codes "wait") rows waits
+IsTask (task.EnterLines place patience lines) name rows =
+    (name ≡ codes "enter-lines") × IsPlaced place patience rows × AreLines lines rows
+IsTask (task.Log store) name rows = (name ≡ codes "log") × IsStored store.now rows
+IsTask (task.CopyLog place patience start) name rows =
+    (name ≡ codes "log") × IsCopied place patience start rows
+IsTask (task.Status desks patience json watches) name rows =
+    (name ≡ codes "status") × AreDesks desks rows
+    × IsNumberOr (codes "patience") 10 rows patience
+    × IsFlag (codes "json") rows json × IsFlag (codes "watch") rows watches
+IsTask (task.Serve service) name rows =
+    (name ≡ codes "serve") × IsService service rows × IsFlag (codes "new") rows false
+IsTask (task.ServeHall file wanted) name rows =
+    (name ≡ codes "serve") × IsHallFile file.now (codes "addr") rows × IsHallService wanted rows
 
 -- the id of a request is in its range
 abbrev pub HasId : Request → Type 0
-HasId (request.Enter id text) = IsId id
 HasId (request.Ask id) = IsId id
 HasId (request.Sheet event round position style) = Unit {0}
 HasId request.Tick = Unit {0}
@@ -222,16 +337,28 @@ HasId request.Stop = Unit {0}
 
 -- the ids of a task are in their range
 abbrev pub HasIds : Task → Type 0
-HasIds (task.Replay event round style) = Unit {0}
+HasIds (task.Replay event round style only_sheet) = Unit {0}
 HasIds (task.Import file options) = Unit {0}
 HasIds (task.Hall desks) = Unit {0}
-HasIds (task.Carry errand) = HasId errand.request
-HasIds (task.EnterLines contact batch) = Unit {0}
+HasIds (task.HallFile hall addresses) = Unit {0}
+HasIds (task.Carry place patience request) = HasId request
+HasIds (task.Newest place patience event round style) = Unit {0}
+HasIds (task.Enter place patience id text waits) = IfSome id IsId
+HasIds (task.EnterLines place patience lines) = IfSome lines.first_id IsId
 HasIds (task.Log store) = Unit {0}
+HasIds (task.CopyLog place patience start) = Unit {0}
+HasIds (task.Status desks patience json watches) = Unit {0}
 HasIds (task.Serve service) = Unit {0}
+HasIds (task.ServeHall file wanted) = Unit {0}
 
 abbrev pub Finds : Option (Text × List Row) → Task → Type 0
 Finds found t = (name : Text) × (rows : List Row) × (found ≡ Some (name, rows)) × IsTask t name rows
+
+-- whether `--explain` is among the values of the subcommand
+abbrev pub FindsExplain : Option (Text × List Row) → Bool → Type 0
+FindsExplain found explains =
+    (name : Text) × (rows : List Row) × (found ≡ Some (name, rows))
+    × IsFlag (codes "explain") rows explains
 
 -- these arguments are parsed as a subcommand and the rows of its values, or as none
 abbrev pub Parses : List Text → Option (Text × List Row) → Type 0
@@ -240,3 +367,8 @@ Parses given found = (p : Parsers) × (found ≡ subcommand_of (desk_arguments p
 -- the arguments, of which the first is the program's own name, ask for this
 abbrev pub Asks : List Text → Task → Type 0
 Asks given t = (p : Parsers) × Finds (subcommand_of (desk_arguments p) given) t
+
+-- whether the arguments, of which the first is the program's own name, ask to explain faults
+abbrev pub AsksToExplain : List Text → Bool → Type 0
+AsksToExplain given explains =
+    (p : Parsers) × FindsExplain (subcommand_of (desk_arguments p) given) explains

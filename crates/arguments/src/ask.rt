@@ -5,8 +5,9 @@ ghost use Rattle.clap.specs.Words.{found_of, rows_of};
 ghost use Rattle.arguments.specs.Arguments.{IsCommand};
 ghost use Rattle.arguments.specs.Asking.{ask_arguments, IsRequest};
 
+use crate::places::errand_command;
 use crate::task::Request;
-use crate::values::{errand_command, id_at, id_value};
+use crate::values::{id_at, id_value};
 use clap::{ArgMatches, Command};
 use replay_arguments::with_argument;
 use std::alloc::{AllocError, Global};
@@ -22,8 +23,8 @@ Prints one of these lines:
   done ID POSITION CODE  it is in the log at this position, and it was refused;
                          docs/FORMATS.md explains each CODE
 
-Exit status: 0 answered; 2 invalid arguments, or help; 3 bad desk number, or refused NAME; 4 cannot
-connect, cannot write, or no answer; 5 no memory.";
+Exit status: 0 answered; 2 invalid arguments, or help; 3 bad desk number, bad hall
+file, or refused NAME; 4 cannot connect, cannot write, or no answer; 5 no memory.";
 
 /// The subcommand `ask`, as the parser knows it.
 pub fn ask_command<'a>(alloc: Global) -> Result<Command<'a>, AllocError>
@@ -34,10 +35,10 @@ pub fn ask_command<'a>(alloc: Global) -> Result<Command<'a>, AllocError>
 }
 
 /// What the arguments of `ask` ask for.
-pub fn asked_id<'a>(found: &ArgMatches<'a>) -> Option<Request<'a>>
+pub fn asked_id(found: &ArgMatches<'_>) -> Option<Request>
     ensures { IfSome result
         (λ request. IsRequest request (codes "ask") (rows_of (found_of found.now))) }
 {
-    let id = id_at(found)?;
+    let id = id_at(found, "id")?;
     Some(Request::Ask { id })
 }

@@ -5,8 +5,8 @@ ghost use Rattle.clap.specs.Words.{found_of, rows_of};
 ghost use Rattle.arguments.specs.Arguments.{IsCommand};
 ghost use Rattle.arguments.specs.Asking.{hall_arguments, IsTask};
 
-use crate::task::{Task, of_one_byte};
-use crate::values::number_at;
+use crate::task::Task;
+use crate::values::byte_at;
 use clap::builder::ValueParser;
 use clap::{ArgMatches, Command};
 use replay_arguments::{plain_command, value, with_argument};
@@ -53,6 +53,6 @@ pub fn hall_of<'a>(found: &ArgMatches<'a>) -> Option<Task<'a>>
     ensures { IfSome result
         (λ task. IsTask task (codes "hall") (rows_of (found_of found.now))) }
 {
-    let desks = of_one_byte(number_at(found, "desks")?)?;
+    let desks = byte_at(found, "desks")?;
     Some(Task::Hall { desks })
 }

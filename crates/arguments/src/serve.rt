@@ -2,30 +2,40 @@
 
 ghost use Rattle.std.specs.Prelude.{◌≡◌, false, codes, IfOk, IfSome};
 ghost use Rattle.clap.specs.Words.{found_of, rows_of, rule_of};
-ghost use Rattle.arguments.specs.Arguments.{IsCommand, IsNumberOr, any_text, values_rule};
+ghost use Rattle.arguments.specs.Arguments.{IsCommand, IsNumberOr, any_text, bound, flag_rule};
+ghost use Rattle.arguments.specs.Arguments.{optional_values_rule, option_rule, numbers};
+ghost use Rattle.arguments.specs.Arguments.{values_rule};
 ghost use Rattle.arguments.specs.Asking.{serve_arguments, wire_number, IsTask};
 
-use crate::task::{Task, of_four_bytes, of_one_byte};
+use crate::places::{explain_flag, hall_at, hall_file_at, located_command};
+use crate::task::{HallService, Task};
 use crate::values::{
-    flag, home_command, number_at, number_or, option, optional_at, optional_number,
+    byte_at, excluding, number_or, option, optional_at, optional_number, requiring,
 };
 use clap::builder::ValueParser;
 use clap::{Arg, ArgAction, ArgMatches, Command};
-use replay_arguments::{text_at, value, with_argument};
-use service::Service;
+use replay_arguments::{flag, flag_at, text_at, value, with_argument};
+use service::{Making, Service};
 use std::alloc::{AllocError, Global};
 use wire::Version;
 
 /// For how many seconds a client may be silent without the option `--patience`.
 const PATIENCE: u32 = 30;
 
+/// After how many milliseconds a desk of a file's hall ticks itself without the option `--tick`.
+const TICK: u32 = 1_000;
+
 const ABOUT: &str = "Runs a desk from its file: it serves clients and the other desks of its hall.";
 
 const AFTER: &str = "\
-The ADDRs are where the desks of the hall listen, in the order of their numbers, as 127.0.0.1:7001.
-There are three or five, and they are the same at each desk. FILE is created if it does not exist.
+The hall and where its desks listen are in the file of --config, else in hall.toml, or they are
+given by --hall and the ADDRs, in the order of the desks' numbers, as 127.0.0.1:7001. There are
+three or five, and they are the same at each desk.
+
 What the desk has promised and decided is kept in FILE and in FILE-wal beside it. A desk that was
-stopped or killed is started again by the same command.
+stopped or killed is started again with the same FILE. With --config FILE has to be there, and --new
+makes it, once, before the day; with --hall it is created if it does not exist. With --config the
+desk gives itself a Tick each second, unless --tick says otherwise; with --hall none.
 
 The desk serves all its clients side by side, at most 512 at once.
 
@@ -34,12 +44,13 @@ the length of the desk's log. At the end it prints `served CONNECTIONS`. On stan
 when another desk cannot be reached, and when it is reached again; --quiet leaves that out.
 
 Exit status: 0 K connections were served, or a client asked the desk to stop; 2 invalid arguments,
-or help; 3 bad number of desks, bad desk number, wrong desk, or damaged store; 4 store device (FILE
-cannot be opened, or another program has it open), store down (a write to it failed), cannot listen,
-or cannot write; 5 no memory.";
+or help; 3 bad number of desks, bad desk number, bad hall file, two desks have one address, unknown
+host, no store, store there already, wrong desk, or damaged store; 4 store device (FILE cannot be
+opened, or another program has it open), store down (a write to it failed), cannot listen, or cannot
+write; 5 no memory.";
 
 /// The value ADDR, which may be given more than once.
-fn address_value<'a>(alloc: Global) -> Arg<'a>
+pub fn address_value<'a>(alloc: Global) -> Arg<'a>
     ensures rule { rule_of result ≡ values_rule (codes "addr") any_text }
     ensures local { result.global ≡ false }
 {
@@ -53,19 +64,66 @@ fn address_value<'a>(alloc: Global) -> Arg<'a>
     .action(ArgAction::Append)
 }
 
-/// The subcommand `serve`, as the parser knows it.
-pub fn serve_command<'a>(alloc: Global) -> Result<Command<'a>, AllocError>
-    ensures { IfOk result (λ command. IsCommand command serve_arguments) }
+/// The value ADDR, which may be given more than once, and comes with the number of a hall.
+fn addresses_value<'a>(alloc: Global) -> Result<Arg<'a>, AllocError>
+    ensures rule { IfOk result (λ r.
+        rule_of r ≡ bound (optional_values_rule (codes "addr") any_text)) }
+    ensures local { IfOk result (λ r. r.global ≡ false) }
 {
-    let command = home_command(alloc, "serve", ABOUT, AFTER)?;
-    let store = option(
+    let others = ["hall"];
+    requiring(address_value(alloc).required(false), &others)
+}
+
+/// The option `--desk`, which has to be given.
+fn desk_option<'a>(alloc: Global) -> Arg<'a>
+    ensures rule { rule_of result ≡ option_rule (codes "desk") (numbers 0 255) }
+    ensures local { result.global ≡ false }
+{
+    option(
+        alloc,
+        "desk",
+        "D",
+        "The desk's number, 1 to 5",
+        ValueParser::unsigned(0, 255),
+    )
+}
+
+/// The option `--store`.
+fn store_option<'a>(alloc: Global) -> Arg<'a>
+    ensures rule { rule_of result ≡ option_rule (codes "store") any_text }
+    ensures local { result.global ≡ false }
+{
+    option(
         alloc,
         "store",
         "FILE",
         "The desk's file",
         ValueParser::string(),
+    )
+}
+
+/// The flag `--new`, which comes without the number of a hall.
+fn new_flag<'a>(alloc: Global) -> Result<Arg<'a>, AllocError>
+    ensures rule { IfOk result (λ r. rule_of r ≡ bound (flag_rule (codes "new"))) }
+    ensures local { IfOk result (λ r. r.global ≡ false) }
+{
+    let new = flag(
+        alloc,
+        "new",
+        "Make the desk's file, which must not be there",
     );
-    let command = with_argument(command, store)?;
+    let others = ["hall"];
+    excluding(new, &others)
+}
+
+/// The subcommand `serve`, as the parser knows it.
+pub fn serve_command<'a>(alloc: Global) -> Result<Command<'a>, AllocError>
+    ensures { IfOk result (λ command. IsCommand command serve_arguments) }
+{
+    let command = located_command(alloc, "serve", ABOUT, AFTER, "addr")?;
+    let command = with_argument(command, desk_option(alloc))?;
+    let command = with_argument(command, store_option(alloc))?;
+    let command = with_argument(command, new_flag(alloc)?)?;
     let patience = optional_number(
         alloc,
         "patience",
@@ -97,7 +155,7 @@ pub fn serve_command<'a>(alloc: Global) -> Result<Command<'a>, AllocError>
         alloc,
         "tick",
         "MILLISECONDS",
-        "How long until a Tick of the desk's own, 100 to 60000; without this option there is none",
+        "How long until a Tick of the desk's own, 100 to 60000; without it 1000, with --hall none",
         100,
         60_000,
     );
@@ -108,7 +166,8 @@ pub fn serve_command<'a>(alloc: Global) -> Result<Command<'a>, AllocError>
         "Says nothing of desks that cannot be reached",
     );
     let command = with_argument(command, quiet)?;
-    with_argument(command, address_value(alloc))
+    let command = with_argument(command, explain_flag(alloc))?;
+    with_argument(command, addresses_value(alloc)?)
 }
 
 /// The value of VERSION, or version 1 where it is not given.
@@ -123,25 +182,30 @@ fn wire_at(found: &ArgMatches<'_>) -> Option<Version>
     }
 }
 
-/// What the arguments of `serve` ask for.
-pub fn serve_of<'m, 'a: 'm>(found: &'m ArgMatches<'a>) -> Option<Task<'m>>
+/// A desk of a hall at addresses.
+fn service_of<'m, 'a: 'm>(found: &'m ArgMatches<'a>) -> Option<Task<'m>>
     ensures { IfSome result
         (λ task. IsTask task (codes "serve") (rows_of (found_of found.now))) }
 {
-    let hall = of_four_bytes(number_at(found, "hall")?)?;
-    let desk = of_one_byte(number_at(found, "desk")?)?;
+    let hall = hall_at(found)?;
+    let desk = byte_at(found, "desk")?;
     let store = text_at(found, "store")?;
     let patience = number_or(found, "patience", PATIENCE)?;
     let connections = optional_at(found, "connections")?;
     let wire = wire_at(found)?;
     let tick = optional_at(found, "tick")?;
-    let quiet = found.get_flag("quiet");
+    let quiet = flag_at(found, "quiet");
     let addresses = found.get_strs("addr")?;
+    let makes = flag_at(found, "new");
+    if makes {
+        return None;
+    }
     Some(Task::Serve {
         service: Service {
             hall,
             desk,
             store,
+            making: Making::AsNeeded,
             patience,
             connections,
             wire,
@@ -150,4 +214,44 @@ pub fn serve_of<'m, 'a: 'm>(found: &'m ArgMatches<'a>) -> Option<Task<'m>>
             addresses,
         },
     })
+}
+
+/// A desk of the hall that a file describes.
+fn hall_service_of<'a>(found: &ArgMatches<'a>) -> Option<Task<'a>>
+    ensures { IfSome result
+        (λ task. IsTask task (codes "serve") (rows_of (found_of found.now))) }
+{
+    let file = hall_file_at(found, "addr")?;
+    let desk = byte_at(found, "desk")?;
+    let store = text_at(found, "store")?;
+    let makes = flag_at(found, "new");
+    let patience = number_or(found, "patience", PATIENCE)?;
+    let connections = optional_at(found, "connections")?;
+    let wire = wire_at(found)?;
+    let tick = number_or(found, "tick", TICK)?;
+    let quiet = flag_at(found, "quiet");
+    Some(Task::ServeHall {
+        file,
+        wanted: HallService {
+            desk,
+            store,
+            makes,
+            patience,
+            connections,
+            wire,
+            tick: Some(tick),
+            quiet,
+        },
+    })
+}
+
+/// What the arguments of `serve` ask for.
+pub fn serve_of<'m, 'a: 'm>(found: &'m ArgMatches<'a>) -> Option<Task<'m>>
+    ensures { IfSome result
+        (λ task. IsTask task (codes "serve") (rows_of (found_of found.now))) }
+{
+    match found.get_str("hall") {
+        Some(_) => service_of(found),
+        None => hall_service_of(found),
+    }
 }

@@ -2,39 +2,35 @@
 
 ghost use Rattle.std.specs.Prelude.{◌≡◌, codes, IfSome};
 ghost use Rattle.clap.specs.Words.{found_of, rows_of, subcommand_rows_of};
-ghost use Rattle.arguments.specs.Asking.{Finds, IsErrand, IsRequest, IsTask};
+ghost use Rattle.arguments.specs.Asking.{Finds, FindsExplain, IsRequest, IsTask};
 
 use crate::ask::asked_id;
-use crate::enter::entered;
+use crate::enter::enter_of;
 use crate::enter_lines::lines_of;
 use crate::hall::hall_of;
+use crate::hall_file::hall_file_of;
 use crate::import::import_of;
 use crate::log::log_of;
+use crate::places::{Desks, Place, placed};
 use crate::serve::serve_of;
 use crate::sheet::sheet_of;
-use crate::values::{contact_at, number_at};
-use batch::{Batch, Contact};
+use crate::status::status_of;
 use clap::ArgMatches;
 use formats::Event;
-use replay_arguments::replay_of;
+use replay_arguments::{flag_at, replay_of};
 use service::Service;
 use sheets::Style;
 use wcif::Options;
-use wire::SheetStyle;
+use wire::{SheetStyle, Version};
 
-/// What a client asks of a desk.
+/// What a client asks of a desk with one frame.
 #[derive(Clone, Copy)]
-pub enum Request<'a> {
-    /// To accept a command into its queue.
-    Enter {
-        id: u64,
-        text: &'a str,
-    },
+pub enum Request {
     /// What happened to a command.
     Ask {
         id: u64,
     },
-    /// The sheet of a round.
+    /// The sheet of a round at a position of the log.
     Sheet {
         event: Event,
         round: u8,
@@ -47,13 +43,40 @@ pub enum Request<'a> {
     Stop,
 }
 
-/// A request and the desk that it is for.
+/// How the lines of an input are entered.
 #[derive(Clone, Copy)]
-pub struct Errand<'a> {
-    pub hall: u32,
+pub struct Lines {
+    /// The id of the first line; without it one is chosen.
+    pub first_id: Option<u64>,
+    /// Whether each command is waited for until it is decided.
+    pub waits: bool,
+    /// Whether the progress is told.
+    pub progress: bool,
+    /// Whether the first refused command ends it.
+    pub stops_at_refusal: bool,
+    /// Whether lines are sent that are no commands.
+    pub sends_all: bool,
+}
+
+/// What is asked of a desk that is to serve, of the hall that a file describes.
+#[derive(Clone, Copy)]
+pub struct HallService<'a> {
+    /// The desk's number, from 1.
     pub desk: u8,
-    pub contact: Contact<'a>,
-    pub request: Request<'a>,
+    /// The path of its store.
+    pub store: &'a str,
+    /// Whether the store is made.
+    pub makes: bool,
+    /// How many seconds a client may be silent, and take nothing of what is sent to it.
+    pub patience: u32,
+    /// How many connections are served; without it, as many as come.
+    pub connections: Option<u32>,
+    /// The version of the wire in which frames for other desks are pushed.
+    pub wire: Version,
+    /// The period of the desk's own Ticks, 100 to 60,000 milliseconds.
+    pub tick: Option<u32>,
+    /// Whether no lines about other desks are written.
+    pub quiet: bool,
 }
 
 /// What the arguments ask for.
@@ -64,6 +87,7 @@ pub enum Task<'a> {
         event: Event,
         round: u8,
         style: Style,
+        only_sheet: bool,
     },
     /// The commands that set up the competition of a file.
     Import {
@@ -74,23 +98,72 @@ pub enum Task<'a> {
     Hall {
         desks: u8,
     },
+    /// The file that describes a hall.
+    HallFile {
+        hall: u32,
+        addresses: &'a [&'a str],
+    },
     /// To ask a desk.
     Carry {
-        errand: Errand<'a>,
+        place: Place<'a>,
+        patience: u32,
+        request: Request,
     },
-    /// To enter the lines of an input at the desk at an address.
+    /// The newest sheet of a round, from a desk.
+    Newest {
+        place: Place<'a>,
+        patience: u32,
+        event: Event,
+        round: u8,
+        style: SheetStyle,
+    },
+    /// To enter a command at a desk; without an id one is chosen.
+    Enter {
+        place: Place<'a>,
+        patience: u32,
+        id: Option<u64>,
+        text: &'a str,
+        waits: bool,
+    },
+    /// To enter the lines of an input at a desk.
     EnterLines {
-        contact: Contact<'a>,
-        batch: Batch,
+        place: Place<'a>,
+        patience: u32,
+        lines: Lines,
     },
     /// The log of a stopped desk, from its file.
     Log {
         store: &'a str,
     },
+    /// The log of a desk that runs, from a position on.
+    CopyLog {
+        place: Place<'a>,
+        patience: u32,
+        from: u32,
+    },
+    /// How the desks of a hall stand.
+    Status {
+        desks: Desks<'a>,
+        patience: u32,
+        json: bool,
+        watches: bool,
+    },
     /// To run a desk.
     Serve {
         service: Service<'a>,
     },
+    /// To run a desk of the hall that a file describes.
+    ServeHall {
+        file: &'a str,
+        wanted: HallService<'a>,
+    },
+}
+
+/// What the arguments ask for, and whether a second line is to say why a fault came.
+#[derive(Clone, Copy)]
+pub struct Asked<'a> {
+    pub task: Task<'a>,
+    pub explains: bool,
 }
 
 /// The number, where four bytes hold it.
@@ -113,34 +186,28 @@ pub fn of_one_byte(number: u64) -> Option<u8>
     Some(number as u8)
 }
 
-/// The request of a subcommand's arguments, where the subcommand asks a desk.
-fn request_of<'a>(name: &str, found: &ArgMatches<'a>) -> Option<Request<'a>>
+/// The request of a subcommand's arguments, where the subcommand makes one.
+fn request_of(name: &str, found: &ArgMatches<'_>) -> Option<Request>
     ensures { IfSome result
         (λ request. IsRequest request name.now (rows_of (found_of found.now))) }
 {
     match name {
-        "enter" => entered(found),
         "ask" => asked_id(found),
-        "sheet" => sheet_of(found),
         "tick" => Some(Request::Tick),
         "stop" => Some(Request::Stop),
         _ => None,
     }
 }
 
-/// The errand of a subcommand's arguments, where the subcommand asks a desk.
-fn errand_of<'a>(name: &str, found: &ArgMatches<'a>) -> Option<Errand<'a>>
-    ensures { IfSome result
-        (λ errand. IsErrand errand name.now (rows_of (found_of found.now))) }
+/// The task of a subcommand that makes a request to a desk.
+fn carried<'a>(name: &str, found: &ArgMatches<'a>) -> Option<Task<'a>>
+    ensures { IfSome result (λ task. IsTask task name.now (rows_of (found_of found.now))) }
 {
-    let hall = of_four_bytes(number_at(found, "hall")?)?;
-    let desk = of_one_byte(number_at(found, "desk")?)?;
-    let contact = contact_at(found)?;
     let request = request_of(name, found)?;
-    Some(Errand {
-        hall,
-        desk,
-        contact,
+    let (place, patience) = placed(found)?;
+    Some(Task::Carry {
+        place,
+        patience,
         request,
     })
 }
@@ -155,6 +222,7 @@ fn replayed<'a>(found: &ArgMatches<'a>) -> Option<Task<'a>>
         event: task.event,
         round: task.round,
         style: task.style,
+        only_sheet: task.only_sheet,
     })
 }
 
@@ -166,21 +234,26 @@ fn task_named<'m, 'a: 'm>(name: &str, found: &'m ArgMatches<'a>) -> Option<Task<
         "replay" => replayed(found),
         "import" => import_of(found),
         "hall" => hall_of(found),
+        "hall-file" => hall_file_of(found),
         "serve" => serve_of(found),
+        "status" => status_of(found),
+        "enter" => enter_of(found),
         "enter-lines" => lines_of(found),
         "log" => log_of(found),
-        _ => match errand_of(name, found) {
-            Some(errand) => Some(Task::Carry { errand }),
-            None => None,
-        },
+        "sheet" => sheet_of(found),
+        _ => carried(name, found),
     }
 }
 
-/// What parsed arguments ask for. No task where a number has a sign or leading zeros, which the
-/// parser accepts.
-pub fn task_of<'m, 'a: 'm>(matches: &'m ArgMatches<'a>) -> Option<Task<'m>>
-    ensures { IfSome result (λ task. Finds (subcommand_rows_of matches.now) task) }
+/// What parsed arguments ask for. Nothing where a number has a sign or leading zeros or is out of
+/// its range, or where arguments stand side by side that cannot; the parser refuses the latter.
+pub fn task_of<'m, 'a: 'm>(matches: &'m ArgMatches<'a>) -> Option<Asked<'m>>
+    ensures task { IfSome result (λ asked. Finds (subcommand_rows_of matches.now) asked.task) }
+    ensures explains { IfSome result
+        (λ asked. FindsExplain (subcommand_rows_of matches.now) asked.explains) }
 {
     let (name, found) = matches.subcommand()?;
-    task_named(name, found)
+    let task = task_named(name, found)?;
+    let explains = flag_at(found, "explain");
+    Some(Asked { task, explains })
 }

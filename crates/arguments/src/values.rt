@@ -1,20 +1,17 @@
 //! The arguments of subcommands, and how their values are read.
 
-ghost use Rattle.std.specs.Prelude.{◌≡◌, false, codes, IfOk, IfSome, Some};
-ghost use Rattle.clap.specs.Words.{found_of, rows_of, rule_of};
-ghost use Rattle.arguments.specs.Arguments.{IsCommand, IsGiven, IsNumberAt, IsNumberOr};
-ghost use Rattle.arguments.specs.Arguments.{errand_arguments, flag_rule, home_arguments, numbers};
-ghost use Rattle.arguments.specs.Arguments.{option_rule};
-ghost use Rattle.arguments.specs.Arguments.{optional_rule, optional_value_rule, value_rule};
-ghost use Rattle.arguments.specs.Asking.{IsContact};
+ghost use Rattle.std.specs.Prelude.{◌≡◌, ◌≤◌, false, codes, length, IfOk, IfSome, Some};
+ghost use Rattle.clap.specs.Words.{first_of, found_of, rows_of, rule_of};
+ghost use Rattle.arguments.specs.Arguments.{IsGiven, IsNumberAt, IsNumberOr, IsTextOr, bound};
+ghost use Rattle.arguments.specs.Arguments.{last_value_rule, numbers, option_rule, optional_rule};
+ghost use Rattle.arguments.specs.Arguments.{optional_value_rule, value_rule};
 ghost use Rattle.wire.specs.Ranges.{IsId};
 
-use crate::task::of_four_bytes;
-use batch::Contact;
+use crate::task::{of_four_bytes, of_one_byte};
 use clap::builder::ValueParser;
-use clap::{Arg, ArgAction, ArgMatches, Command};
+use clap::{Arg, ArgMatches};
 use command_line::plain_number;
-use replay_arguments::{plain_command, text_at, value, with_argument};
+use replay_arguments::{text_at, value};
 use std::alloc::{AllocError, Global};
 
 /// A required value, given after two hyphens and its id.
@@ -60,75 +57,36 @@ pub fn optional_number<'a>(
     optional_value(alloc, id, name, help, ValueParser::unsigned(low, high))
 }
 
-/// A flag, given after two hyphens.
-pub fn flag<'a>(alloc: Global, id: &'a str, help: &'a str) -> Arg<'a>
-    ensures rule { rule_of result ≡ flag_rule id.entry.now }
+/// A value, known by its place. It may be left out.
+pub fn last_value<'a>(
+    alloc: Global,
+    id: &'a str,
+    name: &'a str,
+    help: &'a str,
+    parser: ValueParser<'a>,
+) -> Arg<'a>
+    ensures rule { rule_of result ≡ last_value_rule id.entry.now (Some parser.entry) }
     ensures local { result.global ≡ false }
 {
-    Arg::new(alloc, id)
-        .long(id)
-        .help(help)
-        .action(ArgAction::SetTrue)
+    value(alloc, id, name, help, parser).required(false)
 }
 
-/// For how many seconds a desk is waited for without the option `--patience`.
-const PATIENCE: u32 = 10;
-
-/// A subcommand that names a desk of a hall: the hall's number and its own.
-pub fn home_command<'a>(
-    alloc: Global,
-    name: &'a str,
-    about: &'a str,
-    after: &'a str,
-) -> Result<Command<'a>, AllocError>
-    ensures { IfOk result (λ c. IsCommand c (home_arguments name.entry.now)) }
+/// The argument, which cannot stand beside any of these others.
+pub fn excluding<'a>(arg: Arg<'a>, others: &[&'a str]) -> Result<Arg<'a>, AllocError>
+    requires { 1 ≤ length others.now }
+    ensures rule { IfOk result (λ r. rule_of r ≡ bound (rule_of arg.entry)) }
+    ensures local { IfOk result (λ r. r.global ≡ arg.entry.global) }
 {
-    let command = plain_command(alloc, name, about, after);
-    let hall = option(
-        alloc,
-        "hall",
-        "H",
-        "The hall's number, 0 to 4294967295",
-        ValueParser::unsigned(0, 4_294_967_295),
-    );
-    let command = with_argument(command, hall)?;
-    let desk = option(
-        alloc,
-        "desk",
-        "D",
-        "The desk's number, 1 to 5",
-        ValueParser::unsigned(0, 255),
-    );
-    with_argument(command, desk)
+    arg.conflicts_with_all(others)
 }
 
-/// A subcommand that asks a desk: its hall, its number, its address, and how long to wait for it.
-pub fn errand_command<'a>(
-    alloc: Global,
-    name: &'a str,
-    about: &'a str,
-    after: &'a str,
-) -> Result<Command<'a>, AllocError>
-    ensures { IfOk result (λ c. IsCommand c (errand_arguments name.entry.now)) }
+/// The argument, which cannot stand without these others.
+pub fn requiring<'a>(arg: Arg<'a>, others: &[&'a str]) -> Result<Arg<'a>, AllocError>
+    requires { 1 ≤ length others.now }
+    ensures rule { IfOk result (λ r. rule_of r ≡ bound (rule_of arg.entry)) }
+    ensures local { IfOk result (λ r. r.global ≡ arg.entry.global) }
 {
-    let command = home_command(alloc, name, about, after)?;
-    let to = option(
-        alloc,
-        "to",
-        "ADDR",
-        "The desk's address, as 127.0.0.1:7001",
-        ValueParser::string(),
-    );
-    let command = with_argument(command, to)?;
-    let patience = optional_number(
-        alloc,
-        "patience",
-        "SECONDS",
-        "How long to wait for the desk's answer, 1 to 3600; without this option 10",
-        1,
-        3600,
-    );
-    with_argument(command, patience)
+    arg.requires_all(others)
 }
 
 /// The first value of an argument as a number. No number where the value has a sign or leading
@@ -137,6 +95,32 @@ pub fn number_at(found: &ArgMatches<'_>, id: &str) -> Option<u64>
     ensures { IfSome result (λ n. IsNumberAt id.now (rows_of (found_of found.now)) n) }
 {
     plain_number(text_at(found, id)?)
+}
+
+/// As `number_at`, where four bytes hold the number.
+pub fn four_bytes_at(found: &ArgMatches<'_>, id: &str) -> Option<u32>
+    ensures { IfSome result (λ n. IsNumberAt id.now (rows_of (found_of found.now)) n) }
+{
+    of_four_bytes(number_at(found, id)?)
+}
+
+/// As `number_at`, where a byte holds the number.
+pub fn byte_at(found: &ArgMatches<'_>, id: &str) -> Option<u8>
+    ensures { IfSome result (λ n. IsNumberAt id.now (rows_of (found_of found.now)) n) }
+{
+    of_one_byte(number_at(found, id)?)
+}
+
+/// As `number_at`, where the number is an id: 1 to 9,223,372,036,854,775,807.
+pub fn id_at(found: &ArgMatches<'_>, id: &str) -> Option<u64>
+    ensures id { IfSome result (λ n. IsNumberAt id.now (rows_of (found_of found.now)) n) }
+    ensures in_range { IfSome result IsId }
+{
+    let number = number_at(found, id)?;
+    if number == 0 || number > 9_223_372_036_854_775_807 {
+        return None;
+    }
+    Some(number)
 }
 
 /// The value ID.
@@ -153,18 +137,6 @@ pub fn id_value<'a>(alloc: Global) -> Arg<'a>
     )
 }
 
-/// The value of ID.
-pub fn id_at(found: &ArgMatches<'_>) -> Option<u64>
-    ensures id { IfSome result (λ id. IsNumberAt (codes "id") (rows_of (found_of found.now)) id) }
-    ensures in_range { IfSome result IsId }
-{
-    let id = number_at(found, "id")?;
-    if id == 0 || id > 9_223_372_036_854_775_807 {
-        return None;
-    }
-    Some(id)
-}
-
 /// The number that is given, or `Some(None)` where none is. None: it has a sign or leading zeros,
 /// or no four bytes hold it.
 pub fn optional_at(found: &ArgMatches<'_>, id: &str) -> Option<Option<u32>>
@@ -172,7 +144,28 @@ pub fn optional_at(found: &ArgMatches<'_>, id: &str) -> Option<Option<u32>>
 {
     match found.get_str(id) {
         None => Some(None),
-        Some(_) => Some(Some(of_four_bytes(number_at(found, id)?)?)),
+        Some(_) => Some(Some(four_bytes_at(found, id)?)),
+    }
+}
+
+/// As `optional_at`, where a byte holds the number.
+pub fn optional_byte_at(found: &ArgMatches<'_>, id: &str) -> Option<Option<u8>>
+    ensures { IfSome result (λ n. IsGiven id.now (rows_of (found_of found.now)) n) }
+{
+    match found.get_str(id) {
+        None => Some(None),
+        Some(_) => Some(Some(byte_at(found, id)?)),
+    }
+}
+
+/// As `optional_at`, where the number is an id.
+pub fn optional_id_at(found: &ArgMatches<'_>, id: &str) -> Option<Option<u64>>
+    ensures id { IfSome result (λ n. IsGiven id.now (rows_of (found_of found.now)) n) }
+    ensures in_range { IfSome result (λ n. IfSome n IsId) }
+{
+    match found.get_str(id) {
+        None => Some(None),
+        Some(_) => Some(Some(id_at(found, id)?)),
     }
 }
 
@@ -183,11 +176,22 @@ pub fn number_or(found: &ArgMatches<'_>, id: &str, other: u32) -> Option<u32>
     Some(optional_at(found, id)?.unwrap_or(other))
 }
 
-/// Where a subcommand asks its desk, and how long it waits.
-pub fn contact_at<'a>(found: &ArgMatches<'a>) -> Option<Contact<'a>>
-    ensures { IfSome result (λ contact. IsContact contact (rows_of (found_of found.now))) }
+/// The text that is given, or another one where none is.
+pub fn text_or<'a>(found: &ArgMatches<'a>, id: &str, other: &'a str) -> &'a str
+    ensures { IsTextOr id.now other.entry.now (rows_of (found_of found.now)) result.now }
 {
-    let address = text_at(found, "to")?;
-    let patience = number_or(found, "patience", PATIENCE)?;
-    Some(Contact { address, patience })
+    match found.get_str(id) {
+        Some(text) => text,
+        None => other,
+    }
+}
+
+/// Some where an argument has no value.
+pub fn without(found: &ArgMatches<'_>, id: &str) -> Option<()>
+    ensures { IfSome result (λ _. first_of id.now (rows_of (found_of found.now)) ≡ None) }
+{
+    match found.get_str(id) {
+        Some(_) => None,
+        None => Some(()),
+    }
 }

@@ -1,31 +1,43 @@
--- Lines that were entered one after the other, in words on the whole input.
-use Rattle.std.proofs.Common.{◌≡◌, inl, inr, ℕ, ◌+◌, Bool, true, false, List, [], ◌∷◌, ◌++◌, length}
+-- Lines that were entered one after the other.
+use Rattle.std.proofs.Common.{◌≡◌, ℕ, ◌+◌, ◌<◌, false, List, [], ◌∷◌, ◌++◌, length}
 use Rattle.std.proofs.Common.{Option, refl, sym, ap, ◌∙◌, append_assoc, append-nil, subst, arith}
-use Rattle.std.specs.Prelude.{Ok}
+use Rattle.std.proofs.Common.{take, drop, get_or, suc}
+use Rattle.std.proofs.lemmas.List.{length-map, length-take-le, map-append, take_more}
+use Rattle.std.proofs.Math.Seq.{split_at, take-length}
 use Rattle.std.proofs.KnownBytes.{Appends-trans, Appends-nil}
-use Rattle.std.specs.Io.KnownBytes.{Appends, Consumes}
-use Rattle.lines.specs.Bytes.{AppendsPart}
-use Rattle.lines.specs.Lines.{lines_of}
-use Rattle.lines.specs.Reading.{Reading, nothing_read, HasGiven, GivesLine, GivesNone, GivesFault}
-use Rattle.lines.specs.Reading.{Gives}
-use Rattle.lines.specs.declared.fault.RunFault.{RunFault}
-use Rattle.lines.specs.declared.fault.RunFault.TheVariants as fault
-use Rattle.lines.proofs.Inputs.{part_after, part_front, whole_written}
-use Rattle.batch.specs.Entering.{AreWhole, IsNext, IsSaid, Says, EntersAll, EntersSome}
+use Rattle.std.specs.Io.KnownBytes.{Appends}
+use Rattle.client.specs.Printing.{reply_text}
+use Rattle.command_file.specs.Commands.{Numbered}
+use Rattle.lines.proofs.Inputs.{part_after}
+use Rattle.wire.specs.declared.frame.What.{What}
+use Rattle.batch.specs.Asking.{Asked, Asks, Goes, IsOfAsking}
+use Rattle.batch.specs.Dialing.{Place, Standing}
+use Rattle.batch.specs.Entering.{AsksFront, AsksLines, EnteredBy, EntersLine, FailsLine, IsSaid}
+use Rattle.batch.specs.Entering.{IsWhole, SaidBy, Says, StopsAsking, StopsLine, ends_run}
+use Rattle.batch.specs.Entering.{texts_of}
+use Rattle.batch.specs.declared.fault.BatchFault.{BatchFault}
+use Rattle.batch.specs.declared.fault.BatchFault.TheVariants as fault
 use Rattle.batch.specs.declared.lines_entered.Batch.{Batch}
+use Rattle.batch.proofs.Going.{goes_more, goes_none}
 
--- the lines that were given were entered, and what is said of them is written
-pub record Entered (b : Batch) (p : Reading) (given said : List ℕ)
-    (start now old new : Option (List ℕ)) : Type 0 where
-  pub read : HasGiven p given start now
-  pub entered : Says b b.first_id (lines_of given) said
+-- these lines were entered by these requests, and what is said of them is written
+pub record Entered (here : Place) (b : Batch) (lines : List (List ℕ)) (said : List ℕ)
+    (asked : List Asked) (old new : Option (List ℕ)) (from to : Standing) : Type 0 where
+  pub entered : Says b b.first_id lines said
   pub written : Appends old new said
+  pub told : Goes here from to asked
+  pub each : SaidBy b b.first_id lines said asked
 
-pub begins : (b : Batch) (start old : Option (List ℕ)) → HasGiven nothing_read [] start start
-    → Entered b nothing_read [] [] start start old old
-begins b start old read = record { read = read; entered = refl; written = Appends-nil old }
+pub none_entered : (here : Place) (b : Batch) (old : Option (List ℕ)) (a : Standing)
+    → Entered here b [] [] [] old old a a
+none_entered here b old a = record {
+  entered = refl;
+  written = Appends-nil old;
+  told = goes_none here a;
+  each = (refl, refl);
+}
 
-pub says_more : (b : Batch) (id : ℕ) (lines : List (List ℕ)) (line said one : List ℕ)
+says_more : (b : Batch) (id : ℕ) (lines : List (List ℕ)) (line said one : List ℕ)
     → Says b id lines said → IsSaid b (id + length lines) line one
     → Says b id (lines ++ line ∷ []) (said ++ one)
 says_more b id [] line said one h next = (
@@ -43,111 +55,186 @@ says_more b id (l ∷ lines) line said one h next = (
   ap (λ x. x ++ one) h.4 ∙ append_assoc h.0 h.1 one,
 )
 
-pub gives_true : (t : Bool) (p : Reading) (line given : List ℕ) (start now : Option (List ℕ))
-    → t ≡ true → Gives (Ok t) p line given start now → GivesLine p line given start now
-gives_true true p line given start now is h = h
-gives_true false p line given start now is h = cc
+said_more : (b : Batch) (id : ℕ) (lines : List (List ℕ)) (line said : List ℕ) (last : What)
+    (asked one : List Asked)
+    → SaidBy b id lines said asked → EnteredBy b.waits b.receiver (id + length lines) line last one
+    → ends_run b last ≡ false
+    → SaidBy b id (lines ++ line ∷ []) (said ++ reply_text last) (asked ++ one)
+said_more b id [] line said last asked one h next on = (
+  last,
+  [],
+  one,
+  [],
+  subst (λ n. EnteredBy b.waits b.receiver n line last one) (omega arith) next,
+  on,
+  (refl, refl),
+  ap (λ x. x ++ reply_text last) h.0 ∙ sym (append-nil (reply_text last)),
+  ap (λ x. x ++ one) h.1 ∙ sym (append-nil one),
+)
+said_more b id (l ∷ lines) line said last asked one h next on = (
+  h.0,
+  h.1 ++ reply_text last,
+  h.2,
+  h.3 ++ one,
+  h.4,
+  h.5,
+  said_more b (id + 1) lines line h.1 last h.3 one h.6
+      (subst (λ n. EnteredBy b.waits b.receiver n line last one) (omega arith) next) on,
+  ap (λ x. x ++ reply_text last) h.7 ∙ append_assoc (reply_text h.0) h.1 (reply_text last),
+  ap (λ x. x ++ one) h.8 ∙ append_assoc h.2 h.3 one,
+)
 
--- a line was given and entered
-pub one_more : (b : Batch) (p q : Reading) (line given said one : List ℕ)
-    (start before now old new new' : Option (List ℕ))
-    → Entered b p given said start before old new → (g : GivesLine q line given start now)
-    → IsSaid b (b.first_id + p.lines) line one → Appends new new' one
-    → Entered b q (given ++ g.more) (said ++ one) start now old new'
-one_more b p q line given said one start before now old new new' e g is next = record {
-  read = g.read;
-  entered = subst (λ lines. Says b b.first_id lines (said ++ one)) (sym g.is)
-      (says_more b b.first_id (lines_of given) line said one e.entered
-      (subst (λ n. IsSaid b (b.first_id + n) line one) e.read.lines is));
-  written = Appends-trans old new new' said one e.written next;
+-- one more line was entered
+one_more : {here : Place} (b : Batch) (lines : List (List ℕ)) (n : ℕ) (line said : List ℕ)
+    (asked : List Asked) (old new new' : Option (List ℕ)) (from mid to : Standing)
+    → Entered here b lines said asked old new from mid → n ≡ length lines
+    → (e : EntersLine b n line (record { place = here; old = mid; new = to }) new new')
+    → Entered here b (lines ++ line ∷ []) (said ++ reply_text e.last) (asked ++ e.asked.0) old new'
+    from to
+one_more {here} b lines n line said asked old new new' from mid to h count e = record {
+  entered =
+      says_more b b.first_id lines line said (reply_text e.last) h.entered
+      (subst (λ k. IsSaid b (b.first_id + k) line (reply_text e.last)) count
+      (e.last, e.entered, refl));
+  written = Appends-trans old new new' said (reply_text e.last) h.written e.written;
+  told = goes_more here from mid to asked e.asked.0 h.told e.asked.1;
+  each =
+      said_more b b.first_id lines line said e.last asked e.asked.0 h.each
+      (subst (λ k. EnteredBy b.waits b.receiver (b.first_id + k) line e.last e.asked.0) count
+      e.asked.2)
+      e.goes_on;
 }
 
-pub gives_false : (t : Bool) (p : Reading) (line given : List ℕ) (start now : Option (List ℕ))
-    → t ≡ false → Gives (Ok t) p line given start now → GivesNone p given start now
-gives_false true p line given start now is h = cc
-gives_false false p line given start now is h = h
+-- ---- the texts of commands
 
--- all lines were entered
-unfoldable pub enters_all : (b : Batch) (p q : Reading) (given said : List ℕ)
-    (start before now old new : Option (List ℕ))
-    → Entered b p given said start before old new → GivesNone q given start now
-    → EntersAll b (record { had = start; left = now; old = old; new = new })
-enters_all b p q given said start before now old new e none =
-    let ended = none.read.ended none.over in
-    record {
-      input = given;
-      said = said;
-      read =
-          subst (Consumes start now) (ap (λ x. given ++ x) ended.0 ∙ append-nil given)
-          none.read.consumed;
-      ended = ended.1;
-      within = none.read.within;
-      entered = e.entered;
-      written = e.written;
-    }
+texts_more : (commands : List Numbered) (i : ℕ) (d : Numbered) → i < length commands
+    → texts_of (take (i + 1) commands)
+    ≡ texts_of (take i commands) ++ (get_or commands i d).text ∷ []
+texts_more commands i d within =
+    ap texts_of (take_more commands i d within)
+    ∙ map-append (λ (c : Numbered). c.text) (take i commands) (get_or commands i d ∷ [])
 
--- the lines that were given are whole, or the input's end was met
-pub are_whole : (p : Reading) (given : List ℕ) (start now : Option (List ℕ)) (over : Bool)
-    → p.over ≡ over → HasGiven p given start now → AreWhole given start
-are_whole p given start now false is h = inl (h.whole is)
-are_whole p given start now true is h =
-    let ended = h.ended is in
-    inr (
-      now,
-      subst (Consumes start now) (ap (λ x. given ++ x) ended.0 ∙ append-nil given) h.consumed,
-      ended.1,
+texts_count : (commands : List Numbered) (i : ℕ) → i < length commands
+    → i ≡ length (texts_of (take i commands))
+texts_count commands i within =
+    sym
+    (length-map (take i commands) (λ (c : Numbered). c.text)
+    ∙ length-take-le i commands (omega (arith, within)))
+
+texts_parted : (commands : List Numbered) (i : ℕ) (d : Numbered) → i < length commands
+    → texts_of commands
+    ≡ texts_of (take i commands) ++ (get_or commands i d).text ∷ texts_of (drop (suc i) commands)
+texts_parted commands i d within =
+    ap texts_of (split_at commands i d within)
+    ∙ map-append (λ (c : Numbered). c.text) (take i commands)
+    (get_or commands i d ∷ drop (suc i) commands)
+
+-- the first commands were entered by some requests
+abbrev pub AreEntered : Place → Batch → List Numbered → ℕ → (old new : Option (List ℕ))
+    → (from to : Standing) → Type 0
+AreEntered here b commands i old new from to =
+    (said : List ℕ) × (asked : List Asked)
+    × Entered here b (texts_of (take i commands)) said asked old new from to
+
+-- one more of them was entered
+pub next_entered : {here : Place} (b : Batch) (commands : List Numbered) (i : ℕ) (c : Numbered)
+    (old new new' : Option (List ℕ)) (from mid to : Standing)
+    → i < length commands → c ≡ get_or commands i c
+    → AreEntered here b commands i old new from mid
+    → EntersLine b i c.text (record { place = here; old = mid; new = to }) new new'
+    → AreEntered here b commands (i + 1) old new' from to
+next_entered {here} b commands i c old new new' from mid to within at h e =
+    let line : c.text ≡ (get_or commands i c).text = ap (λ (x : Numbered). x.text) at in (
+      h.0 ++ reply_text e.last,
+      h.1 ++ e.asked.0,
+      subst (λ lines. Entered here b lines (h.0 ++ reply_text e.last) (h.1 ++ e.asked.0) old new'
+          from to)
+          (ap (λ t. texts_of (take i commands) ++ t ∷ []) line
+          ∙ sym (texts_more commands i c within))
+          (one_more b (texts_of (take i commands)) i c.text h.0 h.1 old new new' from mid to h.2
+          (texts_count commands i within) e),
     )
 
-pub next_of : (q : Reading) (line given : List ℕ) (start now : Option (List ℕ))
-    (g : GivesLine q line given start now) → IsNext given (g.more ++ q.held) line start
-next_of q line given start now g = record {
-  more = g.more;
-  others = q.held;
-  parts = refl;
-  whole = are_whole q (given ++ g.more) start now q.over refl g.read;
-  is = g.is;
+-- all lines were entered
+all_entered : {here : Place} (b : Batch) (lines : List (List ℕ)) (said : List ℕ)
+    (asked : List Asked) (old new : Option (List ℕ)) (from to : Standing)
+    → Entered here b lines said asked old new from to
+    → AsksLines (Goes here from to) b lines old new
+all_entered b lines said asked old new from to h = record {
+  enters = record { said = said; entered = h.entered; written = h.written };
+  asked = asked;
+  told = h.told;
+  each = h.each;
 }
 
--- a line was given and not entered
-unfoldable pub stops_in : (b : Batch) (p q : Reading) (line given said next : List ℕ)
-    (start before now old new new' : Option (List ℕ))
-    → Entered b p given said start before old new → (g : GivesLine q line given start now)
-    → AppendsPart new new' next
-    → EntersSome b (record { had = start; left = now; old = old; new = new' })
-stops_in b p q line given said next start before now old new new' e g part = record {
-  front = given;
-  rest = g.more ++ q.held;
-  said = said;
-  whole = are_whole p given start before p.over refl e.read;
-  read = subst (Consumes start now) (append_assoc given g.more q.held) g.read.consumed;
-  entered = e.entered;
-  next = next;
-  written = part_after old new new' said next e.written part;
-}
+whole_after : (f : BatchFault) (old new new' : Option (List ℕ)) (said next : List ℕ)
+    → Appends old new said → IsWhole f new new' next → IsWhole f old new' (said ++ next)
+whole_after fault.AtRefusal old new new' said next h k = Appends-trans old new new' said next h k
+whole_after (fault.Asking e) old new new' said next h k = tt
+whole_after fault.TextTooLong old new new' said next h k = tt
+whole_after fault.NoMoreIds old new new' said next h k = tt
+whole_after fault.CannotConnect old new new' said next h k = tt
+whole_after fault.Late old new new' said next h k = tt
+whole_after fault.StillPending old new new' said next h k = tt
+whole_after fault.Lost old new new' said next h k = tt
+whole_after fault.AnotherCommand old new new' said next h k = tt
+whole_after fault.Write old new new' said next h k = tt
+whole_after fault.NoMemory old new new' said next h k = tt
 
--- reading ended early, after lines that were entered
-pub front_read : (f : RunFault) (given : List ℕ) (start now : Option (List ℕ))
-    → GivesFault f given start now → (rest : List ℕ) × Consumes start now (given ++ rest)
-front_read fault.InputTooLong given start now g = (g.0, g.1.consumed)
-front_read fault.Read given start now g = (g.0, g.1.consumed)
-front_read fault.NoMemory given start now g = (g.0, g.1)
-front_read fault.Write given start now g = absurd g
-front_read fault.BadCount given start now g = absurd g
-front_read (fault.BadLine n) given start now g = absurd g
-
-unfoldable pub stops_at : (f : RunFault) (b : Batch) (p : Reading) (given said : List ℕ)
-    (start before now old new : Option (List ℕ))
-    → Entered b p given said start before old new → GivesFault f given start now
-    → EntersSome b (record { had = start; left = now; old = old; new = new })
-stops_at f b p given said start before now old new e g =
-    let front = front_read f given start now g in
+-- the next one was not entered, or not told, or refused
+stops_in : {here : Place} (f : BatchFault) (b : Batch) (all lines others : List (List ℕ)) (n : ℕ)
+    (line said : List ℕ) (asked : List Asked) (old new new' : Option (List ℕ))
+    (from mid to : Standing) → all ≡ lines ++ line ∷ others
+    → Entered here b lines said asked old new from mid → n ≡ length lines
+    → FailsLine IsOfAsking f b (b.first_id + n) line new new'
+    → Asks here mid to (StopsAsking f b.receiver (b.first_id + n) line)
+    → AsksFront (Goes here from to) IsOfAsking f b all old new'
+stops_in {here} f b all lines others n line said asked old new new' from mid to parts h count e
+    k =
     record {
-      front = given;
-      rest = front.0;
-      said = said;
-      whole = are_whole p given start before p.over refl e.read;
-      read = front.1;
-      entered = e.entered;
-      next = [];
-      written = part_front old new said [] (whole_written old new said e.written);
+      stops = record {
+        enters = record {
+          front = lines;
+          line = line;
+          others = others;
+          parts = parts;
+          said = said;
+          entered = h.entered;
+          next = e.said;
+          written = part_after old new new' said e.said h.written e.written;
+        };
+        whole = whole_after f old new new' said e.said h.written e.whole;
+        cause = subst (λ i. StopsLine IsOfAsking f b (b.first_id + i) line e.said) count e.stops;
+      };
+      asked = asked;
+      behind = k.0;
+      told = goes_more here from mid to asked k.0 h.told k.1;
+      each = h.each;
+      next = subst (λ i. StopsAsking f b.receiver (b.first_id + i) line k.0) count k.2;
     }
+
+pub stops_at : {here : Place} (f : BatchFault) (b : Batch) (commands : List Numbered) (i : ℕ)
+    (c : Numbered) (old new new' : Option (List ℕ)) (from mid to : Standing)
+    → i < length commands → c ≡ get_or commands i c
+    → AreEntered here b commands i old new from mid
+    → FailsLine IsOfAsking f b (b.first_id + i) c.text new new'
+    → Asks here mid to (StopsAsking f b.receiver (b.first_id + i) c.text)
+    → AsksFront (Goes here from to) IsOfAsking f b (texts_of commands) old new'
+stops_at f b commands i c old new new' from mid to within at h e k =
+    let line : c.text ≡ (get_or commands i c).text = ap (λ (x : Numbered). x.text) at in
+    stops_in f b (texts_of commands) (texts_of (take i commands))
+    (texts_of (drop (suc i) commands)) i c.text h.0 h.1 old new new' from mid to
+    (texts_parted commands i c within
+    ∙ ap (λ t. texts_of (take i commands) ++ t ∷ texts_of (drop (suc i) commands)) (sym line))
+    h.2 (texts_count commands i within) e k
+
+-- all of the commands were entered
+pub whole_list : {here : Place} (b : Batch) (commands : List Numbered) (i : ℕ)
+    (old new : Option (List ℕ)) (from to : Standing) → i ≡ length commands
+    → AreEntered here b commands i old new from to
+    → AsksLines (Goes here from to) b (texts_of commands) old new
+whole_list {here} b commands i old new from to all h =
+    let lines : take i commands ≡ commands =
+    ap (λ n. take n commands) all ∙ take-length commands in
+    all_entered b (texts_of commands) h.0 h.1 old new from to
+    (subst (λ cs. Entered here b (texts_of cs) h.0 h.1 old new from to) lines h.2)

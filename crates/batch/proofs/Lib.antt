@@ -1,5 +1,7 @@
 pub mod Asked
+pub mod Confirmed
 pub mod Connections
+pub mod EachLine
 pub mod Entered
 pub mod Going
 pub mod Trying

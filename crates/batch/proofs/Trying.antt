@@ -1,7 +1,7 @@
 -- Requests that are made one after the other.
-use Rattle.std.proofs.Common.{◌≡◌, inl, inr, ◌++◌, ◌∷◌, [], ℕ, List, Bool, true, false}
+use Rattle.std.proofs.Common.{◌≡◌, inl, inr, ◌++◌, ◌∷◌, [], ℕ, List}
 use Rattle.std.proofs.Common.{Result, Ok, Err, IfOk, IfErr, ◌⊎◌, ◌+◌, ◌/◌, ◌<◌, length}
-use Rattle.std.proofs.Common.{refl, sym, ap, ◌∙◌, append_assoc, subst, arith}
+use Rattle.std.proofs.Common.{refl, sym, ap, ◌∙◌, subst, arith}
 use Rattle.std.specs.Prelude.{IsOkAnd}
 use Rattle.std.specs.List.{AllByRecursion}
 use Rattle.wire.specs.declared.frame.Frame.{Frame}
@@ -9,20 +9,18 @@ use Rattle.wire.specs.declared.frame.What.{What}
 use Rattle.client.specs.declared.fault.ClientFault.TheVariants.{Refused}
 use Rattle.wire.specs.declared.values.ClientRefusal.TheVariants.{Busy}
 use Rattle.wire.specs.declared.frame.What.TheVariants as what
-use Rattle.batch.specs.Asking.{AreAllTries, AreKnown, AreOf, Asked, Asks, Counts, Goes}
+use Rattle.batch.specs.Asking.{AreAllTries, AreKnown, Asked, Asks, Counts, Goes}
 use Rattle.batch.specs.Asking.{IsAnswer}
-use Rattle.batch.specs.Asking.{IsAwaited, IsDecided, IsForgotten, IsFull, IsKnown, IsOneOf}
-use Rattle.batch.specs.Asking.{IsPending, IsPutOff, IsTaken, IsTicked, IsTurnedDown, IsUnknown}
+use Rattle.batch.specs.Asking.{IsAwaited, IsDecided, IsForgotten, IsFull, IsKnown}
+use Rattle.batch.specs.Asking.{IsPending, IsPutOff, IsTicked, IsTurnedDown, IsUnknown}
 use Rattle.batch.specs.Asking.{IsWaiting, Tries, ask_of, submit_of, tick_of}
 use Rattle.batch.specs.Dialing.{Place, Standing, asked_so}
-use Rattle.batch.specs.Entering.{EndsAsking, EnteredBy, IsCutOff, IsLost, IsOther}
-use Rattle.batch.specs.Entering.{StopsAsking}
 use Rattle.batch.specs.declared.asking.Receiver.{Receiver}
 use Rattle.batch.specs.declared.fault.BatchFault.{BatchFault}
 use Rattle.batch.specs.declared.fault.BatchFault.TheVariants.{Asking}
 use Rattle.batch.specs.declared.fault.BatchFault.TheVariants as fault
-use Rattle.batch.specs.model.Trying.{AreFor, AreTicks, EndsWaiting, IsFor, IsLastTry, IsTurnedOff}
-use Rattle.batch.specs.model.Trying.{IsUnanswered, IsUndecided, StopsTaking}
+use Rattle.batch.specs.model.Trying.{AreFor, AreTicks, EndsWaiting, IsFor, IsLastTry}
+use Rattle.batch.specs.model.Trying.{IsUnanswered, IsUndecided}
 use Rattle.batch.proofs.Going.{goes_more}
 
 -- what holds of its fault holds of a result that is one
@@ -103,8 +101,8 @@ ticked_known : (r : Receiver) (id : ℕ) (a : Asked) → a.request ≡ tick_of r
 ticked_known r id a h = λ is told answer unknown. tick_apart r id (sym h ∙ is)
 
 -- nor is the request that enters the text
-for_known : (r : Receiver) (id : ℕ) (text : List ℕ) (a : Asked) → IsFor r (submit_of r id text) a
-    → IsKnown (ask_of r id) a
+pub for_known : (r : Receiver) (id : ℕ) (text : List ℕ) (a : Asked)
+    → IsFor r (submit_of r id text) a → IsKnown (ask_of r id) a
 for_known r id text a (inl h) = λ is told answer unknown. submit_apart r id text (sym h ∙ is)
 for_known r id text a (inr h) = ticked_known r id a h
 
@@ -115,7 +113,7 @@ waiting_known ask a h = λ is told answer unknown.
     h.1 in
     k.1.1 unknown
 
-put_off_known : (r : Receiver) (id : ℕ) (a : Asked) → IsPutOff r (ask_of r id) a
+pub put_off_known : (r : Receiver) (id : ℕ) (a : Asked) → IsPutOff r (ask_of r id) a
     → IsKnown (ask_of r id) a
 put_off_known r id a (inl h) = waiting_known (ask_of r id) a h
 put_off_known r id a (inr h) = ticked_known r id a h.0
@@ -124,7 +122,7 @@ put_off_known r id a (inr h) = ticked_known r id a h.0
 failed_known : (ask : Frame) (a : Asked) (f : BatchFault) → a.answer ≡ Err f → IsKnown ask a
 failed_known ask a f failed = λ is told answer unknown. cc
 
-decided_known : (ask request : Frame) (last : What) → IsDecided last
+pub decided_known : (ask request : Frame) (last : What) → IsDecided last
     → IsKnown ask (asked_so request (Ok last))
 decided_known ask request last h = λ is told answer unknown. cc (h.3, unknown.1, answer)
 
@@ -353,192 +351,3 @@ pub told_once : {here : Place} (r : Receiver) (id m n : ℕ) (a b : Standing) �
 told_once r id m n a b some h =
     let one = one_of (IsWaiting (ask_of r id)) (IsTicked r) m n h.0 h.2 some in
     if_waiting (ask_of r id) one.0.answer one.1.1
-
--- ---- what each request is for, of a line
-
-submit_one : (r : Receiver) (submit ask : Frame) (a : Asked) → IsFor r submit a
-    → IsOneOf r submit ask a
-submit_one r submit ask a (inl h) = inl h
-submit_one r submit ask a (inr h) = inr (inr h)
-
-ask_one : (r : Receiver) (submit ask : Frame) (a : Asked) → IsFor r ask a → IsOneOf r submit ask a
-ask_one r submit ask a (inl h) = inr (inl h)
-ask_one r submit ask a (inr h) = inr (inr h)
-
--- tries are for their request
-tries_for : (P : Asked → Type 0) (r : Receiver) (request : Frame) (answer : What)
-    (asked : List Asked)
-    → ((a : Asked) → P a → IsFor r request a) → Tries P request answer asked
-    → AreFor r request asked
-tries_for P r request answer asked f h =
-    subst (AreFor r request) (sym h.parts)
-    (all_more (IsFor r request) h.front (asked_so request (Ok answer) ∷ [])
-    (all_weaker P (IsFor r request) h.front f h.each)
-    (inl refl, tt))
-
-taken_for : (r : Receiver) (id : ℕ) (text : List ℕ) (taken : What) (asked : List Asked)
-    → IsTaken r id text taken asked → AreOf r id text asked
-taken_for r id text taken asked h =
-    all_weaker (IsFor r (submit_of r id text)) (IsOneOf r (submit_of r id text) (ask_of r id)) asked
-    (submit_one r (submit_of r id text) (ask_of r id))
-    (tries_for (IsTurnedDown r (submit_of r id text)) r (submit_of r id text) taken asked
-    (turned_down_for r (submit_of r id text)) h)
-
-taken_known : (r : Receiver) (id : ℕ) (text : List ℕ) (taken : What) (asked : List Asked)
-    → IsTaken r id text taken asked → AreKnown r id asked
-taken_known r id text taken asked h =
-    all_weaker (IsFor r (submit_of r id text)) (IsKnown (ask_of r id)) asked
-    (for_known r id text)
-    (tries_for (IsTurnedDown r (submit_of r id text)) r (submit_of r id text) taken asked
-    (turned_down_for r (submit_of r id text)) h)
-
-awaited_known : (r : Receiver) (id : ℕ) (last : What) (asked : List Asked)
-    → IsAwaited r id last asked → AreKnown r id asked
-awaited_known r id last asked h =
-    let ask = ask_of r id in
-    subst (AllByRecursion (IsKnown ask)) (sym h.tries.parts)
-    (all_more (IsKnown ask) h.tries.front (asked_so ask (Ok last) ∷ [])
-    (all_weaker (IsPutOff r ask) (IsKnown ask) h.tries.front (put_off_known r id) h.tries.each)
-    (decided_known ask ask last h.decided, tt))
-
--- what is known of those that entered a line
-pub entered_known : (waits : Bool) (r : Receiver) (id : ℕ) (text : List ℕ) (last : What)
-    (asked : List Asked) → EnteredBy waits r id text last asked → AreKnown r id asked
-entered_known true r id text last asked h =
-    subst (AllByRecursion (IsKnown (ask_of r id))) (sym h.5)
-    (all_more (IsKnown (ask_of r id)) h.1 h.2 (taken_known r id text h.0 h.1 h.3)
-    (awaited_known r id last h.2 h.4))
-entered_known false r id text last asked h = taken_known r id text last asked h
-
-awaited_for : (r : Receiver) (id : ℕ) (text : List ℕ) (last : What) (asked : List Asked)
-    → IsAwaited r id last asked → AreOf r id text asked
-awaited_for r id text last asked h =
-    all_weaker (IsFor r (ask_of r id)) (IsOneOf r (submit_of r id text) (ask_of r id)) asked
-    (ask_one r (submit_of r id text) (ask_of r id))
-    (tries_for (IsPutOff r (ask_of r id)) r (ask_of r id) last asked
-    (put_off_for r (ask_of r id)) h.tries)
-
--- so are those that entered a line
-pub entered_for : (waits : Bool) (r : Receiver) (id : ℕ) (text : List ℕ) (last : What)
-    (asked : List Asked) → EnteredBy waits r id text last asked → AreOf r id text asked
-entered_for true r id text last asked h =
-    subst (AreOf r id text) (sym h.5)
-    (all_more (IsOneOf r (submit_of r id text) (ask_of r id)) h.1 h.2
-    (taken_for r id text h.0 h.1 h.3) (awaited_for r id text last h.2 h.4))
-entered_for false r id text last asked h = taken_for r id text last asked h
-
--- ---- one line
-
--- the last request that failed was for the text, or it was a tick
-last_of_text : (f : BatchFault) (r : Receiver) (id : ℕ) (text asked : _)
-    → IsLastTry f r (submit_of r id text) asked → IsCutOff f r id text asked
-last_of_text f r id text asked (front, last, parts, failed, inl tick) =
-    (front, last, parts, failed, inl (inr tick))
-last_of_text f r id text asked (front, last, parts, failed, inr full) =
-    (front, last, parts, failed, inr full)
-
-known_of_text : (r : Receiver) (id : ℕ) (text : List ℕ) (asked : List Asked)
-    → AreFor r (submit_of r id text) asked → AreKnown r id asked
-known_of_text r id text asked h =
-    all_weaker (IsFor r (submit_of r id text)) (IsKnown (ask_of r id)) asked (for_known r id text) h
-
-not_taken : (f : BatchFault) (r : Receiver) (id : ℕ) (text : List ℕ) (asked : List Asked)
-    → AreFor r (submit_of r id text) asked
-    → IsLastTry f r (submit_of r id text) asked ⊎ IsOther f → StopsAsking f r id text asked
-not_taken f r id text asked h (inl last) = (
-  all_weaker (IsFor r (submit_of r id text)) (IsOneOf r (submit_of r id text) (ask_of r id)) asked
-      (submit_one r (submit_of r id text) (ask_of r id)) h,
-  inl (known_of_text r id text asked h, inl (last_of_text f r id text asked last)),
-)
-not_taken f r id text asked h (inr other) = (
-  all_weaker (IsFor r (submit_of r id text)) (IsOneOf r (submit_of r id text) (ask_of r id)) asked
-      (submit_one r (submit_of r id text) (ask_of r id)) h,
-  inl (known_of_text r id text asked h, inr (inr other)),
-)
-
--- so it is of what is asked for the text
-pub if_asks_text : (here : Place) (r : Receiver) (id : ℕ) (text : List ℕ) (submit : Frame)
-    (a b : Standing) (result : Result What BatchFault) → submit ≡ submit_of r id text
-    → IfErr result (λ f. Asks here a b (IsTurnedOff f r submit))
-    → IfErr result (λ f. Asks here a b (StopsTaking f r id text))
-if_asks_text here r id text submit a b (Ok answer) is h = tt
-if_asks_text here r id text submit a b (Err f) is h =
-    let k = subst (λ (s : Frame). Asks here a b (IsTurnedOff f r s)) is h in
-    (k.0, k.1, (k.2.0, inl k.2.1))
-
--- the text was not taken
-pub asks_text : {here : Place} (f : BatchFault) (r : Receiver) (id : ℕ) (text : List ℕ)
-    (a b : Standing)
-    → Asks here a b (StopsTaking f r id text) → Asks here a b (StopsAsking f r id text)
-asks_text f r id text a b h = (h.0, h.1, not_taken f r id text h.0 h.2.0 h.2.1)
-
--- it was taken, and then not waited for to the end
-ends_so : (f : BatchFault) (r : Receiver) (id : ℕ) (text : List ℕ) (taken : What)
-    (first rest : List Asked) → IsTaken r id text taken first → Ends r id f rest
-    → (AreKnown r id (first ++ rest) × EndsAsking f r id text (first ++ rest))
-    ⊎ ((f ≡ fault.Lost) × IsLost r id text (first ++ rest))
-ends_so f r id text taken first rest h (inl (known, inl last)) =
-    inl (
-      all_more (IsKnown (ask_of r id)) first rest (taken_known r id text taken first h) known,
-      inl (
-        first ++ last.0,
-        last.1,
-        ap (λ l. first ++ l) last.2 ∙ sym (append_assoc first last.0 (last.1 ∷ [])),
-        last.3,
-        inl last.4,
-      ),
-    )
-ends_so f r id text taken first rest h (inl (known, inr still)) =
-    inl (
-      all_more (IsKnown (ask_of r id)) first rest (taken_known r id text taken first h) known,
-      inr (inl (still.0, (taken, first, rest, h, still.1, refl))),
-    )
-ends_so f r id text taken first rest h (inr (lost, forgotten)) =
-    inr (lost, (taken, first, rest, h, forgotten, refl))
-
-not_awaited : {here : Place} (f : BatchFault) (r : Receiver) (id : ℕ) (text : List ℕ) (taken : What)
-    (a b c : Standing)
-    → Asks here a b (IsTaken r id text taken)
-    → Asks here b c (EndsWaiting f r id)
-    → Asks here a c (StopsAsking f r id text)
-not_awaited f r id text taken a b c h k = (
-  h.0 ++ k.0,
-  goes_more _ a b c h.0 k.0 h.1 k.1,
-  (
-    all_more (IsOneOf r (submit_of r id text) (ask_of r id)) h.0 k.0
-        (taken_for r id text taken h.0 h.2)
-        (all_weaker (IsFor r (ask_of r id)) (IsOneOf r (submit_of r id text) (ask_of r id)) k.0
-        (ask_one r (submit_of r id text) (ask_of r id)) k.2.0),
-    ends_so f r id text taken h.0 k.0 h.2 k.2.1,
-  ),
-)
-
-pub awaited : {here : Place} (r : Receiver) (id : ℕ) (text : List ℕ) (taken last : What)
-    (a b c : Standing)
-    → Asks here a b (IsTaken r id text taken) → Asks here b c (IsAwaited r id last)
-    → Asks here a c (EnteredBy true r id text last)
-awaited r id text taken last a b c h k = (
-  h.0 ++ k.0,
-  goes_more _ a b c h.0 k.0 h.1 k.1,
-  (taken, h.0, k.0, h.2, k.2, refl),
-)
-
--- the last request was answered, where it was
-pub if_awaited : {here : Place} (waits : Bool) (r : Receiver) (id : ℕ) (text : List ℕ)
-    (taken : What)
-    (a b c : Standing) (result : Result What BatchFault)
-    → waits ≡ true → Asks here a b (IsTaken r id text taken)
-    → IfOk result (λ last. Asks here b c (IsAwaited r id last))
-    → IfOk result (λ last. Asks here a c (EnteredBy waits r id text last))
-if_awaited {here} waits r id text taken a b c (Ok last) is h k =
-    subst (λ w. Asks here a c (EnteredBy w r id text last)) (sym is)
-    (awaited r id text taken last a b c h k)
-if_awaited waits r id text taken a b c (Err f) is h k = tt
-
-pub if_not_awaited : {here : Place} (r : Receiver) (id : ℕ) (text : List ℕ) (taken : What)
-    (a b c : Standing) (result : Result What BatchFault)
-    → Asks here a b (IsTaken r id text taken)
-    → IfErr result (λ f. Asks here b c (EndsWaiting f r id))
-    → IfErr result (λ f. Asks here a c (StopsAsking f r id text))
-if_not_awaited r id text taken a b c (Ok last) h k = tt
-if_not_awaited r id text taken a b c (Err f) h k = not_awaited f r id text taken a b c h k

@@ -2,6 +2,7 @@
 use Rattle.std.specs.Prelude.{◌≡◌, ◌⊎◌, ◌+◌, ◌++◌, ◌∷◌, [], ℕ, List, Ok, Err, IsOk, IsOkAnd}
 use Rattle.std.specs.List.{AllByRecursion}
 use Rattle.client.specs.Answers.{judged}
+use Rattle.client.specs.Standings.{log_request}
 use Rattle.client.specs.declared.fault.ClientFault.TheVariants.{Refused}
 use Rattle.wire.specs.Ranges.{IsFrame}
 use Rattle.wire.specs.declared.frame.Frame.{Frame}
@@ -31,6 +32,10 @@ ask_of r id = request_to r (what.Ask id)
 -- the request that gives the desk a tick
 abbrev pub tick_of : Receiver → Frame
 tick_of r = request_to r what.Tick
+
+-- the request for what stands in the desk's log from a position on
+abbrev pub log_of : Receiver → ℕ → Frame
+log_of r position = log_request r.hall r.desk position
 
 -- a frame came that is the answer to the request
 abbrev pub IsAnswer : Frame → What → Type 0
@@ -94,10 +99,11 @@ Counts Is IsElse m n (a ∷ asked) =
 abbrev pub AreAllTries : (Asked → Type 0) → Receiver → List Asked → Type 0
 AreAllTries Is r = Counts Is (IsTicked r) 10000 312
 
--- one of these two was asked, or for a tick
+-- one of these two was asked, or for a tick, or for the log from some position on
 abbrev pub IsOneOf : Receiver → Frame → Frame → Asked → Type 0
 IsOneOf r submit ask a =
-    (a.request ≡ submit) ⊎ ((a.request ≡ ask) ⊎ (a.request ≡ tick_of r))
+    (a.request ≡ submit) ⊎ ((a.request ≡ ask)
+    ⊎ ((a.request ≡ tick_of r) ⊎ ((pos : ℕ) × (a.request ≡ log_of r pos))))
 
 -- the request was made until this was answered; of each one in front this is said
 pub record Tries (Is : Asked → Type 0) (request : Frame) (answer : What) (asked : List Asked)
@@ -125,7 +131,7 @@ pub record IsAwaited (r : Receiver) (id : ℕ) (last : What) (asked : List Asked
   pub tries : Tries (IsPutOff r (ask_of r id)) (ask_of r id) last asked
   pub decided : IsDecided last
 
--- each request is for this text and id, or a tick
+-- each request is for this text and id, or a tick, or for the log
 abbrev pub AreOf : Receiver → ℕ → List ℕ → List Asked → Type 0
 AreOf r id text = AllByRecursion (IsOneOf r (submit_of r id text) (ask_of r id))
 

@@ -1,4 +1,5 @@
 pub mod Asking
+pub mod Confirming
 pub mod Dialing
 pub mod Entering
 pub mod Logs

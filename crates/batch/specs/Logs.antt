@@ -2,20 +2,15 @@
 use Rattle.std.specs.Prelude.{◌≡◌, ◌⊎◌, ◌+◌, ◌<◌, ◌≤◌, ◌++◌, ◌∷◌, [], ℕ, List, length, Result}
 use Rattle.std.specs.Prelude.{Ok, Err}
 use Rattle.acceptor.specs.declared.entry.Entry.{Entry}
-use Rattle.client.specs.Standings.{log_request}
 use Rattle.client.specs.declared.fault.ClientFault.TheVariants.{NoAnswer}
-use Rattle.wire.specs.declared.frame.Frame.{Frame}
 use Rattle.wire.specs.declared.frame.What.{What}
 use Rattle.wire.specs.declared.frame.What.TheVariants as what
 use Rattle.batch.specs.Asking.{IsAnswer}
+pub use Rattle.batch.specs.Asking.{log_of}
 use Rattle.batch.specs.Dialing.{Adds, Asked, Told, asked_so}
 use Rattle.batch.specs.declared.asking.Receiver.{Receiver}
 use Rattle.batch.specs.declared.fault.BatchFault.{BatchFault}
 use Rattle.batch.specs.declared.fault.BatchFault.TheVariants as fault
-
--- the request for what stands in the desk's log from a position on
-abbrev pub log_of : Receiver → ℕ → Frame
-log_of r position = log_request r.hall r.desk position
 
 -- The answer has these entries of a log of this length, from the position on. The log has not
 -- become shorter than it was told to be, the entries end within it, and there is one, unless the

@@ -15,9 +15,11 @@ ghost use Rattle.batch.specs.model.Trying.{StopsTaking};
 ghost use Rattle.batch.specs.declared.entering.Fate.TheVariants as fate;
 
 use crate::asking::{Receiver, request_to};
+use crate::confirming::confirm;
 use crate::dialing::{Contact, Dial};
 use crate::fault::BatchFault;
 use crate::keeping::{Held, ask};
+use crate::watching::Watch;
 use acceptor::entry::{Entry, EntryFault};
 use client::ClientFault;
 use std::alloc::Global;
@@ -32,13 +34,15 @@ const TRIES_TO_TICK: u32 = 32;
 /// The greatest id.
 const GREATEST: u64 = 9_223_372_036_854_775_807;
 
-/// Rests after a try, counted from 0, and gives the desk a tick after every 32nd one.
-fn rest_behind<D: Dial>(
+/// Rests after a try, counted from 0, of which the observer is told, and gives the desk a tick
+/// after every 32nd one.
+fn rest_behind<D: Dial, V: Watch>(
     alloc: Global,
     dial: &mut D,
     held: &mut Option<Held<D::Reader, D::Writer>>,
     contact: Contact<'_>,
     receiver: Receiver,
+    watch: &mut V,
     tries: u32,
 ) -> Result<(), BatchFault>
     requires { IsDesk receiver.desk }
@@ -51,6 +55,7 @@ fn rest_behind<D: Dial>(
         (asked_so (tick_of receiver) (Err f) ∷ [])) }
     ensures fails { IfErr result IsOfAsking }
 {
+    watch.waits(tries);
     dial.pause(tries);
     if tries % TRIES_TO_TICK < TRIES_TO_TICK - 1 {
         return Ok(());
@@ -74,12 +79,13 @@ fn is_busy(fault: BatchFault) -> bool
 }
 
 /// Makes a request until the desk's queue has room.
-fn asked_until_taken<D: Dial>(
+fn asked_until_taken<D: Dial, V: Watch>(
     alloc: Global,
     dial: &mut D,
     held: &mut Option<Held<D::Reader, D::Writer>>,
     contact: Contact<'_>,
     receiver: Receiver,
+    watch: &mut V,
     submit: &Frame,
 ) -> Result<What, BatchFault>
     requires desk { IsDesk receiver.desk }
@@ -102,7 +108,7 @@ fn asked_until_taken<D: Dial>(
                 }
             }
         }
-        rest_behind(alloc, dial, held, contact, receiver, tries)?;
+        rest_behind(alloc, dial, held, contact, receiver, watch, tries)?;
     }
     ask(alloc, dial, held, contact, submit)
 }
@@ -134,12 +140,13 @@ fn entry_of(alloc: Global, id: u64, text: &[u8]) -> Result<Entry, BatchFault>
 }
 
 /// Enters a command, and gives what the desk answers.
-fn submitted<D: Dial>(
+fn submitted<D: Dial, V: Watch>(
     alloc: Global,
     dial: &mut D,
     held: &mut Option<Held<D::Reader, D::Writer>>,
     contact: Contact<'_>,
     receiver: Receiver,
+    watch: &mut V,
     id: u64,
     text: &[u8],
 ) -> Result<What, BatchFault>
@@ -156,7 +163,7 @@ fn submitted<D: Dial>(
 {
     let entry = entry_of(alloc, id, text)?;
     let submit = request_to(receiver, What::Submit { entry });
-    asked_until_taken(alloc, dial, held, contact, receiver, &submit)
+    asked_until_taken(alloc, dial, held, contact, receiver, watch, &submit)
 }
 
 /// What an answer says of a command.
@@ -186,12 +193,13 @@ fn fate_of(told: &What) -> Fate
 
 /// Asks until the command with an id is decided, and gives the answer. The first answer that the
 /// desk knows nothing of it ends that with `Lost`.
-fn decided<D: Dial>(
+fn decided<D: Dial, V: Watch>(
     alloc: Global,
     dial: &mut D,
     held: &mut Option<Held<D::Reader, D::Writer>>,
     contact: Contact<'_>,
     receiver: Receiver,
+    watch: &mut V,
     id: u64,
 ) -> Result<What, BatchFault>
     requires desk { IsDesk receiver.desk }
@@ -213,14 +221,14 @@ fn decided<D: Dial>(
             Fate::Unknown => return Err(BatchFault::Lost),
             Fate::Waits => {}
         }
-        rest_behind(alloc, dial, held, contact, receiver, tries)?;
+        rest_behind(alloc, dial, held, contact, receiver, watch, tries)?;
     }
     Err(BatchFault::StillPending)
 }
 
-/// Enters a command, and waits until it is decided where that is asked for. It gives the last
-/// answer.
-pub(crate) fn entered<D: Dial>(
+/// Enters a command, and where that is asked for waits until it is decided and sees that the entry
+/// that was decided is this one. It gives the last answer that says what became of it.
+pub(crate) fn entered<D: Dial, V: Watch>(
     alloc: Global,
     dial: &mut D,
     held: &mut Option<Held<D::Reader, D::Writer>>,
@@ -229,6 +237,7 @@ pub(crate) fn entered<D: Dial>(
     waits: bool,
     id: u64,
     text: &[u8],
+    watch: &mut V,
 ) -> Result<What, BatchFault>
     requires { IsDesk receiver.desk }
     ensures answer { IfOk result (λ last. IsEntered waits receiver id text.now last) }
@@ -243,9 +252,11 @@ pub(crate) fn entered<D: Dial>(
     if id == 0 || id > GREATEST {
         return Err(BatchFault::NoMoreIds);
     }
-    let taken = submitted(alloc, dial, held, contact, receiver, id, text)?;
+    let taken = submitted(alloc, dial, held, contact, receiver, watch, id, text)?;
     if !waits {
         return Ok(taken);
     }
-    decided(alloc, dial, held, contact, receiver, id)
+    let told = decided(alloc, dial, held, contact, receiver, watch, id)?;
+    confirm(alloc, dial, held, contact, receiver, watch, id, text, &told)?;
+    Ok(told)
 }

@@ -1,15 +1,11 @@
 //! Why not all lines were entered.
 
 use client::ClientFault;
-use lines::RunFault;
 use thiserror::Error;
 
 /// Why not all lines were entered. Its text is one line for people.
 #[derive(Clone, Copy, Debug, PartialEq, Eq, Error)]
 pub enum BatchFault {
-    /// The input is above a limit, or a read of it failed.
-    #[error("{0}")]
-    Lines(RunFault),
     /// A line has more than 600 bytes.
     #[error("text too long")]
     TextTooLong,
@@ -31,6 +27,12 @@ pub enum BatchFault {
     /// The desk took the command and has lost it: it was started again in between.
     #[error("lost")]
     Lost,
+    /// Under this id another command stands in the log.
+    #[error("another command's id")]
+    AnotherCommand,
+    /// A command was refused, and the run was to end there.
+    #[error("stopped at a refusal")]
+    AtRefusal,
     /// What was answered can't be printed.
     #[error("cannot write")]
     Write,

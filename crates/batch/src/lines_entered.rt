@@ -1,15 +1,15 @@
-//! The lines of an input as commands, each entered with an id of its own.
+//! Commands that are entered one after the other, each with an id of its own.
 
-ghost use Rattle.std.specs.Prelude.{◌+◌, IfErr, OnOk, OnErr};
+ghost use Rattle.std.specs.Prelude.{◌≡◌, ◌+◌, IfErr, OnOk, OnErr};
 ghost use Rattle.wire.specs.Ranges.{IsDesk};
 ghost use Rattle.std.specs.Io.KnownBytes.{Appends};
-ghost use Rattle.lines.specs.Bytes.{AppendsPart, sides};
+ghost use Rattle.lines.specs.Bytes.{AppendsPart};
 ghost use Rattle.client.specs.Printing.{reply_text};
 ghost use Rattle.batch.specs.Asking.{IsOfAsking};
 ghost use Rattle.batch.specs.Dialing.{AsksBy, told};
-ghost use Rattle.batch.specs.Entering.{AsksAll, AsksSome, AsksTo, EntersAll};
-ghost use Rattle.batch.specs.Entering.{EntersLine, EntersSome, FailsLine, IsOfPrinting};
-ghost use Rattle.batch.specs.Entering.{StopsAsking, StopsBy};
+ghost use Rattle.batch.specs.Entering.{AsksAll, AsksSome, AsksTo, EntersAll, EntersLine};
+ghost use Rattle.batch.specs.Entering.{EntersSome, FailsLine, IsOfPrinting, StopsAsking, StopsBy};
+ghost use Rattle.batch.specs.Entering.{ends_after, is_refused, texts_of, told_answer};
 ghost use Rattle.batch.specs.model.Keeping.{way_of};
 
 use crate::asking::Receiver;
@@ -17,21 +17,57 @@ use crate::dialing::{Contact, Dial};
 use crate::entering::entered;
 use crate::fault::BatchFault;
 use crate::keeping::{Held, let_go};
+use crate::watching::Watch;
 use client::reply_text;
-use lines::{LineReader, RunFault, write_text};
+use command_file::CommandText;
+use lines::write_text;
 use std::alloc::Global;
-use std::io::{Read, Write};
-use wire::What;
+use std::io::Write;
+use texts::Answer;
+use wire::{CommandState, What};
 
-/// How lines are entered.
+/// How commands are entered.
 #[derive(Clone, Copy, Debug)]
 pub struct Batch {
     /// The desk that they are entered at.
     pub receiver: Receiver,
-    /// The id of the first line, at least 1. Each further line has the next one.
+    /// The id of the first command, at least 1. Each further one has the next one.
     pub first_id: u64,
-    /// Whether each line is waited for until it is decided.
+    /// Whether each command is waited for until it is decided.
     pub waits: bool,
+    /// Whether the run ends after the first command that was refused. Where commands are not waited
+    /// for, nothing is known of that.
+    pub stops_at_refusal: bool,
+}
+
+/// How a command was answered, where an answer tells that.
+pub fn told_answer(answer: &What) -> Option<Answer>
+    ensures { result ≡ told_answer answer.now }
+{
+    match answer {
+        What::Told {
+            state: CommandState::Done { answer, .. },
+            ..
+        } => Some(*answer),
+        _ => None,
+    }
+}
+
+/// Whether it was refused.
+fn is_refused(answer: Option<Answer>) -> bool
+    ensures { result ≡ is_refused answer }
+{
+    match answer {
+        Some(Answer::Refused(_)) => true,
+        _ => false,
+    }
+}
+
+/// Whether the run ends after a command that was answered so.
+fn ends_after(batch: Batch, answer: Option<Answer>) -> bool
+    ensures { result ≡ ends_after batch answer }
+{
+    batch.stops_at_refusal && is_refused(answer)
 }
 
 /// Prints an answer.
@@ -51,30 +87,32 @@ fn print_answer<W: Write>(alloc: Global, writer: &mut W, answer: What) -> Result
     }
 }
 
-/// Enters line `number`, counted from 0, and prints the answer.
-fn enter_line<D: Dial, W: Write>(
+/// Enters command `number`, counted from 0, and prints the answer.
+fn enter_line<D: Dial, W: Write, V: Watch>(
     alloc: Global,
     dial: &mut D,
     held: &mut Option<Held<D::Reader, D::Writer>>,
     contact: Contact<'_>,
     batch: Batch,
-    number: u32,
-    line: &[u8],
+    number: usize,
+    command: &CommandText,
     writer: &mut W,
+    watch: &mut V,
 ) -> Result<(), BatchFault>
     requires { IsDesk batch.receiver.desk }
-    ensures ok { OnOk result (EntersLine batch number line.now
+    ensures ok { OnOk result (EntersLine batch number command.now.text
         (way_of D.dialed D.Reader.remaining D.Writer.contents contact.entry dial.old dial.new
         held.old held.new) (W.contents writer.old) (W.contents writer.new)) }
     ensures err { IfErr result (λ f. FailsLine IsOfAsking f batch (batch.first_id + number)
-        line.now (W.contents writer.old) (W.contents writer.new)) }
+        command.now.text (W.contents writer.old) (W.contents writer.new)) }
     ensures asked { IfErr result (λ f. AsksBy (way_of D.dialed D.Reader.remaining D.Writer.contents
         contact.entry dial.old dial.new held.old held.new)
-        (StopsAsking f batch.receiver (batch.first_id + number) line.now)) }
+        (StopsAsking f batch.receiver (batch.first_id + number) command.now.text)) }
 {
-    let Some(id) = batch.first_id.checked_add(u64::from(number)) else {
+    let Some(id) = batch.first_id.checked_add(number as u64) else {
         return Err(BatchFault::NoMoreIds);
     };
+    watch.begins(command, id);
     let answer = entered(
         alloc,
         dial,
@@ -83,84 +121,92 @@ fn enter_line<D: Dial, W: Write>(
         batch.receiver,
         batch.waits,
         id,
-        line,
+        command.text(),
+        watch,
     )?;
-    print_answer(alloc, writer, answer)
+    let said = told_answer(&answer);
+    let ends = ends_after(batch, said);
+    print_answer(alloc, writer, answer)?;
+    watch.entered(said);
+    if ends {
+        return Err(BatchFault::AtRefusal);
+    }
+    Ok(())
 }
 
 /// As [`enter_lines`], with the connection that is kept, or none.
-fn enter_lines_over<D: Dial, R: Read, W: Write>(
+fn enter_lines_over<D: Dial, W: Write, V: Watch>(
     alloc: Global,
     dial: &mut D,
     held: &mut Option<Held<D::Reader, D::Writer>>,
     contact: Contact<'_>,
     batch: Batch,
-    reader: &mut R,
+    commands: &[CommandText],
     writer: &mut W,
+    watch: &mut V,
 ) -> Result<(), BatchFault>
     requires { IsDesk batch.receiver.desk }
-    ensures { AsksTo result batch (way_of D.dialed D.Reader.remaining D.Writer.contents
+    ensures { AsksTo result batch (texts_of commands.now)
+        (way_of D.dialed D.Reader.remaining D.Writer.contents
         contact.entry dial.old dial.new held.old held.new)
-        (sides R.remaining W.contents reader.old reader.new writer.old writer.new) }
+        (W.contents writer.old) (W.contents writer.new) }
 {
-    let mut lines = LineReader::new();
-    let mut line = Vec::new(alloc);
-    loop {
-        let number = lines.count();
-        match lines.read_line(reader, &mut line) {
-            Ok(true) => {
-                enter_line(alloc, dial, held, contact, batch, number, &line, writer)?;
-            }
-            Ok(false) => return Ok(()),
-            Err(RunFault::NoMemory) => return Err(BatchFault::NoMemory),
-            Err(fault) => return Err(BatchFault::Lines(fault)),
-        }
+    for (number, command) in commands.iter().enumerate() {
+        enter_line(
+            alloc, dial, held, contact, batch, number, command, writer, watch,
+        )?;
     }
+    Ok(())
 }
 
-/// Reads commands, one a line, enters each at a desk, and writes what the desk answers.
+/// Enters commands at a desk, one after the other, and writes what the desk answers.
 ///
-/// Lines are parted by line feeds; a last line without one counts where it is not empty. Line `n`,
-/// counted from 1, has the id `first_id + n - 1`. Each line is entered as soon as it was read, and
-/// again where the desk's queue is full. For each line one line is written: `taken <id>`, or, where
-/// it is waited for, `done <id> <pos> <Done or Code>`. A desk that doesn't decide is ticked now and
-/// then.
+/// Command `n`, counted from 1, has the id `first_id + n - 1`. It is entered again where the desk's
+/// queue is full. For each command one line is written: `taken <id>`, or, where it is waited for,
+/// `done <id> <pos> <Done or Code>`. A desk that doesn't decide is ticked now and then. Where a
+/// command is told to stand in the log, the entry there is asked for, and it is called done only
+/// where that is this id and this text: another client may have entered another text with the id.
 ///
 /// Requests are made over one connection, until 64 were made over it or one was not answered; the
 /// next one is made over a new one. Where the desk has ended a connection that was kept, and does
 /// not answer a request, that request is made once more, over a new one. At the end the connection
-/// that is kept is ended.
+/// that is kept is ended. The observer is told how it goes.
 ///
 /// # Errors
 ///
-/// At a fault the lines in front of it were entered and their answers written, and no line after
-/// it was sent. The line itself may have been taken: enter it again with its id, the one after the
-/// last that was written, and nothing is entered twice. `Lost` comes at the first answer that the
-/// desk knows nothing of a line that it took.
-pub fn enter_lines<D: Dial, R: Read, W: Write>(
+/// At a fault the commands in front were entered and their answers written, and none after it was
+/// sent. The command itself may have been taken: enter it again with its id, the one after the last
+/// that was written, and nothing is entered twice. `Lost` comes at the first answer that the desk
+/// knows nothing of a command that it took, `AnotherCommand` where its id is another command's, of
+/// which the observer is told, and `AtRefusal` after a command that was refused, whose line is
+/// written, where the run is to end at that.
+pub fn enter_lines<D: Dial, W: Write, V: Watch>(
     alloc: Global,
     dial: &mut D,
     contact: Contact<'_>,
     batch: Batch,
-    reader: &mut R,
+    commands: &[CommandText],
     writer: &mut W,
+    watch: &mut V,
 ) -> Result<(), BatchFault>
     requires { IsDesk batch.receiver.desk }
-    ensures ok { OnOk result (EntersAll batch
-        (sides R.remaining W.contents reader.old reader.new writer.old writer.new)) }
-    ensures err { OnErr result (EntersSome batch
-        (sides R.remaining W.contents reader.old reader.new writer.old writer.new)) }
-    ensures cause { IfErr result (λ f. StopsBy IsOfAsking f batch
-        (sides R.remaining W.contents reader.old reader.new writer.old writer.new)) }
-    ensures asked { OnOk result (AsksAll batch
-        (sides R.remaining W.contents reader.old reader.new writer.old writer.new)
-        (told contact.entry D.dialed dial.old dial.new)) }
-    ensures asked_so_far { IfErr result (λ f. AsksSome IsOfAsking f batch
-        (sides R.remaining W.contents reader.old reader.new writer.old writer.new)
-        (told contact.entry D.dialed dial.old dial.new)) }
+    ensures ok { OnOk result (EntersAll batch (texts_of commands.now)
+        (W.contents writer.old) (W.contents writer.new)) }
+    ensures err { OnErr result (EntersSome batch (texts_of commands.now)
+        (W.contents writer.old) (W.contents writer.new)) }
+    ensures cause { IfErr result (λ f. StopsBy IsOfAsking f batch (texts_of commands.now)
+        (W.contents writer.old) (W.contents writer.new)) }
+    ensures asked { OnOk result (AsksAll batch (texts_of commands.now)
+        (told contact.entry D.dialed dial.old dial.new)
+        (W.contents writer.old) (W.contents writer.new)) }
+    ensures asked_so_far { IfErr result (λ f. AsksSome IsOfAsking f batch (texts_of commands.now)
+        (told contact.entry D.dialed dial.old dial.new)
+        (W.contents writer.old) (W.contents writer.new)) }
 {
     let mut held = None;
-    let entered = enter_lines_over(alloc, dial, &mut held, contact, batch, reader, writer);
+    let ended = enter_lines_over(
+        alloc, dial, &mut held, contact, batch, commands, writer, watch,
+    );
     let_go(dial, &mut held);
-    entered
+    ended
 }

@@ -1,11 +1,22 @@
--- What was written of an archive at a fault.
-use Rattle.std.proofs.Common.{ℕ, List, Option}
+-- How tasks end at a fault.
+use Rattle.std.proofs.Common.{◌≡◌, ◌∙◌, ℕ, List, Option, arith, sym}
 use Rattle.desk.specs.Statuses.{PrintsAtMost}
+use Rattle.errands.specs.Statuses.{status_of}
+use Rattle.errands.specs.declared.fault.DeskFault.{DeskFault}
+use Rattle.errands.specs.declared.fault.DeskFault.TheVariants as fault
+use Rattle.fault_lines.specs.Statuses.{status_of_run}
+use Rattle.imports.specs.Printing.{status_of as status_of_import}
+use Rattle.imports.specs.declared.fault.ImportsFault.{ImportsFault}
+use Rattle.imports.specs.declared.fault.ImportsFault.TheVariants as imported
+use Rattle.lines.specs.declared.fault.RunFault.{RunFault}
+use Rattle.lines.specs.declared.fault.RunFault.TheVariants as run
 use Rattle.sqlite.specs.Recovery.{Image}
 use Rattle.stored_log.specs.StoredLogs.{FailsLog, PrintsLogPart}
 use Rattle.stored_log.specs.declared.fault.LogFault.{LogFault}
 use Rattle.stored_log.specs.declared.fault.LogFault.TheVariants as stored
+use Rattle.wcif.specs.declared.file.FileFault.TheVariants as file
 
+-- what was written of an archive at a fault
 pub prints_at_most : {K : Type 0} (e : LogFault) (IsHonest : K → Type 0) (files : Image)
     (old new : Option (List ℕ))
     → FailsLog e IsHonest files old new → PrintsLogPart old new → PrintsAtMost e old new
@@ -13,3 +24,48 @@ prints_at_most stored.Damaged IsHonest files old new fails part = fails
 prints_at_most stored.Device IsHonest files old new fails part = fails
 prints_at_most stored.Write IsHonest files old new fails part = part
 prints_at_most stored.NoMemory IsHonest files old new fails part = part
+
+-- no fault ends with status 0
+run_not_zero : (e : RunFault) → status_of_run e ≡ 0 → ⊥
+run_not_zero run.BadCount h = omega (arith, h)
+run_not_zero run.InputTooLong h = omega (arith, h)
+run_not_zero (run.BadLine line) h = omega (arith, h)
+run_not_zero run.Read h = omega (arith, h)
+run_not_zero run.Write h = omega (arith, h)
+run_not_zero run.NoMemory h = omega (arith, h)
+
+pub not_zero : (f : DeskFault) (status : ℕ) → status ≡ status_of f → status ≡ 0 → ⊥
+not_zero (fault.Run e) status is zero = run_not_zero e (sym is ∙ zero)
+not_zero fault.BadDesk status is zero = omega (arith, is, zero)
+not_zero fault.TextTooLong status is zero = omega (arith, is, zero)
+not_zero (fault.Refused refusal) status is zero = omega (arith, is, zero)
+not_zero fault.CannotConnect status is zero = omega (arith, is, zero)
+not_zero fault.NoAnswer status is zero = omega (arith, is, zero)
+not_zero fault.Late status is zero = omega (arith, is, zero)
+not_zero fault.WrongDesk status is zero = omega (arith, is, zero)
+not_zero fault.DamagedStore status is zero = omega (arith, is, zero)
+not_zero fault.StoreDevice status is zero = omega (arith, is, zero)
+not_zero fault.StoreDown status is zero = omega (arith, is, zero)
+not_zero fault.CannotListen status is zero = omega (arith, is, zero)
+not_zero fault.NoMoreIds status is zero = omega (arith, is, zero)
+not_zero fault.StillPending status is zero = omega (arith, is, zero)
+not_zero fault.Lost status is zero = omega (arith, is, zero)
+not_zero fault.NoStore status is zero = omega (arith, is, zero)
+not_zero fault.StoreThere status is zero = omega (arith, is, zero)
+not_zero fault.SameAddresses status is zero = omega (arith, is, zero)
+not_zero (fault.UnknownHost desk) status is zero = omega (arith, is, zero)
+not_zero fault.BadHallFile status is zero = omega (arith, is, zero)
+not_zero fault.NoCommand status is zero = omega (arith, is, zero)
+not_zero fault.AnotherCommand status is zero = omega (arith, is, zero)
+not_zero fault.AtRefusal status is zero = omega (arith, is, zero)
+
+pub import_not_zero : (f : ImportsFault) (status : ℕ) → status ≡ status_of_import f → status ≡ 0
+    → ⊥
+import_not_zero imported.Read status is zero = omega (arith, is, zero)
+import_not_zero (imported.File file.TooLong) status is zero = omega (arith, is, zero)
+import_not_zero (imported.File (file.NotJson e)) status is zero = omega (arith, is, zero)
+import_not_zero (imported.File file.TooDeep) status is zero = omega (arith, is, zero)
+import_not_zero (imported.File (file.Refused found)) status is zero = omega (arith, is, zero)
+import_not_zero (imported.File file.NoMemory) status is zero = omega (arith, is, zero)
+import_not_zero imported.Write status is zero = omega (arith, is, zero)
+import_not_zero imported.NoMemory status is zero = omega (arith, is, zero)

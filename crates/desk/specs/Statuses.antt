@@ -1,22 +1,24 @@
 -- What an exit status says of the run.
-use Rattle.std.specs.Prelude.{◌≡◌, ◌⊎◌, ℕ, List, Option, None}
+use Rattle.std.specs.Prelude.{◌≡◌, ◌⊎◌, ℕ, Bool, true, false, List, Option, None, map}
 use Rattle.std.specs.Io.KnownBytes.{Keeps}
 use Rattle.clap.specs.Words.{Text}
 use Rattle.lines.specs.Bytes.{HasLeft, Sides}
 use Rattle.lines.specs.declared.fault.RunFault.{RunFault}
 use Rattle.lines.specs.declared.fault.RunFault.TheVariants as run
-use Rattle.replay.specs.Replay.{run_of}
+use Rattle.addressing.specs.Files.{IsOfFile}
+use Rattle.addressing.specs.Printing.{FailsToPrint, PrintsHall}
 use Rattle.hall.specs.Halls.{Run as HallRun, Runs, RunFails}
 use Rattle.hall.specs.Halls.{run_of as hall_run_of}
-use Rattle.batch.specs.Dialing.{Dialed, Told, place_of}
-use Rattle.batch.specs.Entering.{AsksAll}
-use Rattle.batch.specs.declared.dialing.Contact.{Contact}
-use Rattle.batch.specs.declared.lines_entered.Batch.{Batch}
+use Rattle.hall_file.specs.Halls.{Says, texts_of}
+use Rattle.hall_file.specs.declared.hall_file.HallFile.{HallFile}
+use Rattle.batch.specs.Dialing.{Dialed}
 use Rattle.imports.specs.Printing.{FailsImport, PrintsImport}
 use Rattle.imports.specs.Printing.{status_of as status_of_import}
 use Rattle.imports.specs.declared.fault.ImportsFault.{ImportsFault}
 use Rattle.wcif.specs.declared.options.Options.{Options}
-use Rattle.wire.specs.Ranges.{IsDesk}
+use Rattle.replay.specs.Apart.{Told}
+use Rattle.standings.specs.declared.forms.Form.{Form}
+use Rattle.standings.specs.declared.forms.Form.TheVariants as form
 use Rattle.stored_log.specs.StoredLogs.{PrintsLog, PrintsLogPart}
 use Rattle.stored_log.specs.declared.fault.LogFault.{LogFault}
 use Rattle.stored_log.specs.declared.fault.LogFault.TheVariants as stored
@@ -25,19 +27,29 @@ use Rattle.serve.specs.declared.fault.ServeFault.{ServeFault}
 use Rattle.serve.specs.declared.fault.ServeFault.TheVariants as serve
 use Rattle.service.specs.declared.Service.{Service}
 use Rattle.arguments.specs.Asking.{Asks}
-use Rattle.errands.specs.Errands.{DoesErrand, FailsErrand}
-use Rattle.errands.specs.Statuses.{FailsLines, status_of}
+use Rattle.errands.specs.Statuses.{status_of}
 use Rattle.errands.specs.declared.fault.DeskFault.{DeskFault}
 use Rattle.errands.specs.declared.fault.DeskFault.TheVariants as fault
-use Rattle.fault_lines.specs.Statuses.{EndsReplay, RunsNothing, status_of_run}
-use Rattle.arguments.specs.declared.task.Errand.{Errand}
+use Rattle.fault_lines.specs.Statuses.{EndsTask, RunsNothing, status_of_run}
+use Rattle.arguments.specs.declared.places.Desks.TheVariants as desks
+use Rattle.arguments.specs.declared.places.Place.{Place}
+use Rattle.arguments.specs.declared.task.HallService.{HallService}
 use Rattle.arguments.specs.declared.task.Task.{Task}
 use Rattle.arguments.specs.declared.task.Task.TheVariants as task
+use Rattle.tasks.specs.Asking.{EndsCarry, EndsCopyLog, EndsNewest}
+use Rattle.tasks.specs.Entering.{EndsEnter, EndsLines}
+use Rattle.tasks.specs.Places.{NamesDesk, Reach}
+use Rattle.tasks.specs.Services.{IsServiceOf}
+use Rattle.tasks.specs.Standings.{AreFew, EndsStatus}
 
 -- the fault of a desk that serves
 abbrev pub fault_of_serve : ServeFault → DeskFault
 fault_of_serve serve.BadCount = fault.Run run.BadCount
 fault_of_serve serve.BadDesk = fault.BadDesk
+fault_of_serve serve.SameAddresses = fault.SameAddresses
+fault_of_serve serve.NoStore = fault.NoStore
+fault_of_serve serve.StoreThere = fault.StoreThere
+fault_of_serve (serve.UnknownHost desk) = fault.UnknownHost desk
 fault_of_serve serve.WrongDesk = fault.WrongDesk
 fault_of_serve serve.Damaged = fault.DamagedStore
 fault_of_serve serve.Device = fault.StoreDevice
@@ -72,6 +84,12 @@ EndsImport status options old new =
     ((status ≡ 0) × PrintsImport options None old new)
     ⊎ ((f : ImportsFault) × (status ≡ status_of_import f) × FailsImport f options None old new)
 
+-- the file that describes a hall was printed, or not
+abbrev pub EndsHallFile : ℕ → (hall : ℕ) → List Text → Option (List ℕ) → Option (List ℕ) → Type 0
+EndsHallFile status hall texts old new =
+    ((status ≡ 0) × PrintsHall hall texts old new)
+    ⊎ ((f : DeskFault) × (status ≡ status_of f) × FailsToPrint f hall texts old new)
+
 -- what became of connections to desks before a run and afterwards, where that is told
 pub record Calls : Type 0 where
   pub old : Option (List Dialed)
@@ -80,15 +98,9 @@ pub record Calls : Type 0 where
 abbrev pub calls : {D : Type 0} → (D → Option (List Dialed)) → (before after : D) → Calls
 calls dialed before after = record { old = dialed before; new = dialed after }
 
--- those to this place
-abbrev pub calls_to : Contact → Calls → Told
-calls_to contact c = record { place = place_of contact; old = c.old; new = c.new }
-
--- all lines were entered, or not
-abbrev pub EndsLines : ℕ → Contact → Batch → Sides → Calls → Type 0
-EndsLines status contact b s c =
-    ((status ≡ 0) × IsDesk b.receiver.desk × AsksAll b s (calls_to contact c))
-    ⊎ ((f : DeskFault) × (status ≡ status_of f) × FailsLines f b s (calls_to contact c))
+-- with what the fault stream had before the run
+abbrev pub reach_of : Calls → Told → Reach
+reach_of c t = record { dialed = c.old; dialed_then = c.new; told = t.before }
 
 -- a script was run to its end, or to a fault
 abbrev pub EndsHall : ℕ → HallRun → Type 0
@@ -96,37 +108,97 @@ EndsHall status r =
     ((status ≡ 0) × Runs r)
     ⊎ ((e : RunFault) × (status ≡ status_of_run e) × RunFails e r)
 
--- a desk was asked and its answer printed, or that failed
-abbrev pub EndsErrand : ℕ → Errand → Calls → Option (List ℕ) → Option (List ℕ) → Type 0
-EndsErrand status e c old new =
-    ((status ≡ 0) × DoesErrand e (calls_to e.contact c) old new)
-    ⊎ ((f : DeskFault) × (status ≡ status_of f)
-    × FailsErrand f e (calls_to e.contact c) old new)
-
 -- a desk served and printed both lines, or it ended by a fault
 abbrev pub EndsServe : ℕ → Service → Option (List ℕ) → Option (List ℕ) → Type 0
 EndsServe status s old new =
     ((status ≡ 0) × Prints s (output old new))
     ⊎ ((e : ServeFault) × (status ≡ status_of (fault_of_serve e)) × PrintsAt e s (output old new))
 
--- how a task ended: by a status, with what was read and written, and what became of connections
-abbrev pub Ends : Task → ℕ → Sides → Calls → Type 0
-Ends (task.Replay event round style) status s c =
-    (input : List ℕ) × HasLeft s.had input
-    × EndsReplay status (run_of style event round input s)
-Ends (task.Import file options) status s c =
-    Keeps s.had s.left × EndsImport status options s.old s.new
-Ends (task.Hall desks) status s c =
-    (input : List ℕ) × HasLeft s.had input
-    × EndsHall status (hall_run_of desks input s)
-Ends (task.Carry errand) status s c =
-    Keeps s.had s.left × EndsErrand status errand c s.old s.new
-Ends (task.EnterLines contact batch) status s c = EndsLines status contact batch s c
-Ends (task.Log store) status s c = Keeps s.had s.left × EndsLog status s.old s.new
-Ends (task.Serve service) status s c = Keeps s.had s.left × EndsServe status service s.old s.new
+-- the file gives no hall, or memory ran out, and nothing was printed
+abbrev pub EndsUnserved : ℕ → Option (List ℕ) → Option (List ℕ) → Type 0
+EndsUnserved status old new =
+    (f : DeskFault) × (status ≡ status_of f) × IsOfFile f × Keeps old new
 
--- what a status says of the arguments, and of what was read and written
-abbrev pub Ran : List Text → ℕ → Sides → Calls → Type 0
-Ran given status s c =
-    ((t : Task) × Asks given t × Ends t status s c)
+-- or the desk of its hall served, or ended by a fault
+abbrev pub EndsServeHall : ℕ → HallService → Option (List ℕ) → Option (List ℕ) → Type 0
+EndsServeHall status wanted old new =
+    EndsUnserved status old new
+    ⊎ ((hall : HallFile) × (bytes : List ℕ) × Says bytes hall
+    × (s : Service) × IsServiceOf s hall.hall wanted (texts_of hall) × EndsServe status s old new)
+
+-- where all was done, nothing is told on the fault stream
+abbrev pub IsQuiet : ℕ → Told → Type 0
+IsQuiet status t = status ≡ 0 → Keeps t.before t.now
+
+-- so it is where the arguments name the desk that is asked
+abbrev pub IsQuietAt : Place → ℕ → Told → Type 0
+IsQuietAt place status t = status ≡ 0 → NamesDesk place → Keeps t.before t.now
+
+-- in which form the desks of a hall are told of
+abbrev pub form_of : Bool → Form
+form_of true = form.Json
+form_of false = form.Text
+
+-- at most five desks are asked at once
+abbrev pub HasFew : Task → Type 0
+HasFew (task.Status desks patience json watches) = AreFew desks
+HasFew (task.Replay event round style only_sheet) = Unit {0}
+HasFew (task.Import file options) = Unit {0}
+HasFew (task.Hall desks) = Unit {0}
+HasFew (task.HallFile hall addresses) = Unit {0}
+HasFew (task.Carry place patience request) = Unit {0}
+HasFew (task.Newest place patience event round style) = Unit {0}
+HasFew (task.Enter place patience id text waits) = Unit {0}
+HasFew (task.EnterLines place patience lines) = Unit {0}
+HasFew (task.Log store) = Unit {0}
+HasFew (task.CopyLog place patience start) = Unit {0}
+HasFew (task.Serve service) = Unit {0}
+HasFew (task.ServeHall file wanted) = Unit {0}
+
+-- how a task ended: by a status, with what was read, written and told, and what became of
+-- connections
+abbrev pub Ends : Task → ℕ → Sides → Calls → Told → Type 0
+Ends (task.Replay event round style only_sheet) status s c t =
+    EndsTask (record { event = event; round = round; style = style; only_sheet = only_sheet })
+    status s t
+Ends (task.Import file options) status s c t =
+    Keeps s.had s.left × EndsImport status options s.old s.new × IsQuiet status t
+Ends (task.Hall desks) status s c t =
+    (input : List ℕ) × HasLeft s.had input
+    × EndsHall status (hall_run_of desks input s) × IsQuiet status t
+Ends (task.HallFile hall addresses) status s c t =
+    Keeps s.had s.left × EndsHallFile status hall (map (λ a. a.now) addresses.now) s.old s.new
+    × IsQuiet status t
+Ends (task.Carry place patience request) status s c t =
+    Keeps s.had s.left × EndsCarry place patience request status (reach_of c t) s.old s.new
+    × IsQuietAt place status t
+Ends (task.Newest place patience event round style) status s c t =
+    Keeps s.had s.left
+    × EndsNewest place patience (record { event = event; round = round; style = style }) status
+    (reach_of c t) s.old s.new
+    × IsQuietAt place status t
+Ends (task.Enter place patience id text waits) status s c t =
+    Keeps s.had s.left
+    × EndsEnter place patience (record { id = id; text = text.now; waits = waits }) status
+    (reach_of c t) s.old s.new
+Ends (task.EnterLines place patience lines) status s c t =
+    EndsLines place patience lines status (reach_of c t) s
+Ends (task.Log store) status s c t =
+    Keeps s.had s.left × EndsLog status s.old s.new × IsQuiet status t
+Ends (task.CopyLog place patience start) status s c t =
+    Keeps s.had s.left × EndsCopyLog place patience start status (reach_of c t) s.old s.new
+    × IsQuietAt place status t
+Ends (task.Status desks patience json watches) status s c t =
+    Keeps s.had s.left
+    × EndsStatus desks patience (form_of json) watches status
+    (record { dialed = c.old; dialed_then = c.new; old = s.old; new = s.new })
+Ends (task.Serve service) status s c t =
+    Keeps s.had s.left × EndsServe status service s.old s.new × IsQuiet status t
+Ends (task.ServeHall file wanted) status s c t =
+    Keeps s.had s.left × EndsServeHall status wanted s.old s.new × IsQuiet status t
+
+-- what a status says of the arguments, and of what was read, written and told
+abbrev pub Ran : List Text → ℕ → Sides → Calls → Told → Type 0
+Ran given status s c t =
+    ((asked : Task) × Asks given asked × Ends asked status s c t)
     ⊎ (Keeps s.had s.left × RunsNothing status s.old s.new)

@@ -2,6 +2,7 @@
 #![tactic(auto)]
 
 mod running;
+mod served;
 
 use command_line::given;
 use errands::Sockets;

@@ -4,39 +4,29 @@ ghost use Rattle.std.specs.Prelude.{◌≡◌, map, string_bytes};
 ghost use Rattle.std.specs.Io.KnownBytes.{Keeps};
 ghost use Rattle.arguments.specs.Asking.{HasIds};
 ghost use Rattle.command_line.specs.Arguments.{argument_texts};
-ghost use Rattle.desk.specs.Statuses.{Ends, Ran, calls, fault_of_log, fault_of_serve};
+ghost use Rattle.desk.specs.Statuses.{Ends, HasFew, Ran, calls, fault_of_log, form_of};
 ghost use Rattle.lines.specs.Bytes.{sides};
+ghost use Rattle.replay.specs.Apart.{told};
 
-use arguments::{Task, parse, task_of};
-use batch::Dial;
+use crate::served::{run_hall_service, run_service};
+use addressing::print_hall_file;
+use arguments::{Asked, Task, parse, task_of};
+use batch::{Dial, RoundSheet};
 use command_line::borrowed;
-use errands::{DeskFault, carry, enter_all, tell, tell_asking};
-use fault_lines::{tell_bad_number, tell_fault, tell_parse_error, tell_replay, tell_run};
+use errands::DeskFault;
+use fault_lines::{run_replay, tell_bad_number, tell_fault, tell_parse_error, tell_run};
 use hall::hall;
 use imports::{print_file, tell_import};
 use lines::RunFault;
-use replay::replay;
-use serve::{ServeFault, serve};
+use replay_arguments::ReplayTask;
 use sqlite::Unknown;
+use standings::Form;
 use std::io::{Read, Write};
 use stored_log::{LogFault, write_stored_log};
-
-/// The fault of a desk that serves.
-fn fault_of_serve(fault: ServeFault) -> DeskFault
-    ensures { result ≡ fault_of_serve fault }
-{
-    match fault {
-        ServeFault::BadCount => DeskFault::Run(RunFault::BadCount),
-        ServeFault::BadDesk => DeskFault::BadDesk,
-        ServeFault::WrongDesk => DeskFault::WrongDesk,
-        ServeFault::Damaged => DeskFault::DamagedStore,
-        ServeFault::Device => DeskFault::StoreDevice,
-        ServeFault::CannotListen => DeskFault::CannotListen,
-        ServeFault::Down => DeskFault::StoreDown,
-        ServeFault::Write => DeskFault::Run(RunFault::Write),
-        ServeFault::NoMemory => DeskFault::Run(RunFault::NoMemory),
-    }
-}
+use tasks::{
+    Watching, carry_at, copy_log_at, enter_at, enter_lines_at, newest_at, status_at, tell_log,
+    tell_missing,
+};
 
 /// The fault of a stored log.
 fn fault_of_log(fault: LogFault) -> DeskFault
@@ -50,29 +40,43 @@ fn fault_of_log(fault: LogFault) -> DeskFault
     }
 }
 
+/// In which form the desks of a hall are told of.
+fn form_of(json: bool) -> Form
+    ensures { result ≡ form_of json }
+{
+    if json { Form::Json } else { Form::Text }
+}
+
 /// Does what a task asks for, and returns the exit status.
 fn run_task<D: Dial, R: Read, W: Write, F: Write>(
     rt: &HostRuntime,
     dial: &mut D,
-    task: Task<'_>,
+    asked: Asked<'_>,
     reader: &mut R,
     writer: &mut W,
     faults: &mut F,
 ) -> u8
-    requires { HasIds task }
-    ensures ends { Ends task.entry result
+    requires ids { HasIds asked.task }
+    requires few { HasFew asked.task }
+    ensures { Ends asked.entry.task result
         (sides R.remaining W.contents reader.old reader.new writer.old writer.new)
-        (calls D.dialed dial.old dial.new) }
-    ensures quiet { result ≡ 0 → Keeps (F.contents faults.old) (F.contents faults.new) }
+        (calls D.dialed dial.old dial.new) (told F.contents faults.old faults.new) }
 {
-    match task {
+    let explains = asked.explains;
+    match asked.task {
         Task::Replay {
             event,
             round,
             style,
+            only_sheet,
         } => {
-            let ran = replay(rt.alloc(), reader, writer, event, round, style);
-            tell_replay(faults, ran)
+            let task = ReplayTask {
+                event,
+                round,
+                style,
+                only_sheet,
+            };
+            run_replay(rt.alloc(), task, reader, writer, faults)
         }
         Task::Import { file, options } => match print_file(rt, file, options, writer) {
             Ok(()) => 0,
@@ -82,37 +86,84 @@ fn run_task<D: Dial, R: Read, W: Write, F: Write>(
             let ran = hall(rt.alloc(), reader, writer, desks);
             tell_run(faults, ran)
         }
-        Task::Carry { errand } => match carry(rt.alloc(), dial, errand, writer) {
-            Ok(()) => 0,
-            Err(fault) => tell_asking(faults, fault, errand.contact),
-        },
-        Task::EnterLines { contact, batch } => {
-            match enter_all(rt.alloc(), dial, contact, batch, reader, writer) {
+        Task::HallFile { hall, addresses } => {
+            match print_hall_file(rt.alloc(), hall, addresses, writer, faults) {
                 Ok(()) => 0,
-                Err(fault) => tell_asking(faults, fault, contact),
+                Err(fault) => tell_missing(rt, faults, fault, false),
             }
         }
+        Task::Carry {
+            place,
+            patience,
+            request,
+        } => carry_at(rt, dial, place, patience, request, explains, writer, faults),
+        Task::Newest {
+            place,
+            patience,
+            event,
+            round,
+            style,
+        } => {
+            let sheet = RoundSheet {
+                event,
+                round,
+                style,
+            };
+            newest_at(rt, dial, place, patience, sheet, explains, writer, faults)
+        }
+        Task::Enter {
+            place,
+            patience,
+            id,
+            text,
+            waits,
+        } => enter_at(
+            rt, dial, place, patience, id, text, waits, explains, writer, faults,
+        ),
+        Task::EnterLines {
+            place,
+            patience,
+            lines,
+        } => enter_lines_at(
+            rt, dial, place, patience, lines, explains, reader, writer, faults,
+        ),
         Task::Log { store } => match write_stored_log(rt, store, Unknown, writer) {
             Ok(()) => 0,
-            Err(fault) => tell(faults, fault_of_log(fault)),
+            Err(fault) => tell_log(rt, faults, fault_of_log(fault), store, explains),
         },
-        Task::Serve { service } => match serve(rt, service, Unknown, writer) {
-            Ok(()) => 0,
-            Err(fault) => tell(faults, fault_of_serve(fault)),
-        },
+        Task::CopyLog {
+            place,
+            patience,
+            from,
+        } => copy_log_at(rt, dial, place, patience, from, explains, writer, faults),
+        Task::Status {
+            desks,
+            patience,
+            json,
+            watches,
+        } => {
+            let form = form_of(json);
+            let way = Watching { form, watches };
+            status_at(rt, dial, desks, patience, way, writer, faults)
+        }
+        Task::Serve { service } => run_service(rt, service, explains, writer, faults),
+        Task::ServeHall { file, wanted } => {
+            run_hall_service(rt, file, wanted, explains, writer, faults)
+        }
     }
 }
 
 /// Parses the arguments of the program, the program's own name first, does what they ask for, and
 /// returns the exit status.
 ///
-/// The status is 0 where it was done; 2 where the parser refused the arguments, with its text on
-/// `faults`, or where they ask for help or the version, with its text on `writer`; 3 for a named
-/// refusal, 4 for a device that failed, 5 for `no memory`. The texts of these three are one line on
-/// `faults`, but for those of a competition's file, of which there is one for each: [`DeskFault`]
-/// and [`tell_import`] have them. What each subcommand reads, writes and refuses is said at
-/// [`replay`](replay::replay), [`print_file`], [`hall`](hall::hall) and [`carry`]. A desk is asked
-/// by `dial`.
+/// The status is 0 where it was done; 1 where a part of a hall's desks lags or does not answer; 2
+/// where the parser refused the arguments, with its text on `faults`, or where they ask for help or
+/// the version, with its text on `writer`; 3 for a named refusal, and where no majority of a hall's
+/// desks answers; 4 for a device that failed, 5 for `no memory`. The texts of the last three are
+/// one line on `faults`, but for those of a competition's file, of which there is one for each; on
+/// a terminal and with `--explain` a second line says why: [`DeskFault`] and [`tell_import`] have
+/// them. What each subcommand reads, writes and refuses is said at [`run_replay`], [`print_file`],
+/// [`hall`](hall::hall), and in the crate `tasks`. Desks are asked by `dial`.
 pub fn run_arguments<'a, D: Dial, R: Read, W: Write, F: Write>(
     rt: &HostRuntime,
     dial: &mut D,
@@ -121,20 +172,19 @@ pub fn run_arguments<'a, D: Dial, R: Read, W: Write, F: Write>(
     writer: &mut W,
     faults: &mut F,
 ) -> u8
-    ensures ran { Ran (argument_texts given.now) result
+    ensures { Ran (argument_texts given.now) result
         (sides R.remaining W.contents reader.old reader.new writer.old writer.new)
-        (calls D.dialed dial.old dial.new) }
-    ensures quiet { result ≡ 0 → Keeps (F.contents faults.old) (F.contents faults.new) }
+        (calls D.dialed dial.old dial.new) (told F.contents faults.old faults.new) }
 {
     let alloc = rt.alloc();
     let matches = match parse(alloc, given) {
         Ok(matches) => matches,
         Err(error) => return tell_parse_error(alloc, &error, writer, faults),
     };
-    let Some(task) = task_of(&matches) else {
+    let Some(asked) = task_of(&matches) else {
         return tell_bad_number(faults);
     };
-    run_task(rt, dial, task, reader, writer, faults)
+    run_task(rt, dial, asked, reader, writer, faults)
 }
 
 /// Runs the program on the arguments that it was given: as [`run_arguments`].
@@ -146,10 +196,9 @@ pub fn run_given<D: Dial, R: Read, W: Write, F: Write>(
     writer: &mut W,
     faults: &mut F,
 ) -> u8
-    ensures ran { Ran (map string_bytes given.now) result
+    ensures { Ran (map string_bytes given.now) result
         (sides R.remaining W.contents reader.old reader.new writer.old writer.new)
-        (calls D.dialed dial.old dial.new) }
-    ensures quiet { result ≡ 0 → Keeps (F.contents faults.old) (F.contents faults.new) }
+        (calls D.dialed dial.old dial.new) (told F.contents faults.old faults.new) }
 {
     let Ok(texts) = borrowed(rt.alloc(), given) else {
         return tell_fault(faults, RunFault::NoMemory);

@@ -1,6 +1,6 @@
 -- The keeper that is opened on a desk's files.
 use Rattle.std.proofs.Common.{◌≡◌, ◌⊎◌, inl, inr, ◌∙◌, refl, sym, ap, subst, List, [], Result, Ok}
-use Rattle.std.proofs.Common.{Err, IfOk, IfErr}
+use Rattle.std.proofs.Common.{Err, IfOk, IfErr, Bool, false, IsTrue}
 use Rattle.sqlite.specs.Effect.{Database, IsDatabase}
 use Rattle.sqlite.specs.Recovery.{Image}
 use Rattle.sqlite.specs.Start.{FindsIn}
@@ -9,14 +9,15 @@ use Rattle.acceptor.specs.Storing.{first_stored}
 use Rattle.acceptor.specs.declared.entry.Entry.{Entry}
 use Rattle.acceptor.specs.declared.stored.Stored.{Stored}
 use Rattle.store.specs.Holding.{HasRow, Holds}
-use Rattle.store.specs.Kept.{HasOther, Keeps}
+use Rattle.store.specs.Kept.{HasOther, IsBare, Keeps}
 use Rattle.store.specs.Layout.{no_schema}
 use Rattle.store.specs.Opening.{Opens, Refuses}
 use Rattle.store.specs.declared.fault.OpenFault.{OpenFault}
 use Rattle.store.specs.declared.fault.OpenFault.TheVariants.{WrongDesk}
 use Rattle.store.specs.declared.home.Home.{Home}
 use Rattle.store.specs.declared.keeper.Keeper.{Ghosts}
-use Rattle.desk_file.specs.Files.{HasNoTable, HeldBy, HeldOther, IsFirst, KeepsHeld, TellsOther}
+use Rattle.desk_file.specs.Files.{HasNoTable, HasTable, HeldAs, HeldBy, HeldOther, IsFirst}
+use Rattle.desk_file.specs.Files.{KeepsFirst, KeepsHeld, KeepsThere, TellsOther}
 
 -- what a connection holds that is new is the last commit
 bare_before : (c : State) → IsFresh c → IsLive c → c.now.schema ≡ no_schema
@@ -78,6 +79,82 @@ opened_on k files home c (Ok keeper) fresh found place none opens = record {
   held = λ honest. held files home c (k.keeps keeper) fresh found (opens honest);
 }
 opened_on k files home c (Err e) fresh found place none opens = tt
+
+-- ---- where one is there, and where none is
+
+pub is_there : (b : Bool) (P : Type 0) → (P → IsTrue b) → b ≡ false → ¬ P
+is_there b P tells not p = absurd (cc (tells p, not))
+
+pub there_on : {K E : Type 0} (k : Ghosts K) (files : Image) (home : Home) (c : State)
+    (r : Result K E)
+    → (HasCleanDisk c → IsFresh c × IsLive c) → (HasCleanDisk c → FindsIn files c)
+    → ¬ IsBare c
+    → IfOk r (λ keeper. k.home_of keeper ≡ home) → IfOk r (λ keeper. k.failures_of keeper ≡ 0)
+    → IfOk r (λ keeper. k.is_honest keeper → Opens home c (k.keeps keeper))
+    → IfOk r (KeepsThere k files home)
+there_on k files home c (Ok keeper) fresh found there place none opens = record {
+  place = place;
+  fresh = none;
+  held =
+      λ honest.
+      let o = opens honest in
+      elim o.found [
+        | inl bare ↦ absurd (there bare)
+        | inr is ↦ (
+          is.0,
+          is.1,
+          o.same is.0 is.1 is.2,
+          record {
+            trees = c.committed.trees;
+            found = (found o.honest).reads;
+            only = (found o.honest).holds;
+            has = held_before c home is.0 is.1 is.2;
+          },
+        )
+      ];
+}
+there_on k files home c (Err e) fresh found there place none opens = tt
+
+pub first_on : {K : Type 0} (k : Ghosts K) (files : Image) (home : Home) (c : State) (keeper : K)
+    → (HasCleanDisk c → IsFresh c × IsLive c) → (HasCleanDisk c → FindsIn files c)
+    → IsBare c
+    → k.home_of keeper ≡ home → k.failures_of keeper ≡ 0
+    → (k.is_honest keeper → Opens home c (k.keeps keeper))
+    → KeepsFirst k files home keeper
+first_on k files home c keeper fresh found bare place none opens = record {
+  place = place;
+  fresh = none;
+  held =
+      λ honest.
+      let o = opens honest in
+      let new = fresh o.honest in (
+        first_stored,
+        [],
+        o.made bare,
+        record {
+          trees = c.committed.trees;
+          found = (found o.honest).reads;
+          only = (found o.honest).holds;
+          has = record { bare = bare_before c new.0 new.1 bare; state = refl; empty = refl };
+        },
+      );
+}
+
+pub table_on : (files : Image) (c : State)
+    → (HasCleanDisk c → IsFresh c × IsLive c) → (HasCleanDisk c → FindsIn files c) → ¬ IsBare c
+    → HasCleanDisk c → HeldAs files HasTable
+table_on files c fresh found there clean =
+    let new = fresh clean in
+    record {
+      trees = c.committed.trees;
+      found = (found clean).reads;
+      only = (found clean).holds;
+      has = (
+        c.committed.schema,
+        λ bare. there (ap (λ (d : Database). d.schema) new.0.clean ∙ bare),
+        (new.1 new.0.is_open).1,
+      );
+    }
 
 -- a connection over the files that has another desk's row
 other_row : (files : Image) (home : Home) (c : State) → IsFresh c → FindsIn files c

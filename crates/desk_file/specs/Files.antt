@@ -3,6 +3,7 @@ use Rattle.std.specs.Prelude.{◌≡◌, ◌≢◌, ◌⊎◌, List, []}
 use Rattle.sqlite.specs.Effect.{IsDatabase}
 use Rattle.sqlite.specs.Files.{AreFoundIn, HoldsDatabase}
 use Rattle.sqlite.specs.Recovery.{Image}
+use Rattle.sqlite.specs.Schema.{Schema}
 use Rattle.sqlite.specs.State.{HasCleanDisk, State}
 use Rattle.sqlite.specs.Tree.{Trees}
 use Rattle.acceptor.specs.Storing.{first_stored}
@@ -44,6 +45,51 @@ pub record KeepsHeld {K : Type 0} (k : Ghosts K) (files : Image) (home : Home) (
   pub fresh : k.failures_of keeper ≡ 0
   pub held : k.is_honest keeper
       → (s : Stored) × (log : List Entry) × k.keeps keeper s log × HeldBy files home s log
+
+-- A database file and its write-ahead log held what is said of the database that SQLite recovers
+-- from the two.
+pub record HeldAs (files : Image) (Has : Trees → Type 0) : Type 0 where
+  pub trees : Trees
+  pub found : AreFoundIn files trees
+  pub only : (db : Trees) → HoldsDatabase files db → trees ≡ db
+  pub has : Has trees
+
+-- The keeper of this desk that is opened on two files: no failure is counted, and, where the files
+-- have given back what was written to them, it keeps a state and a log of which this is so in the
+-- database that they held.
+pub record KeepsAs {K : Type 0} (k : Ghosts K) (files : Image) (home : Home)
+    (Has : Stored → List Entry → Trees → Type 0) (keeper : K) : Type 0 where
+  pub place : k.home_of keeper ≡ home
+  pub fresh : k.failures_of keeper ≡ 0
+  pub held : k.is_honest keeper
+      → (s : Stored) × (log : List Entry) × k.keeps keeper s log × HeldAs files (Has s log)
+
+-- a database that has a table, an index or a view
+abbrev pub HasTable : Trees → Type 0
+HasTable trees =
+    (schema : Schema) × (schema ≢ no_schema)
+    × IsDatabase (record { schema = schema; trees = trees })
+
+-- so it was where a connection that has been dropped had been given back what was written
+abbrev pub TellsTable : {C : Type 0} → (C → State) → Image → Type 0
+TellsTable {C} state files =
+    (dropped : C) × (HasCleanDisk (state dropped) → HeldAs files HasTable)
+
+-- they stand in the tables of this desk
+abbrev pub StandsIn : Home → Stored → List Entry → Trees → Type 0
+StandsIn home s log trees = Holds home trees s log
+
+-- there is no table, and they are the first ones
+abbrev pub IsMadeIn : Stored → List Entry → Trees → Type 0
+IsMadeIn s log trees = IsFirst trees s log
+
+-- The keeper of this desk keeps what stood in its tables.
+abbrev pub KeepsThere : {K : Type 0} → Ghosts K → Image → Home → K → Type 0
+KeepsThere k files home keeper = KeepsAs k files home (StandsIn home) keeper
+
+-- The keeper of this desk keeps a first state with an empty log, and the database had no table.
+abbrev pub KeepsFirst : {K : Type 0} → Ghosts K → Image → Home → K → Type 0
+KeepsFirst k files home keeper = KeepsAs k files home IsMadeIn keeper
 
 -- A database file and its write-ahead log held the row of another desk: it stands in the database
 -- that SQLite recovers from the two.

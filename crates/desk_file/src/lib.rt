@@ -5,4 +5,4 @@ mod fault;
 mod opening;
 
 pub use fault::fault_of_load;
-pub use opening::{open_file, open_keeper};
+pub use opening::{make_keeper, open_file, open_keeper, open_keeper_there};

@@ -1,15 +1,17 @@
 //! A desk's file, opened.
 
-ghost use Rattle.std.specs.Prelude.{◌≡◌, ◌≢◌, false, Err, IfOk, IfErr};
+ghost use Rattle.std.specs.Prelude.{◌≡◌, ◌≢◌, ◌↔◌, false, Err, IfOk, IfErr, IfNone, IfSome};
+ghost use Rattle.std.specs.Prelude.{IsTrue};
 ghost use Rattle.sqlite.specs.Files.{file_state, IsOpened};
 ghost use Rattle.sqlite.specs.Held.{state};
 ghost use Rattle.sqlite.specs.Start.{FindsIn};
 ghost use Rattle.sqlite.specs.State.{HasCleanDisk};
 ghost use Rattle.sqlite.specs.WalFiles.{image_at};
+ghost use Rattle.store.specs.Kept.{IsBare};
 ghost use Rattle.store.specs.Ranges.{IsHome};
-ghost use Rattle.desk_file.specs.Files.{KeepsHeld, TellsOther};
+ghost use Rattle.desk_file.specs.Files.{KeepsFirst, KeepsHeld, KeepsThere, TellsOther, TellsTable};
 
-use sqlite::{Connection, FileFrom, FileStore, Start};
+use sqlite::{Alter, Connection, FileFrom, FileStore, Start};
 use sqlite_trees::store::Store;
 use store::fault::OpenFault;
 use store::home::Home;
@@ -59,6 +61,71 @@ pub fn open_keeper<S: Start>(
 {
     match open_file(rt, path, start) {
         Ok(conn) => SqlKeeper::open(rt.alloc(), conn, home.hall, home.desk, home.desks),
+        Err(fault) => Err(fault),
+    }
+}
+
+/// Whether the database has no table, index or view at all.
+fn has_nothing<S: Alter>(conn: &Connection<S>) -> bool
+    ensures { IsTrue result ↔ IsBare (state S.Store conn.now) }
+{
+    let schema = conn.schema();
+    schema.tables.is_empty() && schema.indexes.is_empty() && schema.views.is_empty()
+}
+
+/// Opens the store of this desk in the file, and makes none: the keeper keeps the state and the log
+/// that stood in the desk's tables. `S` stands for what the file and its log held.
+///
+/// Damaged: as for [`open_keeper`], and where the database has no table at all, so that no desk's
+/// store is in it. The other faults are those of [`open_keeper`].
+pub fn open_keeper_there<S: Start>(
+    rt: &HostRuntime,
+    home: Home,
+    path: &str,
+    start: S,
+) -> Result<SqlKeeper<FileStore<FileFrom<S>>>, OpenFault>
+    requires { IsHome home }
+    ensures opened { IfOk result (KeepsThere ⟦<SqlKeeper<FileStore<FileFrom<S>>> as Keeper>⟧
+        (image_at S.Start) home) }
+    ensures wrong { result ≡ Err OpenFault.WrongDesk
+        → TellsOther (state ⟦<FileStore<FileFrom<S>> as Store>⟧) (image_at S.Start) home }
+{
+    let conn = match open_file(rt, path, start) {
+        Ok(conn) => conn,
+        Err(fault) => return Err(fault),
+    };
+    if has_nothing(&conn) {
+        return Err(OpenFault::Damaged);
+    }
+    SqlKeeper::open(rt.alloc(), conn, home.hall, home.desk, home.desks)
+}
+
+/// Makes the store of this desk in the file: the keeper keeps a desk's first state, with an empty
+/// log. None where the database has a table, an index or a view already. `S` stands for what the
+/// file and its log held.
+///
+/// The faults are those of [`open_keeper`]; WrongDesk is none of them.
+pub fn make_keeper<S: Start>(
+    rt: &HostRuntime,
+    home: Home,
+    path: &str,
+    start: S,
+) -> Result<Option<SqlKeeper<FileStore<FileFrom<S>>>>, OpenFault>
+    requires { IsHome home }
+    ensures made { IfOk result (λ made. IfSome made
+        (KeepsFirst ⟦<SqlKeeper<FileStore<FileFrom<S>>> as Keeper>⟧ (image_at S.Start) home)) }
+    ensures there { IfOk result (λ made. IfNone made
+        (TellsTable (state ⟦<FileStore<FileFrom<S>> as Store>⟧) (image_at S.Start))) }
+{
+    let conn = match open_file(rt, path, start) {
+        Ok(conn) => conn,
+        Err(fault) => return Err(fault),
+    };
+    if !has_nothing(&conn) {
+        return Ok(None);
+    }
+    match SqlKeeper::open(rt.alloc(), conn, home.hall, home.desk, home.desks) {
+        Ok(keeper) => Ok(Some(keeper)),
         Err(fault) => Err(fault),
     }
 }

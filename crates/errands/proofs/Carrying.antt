@@ -6,10 +6,12 @@ use Rattle.batch.specs.declared.fault.BatchFault.{BatchFault}
 use Rattle.batch.proofs.Going.{adds_none}
 use Rattle.wire.specs.declared.frame.Frame.{Frame}
 use Rattle.wire.specs.declared.frame.What.{What}
-use Rattle.errands.specs.Errands.{GetsAnswer, GetsNone, Hinders, IsAllowed, frame_of}
+use Rattle.errands.specs.Errands.{GetsAnswer, GetsNone, frame_of}
 use Rattle.errands.specs.Statuses.{fault_of_batch}
 use Rattle.errands.specs.declared.fault.DeskFault.{DeskFault}
-use Rattle.arguments.specs.declared.task.Errand.{Errand}
+use Rattle.errands.specs.declared.fault.DeskFault.TheVariants as fault
+use Rattle.errands.specs.declared.requests.Errand.{Errand}
+use Rattle.wire.specs.Ranges.{IsDesk}
 
 pub gets_answer : (e : Errand) (asked : Frame) (answer : What) (t : Told) → asked ≡ frame_of e
     → IsAnswer asked answer
@@ -20,13 +22,14 @@ gets_answer e asked answer t is h told = (
 )
 
 -- nothing was asked
-pub refused : (e : Errand) (f : DeskFault) (t : Told) → t.old ≡ t.new → Hinders f e
-    → GetsNone f e t
-refused e f t same h = inl (h, subst (λ a. Adds t.place t.old a []) same (adds_none t.place t.old))
+pub refused : (e : Errand) (f : DeskFault) (t : Told) → t.old ≡ t.new
+    → (f ≡ fault.BadDesk) × (¬ IsDesk e.desk) → GetsNone f e t
+refused e f t same h =
+    inl (h.0, h.1, subst (λ a. Adds t.place t.old a []) same (adds_none t.place t.old))
 
 -- the request failed
 pub unanswered : (e : Errand) (asked : Frame) (f : DeskFault) (b : BatchFault) (t : Told)
-    → asked ≡ frame_of e → IsAllowed e → f ≡ fault_of_batch b → IsOfAsking b
+    → asked ≡ frame_of e → IsDesk e.desk → f ≡ fault_of_batch b → IsOfAsking b
     → Adds t.place t.old t.new (asked_so asked (Err b) ∷ []) → GetsNone f e t
 unanswered e asked f b t is allowed named cause told =
     inr (

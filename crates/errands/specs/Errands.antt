@@ -1,5 +1,5 @@
 -- The frame of an errand, and how an errand ends.
-use Rattle.std.specs.Prelude.{◌≡◌, ◌⊎◌, ◌≤◌, ◌∷◌, [], ℕ, List, length, Option, Result, Ok, Err}
+use Rattle.std.specs.Prelude.{◌≡◌, ◌⊎◌, ◌∷◌, [], ℕ, List, Option, Result, Ok, Err}
 use Rattle.std.specs.Io.KnownBytes.{Keeps, Appends}
 use Rattle.batch.specs.Asking.{IsAnswer, IsOfAsking}
 use Rattle.batch.specs.Dialing.{Adds, Told, asked_so}
@@ -17,12 +17,11 @@ use Rattle.wire.specs.declared.frame.What.TheVariants as what
 use Rattle.errands.specs.Statuses.{fault_of_batch}
 use Rattle.errands.specs.declared.fault.DeskFault.{DeskFault}
 use Rattle.errands.specs.declared.fault.DeskFault.TheVariants as fault
-use Rattle.arguments.specs.declared.task.Errand.{Errand}
+use Rattle.errands.specs.declared.requests.Errand.{Errand}
 use Rattle.arguments.specs.declared.task.Request.{Request}
 use Rattle.arguments.specs.declared.task.Request.TheVariants as request
 
 abbrev pub what_of : Request → What
-what_of (request.Enter id text) = what.Submit (record { id = id; text = text.now })
 what_of (request.Ask id) = what.Ask id
 what_of (request.Sheet event round position style) = what.Sheet event round position style
 what_of request.Tick = what.Tick
@@ -30,7 +29,6 @@ what_of request.Stop = what.Stop
 
 -- the first version of the wire that has a frame for the request: only a sheet can need the second
 abbrev pub version_of : Request → Version
-version_of (request.Enter id text) = One
 version_of (request.Ask id) = One
 version_of (request.Sheet event round position style) = sheet_version event
 version_of request.Tick = One
@@ -47,25 +45,6 @@ frame_of e =
       what = what_of e.request;
     }
 
--- a text has at most 600 bytes
-abbrev pub IsShort : Request → Type 0
-IsShort (request.Enter id text) = length text.now ≤ 600
-IsShort (request.Ask id) = Unit {0}
-IsShort (request.Sheet event round position style) = Unit {0}
-IsShort request.Tick = Unit {0}
-IsShort request.Stop = Unit {0}
-
--- no name refuses the errand, so a connection is opened
-abbrev pub IsAllowed : Errand → Type 0
-IsAllowed e = IsDesk e.desk × IsShort e.request
-
--- why an errand is refused before anything is opened
-abbrev pub Hinders : DeskFault → Errand → Type 0
-Hinders fault.BadDesk e = ¬ IsDesk e.desk
-Hinders fault.TextTooLong e = IsDesk e.desk × (¬ IsShort e.request)
-Hinders (fault.Run run.NoMemory) e = Unit {0}
-Hinders f e = ⊥
-
 -- the desk was asked the errand's frame once, over a connection to the errand's address, or none
 -- could be opened to it, and this came of it; nothing else was asked
 abbrev pub IsAsked : Errand → Result What BatchFault → Told → Type 0
@@ -75,11 +54,11 @@ IsAsked e answer t = Adds t.place t.old t.new (asked_so (frame_of e) answer ∷ 
 abbrev pub GetsAnswer : Errand → What → Told → Type 0
 GetsAnswer e answer t = IsAnswer (frame_of e) answer × IsAsked e (Ok answer) t
 
--- there is no answer: the errand is refused and nothing was asked, or the request failed
+-- there is no answer: the desk's number is invalid and nothing was asked, or the request failed
 abbrev pub GetsNone : DeskFault → Errand → Told → Type 0
 GetsNone f e t =
-    (Hinders f e × Adds t.place t.old t.new [])
-    ⊎ (IsAllowed e × (b : BatchFault) × (f ≡ fault_of_batch b) × IsOfAsking b
+    ((f ≡ fault.BadDesk) × (¬ IsDesk e.desk) × Adds t.place t.old t.new [])
+    ⊎ (IsDesk e.desk × (b : BatchFault) × (f ≡ fault_of_batch b) × IsOfAsking b
     × IsAsked e (Err b) t)
 
 abbrev pub IsOfPrinting : DeskFault → Type 0
@@ -88,11 +67,11 @@ IsOfPrinting f = (f ≡ fault.Run run.Write) ⊎ (f ≡ fault.Run run.NoMemory)
 -- the desk answered, and this is printed of its answer
 abbrev pub DoesErrand : Errand → Told → Option (List ℕ) → Option (List ℕ) → Type 0
 DoesErrand e t old new =
-    IsAllowed e × (answer : What) × GetsAnswer e answer t × Appends old new (reply_text answer)
+    IsDesk e.desk × (answer : What) × GetsAnswer e answer t × Appends old new (reply_text answer)
 
 -- there is no answer, and nothing was printed; or there is one, and printing it failed
 abbrev pub FailsErrand : DeskFault → Errand → Told → Option (List ℕ) → Option (List ℕ) → Type 0
 FailsErrand f e t old new =
     (GetsNone f e t × Keeps old new)
-    ⊎ (IsOfPrinting f × IsAllowed e × (answer : What) × GetsAnswer e answer t
+    ⊎ (IsOfPrinting f × IsDesk e.desk × (answer : What) × GetsAnswer e answer t
     × AppendsPart old new (reply_text answer))

@@ -1,18 +1,12 @@
 -- The faults of the program: the status of each, and by which name a library's fault goes.
-use Rattle.std.specs.Prelude.{◌≡◌, ◌⊎◌, ◌++◌, [], ℕ, List, codes, decimal}
-use Rattle.std.specs.Io.KnownBytes.{Keeps}
+use Rattle.std.specs.Prelude.{◌++◌, ℕ, List, codes, decimal}
 use Rattle.client.specs.declared.fault.ClientFault.{ClientFault}
 use Rattle.client.specs.declared.fault.ClientFault.TheVariants as client
 use Rattle.fault_lines.specs.Statuses.{status_of_run}
 use Rattle.lines.specs.declared.fault.RunFault.TheVariants as run
-use Rattle.batch.specs.Asking.{IsOfAsking}
-use Rattle.batch.specs.Dialing.{Adds, Told}
-use Rattle.batch.specs.Entering.{AsksSome, Sides}
 use Rattle.batch.specs.declared.dialing.Contact.{Contact}
 use Rattle.batch.specs.declared.fault.BatchFault.{BatchFault}
 use Rattle.batch.specs.declared.fault.BatchFault.TheVariants as batch
-use Rattle.batch.specs.declared.lines_entered.Batch.{Batch}
-use Rattle.wire.specs.Ranges.{IsDesk}
 use Rattle.errands.specs.declared.fault.DeskFault.{DeskFault}
 use Rattle.errands.specs.declared.fault.DeskFault.TheVariants as fault
 
@@ -32,12 +26,38 @@ status_of fault.CannotListen = 4
 status_of fault.NoMoreIds = 3
 status_of fault.StillPending = 3
 status_of fault.Lost = 3
+status_of fault.NoStore = 3
+status_of fault.StoreThere = 3
+status_of fault.SameAddresses = 3
+status_of (fault.UnknownHost desk) = 3
+status_of fault.BadHallFile = 3
+status_of fault.NoCommand = 3
+status_of fault.AnotherCommand = 3
+status_of fault.AtRefusal = 3
 
 -- what is told of a desk that was waited for in vain: its address, and for how many seconds
 abbrev pub in_vain_text : Contact → List ℕ
 in_vain_text c =
     codes "no answer from " ++ c.address.now ++ codes " (waited " ++ decimal c.patience
     ++ codes " s)"
+
+-- what stands before and after the path of a store that is not there, or is there
+abbrev pub store_front : DeskFault → List ℕ
+store_front fault.StoreThere = codes "store "
+store_front _ = codes "no store "
+
+abbrev pub store_back : DeskFault → List ℕ
+store_back fault.StoreThere = codes " is there already: start without --new"
+store_back _ = codes ": --new makes one, once, before the day"
+
+-- what is told of a store that has to be there and is not, or has to be made and is there
+abbrev pub store_text : DeskFault → List ℕ → List ℕ
+store_text f path = store_front f ++ path ++ store_back f
+
+-- what is told of a desk of which no address can be found
+abbrev pub unknown_host_text : ℕ → List ℕ → List ℕ
+unknown_host_text desk address =
+    codes "unknown host: desk " ++ decimal desk ++ codes " at " ++ address
 
 -- the fault of a request to a desk
 abbrev pub fault_of_client : ClientFault → DeskFault
@@ -48,7 +68,6 @@ fault_of_client client.NoMemory = fault.Run run.NoMemory
 
 -- the fault of lines that are entered
 abbrev pub fault_of_batch : BatchFault → DeskFault
-fault_of_batch (batch.Lines e) = fault.Run e
 fault_of_batch batch.TextTooLong = fault.TextTooLong
 fault_of_batch batch.NoMoreIds = fault.NoMoreIds
 fault_of_batch batch.CannotConnect = fault.CannotConnect
@@ -56,14 +75,7 @@ fault_of_batch (batch.Asking e) = fault_of_client e
 fault_of_batch batch.Late = fault.Late
 fault_of_batch batch.StillPending = fault.StillPending
 fault_of_batch batch.Lost = fault.Lost
+fault_of_batch batch.AnotherCommand = fault.AnotherCommand
+fault_of_batch batch.AtRefusal = fault.AtRefusal
 fault_of_batch batch.Write = fault.Run run.Write
 fault_of_batch batch.NoMemory = fault.Run run.NoMemory
-
--- the desk's number is invalid, and nothing was read, written or asked; or the lines of a front
--- part were entered, and the fault stopped the next one, or reading or printing failed
-abbrev pub FailsLines : DeskFault → Batch → Sides → Told → Type 0
-FailsLines f b s t =
-    ((f ≡ fault.BadDesk) × (¬ IsDesk b.receiver.desk) × Keeps s.had s.left × Keeps s.old s.new
-    × Adds t.place t.old t.new [])
-    ⊎ ((e : BatchFault) × (f ≡ fault_of_batch e) × IsDesk b.receiver.desk
-    × AsksSome IsOfAsking e b s t)

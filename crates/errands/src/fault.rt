@@ -1,12 +1,13 @@
 //! Fault lines and exit statuses.
 
 ghost use Rattle.std.specs.Prelude.{◌≡◌};
-ghost use Rattle.errands.specs.Statuses.{status_of};
+ghost use Rattle.errands.specs.Statuses.{status_of, store_back, store_front};
 
 use batch::{BatchFault, Contact};
 use client::{ClientFault, refusal_name};
 use fault_lines::status_of_run;
 use lines::RunFault;
+use service::Service;
 use std::fmt;
 use std::io::Write;
 use wire::ClientRefusal;
@@ -45,6 +46,22 @@ pub enum DeskFault {
     StillPending,
     /// The desk accepted a command and no longer knows it.
     Lost,
+    /// A store has to be there, and there is none.
+    NoStore,
+    /// A store has to be made, and one is there.
+    StoreThere,
+    /// Two desks of a hall's file have one address.
+    SameAddresses,
+    /// No address can be found of the desk of this number, from 1, of a hall's file.
+    UnknownHost { desk: u8 },
+    /// What the hall's file says, or that it can't be read, was told before.
+    BadHallFile,
+    /// A line that is no command was told before, and nothing was sent.
+    NoCommand,
+    /// The entry at the position of a command is another one with the same id.
+    AnotherCommand,
+    /// A command was refused, and the lines end there.
+    AtRefusal,
 }
 
 impl From<ClientFault> for DeskFault {
@@ -71,7 +88,6 @@ impl From<BatchFault> for DeskFault {
 
     fn from(fault: BatchFault) -> DeskFault {
         match fault {
-            BatchFault::Lines(fault) => DeskFault::Run(fault),
             BatchFault::TextTooLong => DeskFault::TextTooLong,
             BatchFault::NoMoreIds => DeskFault::NoMoreIds,
             BatchFault::CannotConnect => DeskFault::CannotConnect,
@@ -79,6 +95,8 @@ impl From<BatchFault> for DeskFault {
             BatchFault::Late => DeskFault::Late,
             BatchFault::StillPending => DeskFault::StillPending,
             BatchFault::Lost => DeskFault::Lost,
+            BatchFault::AnotherCommand => DeskFault::AnotherCommand,
+            BatchFault::AtRefusal => DeskFault::AtRefusal,
             BatchFault::Write => DeskFault::Run(RunFault::Write),
             BatchFault::NoMemory => DeskFault::Run(RunFault::NoMemory),
         }
@@ -103,6 +121,14 @@ impl fmt::Display for DeskFault {
             DeskFault::NoMoreIds => f.write_str("no more ids"),
             DeskFault::StillPending => f.write_str("still pending"),
             DeskFault::Lost => f.write_str("command lost"),
+            DeskFault::NoStore => f.write_str("no store"),
+            DeskFault::StoreThere => f.write_str("store there already"),
+            DeskFault::SameAddresses => f.write_str("two desks have one address"),
+            DeskFault::UnknownHost { desk: _ } => f.write_str("unknown host"),
+            DeskFault::BadHallFile => f.write_str("bad hall file"),
+            DeskFault::NoCommand => f.write_str("not a command"),
+            DeskFault::AnotherCommand => f.write_str("another command's id"),
+            DeskFault::AtRefusal => f.write_str("stopped at a refusal"),
         }
     }
 }
@@ -120,7 +146,15 @@ fn status_of(fault: DeskFault) -> u8
         | DeskFault::DamagedStore
         | DeskFault::NoMoreIds
         | DeskFault::StillPending
-        | DeskFault::Lost => 3,
+        | DeskFault::Lost
+        | DeskFault::NoStore
+        | DeskFault::StoreThere
+        | DeskFault::SameAddresses
+        | DeskFault::UnknownHost { desk: _ }
+        | DeskFault::BadHallFile
+        | DeskFault::NoCommand
+        | DeskFault::AnotherCommand
+        | DeskFault::AtRefusal => 3,
         DeskFault::CannotConnect
         | DeskFault::NoAnswer
         | DeskFault::Late
@@ -173,4 +207,96 @@ pub fn tell_asking<F: Write>(faults: &mut F, fault: DeskFault, contact: Contact<
         }
         other => tell(faults, other),
     }
+}
+
+/// What stands before the path of a store that is not there, or is there.
+fn front_of(fault: DeskFault) -> &'static str
+    ensures { result.now ≡ store_front fault }
+{
+    match fault {
+        DeskFault::StoreThere => "store ",
+        _ => "no store ",
+    }
+}
+
+/// What stands after it.
+fn back_of(fault: DeskFault) -> &'static str
+    ensures { result.now ≡ store_back fault }
+{
+    match fault {
+        DeskFault::StoreThere => " is there already: start without --new",
+        _ => ": --new makes one, once, before the day",
+    }
+}
+
+/// What is told of a store that has to be there and is not, or has to be made and is there.
+#[derive(Drop)]
+struct OfStore<'a> {
+    fault: DeskFault,
+    store: &'a str,
+}
+
+impl fmt::Display for OfStore<'_> {
+    ghost use Rattle.std.specs.Prelude.{Some};
+    ghost use Rattle.errands.specs.Statuses.{store_text};
+
+    ghost output = { λ v. Some (store_text v.fault v.store.now) };
+
+    fn fmt<W: fmt::Write>(&self, f: &mut fmt::Formatter<W>) -> fmt::Result {
+        f.write_str(front_of(self.fault))?;
+        f.write_str(self.store)?;
+        f.write_str(back_of(self.fault))
+    }
+}
+
+/// What is told of a desk of which no address can be found.
+#[derive(Drop)]
+struct UnknownHost<'a> {
+    desk: u8,
+    address: &'a str,
+}
+
+impl fmt::Display for UnknownHost<'_> {
+    ghost use Rattle.std.specs.Prelude.{Some};
+    ghost use Rattle.errands.specs.Statuses.{unknown_host_text};
+
+    ghost output = { λ v. Some (unknown_host_text v.desk v.address.now) };
+
+    fn fmt<W: fmt::Write>(&self, f: &mut fmt::Formatter<W>) -> fmt::Result {
+        f.write_str("unknown host: desk ")?;
+        self.desk.fmt(f)?;
+        f.write_str(" at ")?;
+        f.write_str(self.address)
+    }
+}
+
+/// The address of a desk of a hall, counted from 1.
+fn address_at<'a>(service: Service<'a>, desk: u8) -> &'a str {
+    let place = usize::from(desk).saturating_sub(1);
+    match service.addresses.get(place) {
+        Some(address) => address,
+        None => "",
+    }
+}
+
+/// As [`tell`], of a fault of a desk that is to serve: where a store has to be there or to be made,
+/// the line names its path, and where no address is found of a desk, it names the desk and what it
+/// was looked for by.
+pub fn tell_serving<F: Write>(faults: &mut F, fault: DeskFault, service: Service<'_>) -> u8
+    ensures { result ≡ status_of fault }
+{
+    match fault {
+        DeskFault::NoStore | DeskFault::StoreThere => {
+            let store = service.store;
+            let told = OfStore { fault, store };
+            let _ = writeln!(faults, "{told}");
+        }
+        DeskFault::UnknownHost { desk } => {
+            let address = address_at(service, desk);
+            let told = UnknownHost { desk, address };
+            let _ = writeln!(faults, "{told}");
+        }
+        other => return tell(faults, other),
+    }
+    status_of(fault)
 }

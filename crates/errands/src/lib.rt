@@ -1,13 +1,25 @@
-//! Requests to a desk, and lines entered at one, over connections to its address; connections over
-//! TCP; and the faults of the program, each with its line and its exit status.
+//! Requests to a desk, lines entered at one, its log and its newest sheets, and how the desks of a
+//! hall stand, over connections to their addresses; connections over TCP; and the faults of the
+//! program, each with its line and its exit status.
 #![tactic(auto)]
 
+mod drawing;
 mod entering;
 mod fault;
+mod logs;
+mod newest;
+mod polling;
+mod reasons;
+mod report;
 mod requests;
 mod sockets;
+mod timing;
 
-pub use entering::enter_all;
-pub use fault::{DeskFault, tell, tell_asking};
-pub use requests::carry;
+pub use entering::{enter_all, enter_one};
+pub use fault::{DeskFault, tell, tell_asking, tell_serving};
+pub use logs::print_log;
+pub use newest::print_newest;
+pub use polling::{Inquiry, print_standings, watch_standings};
+pub use reasons::{NoReasons, Reasons};
+pub use requests::{Errand, carry};
 pub use sockets::Sockets;

@@ -1,89 +1,65 @@
 //! Errands: one request to a desk, and its answer printed.
 
-ghost use Rattle.std.specs.Prelude.{◌≡◌, ◌⊎◌, ◌<◌, ◌≤◌, length, IfOk, IfErr, OnOk};
+ghost use Rattle.std.specs.Prelude.{◌≡◌, IfOk, IfErr, OnOk};
 ghost use Rattle.batch.specs.Dialing.{told};
-ghost use Rattle.wire.specs.Ranges.{IsBody, IsEntry, IsFrame};
-ghost use Rattle.wire.specs.declared.frame.What.TheVariants as what;
+ghost use Rattle.wire.specs.Ranges.{IsBody, IsDesk, IsFrame};
 ghost use Rattle.arguments.specs.Asking.{HasId};
-ghost use Rattle.errands.specs.Errands.{DoesErrand, FailsErrand, GetsAnswer, GetsNone, Hinders};
-ghost use Rattle.errands.specs.Errands.{IsAllowed, IsShort, frame_of, version_of, what_of};
-ghost use Rattle.wire.specs.declared.values.Version.TheVariants as version;
+ghost use Rattle.errands.specs.Errands.{DoesErrand, FailsErrand, GetsAnswer, GetsNone};
+ghost use Rattle.errands.specs.Errands.{frame_of, version_of, what_of};
 ghost use Rattle.errands.specs.declared.fault.DeskFault.TheVariants as desk_fault;
-ghost use Rattle.lines.specs.declared.fault.RunFault.TheVariants as run_fault;
 
 use crate::fault::DeskFault;
-use acceptor::entry::Entry;
-use arguments::{Errand, Request};
-use batch::{Dial, ask_over};
+use arguments::Request;
+use batch::{Contact, Dial, ask_over};
 use client::{reply_text, sheet_version};
 use lines::{RunFault, write_text};
 use std::alloc::Global;
 use std::io::Write;
 use wire::{Frame, Version, What};
 
-/// The entry, whose id and text are in their ranges.
-fn kept(entry: Entry) -> Entry
-    ensures same { result ≡ entry }
-    ensures in_range { IsEntry result }
-{
-    // the contracts of these two calls say that the id and the text are in their ranges
-    let _id = entry.id();
-    let _text = entry.text();
-    entry
-}
-
-/// A command for a desk's queue.
-fn submit(alloc: Global, id: u64, text: &str) -> Result<What, DeskFault>
-    ensures ok { IfOk result (λ w. w ≡ what.Submit (record { id = id; text = text.now })) }
-    ensures body { IfOk result (IsBody version.One) }
-    ensures short { OnOk result (length text.now ≤ 600) }
-    ensures err { IfErr result (λ f. (f ≡ desk_fault.Run run_fault.NoMemory)
-        ⊎ ((f ≡ desk_fault.TextTooLong) × (600 < length text.now))) }
-{
-    if text.len() > 600 {
-        return Err(DeskFault::TextTooLong);
-    }
-    match Entry::new(alloc, id, text.as_bytes()) {
-        Ok(entry) => Ok(What::Submit { entry: kept(entry) }),
-        Err(_) => Err(DeskFault::Run(RunFault::NoMemory)),
-    }
+/// A request and the desk that it is for.
+#[derive(Clone, Copy)]
+pub struct Errand<'a> {
+    /// The number of the hall.
+    pub hall: u32,
+    /// The desk's number, 1 to 5.
+    pub desk: u8,
+    /// Where it is asked, and how long it is waited for.
+    pub contact: Contact<'a>,
+    pub request: Request,
 }
 
 /// What a frame says that makes a request.
-fn what_of(alloc: Global, request: Request<'_>) -> Result<What, DeskFault>
+fn what_of(request: Request) -> What
     requires { HasId request }
-    ensures what { IfOk result (λ w. w ≡ what_of request.entry) }
-    ensures body { IfOk result (IsBody (version_of request.entry)) }
-    ensures short { OnOk result (IsShort request.entry) }
-    ensures err { IfErr result (λ f. (f ≡ desk_fault.Run run_fault.NoMemory)
-        ⊎ ((f ≡ desk_fault.TextTooLong) × (¬ IsShort request.entry))) }
+    ensures what { result ≡ what_of request }
+    ensures body { IsBody (version_of request) result }
 {
     match request {
-        Request::Enter { id, text } => submit(alloc, id, text),
-        Request::Ask { id } => Ok(What::Ask { id }),
+        Request::Ask { id } => What::Ask { id },
         Request::Sheet {
             event,
             round,
             position,
             style,
-        } => Ok(What::Sheet {
+        } => What::Sheet {
             event,
             round,
             position,
             style,
-        }),
-        Request::Tick => Ok(What::Tick),
-        Request::Stop => Ok(What::Stop),
+        },
+        Request::Tick => What::Tick,
+        Request::Stop => What::Stop,
     }
 }
 
 /// The first version of the wire that has a frame for a request.
-fn version_of(request: &Request<'_>) -> Version
-    ensures { result ≡ version_of request.now }
+fn version_of(request: Request) -> Version
+    ensures { result ≡ version_of request }
 {
     match request {
-        Request::Sheet { event, .. } => sheet_version(*event),
-        Request::Enter { .. } | Request::Ask { .. } | Request::Tick | Request::Stop => Version::One,
+        Request::Sheet { event, .. } => sheet_version(event),
+        Request::Ask { .. } | Request::Tick | Request::Stop => Version::One,
     }
 }
 
@@ -91,29 +67,24 @@ fn version_of(request: &Request<'_>) -> Version
 ///
 /// # Errors
 ///
-/// `BadDesk` where the desk's number is not 1 to 5; with a good one `TextTooLong` where a text has
-/// more than 600 bytes; `NoMemory` where memory runs out.
-pub(crate) fn frame_of(alloc: Global, errand: Errand<'_>) -> Result<Frame, DeskFault>
+/// `BadDesk` where the desk's number is not 1 to 5.
+pub(crate) fn frame_of(errand: Errand<'_>) -> Result<Frame, DeskFault>
     requires { HasId errand.request }
     ensures frame { IfOk result (λ f. f ≡ frame_of errand.entry) }
     ensures spelled { IfOk result IsFrame }
-    ensures allowed { OnOk result (IsAllowed errand.entry) }
-    ensures err { IfErr result (λ f. Hinders f errand.entry) }
+    ensures allowed { OnOk result (IsDesk errand.entry.desk) }
+    ensures err { IfErr result (λ f. (f ≡ desk_fault.BadDesk) × (¬ IsDesk errand.entry.desk)) }
 {
     if errand.desk == 0 || errand.desk > 5 {
         return Err(DeskFault::BadDesk);
     }
-    let version = version_of(&errand.request);
-    match what_of(alloc, errand.request) {
-        Ok(what) => Ok(Frame {
-            version,
-            hall: errand.hall,
-            from: 0,
-            to: errand.desk,
-            what,
-        }),
-        Err(fault) => Err(fault),
-    }
+    Ok(Frame {
+        version: version_of(errand.request),
+        hall: errand.hall,
+        from: 0,
+        to: errand.desk,
+        what: what_of(errand.request),
+    })
 }
 
 /// Asks a desk once, and gives its answer.
@@ -121,11 +92,11 @@ fn answered<D: Dial>(alloc: Global, dial: &mut D, errand: Errand<'_>) -> Result<
     requires { HasId errand.request }
     ensures ok { IfOk result (λ answer. GetsAnswer errand.entry answer
         (told errand.entry.contact D.dialed dial.old dial.new)) }
-    ensures allowed { OnOk result (IsAllowed errand.entry) }
+    ensures allowed { OnOk result (IsDesk errand.entry.desk) }
     ensures err { IfErr result (λ f. GetsNone f errand.entry
         (told errand.entry.contact D.dialed dial.old dial.new)) }
 {
-    let asked = match frame_of(alloc, errand) {
+    let asked = match frame_of(errand) {
         Ok(asked) => asked,
         Err(fault) => return Err(fault),
     };
@@ -139,7 +110,7 @@ fn answered<D: Dial>(alloc: Global, dial: &mut D, errand: Errand<'_>) -> Result<
 ///
 /// # Errors
 ///
-/// - `BadDesk` and `TextTooLong`, in this order, before anything is opened.
+/// - `BadDesk` before anything is opened.
 /// - `CannotConnect` where the connection to the address is not accepted.
 /// - `Refused` where the desk refuses, `NoAnswer` where no answer comes, `Late` where none comes as
 ///   long as the desk is waited for, `Write` where the request or the answer cannot be written,

@@ -3,6 +3,8 @@
 
 mod faults;
 mod refusals;
+mod replays;
 
 pub use faults::{status_of_run, tell_fault, tell_replay, tell_run};
 pub use refusals::{tell_bad_number, tell_no_arguments, tell_parse_error};
+pub use replays::run_replay;

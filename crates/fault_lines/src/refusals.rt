@@ -13,12 +13,13 @@ use std::io;
 use std::io::{ErrorKind, Write};
 
 const BAD_NUMBER: &[u8] = b"\
-error: a number must have no sign and no leading zeros
+error: a number must be in its range, and have no sign and no leading zeros
 
 For more information, try '--help'.
 ";
 
-/// Refuses arguments of which a number has a sign or leading zeros, and returns the status.
+/// Refuses arguments of which a number has a sign or leading zeros or is out of its range, and
+/// returns the status.
 pub fn tell_bad_number<F: Write>(faults: &mut F) -> u8
     ensures { result ≡ 2 }
 {

@@ -41,13 +41,19 @@ abbrev pub sheet_after : Style → Event → ℕ → List (List ℕ) → Option 
 sheet_after style event round lines =
     sheet style (history (entries lines)).accepted event round (length lines)
 
--- the text for an input: the refused lines, and then the sheet if there is one;
--- above the limits, the refused lines among the whole ones in front
+-- the refused lines of an input; above the limits, those among the whole lines in front
+abbrev pub refused_text : List ℕ → List ℕ
+refused_text input = refusals (lines_read input)
+
+-- the sheet of an input if there is one; there is none above the limits
+abbrev pub sheet_text : Style → Event → ℕ → List ℕ → List ℕ
+sheet_text style event round input =
+    if is_within input then unwrap_or (sheet_after style event round (lines_of input)) [] else []
+
+-- the text for an input: the refused lines, and then the sheet
 abbrev pub replay_text : Style → Event → ℕ → List ℕ → List ℕ
 replay_text style event round input =
-    refusals (lines_read input)
-    ++
-    (if is_within input then unwrap_or (sheet_after style event round (lines_of input)) [] else [])
+    refused_text input ++ sheet_text style event round input
 
 -- a run for the sheet of a round: its input, what its reader has left, and what its writer had and
 -- has

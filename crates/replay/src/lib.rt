@@ -2,6 +2,7 @@
 //! they come to.
 #![tactic(auto)]
 
+mod apart;
 mod fault;
 
 ghost use Rattle.std.specs.Prelude.{◌≡◌, ◌++◌, IfOk, OnOk, IfErr};
@@ -10,6 +11,7 @@ ghost use Rattle.lines.specs.Bytes.{sides};
 ghost use Rattle.replay.specs.Replay.{refusal_text, ReplaysAll, ReplaysPart};
 ghost use Rattle.replay.specs.model.Applying.{AppliesAll, AppliesPart};
 
+pub use apart::replay_apart;
 use attempts::push_decimal;
 use commands::{Answer, Meet};
 pub use fault::ReplayFault;
@@ -51,7 +53,7 @@ fn apply_line(
 }
 
 /// Applies the commands of all lines, and says how many there were.
-fn apply_lines<R: Read, W: Write>(
+pub(crate) fn apply_lines<R: Read, W: Write>(
     alloc: Global,
     meet: &mut Meet,
     reader: &mut R,

@@ -1,7 +1,7 @@
 -- The arguments of subcommands, as the parser knows them.
-use Rattle.std.specs.Prelude.{◌≡◌, ◌∷◌, [], true, false, List, codes, map, Option, Some}
+use Rattle.std.specs.Prelude.{◌≡◌, ◌∷◌, [], true, false, Bool, List, codes, map, Option, Some, None}
 use Rattle.std.specs.Borrow.{Bor}
-use Rattle.clap.specs.Words.{App, Rule, Text, app_of, new_rule}
+use Rattle.clap.specs.Words.{App, Row, Rule, Text, app_of, new_rule, one_of}
 use Rattle.clap.specs.declared.builder.ArgAction.TheVariants.{Set, SetTrue}
 use Rattle.clap.specs.declared.builder.command.Command.{Command}
 use Rattle.clap.specs.declared.builder.command.Command.TheViews.{out-Command as fields_of}
@@ -13,8 +13,18 @@ abbrev pub value_rule : Text → Option ValueParser → Rule
 value_rule id parser =
     record (new_rule id) { value_names = 1; required = true; action = Some Set; parser = parser }
 
+-- a flag, given after two hyphens
+abbrev pub flag_rule : Text → Rule
+flag_rule id = record (new_rule id) { long = Some id; action = Some SetTrue }
+
 abbrev pub csv_rule : Rule
-csv_rule = record (new_rule (codes "csv")) { long = Some (codes "csv"); action = Some SetTrue }
+csv_rule = flag_rule (codes "csv")
+
+-- whether a flag is there; none is there that the subcommand does not have
+pub record IsFlag (id : Text) (rows : List Row) (is_set : Bool) : Type 0 where
+  pub there : one_of id rows ≡ Some (codes "true") → is_set ≡ true
+  pub away : one_of id rows ≡ Some (codes "false") → is_set ≡ false
+  pub unknown : one_of id rows ≡ None → is_set ≡ false
 
 -- one of these texts and no other
 pub record IsOneOf (p : Option ValueParser) (texts : List Text) : Type 0 where

@@ -9,7 +9,8 @@ use Rattle.formats.specs.declared.events.Event.{Event}
 use Rattle.formats.specs.Events.{all_events, event_name, event_of_name}
 use Rattle.sheets.specs.declared.Style.{Style}
 use Rattle.sheets.specs.declared.Style.TheVariants as printed
-use Rattle.replay_arguments.specs.Arguments.{IsOneOf, csv_rule, round_numbers, value_rule}
+use Rattle.replay_arguments.specs.Arguments.{IsFlag, IsOneOf, csv_rule, flag_rule, round_numbers}
+use Rattle.replay_arguments.specs.Arguments.{value_rule}
 use Rattle.replay_arguments.specs.declared.replay.ReplayTask.{ReplayTask}
 
 -- the texts that are accepted as an event, and those that are accepted as a round
@@ -21,10 +22,11 @@ pub record RoundParsers : Type 0 where
 
 abbrev pub replay_arguments : RoundParsers → App
 replay_arguments p =
-    with_rule (with_rule (with_rule (new_app (codes "replay"))
+    with_rule (with_rule (with_rule (with_rule (new_app (codes "replay"))
     (value_rule (codes "event") p.events))
     (value_rule (codes "round") p.rounds))
-    csv_rule
+    csv_rule)
+    (flag_rule (codes "only-sheet"))
 
 -- the program: it requires a subcommand, and has a version
 abbrev pub named_app : App
@@ -48,9 +50,11 @@ pub record IsPrinted (rows : List Row) (style : Style) : Type 0 where
   pub table : one_of (codes "csv") rows ≡ Some (codes "true") → style ≡ printed.Table
   pub text : one_of (codes "csv") rows ≡ Some (codes "false") → style ≡ printed.Text
 
--- the values ask for this sheet
+-- the values ask for this sheet, alone or after the refused lines
 abbrev pub IsReplay : ReplayTask → List Row → Type 0
-IsReplay t rows = IsRound rows t.event t.round × IsPrinted rows t.style
+IsReplay t rows =
+    IsRound rows t.event t.round × IsPrinted rows t.style
+    × IsFlag (codes "only-sheet") rows t.only_sheet
 
 abbrev pub Finds : Option (Text × List Row) → ReplayTask → Type 0
 Finds found t =

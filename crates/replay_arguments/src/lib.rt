@@ -10,4 +10,4 @@ mod values;
 pub use parsing::{desk_command, parse_replay, replay_task, with_subcommand};
 pub use replay::{ReplayTask, replay_command, replay_of};
 pub use round::{event_at, event_value, round_at, round_value};
-pub use values::{csv_flag, plain_command, text_at, value, with_argument};
+pub use values::{csv_flag, flag, flag_at, plain_command, text_at, value, with_argument};

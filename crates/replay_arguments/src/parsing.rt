@@ -18,8 +18,8 @@ const ABOUT: &str = "The results desk of a speedcubing competition.";
 const VERSION: &str = "1.0.0";
 
 const STATUSES: &str = "\
-Exit status: 0 done; 2 invalid arguments, or help or the version; 3 refused, by a name; 4 a file, a
-stream or a connection failed; 5 no memory.
+Exit status: 0 done; 1 a desk lags or is silent (`status`); 2 invalid arguments, or help or the
+version; 3 refused, by a name; 4 a file, a stream or a connection failed; 5 no memory.
 
 For a status of 3, 4 or 5 standard error has one line that says why. For invalid arguments it has a
 line that says what is wrong, and after it a hint or the usage.";

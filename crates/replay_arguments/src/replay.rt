@@ -6,7 +6,7 @@ ghost use Rattle.replay_arguments.specs.Arguments.{IsCommand};
 ghost use Rattle.replay_arguments.specs.Asking.{IsReplay, RoundParsers, replay_arguments};
 
 use crate::round::{event_at, event_value, round_at, round_value};
-use crate::values::{csv_flag, plain_command, with_argument};
+use crate::values::{csv_flag, flag, flag_at, plain_command, with_argument};
 use clap::{ArgMatches, Command};
 use formats::Event;
 use sheets::Style;
@@ -35,7 +35,7 @@ Standard input has one command a line:
 At most 65,536 lines, 10,000 bytes a line and 39,387,136 bytes in all are read.
 
 Standard output gets a line `refused N CODE` for each line N that is refused, and after these lines
-the sheet.
+the sheet. With --only-sheet it gets the sheet alone, and standard error gets these lines.
 docs/FORMATS.md explains each CODE, the fields of the commands and the columns of the sheet.
 
 Exit status: 0 the sheet was printed; 2 invalid arguments, or help; 3 no such round (no accepted
@@ -47,6 +47,8 @@ pub struct ReplayTask {
     pub event: Event,
     pub round: u8,
     pub style: Style,
+    /// Whether the lines of refused commands go to standard error.
+    pub only_sheet: bool,
 }
 
 /// The subcommand `replay`, as the parser knows it.
@@ -56,7 +58,13 @@ pub fn replay_command<'a>(alloc: Global) -> Result<Command<'a>, AllocError>
     let command = plain_command(alloc, "replay", ABOUT, INPUT);
     let command = with_argument(command, event_value(alloc))?;
     let command = with_argument(command, round_value(alloc))?;
-    with_argument(command, csv_flag(alloc))
+    let command = with_argument(command, csv_flag(alloc))?;
+    let only_sheet = flag(
+        alloc,
+        "only-sheet",
+        "Print the sheet alone, and refused lines on standard error",
+    );
+    with_argument(command, only_sheet)
 }
 
 /// How the sheet is printed.
@@ -74,9 +82,11 @@ pub fn replay_of(found: &ArgMatches<'_>) -> Option<ReplayTask>
     let event = event_at(found)?;
     let round = round_at(found)?;
     let style = style_of(found.get_flag("csv"));
+    let only_sheet = flag_at(found, "only-sheet");
     Some(ReplayTask {
         event,
         round,
         style,
+        only_sheet,
     })
 }

@@ -4,7 +4,8 @@ ghost use Rattle.std.specs.Prelude.{◌≡◌, false, IfOk, IfSome, Some};
 ghost use Rattle.clap.specs.Words.{app_of, first_of, found_of, new_app, rows_of, rule_of};
 ghost use Rattle.clap.specs.Words.{with_rule};
 ghost use Rattle.clap.specs.declared.builder.command.Command.TheViews.{out-Command as fields_of};
-ghost use Rattle.replay_arguments.specs.Arguments.{IsCommand, csv_rule, value_rule};
+ghost use Rattle.replay_arguments.specs.Arguments.{IsCommand, IsFlag, csv_rule, flag_rule};
+ghost use Rattle.replay_arguments.specs.Arguments.{value_rule};
 
 use clap::builder::ValueParser;
 use clap::{Arg, ArgAction, ArgMatches, Command};
@@ -41,15 +42,23 @@ pub fn value<'a>(
         .value_parser(parser)
 }
 
+/// A flag, given after two hyphens.
+pub fn flag<'a>(alloc: Global, id: &'a str, help: &'a str) -> Arg<'a>
+    ensures rule { rule_of result ≡ flag_rule id.entry.now }
+    ensures local { result.global ≡ false }
+{
+    Arg::new(alloc, id)
+        .long(id)
+        .help(help)
+        .action(ArgAction::SetTrue)
+}
+
 /// The flag `--csv`.
 pub fn csv_flag<'a>(alloc: Global) -> Arg<'a>
     ensures rule { rule_of result ≡ csv_rule }
     ensures local { result.global ≡ false }
 {
-    Arg::new(alloc, "csv")
-        .long("csv")
-        .help("Print the sheet as comma-separated values")
-        .action(ArgAction::SetTrue)
+    flag(alloc, "csv", "Print the sheet as comma-separated values")
 }
 
 /// The command with one more argument.
@@ -61,6 +70,13 @@ pub fn with_argument<'a>(command: Command<'a>, arg: Arg<'a>) -> Result<Command<'
         (λ c. (fields_of c).has_globals ≡ (fields_of command.entry).has_globals) }
 {
     command.arg(arg)
+}
+
+/// Whether a flag is given.
+pub fn flag_at(found: &ArgMatches<'_>, id: &str) -> bool
+    ensures { IsFlag id.now (rows_of (found_of found.now)) result }
+{
+    found.get_flag(id)
 }
 
 /// The first value of an argument.

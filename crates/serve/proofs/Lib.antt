@@ -4,3 +4,5 @@ pub mod Over
 pub mod Opened
 pub mod There
 pub mod Periods
+pub mod Texts
+pub mod Stored

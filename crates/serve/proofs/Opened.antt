@@ -3,7 +3,6 @@ use Rattle.std.proofs.Common.{◌≡◌, ◌⊎◌, inl, inr, ◌∙◌, sym, su
 use Rattle.std.proofs.lemmas.Result.{IfErr-weaker, on_ok_weaker}
 use Rattle.std.specs.Io.KnownBytes.{Keeps as KeepsBytes}
 use Rattle.sqlite.specs.Recovery.{Image}
-use Rattle.desk_file.specs.Files.{HeldBy, KeepsHeld}
 use Rattle.replica.specs.Handles.{Handles}
 use Rattle.replica.specs.Nodes.{NodeValue}
 use Rattle.replica.specs.Opens.{Opens}
@@ -12,19 +11,20 @@ use Rattle.connections.specs.Connections.{Point}
 use Rattle.store.specs.declared.home.Home.{Home}
 use Rattle.store.specs.declared.keeper.Keeper.{Ghosts as KeeperOf}
 use Rattle.serve.proofs.Over.{by_listener}
-use Rattle.serve.specs.Files.{IsOpenedOn}
+use Rattle.serve.specs.Files.{HeldFor, IsOpenedOn, KeepsFor}
 use Rattle.serve.specs.Printing.{IsAllowed, IsOfListener, Output, home_of}
 use Rattle.serve.specs.Serves.{FailsDesk, FailsKept, FailsServing, IsRun, RunsDesk}
 use Rattle.serve.specs.Serves.{RunsKept, Serves, Turn, resting, turn_of}
 use Rattle.serve.specs.declared.fault.ServeFault.{ServeFault}
+use Rattle.service.specs.declared.Making.{Making}
 use Rattle.service.specs.declared.Service.{Service}
 
 -- what the desk has that is opened over a keeper is what this one kept
-opened_on : {K : Type 0} (k : KeeperOf K) (files : Image) (home : Home) (keeper : K)
-    (node : NodeValue K)
-    → KeepsHeld k files home keeper → Opens k keeper node
-    → IsOpenedOn k files home node
-opened_on k files home keeper node kept n = record {
+opened_on : {K : Type 0} (k : KeeperOf K) (how : Making) (files : Image) (home : Home)
+    (keeper : K) (node : NodeValue K)
+    → KeepsFor k how files home keeper → Opens k keeper node
+    → IsOpenedOn k how files home node
+opened_on k how files home keeper node kept n = record {
   up = n.up;
   idle = n.first;
   place = n.home ∙ kept.place;
@@ -32,8 +32,8 @@ opened_on k files home keeper node kept n = record {
       λ honest.
       let h = kept.held (n.honest honest) in
       let is = n.same honest h.0 h.1 h.2 in
-      subst (λ s. HeldBy files home s node.desk.log) (sym is.0)
-      (subst (λ log. HeldBy files home h.0 log) (sym is.1) h.3);
+      subst (λ s. HeldFor how files home s node.desk.log) (sym is.0)
+      (subst (λ log. HeldFor how files home h.0 log) (sym is.1) h.3);
 }
 
 -- ---- and serves
@@ -42,7 +42,7 @@ run_of : {K : Type 0} (k : KeeperOf K) (files : Image) (s : Service) (o : Output
     (first last : NodeValue K)
     (Does : Turn → Point (speaking (Handles k) s.wire) → Point (speaking (Handles k) s.wire)
     → Type 0)
-    → IsOpenedOn k files (home_of s) first
+    → IsOpenedOn k s.making files (home_of s) first
     → Does (turn_of s (k.home_of first.keeper) (length first.desk.log) o)
     (resting k s.wire first) (resting k s.wire last)
     → IsRun k files s o Does
@@ -66,7 +66,7 @@ pub runs : {K : Type 0} (k : KeeperOf K) (s : Service) (o : Output) (keeper : K)
 runs k s o keeper first last r opens h =
     on_ok_weaker r
     (λ does files kept. run_of k files s o first last Serves
-    (opened_on k files (home_of s) keeper first kept opens) does)
+    (opened_on k s.making files (home_of s) keeper first kept opens) does)
     h
 
 pub runs_ill : {K : Type 0} (k : KeeperOf K) (s : Service) (o : Output) (keeper : K)
@@ -90,25 +90,27 @@ runs_ill k s o keeper first last r opens allowed h =
     how f (inr e) files kept =
         inr
         (run_of k files s o first last (FailsServing f)
-        (opened_on k files (home_of s) keeper first kept opens) e)
+        (opened_on k s.making files (home_of s) keeper first kept opens) e)
 
 -- ---- the files that a keeper was opened on, for the desk that was asked for
 
-kept_as : {K : Type 0} (k : KeeperOf K) (files : Image) (home asked : Home) (keeper : K)
-    → home ≡ asked → KeepsHeld k files home keeper → KeepsHeld k files asked keeper
-kept_as k files home asked keeper is kept = subst (λ h. KeepsHeld k files h keeper) is kept
+kept_as : {K : Type 0} (k : KeeperOf K) (how : Making) (files : Image) (home asked : Home)
+    (keeper : K) → home ≡ asked → KeepsFor k how files home keeper
+    → KeepsFor k how files asked keeper
+kept_as k how files home asked keeper is kept =
+    subst (λ h. KeepsFor k how files h keeper) is kept
 
 pub runs_on : {K : Type 0} (k : KeeperOf K) (files : Image) (home : Home) (keeper : K)
     (s : Service) (o : Output) (r : Result (Unit {0}) ServeFault)
-    → home ≡ home_of s → KeepsHeld k files home keeper → OnOk r (RunsKept k keeper s o)
+    → home ≡ home_of s → KeepsFor k s.making files home keeper → OnOk r (RunsKept k keeper s o)
     → OnOk r (RunsDesk k files s o)
 runs_on k files home keeper s o r is kept h =
-    on_ok_weaker r (λ runs. runs files (kept_as k files home (home_of s) keeper is kept)) h
+    on_ok_weaker r (λ runs. runs files (kept_as k s.making files home (home_of s) keeper is kept)) h
 
 pub fails_on : {K : Type 0} (k : KeeperOf K) (files : Image) (home : Home) (keeper : K)
     (s : Service) (o : Output) (r : Result (Unit {0}) ServeFault)
-    → home ≡ home_of s → KeepsHeld k files home keeper → IfErr r (FailsKept k keeper s o)
+    → home ≡ home_of s → KeepsFor k s.making files home keeper → IfErr r (FailsKept k keeper s o)
     → IfErr r (FailsDesk k files s o)
 fails_on k files home keeper s o r is kept h =
     IfErr-weaker r _ _
-    (λ f fails. fails files (kept_as k files home (home_of s) keeper is kept)) h
+    (λ f fails. fails files (kept_as k s.making files home (home_of s) keeper is kept)) h

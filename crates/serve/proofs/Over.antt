@@ -10,9 +10,9 @@ use Rattle.multiplex.specs.declared.ends.Over.{Over}
 use Rattle.multiplex.specs.declared.ends.ServedEach.{ServedEach}
 use Rattle.serving.specs.Making.{Way}
 use Rattle.connections.specs.Connections.{Point}
-use Rattle.store.specs.Ranges.{IsHome}
 use Rattle.store.specs.declared.home.Home.{Home}
-use Rattle.serve.specs.Printing.{Hinders, IsAllowed, IsFew, IsOfListener, IsOfStore, IsRefused}
+use Rattle.serve.specs.Printing.{Hinders, IsAllowed, IsFew, IsOfListener, IsOfOpening, IsOfStore}
+use Rattle.serve.specs.Printing.{IsRefused}
 use Rattle.serve.specs.Printing.{Output}
 use Rattle.serve.specs.Printing.{Prints, PrintsAt, PrintsPart, both_lines, first_line, home_of}
 use Rattle.serve.specs.Printing.{last_line}
@@ -114,6 +114,10 @@ prints_at fault.BadDesk s len o a b allowed h = absurd h
 prints_at fault.WrongDesk s len o a b allowed h = absurd h
 prints_at fault.Damaged s len o a b allowed h = absurd h
 prints_at fault.Device s len o a b allowed h = absurd h
+prints_at fault.SameAddresses s len o a b allowed h = absurd h
+prints_at fault.NoStore s len o a b allowed h = absurd h
+prints_at fault.StoreThere s len o a b allowed h = absurd h
+prints_at (fault.UnknownHost desk) s len o a b allowed h = absurd h
 
 -- what stands in front of serving prints nothing
 pub hindered : (f : ServeFault) (s : Service) (o : Output) → Hinders f s → Keeps o.old o.new
@@ -127,10 +131,18 @@ hindered fault.BadDesk s o h k = (h, k)
 hindered fault.WrongDesk s o h k = (h, k)
 hindered fault.Damaged s o h k = (h, k)
 hindered fault.Device s o h k = (h, k)
+hindered fault.SameAddresses s o h k = (h, k)
+hindered fault.NoStore s o h k = (h, k)
+hindered fault.StoreThere s o h k = (h, k)
+hindered (fault.UnknownHost desk) s o h k = (h, k)
 
 pub by_name : (f : ServeFault) (s : Service) → IsRefused f s → Hinders f s
 by_name fault.BadCount s h = h
 by_name fault.BadDesk s h = h
+by_name fault.SameAddresses s h = h
+by_name fault.NoStore s h = absurd h
+by_name fault.StoreThere s h = absurd h
+by_name (fault.UnknownHost desk) s h = absurd h
 by_name fault.WrongDesk s h = absurd h
 by_name fault.Damaged s h = absurd h
 by_name fault.Device s h = absurd h
@@ -149,15 +161,31 @@ by_store fault.BadDesk s h allowed = absurd h
 by_store fault.CannotListen s h allowed = absurd h
 by_store fault.Down s h allowed = absurd h
 by_store fault.Write s h allowed = absurd h
+by_store fault.SameAddresses s h allowed = absurd h
+by_store fault.NoStore s h allowed = absurd h
+by_store fault.StoreThere s h allowed = absurd h
+by_store (fault.UnknownHost desk) s h allowed = absurd h
+
+pub by_opening : (f : ServeFault) (s : Service) → IsOfOpening f s → IsAllowed s → Hinders f s
+by_opening fault.NoStore s h allowed = (allowed, h)
+by_opening fault.StoreThere s h allowed = (allowed, h)
+by_opening (fault.UnknownHost desk) s h allowed = (allowed, h.0, h.1)
+by_opening fault.WrongDesk s h allowed = allowed
+by_opening fault.Damaged s h allowed = allowed
+by_opening fault.Device s h allowed = allowed
+by_opening fault.NoMemory s h allowed = allowed
+by_opening fault.BadCount s h allowed = absurd h
+by_opening fault.BadDesk s h allowed = absurd h
+by_opening fault.SameAddresses s h allowed = absurd h
+by_opening fault.CannotListen s h allowed = absurd h
+by_opening fault.Down s h allowed = absurd h
+by_opening fault.Write s h allowed = absurd h
 
 pub by_listener : (f : ServeFault) (s : Service) → IsOfListener f → IsAllowed s → Hinders f s
 by_listener f s (inl is) allowed = subst (λ (f : ServeFault). Hinders f s) (sym is) allowed
 by_listener f s (inr is) allowed = subst (λ (f : ServeFault). Hinders f s) (sym is) allowed
 
 -- ---- the desk that was opened is the one that was asked for
-
-pub allowed_of : (s : Service) (home : Home) → home ≡ home_of s → IsHome home → IsAllowed s
-allowed_of s home is h = subst (λ (h : Home). IsHome h) is h
 
 pub printed : {V : Type 0} {way : Way V} (s : Service) (home : Home) (len : ℕ) (o : Output)
     (a b : Point way) (r : Result (Unit {0}) ServeFault)

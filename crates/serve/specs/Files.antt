@@ -1,18 +1,39 @@
 -- The desk that is opened on its files.
-use Rattle.std.specs.Prelude.{◌≡◌, false}
+use Rattle.std.specs.Prelude.{◌≡◌, false, List}
+use Rattle.acceptor.specs.declared.entry.Entry.{Entry}
+use Rattle.acceptor.specs.declared.stored.Stored.{Stored}
 use Rattle.sqlite.specs.Recovery.{Image}
-use Rattle.desk_file.specs.Files.{HeldBy}
+use Rattle.desk_file.specs.Files.{HeldAs, HeldBy, IsMadeIn, StandsIn}
 use Rattle.replica.specs.Nodes.{NodeValue}
 use Rattle.roles.specs.Opening.{opened}
 use Rattle.store.specs.declared.home.Home.{Home}
 use Rattle.store.specs.declared.keeper.Keeper.{Ghosts}
+use Rattle.service.specs.declared.Making.{Making}
+use Rattle.service.specs.declared.Making.TheVariants as making
+
+-- What the two files held of a desk that is opened with this state and this log. As it is needed:
+-- its tables had them, or there was no table yet and they are the first ones. Where a store has to
+-- be there: its tables had them. Where one has to be made: there was no table, and they are the
+-- first ones.
+abbrev pub HeldFor : Making → Image → Home → Stored → List Entry → Type 0
+HeldFor making.AsNeeded files home s log = HeldBy files home s log
+HeldFor making.Open files home s log = HeldAs files (StandsIn home s log)
+HeldFor making.New files home s log = HeldAs files (IsMadeIn s log)
+
+-- The keeper of this desk keeps a state and a log that the files held so, where they have given
+-- back what was written to them.
+pub record KeepsFor {K : Type 0} (k : Ghosts K) (how : Making) (files : Image) (home : Home)
+    (keeper : K) : Type 0 where
+  pub place : k.home_of keeper ≡ home
+  pub held : k.is_honest keeper
+      → (s : Stored) × (log : List Entry) × k.keeps keeper s log × HeldFor how files home s log
 
 -- The desk that is opened on two files that held this: it is up and idle, nothing waits in its
 -- queue, and, where the files have given back what was written to them, its state and its log are
 -- those that they held.
-pub record IsOpenedOn {K : Type 0} (k : Ghosts K) (files : Image) (home : Home)
+pub record IsOpenedOn {K : Type 0} (k : Ghosts K) (how : Making) (files : Image) (home : Home)
     (node : NodeValue K) : Type 0 where
   pub up : node.is_down ≡ false
   pub idle : node.desk ≡ opened node.desk.stored node.desk.log
   pub place : k.home_of node.keeper ≡ home
-  pub held : k.is_honest node.keeper → HeldBy files home node.desk.stored node.desk.log
+  pub held : k.is_honest node.keeper → HeldFor how files home node.desk.stored node.desk.log

@@ -1,14 +1,17 @@
 -- What a desk that serves prints, and when it may.
 use Rattle.std.specs.Prelude.{◌≡◌, ◌⊎◌, ◌≤◌, ℕ, List, ◌++◌, codes, decimal, length, Option}
-use Rattle.std.specs.Prelude.{IfSome}
+use Rattle.std.specs.Prelude.{IfSome, Some, None, Bool, true, false, map}
 use Rattle.std.specs.Io.KnownBytes.{Keeps, Appends}
 use Rattle.lines.specs.Bytes.{AppendsPart}
 use Rattle.store.specs.Ranges.{IsHome, home_at}
 use Rattle.store.specs.declared.fault.OpenFault.{OpenFault}
 use Rattle.store.specs.declared.fault.OpenFault.TheVariants as opening
 use Rattle.store.specs.declared.home.Home.{Home}
+use Rattle.serve.specs.Addresses.{AreApart, HasTwins, IsNoAddress}
 use Rattle.serve.specs.declared.fault.ServeFault.{ServeFault}
 use Rattle.serve.specs.declared.fault.ServeFault.TheVariants as fault
+use Rattle.service.specs.declared.Making.{Making}
+use Rattle.service.specs.declared.Making.TheVariants as making
 use Rattle.service.specs.declared.Service.{Service}
 
 -- which desk it is, of how many, and how long its log is
@@ -32,14 +35,37 @@ abbrev pub IsCount : Service → Type 0
 IsCount s = (length s.addresses.now ≡ 3) ⊎ (length s.addresses.now ≡ 5)
 
 -- three addresses or five, and one of these desks
-abbrev pub IsAllowed : Service → Type 0
-IsAllowed s = IsHome (home_of s)
+abbrev pub IsPlaced : Service → Type 0
+IsPlaced s = IsHome (home_of s)
 
--- the two refusals by name, in this order
+-- it is said whether the store is opened or made, as a hall's file does
+abbrev pub IsOfFile : Making → Type 0
+IsOfFile making.AsNeeded = ⊥
+IsOfFile making.Open = Unit {0}
+IsOfFile making.New = Unit {0}
+
+abbrev pub texts_of : Service → List (List ℕ)
+texts_of s = map (λ t. t.now) s.addresses.now
+
+-- one of the desks of a hall, and of a hall's file each desk has an address of its own
+abbrev pub IsAllowed : Service → Type 0
+IsAllowed s = IsPlaced s × (IsOfFile s.making → AreApart (texts_of s))
+
+-- the three refusals by name, in this order
 abbrev pub IsRefused : ServeFault → Service → Type 0
 IsRefused fault.BadCount s = ¬ IsCount s
-IsRefused fault.BadDesk s = IsCount s × (¬ IsAllowed s)
+IsRefused fault.BadDesk s = IsCount s × (¬ IsPlaced s)
+IsRefused fault.SameAddresses s = IsPlaced s × IsOfFile s.making × HasTwins (texts_of s)
 IsRefused _ s = ⊥
+
+-- Why a file is not opened in which a store is, or none: a store that has to be there is not, or one
+-- that has to be made is there already.
+abbrev pub refusal_of : Making → Bool → Option ServeFault
+refusal_of making.AsNeeded there = None
+refusal_of making.Open true = None
+refusal_of making.Open false = Some fault.NoStore
+refusal_of making.New true = Some fault.StoreThere
+refusal_of making.New false = None
 
 -- those of the file
 abbrev pub IsOfStore : ServeFault → Type 0
@@ -48,6 +74,13 @@ IsOfStore fault.Damaged = Unit {0}
 IsOfStore fault.Device = Unit {0}
 IsOfStore fault.NoMemory = Unit {0}
 IsOfStore _ = ⊥
+
+-- those of the file and of the other desks' addresses, before the desk is opened
+abbrev pub IsOfOpening : ServeFault → Service → Type 0
+IsOfOpening fault.NoStore s = s.making ≡ making.Open
+IsOfOpening fault.StoreThere s = s.making ≡ making.New
+IsOfOpening (fault.UnknownHost desk) s = IsOfFile s.making × IsNoAddress (texts_of s) desk
+IsOfOpening f s = IsOfStore f
 
 -- each fault of the store goes by its own name
 abbrev pub opening_fault : OpenFault → ServeFault
@@ -96,7 +129,12 @@ pub record PrintsPart (s : Service) (o : Output) : Type 0 where
 -- are the file's and the socket's, of which no more is known
 abbrev pub Hinders : ServeFault → Service → Type 0
 Hinders fault.BadCount s = ¬ IsCount s
-Hinders fault.BadDesk s = IsCount s × (¬ IsAllowed s)
+Hinders fault.BadDesk s = IsCount s × (¬ IsPlaced s)
+Hinders fault.SameAddresses s = IsPlaced s × IsOfFile s.making × HasTwins (texts_of s)
+Hinders fault.NoStore s = IsAllowed s × (s.making ≡ making.Open)
+Hinders fault.StoreThere s = IsAllowed s × (s.making ≡ making.New)
+Hinders (fault.UnknownHost desk) s =
+    IsAllowed s × IsOfFile s.making × IsNoAddress (texts_of s) desk
 Hinders fault.Down s = ⊥
 Hinders fault.Write s = ⊥
 Hinders _ s = IsAllowed s

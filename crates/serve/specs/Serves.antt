@@ -4,7 +4,6 @@ use Rattle.std.specs.Prelude.{Result, Ok, Err, Bool, nat_le, ◌&&◌, if◌then
 use Rattle.std.specs.Io.KnownBytes.{Appends, Keeps}
 use Rattle.std.specs.declared.io.Write.{Ghosts as WriteOf}
 use Rattle.sqlite.specs.Recovery.{Image}
-use Rattle.desk_file.specs.Files.{KeepsHeld}
 use Rattle.lines.specs.Bytes.{AppendsPart}
 use Rattle.multiplex.specs.Happenings.{Happened}
 use Rattle.multiplex.specs.Passing.{IsServedEach, Lobby, Room, Step}
@@ -21,7 +20,7 @@ use Rattle.connections.specs.Connections.{Point}
 use Rattle.store.specs.declared.home.Home.{Home}
 use Rattle.store.specs.declared.keeper.Keeper.{Ghosts as KeeperOf}
 use Rattle.wire.specs.declared.values.Version.{Version}
-use Rattle.serve.specs.Files.{IsOpenedOn}
+use Rattle.serve.specs.Files.{IsOpenedOn, KeepsFor}
 use Rattle.serve.specs.Printing.{Hinders, IsOfListener, Output, first_line, both_lines, home_of}
 use Rattle.serve.specs.Printing.{output}
 use Rattle.serve.specs.declared.fault.ServeFault.{ServeFault}
@@ -148,7 +147,7 @@ pub record IsRun {K : Type 0} (k : KeeperOf K) (files : Image) (s : Service) (o 
     → Type 0) : Type 0 where
   pub first : NodeValue K
   pub last : NodeValue K
-  pub opened : IsOpenedOn k files (home_of s) first
+  pub opened : IsOpenedOn k s.making files (home_of s) first
   pub served : Does (turn_of s (home_of s) (length first.desk.log) o)
       (resting k s.wire first) (resting k s.wire last)
 
@@ -236,8 +235,8 @@ FailsDesk k files s o f = IsHindered f s o ⊎ IsRun k files s o (FailsServing f
 -- the same of the desk that this keeper keeps, whatever files it was opened on
 abbrev pub RunsKept : {K : Type 0} → KeeperOf K → K → Service → Output → Type 0
 RunsKept k keeper s o =
-    (files : Image) → KeepsHeld k files (home_of s) keeper → RunsDesk k files s o
+    (files : Image) → KeepsFor k s.making files (home_of s) keeper → RunsDesk k files s o
 
 abbrev pub FailsKept : {K : Type 0} → KeeperOf K → K → Service → Output → ServeFault → Type 0
 FailsKept k keeper s o f =
-    (files : Image) → KeepsHeld k files (home_of s) keeper → FailsDesk k files s o f
+    (files : Image) → KeepsFor k s.making files (home_of s) keeper → FailsDesk k files s o f

@@ -12,9 +12,18 @@ pub enum ServeFault {
     BadCount,
     /// A desk's number is 1 to the number of desks.
     BadDesk,
+    /// Two desks of a hall's file have one address.
+    SameAddresses,
+    /// A store has to be there, and the file is not there or empty.
+    NoStore,
+    /// A store has to be made, and one is there.
+    StoreThere,
+    /// No address can be found of the desk of this number, from 1, of a hall's file.
+    UnknownHost { desk: u8 },
     /// The file is the store of another desk or hall, or of a hall of another number of desks.
     WrongDesk,
-    /// What the file holds is no desk's store, whole and in its ranges.
+    /// What the file holds is no desk's store, whole and in its ranges. Where a store has to be
+    /// there, that is also a database without a table, as a file whose log was lost.
     Damaged,
     /// The file could not be opened or read, or another program has it open.
     Device,

@@ -1,10 +1,11 @@
 //! The sockets of a desk that serves: its clients, and the links to the other desks of its hall.
 
-ghost use Rattle.std.specs.Prelude.{IfOk, IfErr, map};
-ghost use Rattle.serve.specs.Addresses.{AreFoundFor, IsFoundFor, LeadTo};
+ghost use Rattle.std.specs.Prelude.{IfOk, IfErr, IfSome, map};
+ghost use Rattle.serve.specs.Addresses.{AreFoundFor, IsFoundFor, IsNoAddress, LeadTo};
 ghost use Rattle.serve.specs.Printing.{IsOfListener};
 
 use crate::fault::ServeFault;
+use crate::twins::twins_in;
 use mio_sockets::{DeskLinks, SocketClients, SocketLinks, SocketWires};
 use service::Service;
 use std::alloc::{AllocError, Global};
@@ -35,6 +36,22 @@ fn addresses_of<R: Net>(
         found.push(address_of(net, text))?;
     }
     Ok(found)
+}
+
+/// The number of the first desk, from 1, of whose text no address is found, among the first 255.
+pub fn unknown_in<R: Net>(net: &R, texts: &[&str]) -> Option<u8>
+    ensures { IfSome result (IsNoAddress (map (λ t. t.now) texts.now)) }
+{
+    for desk in 1..=255u8 {
+        let place = usize::from(desk) - 1;
+        if place >= texts.len() {
+            return None;
+        }
+        if address_of(net, texts[place]).is_none() {
+            return Some(desk);
+        }
+    }
+    None
 }
 
 /// Why the desk's address can't be had.
@@ -68,6 +85,18 @@ pub fn listen<'r>(
     }
 }
 
+/// Says which two desks have one address.
+fn tell_twins<W: Write>(lines: &mut W, texts: &[&str]) -> io::Result<()> {
+    let Some((first, second)) = twins_in(texts) else {
+        return Ok(());
+    };
+    let Some(text) = texts.get(first) else {
+        return Ok(());
+    };
+    let (one, other) = (first.saturating_add(1), second.saturating_add(1));
+    writeln!(lines, "desks {one} and {other} have one address: {text}")
+}
+
 /// Says of which desks no address was found.
 fn tell_missing<W: Write>(
     lines: &mut W,
@@ -84,7 +113,7 @@ fn tell_missing<W: Write>(
 }
 
 /// The links to the other desks, whose sockets the poll of the clients tells of. Where lines about
-/// other desks are wanted, it says of which no address was found.
+/// other desks are wanted, it says which two have one address, and of which no address was found.
 pub fn links_to<'r>(
     rt: &'r HostRuntime,
     service: Service<'_>,
@@ -105,6 +134,7 @@ pub fn links_to<'r>(
         None
     } else {
         let mut stderr = rt.stderr();
+        let _ = tell_twins(&mut stderr, service.addresses);
         let _ = tell_missing(&mut stderr, service.addresses, &addresses);
         Some(stderr)
     };

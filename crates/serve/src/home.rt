@@ -1,15 +1,27 @@
 //! The desk that is to serve, and its hall.
 
-ghost use Rattle.std.specs.Prelude.{◌≡◌, IfOk, IfErr};
+ghost use Rattle.std.specs.Prelude.{◌≡◌, ◌↔◌, IfOk, IfErr, OnOk, IsTrue};
 ghost use Rattle.store.specs.Ranges.{IsHome};
-ghost use Rattle.serve.specs.Printing.{IsRefused, home_of};
+ghost use Rattle.serve.specs.Addresses.{AreApart, HasTwins};
+ghost use Rattle.serve.specs.Printing.{IsAllowed, IsOfFile, IsRefused, home_of, texts_of};
 
 use crate::fault::ServeFault;
-use service::Service;
+use crate::twins::twins_in;
+use service::{Making, Service};
 use store::home::Home;
 
+/// Whether it is said that the store is opened or made, as a hall's file does.
+pub fn is_of_file(making: Making) -> bool
+    ensures { IsTrue result ↔ IsOfFile making }
+{
+    match making {
+        Making::AsNeeded => false,
+        Making::Open | Making::New => true,
+    }
+}
+
 /// The desk, of a hall of as many desks as there are addresses.
-pub fn home_of(service: Service<'_>) -> Result<Home, ServeFault>
+fn placed_home(service: Service<'_>) -> Result<Home, ServeFault>
     ensures ok { IfOk result (λ home. (home ≡ home_of service.entry) × IsHome home) }
     ensures err { IfErr result (λ f. IsRefused f service.entry) }
 {
@@ -27,4 +39,37 @@ pub fn home_of(service: Service<'_>) -> Result<Home, ServeFault>
         return Err(ServeFault::BadDesk);
     }
     Ok(home)
+}
+
+/// Refuses two equal addresses of a hall's file.
+fn apart(service: Service<'_>) -> Result<(), ServeFault>
+    ensures ok { OnOk result
+        (IsOfFile service.entry.making → AreApart (texts_of service.entry)) }
+    ensures err { IfErr result (λ f. (f ≡ ServeFault.SameAddresses)
+        × IsOfFile service.entry.making × HasTwins (texts_of service.entry)) }
+{
+    if !is_of_file(service.making) {
+        return Ok(());
+    }
+    match twins_in(service.addresses) {
+        Some(_) => Err(ServeFault::SameAddresses),
+        None => Ok(()),
+    }
+}
+
+/// The desk, of a hall of as many desks as there are addresses. Of a hall's file no two addresses
+/// may be equal.
+pub fn home_of(service: Service<'_>) -> Result<Home, ServeFault>
+    ensures ok { IfOk result (λ home. (home ≡ home_of service.entry) × IsHome home) }
+    ensures allowed { OnOk result (IsAllowed service.entry) }
+    ensures err { IfErr result (λ f. IsRefused f service.entry) }
+{
+    let home = match placed_home(service) {
+        Ok(home) => home,
+        Err(fault) => return Err(fault),
+    };
+    match apart(service) {
+        Ok(()) => Ok(home),
+        Err(fault) => Err(fault),
+    }
 }

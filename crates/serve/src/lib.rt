@@ -6,9 +6,11 @@ mod closing;
 mod fault;
 mod hall;
 mod home;
+mod opening;
 mod running;
 mod telling;
+mod twins;
 
 pub use fault::ServeFault;
 pub use running::{serve, serve_node};
-pub use service::Service;
+pub use service::{Making, Service};

@@ -11,8 +11,9 @@ use crate::closing::{Close, close_node};
 use crate::fault::{ServeFault, fault_of_open};
 use crate::hall::{links_to, listen};
 use crate::home::home_of;
+use crate::opening::open_store;
 use crate::telling::{tell_first, tell_last};
-use desk_file::{fault_of_load, open_keeper};
+use desk_file::fault_of_load;
 use multiplex::{Clients, Links, Over, Terms, serve_each};
 use node::Node;
 use service::Service;
@@ -180,8 +181,12 @@ fn serve_kept<K: Keeper + Close + Drop, W: Write>(
 ///
 /// - `BadCount` where there are neither three addresses nor five, then `BadDesk` where the desk is
 ///   none of those: nothing is opened.
+/// - Where it is said whether the store is opened or made, next `SameAddresses` where two addresses
+///   are equal, then `NoStore` or `StoreThere` by what the file has (an empty one is as none), then
+///   `UnknownHost` where the system finds no address of a desk: nothing is opened or made.
 /// - `WrongDesk`, `Damaged` and `Device` where the file can't be opened as this desk's store. A
-///   file that another program has open is `Device`.
+///   file that another program has open is `Device`. Where the store has to be there, a database
+///   without a table is `Damaged`; where it has to be made, one with a table is `StoreThere`.
 /// - `CannotListen` where the desk's address can't be had, and where the system tells nothing of
 ///   the clients any more; then both lines are printed.
 /// - `Down` where a save failed; both lines are printed.
@@ -208,9 +213,9 @@ pub fn serve<S: Start, W: Write>(
         Ok(home) => home,
         Err(fault) => return Err(fault),
     };
-    let keeper = match open_keeper(rt, home, service.store, start) {
+    let keeper = match open_store(rt, service, home, start) {
         Ok(keeper) => keeper,
-        Err(fault) => return Err(fault_of_open(fault)),
+        Err(fault) => return Err(fault),
     };
     serve_kept(rt, service, keeper, writer)
 }

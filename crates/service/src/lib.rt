@@ -3,6 +3,17 @@
 
 use wire::Version;
 
+/// Where the store of a desk comes from.
+#[derive(Clone, Copy, Debug, PartialEq, Eq)]
+pub enum Making {
+    /// The store in the file is opened, and where there is none it is made.
+    AsNeeded,
+    /// The store in the file is opened, and none is made.
+    Open,
+    /// A store is made, and one that is there is not opened.
+    New,
+}
+
 /// What is asked of a desk that is to serve.
 #[derive(Clone, Copy)]
 pub struct Service<'a> {
@@ -12,6 +23,9 @@ pub struct Service<'a> {
     pub desk: u8,
     /// The path of its store.
     pub store: &'a str,
+    /// Whether that store is opened or made. A hall's file says `Open` or `New`, and then the
+    /// addresses have to be found as well, each of another desk.
+    pub making: Making,
     /// How many seconds a client may be silent, and take nothing of what is sent to it.
     pub patience: u32,
     /// How many connections are served; without it, as many as come.

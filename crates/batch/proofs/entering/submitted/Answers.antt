@@ -4,7 +4,8 @@ use Rattle.wire.specs.declared.frame.What.TheVariants as what
 use Rattle.batch.specs.Dialing.{place_of}
 use Rattle.batch.specs.Asking.{request_to}
 use Rattle.batch.proofs.Going.{goes_none}
-use Rattle.batch.proofs.Trying.{fails_by, if_asks_text}
+use Rattle.batch.proofs.EachLine.{if_asks_text}
+use Rattle.batch.proofs.Trying.{fails_by}
 use Rattle.batch.proofs.entering.submitted.Goals as goal
 
 pub returns-in_err-entry-clause-err : goal.returns-in_err-entry-clause-err

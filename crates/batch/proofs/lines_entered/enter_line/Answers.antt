@@ -1,57 +1,93 @@
-use Rattle.std.proofs.Common.{◌≡◌, ◌+◌, [], inl, inr, refl, subst, IfErr, rules}
+use Rattle.std.proofs.Common.{◌≡◌, ◌⊎◌, ◌+◌, ◌∙◌, [], ap, false, inl, inr, refl, subst, sym, true}
+use Rattle.std.proofs.Common.{rules}
 use Rattle.wire.specs.Ranges.{IsId}
-use Rattle.batch.specs.declared.fault.BatchFault.TheVariants.{NoMoreIds}
+use Rattle.batch.specs.declared.fault.BatchFault.TheVariants as fault
 use Rattle.batch.specs.Dialing.{place_of}
-use Rattle.batch.specs.Asking.{Asks}
-use Rattle.batch.specs.Entering.{StopsAsking}
-use Rattle.batch.specs.model.Keeping.{standing}
 use Rattle.batch.specs.Asking.{IsOfAsking}
-use Rattle.batch.proofs.Asked.{if_unsaid, unprinted}
+use Rattle.batch.specs.Entering.{Hinders, IsEntered, ends_after, ends_run}
+use Rattle.batch.proofs.Asked.{entered_so, enters_line, printed_part, printing_other, refused}
+use Rattle.batch.proofs.Asked.{stops_so, unprinted, unsaid_so}
 use Rattle.batch.proofs.Going.{goes_none}
 use Rattle.batch.proofs.Trying.{fails_by}
 use Rattle.batch.proofs.lines_entered.enter_line.Goals as goal
 
-pub returns-clause-asked : goal.returns-clause-asked
-returns-clause-asked g c =
-    let id : c.in-Some.id ≡ c.args.batch.first_id + c.args.number = search rules in
-    subst
-    (λ n. IfErr c.print_answer.result (λ f.
-    Asks (place_of c.args.contact) (standing g.D.Dial.dialed g.D.Reader.Read.remaining
-    g.D.Writer.Write.contents c.args.dial.now
-    c.args.held.now)
-    (standing g.D.Dial.dialed g.D.Reader.Read.remaining g.D.Writer.Write.contents c.entered.new.dial
-    c.entered.new.held)
-    (StopsAsking f c.args.batch.receiver n c.args.line.now))) id
-    (if_unsaid c.args.batch c.in-Some.id c.args.line.now c.in_ok-answer.answer _ _
-    c.print_answer.result c.in_ok-answer.ensures.ok c.print_answer.ensures.fault)
+pub returns-in_default-clause-err : goal.returns-in_default-clause-err
+returns-in_default-clause-err g c =
+    let id = c.args.batch.first_id + c.args.number in
+    let beyond : ¬ IsId id = search rules in
+    unprinted IsOfAsking fault.NoMoreIds c.args.batch id id c.args.command.now.text _ refl
+    (inr beyond)
+
+pub returns-in_default-clause-asked : goal.returns-in_default-clause-asked
+returns-in_default-clause-asked g c =
+    ([], goes_none (place_of c.args.contact) _, (tt, inl (tt, inr (inr (inr tt)))))
 
 pub returns-in_err-answer-clause-err : goal.returns-in_err-answer-clause-err
 returns-in_err-answer-clause-err g c =
     let id : c.in-Some.id ≡ c.args.batch.first_id + c.args.number = search rules in
     let f = c.in_err-answer.field-0.0 in
     fails_by _ c.from_residual.result f (search rules)
-    (unprinted IsOfAsking f c.args.batch c.in-Some.id _ c.args.line.now _ id
-    c.in_err-answer.ensures.cause)
+    (unprinted IsOfAsking f c.args.batch c.in-Some.id _ c.args.command.now.text _ id
+    (subst (λ t. IsOfAsking f ⊎ Hinders f c.args.batch.waits c.args.batch.receiver c.in-Some.id t)
+    c.text.ensures c.in_err-answer.ensures.cause))
 
 pub returns-in_err-answer-clause-asked : goal.returns-in_err-answer-clause-asked
 returns-in_err-answer-clause-asked g c =
     let id : c.in-Some.id ≡ c.args.batch.first_id + c.args.number = search rules in
     let f = c.in_err-answer.field-0.0 in
     fails_by _ c.from_residual.result f (search rules)
-    (subst
-    (λ n. Asks (place_of c.args.contact) (standing g.D.Dial.dialed g.D.Reader.Read.remaining
-    g.D.Writer.Write.contents c.args.dial.now
-    c.args.held.now)
-    (standing g.D.Dial.dialed g.D.Reader.Read.remaining g.D.Writer.Write.contents c.entered.new.dial
-    c.entered.new.held)
-    (StopsAsking f c.args.batch.receiver n c.args.line.now)) id c.in_err-answer.ensures.err)
+    (stops_so c.args.batch.receiver c.in-Some.id _ _ _ _ _ f id c.text.ensures
+    c.in_err-answer.ensures.err)
 
-pub returns-in_default-clause-err : goal.returns-in_default-clause-err
-returns-in_default-clause-err g c =
-    let id = c.args.batch.first_id + c.args.number in
-    let beyond : ¬ IsId id = search rules in
-    unprinted IsOfAsking NoMoreIds c.args.batch id id c.args.line.now _ refl (inr beyond)
+pub returns-in_err-print_answer-clause-err : goal.returns-in_err-print_answer-clause-err
+returns-in_err-print_answer-clause-err g c =
+    let id : c.in-Some.id ≡ c.args.batch.first_id + c.args.number = search rules in
+    let f = c.in_err-print_answer.field-0.0 in
+    let b = c.args.batch in
+    fails_by _ c.from_residual-in_err-print_answer.result f (search rules)
+    (printed_part IsOfAsking f b c.in-Some.id _ c.args.command.now.text c.in_ok-answer.answer _ _ id
+    c.in_err-print_answer.ensures.fault
+    (subst (λ t. IsEntered b.waits b.receiver c.in-Some.id t c.in_ok-answer.answer)
+    c.text.ensures c.in_ok-answer.ensures.answer)
+    c.in_err-print_answer.ensures.err)
 
-pub returns-in_default-clause-asked : goal.returns-in_default-clause-asked
-returns-in_default-clause-asked g c =
-    ([], goes_none (place_of c.args.contact) _, (tt, inl (tt, inr (inr tt))))
+pub returns-in_err-print_answer-clause-asked : goal.returns-in_err-print_answer-clause-asked
+returns-in_err-print_answer-clause-asked g c =
+    let id : c.in-Some.id ≡ c.args.batch.first_id + c.args.number = search rules in
+    let f = c.in_err-print_answer.field-0.0 in
+    fails_by _ c.from_residual-in_err-print_answer.result f (search rules)
+    (unsaid_so c.args.batch c.in-Some.id _ _ _ c.in_ok-answer.answer _ _ f id c.text.ensures
+    (printing_other f c.in_err-print_answer.ensures.fault) c.in_ok-answer.ensures.ok)
+
+pub returns-then-ends-clause-err : goal.returns-then-ends-clause-err
+returns-then-ends-clause-err g c =
+    let id : c.in-Some.id ≡ c.args.batch.first_id + c.args.number = search rules in
+    let b = c.args.batch in
+    let ends : ends_run b c.in_ok-answer.answer ≡ true =
+    ap (ends_after b) (sym c.told_answer-said.ensures) ∙ sym c.ends_after-ends.ensures
+    ∙ c.if-ends.true in
+    refused IsOfAsking b c.in-Some.id _ c.args.command.now.text c.in_ok-answer.answer _ _ id
+    (subst (λ t. IsEntered b.waits b.receiver c.in-Some.id t c.in_ok-answer.answer)
+    c.text.ensures c.in_ok-answer.ensures.answer)
+    c.in_ok-print_answer.ensures.ok ends
+
+pub returns-then-ends-clause-asked : goal.returns-then-ends-clause-asked
+returns-then-ends-clause-asked g c =
+    let id : c.in-Some.id ≡ c.args.batch.first_id + c.args.number = search rules in
+    unsaid_so c.args.batch c.in-Some.id _ _ _ c.in_ok-answer.answer _ _ fault.AtRefusal id
+    c.text.ensures tt c.in_ok-answer.ensures.ok
+
+pub returns-clause-ok : goal.returns-clause-ok
+returns-clause-ok g c =
+    let id : c.in-Some.id ≡ c.args.batch.first_id + c.args.number = search rules in
+    let b = c.args.batch in
+    let on : ends_run b c.in_ok-answer.answer ≡ false =
+    ap (ends_after b) (sym c.told_answer-said.ensures) ∙ sym c.ends_after-ends.ensures
+    ∙ c.if-ends.false in
+    enters_line b c.in-Some.id c.args.number c.args.command.now.text c.in_ok-answer.answer _ _ _ _
+    id
+    (subst (λ t. IsEntered b.waits b.receiver c.in-Some.id t c.in_ok-answer.answer)
+    c.text.ensures c.in_ok-answer.ensures.answer)
+    (entered_so c.args.batch c.in-Some.id _ _ c.in_ok-answer.answer _ _ c.text.ensures
+    c.in_ok-answer.ensures.ok)
+    on c.in_ok-print_answer.ensures.ok

@@ -2,105 +2,127 @@ use Rattle.std.proofs.Common.{inl, inr, refl, sym, subst, ap, ◌∙◌}
 use Rattle.std.proofs.KnownBytes.{Keeps-refl}
 use Rattle.desk.specs.Statuses.{Ends, calls}
 use Rattle.errands.specs.Statuses.{status_of}
-use Rattle.desk.proofs.Endings.{prints_at_most}
+use Rattle.lines.specs.Bytes.{sides}
+use Rattle.replay.specs.Apart.{told}
+use Rattle.desk.proofs.Endings.{import_not_zero, not_zero, prints_at_most}
 use Rattle.desk.proofs.running.run_task.Goals as goal
 
-pub returns-in-Err-write_stored_log-clause-ends : goal.returns-in-Err-write_stored_log-clause-ends
-returns-in-Err-write_stored_log-clause-ends g c =
-    let had = g.R.Read.remaining c.args.reader.now in
-    let old = g.W.Write.contents c.args.writer.now in
-    let new = g.W.Write.contents c.write_stored_log.new.writer in
-    let status = c.tell.result in
-    subst
-    (λ t. Ends t status (record { had = had; left = had; old = old; new = new })
-    (calls g.D.Dial.dialed c.args.dial.now c.args.dial.now))
-    (sym c.in-Log.is) (
-      Keeps-refl had,
-      inr (
-        c.in-Err-write_stored_log.fault,
-        c.tell.ensures ∙ ap status_of c.fault_of_log.ensures,
-        prints_at_most c.in-Err-write_stored_log.fault _ _ old new
-            c.in-Err-write_stored_log.ensures.fails c.in-Err-write_stored_log.ensures.err,
-      ),
-    )
-
-pub returns-in-Err-serve-clause-ends : goal.returns-in-Err-serve-clause-ends
-returns-in-Err-serve-clause-ends g c =
-    let had = g.R.Read.remaining c.args.reader.now in
-    let old = g.W.Write.contents c.args.writer.now in
-    let new = g.W.Write.contents c.serve.new.writer in
-    let status = c.tell-in-Err-serve.result in
-    subst
-    (λ t. Ends t status (record { had = had; left = had; old = old; new = new })
-    (calls g.D.Dial.dialed c.args.dial.now c.args.dial.now))
-    (sym c.in-Serve.is) (
-      Keeps-refl had,
-      inr (
-        c.in-Err-serve.fault,
-        c.tell-in-Err-serve.ensures ∙ ap status_of c.fault_of_serve.ensures,
-        c.in-Err-serve.ensures.err,
-      ),
-    )
-
-pub returns-in-Err-carry-clause-ends : goal.returns-in-Err-carry-clause-ends
-returns-in-Err-carry-clause-ends g c =
-    let had = g.R.Read.remaining c.args.reader.now in
-    let old = g.W.Write.contents c.args.writer.now in
-    let new = g.W.Write.contents c.carry.new.writer in
-    let status = c.tell_asking.result in
-    subst
-    (λ t. Ends t status (record { had = had; left = had; old = old; new = new })
-    (calls g.D.Dial.dialed c.args.dial.now c.carry.new.dial))
-    (sym c.in-Carry.is) (
-      Keeps-refl had,
-      inr (c.in-Err-carry.fault, c.tell_asking.ensures, c.in-Err-carry.ensures.err),
-    )
-
-pub returns-in-Ok-write_stored_log-clause-quiet : goal.returns-in-Ok-write_stored_log-clause-quiet
-returns-in-Ok-write_stored_log-clause-quiet g c = λ zero. Keeps-refl _
-
-pub returns-in-Ok-serve-clause-quiet : goal.returns-in-Ok-serve-clause-quiet
-returns-in-Ok-serve-clause-quiet g c = λ zero. Keeps-refl _
-
-pub returns-in-Err-clause-ends : goal.returns-in-Err-clause-ends
-returns-in-Err-clause-ends g c =
-    let had = g.R.Read.remaining c.args.reader.now in
-    let old = g.W.Write.contents c.args.writer.now in
-    let new = g.W.Write.contents c.print_file.new.writer in
-    let status = c.tell_import.result in
-    subst
-    (λ t. Ends t status (record { had = had; left = had; old = old; new = new })
-    (calls g.D.Dial.dialed c.args.dial.now c.args.dial.now))
-    (sym c.in-Import.is) (
-      Keeps-refl had,
+pub returns-in-Err : goal.returns-in-Err
+returns-in-Err g c =
+    let s =
+    sides g.R.Read.remaining g.W.Write.contents c.args.reader.now c.args.reader.now
+    c.args.writer.now c.print_file.new.writer in
+    let d = calls g.D.Dial.dialed c.args.dial.now c.args.dial.now in
+    let t = told g.F.Write.contents c.args.faults.now c.tell_import.new.faults in
+    subst (λ a. Ends a c.tell_import.result s d t) (sym c.in-Import.is) (
+      Keeps-refl _,
       inr (c.in-Err.fault, c.tell_import.ensures, c.in-Err.ensures.err),
+      λ zero. absurd (import_not_zero c.in-Err.fault _ c.tell_import.ensures zero),
     )
 
-pub returns-in-Ok-clause-quiet : goal.returns-in-Ok-clause-quiet
-returns-in-Ok-clause-quiet g c = λ zero. Keeps-refl _
+pub returns-in-Err-print_hall_file : goal.returns-in-Err-print_hall_file
+returns-in-Err-print_hall_file g c =
+    let s =
+    sides g.R.Read.remaining g.W.Write.contents c.args.reader.now c.args.reader.now
+    c.args.writer.now c.print_hall_file.new.writer in
+    let d = calls g.D.Dial.dialed c.args.dial.now c.args.dial.now in
+    let t = told g.F.Write.contents c.args.faults.now c.tell_missing.new.faults in
+    let fault = c.in-Err-print_hall_file.fault in
+    subst (λ a. Ends a c.tell_missing.result s d t) (sym c.in-HallFile.is) (
+      Keeps-refl _,
+      inr (fault, c.tell_missing.ensures, c.in-Err-print_hall_file.ensures.err),
+      λ zero. absurd (not_zero fault _ c.tell_missing.ensures zero),
+    )
 
-pub returns-in-Ok-write_stored_log-clause-ends : goal.returns-in-Ok-write_stored_log-clause-ends
-returns-in-Ok-write_stored_log-clause-ends g c =
-    let had = g.R.Read.remaining c.args.reader.now in
-    let old = g.W.Write.contents c.args.writer.now in
-    let new = g.W.Write.contents c.write_stored_log.new.writer in
-    subst
-    (λ t. Ends t 0 (record { had = had; left = had; old = old; new = new })
-    (calls g.D.Dial.dialed c.args.dial.now c.args.dial.now))
-    (sym c.in-Log.is) (
-      Keeps-refl had,
+pub returns-in-Carry : goal.returns-in-Carry
+returns-in-Carry g c =
+    let s =
+    sides g.R.Read.remaining g.W.Write.contents c.args.reader.now c.args.reader.now
+    c.args.writer.now c.carry_at.new.writer in
+    let d = calls g.D.Dial.dialed c.args.dial.now c.carry_at.new.dial in
+    let t = told g.F.Write.contents c.args.faults.now c.carry_at.new.faults in
+    subst (λ a. Ends a c.carry_at.result s d t) (sym c.in-Carry.is)
+    (Keeps-refl _, c.carry_at.ensures.ends, c.carry_at.ensures.quiet)
+
+pub returns-in-Newest : goal.returns-in-Newest
+returns-in-Newest g c =
+    let s =
+    sides g.R.Read.remaining g.W.Write.contents c.args.reader.now c.args.reader.now
+    c.args.writer.now c.newest_at.new.writer in
+    let d = calls g.D.Dial.dialed c.args.dial.now c.newest_at.new.dial in
+    let t = told g.F.Write.contents c.args.faults.now c.newest_at.new.faults in
+    subst (λ a. Ends a c.newest_at.result s d t) (sym c.in-Newest.is)
+    (Keeps-refl _, c.newest_at.ensures.ends, c.newest_at.ensures.quiet)
+
+pub returns-in-Enter : goal.returns-in-Enter
+returns-in-Enter g c =
+    let s =
+    sides g.R.Read.remaining g.W.Write.contents c.args.reader.now c.args.reader.now
+    c.args.writer.now c.enter_at.new.writer in
+    let d = calls g.D.Dial.dialed c.args.dial.now c.enter_at.new.dial in
+    let t = told g.F.Write.contents c.args.faults.now c.enter_at.new.faults in
+    subst (λ a. Ends a c.enter_at.result s d t) (sym c.in-Enter.is)
+    (Keeps-refl _, c.enter_at.ensures)
+
+pub returns-in-EnterLines : goal.returns-in-EnterLines
+returns-in-EnterLines g c =
+    let s =
+    sides g.R.Read.remaining g.W.Write.contents c.args.reader.now
+    c.enter_lines_at.new.reader c.args.writer.now c.enter_lines_at.new.writer in
+    let d = calls g.D.Dial.dialed c.args.dial.now c.enter_lines_at.new.dial in
+    let t = told g.F.Write.contents c.args.faults.now c.enter_lines_at.new.faults in
+    subst (λ a. Ends a c.enter_lines_at.result s d t) (sym c.in-EnterLines.is)
+    c.enter_lines_at.ensures
+
+pub returns-in-Ok-write_stored_log : goal.returns-in-Ok-write_stored_log
+returns-in-Ok-write_stored_log g c =
+    let s =
+    sides g.R.Read.remaining g.W.Write.contents c.args.reader.now c.args.reader.now
+    c.args.writer.now c.write_stored_log.new.writer in
+    let d = calls g.D.Dial.dialed c.args.dial.now c.args.dial.now in
+    let t = told g.F.Write.contents c.args.faults.now c.args.faults.now in
+    subst (λ a. Ends a 0 s d t) (sym c.in-Log.is) (
+      Keeps-refl _,
       inl (refl, c.in-Ok-write_stored_log.ensures.ok),
+      λ zero. Keeps-refl _,
     )
 
-pub returns-in-Ok-serve-clause-ends : goal.returns-in-Ok-serve-clause-ends
-returns-in-Ok-serve-clause-ends g c =
-    let had = g.R.Read.remaining c.args.reader.now in
-    let old = g.W.Write.contents c.args.writer.now in
-    let new = g.W.Write.contents c.serve.new.writer in
-    subst
-    (λ t. Ends t 0 (record { had = had; left = had; old = old; new = new })
-    (calls g.D.Dial.dialed c.args.dial.now c.args.dial.now))
-    (sym c.in-Serve.is) (
-      Keeps-refl had,
-      inl (refl, c.in-Ok-serve.ensures.ok),
+pub returns-in-Err-write_stored_log : goal.returns-in-Err-write_stored_log
+returns-in-Err-write_stored_log g c =
+    let s =
+    sides g.R.Read.remaining g.W.Write.contents c.args.reader.now c.args.reader.now
+    c.args.writer.now c.write_stored_log.new.writer in
+    let d = calls g.D.Dial.dialed c.args.dial.now c.args.dial.now in
+    let t = told g.F.Write.contents c.args.faults.now c.tell_log.new.faults in
+    let fault = c.in-Err-write_stored_log.fault in
+    let status = c.tell_log.ensures ∙ ap status_of c.fault_of_log.ensures in
+    subst (λ a. Ends a c.tell_log.result s d t) (sym c.in-Log.is) (
+      Keeps-refl _,
+      inr (
+        fault,
+        status,
+        prints_at_most fault _ _ s.old s.new c.in-Err-write_stored_log.ensures.fails
+            c.in-Err-write_stored_log.ensures.err,
+      ),
+      λ zero. absurd (not_zero _ _ status zero),
     )
+
+pub returns-in-CopyLog : goal.returns-in-CopyLog
+returns-in-CopyLog g c =
+    let s =
+    sides g.R.Read.remaining g.W.Write.contents c.args.reader.now c.args.reader.now
+    c.args.writer.now c.copy_log_at.new.writer in
+    let d = calls g.D.Dial.dialed c.args.dial.now c.copy_log_at.new.dial in
+    let t = told g.F.Write.contents c.args.faults.now c.copy_log_at.new.faults in
+    subst (λ a. Ends a c.copy_log_at.result s d t) (sym c.in-CopyLog.is)
+    (Keeps-refl _, c.copy_log_at.ensures.ends, c.copy_log_at.ensures.quiet)
+
+pub returns-in-ServeHall : goal.returns-in-ServeHall
+returns-in-ServeHall g c =
+    let s =
+    sides g.R.Read.remaining g.W.Write.contents c.args.reader.now c.args.reader.now
+    c.args.writer.now c.run_hall_service.new.writer in
+    let d = calls g.D.Dial.dialed c.args.dial.now c.args.dial.now in
+    let t = told g.F.Write.contents c.args.faults.now c.run_hall_service.new.faults in
+    subst (λ a. Ends a c.run_hall_service.result s d t) (sym c.in-ServeHall.is)
+    (Keeps-refl _, c.run_hall_service.ensures.ends, c.run_hall_service.ensures.quiet)

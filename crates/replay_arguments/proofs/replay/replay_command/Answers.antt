@@ -13,9 +13,12 @@ returns c =
     let two =
     added c.in_ok-command.command c.in_ok-command-2.command _ c.round_value.result _ one round.2
     c.in_ok-command-2.ensures.app c.in_ok-command-2.ensures.local in
-    IfOk-weaker c.with_argument-3.result _ _ (λ command made. (
+    let three =
+    added c.in_ok-command-2.command c.in_ok-command-3.command _ c.csv_flag.result _ two
+    c.csv_flag.ensures.rule c.in_ok-command-3.ensures.app c.in_ok-command-3.ensures.local in
+    IfOk-weaker c.with_argument-4.result _ _ (λ command made. (
       record { events = event.0; rounds = round.0; named = event.1; numbered = round.1 },
       made,
     ))
-    (added_last c.with_argument-3.result c.in_ok-command-2.command _ c.csv_flag.result _ two
-    c.csv_flag.ensures.rule c.with_argument-3.ensures.app c.with_argument-3.ensures.local)
+    (added_last c.with_argument-4.result c.in_ok-command-3.command _ c.flag-only_sheet.result _ three
+    c.flag-only_sheet.ensures.rule c.with_argument-4.ensures.app c.with_argument-4.ensures.local)

@@ -15,4 +15,5 @@ returns c =
             λ is. c.style_of-style.ensures.text
             (c.get_flag.ensures.other (one_text-rows f (codes "csv") ∙ is));
       },
+      c.flag_at-only_sheet.ensures,
     )

@@ -1,18 +1,17 @@
 use Rattle.std.proofs.KnownBytes.{Keeps-refl}
 use Rattle.std.proofs.Common.{inl}
 use Rattle.serve.proofs.Opened.{fails_on, runs_on}
-use Rattle.serve.proofs.Over.{allowed_of, by_name, by_store, hindered}
+use Rattle.serve.proofs.Over.{by_name, by_opening, hindered}
 use Rattle.serve.proofs.running.serve.Goals as goal
 
 pub returns-in-Err-clause-err : goal.returns-in-Err-clause-err
 returns-in-Err-clause-err g c = hindered _ c.args.service _
     (by_name _ c.args.service c.in-Err.ensures.err) (Keeps-refl _)
 
-pub returns-in-Err-open_keeper-clause-err : goal.returns-in-Err-open_keeper-clause-err
-returns-in-Err-open_keeper-clause-err g c =
+pub returns-in-Err-open_store-clause-err : goal.returns-in-Err-open_store-clause-err
+returns-in-Err-open_store-clause-err g c =
     hindered _ c.args.service _
-    (by_store _ c.args.service c.fault_of_open.ensures.of_store
-    (allowed_of c.args.service c.in-Ok.home c.in-Ok.ensures.ok.0 c.in-Ok.ensures.ok.1))
+    (by_opening _ c.args.service c.in-Err-open_store.ensures.err c.in-Ok.ensures.allowed)
     (Keeps-refl _)
 
 pub returns-in-Err-clause-fails : goal.returns-in-Err-clause-fails
@@ -23,22 +22,21 @@ returns-in-Err-clause-fails g c =
       silent = Keeps-refl _;
     })
 
-pub returns-in-Err-open_keeper-clause-fails : goal.returns-in-Err-open_keeper-clause-fails
-returns-in-Err-open_keeper-clause-fails g c =
+pub returns-in-Err-open_store-clause-fails : goal.returns-in-Err-open_store-clause-fails
+returns-in-Err-open_store-clause-fails g c =
     inl
     (record {
       cause =
-          by_store _ c.args.service c.fault_of_open.ensures.of_store
-          (allowed_of c.args.service c.in-Ok.home c.in-Ok.ensures.ok.0 c.in-Ok.ensures.ok.1);
+          by_opening _ c.args.service c.in-Err-open_store.ensures.err c.in-Ok.ensures.allowed;
       silent = Keeps-refl _;
     })
 
 pub returns-clause-serves : goal.returns-clause-serves
 returns-clause-serves g c =
-    runs_on _ _ c.in-Ok.home c.in-Ok-open_keeper.keeper c.args.service _ c.serve_kept.result
-    c.in-Ok.ensures.ok.0 c.in-Ok-open_keeper.ensures.opened c.serve_kept.ensures.serves
+    runs_on _ _ c.in-Ok.home c.in-Ok-open_store.keeper c.args.service _ c.serve_kept.result
+    c.in-Ok.ensures.ok.0 c.in-Ok-open_store.ensures.opened c.serve_kept.ensures.serves
 
 pub returns-clause-fails : goal.returns-clause-fails
 returns-clause-fails g c =
-    fails_on _ _ c.in-Ok.home c.in-Ok-open_keeper.keeper c.args.service _ c.serve_kept.result
-    c.in-Ok.ensures.ok.0 c.in-Ok-open_keeper.ensures.opened c.serve_kept.ensures.fails
+    fails_on _ _ c.in-Ok.home c.in-Ok-open_store.keeper c.args.service _ c.serve_kept.result
+    c.in-Ok.ensures.ok.0 c.in-Ok-open_store.ensures.opened c.serve_kept.ensures.fails

@@ -1,0 +1,4 @@
+pub mod Files
+pub mod Printing
+pub mod Resolving
+pub mod Seeking

@@ -1,0 +1,109 @@
+-- The desk that arguments ask for: of an address, or of a hall's file.
+use Rattle.std.specs.Prelude.{◌≡◌, ◌≢◌, ◌⊎◌, ◌++◌, ℕ, List, Option, None, Some, Result, Ok, Err}
+use Rattle.std.specs.Prelude.{codes, decimal, string_bytes, vec_len}
+use Rattle.std.specs.Io.KnownBytes.{Keeps}
+use Rattle.arguments.specs.declared.places.Place.{Place}
+use Rattle.arguments.specs.declared.places.Place.TheVariants as place
+use Rattle.batch.specs.Dialing.{Dialed}
+use Rattle.errands.specs.declared.fault.DeskFault.{DeskFault}
+use Rattle.errands.specs.declared.fault.DeskFault.TheVariants as fault
+use Rattle.hall_file.specs.Halls.{Says, address_at, texts_of}
+use Rattle.hall_file.specs.declared.hall_file.HallFile.{HallFile}
+use Rattle.lines.specs.Bytes.{AppendsPart}
+use Rattle.addressing.specs.Files.{IsOfFile}
+use Rattle.addressing.specs.Seeking.{Seeks, no_memory, seeking}
+use Rattle.addressing.specs.declared.resolving.DeskAddress.{DeskAddress}
+
+-- what became of connections, and what the fault stream has, before a call and afterwards
+pub record Outside : Type 0 where
+  pub dialed : Option (List Dialed)
+  pub dialed_then : Option (List Dialed)
+  pub told : Option (List ℕ)
+  pub told_then : Option (List ℕ)
+
+abbrev pub outside : {D F : Type 0} → (D → Option (List Dialed)) → (F → Option (List ℕ))
+    → (dial dial_then : D) → (faults faults_then : F) → Outside
+outside dialed contents dial dial_then faults faults_then =
+    record {
+      dialed = dialed dial;
+      dialed_then = dialed dial_then;
+      told = contents faults;
+      told_then = contents faults_then;
+    }
+
+-- no desk was asked, and nothing was told
+pub record IsQuiet (o : Outside) : Type 0 where
+  pub dialed : o.dialed ≡ o.dialed_then
+  pub told : Keeps o.told o.told_then
+
+-- the desk of this number of a hall's file, and the address that the file has for it
+pub record IsDeskOf (file : HallFile) (desk : ℕ) (a : DeskAddress) : Type 0 where
+  pub hall : a.hall ≡ file.hall
+  pub desk_is : a.desk ≡ desk
+  pub listens : address_at (texts_of file) desk ≡ Some (string_bytes a.address)
+
+-- the hall has no desk of this number, or memory ran out
+abbrev pub MissesDesk : HallFile → ℕ → DeskFault → Type 0
+MissesDesk file desk f =
+    ((f ≡ fault.BadDesk) × (address_at (texts_of file) desk ≡ None)) ⊎ (f ≡ no_memory)
+
+-- the line that says which desk is asked, and where
+abbrev pub asking_text : ℕ → List ℕ → List ℕ
+asking_text desk address =
+    codes "asking desk " ++ decimal desk ++ codes " at " ++ address ++ codes "\n"
+
+-- that line is told, or, where it cannot be written, a front part of it; nothing is told of the last
+-- desk of the hall
+pub record IsTold (file : HallFile) (a : DeskAddress) (old new : Option (List ℕ)) : Type 0 where
+  pub last : a.desk ≡ vec_len file.desks → Keeps old new
+  pub other :
+      a.desk ≢ vec_len file.desks
+      → AppendsPart old new (asking_text a.desk (string_bytes a.address))
+
+-- the desks of a hall's file were asked from the last one to the first, and this is what was found
+abbrev pub SeeksAll : HallFile → ℕ → Outside → Result ℕ DeskFault → Type 0
+SeeksAll file patience o found =
+    Seeks (seeking file patience) (vec_len file.desks) o.dialed o.dialed_then found
+
+-- the last desk of a hall's file that answers
+pub record Chooses (file : HallFile) (patience : ℕ) (a : DeskAddress) (o : Outside) : Type 0 where
+  pub seeks : SeeksAll file patience o (Ok a.desk)
+  pub desk : IsDeskOf file a.desk a
+  pub told : IsTold file a o.told o.told_then
+
+-- none answers, or memory ran out
+pub record FailsToChoose (f : DeskFault) (file : HallFile) (patience : ℕ) (o : Outside) : Type 0
+  where
+    pub found : Result ℕ DeskFault
+    pub seeks : SeeksAll file patience o found
+    pub cause : (found ≡ Err f) ⊎ (f ≡ no_memory)
+    pub quiet : Keeps o.told o.told_then
+
+-- a file's bytes say a hall, of which this holds
+abbrev pub IsSaid : (HallFile → Type 0) → Type 0
+IsSaid Holds = (file : HallFile) × (bytes : List ℕ) × Says bytes file × Holds file
+
+-- the desk of a number in a hall's file, or the last one that answers
+abbrev pub FindsDesk : Option ℕ → ℕ → DeskAddress → Outside → Type 0
+FindsDesk (Some desk) patience a o = IsSaid (λ file. IsDeskOf file desk a × IsQuiet o)
+FindsDesk None patience a o = IsSaid (λ file. Chooses file patience a o)
+
+-- the file gives no hall and no desk was asked, or its hall has no such desk, or none answers
+abbrev pub FailsToFind : DeskFault → Option ℕ → ℕ → Outside → Type 0
+FailsToFind f (Some desk) patience o =
+    (IsOfFile f × (o.dialed ≡ o.dialed_then))
+    ⊎ (IsQuiet o × IsSaid (λ file. MissesDesk file desk f))
+FailsToFind f None patience o =
+    (IsOfFile f × (o.dialed ≡ o.dialed_then))
+    ⊎ IsSaid (λ file. FailsToChoose f file patience o)
+
+-- the desk that is asked for
+abbrev pub Resolves : Place → ℕ → DeskAddress → Outside → Type 0
+Resolves (place.Desk hall desk address) patience a o =
+    (a.hall ≡ hall) × (a.desk ≡ desk) × (string_bytes a.address ≡ address.now) × IsQuiet o
+Resolves (place.File file desk) patience a o = FindsDesk desk patience a o
+
+-- there is none
+abbrev pub FailsToResolve : DeskFault → Place → ℕ → Outside → Type 0
+FailsToResolve f (place.Desk hall desk address) patience o = (f ≡ no_memory) × IsQuiet o
+FailsToResolve f (place.File file desk) patience o = FailsToFind f desk patience o

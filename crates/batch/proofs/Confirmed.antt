@@ -1,0 +1,63 @@
+-- What an answer says of a command that was decided, and of the entry at its position.
+use Rattle.std.proofs.Common.{◌≡◌, ◌≤◌, ◌∷◌, [], ℕ, List, Result, Ok}
+use Rattle.std.proofs.Common.{refl, subst}
+use Rattle.acceptor.specs.declared.entry.Entry.{Entry}
+use Rattle.client.specs.Answers.{answers}
+use Rattle.wire.specs.Ranges.{IsBody}
+use Rattle.wire.specs.declared.frame.Frame.{Frame}
+use Rattle.wire.specs.declared.frame.What.{What}
+use Rattle.wire.specs.declared.frame.What.TheVariants as what
+use Rattle.wire.specs.declared.values.CommandState.TheVariants.{Done}
+use Rattle.texts.specs.declared.answer.Answer.{Answer}
+use Rattle.batch.specs.Asking.{IsAnswer, ask_of, log_of}
+use Rattle.batch.specs.Confirming.{HasFirst, IsConfirmed, IsDecidedAt, IsNotOwn, IsUnconfirmed}
+use Rattle.batch.specs.Confirming.{entry_of}
+use Rattle.batch.specs.Dialing.{Asks, Goes, Place, Standing, asked_so}
+use Rattle.batch.specs.declared.asking.Receiver.{Receiver}
+use Rattle.batch.specs.declared.fault.BatchFault.{BatchFault}
+use Rattle.batch.proofs.Parts.{judged_is}
+
+-- a position that is told is one of a log
+pub told_within : (r : Receiver) (id other pos : ℕ) (said : Answer)
+    → IsAnswer (ask_of r id) (what.Told other (Done pos said)) → pos ≤ 65535
+told_within r id other pos said h =
+    let given = h.0 in
+    let is = judged_is given.what (what.Told other (Done pos said))
+    (answers (ask_of r id) given) h.2 in
+    let body : IsBody given.version (what.Told other (Done pos said)) =
+    subst (λ w. IsBody given.version w) is.0 h.1.body in
+    body.1
+
+-- the entry at the position is this one
+pub confirms : {here : Place} (r : Receiver) (id : ℕ) (text : List ℕ) (told answer : What)
+    (pos : ℕ) (request : Frame) (entry : Entry) (a b : Standing)
+    → request ≡ log_of r pos → IsDecidedAt pos told
+    → Goes here a b (asked_so request (Ok answer) ∷ []) → IsAnswer request answer
+    → HasFirst answer entry → entry ≡ entry_of id text
+    → Asks here a b (IsConfirmed r id text told)
+confirms {here} r id text told answer pos request entry a b is at goes comes first own = (
+  asked_so (log_of r pos) (Ok answer) ∷ [],
+  subst (λ q. Goes here a b (asked_so q (Ok answer) ∷ [])) is goes,
+  record {
+    pos = pos;
+    answer = answer;
+    stands = at;
+    own = (
+      subst (λ q. IsAnswer q answer) is comes,
+      subst (HasFirst answer) own first,
+    );
+    parts = refl;
+  },
+)
+
+-- it was not seen to be this one
+pub unconfirmed : {here : Place} (f : BatchFault) (r : Receiver) (id : ℕ) (text : List ℕ)
+    (told : What) (result : Result What BatchFault) (pos : ℕ) (request : Frame) (a b : Standing)
+    → request ≡ log_of r pos → IsDecidedAt pos told
+    → Goes here a b (asked_so request result ∷ []) → IsNotOwn f r pos (entry_of id text) result
+    → Asks here a b (IsUnconfirmed f r id text told)
+unconfirmed {here} f r id text told result pos request a b is at goes why = (
+  asked_so (log_of r pos) result ∷ [],
+  subst (λ q. Goes here a b (asked_so q result ∷ [])) is goes,
+  record { pos = pos; result = result; stands = at; why = why; parts = refl },
+)

@@ -1,0 +1,305 @@
+-- What is asked for one line.
+use Rattle.std.proofs.Common.{◌≡◌, inl, inr, ◌++◌, ◌∷◌, [], ℕ, List, Bool, true, false}
+use Rattle.std.proofs.Common.{Option, Result, Ok, Err, IfOk, IfErr, ◌⊎◌}
+use Rattle.std.proofs.Common.{refl, sym, ap, ◌∙◌, append_assoc, subst}
+use Rattle.std.specs.List.{AllByRecursion}
+use Rattle.wire.specs.declared.frame.Frame.{Frame}
+use Rattle.wire.specs.declared.frame.What.{What}
+use Rattle.wire.specs.declared.frame.What.TheVariants as what
+use Rattle.batch.specs.Asking.{AreKnown, AreOf, Asked, Asks, IsAnswer}
+use Rattle.batch.specs.Asking.{IsAwaited, IsDecided, IsKnown, IsOfAsking, IsOneOf}
+use Rattle.batch.specs.Asking.{IsPutOff, IsTaken, IsTurnedDown}
+use Rattle.batch.specs.Asking.{Tries, ask_of, log_of, submit_of}
+use Rattle.batch.specs.Confirming.{IsAnother, IsConfirmed, IsUnconfirmed}
+use Rattle.batch.specs.Dialing.{Dialed, LetsGo, Place, Standing, asked_so, closed}
+use Rattle.batch.specs.Entering.{EndsAsking, EnteredBy, Hinders, IsCutOff, IsEntered, IsLost}
+use Rattle.batch.specs.Entering.{IsOther, StopsAsking}
+use Rattle.batch.specs.Logs.{AddsSo}
+use Rattle.batch.specs.declared.asking.Receiver.{Receiver}
+use Rattle.batch.specs.declared.fault.BatchFault.{BatchFault}
+use Rattle.batch.specs.declared.fault.BatchFault.TheVariants as fault
+use Rattle.batch.specs.model.Trying.{AreFor, EndsWaiting, IsFor, IsLastTry, IsTurnedOff}
+use Rattle.batch.specs.model.Trying.{StopsTaking}
+use Rattle.batch.proofs.Going.{adds_by, goes_more}
+use Rattle.batch.proofs.Trying.{Ends, all_more, all_weaker, decided_known, for_known}
+use Rattle.batch.proofs.Trying.{put_off_for, put_off_known, turned_down_for}
+
+-- ---- what each request is for, of a line
+
+submit_one : (r : Receiver) (submit ask : Frame) (a : Asked) → IsFor r submit a
+    → IsOneOf r submit ask a
+submit_one r submit ask a (inl h) = inl h
+submit_one r submit ask a (inr h) = inr (inr (inl h))
+
+ask_one : (r : Receiver) (submit ask : Frame) (a : Asked) → IsFor r ask a → IsOneOf r submit ask a
+ask_one r submit ask a (inl h) = inr (inl h)
+ask_one r submit ask a (inr h) = inr (inr (inl h))
+
+-- tries are for their request
+tries_for : (P : Asked → Type 0) (r : Receiver) (request : Frame) (answer : What)
+    (asked : List Asked)
+    → ((a : Asked) → P a → IsFor r request a) → Tries P request answer asked
+    → AreFor r request asked
+tries_for P r request answer asked f h =
+    subst (AreFor r request) (sym h.parts)
+    (all_more (IsFor r request) h.front (asked_so request (Ok answer) ∷ [])
+    (all_weaker P (IsFor r request) h.front f h.each)
+    (inl refl, tt))
+
+taken_for : (r : Receiver) (id : ℕ) (text : List ℕ) (taken : What) (asked : List Asked)
+    → IsTaken r id text taken asked → AreOf r id text asked
+taken_for r id text taken asked h =
+    all_weaker (IsFor r (submit_of r id text)) (IsOneOf r (submit_of r id text) (ask_of r id)) asked
+    (submit_one r (submit_of r id text) (ask_of r id))
+    (tries_for (IsTurnedDown r (submit_of r id text)) r (submit_of r id text) taken asked
+    (turned_down_for r (submit_of r id text)) h)
+
+taken_known : (r : Receiver) (id : ℕ) (text : List ℕ) (taken : What) (asked : List Asked)
+    → IsTaken r id text taken asked → AreKnown r id asked
+taken_known r id text taken asked h =
+    all_weaker (IsFor r (submit_of r id text)) (IsKnown (ask_of r id)) asked
+    (for_known r id text)
+    (tries_for (IsTurnedDown r (submit_of r id text)) r (submit_of r id text) taken asked
+    (turned_down_for r (submit_of r id text)) h)
+
+awaited_known : (r : Receiver) (id : ℕ) (last : What) (asked : List Asked)
+    → IsAwaited r id last asked → AreKnown r id asked
+awaited_known r id last asked h =
+    let ask = ask_of r id in
+    subst (AllByRecursion (IsKnown ask)) (sym h.tries.parts)
+    (all_more (IsKnown ask) h.tries.front (asked_so ask (Ok last) ∷ [])
+    (all_weaker (IsPutOff r ask) (IsKnown ask) h.tries.front (put_off_known r id) h.tries.each)
+    (decided_known ask ask last h.decided, tt))
+
+-- the request for the log
+log_apart : (r : Receiver) (id pos : ℕ) → log_of r pos ≡ ask_of r id → ⊥
+log_apart r id pos e =
+    let w : what.Log pos ≡ what.Ask id = ap (λ (f : Frame). f.what) e in
+    cc
+
+log_known : (r : Receiver) (id pos : ℕ) (answer : Result What BatchFault)
+    → AreKnown r id (asked_so (log_of r pos) answer ∷ [])
+log_known r id pos answer = (λ is told said unknown. log_apart r id pos is, tt)
+
+log_for : (r : Receiver) (id : ℕ) (text : List ℕ) (pos : ℕ) (answer : Result What BatchFault)
+    → AreOf r id text (asked_so (log_of r pos) answer ∷ [])
+log_for r id text pos answer = (inr (inr (inr (pos, refl))), tt)
+
+confirmed_known : (r : Receiver) (id : ℕ) (text : List ℕ) (told : What) (asked : List Asked)
+    → IsConfirmed r id text told asked → AreKnown r id asked
+confirmed_known r id text told asked h =
+    subst (AreKnown r id) (sym h.parts) (log_known r id h.pos (Ok h.answer))
+
+confirmed_for : (r : Receiver) (id : ℕ) (text : List ℕ) (told : What) (asked : List Asked)
+    → IsConfirmed r id text told asked → AreOf r id text asked
+confirmed_for r id text told asked h =
+    subst (AreOf r id text) (sym h.parts) (log_for r id text h.pos (Ok h.answer))
+
+unconfirmed_known : (f : BatchFault) (r : Receiver) (id : ℕ) (text : List ℕ) (told : What)
+    (asked : List Asked) → IsUnconfirmed f r id text told asked → AreKnown r id asked
+unconfirmed_known f r id text told asked h =
+    subst (AreKnown r id) (sym h.parts) (log_known r id h.pos h.result)
+
+unconfirmed_for : (f : BatchFault) (r : Receiver) (id : ℕ) (text : List ℕ) (told : What)
+    (asked : List Asked) → IsUnconfirmed f r id text told asked → AreOf r id text asked
+unconfirmed_for f r id text told asked h =
+    subst (AreOf r id text) (sym h.parts) (log_for r id text h.pos h.result)
+
+-- what is known of those that entered a line
+pub entered_known : (waits : Bool) (r : Receiver) (id : ℕ) (text : List ℕ) (last : What)
+    (asked : List Asked) → EnteredBy waits r id text last asked → AreKnown r id asked
+entered_known true r id text last asked h =
+    subst (AllByRecursion (IsKnown (ask_of r id))) (sym h.7)
+    (all_more (IsKnown (ask_of r id)) (h.1 ++ h.2) h.3
+    (all_more (IsKnown (ask_of r id)) h.1 h.2 (taken_known r id text h.0 h.1 h.4)
+    (awaited_known r id last h.2 h.5))
+    (confirmed_known r id text last h.3 h.6))
+entered_known false r id text last asked h = taken_known r id text last asked h
+
+awaited_for : (r : Receiver) (id : ℕ) (text : List ℕ) (last : What) (asked : List Asked)
+    → IsAwaited r id last asked → AreOf r id text asked
+awaited_for r id text last asked h =
+    all_weaker (IsFor r (ask_of r id)) (IsOneOf r (submit_of r id text) (ask_of r id)) asked
+    (ask_one r (submit_of r id text) (ask_of r id))
+    (tries_for (IsPutOff r (ask_of r id)) r (ask_of r id) last asked
+    (put_off_for r (ask_of r id)) h.tries)
+
+-- so are those that entered a line
+pub entered_for : (waits : Bool) (r : Receiver) (id : ℕ) (text : List ℕ) (last : What)
+    (asked : List Asked) → EnteredBy waits r id text last asked → AreOf r id text asked
+entered_for true r id text last asked h =
+    subst (AreOf r id text) (sym h.7)
+    (all_more (IsOneOf r (submit_of r id text) (ask_of r id)) (h.1 ++ h.2) h.3
+    (all_more (IsOneOf r (submit_of r id text) (ask_of r id)) h.1 h.2
+    (taken_for r id text h.0 h.1 h.4) (awaited_for r id text last h.2 h.5))
+    (confirmed_for r id text last h.3 h.6))
+entered_for false r id text last asked h = taken_for r id text last asked h
+
+-- ---- one line
+
+-- the last request that failed was for the text, or it was a tick
+last_of_text : (f : BatchFault) (r : Receiver) (id : ℕ) (text asked : _)
+    → IsLastTry f r (submit_of r id text) asked → IsCutOff f r id text asked
+last_of_text f r id text asked (front, last, parts, failed, inl tick) =
+    (front, last, parts, failed, inl (inr tick))
+last_of_text f r id text asked (front, last, parts, failed, inr full) =
+    (front, last, parts, failed, inr full)
+
+known_of_text : (r : Receiver) (id : ℕ) (text : List ℕ) (asked : List Asked)
+    → AreFor r (submit_of r id text) asked → AreKnown r id asked
+known_of_text r id text asked h =
+    all_weaker (IsFor r (submit_of r id text)) (IsKnown (ask_of r id)) asked (for_known r id text) h
+
+not_taken : (f : BatchFault) (r : Receiver) (id : ℕ) (text : List ℕ) (asked : List Asked)
+    → AreFor r (submit_of r id text) asked
+    → IsLastTry f r (submit_of r id text) asked ⊎ IsOther f → StopsAsking f r id text asked
+not_taken f r id text asked h (inl last) = (
+  all_weaker (IsFor r (submit_of r id text)) (IsOneOf r (submit_of r id text) (ask_of r id)) asked
+      (submit_one r (submit_of r id text) (ask_of r id)) h,
+  inl (known_of_text r id text asked h, inl (last_of_text f r id text asked last)),
+)
+not_taken f r id text asked h (inr other) = (
+  all_weaker (IsFor r (submit_of r id text)) (IsOneOf r (submit_of r id text) (ask_of r id)) asked
+      (submit_one r (submit_of r id text) (ask_of r id)) h,
+  inl (known_of_text r id text asked h, inr (inr (inr other))),
+)
+
+-- so it is of what is asked for the text
+pub if_asks_text : (here : Place) (r : Receiver) (id : ℕ) (text : List ℕ) (submit : Frame)
+    (a b : Standing) (result : Result What BatchFault) → submit ≡ submit_of r id text
+    → IfErr result (λ f. Asks here a b (IsTurnedOff f r submit))
+    → IfErr result (λ f. Asks here a b (StopsTaking f r id text))
+if_asks_text here r id text submit a b (Ok answer) is h = tt
+if_asks_text here r id text submit a b (Err f) is h =
+    let k = subst (λ (s : Frame). Asks here a b (IsTurnedOff f r s)) is h in
+    (k.0, k.1, (k.2.0, inl k.2.1))
+
+-- the text was not taken
+pub asks_text : {here : Place} (f : BatchFault) (r : Receiver) (id : ℕ) (text : List ℕ)
+    (a b : Standing)
+    → Asks here a b (StopsTaking f r id text) → Asks here a b (StopsAsking f r id text)
+asks_text f r id text a b h = (h.0, h.1, not_taken f r id text h.0 h.2.0 h.2.1)
+
+-- it was taken, and then not waited for to the end
+ends_so : (f : BatchFault) (r : Receiver) (id : ℕ) (text : List ℕ) (taken : What)
+    (first rest : List Asked) → IsTaken r id text taken first → Ends r id f rest
+    → (AreKnown r id (first ++ rest) × EndsAsking f r id text (first ++ rest))
+    ⊎ ((f ≡ fault.Lost) × IsLost r id text (first ++ rest))
+ends_so f r id text taken first rest h (inl (known, inl last)) =
+    inl (
+      all_more (IsKnown (ask_of r id)) first rest (taken_known r id text taken first h) known,
+      inl (
+        first ++ last.0,
+        last.1,
+        ap (λ l. first ++ l) last.2 ∙ sym (append_assoc first last.0 (last.1 ∷ [])),
+        last.3,
+        inl last.4,
+      ),
+    )
+ends_so f r id text taken first rest h (inl (known, inr still)) =
+    inl (
+      all_more (IsKnown (ask_of r id)) first rest (taken_known r id text taken first h) known,
+      inr (inl (still.0, (taken, first, rest, h, still.1, refl))),
+    )
+ends_so f r id text taken first rest h (inr (lost, forgotten)) =
+    inr (lost, (taken, first, rest, h, forgotten, refl))
+
+pub not_awaited : {here : Place} (f : BatchFault) (r : Receiver) (id : ℕ) (text : List ℕ)
+    (taken : What) (a b c : Standing)
+    → Asks here a b (IsTaken r id text taken)
+    → Asks here b c (EndsWaiting f r id)
+    → Asks here a c (StopsAsking f r id text)
+not_awaited f r id text taken a b c h k = (
+  h.0 ++ k.0,
+  goes_more _ a b c h.0 k.0 h.1 k.1,
+  (
+    all_more (IsOneOf r (submit_of r id text) (ask_of r id)) h.0 k.0
+        (taken_for r id text taken h.0 h.2)
+        (all_weaker (IsFor r (ask_of r id)) (IsOneOf r (submit_of r id text) (ask_of r id)) k.0
+        (ask_one r (submit_of r id text) (ask_of r id)) k.2.0),
+    ends_so f r id text taken h.0 k.0 h.2 k.2.1,
+  ),
+)
+
+-- it was taken and decided, and the entry in the log is this one
+pub confirmed : {here : Place} (waits : Bool) (r : Receiver) (id : ℕ) (text : List ℕ)
+    (taken last : What) (a b c d : Standing) → waits ≡ true
+    → Asks here a b (IsTaken r id text taken) → Asks here b c (IsAwaited r id last)
+    → Asks here c d (IsConfirmed r id text last)
+    → Asks here a d (EnteredBy waits r id text last)
+confirmed {here} waits r id text taken last a b c d is h k m =
+    subst (λ w. Asks here a d (EnteredBy w r id text last)) (sym is) (
+      (h.0 ++ k.0) ++ m.0,
+      goes_more _ a c d (h.0 ++ k.0) m.0 (goes_more _ a b c h.0 k.0 h.1 k.1) m.1,
+      (taken, h.0, k.0, m.0, h.2, k.2, m.2, refl),
+    )
+
+-- so the text was entered
+pub is_entered : {here : Place} (waits : Bool) (r : Receiver) (id : ℕ) (text : List ℕ)
+    (taken last : What) (a b : Standing) → waits ≡ true
+    → IsAnswer (submit_of r id text) taken → IsAnswer (ask_of r id) last × IsDecided last
+    → Asks here a b (IsConfirmed r id text last) → IsEntered waits r id text last
+is_entered waits r id text taken last a b is t answer m =
+    subst (λ w. IsEntered w r id text last) (sym is) (
+      taken,
+      t,
+      (answer.0, answer.1, (m.2.pos, m.2.stands, m.2.answer, m.2.own)),
+    )
+
+-- it was taken and decided, and the entry in the log was not seen to be this one
+pub not_confirmed : {here : Place} (f : BatchFault) (r : Receiver) (id : ℕ) (text : List ℕ)
+    (taken last : What) (a b c d : Standing)
+    → Asks here a b (IsTaken r id text taken) → Asks here b c (IsAwaited r id last)
+    → Asks here c d (IsUnconfirmed f r id text last)
+    → Asks here a d (StopsAsking f r id text)
+not_confirmed f r id text taken last a b c d h k m = (
+  (h.0 ++ k.0) ++ m.0,
+  goes_more _ a c d (h.0 ++ k.0) m.0 (goes_more _ a b c h.0 k.0 h.1 k.1) m.1,
+  (
+    all_more (IsOneOf r (submit_of r id text) (ask_of r id)) (h.0 ++ k.0) m.0
+        (all_more (IsOneOf r (submit_of r id text) (ask_of r id)) h.0 k.0
+        (taken_for r id text taken h.0 h.2) (awaited_for r id text last k.0 k.2))
+        (unconfirmed_for f r id text last m.0 m.2),
+    inl (
+      all_more (IsKnown (ask_of r id)) (h.0 ++ k.0) m.0
+          (all_more (IsKnown (ask_of r id)) h.0 k.0 (taken_known r id text taken h.0 h.2)
+          (awaited_known r id last k.0 k.2))
+          (unconfirmed_known f r id text last m.0 m.2),
+      inr (inr (inl (taken, last, h.0, k.0, m.0, h.2, k.2, m.2, refl))),
+    ),
+  ),
+)
+
+-- a command that was decided is not this one, where that was waited for
+pub not_own : (f : BatchFault) (waits : Bool) (r : Receiver) (id : ℕ) (text : List ℕ)
+    (taken told : What) → waits ≡ true → IsAnswer (submit_of r id text) taken
+    → IsAnswer (ask_of r id) told → IsOfAsking f ⊎ IsAnother f r id text told
+    → IsOfAsking f ⊎ Hinders f waits r id text
+not_own f waits r id text taken told is t answer (inl h) = inl h
+not_own f waits r id text taken told is t answer (inr h) =
+    inr (subst (λ x. Hinders x waits r id text) (sym h.0) (
+      is,
+      taken,
+      t,
+      told,
+      answer,
+      (refl, h.1, h.2, h.3, h.4, h.5, h.6),
+    ))
+
+-- ---- where no connection is kept before and afterwards
+
+pub if_adds_ok : (here : Place) (a : Option (List Dialed)) (b : Standing)
+    (c : Option (List Dialed)) (result : Result What BatchFault)
+    (Is : What → List Asked → Type 0)
+    → IfOk result (λ last. Asks here (closed a) b (Is last)) → LetsGo b c
+    → IfOk result (λ last. AddsSo (record { place = here; old = a; new = c }) (Is last))
+if_adds_ok here a b c (Ok last) Is h k = (h.0, adds_by here a b c h.0 h.1 k, h.2)
+if_adds_ok here a b c (Err f) Is h k = tt
+
+pub if_adds_err : (here : Place) (a : Option (List Dialed)) (b : Standing)
+    (c : Option (List Dialed)) (result : Result What BatchFault)
+    (Is : BatchFault → List Asked → Type 0)
+    → IfErr result (λ f. Asks here (closed a) b (Is f)) → LetsGo b c
+    → IfErr result (λ f. AddsSo (record { place = here; old = a; new = c }) (Is f))
+if_adds_err here a b c (Ok last) Is h k = tt
+if_adds_err here a b c (Err f) Is h k = (h.0, adds_by here a b c h.0 h.1 k, h.2)

@@ -1,0 +1,26 @@
+-- What was found in the arguments asks at most five desks at once.
+use Rattle.std.proofs.Common.{◌≤◌, List, Option, subst}
+use Rattle.std.proofs.lemmas.List.{length-map}
+use Rattle.clap.specs.Words.{Row, Text}
+use Rattle.arguments.specs.Asking.{Finds}
+use Rattle.arguments.specs.declared.places.Desks.TheVariants as desks
+use Rattle.arguments.specs.declared.task.Task.{Task}
+use Rattle.arguments.specs.declared.task.Task.TheVariants as task
+use Rattle.desk.specs.Statuses.{HasFew}
+
+pub found_few : (found : Option (Text × List Row)) (t : Task) → Finds found t → HasFew t
+found_few found (task.Replay event round style only_sheet) h = tt
+found_few found (task.Import file options) h = tt
+found_few found (task.Hall desks) h = tt
+found_few found (task.HallFile hall addresses) h = tt
+found_few found (task.Carry place patience request) h = tt
+found_few found (task.Newest place patience event round style) h = tt
+found_few found (task.Enter place patience id text waits) h = tt
+found_few found (task.EnterLines place patience lines) h = tt
+found_few found (task.Log store) h = tt
+found_few found (task.CopyLog place patience start) h = tt
+found_few found (task.Status (desks.Addresses hall addresses) patience json watches) h =
+    subst (λ n. n ≤ 5) (length-map addresses.now (λ a. a.now)) h.3.1.1.few
+found_few found (task.Status (desks.File file) patience json watches) h = tt
+found_few found (task.Serve service) h = tt
+found_few found (task.ServeHall file wanted) h = tt

@@ -1,0 +1,153 @@
+-- Asking the desks of a hall how they stand, one after the other.
+use Rattle.std.specs.Prelude.{◌≡◌, ◌≢◌, ◌⊎◌, ◌+◌, ◌++◌, ◌∷◌, [], ℕ, List, map, Option, None, Some}
+use Rattle.std.specs.Prelude.{Result, Ok, Err, not, ◌==◌}
+use Rattle.std.specs.Borrow.{Bor}
+use Rattle.std.specs.List.{filter}
+use Rattle.std.specs.Io.KnownBytes.{Keeps, Appends}
+use Rattle.batch.specs.Dialing.{Adds, Dialed, Place, asked_so}
+use Rattle.batch.specs.declared.fault.BatchFault.{BatchFault}
+use Rattle.batch.specs.declared.fault.BatchFault.TheVariants as batch
+use Rattle.client.specs.Standings.{status_request}
+use Rattle.client.specs.declared.fault.ClientFault.TheVariants as client
+use Rattle.lines.specs.Bytes.{AppendsPart}
+use Rattle.standings.specs.Reports.{report}
+use Rattle.standings.specs.Standings.{every_desk, status_of}
+use Rattle.standings.specs.declared.forms.Form.{Form}
+use Rattle.standings.specs.declared.polled.Polled.{Polled}
+use Rattle.standings.specs.declared.polled.Reply.{Reply}
+use Rattle.standings.specs.declared.polled.Reply.TheVariants as reply
+use Rattle.wire.specs.declared.frame.Frame.{Frame}
+use Rattle.wire.specs.declared.frame.What.{What}
+use Rattle.wire.specs.declared.frame.What.TheVariants as what
+use Rattle.wire.specs.declared.values.ClientRefusal.TheVariants.{Foreign}
+use Rattle.wire.specs.declared.values.Version.TheVariants.{One}
+use Rattle.lines.specs.declared.fault.RunFault.TheVariants as run
+use Rattle.errands.specs.declared.fault.DeskFault.{DeskFault}
+use Rattle.errands.specs.declared.fault.DeskFault.TheVariants as fault
+use Rattle.errands.specs.declared.polling.Inquiry.{Inquiry}
+use Rattle.errands.specs.declared.polling.Question.{Question}
+use Rattle.errands.specs.declared.polling.Question.TheVariants as asking
+
+-- the request that asks what became of id 1, in version 1 of the wire
+abbrev pub id_asked : (hall desk : ℕ) → Frame
+id_asked hall desk =
+    record { version = One; hall = hall; from = 0; to = desk; what = what.Ask 1 }
+
+-- the request that asks a desk
+abbrev pub request_of : Question → (hall desk : ℕ) → Frame
+request_of asking.Standing hall desk = status_request hall desk
+request_of asking.Id hall desk = id_asked hall desk
+
+-- the desk of this number answered, and did not say how it stands: it is of an earlier program
+-- where it was not asked that
+abbrev pub other_reply : Question → ℕ → Reply
+other_reply asking.Standing desk = reply.NoAnswer
+other_reply asking.Id desk = reply.Earlier desk
+
+-- what came of asking the desk of this number; nothing is said where memory ran out
+abbrev pub reply_to : Question → ℕ → Result What BatchFault → Option Reply
+reply_to question desk (Ok (what.Standing standing)) = Some (reply.Stands desk standing)
+reply_to question desk (Ok _) = Some (other_reply question desk)
+reply_to question desk (Err batch.CannotConnect) = Some reply.CannotConnect
+reply_to question desk (Err batch.Late) = Some reply.Late
+reply_to question desk (Err (batch.Asking (client.Refused refusal))) = Some (reply.Refused refusal)
+reply_to question desk (Err batch.NoMemory) = None
+reply_to question desk (Err _) = Some reply.NoAnswer
+
+-- the desk says that it is another one, or of another hall
+abbrev pub foreign : Result What BatchFault
+foreign = Err (batch.Asking (client.Refused Foreign))
+
+-- the numbers of the other desks
+abbrev pub others : ℕ → List ℕ
+others asked = filter (λ desk. not (desk == asked)) every_desk
+
+-- The desks of these numbers are asked at a place, each over a connection of its own, until one
+-- isn't refused as foreign. That one is the reply; where all are refused so, they are refused.
+abbrev pub Tries : Place → Question → (hall : ℕ) → List ℕ → (old new : Option (List Dialed))
+    → Option Reply → Type 0
+Tries p question hall [] old new said = (old ≡ new) × (said ≡ Some (reply.Refused Foreign))
+Tries p question hall (desk ∷ desks) old new said =
+    (answer : Result What BatchFault) × (mid : Option (List Dialed))
+    × Adds p old mid (asked_so (request_of question hall desk) answer ∷ [])
+    × (((answer ≡ foreign) × Tries p question hall desks mid new said)
+    ⊎ ((answer ≢ foreign) × (mid ≡ new) × (said ≡ reply_to question desk answer)))
+
+-- The desk of this number was asked how it stands, and then the others. Where there was no answer,
+-- they were asked once more, as desks of earlier programs are.
+abbrev pub IsPolled : Place → (hall desk : ℕ) → (old new : Option (List Dialed)) → Option Reply
+    → Type 0
+IsPolled p hall desk old new said =
+    (first : Option Reply) × (mid : Option (List Dialed))
+    × Tries p asking.Standing hall (desk ∷ others desk) old mid first
+    × (((first ≡ Some reply.NoAnswer)
+    × Tries p asking.Id hall (desk ∷ others desk) mid new said)
+    ⊎ ((first ≢ Some reply.NoAnswer) × (mid ≡ new) × (said ≡ first)))
+
+-- where a desk is asked, and for how many seconds it is waited for
+abbrev pub place_at : List ℕ → ℕ → Place
+place_at address patience = record { to = address; patience = patience }
+
+-- the desks were asked, one after the other, of which the first was asked for as the desk of this
+-- number, and each further one as the next
+abbrev pub Polls : (hall patience desk : ℕ) → List Polled → (old new : Option (List Dialed))
+    → Type 0
+Polls hall patience desk [] old new = old ≡ new
+Polls hall patience desk (p ∷ polled) old new =
+    (mid : Option (List Dialed)) × (p.asked ≡ desk)
+    × IsPolled (place_at p.address.now patience) hall desk old mid (Some p.reply)
+    × Polls hall patience (desk + 1) polled mid new
+
+-- a desk was asked for at this address
+abbrev pub AsksFor : (hall patience desk : ℕ) → Polled → List ℕ
+    → (old new : Option (List Dialed)) → Type 0
+AsksFor hall patience desk p address old new =
+    (p.address.now ≡ address) × (p.asked ≡ desk)
+    × IsPolled (place_at address patience) hall desk old new (Some p.reply)
+
+-- those at these addresses were asked, and what they answered comes after the others
+abbrev pub PollsMore : (hall patience desk : ℕ) → List (Bor (List ℕ)) → (before after : List Polled)
+    → (old new : Option (List Dialed)) → Type 0
+PollsMore hall patience desk addresses before after old new =
+    (more : List Polled) × (after ≡ before ++ more)
+    × (map (λ p. p.address.now) more ≡ map (λ a. a.now) addresses)
+    × Polls hall patience desk more old new
+
+-- those of an inquiry were asked, the first as desk 1
+pub record PollsAll (q : Inquiry) (polled : List Polled) (old new : Option (List Dialed)) : Type 0
+  where
+    pub at : map (λ p. p.address.now) polled ≡ map (λ a. a.now) q.addresses.now
+    pub asked : Polls q.hall q.patience 1 polled old new
+
+-- what became of connections, and what was written, before a call and afterwards
+pub record Outside : Type 0 where
+  pub dialed : Option (List Dialed)
+  pub dialed_then : Option (List Dialed)
+  pub old : Option (List ℕ)
+  pub new : Option (List ℕ)
+
+abbrev pub outside : {D W : Type 0} → (D → Option (List Dialed)) → (W → Option (List ℕ))
+    → (dial dial_then : D) → (writer writer_then : W) → Outside
+outside dialed contents dial dial_then writer writer_then =
+    record {
+      dialed = dialed dial;
+      dialed_then = dialed dial_then;
+      old = contents writer;
+      new = contents writer_then;
+    }
+
+-- the desks at these addresses were asked, and the report on them was written in this form; the
+-- status is theirs
+pub record Reports (form : Form) (q : Inquiry) (status : ℕ) (o : Outside) : Type 0 where
+  pub polled : List Polled
+  pub asked : PollsAll q polled o.dialed o.dialed_then
+  pub written : Appends o.old o.new (report form q.hall polled)
+  pub status_is : status ≡ status_of polled
+
+-- memory ran out, and nothing was written; or all were asked, and writing the report failed
+abbrev pub FailsReport : DeskFault → Form → Inquiry → Outside → Type 0
+FailsReport f form q o =
+    ((f ≡ fault.Run run.NoMemory) × Keeps o.old o.new)
+    ⊎ ((f ≡ fault.Run run.Write) × (polled : List Polled)
+    × PollsAll q polled o.dialed o.dialed_then
+    × AppendsPart o.old o.new (report form q.hall polled))

@@ -1,0 +1,110 @@
+//! What is looked at again, for each fault.
+
+ghost use Rattle.std.specs.Prelude.{◌≤◌};
+
+use crate::addresses;
+use crate::asking::heard_of;
+use crate::files::{of_damage, of_device, of_reading};
+use crate::findings::{AddressFinding, FileFinding, Finding};
+use crate::matters::About;
+use crate::told::{length_in, other_desk};
+use batch::Contact;
+use client::status_request;
+use errands::{DeskFault, Sockets};
+use wire::ClientRefusal;
+
+/// What was met of the file at a path.
+fn of_file(path: &str, what: Option<FileFinding>) -> Option<Finding<'_>> {
+    what.map(|what| Finding::File { path, what })
+}
+
+/// What was met at an address.
+fn of_address(address: &str, what: Option<AddressFinding>) -> Option<Finding<'_>> {
+    what.map(|what| Finding::Address { address, what })
+}
+
+/// What was met of a desk that was to serve.
+fn of_serving<'a>(
+    rt: &HostRuntime,
+    fault: DeskFault,
+    store: &'a str,
+    address: &'a str,
+) -> Option<Finding<'a>> {
+    match fault {
+        DeskFault::StoreDevice | DeskFault::StoreDown => of_file(store, of_device(rt, store)),
+        DeskFault::DamagedStore => of_file(store, of_damage(rt, store)),
+        DeskFault::WrongDesk => of_file(store, Some(FileFinding::OtherDesk)),
+        DeskFault::CannotListen => of_address(address, addresses::of_serving(rt, address)),
+        _ => None,
+    }
+}
+
+/// What was met of a file whose log was to be read.
+fn of_log<'a>(rt: &HostRuntime, fault: DeskFault, store: &'a str) -> Option<Finding<'a>> {
+    match fault {
+        DeskFault::StoreDevice => of_file(store, of_reading(rt, store)),
+        DeskFault::DamagedStore => of_file(store, of_damage(rt, store)),
+        _ => None,
+    }
+}
+
+/// What a desk says that is asked how it stands: which one it is, where it is not the one that was
+/// asked, and else how long its log is, where `wants_length`.
+fn of_desk<'a>(
+    rt: &HostRuntime,
+    hall: u32,
+    desk: u8,
+    contact: Contact<'_>,
+    wants_length: bool,
+) -> Option<Finding<'a>> {
+    if desk == 0 || desk > 5 {
+        return None;
+    }
+    let mut dial = Sockets::new(rt);
+    let given = heard_of(rt.alloc(), &mut dial, contact, &status_request(hall, desk))?;
+    if wants_length {
+        length_in(&given)
+    } else {
+        other_desk(&given, hall, desk)
+    }
+}
+
+/// What was met of a desk that was asked.
+fn of_asking<'a>(
+    rt: &HostRuntime,
+    fault: DeskFault,
+    hall: u32,
+    desk: u8,
+    contact: Contact<'a>,
+) -> Option<Finding<'a>> {
+    match fault {
+        DeskFault::CannotConnect => {
+            let address = contact.address;
+            of_address(address, addresses::of_asking(rt, address, contact.patience))
+        }
+        DeskFault::Refused {
+            refusal: ClientRefusal::Foreign,
+        } => of_desk(rt, hall, desk, contact, false),
+        DeskFault::Refused {
+            refusal: ClientRefusal::NotThere,
+        } => of_desk(rt, hall, desk, contact, true),
+        _ => None,
+    }
+}
+
+/// Looks again after a fault, and says what was met, where there is something to say.
+pub(crate) fn found<'a>(
+    rt: &HostRuntime,
+    fault: DeskFault,
+    about: About<'a>,
+) -> Option<Finding<'a>> {
+    match about {
+        About::Serving { store, address } => of_serving(rt, fault, store, address),
+        About::Log { store } => of_log(rt, fault, store),
+        About::Asking {
+            hall,
+            desk,
+            contact,
+        } => of_asking(rt, fault, hall, desk, contact),
+    }
+}

@@ -1,0 +1,114 @@
+//! What the answers of the system and of a desk tell.
+
+ghost use Rattle.std.specs.Prelude.{◌≡◌};
+ghost use Rattle.std.specs.List.{list_all};
+ghost use Rattle.explaining.specs.Judged.{is_of_text, length_in, of_beginning, of_connecting};
+ghost use Rattle.explaining.specs.Judged.{of_listening, of_opening, other_desk};
+
+use crate::findings::{AddressFinding, CommandCount, DeskName, FileFinding, Finding, OtherDesk};
+use std::io::ErrorKind;
+use wire::{Frame, What};
+
+/// What an error tells that comes of opening, reading or writing a file.
+pub(crate) fn of_opening(kind: ErrorKind) -> Option<FileFinding>
+    ensures { result ≡ of_opening kind }
+{
+    match kind {
+        ErrorKind::PermissionDenied | ErrorKind::ReadOnlyFilesystem => {
+            Some(FileFinding::NotAllowed)
+        }
+        ErrorKind::StorageFull | ErrorKind::QuotaExceeded => Some(FileFinding::Full),
+        ErrorKind::NotFound | ErrorKind::NotADirectory => Some(FileFinding::NoFolder),
+        ErrorKind::IsADirectory => Some(FileFinding::IsFolder),
+        ErrorKind::Unsupported => Some(FileFinding::NotPlain),
+        _ => None,
+    }
+}
+
+/// What an error tells that comes of connecting to an address.
+pub(crate) fn of_connecting(kind: ErrorKind) -> Option<AddressFinding>
+    ensures { result ≡ of_connecting kind }
+{
+    match kind {
+        ErrorKind::ConnectionRefused => Some(AddressFinding::NobodyListens),
+        ErrorKind::TimedOut | ErrorKind::WouldBlock => Some(AddressFinding::Silent),
+        ErrorKind::HostUnreachable | ErrorKind::NetworkUnreachable | ErrorKind::NetworkDown => {
+            Some(AddressFinding::NoWay)
+        }
+        _ => None,
+    }
+}
+
+/// What an error tells that comes of listening at an address.
+pub(crate) fn of_listening(kind: ErrorKind) -> Option<AddressFinding>
+    ensures { result ≡ of_listening kind }
+{
+    match kind {
+        ErrorKind::AddrInUse => Some(AddressFinding::Taken),
+        ErrorKind::AddrNotAvailable => Some(AddressFinding::NotOurs),
+        ErrorKind::PermissionDenied => Some(AddressFinding::NotAllowed),
+        _ => None,
+    }
+}
+
+/// Whether a byte may stand in a text.
+fn is_of_text(byte: u8) -> bool
+    ensures { result ≡ is_of_text byte }
+{
+    byte >= 32 || byte == 9 || byte == 10 || byte == 13
+}
+
+/// Whether bytes are those of a text.
+fn is_text(bytes: &[u8]) -> bool
+    ensures { result ≡ list_all is_of_text bytes.now }
+{
+    bytes.iter().all(|byte| is_of_text(*byte))
+}
+
+/// What the first bytes of a file tell, 16 or all that it has. None where they are those of a
+/// database.
+pub(crate) fn of_beginning(bytes: &[u8]) -> Option<FileFinding>
+    ensures { result ≡ of_beginning bytes.now }
+{
+    if bytes == b"SQLite format 3\0".as_slice() {
+        return None;
+    }
+    if bytes.is_empty() {
+        return Some(FileFinding::Empty);
+    }
+    if is_text(bytes) {
+        return Some(FileFinding::Text);
+    }
+    Some(FileFinding::NoDatabase)
+}
+
+/// Which desk a frame is from, where another one was asked.
+pub(crate) fn other_desk(given: &Frame, hall: u32, desk: u8) -> Option<Finding<'static>>
+    ensures { result ≡ other_desk given.now hall desk }
+{
+    if given.hall == hall && given.from == desk {
+        return None;
+    }
+    let met = DeskName {
+        hall: given.hall,
+        desk: given.from,
+    };
+    let asked = DeskName { hall, desk };
+    let desk = OtherDesk { met, asked };
+    Some(Finding::Other { desk })
+}
+
+/// How many commands a desk has, where a frame tells how it stands.
+pub(crate) fn length_in(given: &Frame) -> Option<Finding<'static>>
+    ensures { result ≡ length_in given.now }
+{
+    match &given.what {
+        What::Standing { standing } => {
+            let count = CommandCount {
+                commands: standing.length,
+            };
+            Some(Finding::Length { count })
+        }
+        _ => None,
+    }
+}

@@ -1,0 +1,33 @@
+use Rattle.std.proofs.Common.{inl, inr, refl}
+use Rattle.std.specs.Io.KnownBytes.{Keeps}
+use Rattle.lines.specs.Bytes.{sides}
+use Rattle.tasks.specs.Entering.{EndsInput}
+use Rattle.tasks.specs.Places.{reach}
+use Rattle.tasks.proofs.Ending.{done}
+use Rattle.tasks.proofs.entering.enter_lines_at.Goals as goal
+
+pub returns-in-Ok-enter_all : goal.returns-in-Ok-enter_all
+returns-in-Ok-enter_all g c =
+    let s =
+    sides g.R.Read.remaining g.W.Write.contents c.args.reader.now c.enter_all.new.reader
+    c.args.writer.now c.enter_all.new.writer in
+    done c.args.place c.args.patience 0
+    (reach g.D.Dial.dialed g.F.Write.contents c.args.dial.now c.enter_all.new.dial c.args.faults.now)
+    (Keeps s.had s.left × Keeps s.old s.new) (λ one _ t. EndsInput 0 one c.args.lines s t)
+    c.in-Ok.found (record { address = c.as_str.result; patience = c.args.patience })
+    (g.D.Dial.dialed c.found_at.new.dial) (g.F.Write.contents c.found_at.new.faults)
+    c.in-Ok.ensures.ok c.as_str.ensures.value refl
+    (inl (refl, c.in-Ok-enter_all.ensures.ok))
+
+pub returns : goal.returns
+returns g c =
+    let s =
+    sides g.R.Read.remaining g.W.Write.contents c.args.reader.now c.enter_all.new.reader
+    c.args.writer.now c.enter_all.new.writer in
+    done c.args.place c.args.patience c.tell_asked.result
+    (reach g.D.Dial.dialed g.F.Write.contents c.args.dial.now c.enter_all.new.dial c.args.faults.now)
+    (Keeps s.had s.left × Keeps s.old s.new) (λ one _ t. EndsInput c.tell_asked.result one c.args.lines s t)
+    c.in-Ok.found (record { address = c.as_str.result; patience = c.args.patience })
+    (g.D.Dial.dialed c.found_at.new.dial) (g.F.Write.contents c.found_at.new.faults)
+    c.in-Ok.ensures.ok c.as_str.ensures.value refl
+    (inr (c.in-Err-enter_all.fault, c.tell_asked.ensures, c.in-Err-enter_all.ensures.err))

@@ -1,0 +1,49 @@
+use Rattle.std.proofs.Common.{◌∙◌, Bor, List, ℕ, ap, inl, inr, map, refl, subst, sym}
+use Rattle.std.proofs.KnownBytes.{Keeps-refl}
+use Rattle.arguments.specs.declared.places.Desks.{Desks}
+use Rattle.errands.specs.Polling.{outside}
+use Rattle.errands.specs.declared.fault.DeskFault.TheVariants as fault
+use Rattle.lines.specs.declared.fault.RunFault.TheVariants as run
+use Rattle.tasks.specs.Standings.{EndsStatus}
+use Rattle.tasks.proofs.standing.status_at.Goals as goal
+
+pub returns-in_default : goal.returns-in_default
+returns-in_default g c =
+    let dial = c.args.dial.now in
+    let writer = c.args.writer.now in
+    let o = outside g.D.Dial.dialed g.W.Write.contents dial dial writer writer in
+    let form = c.args.way.form in
+    subst
+    (λ (d : Desks). EndsStatus d c.args.patience form c.args.way.watches c.tell.result o)
+    (sym c.in-File.is)
+    (inl (fault.Run run.NoMemory, c.tell.ensures, inr refl, refl, Keeps-refl _))
+
+pub returns-in-Ok-addresses_of : goal.returns-in-Ok-addresses_of
+returns-in-Ok-addresses_of g c =
+    let asked = c.inquire-in-File in
+    let o =
+    outside g.D.Dial.dialed g.W.Write.contents c.args.dial.now asked.new.dial c.args.writer.now
+    asked.new.writer in
+    let form = c.args.way.form in
+    let texts = ap (map (λ (t : Bor (List ℕ)). t.now)) c.deref.ensures.value in
+    subst
+    (λ (d : Desks). EndsStatus d c.args.patience form c.args.way.watches asked.result o)
+    (sym c.in-File.is)
+    (inr (
+      c.in-Ok.hall,
+      c.in-Ok.ensures.ok.0,
+      c.in-Ok.ensures.ok.1,
+      (
+        record {
+          hall = c.in-Ok.hall.hall;
+          addresses = c.deref.result;
+          patience = c.args.patience;
+        },
+        record {
+          hall_is = refl;
+          there = texts ∙ c.in-Ok-addresses_of.ensures;
+          patience_is = refl;
+        },
+        asked.ensures,
+      ),
+    ))

@@ -1,0 +1,39 @@
+-- A command, or those of an input, entered at a desk.
+use Rattle.std.specs.Prelude.{◌≡◌, ◌⊎◌, ℕ, Bool, List, Option}
+use Rattle.std.specs.Io.KnownBytes.{Keeps}
+use Rattle.arguments.specs.declared.places.Place.{Place}
+use Rattle.arguments.specs.declared.task.Lines.{Lines}
+use Rattle.batch.specs.Dialing.{Told}
+use Rattle.batch.specs.declared.asking.Receiver.{Receiver}
+use Rattle.errands.specs.Entering.{EntersInput, EntersOne, FailsInput, FailsOne}
+use Rattle.errands.specs.Statuses.{status_of}
+use Rattle.errands.specs.declared.fault.DeskFault.{DeskFault}
+use Rattle.lines.specs.Bytes.{Sides}
+use Rattle.tasks.specs.Places.{EndsAt, Reach}
+
+-- a command that is entered: its id where one is given, its text, and whether it is waited for
+pub record Single : Type 0 where
+  pub id : Option ℕ
+  pub text : List ℕ
+  pub waits : Bool
+
+-- it was entered and its answer printed, or that failed
+abbrev pub EndsOne : ℕ → Receiver → Single → Told → (old new : Option (List ℕ)) → Type 0
+EndsOne status one s t old new =
+    ((status ≡ 0) × EntersOne one s.id s.waits s.text t old new)
+    ⊎ ((f : DeskFault) × (status ≡ status_of f) × FailsOne f one s.id s.waits s.text t old new)
+
+abbrev pub EndsEnter : Place → ℕ → Single → ℕ → Reach → (old new : Option (List ℕ)) → Type 0
+EndsEnter p patience single status r old new =
+    EndsAt p patience status r (Keeps old new) (λ one _ t. EndsOne status one single t old new)
+
+-- all of an input were entered, or not
+abbrev pub EndsInput : ℕ → Receiver → Lines → Sides → Told → Type 0
+EndsInput status one lines s t =
+    ((status ≡ 0) × EntersInput one lines s t)
+    ⊎ ((f : DeskFault) × (status ≡ status_of f) × FailsInput f one lines s t)
+
+abbrev pub EndsLines : Place → ℕ → Lines → ℕ → Reach → Sides → Type 0
+EndsLines p patience lines status r s =
+    EndsAt p patience status r (Keeps s.had s.left × Keeps s.old s.new)
+    (λ one _ t. EndsInput status one lines s t)

@@ -1,0 +1,5 @@
+pub mod Asking
+pub mod Entering
+pub mod Places
+pub mod Services
+pub mod Standings

@@ -1,0 +1,18 @@
+//! What a program does of a task that asks desks: it finds the desk, by its address or by a hall's
+//! file, asks it, prints what it answers, and says on the fault stream why something failed, with
+//! the exit status.
+#![tactic(auto)]
+
+mod asking;
+mod entering;
+mod finding;
+mod reached;
+mod services;
+mod standing;
+mod telling;
+
+pub use asking::{carry_at, copy_log_at, newest_at};
+pub use entering::{enter_at, enter_lines_at};
+pub use services::service_of;
+pub use standing::{Watching, addresses_of, status_at};
+pub use telling::{tell_log, tell_missing, tell_service};

@@ -1,0 +1,92 @@
+//! What is said of a fault: its line, and after it why it came.
+
+ghost use Rattle.std.specs.Prelude.{◌≡◌};
+ghost use Rattle.errands.specs.Statuses.{status_of};
+
+use batch::Contact;
+use errands::{DeskFault, tell, tell_asking, tell_serving};
+use explaining::{About, explain, is_wanted};
+use service::Service;
+use std::io::Write;
+
+/// Says of a fault of a desk that was asked why it came, and returns the exit status. A second line
+/// comes where it is asked for, and on a terminal.
+pub(crate) fn tell_asked<F: Write>(
+    rt: &HostRuntime,
+    faults: &mut F,
+    fault: DeskFault,
+    about: About<'_>,
+    contact: Contact<'_>,
+    explains: bool,
+) -> u8
+    ensures { result ≡ status_of fault }
+{
+    let status = tell_asking(faults, fault, contact);
+    if is_wanted(rt, explains) {
+        explain(rt, faults, fault, about);
+    }
+    status
+}
+
+/// Says why no desk was found that could be asked, and returns the exit status. What is wrong with
+/// a hall's file was told before.
+pub fn tell_missing<F: Write>(
+    rt: &HostRuntime,
+    faults: &mut F,
+    fault: DeskFault,
+    explains: bool,
+) -> u8
+    ensures { result ≡ status_of fault }
+{
+    if fault == DeskFault::BadHallFile {
+        return 3;
+    }
+    let status = tell(faults, fault);
+    if fault == DeskFault::CannotConnect && is_wanted(rt, explains) {
+        let _ = writeln!(
+            faults,
+            "no desk of the hall answers: `desk status` says of each why"
+        );
+    }
+    status
+}
+
+/// As `tell_asked`, of a desk that was to serve.
+pub fn tell_service<F: Write>(
+    rt: &HostRuntime,
+    faults: &mut F,
+    fault: DeskFault,
+    service: Service<'_>,
+    explains: bool,
+) -> u8
+    ensures { result ≡ status_of fault }
+{
+    let status = tell_serving(faults, fault, service);
+    let place = usize::from(service.desk).saturating_sub(1);
+    let address = match service.addresses.get(place) {
+        Some(text) => text,
+        None => "",
+    };
+    if is_wanted(rt, explains) {
+        let store = service.store;
+        explain(rt, faults, fault, About::Serving { store, address });
+    }
+    status
+}
+
+/// As `tell_asked`, of a desk's file whose log was to be printed.
+pub fn tell_log<F: Write>(
+    rt: &HostRuntime,
+    faults: &mut F,
+    fault: DeskFault,
+    store: &str,
+    explains: bool,
+) -> u8
+    ensures { result ≡ status_of fault }
+{
+    let status = tell(faults, fault);
+    if is_wanted(rt, explains) {
+        explain(rt, faults, fault, About::Log { store });
+    }
+    status
+}
