@@ -1,12 +1,14 @@
 //! The accepted commands, with what is looked up of them.
 
-ghost use Rattle.std.specs.Prelude.{◌≡◌, ◌++◌, [], IfOk, OnOk, OnErr, option_map, unwrap_or};
+ghost use Rattle.std.specs.Prelude.{◌≡◌, ◌≤◌, ◌++◌, [], IfOk, OnOk, OnErr, option_map, unwrap_or};
 ghost use Rattle.commands.specs.Accepted.{name_of, round_of, refusal, edition_set, edition_in};
+ghost use Rattle.commands.specs.Accepted.{scramble_of};
 ghost use Rattle.texts.specs.Spelling.{IsFit};
 ghost use Rattle.commands.specs.History.{answer_of, added, spelled_refusal};
 
 use crate::index::Index;
 use attempts::NoMemory;
+use cube::Move;
 use rounds::RoundTable;
 use std::alloc::Global;
 use std::marker::Model;
@@ -120,5 +122,14 @@ impl AcceptedCommands {
         ensures { result ≡ option_map (λ r. r.0) (round_of self.now id.event id.round) }
     {
         self.index.rounds.settings(id)
+    }
+
+    /// The scramble of an attempt, where it has one.
+    pub(crate) fn scramble(&self, id: RoundId, attempt: u8) -> Option<&[Move]>
+        requires { 1 ≤ attempt }
+        ensures { option_map (λ moves. moves.now) result
+            ≡ scramble_of self.now id.event id.round attempt }
+    {
+        self.index.scramble_of(&self.accepted, id, attempt)
     }
 }

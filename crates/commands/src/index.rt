@@ -152,7 +152,7 @@ impl Index {
     }
 
     /// The scramble of an attempt, where it has one.
-    fn scramble_of<'a>(
+    pub(crate) fn scramble_of<'a>(
         &self,
         accepted: &'a [Command],
         id: RoundId,

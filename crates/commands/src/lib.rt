@@ -14,6 +14,7 @@ mod outcomes;
 mod rounds_rule;
 
 pub use meet::{Meet, every_id_is_seen, first_edition_answers};
+pub use outcomes::{is_wrong, lacks_scramble, settled};
 pub use texts::{
     Advance, Answer, AttemptEntry, Code, Command, CommandFault, Entered, Name, RoundId, Settings,
     edition_of, first_edition_reads, one_spelling, print, print_advance, print_cutoff, print_limit,

@@ -1,15 +1,16 @@
 //! A competition, as the list of its entries makes it.
 
-ghost use Rattle.std.specs.Prelude.{◌≡◌, ◌++◌, ◌∷◌, [], List, ℕ, true, Ok, IfOk, OnOk, OnErr};
+ghost use Rattle.std.specs.Prelude.{◌≡◌, ◌≤◌, ◌++◌, ◌∷◌, [], List, ℕ, true, Ok, IfOk, OnOk, OnErr};
 ghost use Rattle.std.specs.Prelude.{option_map};
 ghost use Rattle.commands.specs.History.{is_seen, answer_to, answer_of, added_read, read_refusal};
 ghost use Rattle.commands.specs.History.{after, nothing, StandsFor, SeesEachId};
 ghost use Rattle.texts.specs.Reading.{command_of};
 ghost use Rattle.commands.specs.EditionLaws.{AnswersAsBefore};
-ghost use Rattle.commands.specs.Accepted.{name_of, round_of, edition_in};
+ghost use Rattle.commands.specs.Accepted.{name_of, round_of, scramble_of, edition_in};
 
 use crate::accepted::AcceptedCommands;
 use attempts::NoMemory;
+use cube::Move;
 use formats::Event;
 use indexmap::IndexSet;
 use rounds::RoundTable;
@@ -124,6 +125,16 @@ impl Meet {
         ensures { result ≡ option_map (λ r. r.0) (round_of self.now.accepted event round) }
     {
         self.accepted.settings(RoundId { event, round })
+    }
+
+    /// The scramble of an attempt of a round, where one was set since the round was opened.
+    /// Attempts are counted from 1.
+    pub fn scramble(&self, event: Event, round: u8, attempt: u8) -> Option<&[Move]>
+        requires { 1 ≤ attempt }
+        ensures { option_map (λ moves. moves.now) result
+            ≡ scramble_of self.now.accepted event round attempt }
+    {
+        self.accepted.scramble(RoundId { event, round }, attempt)
     }
 }
 

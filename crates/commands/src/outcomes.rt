@@ -4,14 +4,14 @@ ghost use Rattle.std.specs.Prelude.{◌≡◌, false, option_map};
 ghost use Rattle.attempts.specs.Attempts.{IsOutcome, IsOutcomeOf};
 ghost use Rattle.attempts.specs.declared.Unit.{Unit as Measure};
 ghost use Rattle.commands.specs.Accepted.{outcome_of, is_time, is_wrong, is_moves, is_multi};
-ghost use Rattle.commands.specs.Accepted.{lacks_scramble, unfit_refusal};
+ghost use Rattle.commands.specs.Accepted.{lacks_scramble, unfit_refusal, settled};
 ghost use Rattle.texts.specs.Spelling.{IsEntered};
 
-use attempts::{Outcome, Unit};
+use attempts::{Outcome, Unit, Value, settle};
 use cube::Move;
 use fmc_check::check;
 use formats::{Event, unit_of};
-use texts::{Code, Entered};
+use texts::{Code, Entered, Settings};
 
 /// Whether times are entered.
 fn is_time(unit: Unit) -> bool
@@ -44,7 +44,7 @@ pub(crate) fn is_multi(unit: Unit) -> bool
 }
 
 /// Whether what was entered is a time, a solution or cubes where another of these is entered.
-fn is_wrong(unit: Unit, entered: &Entered) -> bool
+pub fn is_wrong(unit: Unit, entered: &Entered) -> bool
     ensures { result ≡ is_wrong unit entered.now }
 {
     match entered {
@@ -56,7 +56,7 @@ fn is_wrong(unit: Unit, entered: &Entered) -> bool
 }
 
 /// Whether it is a solution for which there is no scramble.
-fn lacks_scramble(scramble: Option<&[Move]>, entered: &Entered) -> bool
+pub fn lacks_scramble(scramble: Option<&[Move]>, entered: &Entered) -> bool
     ensures { result ≡ lacks_scramble (option_map (λ moves. moves.now) scramble.entry) entered.now }
 {
     match entered {
@@ -115,4 +115,14 @@ pub(crate) fn outcome_of(scramble: Option<&[Move]>, entered: &Entered) -> Outcom
         Entered::Dnf => Outcome::Dnf,
         Entered::Dns => Outcome::Dns,
     }
+}
+
+/// The value of what was entered, under the limit of its round and the scramble of its attempt. A
+/// solution without a scramble counts as DNF.
+pub fn settled(settings: Settings, scramble: Option<&[Move]>, entered: &Entered) -> Value
+    requires { IsEntered entered.now }
+    ensures { result ≡ settled settings (option_map (λ moves. moves.now) scramble.entry)
+        entered.now }
+{
+    settle(outcome_of(scramble, entered), settings.limit)
 }

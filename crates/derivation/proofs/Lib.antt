@@ -1,0 +1,9 @@
+pub mod Cutoffs
+pub mod Derived
+pub mod Filled
+pub mod Runs
+pub mod Sent
+pub mod Steps
+pub mod Strikes
+pub mod Tests
+pub mod Whole
