@@ -1,0 +1,6 @@
+pub mod Paths
+pub mod Words
+pub mod Rounds
+pub mod Frame
+pub mod Looks
+pub mod Views

@@ -1,0 +1,145 @@
+-- A mirror that is kept up over connections to the desks of a hall, one at a time.
+use Rattle.std.specs.Prelude.{ℕ, ◌≡◌, ◌+◌, List, [], Option, None, Some, Bool, true, false}
+use Rattle.std.specs.Prelude.{length, nat_le, option_map}
+use Rattle.acceptor.specs.declared.entry.Entry.{Entry}
+use Rattle.client.specs.Standings.{log_request}
+use Rattle.following.specs.Following.{Following, new_following, action_of, after_action}
+use Rattle.following.specs.Following.{after_answer, after_lost, after_opened}
+use Rattle.following.specs.declared.stages.Action.{Action}
+use Rattle.following.specs.declared.stages.Action.TheVariants as action
+use Rattle.mirror.specs.Fronts.{TakesAs}
+use Rattle.mirror.specs.declared.mirror.Taken.{Taken}
+use Rattle.mirror.specs.declared.mirror.Taken.TheVariants.{Grew, Known, Gap, Differs}
+use Rattle.wire.specs.Stream.{holding}
+use Rattle.mirroring.specs.Talks.{Hears, TalkOf, asking, sending, talk}
+use Rattle.mirroring.specs.declared.talk.Heard.{Heard}
+use Rattle.mirroring.specs.declared.talk.Heard.TheVariants as heard
+use Rattle.mirroring.specs.declared.mirroring.Wish.{Wish}
+use Rattle.mirroring.specs.declared.mirroring.Wish.TheVariants as wish
+use Rattle.mirroring.specs.declared.mirroring.Came.{Came}
+use Rattle.mirroring.specs.declared.mirroring.Came.TheVariants as came
+
+-- the number of the hall, which of its desks is followed, the entries that are held, and the talk
+-- over the connection, if one is open
+pub record MirroringOf : Type 0 where
+  pub hall : ℕ
+  pub follower : Following
+  pub entries : List Entry
+  pub talking : Option TalkOf
+
+abbrev pub mirroring : ℕ → Following → List Entry → Option TalkOf → MirroringOf
+mirroring hall follower entries talking =
+    record { hall = hall; follower = follower; entries = entries; talking = talking }
+
+-- the first desk is to be followed, and nothing is held
+abbrev pub new_mirroring : ℕ → ℕ → MirroringOf
+new_mirroring hall desks = mirroring hall (new_following desks 0) [] None
+
+abbrev pub with_talk : MirroringOf → Option TalkOf → MirroringOf
+with_talk m talking = mirroring m.hall m.follower m.entries talking
+
+-- the connection is lost: the next desk is followed, and what is held stays
+abbrev pub lost : MirroringOf → MirroringOf
+lost m = mirroring m.hall (after_lost m.follower) m.entries None
+
+-- ---- what is done
+
+-- the desk that is followed is asked for what its log has beyond the entries that are held
+abbrev pub question : MirroringOf → TalkOf → TalkOf
+question m t = asking t (log_request m.hall m.follower.desk (length m.entries))
+
+-- Where there is no connection, or memory is refused, the connection counts as lost.
+abbrev pub Asks : Wish → MirroringOf → MirroringOf → Type 0
+Asks wish.Write old new =
+    (t : TalkOf) × (old.talking ≡ Some t) × (new ≡ with_talk old (Some (question old t)))
+Asks wish.Close old new = new ≡ lost old
+Asks wish.Rest old new = ⊥
+Asks (wish.Open desk) old new = ⊥
+Asks wish.Stop old new = ⊥
+
+-- what comes of what the follower says, once it counts as begun
+abbrev pub ActsBy : Action → Wish → MirroringOf → MirroringOf → Type 0
+ActsBy action.Rest w old new = (w ≡ wish.Rest) × (new ≡ old)
+ActsBy (action.Open desk) w old new = (w ≡ wish.Open desk) × (new ≡ old)
+ActsBy (action.Ask desk position) w old new = Asks w old new
+ActsBy (action.Close desk) w old new = (w ≡ wish.Close) × (new ≡ with_talk old None)
+ActsBy action.Stop w old new = (w ≡ wish.Stop) × (new ≡ with_talk old None)
+
+-- what the follower says counts as begun
+abbrev pub begun : ℕ → MirroringOf → MirroringOf
+begun now m = mirroring m.hall (after_action m.follower now) m.entries m.talking
+
+abbrev pub Acts : Wish → ℕ → MirroringOf → MirroringOf → Type 0
+Acts w now old new = ActsBy (action_of old.follower now) w (begun now old) new
+
+-- ---- what comes
+
+-- the connection is open and nothing was said over it; where memory is refused, it counts as lost
+abbrev pub Opens : Bool → MirroringOf → MirroringOf → Type 0
+Opens true old new =
+    new ≡ mirroring old.hall (after_opened old.follower) old.entries
+    (Some (talk (holding []) None []))
+Opens false old new = new ≡ lost old
+
+abbrev pub unsent_of : TalkOf → List ℕ
+unsent_of t = t.unsent
+
+-- what is to be written
+abbrev pub unsent_by : Option TalkOf → List ℕ
+unsent_by None = []
+unsent_by (Some t) = t.unsent
+
+abbrev pub sent_by : MirroringOf → ℕ → MirroringOf
+sent_by m count = with_talk m (option_map (λ t. sending t count) m.talking)
+
+-- the mirror has grown; nothing is said where memory was refused
+abbrev pub is_growth : Option Taken → Bool
+is_growth None = true
+is_growth (Some Grew) = true
+is_growth (Some Known) = false
+is_growth (Some Gap) = false
+is_growth (Some (Differs position)) = false
+
+-- entries from a position on end where a log may end
+abbrev pub is_within : ℕ → List Entry → Bool
+is_within position entries = nat_le (position + length entries) 65536
+
+-- The mirror takes entries of a log of this length, and the follower is told what came of them.
+pub record Grows (c : Came) (now position len : ℕ) (entries : List Entry) (old new : MirroringOf)
+    : Type 0 where
+  pub taken : Option Taken
+  pub takes : TakesAs old.entries position entries taken new.entries
+  pub after : new ≡ mirroring old.hall
+      (after_answer old.follower now taken (length new.entries) len) new.entries old.talking
+  pub is : c ≡ came.Answer (is_growth taken)
+
+-- what isn't an answer is a lost connection
+abbrev pub Fails : Came → MirroringOf → MirroringOf → Type 0
+Fails c old new = (c ≡ came.NoAnswer) × (new ≡ lost old)
+
+abbrev pub FollowsTold : Bool → Came → (now position len : ℕ) → List Entry → MirroringOf
+    → MirroringOf → Type 0
+FollowsTold true c now position len entries old new = Grows c now position len entries old new
+FollowsTold false c now position len entries old new = Fails c old new
+
+abbrev pub Follows : Heard → Came → ℕ → MirroringOf → MirroringOf → Type 0
+Follows heard.Waits c now old new = (c ≡ came.Nothing) × (new ≡ old)
+Follows (heard.Told position len entries) c now old new =
+    FollowsTold (is_within position entries) c now position len entries old new
+Follows heard.NoAnswer c now old new = Fails c old new
+
+-- what the bytes of the desk come to in the talk, and what follows of it
+pub record HearsBy (t : TalkOf) (c : Came) (now : ℕ) (piece : List ℕ) (old new : MirroringOf)
+    : Type 0 where
+  pub heard : Heard
+  pub after : TalkOf
+  pub hears : Hears heard piece t after
+  pub follows : Follows heard c now (with_talk old (Some after)) new
+
+-- without a connection nothing comes
+abbrev pub HearsAt : Option TalkOf → Came → ℕ → List ℕ → MirroringOf → MirroringOf → Type 0
+HearsAt None c now piece old new = (c ≡ came.Nothing) × (new ≡ old)
+HearsAt (Some t) c now piece old new = HearsBy t c now piece old new
+
+abbrev pub HearsDesk : Came → ℕ → List ℕ → MirroringOf → MirroringOf → Type 0
+HearsDesk c now piece old new = HearsAt old.talking c now piece old new

@@ -1,0 +1,247 @@
+//! A mirror, the follower that says which desk is asked, and the talk with it.
+
+ghost use Rattle.std.specs.Prelude.{◌≡◌, ◌≤◌, ◌+◌, IfOk, length};
+ghost use Rattle.following.specs.Following.{IsPlace, wait_of};
+ghost use Rattle.mirroring.specs.Mirrorings.{Acts, Asks, Follows, Grows, HearsDesk, Opens};
+ghost use Rattle.mirroring.specs.Mirrorings.{is_growth, is_within, lost, new_mirroring, sent_by, unsent_by};
+
+use crate::talk::{Heard, Talk};
+use following::{Action, Follower, Stage};
+use mirror::{Mirror, Taken};
+use std::alloc::{AllocError, Global};
+use std::marker::Model;
+use wire::Entries;
+
+/// What is to be done now.
+#[derive(Clone, Copy, PartialEq, Eq, Debug)]
+pub enum Wish {
+    /// Nothing, until something comes or the time is over that `wait` says.
+    Rest,
+    /// Open a connection to this desk, 1 to 5: call `opened` once it is open, or `lost`.
+    Open { desk: u8 },
+    /// Write the output: call `sent` with how many bytes were written.
+    Write,
+    /// Close the connection, or give up opening it. No call is to be made.
+    Close,
+    /// Close the connection, if there is one, and say loudly that the hall is broken: two of its
+    /// desks told different entries for one position.
+    Stop,
+}
+
+/// What came of bytes that a desk sent.
+#[derive(Clone, Copy, PartialEq, Eq, Debug)]
+pub enum Came {
+    /// No answer is whole yet, or there is no connection.
+    Nothing,
+    /// The desk answered. Where it says that the mirror didn't grow, it is as it was.
+    Answer { grew: bool },
+    /// It was no answer. The connection is to be closed; no further call is to be made for it.
+    NoAnswer,
+}
+
+/// Keeps a mirror up with the desks of a hall. Its caller asks it again and again what is to be
+/// done (`act`), does it over one connection at a time, and says what came of it.
+///
+/// A contract sees the number of the hall, the follower, the entries of the mirror, and the talk
+/// over the connection, if one is open.
+#[derive(Drop)]
+pub struct Mirroring {
+    alloc: Global,
+    hall: u32,
+    follower: Follower,
+    mirror: Mirror,
+    talk: Option<Talk>,
+}
+
+impl Model for Mirroring {
+    ghost use Rattle.mirroring.specs.Mirrorings.{MirroringOf, mirroring};
+
+    ghost Value = { MirroringOf };
+
+    ghost view = { λ m. mirroring m.hall m.follower m.mirror m.talk };
+}
+
+/// Whether a mirror has grown, as far as is told.
+fn is_growth(taken: Option<Taken>) -> bool
+    ensures { result ≡ is_growth taken }
+{
+    matches!(taken, Some(Taken::Grew) | None)
+}
+
+/// Whether entries from a position on end where a log may end.
+fn is_within(position: u32, entries: &Entries) -> bool
+    ensures { result ≡ is_within position entries.now }
+{
+    let left = 65_536_u32.saturating_sub(position);
+    position <= 65_536 && entries.as_slice().len() <= left as usize
+}
+
+impl Mirroring {
+    /// An empty mirror of a hall with so many desks, 1 to 5. The first desk comes first.
+    pub fn new(alloc: Global, hall: u32, desks: u8) -> Result<Mirroring, AllocError>
+        requires { IsPlace 1 desks }
+        ensures { IfOk result (λ m. m ≡ new_mirroring hall desks) }
+    {
+        Ok(Mirroring {
+            alloc,
+            hall,
+            follower: Follower::new(desks, 0),
+            mirror: Mirror::new(alloc)?,
+            talk: None,
+        })
+    }
+
+    /// The mirror.
+    pub fn mirror(&self) -> &Mirror
+        ensures { result.now ≡ self.now.entries }
+    {
+        &self.mirror
+    }
+
+    /// The number of the desk that is followed, 1 to 5.
+    pub fn desk(&self) -> u8
+        ensures desk { result ≡ self.now.follower.desk }
+        ensures place { IsPlace result self.now.follower.desks }
+    {
+        self.follower.desk()
+    }
+
+    /// What the connection to it has come to.
+    pub fn stage(&self) -> Stage
+        ensures { result ≡ self.now.follower.stage }
+    {
+        self.follower.stage()
+    }
+
+    /// In how many milliseconds something is to be done, if nothing comes: at most 2,000.
+    pub fn wait(&self, now: u64) -> u64
+        ensures wait { result ≡ wait_of self.now.follower now }
+        ensures soon { result ≤ 2000 }
+    {
+        self.follower.wait(now)
+    }
+
+    /// What is to be done now, at so many milliseconds of a clock that doesn't go back. It counts
+    /// as begun.
+    pub fn act(&mut self, now: u64) -> Wish
+        ensures { Acts result now self.old self.new }
+    {
+        match self.follower.act(now) {
+            Action::Rest => Wish::Rest,
+            Action::Open { desk } => Wish::Open { desk },
+            Action::Ask { .. } => self.ask(),
+            Action::Close { .. } => {
+                self.talk = None;
+                Wish::Close
+            }
+            Action::Stop => {
+                self.talk = None;
+                Wish::Stop
+            }
+        }
+    }
+
+    /// Asks the desk that is followed for its log, from the mirror's end on.
+    fn ask(&mut self) -> Wish
+        ensures { Asks result self.old self.new }
+    {
+        let desk = self.follower.desk();
+        let position = self.mirror.len();
+        let asked = match &mut self.talk {
+            Some(talk) => talk.ask(self.alloc, self.hall, desk, position).is_ok(),
+            None => false,
+        };
+        if asked {
+            return Wish::Write;
+        }
+        self.lost();
+        Wish::Close
+    }
+
+    /// Says that the connection that was being opened is open. Where memory is refused, it counts
+    /// as lost, and the answer is false: it is to be closed.
+    pub fn opened(&mut self) -> bool
+        ensures { Opens result self.old self.new }
+    {
+        match Talk::new(self.alloc) {
+            Ok(talk) => {
+                self.talk = Some(talk);
+                self.follower.opened();
+                true
+            }
+            Err(_) => {
+                self.lost();
+                false
+            }
+        }
+    }
+
+    /// Says that the connection is lost: it couldn't be opened, it failed, or the desk ended it.
+    pub fn lost(&mut self)
+        ensures { self.new ≡ lost self.old }
+    {
+        self.talk = None;
+        self.follower.lost();
+    }
+
+    /// What is to be written now.
+    pub fn output(&self) -> &[u8]
+        ensures { result.now ≡ unsent_by self.now.talking }
+    {
+        match &self.talk {
+            Some(talk) => talk.output(),
+            None => &[],
+        }
+    }
+
+    /// Says that so many bytes of the output were written.
+    pub fn sent(&mut self, count: usize)
+        ensures { self.new ≡ sent_by self.old count }
+    {
+        if let Some(talk) = &mut self.talk {
+            talk.sent(count);
+        }
+    }
+
+    /// Takes bytes that came from the desk over the connection.
+    pub fn hear(&mut self, now: u64, piece: &[u8]) -> Came
+        ensures { HearsDesk result now piece.now self.old self.new }
+    {
+        let Some(talk) = &mut self.talk else {
+            return Came::Nothing;
+        };
+        let heard = talk.hear(piece);
+        self.follow(now, heard)
+    }
+
+    /// Does what follows of what the desk's bytes came to.
+    fn follow(&mut self, now: u64, heard: Heard) -> Came
+        ensures { Follows heard result now self.old self.new }
+    {
+        match heard {
+            Heard::Waits => Came::Nothing,
+            Heard::Told {
+                position,
+                length,
+                entries,
+            } if is_within(position, &entries) => self.take(now, position, length, entries),
+            _ => {
+                self.lost();
+                Came::NoAnswer
+            }
+        }
+    }
+
+    /// Takes entries that a desk told, whose log is so long.
+    fn take(&mut self, now: u64, position: u32, len: u32, entries: Entries) -> Came
+        requires { position + length entries ≤ 65536 }
+        ensures { Grows result now position len entries self.old self.new }
+    {
+        let taken = self.mirror.take(position, entries).ok();
+        let held = self.mirror.len();
+        self.follower.answered(now, taken, held, len);
+        Came::Answer {
+            grew: is_growth(taken),
+        }
+    }
+}
