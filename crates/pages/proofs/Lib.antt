@@ -1,0 +1,5 @@
+pub mod Moving
+pub mod Hearing
+pub mod Keeping
+pub mod Tables
+pub mod Answering

@@ -1,0 +1,11 @@
+use Rattle.std.proofs.Common.{◌≡◌}
+use Rattle.pages.specs.Kept.{AnswersIn, Keeps}
+use Rattle.pages.proofs.table.Table.round.Given as goal
+
+abbrev pub invariant-loop-turn : goal.invariant-loop-turn
+invariant-loop-turn g l = record {
+  kept : Keeps g.C.Sockets.happened l.fn.self l.self;
+  terms : l.self.terms ≡ l.fn.self.terms;
+  answers : AnswersIn g.C.Sockets.happened g.S.Service.answers l.fn.service l.service l.fn.self
+      l.self;
+}

@@ -1,0 +1,70 @@
+//! Many browsers, one round of work at a time.
+
+ghost use Rattle.std.specs.Prelude.{◌≡◌, IfOk};
+ghost use Rattle.pages.specs.Kept.{Holds};
+
+use crate::sockets::Sockets;
+use crate::table::{Table, Terms};
+use http_server::Service;
+use std::alloc::{AllocError, Global};
+use std::hash::RandomState;
+
+/// The browsers of a service, and their sockets.
+///
+/// A browser's connection is ended as `http_server` says; where a read or a write fails; where it
+/// took longer than the patience for a request with its answer, or was silent for longer than that;
+/// and where another one comes and there is no room for it, which ends that of the one that is
+/// waited for since the longest time.
+#[derive(Drop)]
+pub struct Browsers<C: Sockets> {
+    table: Table<C>,
+    ghost kept: { ∥ Holds C.happened table ∥₁ },
+}
+
+impl<C: Sockets> Browsers<C> {
+    ghost use Rattle.pages.specs.Browsers.{IsNew, IsUntold, Served, sockets_of};
+
+    /// None has come yet. The names of headers are the browsers' choice, so their maps take secret
+    /// keys.
+    pub fn new(
+        alloc: Global,
+        keys: RandomState,
+        terms: Terms,
+        sockets: C,
+    ) -> Result<Browsers<C>, AllocError>
+        requires { IsUntold (C.happened sockets) }
+        ensures { IfOk result (IsNew terms sockets) }
+    {
+        let table = Table::new(alloc, keys, terms, sockets)?;
+        let browsers = Browsers { table };
+        Ok(browsers)
+    }
+
+    /// One round: waits until something is ready, `wait` milliseconds at most, and lets each
+    /// browser that is ready have its turn: one write, or else a read of at most 4,096 bytes, then
+    /// the answers to what came, and one write more. Then those are let go that are waited for too
+    /// long. Returns when the round was over, in milliseconds after the first one. None: the system
+    /// doesn't tell what is ready any more.
+    pub fn round<S: Service>(&mut self, service: &mut S, wait: u64) -> Option<u64>
+        ensures { Served S.answers service.old service.new self.old self.new }
+    {
+        self.table.round(service, wait)
+    }
+
+    /// The sockets of the browsers, for what can be asked of them without a change.
+    pub fn sockets(&self) -> &C
+        ensures { result.now ≡ sockets_of self.now }
+    {
+        &self.table.sockets
+    }
+
+    /// How many browsers' connections are open.
+    pub fn len(&self) -> usize {
+        self.table.browsers.len()
+    }
+
+    /// Whether none is open.
+    pub fn is_empty(&self) -> bool {
+        self.table.browsers.is_empty()
+    }
+}

@@ -1,0 +1,94 @@
+//! What the sockets of browsers are: they never make anybody wait.
+
+ghost use Rattle.std.specs.Prelude.{◌≢◌, [], List, Option, length};
+ghost use Rattle.pages.specs.Happenings.{CountsGiven, CountsTaken, Happened, Tells};
+ghost use Rattle.pages.specs.Happenings.{accepted, closed, given, taken};
+
+/// What can be done next without waiting.
+#[derive(Clone, Copy, PartialEq, Eq, Debug)]
+pub enum Ready {
+    /// A browser may wait to be accepted.
+    Waits,
+    /// The browser with this number may have something to be read, may take bytes, or has gone.
+    Browser { number: u64 },
+    /// A round is over: each socket that was ready has been named. It is so many milliseconds after
+    /// the first round.
+    Round { now: u64 },
+    /// The system doesn't tell what is ready any more.
+    Failed,
+}
+
+/// What came of accepting a browser.
+#[derive(Clone, Copy, PartialEq, Eq, Debug)]
+pub enum Accepted {
+    /// A browser came.
+    Came,
+    /// None waits, or the one that waited has gone.
+    Nobody,
+    /// The system has no more sockets.
+    Full,
+}
+
+/// What came of a read.
+#[derive(Clone, Copy, PartialEq, Eq, Debug)]
+pub enum Given {
+    /// So many bytes were read, at least 1.
+    Bytes { count: usize },
+    /// There is nothing to be read now.
+    Later,
+    /// The browser has sent all that it will send.
+    Ended,
+    /// The read failed.
+    Broke,
+}
+
+/// What came of a write.
+#[derive(Clone, Copy, PartialEq, Eq, Debug)]
+pub enum Taken {
+    /// So many of the bytes were taken, at least 1.
+    Bytes { count: usize },
+    /// The browser can take nothing now.
+    Later,
+    /// The write failed.
+    Broke,
+}
+
+/// The sockets of browsers, each by the number under which it was accepted. No call but `ready`
+/// waits.
+pub trait Sockets: Drop {
+    /// What came of them, in order, where that is told.
+    ghost happened: { Self → Option (List Happened) };
+
+    /// Waits until something is ready, and names it. All that was ready at once is named one after
+    /// the other, and then the round is over. Where nothing becomes ready, the round is over after
+    /// `wait` milliseconds.
+    fn ready(&mut self, wait: u64) -> Ready
+        ensures { Tells (happened self.old) (happened self.new) [] };
+
+    /// Accepts the browser that waits. From now on it has this number, and is named when it can be
+    /// read from.
+    fn accept(&mut self, number: u64) -> Accepted
+        ensures { Tells (happened self.old) (happened self.new) (accepted number result) };
+
+    /// Reads once of a browser, without waiting.
+    fn read(&mut self, number: u64, buffer: &mut [u8; 4096]) -> Given
+        ensures count { CountsGiven (length buffer.new) result }
+        ensures told { Tells (happened self.old) (happened self.new)
+            (given number result buffer.new) };
+
+    /// Writes to a browser as much of the bytes as it takes without waiting.
+    fn write(&mut self, number: u64, bytes: &[u8]) -> Taken
+        requires { bytes.now ≢ [] }
+        ensures count { CountsTaken (length bytes.now) result }
+        ensures told { Tells (happened self.old) (happened self.new)
+            (taken number result bytes.now) };
+
+    /// Asks that the browser be named when it can take bytes (`writes`), or else when it can be
+    /// read from. Each time that it was named this is to be asked anew. False: the system refuses.
+    fn watch(&mut self, number: u64, writes: bool) -> bool
+        ensures { Tells (happened self.old) (happened self.new) [] };
+
+    /// Ends a browser's connection. What it was sent reaches it, if it still reads.
+    fn close(&mut self, number: u64)
+        ensures { Tells (happened self.old) (happened self.new) (closed number) };
+}

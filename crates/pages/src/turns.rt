@@ -1,0 +1,148 @@
+//! One browser that is ready: bytes are moved, and what came is answered.
+
+ghost use Rattle.std.specs.Prelude.{◌≡◌, ◌<◌, [], length};
+ghost use Rattle.http_server.specs.Connection.{config_of, history};
+ghost use Rattle.http_server.specs.Exchange.{Calls};
+ghost use Rattle.pages.specs.Turns.{Hears, Moved};
+ghost use Rattle.pages.specs.Waiting.{goes_on};
+
+use crate::sockets::{Given, Sockets, Taken};
+use crate::waiting::Turned;
+use http_server::{Connection, Service};
+
+/// Writes once what is to be sent. False: the write failed.
+fn send<C: Sockets>(number: u64, connection: &mut Connection, sockets: &mut C) -> bool
+    requires { 0 < length (history connection.old).pending }
+    ensures moved { Moved number result (C.happened sockets.old) (C.happened sockets.new)
+        (history connection.old) (history connection.new) }
+    ensures calls { (history connection.new).calls ≡ (history connection.old).calls }
+    ensures config { config_of connection.new ≡ config_of connection.old }
+{
+    match sockets.write(number, connection.output()) {
+        Taken::Bytes { count } => {
+            connection.sent(count);
+            true
+        }
+        Taken::Later => true,
+        Taken::Broke => false,
+    }
+}
+
+/// Lets a connection hear bytes that came. False: memory was refused, and some are lost.
+fn hear(connection: &mut Connection, bytes: &[u8]) -> bool
+    ensures hears { Hears result bytes.now (history connection.old) (history connection.new) }
+    ensures config { config_of connection.new ≡ config_of connection.old }
+{
+    let mut unheard = bytes;
+    while !unheard.is_empty() {
+        let Ok(count) = connection.read_from(&mut unheard) else {
+            return false;
+        };
+        if count == 0 {
+            return false;
+        }
+    }
+    true
+}
+
+/// Lets a connection know that no more comes. False: memory was refused.
+fn hear_the_end(connection: &mut Connection) -> bool
+    ensures hears { Hears result [] (history connection.old) (history connection.new) }
+    ensures config { config_of connection.new ≡ config_of connection.old }
+{
+    let mut nothing: &[u8] = &[];
+    match connection.read_from(&mut nothing) {
+        Ok(_) => true,
+        Err(_) => false,
+    }
+}
+
+/// Reads once. False: the read failed, or memory was refused.
+fn read<C: Sockets>(number: u64, connection: &mut Connection, sockets: &mut C) -> bool
+    ensures moved { Moved number result (C.happened sockets.old) (C.happened sockets.new)
+        (history connection.old) (history connection.new) }
+    ensures calls { (history connection.new).calls ≡ (history connection.old).calls }
+    ensures config { config_of connection.new ≡ config_of connection.old }
+{
+    let mut buffer = [0; 4096];
+    match sockets.read(number, &mut buffer) {
+        Given::Bytes { count } => hear(connection, &buffer[..count]),
+        Given::Ended => hear_the_end(connection),
+        Given::Later => true,
+        Given::Broke => false,
+    }
+}
+
+/// Writes once what is to be sent, or else reads once. False: that failed.
+fn move_bytes<C: Sockets>(number: u64, connection: &mut Connection, sockets: &mut C) -> bool
+    ensures moved { Moved number result (C.happened sockets.old) (C.happened sockets.new)
+        (history connection.old) (history connection.new) }
+    ensures calls { (history connection.new).calls ≡ (history connection.old).calls }
+    ensures config { config_of connection.new ≡ config_of connection.old }
+{
+    if connection.wants_write() {
+        send(number, connection, sockets)
+    } else {
+        read(number, connection, sockets)
+    }
+}
+
+/// Answers what came, and writes once what is to be sent, if anything is. Over: the write failed.
+fn answer<C: Sockets, S: Service>(
+    number: u64,
+    connection: &mut Connection,
+    sockets: &mut C,
+    service: &mut S,
+) -> Turned
+    ensures moved { Moved number (goes_on result) (C.happened sockets.old) (C.happened sockets.new)
+        (history connection.old) (history connection.new) }
+    ensures calls { Calls S.answers service.old service.new
+        (history connection.old).calls (history connection.new).calls }
+    ensures config { config_of connection.new ≡ config_of connection.old }
+{
+    connection.advance(service);
+    if !connection.wants_write() {
+        return Turned::Waits;
+    }
+    if !send(number, connection, sockets) {
+        return Turned::Over;
+    }
+    // It may have paused for what was just sent.
+    connection.advance(service);
+    Turned::Answered
+}
+
+/// What came of a turn whose moves all succeeded, and in which something was sent or nothing.
+fn turned(connection: &Connection, has_sent: bool) -> Turned {
+    if connection.is_done() {
+        Turned::Over
+    } else if has_sent && !connection.wants_write() {
+        Turned::Answered
+    } else {
+        Turned::Waits
+    }
+}
+
+/// Writes or reads once, answers what came, and writes once more where that is wanted.
+pub(crate) fn take_turn<C: Sockets, S: Service>(
+    number: u64,
+    connection: &mut Connection,
+    sockets: &mut C,
+    service: &mut S,
+) -> Turned
+    ensures moved { Moved number (goes_on result) (C.happened sockets.old) (C.happened sockets.new)
+        (history connection.old) (history connection.new) }
+    ensures calls { Calls S.answers service.old service.new
+        (history connection.old).calls (history connection.new).calls }
+    ensures config { config_of connection.new ≡ config_of connection.old }
+{
+    let was_sending = connection.wants_write();
+    if !move_bytes(number, connection, sockets) {
+        return Turned::Over;
+    }
+    match answer(number, connection, sockets, service) {
+        Turned::Over => Turned::Over,
+        Turned::Answered => turned(connection, true),
+        Turned::Waits => turned(connection, was_sending),
+    }
+}
