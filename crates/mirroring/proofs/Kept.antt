@@ -1,6 +1,6 @@
 -- What is held after calls: what desks of the hall answered.
-use Rattle.std.proofs.Common.{◌≡◌, ◌∷◌, ◌++◌, [], ℕ, List, Option, None, Some, Bool, true, false}
-use Rattle.std.proofs.Common.{Result, Ok, inl, inr, refl, sym, subst, ap, length}
+use Rattle.std.proofs.Common.{◌≡◌, ◌-◌, ◌∷◌, ◌++◌, [], ℕ, List, Option, None, Some, Bool, true}
+use Rattle.std.proofs.Common.{false, Result, Ok, inl, inr, refl, sym, subst, ap, length}
 use Rattle.std.specs.Prelude.{option_map}
 use Rattle.acceptor.specs.declared.entry.Entry.{Entry}
 use Rattle.client.specs.Answers.{judged}
@@ -56,11 +56,11 @@ same_as hall old new that e of entries =
 -- ---- what is done
 
 asked_of : (hall : ℕ) (m : MirroringOf) → m.hall ≡ hall
-    → IsQuestion hall (Some (log_request m.hall m.follower.desk (length m.entries)))
+    → IsQuestion hall (Some (log_request m.hall m.follower.desk (length m.entries - 1)))
 asked_of hall m e = (
   m.follower.desk,
-  length m.entries,
-  ap (λ h. log_request h m.follower.desk (length m.entries)) e,
+  length m.entries - 1,
+  ap (λ h. log_request h m.follower.desk (length m.entries - 1)) e,
 )
 
 asks : (hall : ℕ) (w : Wish) (old new : MirroringOf) → IsOf hall old → Asks w old new

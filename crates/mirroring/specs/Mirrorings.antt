@@ -1,5 +1,5 @@
 -- A mirror that is kept up over connections to the desks of a hall, one at a time.
-use Rattle.std.specs.Prelude.{ℕ, ◌≡◌, ◌+◌, List, [], Option, None, Some, Bool, true, false}
+use Rattle.std.specs.Prelude.{ℕ, ◌≡◌, ◌+◌, ◌-◌, List, [], Option, None, Some, Bool, true, false}
 use Rattle.std.specs.Prelude.{length, nat_le, option_map}
 use Rattle.acceptor.specs.declared.entry.Entry.{Entry}
 use Rattle.client.specs.Standings.{log_request}
@@ -44,9 +44,9 @@ lost m = mirroring m.hall (after_lost m.follower) m.entries None
 
 -- ---- what is done
 
--- the desk that is followed is asked for what its log has beyond the entries that are held
+-- the desk that is followed is asked for what its log has from the last entry on that is held
 abbrev pub question : MirroringOf → TalkOf → TalkOf
-question m t = asking t (log_request m.hall m.follower.desk (length m.entries))
+question m t = asking t (log_request m.hall m.follower.desk (length m.entries - 1))
 
 -- Where there is no connection, or memory is refused, the connection counts as lost.
 abbrev pub Asks : Wish → MirroringOf → MirroringOf → Type 0

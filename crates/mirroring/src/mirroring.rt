@@ -3,7 +3,8 @@
 ghost use Rattle.std.specs.Prelude.{◌≡◌, ◌≤◌, ◌+◌, IfOk, length};
 ghost use Rattle.following.specs.Following.{IsPlace, wait_of};
 ghost use Rattle.mirroring.specs.Mirrorings.{Acts, Asks, Follows, Grows, HearsDesk, Opens};
-ghost use Rattle.mirroring.specs.Mirrorings.{is_growth, is_within, lost, new_mirroring, sent_by, unsent_by};
+ghost use Rattle.mirroring.specs.Mirrorings.{is_growth, is_within, lost};
+ghost use Rattle.mirroring.specs.Mirrorings.{new_mirroring, sent_by, unsent_by};
 
 use crate::talk::{Heard, Talk};
 use following::{Action, Follower, Stage};
@@ -141,12 +142,13 @@ impl Mirroring {
         }
     }
 
-    /// Asks the desk that is followed for its log, from the mirror's end on.
+    /// Asks the desk that is followed for its log, from the mirror's last entry on: where the desk
+    /// has another one there, it is told apart.
     fn ask(&mut self) -> Wish
         ensures { Asks result self.old self.new }
     {
         let desk = self.follower.desk();
-        let position = self.mirror.len();
+        let position = self.mirror.len().saturating_sub(1);
         let asked = match &mut self.talk {
             Some(talk) => talk.ask(self.alloc, self.hall, desk, position).is_ok(),
             None => false,
