@@ -1,6 +1,7 @@
 -- Desks that are asked until one answers.
-use Rattle.std.proofs.Common.{◌≡◌, ◌≢◌, ◌⊎◌, ◌≤◌, ◌-◌, ◌∷◌, [], ◌∙◌, ℕ, zero, suc, List, Option, None}
-use Rattle.std.proofs.Common.{Some, Result, Ok, Err, Bor, ap, arith, inl, inr, length, option_map, refl}
+use Rattle.std.proofs.Common.{◌≡◌, ◌≢◌, ◌⊎◌, ◌≤◌, ◌-◌, ◌∷◌, [], ◌∙◌, ℕ, zero, suc, List, Option}
+use Rattle.std.proofs.Common.{None, Some, Result, Ok, Err, Bor, ap, arith, inl, inr, length}
+use Rattle.std.proofs.Common.{option_map, refl}
 use Rattle.std.proofs.Common.{string_bytes, subst, sym, vec_len}
 use Rattle.std.proofs.lemmas.List.{length-map}
 use Rattle.std.proofs.lemmas.Option.{slice_get-get_or}
@@ -27,7 +28,8 @@ pub listens : (file : HallFile) (desk : ℕ) (r : Option (Bor (List ℕ))) → 1
 listens file desk r some there is none =
     let count : desk ≤ length (texts_of file) =
     rw (length-map file.desks.items string_bytes) (omega (arith, file.desks.ok.0, there)) in
-    has_one (texts_of file) desk some count (sym is ∙ ap (option_map (λ (s : Bor (List ℕ)). s.now)) none)
+    has_one (texts_of file) desk some count
+    (sym is ∙ ap (option_map (λ (s : Bor (List ℕ)). s.now)) none)
 
 pub address_is : (file : HallFile) (desk : ℕ) (r : Option (Bor (List ℕ))) (a : Bor (List ℕ))
     → option_map (λ s. s.now) r ≡ address_at (texts_of file) desk → r ≡ Some a
@@ -92,7 +94,7 @@ pub found_listens : (s : Seeking) (n : ℕ) (old new : Option (List Dialed)) (d 
 found_listens s zero old new d found seeks is = absurd seeks
 found_listens s (suc n) old new d found (answer, mid, asks, inl (none, same, here)) is =
     let at : d ≡ suc n = cc in (asks.address, ap (address_at s.addresses) at ∙ asks.listens)
-found_listens s (suc n) old new d found (answer, mid, asks, inr (f, why, inl (last, same, none))) is =
+found_listens s (suc n) old new d found (answer, mid, asks, inr (f, why, inl (last, e, none))) is =
     absurd (let both = none in cc)
 found_listens s (suc n) old new d found (answer, mid, asks, inr (f, why, inr (more, memory, rest)))
     is = found_listens s n mid new d found rest is

@@ -52,8 +52,8 @@ abbrev pub asking_text : ℕ → List ℕ → List ℕ
 asking_text desk address =
     codes "asking desk " ++ decimal desk ++ codes " at " ++ address ++ codes "\n"
 
--- that line is told, or, where it cannot be written, a front part of it; nothing is told of the last
--- desk of the hall
+-- that line is told, or, where it cannot be written, a front part of it; nothing is told of the
+-- last desk of the hall
 pub record IsTold (file : HallFile) (a : DeskAddress) (old new : Option (List ℕ)) : Type 0 where
   pub last : a.desk ≡ vec_len file.desks → Keeps old new
   pub other :

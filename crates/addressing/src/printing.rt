@@ -15,8 +15,8 @@ use std::io::Write;
 ///
 /// # Errors
 ///
-/// - `BadHallFile` where these are not three or five addresses, no two of them the same, or the file
-///   would be too long: a line on the fault stream says why, and nothing is printed.
+/// - `BadHallFile` where these are not three or five addresses, no two of them the same, or the
+///   file would be too long: a line on the fault stream says why, and nothing is printed.
 /// - `Run` with `Write` where a write fails, and with `NoMemory` where memory runs out.
 pub fn print_hall_file<W: Write, F: Write>(
     alloc: Global,

@@ -48,7 +48,8 @@ pub(crate) fn seek<D: Dial>(
 ) -> Result<u8, DeskFault>
     requires some { 1 ≤ desk }
     requires there { desk ≤ vec_len hall.now.desks }
-    ensures { Seeks (seeking hall.now patience) desk (D.dialed dial.old) (D.dialed dial.new) result }
+    ensures { Seeks (seeking hall.now patience) desk (D.dialed dial.old) (D.dialed dial.new)
+        result }
 {
     let Some(address) = hall.address_of(desk) else {
         // each number up to the count of desks has an address

@@ -13,8 +13,8 @@ fn making_of(makes: bool) -> Making
     if makes { Making::New } else { Making::Open }
 }
 
-/// What is asked of the desk that is wanted, of a hall with this number, whose desks listen at these
-/// addresses.
+/// What is asked of the desk that is wanted, of a hall with this number, whose desks listen at
+/// these addresses.
 pub fn service_of<'a>(hall: u32, wanted: HallService<'a>, addresses: &'a [&'a str]) -> Service<'a>
     ensures { IsServiceOf result hall wanted.entry (map (λ a. a.now) addresses.now) }
 {

@@ -4,12 +4,14 @@ use Rattle.addressing.proofs.resolving.found.Goals as goal
 
 pub returns-in-Some-clause-ok : goal.returns-in-Some-clause-ok
 returns-in-Some-clause-ok g c =
-    numbered c.args.desk c.in-Some.desk c.args.patience c.in-Ok.file _ _ c.in-Some.is c.in-Ok.ensures.ok
+    numbered c.args.desk c.in-Some.desk c.args.patience c.in-Ok.file _ _ c.in-Some.is
+    c.in-Ok.ensures.ok
     (record { dialed = refl; told = c.in-Ok.ensures.quiet }) c.desk_of.ensures.ok
 
 pub returns-in-Some-clause-err : goal.returns-in-Some-clause-err
 returns-in-Some-clause-err g c =
-    not_numbered c.args.desk c.in-Some.desk c.args.patience c.in-Ok.file _ _ c.in-Some.is c.in-Ok.ensures.ok
+    not_numbered c.args.desk c.in-Some.desk c.args.patience c.in-Ok.file _ _ c.in-Some.is
+    c.in-Ok.ensures.ok
     (record { dialed = refl; told = c.in-Ok.ensures.quiet }) c.desk_of.ensures.err
 
 pub returns-clause-ok : goal.returns-clause-ok

@@ -23,7 +23,8 @@ returns-clause-ends g c =
     let new = g.W.Write.contents c.carry.new.writer in
     done c.args.place c.args.patience c.tell_asked.result
     (reach g.D.Dial.dialed g.F.Write.contents c.args.dial.now c.carry.new.dial c.args.faults.now)
-    (Keeps old new) (λ one there t. EndsErrand c.tell_asked.result (errand_of one there c.args.request) t old new)
+    (Keeps old new)
+    (λ one there t. EndsErrand c.tell_asked.result (errand_of one there c.args.request) t old new)
     c.in-Ok.found (record { address = c.as_str.result; patience = c.args.patience })
     (g.D.Dial.dialed c.found_at.new.dial) (g.F.Write.contents c.found_at.new.faults)
     c.in-Ok.ensures.ok c.as_str.ensures.value refl

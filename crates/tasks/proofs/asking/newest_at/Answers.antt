@@ -10,7 +10,8 @@ returns-in-Ok-print_newest-clause-ends g c =
     let old = g.W.Write.contents c.args.writer.now in
     let new = g.W.Write.contents c.print_newest.new.writer in
     done c.args.place c.args.patience 0
-    (reach g.D.Dial.dialed g.F.Write.contents c.args.dial.now c.print_newest.new.dial c.args.faults.now)
+    (reach g.D.Dial.dialed g.F.Write.contents c.args.dial.now c.print_newest.new.dial
+    c.args.faults.now)
     (Keeps old new) (λ one _ t. EndsSheet 0 one c.args.sheet t old new)
     c.in-Ok.found (record { address = c.as_str.result; patience = c.args.patience })
     (g.D.Dial.dialed c.found_at.new.dial) (g.F.Write.contents c.found_at.new.faults)
@@ -22,7 +23,8 @@ returns-clause-ends g c =
     let old = g.W.Write.contents c.args.writer.now in
     let new = g.W.Write.contents c.print_newest.new.writer in
     done c.args.place c.args.patience c.tell_asked.result
-    (reach g.D.Dial.dialed g.F.Write.contents c.args.dial.now c.print_newest.new.dial c.args.faults.now)
+    (reach g.D.Dial.dialed g.F.Write.contents c.args.dial.now c.print_newest.new.dial
+    c.args.faults.now)
     (Keeps old new) (λ one _ t. EndsSheet c.tell_asked.result one c.args.sheet t old new)
     c.in-Ok.found (record { address = c.as_str.result; patience = c.args.patience })
     (g.D.Dial.dialed c.found_at.new.dial) (g.F.Write.contents c.found_at.new.faults)

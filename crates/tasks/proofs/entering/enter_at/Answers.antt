@@ -1,6 +1,6 @@
 use Rattle.std.proofs.Common.{inl, inr, refl}
 use Rattle.std.specs.Io.KnownBytes.{Keeps}
-use Rattle.tasks.specs.Entering.{EndsOne}
+use Rattle.tasks.specs.Entering.{EndsOne, Single}
 use Rattle.tasks.specs.Places.{reach}
 use Rattle.tasks.proofs.Ending.{done}
 use Rattle.tasks.proofs.entering.enter_at.Goals as goal
@@ -9,9 +9,12 @@ pub returns-in-Ok-enter_one : goal.returns-in-Ok-enter_one
 returns-in-Ok-enter_one g c =
     let old = g.W.Write.contents c.args.writer.now in
     let new = g.W.Write.contents c.enter_one.new.writer in
+    let single : Single =
+    record { id = c.args.id; text = c.args.text.now; waits = c.args.waits } in
     done c.args.place c.args.patience 0
-    (reach g.D.Dial.dialed g.F.Write.contents c.args.dial.now c.enter_one.new.dial c.args.faults.now)
-    (Keeps old new) (λ one _ t. EndsOne 0 one (record { id = c.args.id; text = c.args.text.now; waits = c.args.waits }) t old new)
+    (reach g.D.Dial.dialed g.F.Write.contents c.args.dial.now c.enter_one.new.dial
+    c.args.faults.now)
+    (Keeps old new) (λ one _ t. EndsOne 0 one single t old new)
     c.in-Ok.found (record { address = c.as_str.result; patience = c.args.patience })
     (g.D.Dial.dialed c.found_at.new.dial) (g.F.Write.contents c.found_at.new.faults)
     c.in-Ok.ensures.ok c.as_str.ensures.value refl
@@ -21,9 +24,12 @@ pub returns : goal.returns
 returns g c =
     let old = g.W.Write.contents c.args.writer.now in
     let new = g.W.Write.contents c.enter_one.new.writer in
+    let single : Single =
+    record { id = c.args.id; text = c.args.text.now; waits = c.args.waits } in
     done c.args.place c.args.patience c.tell_asked.result
-    (reach g.D.Dial.dialed g.F.Write.contents c.args.dial.now c.enter_one.new.dial c.args.faults.now)
-    (Keeps old new) (λ one _ t. EndsOne c.tell_asked.result one (record { id = c.args.id; text = c.args.text.now; waits = c.args.waits }) t old new)
+    (reach g.D.Dial.dialed g.F.Write.contents c.args.dial.now c.enter_one.new.dial
+    c.args.faults.now)
+    (Keeps old new) (λ one _ t. EndsOne c.tell_asked.result one single t old new)
     c.in-Ok.found (record { address = c.as_str.result; patience = c.args.patience })
     (g.D.Dial.dialed c.found_at.new.dial) (g.F.Write.contents c.found_at.new.faults)
     c.in-Ok.ensures.ok c.as_str.ensures.value refl

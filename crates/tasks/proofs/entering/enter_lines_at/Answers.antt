@@ -12,7 +12,8 @@ returns-in-Ok-enter_all g c =
     sides g.R.Read.remaining g.W.Write.contents c.args.reader.now c.enter_all.new.reader
     c.args.writer.now c.enter_all.new.writer in
     done c.args.place c.args.patience 0
-    (reach g.D.Dial.dialed g.F.Write.contents c.args.dial.now c.enter_all.new.dial c.args.faults.now)
+    (reach g.D.Dial.dialed g.F.Write.contents c.args.dial.now c.enter_all.new.dial
+    c.args.faults.now)
     (Keeps s.had s.left × Keeps s.old s.new) (λ one _ t. EndsInput 0 one c.args.lines s t)
     c.in-Ok.found (record { address = c.as_str.result; patience = c.args.patience })
     (g.D.Dial.dialed c.found_at.new.dial) (g.F.Write.contents c.found_at.new.faults)
@@ -25,8 +26,10 @@ returns g c =
     sides g.R.Read.remaining g.W.Write.contents c.args.reader.now c.enter_all.new.reader
     c.args.writer.now c.enter_all.new.writer in
     done c.args.place c.args.patience c.tell_asked.result
-    (reach g.D.Dial.dialed g.F.Write.contents c.args.dial.now c.enter_all.new.dial c.args.faults.now)
-    (Keeps s.had s.left × Keeps s.old s.new) (λ one _ t. EndsInput c.tell_asked.result one c.args.lines s t)
+    (reach g.D.Dial.dialed g.F.Write.contents c.args.dial.now c.enter_all.new.dial
+    c.args.faults.now)
+    (Keeps s.had s.left × Keeps s.old s.new)
+    (λ one _ t. EndsInput c.tell_asked.result one c.args.lines s t)
     c.in-Ok.found (record { address = c.as_str.result; patience = c.args.patience })
     (g.D.Dial.dialed c.found_at.new.dial) (g.F.Write.contents c.found_at.new.faults)
     c.in-Ok.ensures.ok c.as_str.ensures.value refl
