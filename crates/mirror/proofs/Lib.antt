@@ -1,3 +1,4 @@
+pub mod Answered
 pub mod Overlaps
 pub mod Holding
 pub mod Fronts

@@ -1,2 +1,3 @@
 pub mod Mirrors
+pub mod Answered
 pub mod Fronts

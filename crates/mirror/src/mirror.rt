@@ -1,6 +1,7 @@
 //! A list of entries that grows by what desks answer, and the meet that they come to.
 
-ghost use Rattle.std.specs.Prelude.{◌≡◌, drop};
+ghost use Rattle.std.specs.Prelude.{◌≡◌, ◌++◌, ◌∷◌, [], ℕ, List, OnErr, OnOk, drop, slice_get};
+ghost use Rattle.commands.specs.History.{StandsFor, answer_to};
 
 use acceptor::NoMemory;
 use acceptor::entry::Entry;
@@ -13,6 +14,7 @@ use sheets::Style;
 use std::alloc::{AllocError, Global};
 use std::collections::VecDeque;
 use std::marker::Model;
+use texts::Answer;
 use wire::Entries;
 
 /// What came of entries that a mirror was told.
@@ -33,24 +35,28 @@ pub enum Taken {
 
 /// The first entries of a log, from position 0 on, as they were told.
 ///
-/// Contracts see it as the list of these entries. The meet that they come to is kept beside them.
+/// Contracts see it as the list of these entries. The meet that they come to is kept beside them,
+/// and what each was answered.
 #[derive(Drop)]
 pub struct Mirror {
     log: Log,
     meet: Meet,
+    answers: Vec<Answer>,
 }
 
 impl Model for Mirror {
-    ghost use Rattle.std.specs.Prelude.{List};
+    ghost use Rattle.std.specs.Prelude.{◌≡◌, [], List};
     ghost use Rattle.acceptor.specs.declared.entry.Entry.{Entry};
     ghost use Rattle.answers.specs.Answers.{texts};
     ghost use Rattle.commands.specs.History.{StandsFor};
+    ghost use Rattle.mirror.specs.Answered.{answers_after};
 
     ghost Value = { List Entry };
 
     ghost view = { λ m. m.log.entries };
 
-    ghost invariant = { λ m. StandsFor m.meet (texts m.log.entries) };
+    ghost invariant = { λ m. StandsFor m.meet (texts m.log.entries)
+        × (m.answers.items ≡ answers_after [] m.log.entries) };
 }
 
 /// The entries after the first `count`.
@@ -64,11 +70,37 @@ fn after_first(entries: Vec<Entry>, count: u32) -> VecDeque<Entry>
     left
 }
 
+/// The answer at a place.
+fn answer_in(answers: &[Answer], place: usize) -> Option<Answer>
+    ensures { result ≡ slice_get answers.now place }
+{
+    answers.get(place).copied()
+}
+
+/// Takes an entry into a meet, and its answer after those that were given. At NoMemory nothing
+/// changes.
+fn answer_next(meet: &mut Meet, answers: &mut Vec<Answer>, entry: &Entry) -> Result<(), NoMemory>
+    ensures stands { OnOk result
+        ((entries : List (ℕ × List ℕ)) → StandsFor meet.old entries
+        → StandsFor meet.new (entries ++ (entry.now.id, entry.now.text) ∷ [])) }
+    ensures answered { OnOk result (answers.new.items
+        ≡ answers.old.items ++ answer_to meet.old entry.now.id entry.now.text ∷ []) }
+    ensures meet { OnErr result (meet.new ≡ meet.old) }
+    ensures answers { OnErr result (answers.new.items ≡ answers.old.items) }
+{
+    answers.reserve(1)?;
+    let answer = meet.apply(entry.id(), entry.text())?;
+    answers.push(answer).unwrap();
+    Ok(())
+}
+
 impl Mirror {
     ghost use Rattle.std.specs.Prelude.{◌≡◌, ◌∷◌, ◌++◌, ◌+◌, ◌-◌, ◌<◌, ◌≤◌, ◌↔◌, [], None, Some};
     ghost use Rattle.std.specs.Prelude.{IfOk, IfErr, IfSome, OnOk, OnErr, IsTrue};
     ghost use Rattle.std.specs.Prelude.{length, drop, slice_get, option_map};
-    ghost use Rattle.answers.specs.Answers.{sheet_at, NoSheetAt};
+    ghost use Rattle.answers.specs.Answers.{sheet_at, texts, NoSheetAt};
+    ghost use Rattle.commands.specs.History.{StandsFor};
+    ghost use Rattle.mirror.specs.Answered.{answer_at};
     ghost use Rattle.mirror.specs.Mirrors.{Takes, TakesPart, DiffersFirst, AreHeldBelow, HoldsPart};
 
     /// The mirror with no entry. It takes its first memory here.
@@ -77,7 +109,8 @@ impl Mirror {
     {
         let log = Log::new(alloc)?;
         let meet = Meet::new(alloc)?;
-        Ok(Mirror { log, meet })
+        let answers = Vec::new(alloc);
+        Ok(Mirror { log, meet, answers })
     }
 
     /// The entries that are held, by position.
@@ -87,6 +120,22 @@ impl Mirror {
     {
         let _most = self.log.len();
         &self.log
+    }
+
+    /// The competition that the entries come to.
+    pub fn meet(&self) -> &Meet
+        ensures { StandsFor result.now (texts self.now) }
+    {
+        &self.meet
+    }
+
+    /// What the entry at a position was answered, by the rules, over the entries before it; none
+    /// where no entry is held there.
+    #[tactic(auto, using(crate::proofs::Answered::answered))]
+    pub fn answer(&self, position: u32) -> Option<Answer>
+        ensures { result ≡ answer_at self.now position }
+    {
+        answer_in(&self.answers, position as usize)
     }
 
     /// The number of entries that are held, at most 65,536.
@@ -172,7 +221,7 @@ impl Mirror {
         let Ok(()) = self.log.reserve() else {
             return Err(AllocError);
         };
-        self.meet.apply(entry.id(), entry.text())?;
+        answer_next(&mut self.meet, &mut self.answers, &entry)?;
         self.log.append(entry);
         Ok(())
     }
