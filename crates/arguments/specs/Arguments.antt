@@ -1,5 +1,5 @@
 -- The arguments of subcommands, as the parser knows them, and what a number is.
-use Rattle.std.specs.Prelude.{◌≡◌, ◌⊎◌, false, ℕ, List, codes, decimal, Option, None, Some}
+use Rattle.std.specs.Prelude.{◌≡◌, ◌⊎◌, true, false, ℕ, List, codes, decimal, Option, None, Some}
 use Rattle.clap.specs.Words.{App, Row, Rule, Text, first_of, new_app, with_rule}
 use Rattle.clap.specs.declared.builder.ArgAction.TheVariants.{Append}
 use Rattle.clap.specs.declared.builder.value_parser.ValueParser.{ValueParser}
@@ -10,6 +10,10 @@ pub use Rattle.replay_arguments.specs.Arguments.{round_numbers, value_rule}
 -- a required value, given after two hyphens and its id
 abbrev pub option_rule : Text → Option ValueParser → Rule
 option_rule id parser = record (value_rule id parser) { long = Some id }
+
+-- a flag that has to be given
+abbrev pub required_flag_rule : Text → Rule
+required_flag_rule id = record (flag_rule id) { required = true }
 
 -- values that may be more than one
 abbrev pub values_rule : Text → Option ValueParser → Rule

@@ -19,8 +19,8 @@ use Rattle.arguments.specs.Arguments.{IsFlag, IsGiven, IsNumberAt, IsNumberOr, I
 use Rattle.arguments.specs.Arguments.{any_text, bound, csv_rule, errand_arguments, explain_rule}
 use Rattle.arguments.specs.Arguments.{flag_rule, last_value_rule, located_arguments, numbers}
 use Rattle.arguments.specs.Arguments.{option_rule, optional_rule, optional_value_rule}
-use Rattle.arguments.specs.Arguments.{optional_values_rule, several, value_rule, values_rule}
-use Rattle.arguments.specs.Arguments.{wait_seconds_rule}
+use Rattle.arguments.specs.Arguments.{optional_values_rule, required_flag_rule, several}
+use Rattle.arguments.specs.Arguments.{value_rule, values_rule, wait_seconds_rule}
 use Rattle.service.specs.declared.Making.TheVariants.{AsNeeded}
 use Rattle.service.specs.declared.Service.{Service}
 use Rattle.arguments.specs.declared.places.Desks.{Desks}
@@ -98,6 +98,12 @@ import_arguments p =
     (optional_value_rule (codes "cumulative") p.limits))
     (optional_value_rule (codes "same-names") p.names)
 
+abbrev pub export_arguments : App
+export_arguments = with_rule (new_app (codes "export")) (option_rule (codes "wcif") any_text)
+
+abbrev pub results_arguments : App
+results_arguments = with_rule (new_app (codes "results")) (required_flag_rule (codes "json"))
+
 abbrev pub enter_arguments : App
 enter_arguments =
     with_rule (with_rule (with_rule (errand_arguments (codes "enter"))
@@ -137,9 +143,11 @@ abbrev pub desk_arguments : Parsers → App
 desk_arguments p =
     with_subcommand (with_subcommand (with_subcommand (with_subcommand (with_subcommand
     (with_subcommand (with_subcommand (with_subcommand (with_subcommand (with_subcommand
-    (with_subcommand (with_subcommand (with_subcommand named_app
+    (with_subcommand (with_subcommand (with_subcommand (with_subcommand (with_subcommand named_app
     (replay_arguments p.replay).top)
     (import_arguments p.imported).top)
+    export_arguments.top)
+    results_arguments.top)
     hall_arguments.top)
     hall_file_arguments.top)
     serve_arguments.top)
@@ -173,8 +181,8 @@ IsRequest (request.Sheet event round position style) name rows =
 IsRequest request.Tick name rows = name ≡ codes "tick"
 IsRequest request.Stop name rows = name ≡ codes "stop"
 
--- the file of a hall that is given, or else `hall.toml`; the hall has no number beside it, and there
--- is no value of this argument, which has the address of a desk
+-- the file of a hall that is given, or else `hall.toml`; the hall has no number beside it, and this
+-- argument, which has the address of a desk, has no value
 pub record IsHallFile (file : Text) (address : Text) (rows : List Row) : Type 0 where
   pub file_is : IsTextOr (codes "config") (codes "hall.toml") rows file
   pub no_hall : first_of (codes "hall") rows ≡ None
@@ -301,6 +309,9 @@ IsTask (task.Replay event round style only_sheet) name rows =
     × IsFlag (codes "only-sheet") rows only_sheet
 IsTask (task.Import file options) name rows =
     (name ≡ codes "import") × IsImport file.now options rows
+IsTask (task.Export file) name rows =
+    (name ≡ codes "export") × (first_of (codes "wcif") rows ≡ Some file.now)
+IsTask task.Results name rows = (name ≡ codes "results") × IsFlag (codes "json") rows true
 IsTask (task.Hall desks) name rows =
     (name ≡ codes "hall") × IsNumberAt (codes "desks") rows desks
 IsTask (task.HallFile hall addresses) name rows =
@@ -339,6 +350,8 @@ HasId request.Stop = Unit {0}
 abbrev pub HasIds : Task → Type 0
 HasIds (task.Replay event round style only_sheet) = Unit {0}
 HasIds (task.Import file options) = Unit {0}
+HasIds (task.Export file) = Unit {0}
+HasIds task.Results = Unit {0}
 HasIds (task.Hall desks) = Unit {0}
 HasIds (task.HallFile hall addresses) = Unit {0}
 HasIds (task.Carry place patience request) = HasId request

@@ -3,7 +3,8 @@
 ghost use Rattle.std.specs.Prelude.{◌≡◌, false, codes, IfOk, IfSome, Option};
 ghost use Rattle.clap.specs.Words.{found_of, rows_of, rule_of};
 ghost use Rattle.clap.specs.declared.builder.value_parser.ValueParser.{ValueParser};
-ghost use Rattle.arguments.specs.Arguments.{IsCommand, IsOneOf, optional_value_rule};
+ghost use Rattle.arguments.specs.Arguments.{IsCommand, IsOneOf, any_text, option_rule};
+ghost use Rattle.arguments.specs.Arguments.{optional_value_rule};
 ghost use Rattle.arguments.specs.Asking.{ImportParsers, IsLimits, IsNames, IsTask};
 ghost use Rattle.arguments.specs.Asking.{import_arguments, as_single, with_id};
 
@@ -66,20 +67,27 @@ fn names_option<'a>(alloc: Global) -> Arg<'a>
     )
 }
 
+/// The option `--wcif`, which has to be given.
+pub fn wcif_option<'a>(alloc: Global) -> Arg<'a>
+    ensures rule { rule_of result ≡ option_rule (codes "wcif") any_text }
+    ensures local { result.global ≡ false }
+{
+    option(
+        alloc,
+        "wcif",
+        "FILE",
+        "The competition's file",
+        ValueParser::string(),
+    )
+}
+
 /// The subcommand `import`, as the parser knows it.
 pub fn import_command<'a>(alloc: Global) -> Result<Command<'a>, AllocError>
     ensures { IfOk result
         (λ command. (p : ImportParsers) × IsCommand command (import_arguments p)) }
 {
     let command = plain_command(alloc, "import", ABOUT, AFTER);
-    let wcif = option(
-        alloc,
-        "wcif",
-        "FILE",
-        "The competition's file",
-        ValueParser::string(),
-    );
-    let command = with_argument(command, wcif)?;
+    let command = with_argument(command, wcif_option(alloc))?;
     let command = with_argument(command, limits_option(alloc))?;
     with_argument(command, names_option(alloc))
 }

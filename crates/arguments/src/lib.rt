@@ -5,6 +5,7 @@
 mod ask;
 mod enter;
 mod enter_lines;
+mod export;
 mod hall;
 mod hall_file;
 mod import;
@@ -12,6 +13,7 @@ mod laws;
 mod log;
 mod parsing;
 mod places;
+mod results;
 mod serve;
 mod sheet;
 mod status;

@@ -7,11 +7,13 @@ ghost use Rattle.arguments.specs.Asking.{Finds, FindsExplain, IsRequest, IsTask}
 use crate::ask::asked_id;
 use crate::enter::enter_of;
 use crate::enter_lines::lines_of;
+use crate::export::export_of;
 use crate::hall::hall_of;
 use crate::hall_file::hall_file_of;
 use crate::import::import_of;
 use crate::log::log_of;
 use crate::places::{Desks, Place, placed};
+use crate::results::results_of;
 use crate::serve::serve_of;
 use crate::sheet::sheet_of;
 use crate::status::status_of;
@@ -94,6 +96,12 @@ pub enum Task<'a> {
         file: &'a str,
         options: Options,
     },
+    /// The file of a competition, with the results of a log.
+    Export {
+        file: &'a str,
+    },
+    /// The results of all rounds of a log, as JSON.
+    Results,
     /// A hall of so many desks, run from a script.
     Hall {
         desks: u8,
@@ -233,6 +241,8 @@ fn task_named<'m, 'a: 'm>(name: &str, found: &'m ArgMatches<'a>) -> Option<Task<
     match name {
         "replay" => replayed(found),
         "import" => import_of(found),
+        "export" => export_of(found),
+        "results" => results_of(found),
         "hall" => hall_of(found),
         "hall-file" => hall_file_of(found),
         "serve" => serve_of(found),

@@ -5,6 +5,13 @@ use Rattle.errands.specs.Statuses.{status_of}
 use Rattle.errands.specs.declared.fault.DeskFault.{DeskFault}
 use Rattle.errands.specs.declared.fault.DeskFault.TheVariants as fault
 use Rattle.fault_lines.specs.Statuses.{status_of_run}
+use Rattle.exports.specs.Statuses.{export_status, log_status, results_status}
+use Rattle.exports.specs.declared.fault.ExportsFault.{ExportsFault}
+use Rattle.exports.specs.declared.fault.ExportsFault.TheVariants as exports
+use Rattle.exports.specs.declared.fault.ResultsFault.{ResultsFault}
+use Rattle.exports.specs.declared.fault.ResultsFault.TheVariants as results
+use Rattle.exports.specs.declared.logs.LogFault.{LogFault as ExportsLogFault}
+use Rattle.exports.specs.declared.logs.LogFault.TheVariants as log
 use Rattle.imports.specs.Printing.{status_of as status_of_import}
 use Rattle.imports.specs.declared.fault.ImportsFault.{ImportsFault}
 use Rattle.imports.specs.declared.fault.ImportsFault.TheVariants as imported
@@ -15,6 +22,7 @@ use Rattle.stored_log.specs.StoredLogs.{FailsLog, PrintsLogPart}
 use Rattle.stored_log.specs.declared.fault.LogFault.{LogFault}
 use Rattle.stored_log.specs.declared.fault.LogFault.TheVariants as stored
 use Rattle.wcif.specs.declared.file.FileFault.TheVariants as file
+use Rattle.wcif_results.specs.declared.exporting.ExportFault.TheVariants as export
 
 -- what was written of an archive at a fault
 pub prints_at_most : {K : Type 0} (e : LogFault) (IsHonest : K → Type 0) (files : Image)
@@ -69,3 +77,28 @@ import_not_zero (imported.File (file.Refused found)) status is zero = omega (ari
 import_not_zero (imported.File file.NoMemory) status is zero = omega (arith, is, zero)
 import_not_zero imported.Write status is zero = omega (arith, is, zero)
 import_not_zero imported.NoMemory status is zero = omega (arith, is, zero)
+
+log_not_zero : (f : ExportsLogFault) (status : ℕ) → status ≡ log_status f → status ≡ 0 → ⊥
+log_not_zero log.TooLong status is zero = omega (arith, is, zero)
+log_not_zero log.CutOff status is zero = omega (arith, is, zero)
+log_not_zero log.Read status is zero = omega (arith, is, zero)
+log_not_zero log.NoMemory status is zero = omega (arith, is, zero)
+
+pub export_not_zero : (f : ExportsFault) (status : ℕ) → status ≡ export_status f → status ≡ 0 → ⊥
+export_not_zero exports.ReadFile status is zero = omega (arith, is, zero)
+export_not_zero (exports.Log f) status is zero = log_not_zero f status is zero
+export_not_zero exports.NoRound status is zero = omega (arith, is, zero)
+export_not_zero (exports.File export.TooLong) status is zero = omega (arith, is, zero)
+export_not_zero (exports.File (export.NotJson line column)) status is zero =
+    omega (arith, is, zero)
+export_not_zero (exports.File export.TooDeep) status is zero = omega (arith, is, zero)
+export_not_zero (exports.File (export.Refused found)) status is zero = omega (arith, is, zero)
+export_not_zero (exports.File export.NoMemory) status is zero = omega (arith, is, zero)
+export_not_zero exports.Write status is zero = omega (arith, is, zero)
+export_not_zero exports.NoMemory status is zero = omega (arith, is, zero)
+
+pub results_not_zero : (f : ResultsFault) (status : ℕ) → status ≡ results_status f → status ≡ 0
+    → ⊥
+results_not_zero (results.Log f) status is zero = log_not_zero f status is zero
+results_not_zero results.Write status is zero = omega (arith, is, zero)
+results_not_zero results.NoMemory status is zero = omega (arith, is, zero)

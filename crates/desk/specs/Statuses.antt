@@ -15,6 +15,11 @@ use Rattle.batch.specs.Dialing.{Dialed}
 use Rattle.imports.specs.Printing.{FailsImport, PrintsImport}
 use Rattle.imports.specs.Printing.{status_of as status_of_import}
 use Rattle.imports.specs.declared.fault.ImportsFault.{ImportsFault}
+use Rattle.exports.specs.Files.{FailsExport, PrintsExport}
+use Rattle.exports.specs.Results.{FailsResults, PrintsResults}
+use Rattle.exports.specs.Statuses.{export_status, results_status}
+use Rattle.exports.specs.declared.fault.ExportsFault.{ExportsFault}
+use Rattle.exports.specs.declared.fault.ResultsFault.{ResultsFault}
 use Rattle.wcif.specs.declared.options.Options.{Options}
 use Rattle.replay.specs.Apart.{Told}
 use Rattle.standings.specs.declared.forms.Form.{Form}
@@ -84,6 +89,18 @@ EndsImport status options old new =
     ((status ≡ 0) × PrintsImport options None old new)
     ⊎ ((f : ImportsFault) × (status ≡ status_of_import f) × FailsImport f options None old new)
 
+-- a competition's file was printed with the results of a log, or not
+abbrev pub EndsExport : ℕ → (had old new : Option (List ℕ)) → Type 0
+EndsExport status had old new =
+    ((status ≡ 0) × PrintsExport None had old new)
+    ⊎ ((f : ExportsFault) × (status ≡ export_status f) × FailsExport f None had old new)
+
+-- the results of a log were printed as JSON, or not
+abbrev pub EndsResults : ℕ → (had old new : Option (List ℕ)) → Type 0
+EndsResults status had old new =
+    ((status ≡ 0) × PrintsResults had old new)
+    ⊎ ((f : ResultsFault) × (status ≡ results_status f) × FailsResults f had old new)
+
 -- the file that describes a hall was printed, or not
 abbrev pub EndsHallFile : ℕ → (hall : ℕ) → List Text → Option (List ℕ) → Option (List ℕ) → Type 0
 EndsHallFile status hall texts old new =
@@ -144,6 +161,8 @@ abbrev pub HasFew : Task → Type 0
 HasFew (task.Status desks patience json watches) = AreFew desks
 HasFew (task.Replay event round style only_sheet) = Unit {0}
 HasFew (task.Import file options) = Unit {0}
+HasFew (task.Export file) = Unit {0}
+HasFew task.Results = Unit {0}
 HasFew (task.Hall desks) = Unit {0}
 HasFew (task.HallFile hall addresses) = Unit {0}
 HasFew (task.Carry place patience request) = Unit {0}
@@ -163,6 +182,8 @@ Ends (task.Replay event round style only_sheet) status s c t =
     status s t
 Ends (task.Import file options) status s c t =
     Keeps s.had s.left × EndsImport status options s.old s.new × IsQuiet status t
+Ends (task.Export file) status s c t = EndsExport status s.had s.old s.new × IsQuiet status t
+Ends task.Results status s c t = EndsResults status s.had s.old s.new × IsQuiet status t
 Ends (task.Hall desks) status s c t =
     (input : List ℕ) × HasLeft s.had input
     × EndsHall status (hall_run_of desks input s) × IsQuiet status t

@@ -1,6 +1,7 @@
 //! The results desk of a speedcubing competition.
 #![tactic(auto)]
 
+mod exported;
 mod running;
 mod served;
 

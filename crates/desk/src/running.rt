@@ -8,6 +8,7 @@ ghost use Rattle.desk.specs.Statuses.{Ends, HasFew, Ran, calls, fault_of_log, fo
 ghost use Rattle.lines.specs.Bytes.{sides};
 ghost use Rattle.replay.specs.Apart.{told};
 
+use crate::exported::{run_export, run_results};
 use crate::served::{run_hall_service, run_service};
 use addressing::print_hall_file;
 use arguments::{Asked, Task, parse, task_of};
@@ -82,6 +83,8 @@ fn run_task<D: Dial, R: Read, W: Write, F: Write>(
             Ok(()) => 0,
             Err(fault) => tell_import(faults, file, &fault),
         },
+        Task::Export { file } => run_export(rt, file, reader, writer, faults),
+        Task::Results => run_results(rt, reader, writer, faults),
         Task::Hall { desks } => {
             let ran = hall(rt.alloc(), reader, writer, desks);
             tell_run(faults, ran)
@@ -161,8 +164,9 @@ fn run_task<D: Dial, R: Read, W: Write, F: Write>(
 /// the version, with its text on `writer`; 3 for a named refusal, and where no majority of a hall's
 /// desks answers; 4 for a device that failed, 5 for `no memory`. The texts of the last three are
 /// one line on `faults`, but for those of a competition's file, of which there is one for each; on
-/// a terminal and with `--explain` a second line says why: [`DeskFault`] and [`tell_import`] have
-/// them. What each subcommand reads, writes and refuses is said at [`run_replay`], [`print_file`],
+/// a terminal and with `--explain` a second line says why: [`DeskFault`], [`tell_import`] and
+/// [`tell_export`](exports::tell_export) have them. What each subcommand reads, writes and refuses
+/// is said at [`run_replay`], [`print_file`], [`run_export`], [`run_results`],
 /// [`hall`](hall::hall), and in the crate `tasks`. Desks are asked by `dial`.
 pub fn run_arguments<'a, D: Dial, R: Read, W: Write, F: Write>(
     rt: &HostRuntime,

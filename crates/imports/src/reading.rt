@@ -11,7 +11,7 @@ const MOST_READ: u64 = 67_108_865;
 
 /// Why the bytes are not there.
 #[derive(Clone, Copy, Debug, PartialEq, Eq)]
-pub(crate) enum ReadFault {
+pub enum ReadFault {
     /// A read failed.
     Read,
     /// Memory ran out.
@@ -19,7 +19,11 @@ pub(crate) enum ReadFault {
 }
 
 /// All bytes that the reader has, or the first 64 MiB and one more.
-pub(crate) fn read_bytes<R: Read + Drop>(alloc: Global, reader: R) -> Result<Vec<u8>, ReadFault>
+///
+/// # Errors
+///
+/// `Read` where a read fails, and `NoMemory` where memory runs out.
+pub fn read_bytes<R: Read + Drop>(alloc: Global, reader: R) -> Result<Vec<u8>, ReadFault>
     ensures { IfOk result (λ bytes. IsFront (R.remaining reader) bytes.items) }
 {
     let mut bytes = Vec::new(alloc);

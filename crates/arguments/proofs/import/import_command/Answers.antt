@@ -1,6 +1,4 @@
-use Rattle.std.proofs.Common.{◌∙◌, ap, Some, codes}
 use Rattle.std.proofs.lemmas.Result.{IfOk-weaker}
-use Rattle.arguments.specs.Arguments.{option_rule}
 use Rattle.replay_arguments.proofs.Building.{added, added_last}
 use Rattle.arguments.proofs.import.import_command.Goals as goal
 
@@ -9,10 +7,8 @@ returns c =
     let limits = c.limits_option.ensures.rule in
     let names = c.names_option.ensures.rule in
     let one =
-    added c.plain_command-command.result c.in_ok-command.command _ c.option-wcif.result _
-    c.plain_command-command.ensures
-    (c.option-wcif.ensures.rule
-    ∙ ap (λ p. option_rule (codes "wcif") (Some p)) c.string.ensures)
+    added c.plain_command-command.result c.in_ok-command.command _ c.wcif_option.result _
+    c.plain_command-command.ensures c.wcif_option.ensures.rule
     c.in_ok-command.ensures.app c.in_ok-command.ensures.local in
     let two =
     added c.in_ok-command.command c.in_ok-command-2.command _ c.limits_option.result _ one limits.2

@@ -10,5 +10,6 @@ returns c = record {
       ∙ ap (λ p. optional_value_rule (codes "to") (Some p)) c.string.ensures))
       c.requiring.ensures.rule;
   local =
-      IfOk-weaker c.requiring.result _ _ (λ r is. is ∙ c.optional_value-to.ensures.local) c.requiring.ensures.local;
+      IfOk-weaker c.requiring.result _ _ (λ r is. is ∙ c.optional_value-to.ensures.local)
+      c.requiring.ensures.local;
 }

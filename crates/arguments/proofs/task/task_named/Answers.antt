@@ -13,6 +13,16 @@ returns-in-import c =
     task_renamed c.args.name.now (codes "import") (rows_of (found_of c.args.found.now))
     c.import_of.result c.in-import.is c.import_of.ensures
 
+pub returns-in-export : goal.returns-in-export
+returns-in-export c =
+    task_renamed c.args.name.now (codes "export") (rows_of (found_of c.args.found.now))
+    c.export_of.result c.in-export.is c.export_of.ensures
+
+pub returns-in-results : goal.returns-in-results
+returns-in-results c =
+    task_renamed c.args.name.now (codes "results") (rows_of (found_of c.args.found.now))
+    c.results_of.result c.in-results.is c.results_of.ensures
+
 pub returns-in-hall : goal.returns-in-hall
 returns-in-hall c =
     task_renamed c.args.name.now (codes "hall") (rows_of (found_of c.args.found.now))

@@ -20,6 +20,26 @@ returns-in-Err g c =
       λ zero. absurd (import_not_zero c.in-Err.fault _ c.tell_import.ensures zero),
     )
 
+pub returns-in-Export : goal.returns-in-Export
+returns-in-Export g c =
+    let s =
+    sides g.R.Read.remaining g.W.Write.contents c.args.reader.now c.run_export.new.reader
+    c.args.writer.now c.run_export.new.writer in
+    let d = calls g.D.Dial.dialed c.args.dial.now c.args.dial.now in
+    let t = told g.F.Write.contents c.args.faults.now c.run_export.new.faults in
+    subst (λ a. Ends a c.run_export.result s d t) (sym c.in-Export.is)
+    (c.run_export.ensures.ends, c.run_export.ensures.quiet)
+
+pub returns-in-Results : goal.returns-in-Results
+returns-in-Results g c =
+    let s =
+    sides g.R.Read.remaining g.W.Write.contents c.args.reader.now c.run_results.new.reader
+    c.args.writer.now c.run_results.new.writer in
+    let d = calls g.D.Dial.dialed c.args.dial.now c.args.dial.now in
+    let t = told g.F.Write.contents c.args.faults.now c.run_results.new.faults in
+    subst (λ a. Ends a c.run_results.result s d t) (sym c.in-Results.is)
+    (c.run_results.ensures.ends, c.run_results.ensures.quiet)
+
 pub returns-in-Err-print_hall_file : goal.returns-in-Err-print_hall_file
 returns-in-Err-print_hall_file g c =
     let s =

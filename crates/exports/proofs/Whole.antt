@@ -1,0 +1,116 @@
+-- A log and a file that are read, as all that their readers have, and what is printed of them.
+use Rattle.std.proofs.Common.{◌≡◌, ℕ, ◌+◌, ◌≤◌, Bool, true, false, ◌&&◌, List, length, ap, refl}
+use Rattle.std.proofs.Common.{sym, subst, arith, nat_le, Option, None, Some}
+use Rattle.std.proofs.lemmas.List.{length-take}
+use Rattle.std.specs.Prelude.{Result, Err, IfErr}
+use Rattle.std.proofs.lemmas.Bool.Decides.{nat_tests}
+use Rattle.std.proofs.KnownBytes.{Keeps-refl}
+use Rattle.commands.specs.History.{History}
+use Rattle.imports.proofs.Whole.{all_of}
+use Rattle.imports.specs.Printing.{IsFront}
+use Rattle.imports.specs.declared.reading.ReadFault.{ReadFault}
+use Rattle.imports.specs.declared.reading.ReadFault.TheVariants as read
+use Rattle.lines.specs.Lines.{is_within}
+use Rattle.wcif.specs.Files.{most_bytes}
+use Rattle.wcif_results.specs.Files.{ExportFails}
+use Rattle.wcif_results.specs.declared.exporting.ExportFault.{ExportFault}
+use Rattle.wcif_results.specs.declared.exporting.ExportFault.TheVariants as file
+use Rattle.exports.specs.Files.{FailsExport, IsFilledLine, IsUnfilled, MakesLine, TakesNone}
+use Rattle.exports.specs.Logs.{IsMeetOf, IsNoMeet, LogFails, ReadsMeet, fault_of_read, is_whole}
+use Rattle.exports.specs.Logs.{opens_any}
+use Rattle.exports.specs.declared.fault.ExportsFault.{ExportsFault}
+use Rattle.exports.specs.declared.fault.ExportsFault.TheVariants as exports
+use Rattle.exports.specs.declared.logs.LogFault.{LogFault}
+use Rattle.exports.specs.declared.logs.LogFault.TheVariants as log
+
+-- what holds of its error holds of a result that is one
+pub fails_by : {T E : Type 0} (P : E → Type 0) (r : Result T E) (e : E) → r ≡ Err e → P e
+    → IfErr r P
+fails_by P r e is p = subst (λ x. IfErr x P) (sym is) p
+
+-- a log
+
+first_of : (a b : Bool) → (a && b) ≡ true → a ≡ true
+first_of true b h = refl
+first_of false b h = cc
+
+short : (bytes : List ℕ) → is_within bytes ≡ true → length bytes ≤ most_bytes
+short bytes h =
+    let low : nat_le (length bytes) 39387136 ≡ true =
+    first_of _ _ (first_of _ _ h) in grind (arith, nat_tests)
+
+pub reads : (had : Option (List ℕ)) (bytes was : List ℕ) (meet : History) → IsFront had bytes
+    → was ≡ bytes → IsMeetOf was meet → is_whole bytes ≡ true → ReadsMeet had meet
+reads had bytes was meet front same is whole =
+    let here = subst (λ z. IsMeetOf z meet) same is in
+    (bytes, all_of had bytes front (short bytes here.within), here, whole)
+
+pub cut_off : (had : Option (List ℕ)) (bytes was : List ℕ) (meet : History) → IsFront had bytes
+    → was ≡ bytes → IsMeetOf was meet → is_whole bytes ≡ false → LogFails had log.CutOff
+cut_off had bytes was meet front same is cut =
+    let here = subst (λ z. IsMeetOf z meet) same is in
+    (bytes, all_of had bytes front (short bytes here.within), here.within, cut)
+
+pub no_bytes : (had : Option (List ℕ)) (e : ReadFault) → LogFails had (fault_of_read e)
+no_bytes had read.Read = tt
+no_bytes had read.NoMemory = tt
+
+pub no_meet : (had : Option (List ℕ)) (bytes was : List ℕ) (fault : LogFault)
+    → IsFront had bytes → was ≡ bytes → IsNoMeet was fault → LogFails had fault
+no_meet had bytes was log.TooLong front same h =
+    (bytes, front, subst (λ z. is_within z ≡ false) same h)
+no_meet had bytes was log.CutOff front same h = absurd h
+no_meet had bytes was log.Read front same h = tt
+no_meet had bytes was log.NoMemory front same h = tt
+
+-- of the bytes that a reader was given
+pub same_meet : (bytes given : List ℕ) (meet : History) → bytes ≡ given → IsMeetOf given meet
+    → IsMeetOf bytes meet
+same_meet bytes given meet is h = subst (λ z. IsMeetOf z meet) (sym is) h
+
+pub same_fault : (bytes given : List ℕ) (fault : LogFault) → bytes ≡ given
+    → IsNoMeet given fault → IsNoMeet bytes fault
+same_fault bytes given fault is h = subst (λ z. IsNoMeet z fault) (sym is) h
+
+-- the file
+
+pub makes : (had_file had : Option (List ℕ)) (bytes was line : List ℕ) (meet : History)
+    → IsFront had_file bytes → was ≡ bytes → ReadsMeet had meet
+    → IsFilledLine meet.accepted was line → MakesLine had_file had line
+makes had_file had bytes was line meet front same read made =
+    let here = subst (λ z. IsFilledLine meet.accepted z line) same made in
+    (bytes, meet, all_of had_file bytes front here.2.1.short, read, here)
+
+takes_none : (f : ExportFault) (had_file log : Option (List ℕ)) (bytes : List ℕ) (meet : History)
+    → IsFront had_file bytes → ReadsMeet log meet → opens_any meet.accepted ≡ true
+    → ExportFails meet.accepted bytes f → TakesNone f had_file log
+takes_none file.TooLong None log bytes meet front had opens h =
+    (bytes, meet, tt, had, opens, h)
+takes_none file.TooLong (Some all) log bytes meet front had opens h =
+    let long = length-take (most_bytes + 1) all in
+    let is = ap length front in
+    (all, meet, refl, had, opens, omega (arith, long, is, h))
+takes_none (file.NotJson line column) had_file log bytes meet front had opens h =
+    (bytes, meet, all_of had_file bytes front h.0, had, opens, h)
+takes_none file.TooDeep had_file log bytes meet front had opens h =
+    (bytes, meet, all_of had_file bytes front h.1, had, opens, h)
+takes_none (file.Refused found) had_file log bytes meet front had opens h =
+    (bytes, meet, all_of had_file bytes front h.1.short, had, opens, h)
+takes_none file.NoMemory None log bytes meet front had opens h =
+    (bytes, meet, tt, had, opens, tt)
+takes_none file.NoMemory (Some all) log bytes meet front had opens h =
+    (all, meet, refl, had, opens, tt)
+
+-- there is no line of the bytes that were read
+pub fails : (f : ExportsFault) (had_file had old : Option (List ℕ)) (bytes was : List ℕ)
+    (meet : History) → IsFront had_file bytes → was ≡ bytes → ReadsMeet had meet
+    → IsUnfilled meet.accepted was f → FailsExport f had_file had old old
+fails exports.ReadFile had_file had old bytes was meet front same read h = absurd h
+fails (exports.Log f) had_file had old bytes was meet front same read h = absurd h
+fails exports.NoRound had_file had old bytes was meet front same read h =
+    ((meet, read, h), Keeps-refl old)
+fails (exports.File f) had_file had old bytes was meet front same read h =
+    let fail = subst (λ z. ExportFails meet.accepted z f) same h.1 in
+    (takes_none f had_file had bytes meet front read h.0 fail, Keeps-refl old)
+fails exports.Write had_file had old bytes was meet front same read h = absurd h
+fails exports.NoMemory had_file had old bytes was meet front same read h = Keeps-refl old

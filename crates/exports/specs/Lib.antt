@@ -1,0 +1,5 @@
+pub mod Files
+pub mod Logs
+pub mod Results
+pub mod Statuses
+pub mod model

@@ -1,0 +1,4 @@
+pub mod Entrants
+pub mod Meets
+pub mod Rounds
+pub mod Values
