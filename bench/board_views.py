@@ -7,9 +7,7 @@ Reads the lines of crates/board_views_runs, whose src/main.rt says how they are 
 come from bench/rules.py, which shares nothing with the crates. Standard library only.
 """
 
-import csv
 import html
-import io
 import re
 import sys
 from pathlib import Path
@@ -51,26 +49,97 @@ def table(log, position, what, which):
     return rules.table_sheet(meet, what, which).decode()
 
 
-def sheet(text, position, what, which):
-    names, *lines = csv.reader(io.StringIO(text, newline=""))
-    name = f"{what}-{which}"
-    out = f'<section id="{name}"><h2>{WORDS[what]}, Round {which}</h2>\n<table><thead><tr>'
-    out += "".join(f'<th scope="col">{escaped(field)}</th>' for field in names)
+def left_out(form, values):
+    """The places of the attempts that stand in parentheses."""
+    if form != "ao5" or len(values) < 5:
+        return ()
+    def worth(place):
+        value = values[place]
+        return value if isinstance(value, int) else float("inf")
+    return (min(range(5), key=lambda place: (worth(place), place)),
+            max(range(5), key=lambda place: (worth(place), place)))
+
+
+def in_words(what, which, table):
+    part = "Final" if table.advance == ("final",) else f"Round {which}"
+    return f"{WORDS[what]}, {part}"
+
+
+def settings(what, table):
+    out = {"a": "average of 5", "m": "mean of 3"}.get(table.form[0], f"best of {table.form[-1]}")
+    if table.cutoff != "-":
+        out += f", cutoff {rules.printed(table.cutoff[1], what)} in {table.cutoff[0]}"
+    if table.limit != "-":
+        out += f", limit {rules.printed(table.limit, '333')}"
+    kind, *wanted = table.advance
+    if kind != "final":
+        out += f", top {wanted[0]}{'%' if kind == 'pct' else ''} advance"
+    return out
+
+
+def state(table):
+    if not table.closed:
+        return "running"
+    return "final result" if table.advance == ("final",) else "closed"
+
+
+def results(table, who, shown):
+    """The texts of a line: place, average, best, attempts."""
+    values = table.entrants[who]
+    place = str(table.places()[who]) if values else ""
+    out = left_out(table.form, values)
+    attempts = [f"({text})" if at in out else text for at, text in enumerate(shown[2:])]
+    return place, shown[0], shown[1], attempts
+
+
+def section(meet, what, which, position):
+    table = meet.rounds[what, which]
+    going = set(table.advancing())
+    head = ["place", "number", "name", "average", "best"]
+    head += [str(count) for count in range(1, rules.ATTEMPTS[table.form] + 1)] + ["advances"]
+    out = f'<section id="{what}-{which}"><h2>{in_words(what, which, table)}</h2>\n'
+    out += f'<p class="told">{settings(what, table)}, <strong>{state(table)}</strong></p>\n'
+    out += "<table><thead><tr>"
+    out += "".join(f'<th scope="col">{name}</th>' for name in head) + "</tr></thead><tbody>\n"
+    for _, who, shown, _ in rules.rows(table):
+        place, average, best, attempts = results(table, who, shown)
+        if who in going:
+            kind, mark = ("yes", "yes") if table.closed else ("would", "would advance")
+        else:
+            kind = "no"
+            mark = "no" if table.closed and table.advance != ("final",) else ""
+        name = escaped(meet.names[who].decode())
+        out += f'<tr class="{kind}"><td>{place}</td><td>{who}</td>'
+        out += f'<th scope="row" dir="auto"><a href="/person/{who}">{name}</a></th>'
+        out += "".join(f"<td>{text}</td>" for text in [average, best, *attempts, mark]) + "</tr>\n"
+    return out + f'</tbody></table>\n<p class="at">position {position}</p></section>\n'
+
+
+def person(meet, who, position):
+    out = f'<section class="person"><h2 dir="auto">{escaped(meet.names[who].decode())}</h2>\n'
+    head = ["round", "place", "average", "best", "attempts", "state"]
+    out += "<table><thead><tr>" + "".join(f'<th scope="col">{name}</th>' for name in head)
     out += "</tr></thead><tbody>\n"
-    for line in lines:
-        cells = "".join(f"<td>{escaped(field)}</td>" for field in line)
-        out += f'<tr class="{escaped(line[-1])}">{cells}</tr>\n'
-    return out + f"</tbody></table>\n<p>position {position}</p></section>\n"
+    for what, which in opened(meet):
+        table = meet.rounds[what, which]
+        for _, other, shown, _ in rules.rows(table):
+            if other != who:
+                continue
+            place, average, best, attempts = results(table, who, shown)
+            out += f'<tr><th scope="row"><a href="/{what}-{which}">'
+            out += f"{in_words(what, which, table)}</a></th>"
+            cells = [place, average, best, "".join(f" {text}" for text in attempts), state(table)]
+            out += "".join(f"<td>{text}</td>" for text in cells) + "</tr>\n"
+    return out + f'</tbody></table>\n<p class="at">position {position}</p></section>\n'
 
 
-def framed(kind, title, sheets):
-    """The page of these sheets, each a table with its position, event and round."""
+def opened(meet):
+    return [(what, which) for what in rules.EVENTS for which in range(1, 5)
+            if (what, which) in meet.rounds]
+
+
+def framed(kind, title, links, inside):
     title = escaped(title)
-    links = "".join(f'<a href="/{what}-{which}">{WORDS[what]}, Round {which}</a>\n'
-                    for _, _, what, which in sheets)
-    inside = "".join(sheet(*one) for one in sheets)
-    if not sheets:
-        inside = '<p class="none">No round is open yet.</p>\n'
     return f"""<!DOCTYPE html>
 <html lang="en"><head><meta charset="utf-8">
 <meta name="viewport" content="width=device-width, initial-scale=1">
@@ -86,6 +155,16 @@ def framed(kind, title, sheets):
 """
 
 
+def every_round(kind, title, log):
+    meet = meet_of(log)
+    links, inside = "", ""
+    for what, which in opened(meet):
+        words = in_words(what, which, meet.rounds[what, which])
+        links += f'<a href="/{what}-{which}">{words}</a>\n'
+        inside += section(meet, what, which, len(log))
+    return framed(kind, title, links, inside or '<p class="none">No round is open yet.</p>\n')
+
+
 def archive(log):
     """A line for each entry; the ids of the runs are all new."""
     return "".join(text.decode() + "\n" for text in log)
@@ -95,11 +174,12 @@ def page(title, log, path):
     """Kind, keeping, position and body of the page at a path, or none."""
     now = len(log)
     if path in ("/", "/hall"):
-        every = [(table(log, now, what, which), now, what, which)
-                 for what in rules.EVENTS for which in range(1, 5)]
-        kind = "all" if path == "/" else "hall"
-        body = framed(kind, title, [one for one in every if one[0] is not None])
-        return "text/html", "no-cache", now, body
+        return "text/html", "no-cache", now, every_round("all" if path == "/" else "hall", title, log)
+    if found := re.fullmatch("/person/([1-9][0-9]{0,3})", path):
+        meet, who = meet_of(log), int(found[1])
+        if who not in meet.names:
+            return None
+        return "text/html", "no-cache", now, framed("one", title, "", person(meet, who, now))
     if path == "/log.txt":
         return "text/plain", "no-cache", now, archive(log)
     found = re.fullmatch(f"/(hall/|at/{POSITION}/)?{ROUND}(\\.csv)?", path)
@@ -114,8 +194,8 @@ def page(title, log, path):
     if found[5]:
         return "text/csv", keeping, position, text
     kind = "hall" if path.startswith("/hall/") else "one"
-    body = framed(kind, title, [(text, position, what, which)])
-    return "text/html", keeping, position, body
+    shown = section(meet_of(log[:position]), what, which, position)
+    return "text/html", keeping, position, framed(kind, title, "", shown)
 
 
 def main():

@@ -7,8 +7,8 @@ use Rattle.std.proofs.lemmas.Slice.Eq.{bytes_eq-Decides}
 use Rattle.std.specs.Map.{lookup}
 use Rattle.acceptor.specs.declared.entry.Entry.{Entry}
 use Rattle.indexmap.specs.IndexMap.{IndexMap, Updates, get_by_text}
-use Rattle.mirror_sockets.specs.declared.desk_stream.Kept.{Kept}
-use Rattle.mirror_sockets.specs.declared.desk_stream.Kept.TheVariants as kept
+use Rattle.desk_sockets.specs.declared.desk_stream.Kept.{Kept}
+use Rattle.desk_sockets.specs.declared.desk_stream.Kept.TheVariants as kept
 use Rattle.page_replies.specs.declared.page.Page.{Page}
 use Rattle.board_views.specs.Views.{IsPageAt}
 use Rattle.board_service.specs.declared.shelf.Shelf.{Shelf}
@@ -79,7 +79,7 @@ pub refreshed_is_at : (title : List ℕ) (k : Kept) (before after : List Entry) 
 refreshed_is_at title kept.Same before after old new all same is path p at =
     subst (λ (log : List Entry). IsPageAt title log path (Some p)) (sym (same refl))
     (all path p (subst (λ (s : Shelf). page_on s path ≡ Some p) is at))
-refreshed_is_at title kept.Grew before after old new all same none path p at =
+refreshed_is_at title kept.Changed before after old new all same none path p at =
     none_is_at title after new none path p at
 refreshed_is_at title kept.Broken before after old new all same none path p at =
     none_is_at title after new none path p at

@@ -2,8 +2,8 @@
 use Rattle.std.specs.Prelude.{◌≡◌, ◌⊎◌, ℕ, List, Option, None, Some}
 use Rattle.acceptor.specs.declared.entry.Entry.{Entry}
 use Rattle.indexmap.specs.IndexMap.{get_by_text}
-use Rattle.mirror_sockets.specs.declared.desk_stream.Kept.{Kept}
-use Rattle.mirror_sockets.specs.declared.desk_stream.Kept.TheVariants as kept
+use Rattle.desk_sockets.specs.declared.desk_stream.Kept.{Kept}
+use Rattle.desk_sockets.specs.declared.desk_stream.Kept.TheVariants as kept
 use Rattle.page_replies.specs.declared.page.Page.{Page}
 use Rattle.board_views.specs.Views.{IsPageAt}
 use Rattle.board_service.specs.declared.shelf.Shelf.{Shelf}
@@ -18,7 +18,7 @@ HasNone shelf = (path : List ℕ) → page_on shelf path ≡ None
 -- all pages are kept where the mirror holds what it held, else none
 abbrev pub IsRefreshed : Kept → Shelf → Shelf → Type 0
 IsRefreshed kept.Same old new = new ≡ old
-IsRefreshed kept.Grew old new = HasNone new
+IsRefreshed kept.Changed old new = HasNone new
 IsRefreshed kept.Broken old new = HasNone new
 
 -- what is kept afterwards was kept before, at its path

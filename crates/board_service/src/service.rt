@@ -2,15 +2,14 @@
 
 ghost use Rattle.std.specs.Prelude.{◌≡◌, IfOk, string_bytes};
 ghost use Rattle.board_views.specs.Views.{IsPageAt};
-ghost use Rattle.mirror_sockets.specs.Holding.{HoldsSame};
 ghost use Rattle.board_service.specs.Services.{service};
 
 use crate::shelf::Shelf;
 use board_views::page_at;
 use bytes::Bytes;
+use desk_sockets::{DeskStream, Kept};
 use http::Request;
 use http_server::{Response, Service};
-use mirror_sockets::{DeskStream, Kept};
 use mirroring::Mirroring;
 use page_replies::{Page, reply};
 use std::alloc::{AllocError, Global};
@@ -75,7 +74,8 @@ impl BoardService {
     /// are given up.
     pub fn keep<R: Net>(&mut self, stream: &mut DeskStream<'_, R>, now: u64) -> Kept
         ensures title { self.new.title ≡ self.old.title }
-        ensures same { result ≡ Kept.Same → HoldsSame self.old.mirroring self.new.mirroring }
+        ensures same { result ≡ Kept.Same
+            → self.new.mirroring.entries ≡ self.old.mirroring.entries }
     {
         let kept = stream.keep(&mut self.mirroring, now);
         self.shelf.refresh(kept);

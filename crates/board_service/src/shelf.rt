@@ -3,8 +3,8 @@
 ghost use Rattle.std.specs.Prelude.{◌≡◌, ◌<◌, ◌≤◌, IfOk};
 ghost use Rattle.indexmap.specs.IndexMap.{index_map_len};
 
+use desk_sockets::Kept;
 use indexmap::IndexMap;
-use mirror_sockets::Kept;
 use page_replies::Page;
 use std::alloc::{AllocError, Global};
 
@@ -45,7 +45,7 @@ impl Shelf {
     {
         match kept {
             Kept::Same => {}
-            Kept::Grew | Kept::Broken => self.pages.clear(),
+            Kept::Changed | Kept::Broken => self.pages.clear(),
         }
     }
 

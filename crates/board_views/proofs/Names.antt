@@ -18,7 +18,8 @@ use Rattle.texts.specs.declared.command.RoundId.{RoundId}
 use Rattle.texts.specs.Fields.{cut}
 use Rattle.texts.proofs.Cuts.{and-true, behind, cut-behind, cut_spelled, lacks}
 use Rattle.texts.proofs.FieldSpellings.{decimal_digits}
-use Rattle.board_views.specs.Paths.{round_name, IsNameOf, IsTableNameOf}
+use Rattle.round_words.specs.Words.{round_name}
+use Rattle.board_views.specs.Paths.{IsNameOf, IsTableNameOf}
 
 event_lacks : (e : Event) → lacks 45 (event_name e) ≡ true
 event_lacks Cube3 = refl

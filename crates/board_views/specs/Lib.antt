@@ -1,5 +1,4 @@
 pub mod Paths
-pub mod Words
 pub mod Rounds
 pub mod Frame
 pub mod Looks

@@ -1,15 +1,12 @@
 -- What stands at the paths of the board.
 use Rattle.std.specs.Prelude.{◌≡◌, ℕ, ◌≤◌, List, ◌++◌, codes, decimal}
-use Rattle.formats.specs.Events.{event_name, last_round}
+use Rattle.formats.specs.Events.{last_round}
 use Rattle.texts.specs.declared.command.RoundId.{RoundId}
+use Rattle.round_words.specs.Words.{round_name}
 use Rattle.board_views.specs.declared.paths.View.{View}
 use Rattle.board_views.specs.declared.paths.View.TheVariants.{Overview, Hall, HallRound, Round}
 use Rattle.board_views.specs.declared.paths.View.TheVariants.{Table, RoundAt, TableAt, Person}
 use Rattle.board_views.specs.declared.paths.View.TheVariants.{Log, Style, Script}
-
--- a round in a path, as 333-1
-abbrev pub round_name : RoundId → List ℕ
-round_name id = event_name id.event ++ codes "-" ++ decimal id.round
 
 -- a round's table in a path, as 333-1.csv
 abbrev pub table_name : RoundId → List ℕ

@@ -1,54 +1,65 @@
 -- The pages of the views.
-use Rattle.std.specs.Prelude.{◌≡◌, ◌⊎◌, ℕ, List, [], ◌∷◌, length, codes, Option, None, Some}
+use Rattle.std.specs.Prelude.{◌≡◌, ◌⊎◌, ℕ, List, [], length, flat_map, codes, nat_le, is_some}
+use Rattle.std.specs.Prelude.{if◌then◌else◌, Option, None, Some}
 use Rattle.acceptor.specs.declared.entry.Entry.{Entry}
 use Rattle.http_header.specs.FieldValue.{plain_value}
 use Rattle.page_replies.specs.declared.page.Page.{Page}
 use Rattle.page_replies.specs.Tags.{tag_text}
+use Rattle.commands.specs.Accepted.{name_of, round_of}
+use Rattle.texts.specs.declared.command.Command.{Command}
 use Rattle.texts.specs.declared.command.RoundId.{RoundId}
 use Rattle.archive.specs.Archive.{archive_text}
-use Rattle.board_page.specs.declared.sheet.Sheet.{Sheet}
+use Rattle.board_rounds.specs.Persons.{person_of}
+use Rattle.board_rounds.specs.Rounds.{link, section}
 use Rattle.board_views.specs.declared.paths.View.{View}
 use Rattle.board_views.specs.declared.paths.View.TheVariants.{Overview, Hall, HallRound, Round}
 use Rattle.board_views.specs.declared.paths.View.TheVariants.{Table, RoundAt, TableAt, Person}
 use Rattle.board_views.specs.declared.paths.View.TheVariants.{Log, Style, Script}
-use Rattle.board_views.specs.Frame.{IsFramed}
+use Rattle.board_views.specs.Frame.{framed}
 use Rattle.board_views.specs.Looks.{style, script}
 use Rattle.board_views.specs.Paths.{StandsAt}
-use Rattle.board_views.specs.Rounds.{table_at, all_rounds, IsRoundSheet, AreSheetsAt}
+use Rattle.board_views.specs.Rounds.{accepted_at, accepted_in, all_rounds, table_at}
 
 -- ---- bodies
 
--- this text is the page of all rounds that were opened, at the log's length
-abbrev pub IsAllPage : List ℕ → List ℕ → List Entry → List ℕ → Type 0
-IsAllPage class title log page =
-    (sheets : List Sheet) × AreSheetsAt log (length log) all_rounds sheets
-    × IsFramed class title sheets page
+-- all rounds that were opened, and links to them, at the log's length
+unfoldable pub all_page : List ℕ → List ℕ → List Entry → List ℕ
+all_page class title log =
+    framed class title (flat_map (link (accepted_in log)) all_rounds)
+    (flat_map (section (accepted_in log) (length log)) all_rounds)
 
--- the page of a round's table, and none where there is no table
-abbrev pub IsRoundPage : List ℕ → List ℕ → ℕ → RoundId → Option (List ℕ) → Option (List ℕ) → Type 0
-IsRoundPage class title position id None page = page ≡ None
-IsRoundPage class title position id (Some text) None = ⊥
-IsRoundPage class title position id (Some text) (Some page) =
-    (s : Sheet) × IsRoundSheet position id text s × IsFramed class title (s ∷ []) page
+-- a round, where it was opened
+unfoldable pub round_page_of : List ℕ → List ℕ → List Command → ℕ → RoundId → Option (List ℕ)
+round_page_of class title cs position id =
+    if is_some (round_of cs id.event id.round)
+    then Some (framed class title [] (section cs position id)) else None
+
+-- a round after the first entries of a log, where there are so many and it was opened in them
+unfoldable pub round_page : List ℕ → List ℕ → List Entry → ℕ → RoundId → Option (List ℕ)
+round_page class title log position id =
+    if nat_le position (length log)
+    then round_page_of class title (accepted_at log position) position id else None
+
+-- a competitor in all rounds, where the number is registered
+unfoldable pub person_page : List ℕ → List Entry → ℕ → Option (List ℕ)
+person_page title log number =
+    if is_some (name_of (accepted_in log) number)
+    then Some (framed (codes "one") title []
+    (person_of (accepted_in log) (length log) number all_rounds)) else None
 
 -- the body of a view, if it has one
-abbrev pub IsBody : List ℕ → List Entry → View → Option (List ℕ) → Type 0
-IsBody title log Overview None = ⊥
-IsBody title log Overview (Some page) = IsAllPage (codes "all") title log page
-IsBody title log Hall None = ⊥
-IsBody title log Hall (Some page) = IsAllPage (codes "hall") title log page
-IsBody title log (HallRound id) body =
-    IsRoundPage (codes "hall") title (length log) id (table_at log (length log) id) body
-IsBody title log (Round id) body =
-    IsRoundPage (codes "one") title (length log) id (table_at log (length log) id) body
-IsBody title log (Table id) body = body ≡ table_at log (length log) id
-IsBody title log (RoundAt position id) body =
-    IsRoundPage (codes "one") title position id (table_at log position id) body
-IsBody title log (TableAt position id) body = body ≡ table_at log position id
-IsBody title log (Person number) body = body ≡ None
-IsBody title log Log body = body ≡ Some (archive_text log)
-IsBody title log Style body = body ≡ Some style
-IsBody title log Script body = body ≡ Some script
+abbrev pub body : List ℕ → List Entry → View → Option (List ℕ)
+body title log Overview = Some (all_page (codes "all") title log)
+body title log Hall = Some (all_page (codes "hall") title log)
+body title log (HallRound id) = round_page (codes "hall") title log (length log) id
+body title log (Round id) = round_page (codes "one") title log (length log) id
+body title log (Table id) = table_at log (length log) id
+body title log (RoundAt position id) = round_page (codes "one") title log position id
+body title log (TableAt position id) = table_at log position id
+body title log (Person number) = person_page title log number
+body title log Log = Some (archive_text log)
+body title log Style = Some style
+body title log Script = Some script
 
 -- ---- what is said of a body
 
@@ -82,12 +93,12 @@ position_of log _ = length log
 
 -- the page of a view at its path; none where the view has no body
 abbrev pub IsPageOf : List ℕ → List Entry → List ℕ → View → Option Page → Type 0
-IsPageOf title log path view None = IsBody title log view None
+IsPageOf title log path view None = body title log view ≡ None
 IsPageOf title log path view (Some p) =
     (p.content_type ≡ plain_value (kind_of view))
     × (p.cache_control ≡ plain_value (keeping_of view))
     × (p.tag ≡ plain_value (tag_text (position_of log view) path))
-    × IsBody title log view (Some p.body)
+    × (body title log view ≡ Some p.body)
 
 -- the page at a path: that of the view that stands there, and none where no view stands there
 abbrev pub IsPageAt : List ℕ → List Entry → List ℕ → Option Page → Type 0

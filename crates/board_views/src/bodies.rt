@@ -2,28 +2,59 @@
 
 ghost use Rattle.std.specs.Prelude.{◌≡◌, IfOk, option_map};
 ghost use Rattle.archive.specs.Archive.{archive_text};
-ghost use Rattle.board_views.specs.Rounds.{table_at};
-ghost use Rattle.board_views.specs.Views.{IsAllPage, IsRoundPage, IsBody};
+ghost use Rattle.board_views.specs.Views.{all_page, body, person_page, round_page, round_page_of};
 
+use crate::all_rounds::{all_rounds, links_of, sections_of};
 use crate::frame::page_of;
 use crate::looks::{script, style};
+use crate::meets::{meet_at, table_at};
 use crate::paths::View;
-use crate::round_sheets::{sheet_of, sheets_now, table_at};
 use acceptor::NoMemory;
 use archive::write_log;
+use board_rounds::{push_person, push_round};
+use commands::Meet;
 use mirror::Mirror;
 use std::alloc::{AllocError, Global};
 use texts::RoundId;
 
 /// The page of all rounds, under a class of the style.
+#[tactic(auto, unfolding(crate::specs::Views::all_page))]
 fn all_page(alloc: Global, mirror: &Mirror, class: &[u8], title: &[u8]) -> Result<Vec<u8>, NoMemory>
-    ensures { IfOk result (λ page. IsAllPage class.now title.now mirror.now page.items) }
+    ensures { IfOk result (λ page. page.items ≡ all_page class.now title.now mirror.now) }
 {
-    let sheets = sheets_now(alloc, mirror)?;
-    page_of(alloc, class, title, &sheets)
+    let rounds = all_rounds(alloc)?;
+    let meet = mirror.meet();
+    let links = links_of(alloc, meet, &rounds)?;
+    let sections = sections_of(alloc, meet, mirror.len(), &rounds)?;
+    page_of(alloc, class, title, &links, &sections)
 }
 
-/// The page of a round at a position, under a class of the style; none where it has no table there.
+/// The page of a round of a competition at a position, under a class of the style; none where it
+/// was not opened.
+#[tactic(auto, unfolding(crate::specs::Views::round_page_of))]
+fn round_page_of(
+    alloc: Global,
+    meet: &Meet,
+    class: &[u8],
+    title: &[u8],
+    position: u32,
+    id: RoundId,
+) -> Result<Option<Vec<u8>>, NoMemory>
+    ensures { IfOk result (λ page. option_map (λ text. text.items) page
+        ≡ round_page_of class.now title.now meet.now.accepted position id) }
+{
+    if meet.round(id.event, id.round).is_none() {
+        return Ok(None);
+    }
+    let mut section = Vec::new(alloc);
+    push_round(&mut section, meet, position, id)?;
+    let page = page_of(alloc, class, title, b"", &section)?;
+    Ok(Some(page))
+}
+
+/// The page of a round after the first entries of the log; none where the log has not come so far,
+/// or the round was not opened in them.
+#[tactic(auto, unfolding(crate::specs::Views::round_page))]
 fn round_page(
     alloc: Global,
     mirror: &Mirror,
@@ -32,14 +63,38 @@ fn round_page(
     position: u32,
     id: RoundId,
 ) -> Result<Option<Vec<u8>>, NoMemory>
-    ensures { IfOk result (λ page. IsRoundPage class.now title.now position id
-        (table_at mirror.now position id) (option_map (λ text. text.items) page)) }
+    ensures { IfOk result (λ page. option_map (λ text. text.items) page
+        ≡ round_page class.now title.now mirror.now position id) }
 {
-    let Some(table) = table_at(alloc, mirror, position, id)? else {
+    if position > mirror.len() {
         return Ok(None);
-    };
-    let sheet = sheet_of(alloc, position, id, table)?;
-    let page = page_of(alloc, class, title, &[sheet])?;
+    }
+    if position == mirror.len() {
+        return round_page_of(alloc, mirror.meet(), class, title, position, id);
+    }
+    let meet = meet_at(alloc, mirror, position)?;
+    round_page_of(alloc, &meet, class, title, position, id)
+}
+
+/// The page of a competitor; none where the number is not registered.
+#[tactic(auto, unfolding(crate::specs::Views::person_page))]
+fn person_page(
+    alloc: Global,
+    mirror: &Mirror,
+    title: &[u8],
+    number: u16,
+) -> Result<Option<Vec<u8>>, NoMemory>
+    ensures { IfOk result (λ page. option_map (λ text. text.items) page
+        ≡ person_page title.now mirror.now number) }
+{
+    let meet = mirror.meet();
+    if meet.name(number).is_none() {
+        return Ok(None);
+    }
+    let rounds = all_rounds(alloc)?;
+    let mut person = Vec::new(alloc);
+    push_person(&mut person, meet, mirror.len(), number, &rounds)?;
+    let page = page_of(alloc, b"one", title, b"", &person)?;
     Ok(Some(page))
 }
 
@@ -54,15 +109,15 @@ fn archive_of(alloc: Global, mirror: &Mirror) -> Result<Vec<u8>, NoMemory>
     }
 }
 
-/// The body of a view; none where it has a round that has no table there.
+/// The body of a view; none where it has a round or a competitor that is not there.
 pub(crate) fn body_of(
     alloc: Global,
     mirror: &Mirror,
     title: &[u8],
     view: View,
 ) -> Result<Option<Vec<u8>>, NoMemory>
-    ensures { IfOk result (λ body. IsBody title.now mirror.now view
-        (option_map (λ text. text.items) body)) }
+    ensures { IfOk result (λ made. option_map (λ text. text.items) made
+        ≡ body title.now mirror.now view) }
 {
     match view {
         View::Overview => Ok(Some(all_page(alloc, mirror, b"all", title)?)),
@@ -70,9 +125,9 @@ pub(crate) fn body_of(
         View::HallRound(id) => round_page(alloc, mirror, b"hall", title, mirror.len(), id),
         View::Round(id) => round_page(alloc, mirror, b"one", title, mirror.len(), id),
         View::Table(id) => table_at(alloc, mirror, mirror.len(), id),
-        View::RoundAt { position, id } => { round_page(alloc, mirror, b"one", title, position, id) }
+        View::RoundAt { position, id } => round_page(alloc, mirror, b"one", title, position, id),
         View::TableAt { position, id } => table_at(alloc, mirror, position, id),
-        View::Person { .. } => Ok(None),
+        View::Person { number } => person_page(alloc, mirror, title, number),
         View::Log => Ok(Some(archive_of(alloc, mirror)?)),
         View::Style => Ok(Some(Vec::from_slice(alloc, style().as_bytes())?)),
         View::Script => Ok(Some(Vec::from_slice(alloc, script().as_bytes())?)),

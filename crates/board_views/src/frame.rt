@@ -1,11 +1,10 @@
-//! The frame of a page of HTML: what stands before, between and after its sheets.
+//! The frame of a page of HTML: what stands before, between and after its rounds.
 
-ghost use Rattle.std.specs.Prelude.{◌≡◌, ◌++◌, OnOk, IfOk, flat_map};
-ghost use Rattle.board_page.specs.Adding.{Adds};
-ghost use Rattle.board_views.specs.Frame.{head, opening, link, links, AreInside, IsFramed};
+ghost use Rattle.std.specs.Prelude.{◌≡◌, ◌++◌, OnOk, IfOk};
+ghost use Rattle.board_views.specs.Frame.{framed, head, inside, links, opening};
 
 use acceptor::NoMemory;
-use board_page::{Sheet, push_escaped, push_sheets};
+use board_page::push_escaped;
 use std::alloc::Global;
 
 const HEAD: &[u8] = b"\
@@ -44,76 +43,43 @@ fn push_opening(out: &mut Vec<u8>, class: &[u8], title: &[u8]) -> Result<(), NoM
     Ok(())
 }
 
-/// Adds a link to a round's own page.
-fn push_link(out: &mut Vec<u8>, sheet: &Sheet) -> Result<(), NoMemory>
-    ensures { OnOk result (out.new.items ≡ out.old.items ++ link sheet.now) }
-{
-    out.extend_from_slice(b"<a href=\"/")?;
-    push_escaped(out, &sheet.name)?;
-    out.extend_from_slice(b"\">")?;
-    push_escaped(out, &sheet.title)?;
-    out.extend_from_slice(b"</a>\n")?;
-    Ok(())
-}
-
-/// Adds a link to each sheet's own page.
-fn push_each_link(out: &mut Vec<u8>, sheets: &[Sheet]) -> Result<(), NoMemory>
-    ensures { OnOk result (out.new.items ≡ out.old.items ++ flat_map link sheets.now) }
-{
-    for sheet in sheets {
-        push_link(out, sheet)?;
-    }
-    Ok(())
-}
-
-/// Adds the links of a page.
-fn push_links(out: &mut Vec<u8>, sheets: &[Sheet]) -> Result<(), NoMemory>
-    ensures { OnOk result (out.new.items ≡ out.old.items ++ links sheets.now) }
+/// Adds the links of a page, further ones between its own.
+fn push_links(out: &mut Vec<u8>, between: &[u8]) -> Result<(), NoMemory>
+    ensures { OnOk result (out.new.items ≡ out.old.items ++ links between.now) }
 {
     out.extend_from_slice(b"<nav>\n<a href=\"/\">all rounds</a>\n")?;
-    push_each_link(out, sheets)?;
+    out.extend_from_slice(between)?;
     out.extend_from_slice(b"<a href=\"/hall\">projector</a></nav>\n")?;
     Ok(())
 }
 
-/// Adds the sheets, or that there is none.
-fn push_inside(out: &mut Vec<u8>, sheets: &[Sheet]) -> Result<(), NoMemory>
-    ensures { OnOk result (Adds out.old.items out.new.items (AreInside sheets.now)) }
+/// Adds what is shown, or that no round is open.
+#[tactic(auto, unfolding(crate::specs::Frame::inside))]
+fn push_inside(out: &mut Vec<u8>, shown: &[u8]) -> Result<(), NoMemory>
+    ensures { OnOk result (out.new.items ≡ out.old.items ++ inside shown.now) }
 {
-    if sheets.is_empty() {
+    if shown.is_empty() {
         return out.extend_from_slice(b"<p class=\"none\">No round is open yet.</p>\n");
     }
-    push_sheets(out, sheets)
+    out.extend_from_slice(shown)
 }
 
-/// Adds a whole page: a title, links and sheets, under a class of the style.
-fn push_page(
-    out: &mut Vec<u8>,
-    class: &[u8],
-    title: &[u8],
-    sheets: &[Sheet],
-) -> Result<(), NoMemory>
-    ensures { OnOk result (Adds out.old.items out.new.items
-        (IsFramed class.now title.now sheets.now)) }
-{
-    push_head(out, title)?;
-    push_opening(out, class, title)?;
-    push_links(out, sheets)?;
-    push_inside(out, sheets)?;
-    out.extend_from_slice(END)?;
-    Ok(())
-}
-
-/// A page of sheets.
+/// A page of a title, further links and what is shown, under a class of the style.
 pub(crate) fn page_of(
     alloc: Global,
     class: &[u8],
     title: &[u8],
-    sheets: &[Sheet],
+    between: &[u8],
+    shown: &[u8],
 ) -> Result<Vec<u8>, NoMemory>
-    ensures { IfOk result (λ page. IsFramed class.now title.now sheets.now page.items) }
+    ensures { IfOk result
+        (λ page. page.items ≡ framed class.now title.now between.now shown.now) }
 {
     let mut page = Vec::new(alloc);
-    push_page(&mut page, class, title, sheets)?;
+    push_head(&mut page, title)?;
+    push_opening(&mut page, class, title)?;
+    push_links(&mut page, between)?;
+    push_inside(&mut page, shown)?;
+    page.extend_from_slice(END)?;
     Ok(page)
 }

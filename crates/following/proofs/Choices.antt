@@ -9,6 +9,7 @@ use Rattle.following.specs.declared.stages.Action.{Action}
 use Rattle.following.specs.declared.stages.Action.TheVariants.{Rest, Open, Ask, Close, Stop}
 use Rattle.following.specs.Following.{Following, action_of, is_stopped, is_to_be_left, may_open}
 use Rattle.following.specs.Following.{may_ask, is_connected, is_free, last_of, opened_stage}
+use Rattle.following.specs.Following.{hurried_stage}
 use Rattle.following.specs.Laws.{IsAfter}
 
 abbrev pub Chosen : Action → Bool → Bool → Bool → Bool → ℕ → ℕ → Type 0
@@ -76,6 +77,16 @@ fresh_in (stage.Answered last) = None
 fresh_in (stage.Useless last) = None
 fresh_in stage.Stopped = None
 
+-- the last question was answered with something of use, and the connection is open
+abbrev pub answered_in : Stage → Bool
+answered_in (stage.Closed last) = false
+answered_in (stage.Opening since) = false
+answered_in (stage.Opened since) = false
+answered_in (stage.Asked since) = false
+answered_in (stage.Answered last) = true
+answered_in (stage.Useless last) = false
+answered_in stage.Stopped = false
+
 pub free_after : (last : Option ℕ) (now : ℕ) → is_free last now ≡ true → IsAfter last now
 free_after None now free = tt
 free_after (Some last) now free =
@@ -127,20 +138,22 @@ first_true false b e = e
 pub record IsApart (st : Stage) : Type 0 where
   pub unasked : asked_in st ≡ None
   pub unopened : opening_in st ≡ None
+  pub unanswered : answered_in st ≡ false
 
 pub apart_in : (st : Stage) → is_connected st ≡ false → IsApart st
-apart_in (stage.Closed last) e = record { unasked = refl; unopened = refl }
+apart_in (stage.Closed last) e = record { unasked = refl; unopened = refl; unanswered = refl }
 apart_in (stage.Opening since) e = absurd (let bad : true ≡ false = e in cc)
 apart_in (stage.Opened since) e = absurd (let bad : true ≡ false = e in cc)
 apart_in (stage.Asked since) e = absurd (let bad : true ≡ false = e in cc)
 apart_in (stage.Answered last) e = absurd (let bad : true ≡ false = e in cc)
 apart_in (stage.Useless last) e = absurd (let bad : true ≡ false = e in cc)
-apart_in stage.Stopped e = record { unasked = refl; unopened = refl }
+apart_in stage.Stopped e = record { unasked = refl; unopened = refl; unanswered = refl }
 
 -- once a connection is said to be open
 pub record IsOpened (old new : Stage) : Type 0 where
   pub stopped : is_stopped new ≡ is_stopped old
   pub asked : asked_in new ≡ asked_in old
+  pub rests : answered_in new ≡ answered_in old
   pub unopened : opening_in new ≡ None
   pub last : last_of new ≡ last_of old
   pub connected : is_connected new ≡ is_connected old
@@ -150,6 +163,7 @@ pub opened_in : (st : Stage) → IsOpened st (opened_stage st)
 opened_in (stage.Closed last) = record {
   stopped = refl;
   asked = refl;
+  rests = refl;
   unopened = refl;
   last = refl;
   connected = refl;
@@ -158,6 +172,7 @@ opened_in (stage.Closed last) = record {
 opened_in (stage.Opening since) = record {
   stopped = refl;
   asked = refl;
+  rests = refl;
   unopened = refl;
   last = refl;
   connected = refl;
@@ -166,6 +181,7 @@ opened_in (stage.Opening since) = record {
 opened_in (stage.Opened since) = record {
   stopped = refl;
   asked = refl;
+  rests = refl;
   unopened = refl;
   last = refl;
   connected = refl;
@@ -174,6 +190,7 @@ opened_in (stage.Opened since) = record {
 opened_in (stage.Asked since) = record {
   stopped = refl;
   asked = refl;
+  rests = refl;
   unopened = refl;
   last = refl;
   connected = refl;
@@ -182,6 +199,7 @@ opened_in (stage.Asked since) = record {
 opened_in (stage.Answered last) = record {
   stopped = refl;
   asked = refl;
+  rests = refl;
   unopened = refl;
   last = refl;
   connected = refl;
@@ -190,6 +208,7 @@ opened_in (stage.Answered last) = record {
 opened_in (stage.Useless last) = record {
   stopped = refl;
   asked = refl;
+  rests = refl;
   unopened = refl;
   last = refl;
   connected = refl;
@@ -198,7 +217,83 @@ opened_in (stage.Useless last) = record {
 opened_in stage.Stopped = record {
   stopped = refl;
   asked = refl;
+  rests = refl;
   unopened = refl;
+  last = refl;
+  connected = refl;
+  fresh = refl;
+}
+
+-- once the next question may come at once
+pub record IsHurried (old new : Stage) : Type 0 where
+  pub stopped : is_stopped new ≡ is_stopped old
+  pub asked : asked_in new ≡ asked_in old
+  pub rests : answered_in new ≡ answered_in old
+  pub opening : opening_in new ≡ opening_in old
+  pub last : last_of new ≡ (if answered_in old then None else last_of old)
+  pub connected : is_connected new ≡ is_connected old
+  pub fresh : fresh_in new ≡ fresh_in old
+
+pub hurried_in : (st : Stage) → IsHurried st (hurried_stage st)
+hurried_in (stage.Closed last) = record {
+  stopped = refl;
+  asked = refl;
+  rests = refl;
+  opening = refl;
+  last = refl;
+  connected = refl;
+  fresh = refl;
+}
+hurried_in (stage.Opening since) = record {
+  stopped = refl;
+  asked = refl;
+  rests = refl;
+  opening = refl;
+  last = refl;
+  connected = refl;
+  fresh = refl;
+}
+hurried_in (stage.Opened since) = record {
+  stopped = refl;
+  asked = refl;
+  rests = refl;
+  opening = refl;
+  last = refl;
+  connected = refl;
+  fresh = refl;
+}
+hurried_in (stage.Asked since) = record {
+  stopped = refl;
+  asked = refl;
+  rests = refl;
+  opening = refl;
+  last = refl;
+  connected = refl;
+  fresh = refl;
+}
+hurried_in (stage.Answered last) = record {
+  stopped = refl;
+  asked = refl;
+  rests = refl;
+  opening = refl;
+  last = refl;
+  connected = refl;
+  fresh = refl;
+}
+hurried_in (stage.Useless last) = record {
+  stopped = refl;
+  asked = refl;
+  rests = refl;
+  opening = refl;
+  last = refl;
+  connected = refl;
+  fresh = refl;
+}
+hurried_in stage.Stopped = record {
+  stopped = refl;
+  asked = refl;
+  rests = refl;
+  opening = refl;
   last = refl;
   connected = refl;
   fresh = refl;

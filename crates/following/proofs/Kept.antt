@@ -1,7 +1,7 @@
 -- What holds after every history.
 use Rattle.std.proofs.Common.{◌≡◌, refl, sym, ap, subst, ◌∙◌, ℕ, arith, Bool, true, false}
 use Rattle.std.proofs.Common.{Option, None, Some, if◌then◌else◌}
-use Rattle.std.specs.Prelude.{◌||◌, nat_lt, max}
+use Rattle.std.specs.Prelude.{◌||◌, nat_lt, not, max}
 use Rattle.mirror.specs.declared.mirror.Taken.{Taken}
 use Rattle.mirror.specs.declared.mirror.Taken.TheVariants.{Grew, Known, Gap, Differs}
 use Rattle.following.specs.declared.stages.Stage.{Stage}
@@ -12,15 +12,17 @@ use Rattle.following.specs.Following.{Following, new_following, action_of, begun
 use Rattle.following.specs.Following.{is_stopped, is_connected, is_silent, is_useless}
 use Rattle.following.specs.Following.{is_behind_for, last_of, next_desk, next_place}
 use Rattle.following.specs.Following.{after_opened, answered_stage, is_behind, told, told_at}
-use Rattle.following.specs.Following.{after_answer, behind_after}
+use Rattle.following.specs.Following.{after_answer, after_hurry, behind_after, hurried_stage}
 use Rattle.following.specs.Histories.{Call, Acted, Opened, Answered, Lost, Calls, History, Start}
 use Rattle.following.specs.Histories.{Then, Leads, is_other, differed, unanswered, is_full}
 use Rattle.following.specs.Histories.{time_after, last_question, last_try, held_after, longest}
 use Rattle.following.specs.Histories.{count_after, behind_with, behind_since, openings}
+use Rattle.following.specs.Histories.{Hurried, is_useful, rests, rests_after}
 use Rattle.following.specs.Histories.{opening as opening_of}
 use Rattle.following.specs.Laws.{IsAfter}
-use Rattle.following.proofs.Choices.{chosen, asked_in, opening_in, fresh_in, opens_from}
-use Rattle.following.proofs.Choices.{asks_connected, first_true, apart_in, opened_in}
+use Rattle.following.proofs.Choices.{chosen, answered_in, asked_in, opening_in, fresh_in}
+use Rattle.following.proofs.Choices.{asks_connected, first_true, apart_in, opened_in, hurried_in}
+use Rattle.following.proofs.Choices.{opens_from}
 use Rattle.following.proofs.Turns.{IsTurn, turn_opened, turn_left}
 use Rattle.following.proofs.Telling.{IsUpTo, Tells, up_to_after, after_up_to}
 
@@ -31,6 +33,7 @@ at_start desks first = record {
   asked = refl;
   opening = refl;
   last = refl;
+  rests = refl;
   held = refl;
   most = refl;
   behind = refl;
@@ -49,37 +52,40 @@ left : (desks first : ℕ) (h g : History) (s : Following) → Tells desks first
     → is_connected s.stage ≡ true → unanswered g ≡ None → opening_of g ≡ None
     → last_try g ≡ last_try h → last_question g ≡ last_question h
     → held_after first g ≡ held_after first h → longest g ≡ longest h → behind_since g ≡ None
-    → openings g ≡ openings h → Tells desks first g (next_desk s)
-left desks first h g s t connected asked opening try question held most behind opened = record {
-  number = t.number;
-  runs = refl;
-  asked = sym asked;
-  opening = sym opening;
-  last = t.last ∙ sym try;
-  held = t.held ∙ sym held;
-  most = t.most ∙ sym most;
-  behind = sym behind;
-  alone = λ e. refl;
-  turn =
-      subst (λ z. IsTurn desks (next_place s.desks s.desk) false z) (sym opened)
-      (subst (λ z. IsTurn desks (next_place z s.desk) false (openings h)) (sym t.number)
-      (turn_left desks s.desk (openings h)
-      (subst (λ z. IsTurn desks s.desk z (openings h)) connected t.turn)));
-  paced = subst (λ z. IsUpTo z (last_of s.stage)) (sym question) t.paced;
-  fresh = λ since e. absurd (let bad : None ≡ Some since = e in cc);
-}
+    → openings g ≡ openings h → rests g ≡ false → Tells desks first g (next_desk s)
+left desks first h g s t connected asked opening try question held most behind opened unrested =
+    record {
+      number = t.number;
+      runs = refl;
+      asked = sym asked;
+      opening = sym opening;
+      last = t.last ∙ sym try;
+      rests = sym unrested;
+      held = t.held ∙ sym held;
+      most = t.most ∙ sym most;
+      behind = sym behind;
+      alone = λ e. refl;
+      turn =
+          subst (λ z. IsTurn desks (next_place s.desks s.desk) false z) (sym opened)
+          (subst (λ z. IsTurn desks (next_place z s.desk) false (openings h)) (sym t.number)
+          (turn_left desks s.desk (openings h)
+          (subst (λ z. IsTurn desks s.desk z (openings h)) connected t.turn)));
+      paced = subst (λ z. IsUpTo z (last_of s.stage)) (sym question) t.paced;
+      fresh = λ since e. absurd (let bad : None ≡ Some since = e in cc);
+    }
 
 lost_if : (connected : Bool) (desks first : ℕ) (h : History) (s : Following)
     → is_connected s.stage ≡ connected → Tells desks first h s
     → Tells desks first (Then h Lost) (if connected then next_desk s else s)
 lost_if true desks first h s is t =
-    left desks first h (Then h Lost) s t is refl refl refl refl refl refl refl refl
+    left desks first h (Then h Lost) s t is refl refl refl refl refl refl refl refl refl
 lost_if false desks first h s is t = record {
   number = t.number;
   runs = t.runs;
   asked = (apart_in s.stage is).unasked;
   opening = (apart_in s.stage is).unopened;
   last = t.last;
+  rests = (apart_in s.stage is).unanswered;
   held = t.held;
   most = t.most;
   behind = t.alone is;
@@ -100,6 +106,7 @@ acted Rest now desks first h s is t = record {
   asked = t.asked;
   opening = t.opening;
   last = t.last;
+  rests = t.rests;
   held = t.held;
   most = t.most;
   behind = t.behind;
@@ -118,6 +125,7 @@ acted (Open d) now desks first h s is t =
       asked = refl;
       opening = refl;
       last = refl;
+      rests = refl;
       held = t.held;
       most = t.most;
       behind = t.behind;
@@ -136,6 +144,7 @@ acted (Ask d p) now desks first h s is t =
       asked = refl;
       opening = refl;
       last = refl;
+      rests = refl;
       held = t.held;
       most = t.most;
       behind = t.behind;
@@ -150,7 +159,7 @@ acted (Close d) now desks first h s is t =
     left desks first h (Then h (Acted now (Close d))) s t
     (first_true (is_connected s.stage)
     (is_useless s.stage || is_silent s.stage now || is_behind_for s.behind now) why.1)
-    refl refl refl refl refl refl refl refl
+    refl refl refl refl refl refl refl refl refl
 acted Stop now desks first h s is t =
     let why = chosen Stop s now is in
     let runs = t.runs in
@@ -168,6 +177,7 @@ opened desks first h s t =
       asked = o.asked ∙ t.asked;
       opening = o.unopened;
       last = o.last ∙ t.last;
+      rests = o.rests ∙ t.rests;
       held = t.held;
       most = t.most;
       behind = t.behind;
@@ -175,6 +185,48 @@ opened desks first h s t =
       turn = subst (λ z. IsTurn desks s.desk z (openings h)) (sym o.connected) t.turn;
       paced = subst (λ z. IsUpTo (last_question h) z) (sym o.last) t.paced;
       fresh = λ since e. t.fresh since (sym o.fresh ∙ e);
+    }
+
+-- ---- the next question may come at once
+
+if_up_to : (rested : Bool) (question last : Option ℕ) → IsUpTo question last
+    → IsUpTo (if rested then None else question) (if rested then None else last)
+if_up_to true question last h = tt
+if_up_to false question last h = h
+
+if_after : (rested : Bool) (question : Option ℕ) (since : ℕ) → IsAfter question since
+    → IsAfter (if rested then None else question) since
+if_after true question since h = tt
+if_after false question since h = h
+
+hurried : (desks first : ℕ) (h : History) (s : Following) → Tells desks first h s
+    → Tells desks first (Then h Hurried) (after_hurry s)
+hurried desks first h s t =
+    let o = hurried_in s.stage in
+    let rested = answered_in s.stage in
+    record {
+      number = t.number;
+      runs = o.stopped ∙ t.runs;
+      asked = o.asked ∙ t.asked;
+      opening = o.opening ∙ t.opening;
+      last =
+          o.last ∙ ap (λ z. if rested then None else z) t.last
+          ∙ ap (λ z. if z then None else last_try h) t.rests;
+      rests = o.rests ∙ t.rests;
+      held = t.held;
+      most = t.most;
+      behind = t.behind;
+      alone = λ e. t.alone (sym o.connected ∙ e);
+      turn = subst (λ z. IsTurn desks s.desk z (openings h)) (sym o.connected) t.turn;
+      paced =
+          subst
+          (λ z. IsUpTo (if z then None else last_question h) (last_of (hurried_stage s.stage)))
+          t.rests
+          (subst (λ z. IsUpTo (if rested then None else last_question h) z) (sym o.last)
+          (if_up_to rested (last_question h) (last_of s.stage) t.paced));
+      fresh =
+          λ since e.
+          if_after (rests h) (last_question h) since (t.fresh since (sym o.fresh ∙ e));
     }
 
 -- ---- an answer
@@ -193,6 +245,10 @@ unasked desks first now taken held length h s none t =
       last =
           subst (λ z. last_of s.stage ≡ time_after z (is_full taken held length) (last_try h)) is
           t.last;
+      rests =
+          subst
+          (λ z. answered_in s.stage ≡ rests_after z (is_useful taken held length) (rests h)) is
+          t.rests;
       held = subst (λ z. s.held ≡ count_after z held (held_after first h)) is t.held;
       most = subst (λ z. s.most ≡ count_after z (max (longest h) length) (longest h)) is t.most;
       behind =
@@ -211,21 +267,23 @@ unasked desks first now taken held length h s none t =
     }
 
 -- what holds of the stage that an answer leads to
-record IsTold (since : ℕ) (full : Bool) (st : Stage) : Type 0 where
+record IsTold (since : ℕ) (full useful : Bool) (st : Stage) : Type 0 where
   runs : is_stopped st ≡ false
   asked : asked_in st ≡ None
   opening : opening_in st ≡ None
   last : last_of st ≡ (if full then None else Some since)
+  rests : answered_in st ≡ useful
   connected : is_connected st ≡ true
   fresh : fresh_in st ≡ None
 
 told_grew : (since : ℕ) (more : Bool)
-    → IsTold since more (if more then stage.Answered None else stage.Answered (Some since))
+    → IsTold since more true (if more then stage.Answered None else stage.Answered (Some since))
 told_grew since true = record {
   runs = refl;
   asked = refl;
   opening = refl;
   last = refl;
+  rests = refl;
   connected = refl;
   fresh = refl;
 }
@@ -234,17 +292,19 @@ told_grew since false = record {
   asked = refl;
   opening = refl;
   last = refl;
+  rests = refl;
   connected = refl;
   fresh = refl;
 }
 
 told_known : (since : ℕ) (more : Bool)
-    → IsTold since false (if more then stage.Useless since else stage.Answered (Some since))
+    → IsTold since false (not more) (if more then stage.Useless since else stage.Answered (Some since))
 told_known since true = record {
   runs = refl;
   asked = refl;
   opening = refl;
   last = refl;
+  rests = refl;
   connected = refl;
   fresh = refl;
 }
@@ -253,17 +313,20 @@ told_known since false = record {
   asked = refl;
   opening = refl;
   last = refl;
+  rests = refl;
   connected = refl;
   fresh = refl;
 }
 
 told_stage : (taken : Option Taken) (since held length : ℕ) → is_other taken ≡ false
-    → IsTold since (is_full taken held length) (answered_stage taken since held length)
+    → IsTold since (is_full taken held length) (is_useful taken held length)
+    (answered_stage taken since held length)
 told_stage None since held length e = record {
   runs = refl;
   asked = refl;
   opening = refl;
   last = refl;
+  rests = refl;
   connected = refl;
   fresh = refl;
 }
@@ -274,6 +337,7 @@ told_stage (Some Gap) since held length e = record {
   asked = refl;
   opening = refl;
   last = refl;
+  rests = refl;
   connected = refl;
   fresh = refl;
 }
@@ -310,6 +374,9 @@ answered desks first now since taken held length h s at same t =
           subst
           (λ z. last_of (answered_stage taken since held length) ≡ time_after z full (last_try h))
           is (new.last ∙ last_told full since (last_try h) last);
+      rests =
+          subst (λ z. answered_in (answered_stage taken since held length)
+          ≡ rests_after z (is_useful taken held length) (rests h)) is new.rests;
       held = subst (λ z. held ≡ count_after z held (held_after first h)) is refl;
       most =
           subst (λ z. max s.most length ≡ count_after z (max (longest h) length) (longest h)) is
@@ -380,12 +447,15 @@ called (Answered now taken held length) desks first h m s same t k =
 called Lost desks first h m s same t k =
     subst (λ z. Tells desks first (Then h Lost) z) (sym k)
     (lost_if (is_connected m.stage) desks first h m refl t)
+called Hurried desks first h m s same t k =
+    subst (λ z. Tells desks first (Then h Hurried) z) (sym k) (hurried desks first h m t)
 
 same_before : (h : History) (c : Call) → differed (Then h c) ≡ false → differed h ≡ false
 same_before h (Acted now done) e = e
 same_before h Opened e = e
 same_before h (Answered now taken held length) e = (neither (is_other taken) (differed h) e).1
 same_before h Lost e = e
+same_before h Hurried e = e
 
 pub all_tell : (desks first : ℕ) (h : History) (s : Following) → Leads desks first h s
     → differed h ≡ false → Tells desks first h s

@@ -14,9 +14,9 @@ use Rattle.following.specs.Following.{Following, action_of, begun, is_stopped}
 use Rattle.following.specs.Following.{is_connected, is_silent, is_useless, is_behind_for, is_over}
 use Rattle.following.specs.Following.{is_to_be_left, may_open, may_ask, is_behind, behind_after}
 use Rattle.following.specs.Following.{next_desk, told_at, after_answer, last_of}
-use Rattle.following.specs.Following.{opened_stage}
-use Rattle.following.specs.Histories.{Call, Acted, Opened, Answered, Lost, Calls, History, Start}
-use Rattle.following.specs.Histories.{Then, Leads, is_other, differed, latest}
+use Rattle.following.specs.Following.{opened_stage, hurried_stage}
+use Rattle.following.specs.Histories.{Call, Acted, Opened, Answered, Lost, Hurried, Calls}
+use Rattle.following.specs.Histories.{History, Start, Then, Leads, is_other, differed, latest}
 use Rattle.following.specs.Histories.{last_question, openings, longest}
 use Rattle.following.specs.Laws.{IsAfter, IsPaced, QuestionsArePaced, FullAnswersGoOn}
 use Rattle.following.specs.Laws.{AsksWhereItEnds, IsLeft, SilentDesksAreLeft, BehindDesksAreLeft}
@@ -68,6 +68,8 @@ after_stopped (Answered now (Some (Differs position)) held length) m s at k =
 after_stopped Lost m s at k =
     ap (λ (z : Following). z.stage) k
     ∙ ap (λ z. (if is_connected z then next_desk m else m).stage) at ∙ at
+after_stopped Hurried m s at k =
+    ap (λ (z : Following). z.stage) k ∙ ap hurried_stage at
 
 either : (a b : Bool) → (a || b) ≡ true → (a ≡ true) ⊎ (b ≡ true)
 either true b e = inl refl
@@ -92,6 +94,7 @@ stops_at (Answered now taken held length) h m s k e before =
       | inr earlier ↦ after_stopped (Answered now taken held length) m s (before earlier) k
     ]
 stops_at Lost h m s k e before = after_stopped Lost m s (before e) k
+stops_at Hurried h m s k e before = after_stopped Hurried m s (before e) k
 
 all_stop : (desks first : ℕ) (h : History) (s : Following) → Leads desks first h s
     → differed h ≡ true → s.stage ≡ stage.Stopped
@@ -313,6 +316,7 @@ in_turn desks first (Then h Opened) s leads = in_turn desks first h leads.0 lead
 in_turn desks first (Then h (Answered now taken held length)) s leads =
     in_turn desks first h leads.0 leads.1
 in_turn desks first (Then h Lost) s leads = in_turn desks first h leads.0 leads.1
+in_turn desks first (Then h Hurried) s leads = in_turn desks first h leads.0 leads.1
 
 pub none_is_forgotten : NoneIsForgotten
 none_is_forgotten desks first h s place leads =

@@ -3,9 +3,9 @@ use Rattle.std.proofs.Common.{◌≡◌, ℕ, ◌≤◌, arith, false}
 use Rattle.std.proofs.Common.{Option, None, Some}
 use Rattle.following.specs.Following.{Following, is_stopped, is_connected, last_of}
 use Rattle.following.specs.Histories.{History, unanswered, opening, openings, last_question}
-use Rattle.following.specs.Histories.{last_try, held_after, longest, behind_since}
+use Rattle.following.specs.Histories.{last_try, held_after, longest, behind_since, rests}
 use Rattle.following.specs.Laws.{IsAfter}
-use Rattle.following.proofs.Choices.{asked_in, opening_in, fresh_in}
+use Rattle.following.proofs.Choices.{answered_in, asked_in, opening_in, fresh_in}
 use Rattle.following.proofs.Turns.{IsTurn}
 
 -- the first time is there only where the second is, and isn't after it
@@ -21,6 +21,7 @@ pub record Tells (desks first : ℕ) (h : History) (s : Following) : Type 0 wher
   pub asked : asked_in s.stage ≡ unanswered h
   pub opening : opening_in s.stage ≡ opening h
   pub last : last_of s.stage ≡ last_try h
+  pub rests : answered_in s.stage ≡ rests h
   pub held : s.held ≡ held_after first h
   pub most : s.most ≡ longest h
   pub behind : s.behind ≡ behind_since h

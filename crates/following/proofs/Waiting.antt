@@ -14,9 +14,9 @@ use Rattle.following.specs.Following.{Following, last_of, begun}
 use Rattle.following.specs.Following.{after_answer, told_at, answered_stage, behind_from}
 use Rattle.following.specs.Following.{behind_after, is_behind, is_connected, next_desk, action_of}
 use Rattle.following.specs.Following.{is_over, left_of, is_free, pace_left, is_behind_for}
-use Rattle.following.specs.Following.{behind_wait, stage_wait}
-use Rattle.following.specs.Histories.{Call, Acted, Opened, Answered, Lost, Calls, History, Start}
-use Rattle.following.specs.Histories.{Then, Leads, IsTimed, latest}
+use Rattle.following.specs.Following.{behind_wait, stage_wait, hurried_stage}
+use Rattle.following.specs.Histories.{Call, Acted, Opened, Answered, Lost, Hurried, Calls}
+use Rattle.following.specs.Histories.{History, Start, Then, Leads, IsTimed, latest}
 use Rattle.following.specs.Laws.{Wakes}
 use Rattle.following.proofs.Choices.{opened_in}
 
@@ -104,6 +104,16 @@ lost_timed : (connected : Bool) (s : Following) (now : ℕ) → IsTimedBy s now
 lost_timed true s now t = record { last = t.last; behind = tt }
 lost_timed false s now t = t
 
+hurried_timed : (st : Stage) (now : ℕ) → IsBy (last_of st) now
+    → IsBy (last_of (hurried_stage st)) now
+hurried_timed (stage.Closed last) now t = t
+hurried_timed (stage.Opening since) now t = t
+hurried_timed (stage.Opened since) now t = t
+hurried_timed (stage.Asked since) now t = t
+hurried_timed (stage.Answered last) now t = tt
+hurried_timed (stage.Useless last) now t = t
+hurried_timed stage.Stopped now t = t
+
 called_timed : (c : Call) (h : History) (m s : Following) → IsTimed (Then h c)
     → IsTimedBy m (latest h) → Calls c m s
     → IsTimedBy s (latest (Then h c))
@@ -121,12 +131,16 @@ called_timed (Answered now taken held length) h m s timed t k =
 called_timed Lost h m s timed t k =
     subst (λ z. IsTimedBy z (latest h)) (sym k)
     (lost_timed (is_connected m.stage) m (latest h) t)
+called_timed Hurried h m s timed t k =
+    subst (λ z. IsTimedBy z (latest h)) (sym k)
+    (record { last = hurried_timed m.stage (latest h) t.last; behind = t.behind })
 
 timed_before : (c : Call) (h : History) → IsTimed (Then h c) → IsTimed h
 timed_before (Acted now done) h t = t.0
 timed_before Opened h t = t
 timed_before (Answered now taken held length) h t = t.0
 timed_before Lost h t = t
+timed_before Hurried h t = t
 
 pub all_timed : (desks first : ℕ) (h : History) (s : Following) → Leads desks first h s
     → IsTimed h → IsTimedBy s (latest h)

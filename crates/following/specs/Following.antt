@@ -280,3 +280,18 @@ after_answer s now (Some Grew) held length = told_at s.stage s now (Some Grew) h
 after_answer s now (Some Known) held length = told_at s.stage s now (Some Known) held length
 after_answer s now (Some Gap) held length = told_at s.stage s now (Some Gap) held length
 after_answer s now (Some (Differs position)) held length = with_stage s Stopped
+
+-- ---- in a hurry
+
+-- where the desk has answered the last question, the next one may come at once
+abbrev pub hurried_stage : Stage → Stage
+hurried_stage (Closed last) = Closed last
+hurried_stage (Opening since) = Opening since
+hurried_stage (Opened since) = Opened since
+hurried_stage (Asked since) = Asked since
+hurried_stage (Answered last) = Answered None
+hurried_stage (Useless last) = Useless last
+hurried_stage Stopped = Stopped
+
+abbrev pub after_hurry : Following → Following
+after_hurry s = with_stage s (hurried_stage s.stage)

@@ -1,23 +1,24 @@
 -- The calls of a follower over time, and what they tell.
 use Rattle.std.specs.Prelude.{◌≡◌, ℕ, ◌≤◌, max, List, [], ◌∷◌, Option, None, Some, Bool}
 use Rattle.std.specs.Prelude.{true, false}
-use Rattle.std.specs.Prelude.{nat_lt, ◌||◌, if◌then◌else◌}
+use Rattle.std.specs.Prelude.{nat_lt, not, ◌||◌, if◌then◌else◌}
 use Rattle.mirror.specs.declared.mirror.Taken.{Taken}
 use Rattle.mirror.specs.declared.mirror.Taken.TheVariants.{Grew, Known, Gap, Differs}
 use Rattle.following.specs.declared.stages.Action.{Action}
 use Rattle.following.specs.declared.stages.Action.TheVariants.{Rest, Open, Ask, Close, Stop}
 use Rattle.following.specs.Following.{Following, new_following, action_of, after_action}
-use Rattle.following.specs.Following.{after_opened, after_answer, after_lost, is_behind}
-use Rattle.following.specs.Following.{behind_after}
+use Rattle.following.specs.Following.{after_opened, after_answer, after_lost, after_hurry}
+use Rattle.following.specs.Following.{is_behind, behind_after}
 
 -- a call: at this time this was to be done, and was begun; the connection is open; at this time an
 -- answer came, with what came of it, how many entries are held after it, and how long the desk's
--- log is; or the connection is lost
+-- log is; the connection is lost; or the next question may come at once
 pub data Call : Type 0 where
   Acted : ℕ → Action → Call
   Opened : Call
   Answered : ℕ → Option Taken → ℕ → ℕ → Call
   Lost : Call
+  Hurried : Call
 
 -- what the contracts of the calls say
 abbrev pub Calls : Call → Following → Following → Type 0
@@ -25,6 +26,7 @@ Calls (Acted now done) a b = (done ≡ action_of a now) × (b ≡ after_action a
 Calls Opened a b = b ≡ after_opened a
 Calls (Answered now taken held length) a b = b ≡ after_answer a now taken held length
 Calls Lost a b = b ≡ after_lost a
+Calls Hurried a b = b ≡ after_hurry a
 
 -- all calls of a follower since it was made, in order
 pub data History : Type 0 where
@@ -45,6 +47,7 @@ latest (Then h (Acted now done)) = now
 latest (Then h Opened) = latest h
 latest (Then h (Answered now taken held length)) = now
 latest (Then h Lost) = latest h
+latest (Then h Hurried) = latest h
 
 -- the time doesn't go back
 abbrev pub IsTimed : History → Type 0
@@ -53,6 +56,7 @@ IsTimed (Then h (Acted now done)) = IsTimed h × (latest h ≤ now)
 IsTimed (Then h Opened) = IsTimed h
 IsTimed (Then h (Answered now taken held length)) = IsTimed h × (latest h ≤ now)
 IsTimed (Then h Lost) = IsTimed h
+IsTimed (Then h Hurried) = IsTimed h
 
 -- ---- what was begun and what came
 
@@ -70,6 +74,7 @@ differed (Then h (Acted now done)) = differed h
 differed (Then h Opened) = differed h
 differed (Then h (Answered now taken held length)) = is_other taken || differed h
 differed (Then h Lost) = differed h
+differed (Then h Hurried) = differed h
 
 -- the time of the question that waits for its answer
 abbrev pub unanswered : History → Option ℕ
@@ -82,6 +87,7 @@ unanswered (Then h (Acted now Stop)) = unanswered h
 unanswered (Then h Opened) = unanswered h
 unanswered (Then h (Answered now taken held length)) = None
 unanswered (Then h Lost) = None
+unanswered (Then h Hurried) = unanswered h
 
 -- the time since which a connection is being opened
 abbrev pub opening : History → Option ℕ
@@ -94,6 +100,7 @@ opening (Then h (Acted now Stop)) = opening h
 opening (Then h Opened) = None
 opening (Then h (Answered now taken held length)) = opening h
 opening (Then h Lost) = None
+opening (Then h Hurried) = opening h
 
 -- the desks to which connections were opened, the last one first
 abbrev pub openings : History → List ℕ
@@ -106,6 +113,7 @@ openings (Then h (Acted now Stop)) = openings h
 openings (Then h Opened) = openings h
 openings (Then h (Answered now taken held length)) = openings h
 openings (Then h Lost) = openings h
+openings (Then h Hurried) = openings h
 
 -- ---- answers: what comes where no question waits is none
 
@@ -117,11 +125,38 @@ is_full (Some Known) held length = false
 is_full (Some Gap) held length = false
 is_full (Some (Differs position)) held length = false
 
+-- the answer is of use: no gap, and not merely what is held of a log that goes on
+abbrev pub is_useful : Option Taken → ℕ → ℕ → Bool
+is_useful None held length = true
+is_useful (Some Grew) held length = true
+is_useful (Some Known) held length = not (nat_lt held length)
+is_useful (Some Gap) held length = false
+is_useful (Some (Differs position)) held length = false
+
+abbrev pub rests_after : Option ℕ → Bool → Bool → Bool
+rests_after None useful rests = rests
+rests_after (Some since) useful rests = useful
+
+-- the last question was answered with something of use, over a connection that is open still
+abbrev pub rests : History → Bool
+rests Start = false
+rests (Then h (Acted now Rest)) = rests h
+rests (Then h (Acted now (Open desk))) = false
+rests (Then h (Acted now (Ask desk position))) = false
+rests (Then h (Acted now (Close desk))) = false
+rests (Then h (Acted now Stop)) = rests h
+rests (Then h Opened) = rests h
+rests (Then h (Answered now taken held length)) =
+    rests_after (unanswered h) (is_useful taken held length) (rests h)
+rests (Then h Lost) = false
+rests (Then h Hurried) = rests h
+
 abbrev pub time_after : Option ℕ → Bool → Option ℕ → Option ℕ
 time_after None full last = last
 time_after (Some since) full last = if full then None else last
 
--- the time of the last question; none where a full answer came since
+-- the time of the last question; none where a full answer came since, or it was answered and the
+-- next may come at once
 abbrev pub last_question : History → Option ℕ
 last_question Start = None
 last_question (Then h (Acted now Rest)) = last_question h
@@ -133,8 +168,9 @@ last_question (Then h Opened) = last_question h
 last_question (Then h (Answered now taken held length)) =
     time_after (unanswered h) (is_full taken held length) (last_question h)
 last_question (Then h Lost) = last_question h
+last_question (Then h Hurried) = if rests h then None else last_question h
 
--- the time of the last question or opening; none where a full answer came since
+-- the time of the last question or opening, in the same way
 abbrev pub last_try : History → Option ℕ
 last_try Start = None
 last_try (Then h (Acted now Rest)) = last_try h
@@ -146,6 +182,7 @@ last_try (Then h Opened) = last_try h
 last_try (Then h (Answered now taken held length)) =
     time_after (unanswered h) (is_full taken held length) (last_try h)
 last_try (Then h Lost) = last_try h
+last_try (Then h Hurried) = if rests h then None else last_try h
 
 abbrev pub count_after : Option ℕ → ℕ → ℕ → ℕ
 count_after None new old = old
@@ -159,6 +196,7 @@ held_after first (Then h Opened) = held_after first h
 held_after first (Then h (Answered now taken held length)) =
     count_after (unanswered h) held (held_after first h)
 held_after first (Then h Lost) = held_after first h
+held_after first (Then h Hurried) = held_after first h
 
 -- how long the longest log is that an answer told
 abbrev pub longest : History → ℕ
@@ -168,6 +206,7 @@ longest (Then h Opened) = longest h
 longest (Then h (Answered now taken held length)) =
     count_after (unanswered h) (max (longest h) length) (longest h)
 longest (Then h Lost) = longest h
+longest (Then h Hurried) = longest h
 
 abbrev pub behind_with : Option ℕ → Bool → Option ℕ → ℕ → Option ℕ
 behind_with None behind since now = since
@@ -186,3 +225,4 @@ behind_since (Then h Opened) = behind_since h
 behind_since (Then h (Answered now taken held length)) =
     behind_with (unanswered h) (is_behind (longest h) held length) (behind_since h) now
 behind_since (Then h Lost) = None
+behind_since (Then h Hurried) = behind_since h

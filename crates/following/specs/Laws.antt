@@ -30,8 +30,9 @@ IsPaced (Ask desk position) h now = IsAfter (last_question h) now
 IsPaced (Close desk) h now = Unit {0}
 IsPaced Stop h now = Unit {0}
 
--- a question is asked a quarter of a second after the one before, whichever desks they go to, if no
--- full answer came since; and so is a connection opened after the last question or opening
+-- A question is asked a quarter of a second after the one before, whichever desks they go to, if no
+-- full answer came since, and nobody said, once it was answered, that the next may come at once; and
+-- so is a connection opened after the last question or opening.
 abbrev pub QuestionsArePaced : Type 0
 QuestionsArePaced =
     (desks first : ℕ) (h : History) (s : Following) (now : ℕ) → IsReached desks first h s now

@@ -7,9 +7,10 @@ ghost use Rattle.following.specs.Laws.{SilentDesksAreLeft, BehindDesksAreLeft, N
 ghost use Rattle.following.specs.Laws.{StopsForGood, Wakes};
 
 /// Between two questions, whichever desks they go to, there is a quarter of a second, unless an
-/// answer came in between that brought new entries and left some of the log. So a desk that has
-/// nothing new is asked four times a second at most. A connection is opened a quarter of a second
-/// after the last question or opening, with the same exception.
+/// answer came in between that brought new entries and left some of the log, or the caller said in
+/// between, once the first was answered, that the next may come at once. So without a hurry a desk
+/// that has nothing new is asked four times a second at most. A connection is opened a quarter of a
+/// second after the last question or opening, with the same exceptions.
 pub fn questions_are_paced()
     ensures { QuestionsArePaced }
 {}

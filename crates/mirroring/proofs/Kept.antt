@@ -1,11 +1,12 @@
 -- What is held after calls: what desks of the hall answered.
 use Rattle.std.proofs.Common.{◌≡◌, ◌-◌, ◌∷◌, ◌++◌, [], ℕ, List, Option, None, Some, Bool, true}
-use Rattle.std.proofs.Common.{false, Result, Ok, inl, inr, refl, sym, subst, ap, length}
+use Rattle.std.proofs.Common.{false, Result, Ok, Err, inl, inr, refl, sym, subst, ap, length}
 use Rattle.std.specs.Prelude.{option_map}
 use Rattle.acceptor.specs.declared.entry.Entry.{Entry}
 use Rattle.client.specs.Answers.{judged}
 use Rattle.client.specs.Standings.{log_request}
 use Rattle.client.specs.declared.fault.ClientFault.{ClientFault}
+use Rattle.client.specs.declared.fault.ClientFault.TheVariants as fault
 use Rattle.following.specs.Following.{action_of}
 use Rattle.following.specs.declared.stages.Action.{Action}
 use Rattle.following.specs.declared.stages.Action.TheVariants as action
@@ -13,16 +14,16 @@ use Rattle.wire.specs.declared.frame.Frame.{Frame}
 use Rattle.wire.specs.declared.frame.What.{What}
 use Rattle.wire.specs.declared.frame.What.TheVariants as what
 use Rattle.mirroring.specs.Histories.{Answer, Call, CallLeads, CallsLead, HoldsWhatWasAnswered}
-use Rattle.mirroring.specs.Histories.{TakesAnswers, Act, Opened, Lost, Sent, Hear}
-use Rattle.mirroring.specs.Mirrorings.{ActsBy, Asks, Follows, FollowsTold, HearsAt, MirroringOf}
-use Rattle.mirroring.specs.Mirrorings.{Opens, begun, is_within, lost, new_mirroring}
-use Rattle.mirroring.specs.Mirrorings.{sent_by, with_talk}
-use Rattle.mirroring.specs.Talks.{Hears, TalkOf, heard_of, question_after, sending, told_of}
-use Rattle.mirroring.specs.declared.mirroring.Came.{Came}
-use Rattle.mirroring.specs.declared.mirroring.Wish.{Wish}
-use Rattle.mirroring.specs.declared.mirroring.Wish.TheVariants as wish
-use Rattle.mirroring.specs.declared.talk.Heard.{Heard}
-use Rattle.mirroring.specs.declared.talk.Heard.TheVariants as heard
+use Rattle.desk_talks.specs.Talks.{Hears, TalkOf, heard_of, question_after, said_of, sending}
+use Rattle.desk_talks.specs.declared.dialogue.Came.{Came}
+use Rattle.desk_talks.specs.declared.dialogue.Wish.{Wish}
+use Rattle.desk_talks.specs.declared.dialogue.Wish.TheVariants as wish
+use Rattle.desk_talks.specs.declared.talk.Heard.{Heard}
+use Rattle.desk_talks.specs.declared.talk.Heard.TheVariants as heard
+use Rattle.mirroring.specs.Histories.{TakesAnswers, Act, Opened, Lost, Sent, Hear, Hurry}
+use Rattle.mirroring.specs.Mirrorings.{ActsBy, Asks, Fails, Follows, FollowsTold, HearsAt}
+use Rattle.mirroring.specs.Mirrorings.{MirroringOf, Opens, begun, hurried, is_within, lost}
+use Rattle.mirroring.specs.Mirrorings.{new_mirroring, sent_by, with_talk}
 
 -- a question asks a desk of the hall for its log
 abbrev IsQuestion : ℕ → Option Frame → Type 0
@@ -118,14 +119,14 @@ record IsTold (hall position len : ℕ) (entries : List Entry) : Type 0 where
   frame : Frame
   answers : judged (log_request hall desk asked) frame ≡ Ok (what.Entries position len entries)
 
-told_as : (r : Result What ClientFault) (position len : ℕ) (entries : List Entry)
-    → told_of r ≡ heard.Told position len entries → r ≡ Ok (what.Entries position len entries)
-told_as (Ok (what.Entries p l es)) position len entries h = cc
-told_as _ position len entries h = absurd cc
+said_as : (r : Result What ClientFault) (w : What) → said_of r ≡ heard.Answer w → r ≡ Ok w
+said_as (Ok given) w h = cc
+said_as (Err (fault.Refused refusal)) w h = absurd cc
+said_as (Err _) w h = absurd cc
 
 told_by : (hall position len : ℕ) (entries : List Entry) (question : Option Frame)
     (frames : List Frame) → IsQuestion hall question
-    → heard_of question frames ≡ heard.Told position len entries
+    → heard_of question frames ≡ heard.Answer (what.Entries position len entries)
     → IsTold hall position len entries
 told_by hall position len entries question [] q h = absurd cc
 told_by hall position len entries None (given ∷ more) q h = absurd cc
@@ -135,13 +136,13 @@ told_by hall position len entries (Some asked) (given ∷ []) (desk, from, is) h
   frame = given;
   answers =
       subst (λ f. judged f given ≡ Ok (what.Entries position len entries)) is
-      (told_as (judged asked given) position len entries h);
+      (said_as (judged asked given) (what.Entries position len entries) h);
 }
 told_by hall position len entries (Some asked) (given ∷ next ∷ more) q h = absurd cc
 
 told_in : (hall position len : ℕ) (entries : List Entry) (piece : List ℕ) (t after : TalkOf)
-    → Hears (heard.Told position len entries) piece t after → IsQuestion hall t.question
-    → IsTold hall position len entries
+    → Hears (heard.Answer (what.Entries position len entries)) piece t after
+    → IsQuestion hall t.question → IsTold hall position len entries
 told_in hall position len entries piece t after (inl h) q =
     told_by hall position len entries t.question h.frames q (sym h.heard_is)
 told_in hall position len entries piece t after (inr h) q =
@@ -170,16 +171,25 @@ grows hall true c now position len entries old new of told g = record {
 grows hall false c now position len entries old new of told (is, e) =
     same_as hall old new (lost old) e (record { hall_is = of.hall_is; asks = tt }) refl
 
+fails : (hall : ℕ) (c : Came) (old new : MirroringOf) → IsOf hall old → Fails c old new
+    → Kept hall old new
+fails hall c old new of (is, e) =
+    same_as hall old new (lost old) e (record { hall_is = of.hall_is; asks = tt }) refl
+
 follows : (hall : ℕ) (told : Heard) (c : Came) (now : ℕ) (piece : List ℕ) (t after : TalkOf)
     (old new : MirroringOf) → IsOf hall old → Hears told piece t after
     → IsQuestion hall t.question → Follows told c now old new → Kept hall old new
 follows hall heard.Waits c now piece t after old new of hears q (is, e) =
     same_as hall old new old e of refl
-follows hall (heard.Told position len entries) c now piece t after old new of hears q f =
+follows hall (heard.Answer (what.Entries position len entries)) c now piece t after old new of
+    hears q f =
     grows hall (is_within position entries) c now position len entries old new of
     (told_in hall position len entries piece t after hears q) f
-follows hall heard.NoAnswer c now piece t after old new of hears q (is, e) =
-    same_as hall old new (lost old) e (record { hall_is = of.hall_is; asks = tt }) refl
+follows hall (heard.Answer _) c now piece t after old new of hears q (is, e) =
+    fails hall c old new of (is, e)
+follows hall (heard.Refused refusal) c now piece t after old new of hears q f =
+    fails hall c old new of f
+follows hall heard.NoAnswer c now piece t after old new of hears q f = fails hall c old new of f
 
 hears : (hall : ℕ) (talking : Option TalkOf) (c : Came) (now : ℕ) (piece : List ℕ)
     (old new : MirroringOf) → IsOf hall old → AsksHall hall talking
@@ -208,6 +218,9 @@ call_keeps hall (Sent count) old new of h =
     (record { hall_is = of.hall_is; asks = sent_asks hall count old.talking of.asks }) refl
 call_keeps hall (Hear c now piece) old new of h =
     hears hall old.talking c now piece old new of of.asks h
+call_keeps hall Hurry old new of h =
+    same_as hall old new (hurried old) h
+    (record { hall_is = of.hall_is; asks = of.asks }) refl
 
 -- answers that were taken after others
 then : {hall : ℕ} (xs ys : List (Answer hall)) (a b c : List Entry)

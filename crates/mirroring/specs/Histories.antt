@@ -7,10 +7,10 @@ use Rattle.mirror.specs.Fronts.{TakesAs}
 use Rattle.mirror.specs.declared.mirror.Taken.{Taken}
 use Rattle.wire.specs.declared.frame.Frame.{Frame}
 use Rattle.wire.specs.declared.frame.What.TheVariants as what
-use Rattle.mirroring.specs.Mirrorings.{Acts, HearsDesk, MirroringOf, Opens, lost, new_mirroring}
-use Rattle.mirroring.specs.Mirrorings.{sent_by}
-use Rattle.mirroring.specs.declared.mirroring.Wish.{Wish}
-use Rattle.mirroring.specs.declared.mirroring.Came.{Came}
+use Rattle.desk_talks.specs.declared.dialogue.Came.{Came}
+use Rattle.desk_talks.specs.declared.dialogue.Wish.{Wish}
+use Rattle.mirroring.specs.Mirrorings.{Acts, HearsDesk, MirroringOf, Opens, hurried, lost}
+use Rattle.mirroring.specs.Mirrorings.{new_mirroring, sent_by}
 
 -- a call, with what it was given and what it answered
 pub data Call : Type 0 where
@@ -19,6 +19,7 @@ pub data Call : Type 0 where
   Lost : Call
   Sent : (count : ℕ) → Call
   Hear : Came → (now : ℕ) → (piece : List ℕ) → Call
+  Hurry : Call
 
 -- what the contract of each call says
 abbrev pub CallLeads : Call → MirroringOf → MirroringOf → Type 0
@@ -27,6 +28,7 @@ CallLeads (Opened result) old new = Opens result old new
 CallLeads Lost old new = new ≡ lost old
 CallLeads (Sent count) old new = new ≡ sent_by old count
 CallLeads (Hear c now piece) old new = HearsDesk c now piece old new
+CallLeads Hurry old new = new ≡ hurried old
 
 -- calls, one after the other
 abbrev pub CallsLead : MirroringOf → List Call → MirroringOf → Type 0

@@ -4,20 +4,23 @@ use Rattle.std.specs.Prelude.{length, nat_le, option_map}
 use Rattle.acceptor.specs.declared.entry.Entry.{Entry}
 use Rattle.client.specs.Standings.{log_request}
 use Rattle.following.specs.Following.{Following, new_following, action_of, after_action}
-use Rattle.following.specs.Following.{after_answer, after_lost, after_opened}
+use Rattle.following.specs.Following.{after_answer, after_lost, after_opened, hurried_stage}
+use Rattle.following.specs.Following.{with_stage}
 use Rattle.following.specs.declared.stages.Action.{Action}
 use Rattle.following.specs.declared.stages.Action.TheVariants as action
 use Rattle.mirror.specs.Fronts.{TakesAs}
 use Rattle.mirror.specs.declared.mirror.Taken.{Taken}
 use Rattle.mirror.specs.declared.mirror.Taken.TheVariants.{Grew, Known, Gap, Differs}
 use Rattle.wire.specs.Stream.{holding}
-use Rattle.mirroring.specs.Talks.{Hears, TalkOf, asking, sending, talk}
-use Rattle.mirroring.specs.declared.talk.Heard.{Heard}
-use Rattle.mirroring.specs.declared.talk.Heard.TheVariants as heard
-use Rattle.mirroring.specs.declared.mirroring.Wish.{Wish}
-use Rattle.mirroring.specs.declared.mirroring.Wish.TheVariants as wish
-use Rattle.mirroring.specs.declared.mirroring.Came.{Came}
-use Rattle.mirroring.specs.declared.mirroring.Came.TheVariants as came
+use Rattle.wire.specs.declared.frame.What.{What}
+use Rattle.wire.specs.declared.frame.What.TheVariants as what
+use Rattle.desk_talks.specs.Talks.{Hears, TalkOf, asking, sending, talk}
+use Rattle.desk_talks.specs.declared.dialogue.Came.{Came}
+use Rattle.desk_talks.specs.declared.dialogue.Came.TheVariants as came
+use Rattle.desk_talks.specs.declared.dialogue.Wish.{Wish}
+use Rattle.desk_talks.specs.declared.dialogue.Wish.TheVariants as wish
+use Rattle.desk_talks.specs.declared.talk.Heard.{Heard}
+use Rattle.desk_talks.specs.declared.talk.Heard.TheVariants as heard
 
 -- the number of the hall, which of its desks is followed, the entries that are held, and the talk
 -- over the connection, if one is open
@@ -122,10 +125,16 @@ abbrev pub FollowsTold : Bool → Came → (now position len : ℕ) → List Ent
 FollowsTold true c now position len entries old new = Grows c now position len entries old new
 FollowsTold false c now position len entries old new = Fails c old new
 
+-- a question for the log is answered by entries of it
+abbrev pub FollowsAnswer : What → Came → ℕ → MirroringOf → MirroringOf → Type 0
+FollowsAnswer (what.Entries position len entries) c now old new =
+    FollowsTold (is_within position entries) c now position len entries old new
+FollowsAnswer _ c now old new = Fails c old new
+
 abbrev pub Follows : Heard → Came → ℕ → MirroringOf → MirroringOf → Type 0
 Follows heard.Waits c now old new = (c ≡ came.Nothing) × (new ≡ old)
-Follows (heard.Told position len entries) c now old new =
-    FollowsTold (is_within position entries) c now position len entries old new
+Follows (heard.Answer answer) c now old new = FollowsAnswer answer c now old new
+Follows (heard.Refused refusal) c now old new = Fails c old new
 Follows heard.NoAnswer c now old new = Fails c old new
 
 -- what the bytes of the desk come to in the talk, and what follows of it
@@ -143,3 +152,14 @@ HearsAt (Some t) c now piece old new = HearsBy t c now piece old new
 
 abbrev pub HearsDesk : Came → ℕ → List ℕ → MirroringOf → MirroringOf → Type 0
 HearsDesk c now piece old new = HearsAt old.talking c now piece old new
+
+-- ---- in a hurry
+
+-- the next question may come at once, where the last one was answered
+abbrev pub hurried : MirroringOf → MirroringOf
+hurried m =
+    mirroring m.hall (with_stage m.follower (hurried_stage m.follower.stage)) m.entries m.talking
+
+-- what a mirror holds: its entries
+abbrev pub held : MirroringOf → List Entry
+held m = m.entries

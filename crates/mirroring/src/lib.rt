@@ -5,8 +5,6 @@
 
 pub mod laws;
 mod mirroring;
-mod talk;
 
 pub use following::Stage;
-pub use mirroring::{Came, Mirroring, Wish};
-pub use talk::{Heard, Talk};
+pub use mirroring::Mirroring;

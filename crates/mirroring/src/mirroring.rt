@@ -1,44 +1,19 @@
 //! A mirror, the follower that says which desk is asked, and the talk with it.
 
-ghost use Rattle.std.specs.Prelude.{◌≡◌, ◌≤◌, ◌+◌, IfOk, length};
+ghost use Rattle.std.specs.Prelude.{◌≡◌, ◌≤◌, ◌+◌, IfOk, List, length};
 ghost use Rattle.following.specs.Following.{IsPlace, wait_of};
-ghost use Rattle.mirroring.specs.Mirrorings.{Acts, Asks, Follows, Grows, HearsDesk, Opens};
-ghost use Rattle.mirroring.specs.Mirrorings.{is_growth, is_within, lost};
+ghost use Rattle.mirroring.specs.Mirrorings.{Acts, Asks, Fails, Follows, FollowsAnswer, Grows};
+ghost use Rattle.mirroring.specs.Mirrorings.{HearsDesk, Opens};
+ghost use Rattle.mirroring.specs.Mirrorings.{hurried, is_growth, is_within, lost};
 ghost use Rattle.mirroring.specs.Mirrorings.{new_mirroring, sent_by, unsent_by};
 
-use crate::talk::{Heard, Talk};
+use client::log_request;
+use desk_talks::{Came, Dialogue, Heard, Talk, Wish};
 use following::{Action, Follower, Stage};
 use mirror::{Mirror, Taken};
 use std::alloc::{AllocError, Global};
 use std::marker::Model;
-use wire::Entries;
-
-/// What is to be done now.
-#[derive(Clone, Copy, PartialEq, Eq, Debug)]
-pub enum Wish {
-    /// Nothing, until something comes or the time is over that `wait` says.
-    Rest,
-    /// Open a connection to this desk, 1 to 5: call `opened` once it is open, or `lost`.
-    Open { desk: u8 },
-    /// Write the output: call `sent` with how many bytes were written.
-    Write,
-    /// Close the connection, or give up opening it. No call is to be made.
-    Close,
-    /// Close the connection, if there is one, and say loudly that the hall is broken: two of its
-    /// desks told different entries for one position.
-    Stop,
-}
-
-/// What came of bytes that a desk sent.
-#[derive(Clone, Copy, PartialEq, Eq, Debug)]
-pub enum Came {
-    /// No answer is whole yet, or there is no connection.
-    Nothing,
-    /// The desk answered. Where it says that the mirror didn't grow, it is as it was.
-    Answer { grew: bool },
-    /// It was no answer. The connection is to be closed; no further call is to be made for it.
-    NoAnswer,
-}
+use wire::{Entries, What};
 
 /// Keeps a mirror up with the desks of a hall. Its caller asks it again and again what is to be
 /// done (`act`), does it over one connection at a time, and says what came of it.
@@ -149,8 +124,9 @@ impl Mirroring {
     {
         let desk = self.follower.desk();
         let position = self.mirror.len().saturating_sub(1);
+        let question = log_request(self.hall, desk, position);
         let asked = match &mut self.talk {
-            Some(talk) => talk.ask(self.alloc, self.hall, desk, position).is_ok(),
+            Some(talk) => talk.ask(self.alloc, question).is_ok(),
             None => false,
         };
         if asked {
@@ -216,21 +192,43 @@ impl Mirroring {
         self.follow(now, heard)
     }
 
+    /// Counts the connection as lost, since what came over it is no answer.
+    fn fail(&mut self) -> Came
+        ensures { Fails result self.old self.new }
+    {
+        self.lost();
+        Came::NoAnswer
+    }
+
     /// Does what follows of what the desk's bytes came to.
     fn follow(&mut self, now: u64, heard: Heard) -> Came
         ensures { Follows heard result now self.old self.new }
     {
         match heard {
             Heard::Waits => Came::Nothing,
-            Heard::Told {
+            Heard::Answer(answer) => self.follow_answer(now, answer),
+            Heard::Refused(_refusal) => self.fail(),
+            Heard::NoAnswer => self.fail(),
+        }
+    }
+
+    /// Does what follows of a desk's answer.
+    fn follow_answer(&mut self, now: u64, answer: What) -> Came
+        ensures { FollowsAnswer answer result now self.old self.new }
+    {
+        match answer {
+            What::Entries {
                 position,
                 length,
                 entries,
-            } if is_within(position, &entries) => self.take(now, position, length, entries),
-            _ => {
-                self.lost();
-                Came::NoAnswer
+            } => {
+                if is_within(position, &entries) {
+                    self.take(now, position, length, entries)
+                } else {
+                    self.fail()
+                }
             }
+            _other => self.fail(),
         }
     }
 
@@ -243,7 +241,53 @@ impl Mirroring {
         let held = self.mirror.len();
         self.follower.answered(now, taken, held, len);
         Came::Answer {
-            grew: is_growth(taken),
+            changed: is_growth(taken),
         }
+    }
+
+    /// Lets the next question come at once where the desk has answered the last one: whoever knows
+    /// that something new is to be told needn't wait for a quarter of a second.
+    pub fn hurry(&mut self)
+        ensures { self.new ≡ hurried self.old }
+    {
+        self.follower.hurry();
+    }
+}
+
+impl Dialogue for Mirroring {
+    ghost use Rattle.acceptor.specs.declared.entry.Entry.{Entry};
+    ghost use Rattle.mirroring.specs.Mirrorings.{held};
+
+    ghost Held = { List Entry };
+
+    // The entries of the mirror.
+    ghost held = { held };
+
+    fn act(&mut self, now: u64) -> Wish {
+        self.act(now)
+    }
+
+    fn is_opening(&self) -> bool {
+        matches!(self.stage(), Stage::Opening { .. })
+    }
+
+    fn opened(&mut self) -> bool {
+        self.opened()
+    }
+
+    fn lost(&mut self) {
+        self.lost();
+    }
+
+    fn output(&self) -> &[u8] {
+        self.output()
+    }
+
+    fn sent(&mut self, count: usize) {
+        self.sent(count);
+    }
+
+    fn hear(&mut self, now: u64, piece: &[u8]) -> Came {
+        self.hear(now, piece)
     }
 }

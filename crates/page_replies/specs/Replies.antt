@@ -17,6 +17,10 @@ is_read method = bytes_eq method (codes "GET") || bytes_eq method (codes "HEAD")
 abbrev pub text_field : Header
 text_field = (codes "content-type", codes "text/plain; charset=utf-8")
 
+-- where no page stands now, one may stand soon
+abbrev pub no_store : Header
+no_store = (codes "cache-control", codes "no-store")
+
 -- what is said of a page whether it is sent or not
 abbrev pub page_fields : Page → List Header
 page_fields p = (codes "etag", p.tag.bytes) ∷ (codes "cache-control", p.cache_control.bytes) ∷ []
@@ -32,7 +36,8 @@ abbrev pub RepliesBy : Bool → Option Page → List FieldValue → Response →
 RepliesBy false page values r =
     IsResponse 405 ((codes "allow", codes "GET, HEAD") ∷ text_field ∷ [])
     (codes "405 Method Not Allowed\n") r
-RepliesBy true None values r = IsResponse 404 (text_field ∷ []) (codes "404 Not Found\n") r
+RepliesBy true None values r =
+    IsResponse 404 (no_store ∷ text_field ∷ []) (codes "404 Not Found\n") r
 RepliesBy true (Some p) values r = Shows (is_fresh values p.tag.bytes) p r
 
 abbrev pub Replies : Request (List ℕ) → Option Page → Response → Type 0

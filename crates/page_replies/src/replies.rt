@@ -5,7 +5,7 @@ ghost use Rattle.std.specs.Option.{option_copied};
 ghost use Rattle.http_header.specs.HeaderMap.{get_all};
 ghost use Rattle.http.specs.Request.{head_of};
 ghost use Rattle.http_server.specs.Response.{IsBlank, IsResponse, fields_of};
-ghost use Rattle.page_replies.specs.Replies.{Replies, is_read, page_fields, text_field};
+ghost use Rattle.page_replies.specs.Replies.{Replies, is_read, no_store, page_fields, text_field};
 ghost use Rattle.page_replies.specs.Tags.{is_fresh};
 
 use crate::page::Page;
@@ -60,10 +60,11 @@ fn refuse_method(response: &mut Response) -> Result<(), AllocError>
 
 fn refuse_path(response: &mut Response) -> Result<(), AllocError>
     requires { IsBlank response.old }
-    ensures { OnOk result (IsResponse 404 (text_field ∷ []) (codes "404 Not Found\n")
+    ensures { OnOk result (IsResponse 404 (no_store ∷ text_field ∷ []) (codes "404 Not Found\n")
         response.new) }
 {
     response.status = StatusCode::NOT_FOUND;
+    response.add_header(header::CACHE_CONTROL, HeaderValue::from_static("no-store"))?;
     tell(response, b"404 Not Found\n")
 }
 
@@ -99,7 +100,7 @@ fn send(page: &Page, response: &mut Response) -> Result<(), AllocError>
 }
 
 /// Answers a request for a page, if one stands at its path: with the page, with 304 where the
-/// browser has it already, with 404 where there is none, and with 405 where the method is neither
+/// browser has it already, with 404 where there is none, which no browser is to keep, and with 405 where the method is neither
 /// GET nor HEAD. The error is for memory alone.
 pub fn reply(
     request: &Request<Bytes>,

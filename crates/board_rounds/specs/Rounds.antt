@@ -1,0 +1,80 @@
+-- A round in HTML.
+use Rattle.std.specs.Prelude.{ℕ, ◌+◌, List, [], ◌++◌, codes, decimal, flat_map, option_map, unwrap_or}
+use Rattle.std.specs.List.{range_with_len}
+use Rattle.commands.specs.Accepted.{round_of}
+use Rattle.formats.specs.Events.{attempts_of, unit_of}
+use Rattle.rounds.specs.Tables.{Table, standings}
+use Rattle.texts.specs.declared.command.Command.{Command}
+use Rattle.texts.specs.declared.command.RoundId.{RoundId}
+use Rattle.texts.specs.declared.command.Settings.{Settings}
+use Rattle.board_rounds.specs.Rows.{line_of}
+use Rattle.round_words.specs.Words.{round_name, round_words, settings_words, state_words}
+
+-- ---- above the lines
+
+unfoldable pub heading : List ℕ → List ℕ
+heading text = codes "<th scope=\"col\">" ++ text ++ codes "</th>"
+
+-- attempts are counted from 1
+abbrev pub attempt_heading : ℕ → List ℕ
+attempt_heading k = heading (decimal (k + 1))
+
+abbrev pub attempt_headings : ℕ → List ℕ
+attempt_headings count = flat_map attempt_heading (range_with_len 0 count)
+
+-- the names of the columns, of which one is for each attempt
+abbrev pub headings : ℕ → List ℕ
+headings count =
+    heading (codes "place") ++ heading (codes "number") ++ heading (codes "name")
+    ++ heading (codes "average") ++ heading (codes "best")
+    ++ attempt_headings count ++ heading (codes "advances")
+
+-- the round's name, by which pages refer to it, and its title
+unfoldable pub title : List ℕ → List ℕ → List ℕ
+title name words =
+    codes "<section id=\"" ++ name ++ codes "\"><h2>" ++ words ++ codes "</h2>\n"
+
+-- its settings, and how far it is
+unfoldable pub conditions : List ℕ → List ℕ → List ℕ
+conditions settings state =
+    codes "<p class=\"told\">" ++ settings ++ codes ", <strong>" ++ state
+    ++ codes "</strong></p>\n"
+
+unfoldable pub table_start : ℕ → List ℕ
+table_start count =
+    codes "<table><thead><tr>" ++ headings count ++ codes "</tr></thead><tbody>\n"
+
+-- the position that it stands at
+unfoldable pub below : ℕ → List ℕ
+below position =
+    codes "</tbody></table>\n<p class=\"at\">position " ++ decimal position
+    ++ codes "</p></section>\n"
+
+-- ---- a round
+
+abbrev pub above : RoundId → Settings × Table → List ℕ
+above id r =
+    title (round_name id) (round_words id r.0.advance)
+    ++ conditions (settings_words id.event r.0) (state_words r.1.is_closed r.0.advance)
+    ++ table_start (attempts_of r.0.format)
+
+unfoldable pub section_of : List Command → RoundId → ℕ → Settings × Table → List ℕ
+section_of cs id position r =
+    above id r ++ flat_map (line_of (unit_of id.event) cs r.0 r.1) (standings r.1)
+    ++ below position
+
+-- a round, where it was opened
+abbrev pub section : List Command → ℕ → RoundId → List ℕ
+section cs position id =
+    unwrap_or (option_map (section_of cs id position) (round_of cs id.event id.round)) []
+
+-- ---- a link to a round's own page
+
+unfoldable pub link_of : RoundId → Settings × Table → List ℕ
+link_of id r =
+    codes "<a href=\"/" ++ round_name id ++ codes "\">" ++ round_words id r.0.advance
+    ++ codes "</a>\n"
+
+-- a link, where the round was opened
+abbrev pub link : List Command → RoundId → List ℕ
+link cs id = unwrap_or (option_map (link_of id) (round_of cs id.event id.round)) []

@@ -1,0 +1,15 @@
+//! Rounds and competitors of a meet in HTML, in people's words.
+//!
+//! [`push_round`] makes a round's table with what is said of the round, [`push_link`] a link to
+//! it, and [`push_person`] the rounds that a competitor is in.
+#![tactic(auto)]
+
+mod cells;
+mod counting;
+mod lines;
+mod persons;
+mod rounds_shown;
+mod shown;
+
+pub use persons::push_person;
+pub use rounds_shown::{push_link, push_round};

@@ -1,0 +1,151 @@
+//! The rounds that a competitor is in, in HTML.
+
+ghost use Rattle.std.specs.Prelude.{◌≡◌, ◌++◌, OnOk, IfOk, flat_map};
+ghost use Rattle.board_rounds.specs.Persons.{attempts_words, entry, person_headings};
+ghost use Rattle.board_rounds.specs.Persons.{person_of, person_start, round_cell, state_end};
+ghost use Rattle.round_words.specs.Words.{round_name, round_words};
+ghost use Rattle.board_rounds.specs.model.Shown.{entry_shown};
+
+use crate::cells::{attempt_text, place_text, push_cell, push_results};
+use crate::rounds_shown::{push_below, push_heading};
+use crate::shown::{Shown, shown_round};
+use attempts::{NoMemory, Unit, Value};
+use board_page::push_escaped;
+use commands::Meet;
+use formats::{Advance, Format, attempts_of, unit_of};
+use round_words::{push_round_name, push_round_words, state_words};
+use std::alloc::Global;
+use texts::RoundId;
+
+fn push_round_cell(out: &mut Vec<u8>, id: RoundId, advance: Advance) -> Result<(), NoMemory>
+    ensures { OnOk result (out.new.items ≡ out.old.items
+        ++ round_cell (round_name id) (round_words id advance)) }
+{
+    out.extend_from_slice(b"<tr><th scope=\"row\"><a href=\"/")?;
+    push_round_name(out, id)?;
+    out.extend_from_slice(b"\">")?;
+    push_round_words(out, id, advance)?;
+    out.extend_from_slice(b"</a></th>")?;
+    Ok(())
+}
+
+/// The attempts of an entrant, one after the other.
+fn attempts_text(
+    alloc: Global,
+    format: Format,
+    values: &[Value],
+    count: u8,
+    unit: Unit,
+) -> Result<Vec<u8>, NoMemory>
+    ensures { IfOk result (λ text. text.items ≡ attempts_words unit format values.now count) }
+{
+    let mut text = Vec::new(alloc);
+    for place in 0..count {
+        let attempt = attempt_text(alloc, format, values, place as usize, unit)?;
+        text.extend_from_slice(b" ")?;
+        text.extend_from_slice(&attempt)?;
+    }
+    Ok(text)
+}
+
+fn push_state(out: &mut Vec<u8>, closed: bool, advance: Advance) -> Result<(), NoMemory>
+    ensures { OnOk result (out.new.items ≡ out.old.items
+        ++ state_end closed advance) }
+{
+    push_cell(out, state_words(closed, advance).as_bytes())?;
+    out.extend_from_slice(b"</tr>\n")
+}
+
+/// Adds a round that a competitor is in.
+fn push_shown_entry(out: &mut Vec<u8>, shown: Shown<'_>, number: u16) -> Result<(), NoMemory>
+    ensures { OnOk result (out.new.items ≡ out.old.items ++ entry_shown shown.entry number) }
+{
+    let Some(row) = shown.table.row(number) else {
+        return Ok(());
+    };
+    let alloc = *out.allocator();
+    let format = shown.settings.format;
+    let unit = unit_of(shown.id.event);
+    let count = attempts_of(format);
+    let place = place_text(alloc, row.place, row.values)?;
+    let attempts = attempts_text(alloc, format, row.values, count, unit)?;
+    let closed = shown.table.is_closed();
+    push_round_cell(out, shown.id, shown.settings.advance)?;
+    push_cell(out, &place)?;
+    push_results(out, row.average, row.best, row.values, unit)?;
+    push_cell(out, &attempts)?;
+    push_state(out, closed, shown.settings.advance)?;
+    Ok(())
+}
+
+fn push_entry(out: &mut Vec<u8>, meet: &Meet, number: u16, id: RoundId) -> Result<(), NoMemory>
+    ensures { OnOk result (out.new.items ≡ out.old.items ++ entry meet.now.accepted number id) }
+{
+    let Some(shown) = shown_round(meet, id) else {
+        return Ok(());
+    };
+    push_shown_entry(out, shown, number)
+}
+
+fn push_entries(
+    out: &mut Vec<u8>,
+    meet: &Meet,
+    number: u16,
+    ids: &[RoundId],
+) -> Result<(), NoMemory>
+    ensures { OnOk result (out.new.items ≡ out.old.items
+        ++ flat_map (entry meet.now.accepted number) ids.now) }
+{
+    for id in ids {
+        push_entry(out, meet, number, *id)?;
+    }
+    Ok(())
+}
+
+fn push_start(out: &mut Vec<u8>, name: &[u8]) -> Result<(), NoMemory>
+    ensures { OnOk result (out.new.items ≡ out.old.items ++ person_start name.now) }
+{
+    out.extend_from_slice(b"<section class=\"person\"><h2 dir=\"auto\">")?;
+    push_escaped(out, name)?;
+    out.extend_from_slice(b"</h2>\n<table><thead><tr>")?;
+    Ok(())
+}
+
+fn push_person_headings(out: &mut Vec<u8>) -> Result<(), NoMemory>
+    ensures { OnOk result (out.new.items ≡ out.old.items ++ person_headings) }
+{
+    push_heading(out, b"round")?;
+    push_heading(out, b"place")?;
+    push_heading(out, b"average")?;
+    push_heading(out, b"best")?;
+    push_heading(out, b"attempts")?;
+    push_heading(out, b"state")?;
+    out.extend_from_slice(b"</tr></thead><tbody>\n")
+}
+
+/// Adds a competitor of a meet in HTML, as it stands after so many commands: the name, and each of
+/// these rounds that the competitor is in, with the place, the results and how far the round is. It
+/// adds nothing where the number is not registered.
+///
+/// # Errors
+///
+/// Where memory runs out. A front part may have been added then.
+#[tactic(auto, unfolding(crate::specs::Persons::person))]
+pub fn push_person(
+    out: &mut Vec<u8>,
+    meet: &Meet,
+    position: u32,
+    number: u16,
+    ids: &[RoundId],
+) -> Result<(), NoMemory>
+    ensures { OnOk result (out.new.items ≡ out.old.items
+        ++ person_of meet.now.accepted position number ids.now) }
+{
+    let Some(name) = meet.name(number) else {
+        return Ok(());
+    };
+    push_start(out, name)?;
+    push_person_headings(out)?;
+    push_entries(out, meet, number, ids)?;
+    push_below(out, position)
+}

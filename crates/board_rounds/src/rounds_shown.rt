@@ -1,0 +1,181 @@
+//! Rounds in HTML.
+
+ghost use Rattle.std.specs.Prelude.{◌≡◌, ◌++◌, OnOk, decimal};
+ghost use Rattle.advancement.specs.Advancing.{IsBorder};
+ghost use Rattle.board_rounds.specs.Rounds.{above, attempt_headings, below, conditions, heading};
+ghost use Rattle.board_rounds.specs.Rounds.{headings, link, section, table_start, title};
+ghost use Rattle.round_words.specs.Words.{round_name, round_words, settings_words, state_words};
+ghost use Rattle.board_rounds.specs.model.Shown.{link_shown, section_shown};
+
+use crate::lines::push_lines;
+use crate::shown::{Shown, shown_round};
+use attempts::{NoMemory, push_decimal};
+use commands::Meet;
+use formats::{Advance, Event, attempts_of};
+use round_words::{push_round_name, push_round_words, push_settings, push_state_words};
+use texts::{RoundId, Settings};
+
+/// Adds the name of a column.
+pub(crate) fn push_heading(out: &mut Vec<u8>, text: &[u8]) -> Result<(), NoMemory>
+    ensures { OnOk result (out.new.items ≡ out.old.items ++ heading text.now) }
+{
+    out.extend_from_slice(b"<th scope=\"col\">")?;
+    out.extend_from_slice(text)?;
+    out.extend_from_slice(b"</th>")?;
+    Ok(())
+}
+
+fn push_number_heading(out: &mut Vec<u8>, number: u32) -> Result<(), NoMemory>
+    ensures { OnOk result (out.new.items ≡ out.old.items ++ heading (decimal number)) }
+{
+    out.extend_from_slice(b"<th scope=\"col\">")?;
+    push_decimal(out, number)?;
+    out.extend_from_slice(b"</th>")?;
+    Ok(())
+}
+
+/// Adds the names of the attempts' columns.
+fn push_attempt_headings(out: &mut Vec<u8>, count: u8) -> Result<(), NoMemory>
+    ensures { OnOk result (out.new.items ≡ out.old.items
+        ++ attempt_headings count) }
+{
+    for place in 0..count {
+        push_number_heading(out, u32::from(place) + 1)?;
+    }
+    Ok(())
+}
+
+fn push_headings(out: &mut Vec<u8>, count: u8) -> Result<(), NoMemory>
+    ensures { OnOk result (out.new.items ≡ out.old.items ++ headings count) }
+{
+    push_heading(out, b"place")?;
+    push_heading(out, b"number")?;
+    push_heading(out, b"name")?;
+    push_heading(out, b"average")?;
+    push_heading(out, b"best")?;
+    push_attempt_headings(out, count)?;
+    push_heading(out, b"advances")
+}
+
+fn push_table_start(out: &mut Vec<u8>, count: u8) -> Result<(), NoMemory>
+    ensures { OnOk result (out.new.items ≡ out.old.items ++ table_start count) }
+{
+    out.extend_from_slice(b"<table><thead><tr>")?;
+    push_headings(out, count)?;
+    out.extend_from_slice(b"</tr></thead><tbody>\n")?;
+    Ok(())
+}
+
+fn push_title(out: &mut Vec<u8>, id: RoundId, advance: Advance) -> Result<(), NoMemory>
+    ensures { OnOk result (out.new.items ≡ out.old.items
+        ++ title (round_name id) (round_words id advance)) }
+{
+    out.extend_from_slice(b"<section id=\"")?;
+    push_round_name(out, id)?;
+    out.extend_from_slice(b"\"><h2>")?;
+    push_round_words(out, id, advance)?;
+    out.extend_from_slice(b"</h2>\n")?;
+    Ok(())
+}
+
+fn push_conditions(
+    out: &mut Vec<u8>,
+    event: Event,
+    settings: Settings,
+    closed: bool,
+) -> Result<(), NoMemory>
+    ensures { OnOk result (out.new.items ≡ out.old.items
+        ++ conditions (settings_words event settings) (state_words closed settings.advance)) }
+{
+    out.extend_from_slice(b"<p class=\"told\">")?;
+    push_settings(out, event, settings)?;
+    out.extend_from_slice(b", <strong>")?;
+    push_state_words(out, closed, settings.advance)?;
+    out.extend_from_slice(b"</strong></p>\n")?;
+    Ok(())
+}
+
+/// Adds what stands above the lines of a round.
+fn push_above(out: &mut Vec<u8>, shown: Shown<'_>) -> Result<(), NoMemory>
+    ensures { OnOk result (out.new.items ≡ out.old.items
+        ++ above shown.entry.id (shown.entry.settings, shown.entry.table.now)) }
+{
+    let settings = shown.settings;
+    push_title(out, shown.id, settings.advance)?;
+    push_conditions(out, shown.id.event, settings, shown.table.is_closed())?;
+    push_table_start(out, attempts_of(settings.format))
+}
+
+/// Adds what stands below the lines of a round, or of a competitor.
+#[tactic(auto, unfolding(crate::specs::Rounds::below))]
+pub(crate) fn push_below(out: &mut Vec<u8>, position: u32) -> Result<(), NoMemory>
+    ensures { OnOk result (out.new.items ≡ out.old.items ++ below position) }
+{
+    out.extend_from_slice(b"</tbody></table>\n<p class=\"at\">position ")?;
+    push_decimal(out, position)?;
+    out.extend_from_slice(b"</p></section>\n")
+}
+
+/// Adds a round.
+#[tactic(auto, unfolding(crate::specs::Rounds::section_of))]
+fn push_shown(out: &mut Vec<u8>, shown: Shown<'_>, position: u32) -> Result<(), NoMemory>
+    requires { IsBorder shown.table.now shown.settings.advance shown.border }
+    ensures { OnOk result (out.new.items ≡ out.old.items ++ section_shown shown.entry position) }
+{
+    let numbers = shown.table.standings()?;
+    push_above(out, shown)?;
+    push_lines(out, shown, &numbers)?;
+    push_below(out, position)
+}
+
+/// Adds a round of a meet in HTML, as it stands after so many commands, or nothing where the round
+/// was not opened.
+///
+/// Above it stand its title, as `3x3x3 Cube, Round 1`, its settings and how far it is. Each entrant
+/// has a line, in the order of the sheet, with the texts of the sheet, but for these. Who has no
+/// attempt has no place. Of five attempts the best and the worst stand in parentheses. In an open
+/// round those are told who would advance as it stands, and of a final nobody is told not to
+/// advance. The position stands below.
+///
+/// # Errors
+///
+/// Where memory runs out. A front part may have been added then.
+pub fn push_round(
+    out: &mut Vec<u8>,
+    meet: &Meet,
+    position: u32,
+    id: RoundId,
+) -> Result<(), NoMemory>
+    ensures { OnOk result (out.new.items ≡ out.old.items
+        ++ section meet.now.accepted position id) }
+{
+    let Some(shown) = shown_round(meet, id) else {
+        return Ok(());
+    };
+    push_shown(out, shown, position)
+}
+
+#[tactic(auto, unfolding(crate::specs::Rounds::link_of))]
+fn push_shown_link(out: &mut Vec<u8>, shown: Shown<'_>) -> Result<(), NoMemory>
+    ensures { OnOk result (out.new.items ≡ out.old.items ++ link_shown shown.entry) }
+{
+    out.extend_from_slice(b"<a href=\"/")?;
+    push_round_name(out, shown.id)?;
+    out.extend_from_slice(b"\">")?;
+    push_round_words(out, shown.id, shown.settings.advance)?;
+    out.extend_from_slice(b"</a>\n")
+}
+
+/// Adds a link to a round's own page, `/333-1`, or nothing where the round was not opened.
+///
+/// # Errors
+///
+/// Where memory runs out. A front part may have been added then.
+pub fn push_link(out: &mut Vec<u8>, meet: &Meet, id: RoundId) -> Result<(), NoMemory>
+    ensures { OnOk result (out.new.items ≡ out.old.items ++ link meet.now.accepted id) }
+{
+    let Some(shown) = shown_round(meet, id) else {
+        return Ok(());
+    };
+    push_shown_link(out, shown)
+}

@@ -1,0 +1,56 @@
+//! A round that was opened, as it is shown.
+
+ghost use Rattle.std.specs.Prelude.{◌≡◌, IfSome, option_map};
+ghost use Rattle.advancement.specs.Advancing.{IsBorder};
+ghost use Rattle.commands.specs.Accepted.{round_of};
+ghost use Rattle.sheets.specs.Sheet.{name_text};
+
+use advancement::border;
+use commands::Meet;
+use rounds::RoundTable;
+use texts::{RoundId, Settings};
+
+/// A round that was opened, and the meet that it belongs to.
+#[derive(Clone, Copy)]
+pub(crate) struct Shown<'a> {
+    pub(crate) meet: &'a Meet,
+    pub(crate) id: RoundId,
+    pub(crate) settings: Settings,
+    pub(crate) table: &'a RoundTable,
+    /// The place at which nobody advances any more: it is found once for all entrants.
+    pub(crate) border: u16,
+}
+
+/// The round to show, if it was opened.
+pub(crate) fn shown_round(meet: &Meet, id: RoundId) -> Option<Shown<'_>>
+    ensures meet { IfSome result (λ shown. shown.meet.now ≡ meet.now) }
+    ensures id { IfSome result (λ shown. shown.id ≡ id) }
+    ensures round { option_map (λ shown. (shown.settings, shown.table.now)) result
+        ≡ round_of meet.now.accepted id.event id.round }
+    ensures border { IfSome result (λ shown.
+        IsBorder shown.table.now shown.settings.advance shown.border) }
+{
+    let (Some(table), Some(settings)) = (
+        meet.round(id.event, id.round),
+        meet.settings(id.event, id.round),
+    ) else {
+        return None;
+    };
+    Some(Shown {
+        meet,
+        id,
+        settings,
+        table,
+        border: border(table, settings.advance),
+    })
+}
+
+/// The name of a competitor; an entrant always has one.
+pub(crate) fn name_text(meet: &Meet, number: u16) -> &[u8]
+    ensures { result.now ≡ name_text meet.now.accepted number }
+{
+    match meet.name(number) {
+        Some(name) => name,
+        None => &[],
+    }
+}

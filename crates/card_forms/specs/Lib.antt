@@ -1,0 +1,6 @@
+pub mod Ids
+pub mod Pairs
+pub mod Cards
+pub mod Readings
+pub mod Items
+pub mod Asking

@@ -1,0 +1,157 @@
+//! The fields of a command's form.
+
+ghost use Rattle.std.specs.Prelude.{◌≤◌, IfOk};
+
+use crate::cards::round_of;
+use crate::command_faults::{CommandFormFault, Field, Wrong};
+use crate::pairs::Pairs;
+use attempts::Unit;
+use formats::{Advance, Event, Format, MOST_ENTRANTS, unit_of};
+use scorecard::read;
+use std::alloc::Global;
+use texts::{Entered, RoundId, Settings, number_between};
+
+/// The greatest cutoff and the greatest limit, in hundredths of a second.
+const MOST_TIME: u32 = 360_000;
+
+/// The fault of a field.
+fn wrong(field: Field, why: Wrong) -> CommandFormFault {
+    CommandFormFault::Wrong { field, why }
+}
+
+/// A number of a range.
+fn number(
+    pairs: &Pairs,
+    name: &str,
+    field: Field,
+    low: u32,
+    high: u32,
+) -> Result<u32, CommandFormFault>
+    ensures { IfOk result (λ number. (low ≤ number) × (number ≤ high)) }
+{
+    let text = pairs.value(name).trim_ascii();
+    match number_between(u64::from(low), u64::from(high), text) {
+        Some(number) => Ok(number as u32),
+        None => Err(wrong(field, Wrong::NotBetween { low, high })),
+    }
+}
+
+/// The competitor's number.
+pub(crate) fn competitor(pairs: &Pairs) -> Result<u16, CommandFormFault> {
+    Ok(number(pairs, "number", Field::Number, 1, 9_999)? as u16)
+}
+
+/// The number of an attempt.
+pub(crate) fn attempt(pairs: &Pairs) -> Result<u8, CommandFormFault> {
+    Ok(number(pairs, "attempt", Field::Attempt, 1, 5)? as u8)
+}
+
+/// The event.
+pub(crate) fn event(pairs: &Pairs) -> Result<Event, CommandFormFault> {
+    let text = pairs.value("event").trim_ascii();
+    Event::from_name(text).ok_or(wrong(Field::Event, Wrong::NotAnEvent))
+}
+
+/// The round.
+pub(crate) fn round(pairs: &Pairs) -> Result<RoundId, CommandFormFault> {
+    let text = pairs.value("round").trim_ascii();
+    round_of(text).ok_or(wrong(Field::Round, Wrong::NotARound))
+}
+
+/// The format.
+fn format(pairs: &Pairs) -> Result<Format, CommandFormFault> {
+    let text = pairs.value("format").trim_ascii();
+    Format::from_name(text).ok_or(wrong(Field::Format, Wrong::NotAFormat))
+}
+
+/// The hundredths of a second of a time that is written as on a scorecard, at most an hour.
+fn clock(alloc: Global, text: &[u8]) -> Option<u32> {
+    match read(alloc, Event::Cube3, text) {
+        Ok(
+            Entered::Time {
+                hundredths,
+                penalties: 0,
+            },
+        ) if hundredths <= MOST_TIME => Some(hundredths),
+        _ => None,
+    }
+}
+
+/// Whether a field says that there is none.
+fn is_none(text: &[u8]) -> bool {
+    text.is_empty() || text == b"-".as_slice()
+}
+
+/// What an attempt has to be below, in the event's unit.
+fn below(alloc: Global, event: Event, text: &[u8]) -> Result<u32, CommandFormFault> {
+    match unit_of(event) {
+        Unit::Time => clock(alloc, text).ok_or(wrong(Field::Cutoff, Wrong::NotATime)),
+        Unit::Moves | Unit::Multi => {
+            let high = MOST_TIME;
+            match number_between(1, u64::from(high), text) {
+                Some(number) => Ok(number as u32),
+                None => Err(wrong(Field::Cutoff, Wrong::NotBetween { low: 1, high })),
+            }
+        }
+    }
+}
+
+/// The cutoff: none where nothing or `-` is written in both of its fields.
+fn cutoff(
+    alloc: Global,
+    pairs: &Pairs,
+    event: Event,
+) -> Result<Option<(u8, u32)>, CommandFormFault> {
+    let text = pairs.value("cutoff").trim_ascii();
+    if is_none(text) && is_none(pairs.value("after").trim_ascii()) {
+        return Ok(None);
+    }
+    let after = number(pairs, "after", Field::After, 1, 4)? as u8;
+    let below = below(alloc, event, text)?;
+    Ok(Some((after, below)))
+}
+
+/// The time limit: none where nothing or `-` is written.
+fn limit(alloc: Global, pairs: &Pairs) -> Result<Option<u32>, CommandFormFault> {
+    let text = pairs.value("limit").trim_ascii();
+    if is_none(text) {
+        return Ok(None);
+    }
+    match clock(alloc, text) {
+        Some(limit) => Ok(Some(limit)),
+        None => Err(wrong(Field::Limit, Wrong::NotATime)),
+    }
+}
+
+/// Who advances.
+pub(crate) fn advance(pairs: &Pairs) -> Result<Advance, CommandFormFault> {
+    let text = pairs.value("advance").trim_ascii();
+    if text == b"final".as_slice() {
+        Ok(Advance::Final)
+    } else if text == b"top".as_slice() {
+        let most = u32::from(MOST_ENTRANTS);
+        Ok(Advance::Top(number(pairs, "amount", Field::Amount, 1, most)? as u16))
+    } else if text == b"pct".as_slice() {
+        Ok(Advance::Percent(number(pairs, "amount", Field::Amount, 1, 75)? as u8))
+    } else {
+        Err(wrong(Field::Advance, Wrong::NotAnAdvance))
+    }
+}
+
+/// How a round is run.
+pub(crate) fn settings(
+    alloc: Global,
+    pairs: &Pairs,
+    event: Event,
+) -> Result<Settings, CommandFormFault> {
+    let format = format(pairs)?;
+    let cutoff = cutoff(alloc, pairs, event)?;
+    let limit = limit(alloc, pairs)?;
+    let advance = advance(pairs)?;
+    Ok(Settings {
+        format,
+        cutoff,
+        limit,
+        advance,
+    })
+}

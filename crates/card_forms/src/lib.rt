@@ -1,0 +1,33 @@
+//! What a browser sends from the forms of the score table: a card, or a command.
+//!
+//! [`Pairs`] are the names and values of a body of `application/x-www-form-urlencoded`. From them
+//! [`card_form`] takes a card as it was typed, and [`command_form`] a command as it will be sent.
+//! [`card_of`] reads the fields of a card. An [`Item`] is one of the two, and [`State`] says what
+//! has become of it.
+#![tactic(auto)]
+
+mod asking;
+mod cards;
+mod command_faults;
+mod command_fields;
+mod command_text;
+mod faults;
+mod form_id;
+mod items;
+mod pairs;
+mod reading;
+mod typed;
+
+pub use asking::{CommandForm, command_form};
+pub use cards::{CardForm, card_form, round_of};
+pub use command_faults::{CommandFormFault, Field, Wrong};
+pub use command_text::CommandText;
+pub use faults::{CardFormFault, CardReading, NumberFault, Unread};
+pub use form_id::FormId;
+pub use items::{Item, Outcome, Reason, Recent, State};
+pub use pairs::{Pair, Pairs};
+pub use reading::{card_of, number_of};
+pub use typed::{Fields, Typed};
+
+#[cfg(test)]
+mod tests;

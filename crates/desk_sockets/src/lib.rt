@@ -1,0 +1,6 @@
+//! The connection of a dialogue to a desk of a hall, over TCP. No socket makes anybody wait.
+#![tactic(auto)]
+
+mod desk_stream;
+
+pub use desk_stream::{DeskStream, Kept};

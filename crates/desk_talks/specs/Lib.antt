@@ -1,0 +1,3 @@
+pub mod Dialogues
+pub mod Lines
+pub mod Talks

@@ -1,0 +1,153 @@
+-- A connection to one desk that is kept up. Times are milliseconds.
+use Rattle.std.specs.Prelude.{ℕ, ◌≡◌, ◌-◌, List, [], Option, None, Some, Bool, true, false}
+use Rattle.std.specs.Prelude.{nat_le, if◌then◌else◌, option_map}
+use Rattle.wire.specs.declared.frame.Frame.{Frame}
+use Rattle.wire.specs.Stream.{holding}
+use Rattle.desk_talks.specs.Talks.{Hears, TalkOf, asking, sending, talk}
+use Rattle.desk_talks.specs.declared.line.Due.{Due}
+use Rattle.desk_talks.specs.declared.line.Due.TheVariants as due
+use Rattle.desk_talks.specs.declared.line.Stage.{Stage}
+use Rattle.desk_talks.specs.declared.line.Stage.TheVariants as stage
+use Rattle.desk_talks.specs.declared.talk.Heard.{Heard}
+use Rattle.desk_talks.specs.declared.talk.Heard.TheVariants as heard
+
+-- the pace, what the connection has come to, and the talk over it, if it is open
+pub record LineOf : Type 0 where
+  pub pace : ℕ
+  pub stage : Stage
+  pub talking : Option TalkOf
+
+abbrev pub line : ℕ → Stage → Option TalkOf → LineOf
+line pace stage talking = record { pace = pace; stage = stage; talking = talking }
+
+abbrev pub new_line : ℕ → LineOf
+new_line pace = line pace (stage.Closed None) None
+
+-- ---- time
+
+-- so many milliseconds have gone since then
+abbrev pub is_over : ℕ → ℕ → ℕ → Bool
+is_over now since millis = nat_le millis (now - since)
+
+-- what is left of so many milliseconds from then on
+abbrev pub left_of : ℕ → ℕ → ℕ → ℕ
+left_of now since millis = millis - (now - since)
+
+-- the pace has gone since then, or there is no such time
+abbrev pub is_free : Option ℕ → ℕ → ℕ → Bool
+is_free None pace now = true
+is_free (Some last) pace now = is_over now last pace
+
+abbrev pub pace_left : Option ℕ → ℕ → ℕ → ℕ
+pace_left None pace now = 0
+pace_left (Some last) pace now = left_of now last pace
+
+-- ---- what is due
+
+abbrev pub due_at : Stage → ℕ → ℕ → Due
+due_at (stage.Closed last) pace now = if is_free last pace now then due.Open else due.Rest
+due_at (stage.Opening since) pace now = if is_over now since 2000 then due.Close else due.Rest
+due_at (stage.Opened since) pace now = due.Ask
+due_at (stage.Asked since) pace now = if is_over now since 2000 then due.Close else due.Rest
+due_at (stage.Answered last) pace now = if is_free last pace now then due.Ask else due.Rest
+
+abbrev pub due_of : LineOf → ℕ → Due
+due_of l now = due_at l.stage l.pace now
+
+abbrev pub wait_at : Stage → ℕ → ℕ → ℕ
+wait_at (stage.Closed last) pace now = pace_left last pace now
+wait_at (stage.Opening since) pace now = left_of now since 2000
+wait_at (stage.Opened since) pace now = 0
+wait_at (stage.Asked since) pace now = left_of now since 2000
+wait_at (stage.Answered last) pace now = pace_left last pace now
+
+-- how long it is until something is due, if nothing comes
+abbrev pub wait_of : LineOf → ℕ → ℕ
+wait_of l now = wait_at l.stage l.pace now
+
+abbrev pub is_opening : Stage → Bool
+is_opening (stage.Closed last) = false
+is_opening (stage.Opening since) = true
+is_opening (stage.Opened since) = false
+is_opening (stage.Asked since) = false
+is_opening (stage.Answered last) = false
+
+-- ---- what becomes of the connection
+
+-- the time of the last question, or of the last opening where nothing was asked after it; none
+-- where the next may come at once
+abbrev pub last_of : Stage → Option ℕ
+last_of (stage.Closed last) = last
+last_of (stage.Opening since) = Some since
+last_of (stage.Opened since) = Some since
+last_of (stage.Asked since) = Some since
+last_of (stage.Answered last) = last
+
+abbrev pub closed : LineOf → LineOf
+closed l = line l.pace (stage.Closed (last_of l.stage)) None
+
+abbrev pub opening : LineOf → ℕ → LineOf
+opening l now = line l.pace (stage.Opening now) None
+
+abbrev pub opened_stage : Stage → Stage
+opened_stage (stage.Closed last) = stage.Closed last
+opened_stage (stage.Opening since) = stage.Opened since
+opened_stage (stage.Opened since) = stage.Opened since
+opened_stage (stage.Asked since) = stage.Asked since
+opened_stage (stage.Answered last) = stage.Answered last
+
+-- the connection is open and nothing was said over it; where memory is refused, it is closed
+abbrev pub Opens : Bool → LineOf → LineOf → Type 0
+Opens true old new =
+    new ≡ line old.pace (opened_stage old.stage) (Some (talk (holding []) None []))
+Opens false old new = new ≡ closed old
+
+-- ---- what is said over it
+
+-- the question is asked; where there is no connection, or memory is refused, it is closed
+abbrev pub AsksOver : Bool → ℕ → Frame → LineOf → LineOf → Type 0
+AsksOver true now question old new =
+    (t : TalkOf) × (old.talking ≡ Some t)
+    × (new ≡ line old.pace (stage.Asked now) (Some (asking t question)))
+AsksOver false now question old new = new ≡ closed old
+
+abbrev pub hurried_stage : Stage → Stage
+hurried_stage (stage.Closed last) = stage.Closed last
+hurried_stage (stage.Opening since) = stage.Opening since
+hurried_stage (stage.Opened since) = stage.Opened since
+hurried_stage (stage.Asked since) = stage.Asked since
+hurried_stage (stage.Answered last) = stage.Answered None
+
+abbrev pub hurried : LineOf → LineOf
+hurried l = line l.pace (hurried_stage l.stage) l.talking
+
+-- what is to be written
+abbrev pub unsent_by : Option TalkOf → List ℕ
+unsent_by None = []
+unsent_by (Some t) = t.unsent
+
+abbrev pub sent_by : LineOf → ℕ → LineOf
+sent_by l count = line l.pace l.stage (option_map (λ t. sending t count) l.talking)
+
+abbrev pub answered_stage : Stage → Stage
+answered_stage (stage.Closed last) = stage.Closed last
+answered_stage (stage.Opening since) = stage.Opening since
+answered_stage (stage.Opened since) = stage.Opened since
+answered_stage (stage.Asked since) = stage.Answered (Some since)
+answered_stage (stage.Answered last) = stage.Answered last
+
+-- what the bytes come to closes the connection, or it goes on
+abbrev pub after_heard : Heard → LineOf → TalkOf → LineOf
+after_heard heard.Waits l t = line l.pace l.stage (Some t)
+after_heard (heard.Answer what) l t = line l.pace (answered_stage l.stage) (Some t)
+after_heard (heard.Refused refusal) l t = line l.pace (answered_stage l.stage) (Some t)
+after_heard heard.NoAnswer l t = closed l
+
+-- without a connection nothing comes
+abbrev pub HearsAt : Option TalkOf → Heard → List ℕ → LineOf → LineOf → Type 0
+HearsAt None told piece old new = (told ≡ heard.Waits) × (new ≡ old)
+HearsAt (Some t) told piece old new =
+    (after : TalkOf) × Hears told piece t after × (new ≡ after_heard told old after)
+
+abbrev pub HearsOver : Heard → List ℕ → LineOf → LineOf → Type 0
+HearsOver told piece old new = HearsAt old.talking told piece old new

@@ -1,0 +1,72 @@
+//! What wants a connection to a desk of a hall, and what is to be done for it.
+
+ghost use Rattle.std.specs.Prelude.{◌≡◌, false};
+ghost use Rattle.desk_talks.specs.Dialogues.{has_changed};
+
+/// What is to be done now.
+#[derive(Clone, Copy, PartialEq, Eq, Debug)]
+pub enum Wish {
+    /// Nothing, until something comes or some time is over.
+    Rest,
+    /// Open a connection to this desk, 1 to 5: call `opened` once it is open, or `lost`.
+    Open { desk: u8 },
+    /// Write the output: call `sent` with how many bytes were written.
+    Write,
+    /// Close the connection, or give up opening it. No call is to be made.
+    Close,
+    /// Close the connection, if there is one, and say loudly that the hall is broken: two of its
+    /// desks told different entries for one position.
+    Stop,
+}
+
+/// What came of bytes that a desk sent.
+#[derive(Clone, Copy, PartialEq, Eq, Debug)]
+pub enum Came {
+    /// No answer is whole yet, or there is no connection.
+    Nothing,
+    /// The desk answered. Where nothing changed, the dialogue holds what it held.
+    Answer { changed: bool },
+    /// It was no answer. The connection is to be closed; no further call is to be made for it.
+    NoAnswer,
+}
+
+/// Whoever talks with the desks of a hall over one connection at a time. Its caller asks it again
+/// and again what is to be done (`act`), does it over a connection, and says what came of it.
+///
+/// What it holds is what it has of the desks' answers. What becomes of the connection changes
+/// nothing of that.
+pub trait Dialogue {
+    /// What a dialogue can hold.
+    ghost Held: { Type 0 };
+
+    /// What it holds.
+    ghost held: { Self → Held };
+
+    /// What is to be done now, at so many milliseconds of a clock that doesn't go back. It counts
+    /// as begun.
+    fn act(&mut self, now: u64) -> Wish
+        ensures { held self.new ≡ held self.old };
+
+    /// Whether a connection is being opened.
+    fn is_opening(&self) -> bool;
+
+    /// Says that the connection that was being opened is open. Where the answer is false, it is to
+    /// be closed, and counts as lost.
+    fn opened(&mut self) -> bool
+        ensures { held self.new ≡ held self.old };
+
+    /// Says that the connection is lost: it couldn't be opened, it failed, or the desk ended it.
+    fn lost(&mut self)
+        ensures { held self.new ≡ held self.old };
+
+    /// What is to be written now.
+    fn output(&self) -> &[u8];
+
+    /// Says that so many bytes of the output were written.
+    fn sent(&mut self, count: usize)
+        ensures { held self.new ≡ held self.old };
+
+    /// Takes bytes that came from the desk over the connection.
+    fn hear(&mut self, now: u64, piece: &[u8]) -> Came
+        ensures { has_changed result ≡ false → held self.new ≡ held self.old };
+}

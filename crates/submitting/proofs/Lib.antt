@@ -1,0 +1,3 @@
+mod Given
+mod Steps
+mod Within

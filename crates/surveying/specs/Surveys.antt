@@ -1,0 +1,106 @@
+-- A survey of one desk.
+use Rattle.std.specs.Prelude.{ℕ, ◌≡◌, List, Option, None, Some, Bool, true, false}
+use Rattle.client.specs.Standings.{status_request}
+use Rattle.wire.specs.declared.frame.What.{What}
+use Rattle.wire.specs.declared.frame.What.TheVariants as what
+use Rattle.desk_talks.specs.Lines.{AsksOver, HearsOver, LineOf, closed, due_of, new_line, opening}
+use Rattle.desk_talks.specs.Lines.{sent_by as line_sent_by, Opens as OpensLine}
+use Rattle.desk_talks.specs.declared.dialogue.Came.{Came}
+use Rattle.desk_talks.specs.declared.dialogue.Came.TheVariants as came
+use Rattle.desk_talks.specs.declared.dialogue.Wish.{Wish}
+use Rattle.desk_talks.specs.declared.dialogue.Wish.TheVariants as wish
+use Rattle.desk_talks.specs.declared.line.Due.{Due}
+use Rattle.desk_talks.specs.declared.line.Due.TheVariants as due
+use Rattle.desk_talks.specs.declared.talk.Heard.{Heard}
+use Rattle.desk_talks.specs.declared.talk.Heard.TheVariants as heard
+use Rattle.surveying.specs.declared.survey.Contact.{Contact}
+use Rattle.surveying.specs.declared.survey.Contact.TheVariants as contact
+use Rattle.surveying.specs.declared.survey.Told.{Told}
+
+-- the number of the hall and of the desk, the connection, what the desk said last, and whether it
+-- answers
+pub record SurveyOf : Type 0 where
+  pub hall : ℕ
+  pub desk : ℕ
+  pub line : LineOf
+  pub told : Option Told
+  pub contact : Contact
+
+abbrev pub survey : ℕ → ℕ → LineOf → Option Told → Contact → SurveyOf
+survey hall desk line told contact =
+    record { hall = hall; desk = desk; line = line; told = told; contact = contact }
+
+-- the desk is asked once a second, and was not asked yet
+abbrev pub new_survey : ℕ → ℕ → SurveyOf
+new_survey hall desk = survey hall desk (new_line 1000) None contact.NotAsked
+
+-- what the desk said last
+abbrev pub held : SurveyOf → Option Told
+held s = s.told
+
+abbrev pub with_line : SurveyOf → LineOf → SurveyOf
+with_line s line = survey s.hall s.desk line s.told s.contact
+
+-- the connection is lost
+abbrev pub lost : SurveyOf → SurveyOf
+lost s = survey s.hall s.desk (closed s.line) s.told contact.Silent
+
+-- ---- what is done
+
+-- The desk is asked how it stands. Where there is no connection, or memory is refused, it is lost.
+abbrev pub Asks : Wish → ℕ → SurveyOf → SurveyOf → Type 0
+Asks wish.Write now old new =
+    (after : LineOf) × AsksOver true now (status_request old.hall old.desk) old.line after
+    × (new ≡ with_line old after)
+Asks wish.Close now old new = new ≡ lost old
+Asks wish.Rest now old new = ⊥
+Asks (wish.Open desk) now old new = ⊥
+Asks wish.Stop now old new = ⊥
+
+abbrev pub ActsBy : Due → Wish → ℕ → SurveyOf → SurveyOf → Type 0
+ActsBy due.Rest w now old new = (w ≡ wish.Rest) × (new ≡ old)
+ActsBy due.Open w now old new =
+    (w ≡ wish.Open old.desk) × (new ≡ with_line old (opening old.line now))
+ActsBy due.Ask w now old new = Asks w now old new
+ActsBy due.Close w now old new = (w ≡ wish.Close) × (new ≡ lost old)
+
+abbrev pub Acts : Wish → ℕ → SurveyOf → SurveyOf → Type 0
+Acts w now old new = ActsBy (due_of old.line now) w now old new
+
+-- ---- what comes
+
+-- the connection is open; where memory is refused, it is lost
+abbrev pub Opens : Bool → SurveyOf → SurveyOf → Type 0
+Opens true old new =
+    (after : LineOf) × OpensLine true old.line after × (new ≡ with_line old after)
+Opens false old new = new ≡ lost old
+
+abbrev pub sent_by : SurveyOf → ℕ → SurveyOf
+sent_by s count = with_line s (line_sent_by s.line count)
+
+abbrev pub Fails : Came → SurveyOf → SurveyOf → Type 0
+Fails c old new = (c ≡ came.NoAnswer) × (new ≡ lost old)
+
+-- what follows of an answer: it says how the desk stands now
+abbrev pub FollowsAnswer : What → Came → ℕ → SurveyOf → SurveyOf → Type 0
+FollowsAnswer (what.Standing standing) c now old new =
+    (c ≡ came.Answer true)
+    × (new ≡ survey old.hall old.desk old.line (Some (record { standing = standing; at = now }))
+    contact.Answers)
+FollowsAnswer _ c now old new = Fails c old new
+
+-- what follows of what the desk's bytes came to
+abbrev pub Follows : Heard → Came → ℕ → SurveyOf → SurveyOf → Type 0
+Follows heard.Waits c now old new = (c ≡ came.Nothing) × (new ≡ old)
+Follows (heard.Answer answer) c now old new = FollowsAnswer answer c now old new
+Follows (heard.Refused refusal) c now old new =
+    (c ≡ came.Answer false)
+    × (new ≡ survey old.hall old.desk old.line old.told (contact.Refuses refusal))
+Follows heard.NoAnswer c now old new = Fails c old new
+
+-- what the bytes come to over the connection, and what follows of it
+pub record HearsDesk (c : Came) (now : ℕ) (piece : List ℕ) (old new : SurveyOf) : Type 0 where
+  pub heard : Heard
+  pub after : LineOf
+  pub hears : HearsOver heard piece old.line after
+  pub follows : Follows heard c now (with_line old after) new

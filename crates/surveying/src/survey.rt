@@ -1,0 +1,243 @@
+//! The survey of one desk.
+
+ghost use Rattle.std.specs.Prelude.{◌≡◌, ◌≤◌};
+ghost use Rattle.desk_talks.specs.Lines.{unsent_by, wait_of};
+ghost use Rattle.surveying.specs.Surveys.{Acts, Asks, Follows, HearsDesk, Opens, lost};
+ghost use Rattle.surveying.specs.Surveys.{new_survey, sent_by};
+ghost use Rattle.wire.specs.Ranges.{IsDesk};
+
+use client::status_request;
+use desk_talks::{Came, Dialogue, Due, Heard, Line, Wish};
+use std::alloc::Global;
+use std::marker::Model;
+use wire::{ClientRefusal, Standing, What};
+
+/// How often the desk is asked, in milliseconds.
+const PACE: u64 = 1000;
+
+/// Whether a desk answers.
+#[derive(Clone, Copy, PartialEq, Eq, Debug)]
+pub enum Contact {
+    /// Nothing has come of asking it yet.
+    NotAsked,
+    /// It said how it stands when it was asked last.
+    Answers,
+    /// No connection could be opened, or it was lost, or for two seconds no answer came.
+    Silent,
+    /// It refused when it was asked last.
+    Refuses(ClientRefusal),
+}
+
+/// What a desk said.
+#[derive(Clone, Copy, PartialEq, Eq, Debug)]
+pub struct Told {
+    /// How it stands.
+    pub standing: Standing,
+    /// When it said so, in milliseconds.
+    pub at: u64,
+}
+
+/// Asks one desk of a hall how it stands, once a second, over a connection that is kept. Where a
+/// connection isn't open or a question isn't answered in two seconds, it is closed and opened
+/// again. Its caller does what the survey wants over one connection (`desk_talks::Dialogue`).
+///
+/// A contract sees the number of the hall and of the desk, the connection, what the desk said last,
+/// and whether it answers.
+#[derive(Drop)]
+pub struct Survey {
+    hall: u32,
+    desk: u8,
+    line: Line,
+    told: Option<Told>,
+    contact: Contact,
+}
+
+impl Model for Survey {
+    ghost use Rattle.surveying.specs.Surveys.{SurveyOf, survey};
+    ghost use Rattle.wire.specs.Ranges.{IsDesk};
+
+    ghost Value = { SurveyOf };
+
+    ghost view = { λ s. survey s.hall s.desk s.line s.told s.contact };
+
+    ghost invariant = { λ s. IsDesk s.desk };
+}
+
+impl Survey {
+    /// A survey of the desk with this number, 1 to 5, that was not asked yet.
+    pub fn new(alloc: Global, hall: u32, desk: u8) -> Survey
+        requires { IsDesk desk }
+        ensures { result ≡ new_survey hall desk }
+    {
+        Survey {
+            hall,
+            desk,
+            line: Line::new(alloc, PACE),
+            told: None,
+            contact: Contact::NotAsked,
+        }
+    }
+
+    /// The number of the desk, 1 to 5.
+    pub fn desk(&self) -> u8
+        ensures desk { result ≡ self.now.desk }
+        ensures in_range { IsDesk result }
+    {
+        self.desk
+    }
+
+    /// What the desk said last, and when. None: it has not said how it stands.
+    pub fn told(&self) -> Option<Told>
+        ensures { result ≡ self.now.told }
+    {
+        self.told
+    }
+
+    /// Whether the desk answers now.
+    pub fn contact(&self) -> Contact
+        ensures { result ≡ self.now.contact }
+    {
+        self.contact
+    }
+
+    /// In how many milliseconds something is to be done, if nothing comes: 0 where something is to
+    /// be done already.
+    pub fn wait(&self, now: u64) -> u64
+        ensures { result ≡ wait_of self.now.line now }
+    {
+        self.line.wait(now)
+    }
+
+    /// What is to be done now, at so many milliseconds of a clock that doesn't go back. It counts
+    /// as begun.
+    pub fn act(&mut self, now: u64) -> Wish
+        ensures { Acts result now self.old self.new }
+    {
+        match self.line.due(now) {
+            Due::Rest => Wish::Rest,
+            Due::Open => {
+                self.line.open(now);
+                Wish::Open { desk: self.desk }
+            }
+            Due::Ask => self.ask(now),
+            Due::Close => {
+                self.lost();
+                Wish::Close
+            }
+        }
+    }
+
+    /// Asks the desk how it stands.
+    fn ask(&mut self, now: u64) -> Wish
+        ensures { Asks result now self.old self.new }
+    {
+        if self.line.ask(now, status_request(self.hall, self.desk)) {
+            return Wish::Write;
+        }
+        self.contact = Contact::Silent;
+        Wish::Close
+    }
+
+    /// Says that the connection that was being opened is open. Where memory is refused, it counts
+    /// as lost, and the answer is false: it is to be closed.
+    pub fn opened(&mut self) -> bool
+        ensures { Opens result self.old self.new }
+    {
+        let opened = self.line.opened();
+        if !opened {
+            self.contact = Contact::Silent;
+        }
+        opened
+    }
+
+    /// Says that the connection is lost: it couldn't be opened, it failed, or the desk ended it.
+    pub fn lost(&mut self)
+        ensures { self.new ≡ lost self.old }
+    {
+        self.line.close();
+        self.contact = Contact::Silent;
+    }
+
+    /// What is to be written now.
+    pub fn output(&self) -> &[u8]
+        ensures { result.now ≡ unsent_by self.now.line.talking }
+    {
+        self.line.output()
+    }
+
+    /// Says that so many bytes of the output were written.
+    pub fn sent(&mut self, count: usize)
+        ensures { self.new ≡ sent_by self.old count }
+    {
+        self.line.sent(count);
+    }
+
+    /// Takes bytes that came from the desk over the connection.
+    pub fn hear(&mut self, now: u64, piece: &[u8]) -> Came
+        ensures { HearsDesk result now piece.now self.old self.new }
+    {
+        let heard = self.line.hear(piece);
+        self.follow(now, heard)
+    }
+
+    /// Does what follows of what the desk's bytes came to.
+    fn follow(&mut self, now: u64, heard: Heard) -> Came
+        ensures { Follows heard result now self.old self.new }
+    {
+        match heard {
+            Heard::Waits => Came::Nothing,
+            Heard::Answer(What::Standing { standing }) => {
+                self.told = Some(Told { standing, at: now });
+                self.contact = Contact::Answers;
+                Came::Answer { changed: true }
+            }
+            Heard::Refused(refusal) => {
+                self.contact = Contact::Refuses(refusal);
+                Came::Answer { changed: false }
+            }
+            _ => {
+                self.lost();
+                Came::NoAnswer
+            }
+        }
+    }
+}
+
+impl Dialogue for Survey {
+    ghost use Rattle.std.specs.Prelude.{Option};
+    ghost use Rattle.surveying.specs.Surveys.{held};
+    ghost use Rattle.surveying.specs.declared.survey.Told.{Told as ToldOf};
+
+    ghost Held = { Option ToldOf };
+
+    // What the desk said last.
+    ghost held = { held };
+
+    fn act(&mut self, now: u64) -> Wish {
+        self.act(now)
+    }
+
+    fn is_opening(&self) -> bool {
+        self.line.is_opening()
+    }
+
+    fn opened(&mut self) -> bool {
+        self.opened()
+    }
+
+    fn lost(&mut self) {
+        self.lost();
+    }
+
+    fn output(&self) -> &[u8] {
+        self.output()
+    }
+
+    fn sent(&mut self, count: usize) {
+        self.sent(count);
+    }
+
+    fn hear(&mut self, now: u64, piece: &[u8]) -> Came {
+        self.hear(now, piece)
+    }
+}
