@@ -93,7 +93,8 @@ after_ask : (hall : ℕ) (desks : List ℕ) (entries : List Entry) (w : Wish) (n
     → IsOf hall desks entries new
 after_ask hall desks entries wish.Write now old new of asks =
     after_next hall desks entries (drop old.taken old.entries) now old new of refl asks
-after_ask hall desks entries wish.Close now old new of e = after_lost hall desks entries old new of e
+after_ask hall desks entries wish.Close now old new of e =
+    after_lost hall desks entries old new of e
 after_ask hall desks entries wish.Rest now old new of none = absurd none
 after_ask hall desks entries (wish.Open d) now old new of none = absurd none
 after_ask hall desks entries wish.Stop now old new of none = absurd none

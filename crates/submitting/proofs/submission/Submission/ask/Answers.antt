@@ -16,5 +16,6 @@ returns-then-ask c =
     (asks_next c.ask.result c.args.now c.in-Ok.entry c.submit_request-request.result seen line
     c.if-ask.true
     (subst (λ (s : SubmissionOf). s.taken < length s.entries) (sym c.self.view_is) c.requires)
-    (subst (λ (z : Entry). z ≡ get_or i.entries.items i.taken z) (sym c.in-Ok.ensures) c.index.ensures)
+    (subst (λ (z : Entry). z ≡ get_or i.entries.items i.taken z) (sym c.in-Ok.ensures)
+    c.index.ensures)
     c.submit_request-request.ensures.request c.ask.ensures)

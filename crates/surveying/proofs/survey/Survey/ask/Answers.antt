@@ -9,7 +9,8 @@ pub returns-then-ask : goal.returns-then-ask
 returns-then-ask c = (
   c.ask.new.self,
   subst
-      (λ (s : SurveyOf). AsksOver true c.args.now (status_request s.hall s.desk) s.line c.ask.new.self)
+      (λ (s : SurveyOf).
+      AsksOver true c.args.now (status_request s.hall s.desk) s.line c.ask.new.self)
       c.self.view_is
       (asks_true c.ask.result c.args.now c.status_request.result
       (status_request c.self.inside.hall c.self.inside.desk) c.self.inside.line c.ask.new.self
