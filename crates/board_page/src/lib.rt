@@ -12,4 +12,4 @@ mod table;
 pub use escaping::push_escaped;
 pub use page::{push_overview, push_projector};
 pub use sheet::{Sheet, push_sheets};
-pub use table::push_sheet;
+pub use table::{field_at, push_cell, push_each_heading, push_lines, push_sheet, records_of};

@@ -10,9 +10,9 @@ use crate::escaping::push_escaped;
 use csv::{ByteRecord, ReaderBuilder};
 use std::alloc::{AllocError, Global};
 
-/// The records of a text. A record may have any number of fields, so that the reader fails only
-/// where memory runs out.
-fn records_of(alloc: Global, text: &[u8]) -> Result<Vec<ByteRecord>, AllocError>
+/// The records of a text of comma-separated values, as a reader of CSV reads them. A record may have
+/// any number of fields, so that the reader fails only where memory runs out.
+pub fn records_of(alloc: Global, text: &[u8]) -> Result<Vec<ByteRecord>, AllocError>
     ensures { IfOk result (λ rows. AreRecordsOf text.now (map fields_of rows.items)) }
 {
     let rdr = ReaderBuilder::new()
@@ -29,8 +29,8 @@ fn records_of(alloc: Global, text: &[u8]) -> Result<Vec<ByteRecord>, AllocError>
     Ok(rows)
 }
 
-/// The field at a place.
-fn field_at(row: &ByteRecord, place: usize) -> &[u8]
+/// The field of a record at a place, counted from 0; an empty one where it has none there.
+pub fn field_at(row: &ByteRecord, place: usize) -> &[u8]
     ensures { result.now ≡ get_or (fields_of row.now) place [] }
 {
     match row.get(place) {
@@ -48,7 +48,8 @@ fn push_heading(out: &mut Vec<u8>, field: &[u8]) -> Result<(), AllocError>
     Ok(())
 }
 
-fn push_cell(out: &mut Vec<u8>, field: &[u8]) -> Result<(), AllocError>
+/// Adds a field as a cell of a table.
+pub fn push_cell(out: &mut Vec<u8>, field: &[u8]) -> Result<(), AllocError>
     ensures { OnOk result (out.new.items ≡ out.old.items ++ cell field.now) }
 {
     out.extend_from_slice(b"<td>")?;
@@ -57,8 +58,8 @@ fn push_cell(out: &mut Vec<u8>, field: &[u8]) -> Result<(), AllocError>
     Ok(())
 }
 
-/// Adds a heading for each field.
-fn push_each_heading(out: &mut Vec<u8>, row: &ByteRecord) -> Result<(), AllocError>
+/// Adds a heading of a column for each field of a record.
+pub fn push_each_heading(out: &mut Vec<u8>, row: &ByteRecord) -> Result<(), AllocError>
     ensures { OnOk result (out.new.items ≡ out.old.items ++ flat_map heading (fields_of row.now)) }
 {
     for place in 0..row.len() {
@@ -106,7 +107,8 @@ fn push_line(out: &mut Vec<u8>, row: &ByteRecord) -> Result<(), AllocError>
     Ok(())
 }
 
-fn push_lines(out: &mut Vec<u8>, rows: &[ByteRecord]) -> Result<(), AllocError>
+/// Adds a line of a table for each record, with a cell for each field; its class is the last field.
+pub fn push_lines(out: &mut Vec<u8>, rows: &[ByteRecord]) -> Result<(), AllocError>
     ensures { OnOk result (out.new.items
         ≡ out.old.items ++ flat_map line (map fields_of rows.now)) }
 {
