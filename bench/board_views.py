@@ -174,7 +174,8 @@ def page(title, log, path):
     """Kind, keeping, position and body of the page at a path, or none."""
     now = len(log)
     if path in ("/", "/hall"):
-        return "text/html", "no-cache", now, every_round("all" if path == "/" else "hall", title, log)
+        kind = "all" if path == "/" else "hall"
+        return "text/html", "no-cache", now, every_round(kind, title, log)
     if found := re.fullmatch("/person/([1-9][0-9]{0,3})", path):
         meet, who = meet_of(log), int(found[1])
         if who not in meet.names:

@@ -1,17 +1,9 @@
-//! A screen for the hall: serves the sheets of a desk as pages, for a projector and for phones.
+//! A screen for the hall: keeps the hall's log up itself, and serves its sheets as pages, for a
+//! projector and for phones.
 #![tactic(auto)]
 
 mod arguments;
-mod browsers;
-mod connection;
-mod dialogue;
-mod laws;
-mod pages;
-mod question;
-mod replies;
 mod serving;
-mod style;
-mod survey;
 
 use arguments::{run_given, tell_no_arguments};
 use command_line::given;

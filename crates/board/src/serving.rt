@@ -1,199 +1,230 @@
-//! The board: browsers are answered, and the desk is asked, as sockets become ready.
+//! The board: browsers are answered, and the mirror is kept up, as sockets become ready.
 
-use crate::browsers::Browsers;
-use crate::connection::{Connection, Outcome, is_waiting};
-use crate::dialogue::AskedDesk;
-use crate::pages::{Page, pages_of};
-use crate::question::{Heard, NO_ANSWER, Question};
-use crate::survey::Survey;
-use mio::net::TcpListener;
-use mio::{Events, Interest, Poll, Registry, Token};
-use std::alloc::{AllocError, Global};
+ghost use Rattle.following.specs.Following.{IsPlace};
+
+use board_service::BoardService;
+use desk_sockets::{DeskStream, Kept};
+use hall_standings::{AskedDesks, HallDesks, stream_to};
+use http_server::Config;
+use mio::Registry;
+use mirroring::Mirroring;
+use page_sockets::BrowserSockets;
+use pages::{Browsers, Terms};
+use std::alloc::Global;
+use std::hash::RandomState;
 use std::io;
 use std::io::Write;
 use std::net::SocketAddr;
-use std::time::{Duration, Instant};
 
-/// Seconds between two surveys.
-const REST: u64 = 3;
+/// The most browsers whose connections are open at once. With those that are ending, and with the
+/// desk's, a program has no more than 1,024 files open, which is the usual limit.
+pub const MOST_BROWSERS: usize = 800;
 
 /// Milliseconds that sockets are waited for at most.
 const LONGEST_WAIT: u64 = 250;
 
-/// How many sockets that are ready are told of at once.
-const MOST_READY: usize = 1024;
-
-const LISTENER: usize = 0;
-
-const DESK: usize = 1;
+/// The most bytes of a request's head, and of its body.
+const LONGEST_REQUEST: usize = 8_192;
 
 /// What the board is to do.
-#[derive(Clone, Copy)]
+#[derive(Drop)]
 pub struct Order {
-    pub desk: AskedDesk,
+    pub hall: u32,
+    /// The address of desk 1, of desk 2 and so on: one to five.
+    pub desks: Vec<Option<SocketAddr>>,
+    pub title: String,
     pub listen: SocketAddr,
     /// How long a browser is waited for, in seconds.
     pub patience: u64,
 }
 
-/// The browsers, the survey of the desk, and what is shown.
+/// Why the board ended.
+#[derive(Clone, Copy, PartialEq, Eq, Debug)]
+pub enum End {
+    /// The system doesn't tell what is ready any more.
+    Failed,
+    /// Two desks of the hall told different entries for one position.
+    Broken,
+}
+
+/// So many desks, of which there are one to five.
+fn count_of(length: usize) -> u8
+    ensures { IsPlace 1 result }
+{
+    match length {
+        0 | 1 => 1,
+        2 => 2,
+        3 => 3,
+        4 => 4,
+        _ => 5,
+    }
+}
+
+/// How browsers are served.
+fn terms_of(patience: u64) -> Terms {
+    let mut config = Config::default();
+    config.limits.max_head_len = LONGEST_REQUEST;
+    config.max_body_len = LONGEST_REQUEST;
+    Terms {
+        most: MOST_BROWSERS,
+        patience: patience.saturating_mul(1000),
+        config,
+    }
+}
+
+/// The connections to the desks.
 #[derive(Drop)]
-struct Board {
+struct Streams<'a> {
+    /// To the desk that is asked for its log.
+    followed: DeskStream<'a, HostRuntime>,
+    /// To each of the desks that are asked how they stand.
+    asked: Vec<DeskStream<'a, HostRuntime>>,
+}
+
+impl<'a> Streams<'a> {
+    /// Does all for the service that can be done now. False: the hall is broken.
+    fn keep(&mut self, service: &mut BoardService, now: u64) -> bool {
+        for place in 0..self.asked.len() {
+            if let Some(stream) = self.asked.get_mut(place) {
+                service.keep_desk(place, stream, now);
+            }
+        }
+        service.keep(&mut self.followed, now) != Kept::Broken
+    }
+}
+
+/// Serves until it can't go on.
+fn serve_on<'a, 'b>(
+    browsers: &mut Browsers<BrowserSockets<'a, HostRuntime>>,
+    service: &mut BoardService,
+    streams: &mut Streams<'b>,
+) -> End {
+    let mut now = 0;
+    for _round in 0..u64::MAX {
+        let wait = service.wait(now).min(LONGEST_WAIT);
+        let Some(after) = browsers.round(service, wait) else {
+            return End::Failed;
+        };
+        now = after;
+        if !streams.keep(service, now) {
+            return End::Broken;
+        }
+    }
+    End::Failed
+}
+
+/// The service of the pages, of a hall with these desks.
+fn service_of(
     alloc: Global,
-    desk: AskedDesk,
-    listener: TcpListener,
-    browsers: Browsers,
-    survey: Survey,
-    /// The connection to the desk, which is kept from question to question.
-    connection: Option<Connection>,
-    /// When the next survey is due, in seconds.
-    due: u64,
-    pages: Vec<Page>,
+    hall: u32,
+    addresses: usize,
+    title: String,
+    desks: HallDesks,
+) -> io::Result<BoardService> {
+    let mirroring = Mirroring::new(alloc, hall, count_of(addresses))?;
+    let service = BoardService::new(alloc, title, mirroring, desks)?;
+    Ok(service)
 }
 
-impl Board {
-    fn new(alloc: Global, order: Order, listener: TcpListener) -> Result<Board, AllocError> {
-        let survey = Survey::new(alloc);
-        let pages = pages_of(alloc, &survey)?;
-        Ok(Board {
-            alloc,
-            desk: order.desk,
-            listener,
-            browsers: Browsers::new(alloc, order.patience)?,
-            survey,
-            connection: None,
-            due: 0,
-            pages,
-        })
-    }
-
-    /// Accepts one browser that waits, and asks to be told of the next one.
-    fn accept(&mut self, registry: &Registry, now: u64) -> io::Result<()> {
-        match self.listener.accept() {
-            Ok((stream, _)) => self.browsers.admit(self.alloc, stream, registry, now),
-            Err(error) if is_waiting(&error) => {}
-            // the system has no more sockets
-            Err(_) => self.browsers.end_first(),
-        }
-        registry.reregister(&mut self.listener, Token(LISTENER), Interest::READABLE)
-    }
-
-    /// Asks the survey's next question over the connection that is kept, or where that takes no
-    /// more, over a fresh one.
-    fn ask(&mut self, rt: &HostRuntime, registry: &Registry, now: u64) {
-        let question = self.survey.question();
-        let is_new = !self.ask_on(question, now);
-        if is_new {
-            // the one before is closed first
-            self.connection = None;
-            self.connection = Connection::begin(rt, self.alloc, self.desk, question, now);
-        }
-        self.watch(registry, is_new, now);
-    }
-
-    /// Asks a question over the connection that is kept. False where none is, or it takes no more.
-    fn ask_on(&mut self, question: Question, now: u64) -> bool {
-        match &mut self.connection {
-            Some(connection) => connection.ask(self.alloc, question, now),
-            None => false,
-        }
-    }
-
-    /// Asks to be told when the desk's connection is ready.
-    fn watch(&mut self, registry: &Registry, is_new: bool, now: u64) {
-        let is_watched = match &mut self.connection {
-            Some(connection) => connection.watch(registry, Token(DESK), is_new),
-            None => false,
-        };
-        if !is_watched {
-            self.hear(Heard::Silent("no connection"), now);
-        }
-    }
-
-    /// Goes on after what came of a question. The connection is kept where the desk answered. At
-    /// the end of a survey the pages are made; where memory runs out for them, the old ones stay.
-    fn hear(&mut self, heard: Heard, now: u64) {
-        if let Heard::Silent(_) = &heard {
-            self.connection = None;
-        }
-        if self.survey.hear(heard) {
-            self.due = now.saturating_add(REST);
-            if let Ok(pages) = pages_of(self.alloc, &self.survey) {
-                self.pages = pages;
-            }
-        }
-    }
-
-    /// Lets the connection to the desk have its turn. Where the desk has ended it, it is closed,
-    /// and a question that waits is asked once more over a fresh one.
-    fn turn_desk(&mut self, registry: &Registry, now: u64) {
-        let Some(connection) = &mut self.connection else {
-            return;
-        };
-        match connection.turn() {
-            Some(Outcome::Heard(heard)) => self.hear(heard, now),
-            Some(Outcome::Ended) => self.connection = None,
-            None => self.watch(registry, false, now),
-        }
-    }
-
-    /// Lets the socket of a token have its turn.
-    fn turn(&mut self, token: usize, registry: &Registry, now: u64) -> io::Result<()> {
-        match token {
-            LISTENER => self.accept(registry, now)?,
-            DESK => self.turn_desk(registry, now),
-            other => self.browsers.turn(other, registry, &self.pages),
-        }
-        Ok(())
-    }
-
-    /// Ends what took too long, and asks what is due.
-    fn keep_time(&mut self, rt: &HostRuntime, registry: &Registry, now: u64) {
-        self.browsers.end_late(now);
-        match &self.connection {
-            Some(connection) if connection.is_asking() => {
-                if connection.is_late(now) {
-                    self.hear(Heard::Silent(NO_ANSWER), now);
-                }
-            }
-            _ => {
-                if now >= self.due {
-                    self.ask(rt, registry, now);
-                }
-            }
-        }
-    }
+/// The browsers that come to these sockets.
+fn browsers_of<'a>(
+    rt: &'a HostRuntime,
+    patience: u64,
+    sockets: BrowserSockets<'a, HostRuntime>,
+) -> io::Result<Browsers<BrowserSockets<'a, HostRuntime>>> {
+    let keys = RandomState::new(rt)?;
+    let browsers = Browsers::new(rt.alloc(), keys, terms_of(patience), sockets)?;
+    Ok(browsers)
 }
 
-/// Serves until the system fails.
-fn serve_on(rt: &HostRuntime, poll: &mut Poll, board: &mut Board) -> io::Result<()> {
-    let mut events = Events::with_capacity(rt.alloc(), MOST_READY)?;
-    let start = Instant::now(rt)?;
-    for _turn in 0..u64::MAX {
-        let now = start.elapsed(rt)?.as_secs();
-        board.keep_time(rt, poll.registry(), now);
-        poll.poll(&mut events, Some(Duration::from_millis(LONGEST_WAIT)))?;
-        for event in events.iter() {
-            board.turn(event.token().0, poll.registry(), now)?;
-        }
-    }
-    Ok(())
-}
-
-/// Says where it listens, and serves until the system fails.
-pub fn serve<W: Write>(
-    rt: &HostRuntime,
-    order: Order,
-    listener: TcpListener,
-    writer: &mut W,
-) -> io::Result<()> {
-    let mut listener = listener;
-    let mut poll = Poll::new(rt)?;
-    poll.registry()
-        .register(&mut listener, Token(LISTENER), Interest::READABLE)?;
-    let address = listener.local_addr()?;
+/// Says where it listens.
+fn say_where<W: Write>(address: SocketAddr, writer: &mut W) -> io::Result<()> {
     writeln!(writer, "board at {address}")?;
-    writer.flush()?;
-    let mut board = Board::new(rt.alloc(), order, listener)?;
-    serve_on(rt, &mut poll, &mut board)
+    writer.flush()
+}
+
+/// Serves until it can't go on, once it was said where it listens.
+fn serve_said<'a, 'b, W: Write>(
+    address: SocketAddr,
+    browsers: &mut Browsers<BrowserSockets<'a, HostRuntime>>,
+    service: &mut BoardService,
+    streams: &mut Streams<'b>,
+    writer: &mut W,
+) -> io::Result<End> {
+    say_where(address, writer)?;
+    Ok(serve_on(browsers, service, streams))
+}
+
+/// The desks that are asked how they stand, and the connections to all desks.
+fn streams_of<'a>(
+    rt: &'a HostRuntime,
+    registry: &Registry,
+    hall: u32,
+    addresses: &[Option<SocketAddr>],
+) -> io::Result<(HallDesks, Streams<'a>)> {
+    let alloc = rt.alloc();
+    let AskedDesks { desks, streams } = AskedDesks::new(rt, alloc, registry, hall, addresses)?;
+    let followed = stream_to(rt, alloc, registry, 0, addresses)?;
+    let streams = Streams {
+        followed,
+        asked: streams,
+    };
+    Ok((desks, streams))
+}
+
+/// The same, told of by the poll of these sockets.
+fn streams_at<'a>(
+    rt: &'a HostRuntime,
+    sockets: &BrowserSockets<'a, HostRuntime>,
+    hall: u32,
+    addresses: &[Option<SocketAddr>],
+) -> io::Result<(HallDesks, Streams<'a>)> {
+    let registry = sockets.registry()?;
+    streams_of(rt, &registry, hall, addresses)
+}
+
+/// Serves the browsers that come to these sockets.
+fn serve_sockets<'a, 'b, W: Write>(
+    rt: &'a HostRuntime,
+    patience: u64,
+    sockets: BrowserSockets<'a, HostRuntime>,
+    service: &mut BoardService,
+    streams: &mut Streams<'b>,
+    writer: &mut W,
+) -> io::Result<End> {
+    let address = sockets.address()?;
+    let mut browsers = browsers_of(rt, patience, sockets)?;
+    serve_said(address, &mut browsers, service, streams, writer)
+}
+
+/// Serves the pages of a hall whose desks have these addresses.
+fn serve_hall<'a, W: Write>(
+    rt: &'a HostRuntime,
+    hall: u32,
+    addresses: &[Option<SocketAddr>],
+    title: String,
+    patience: u64,
+    sockets: BrowserSockets<'a, HostRuntime>,
+    writer: &mut W,
+) -> io::Result<End> {
+    let (desks, mut streams) = streams_at(rt, &sockets, hall, addresses)?;
+    let mut service = service_of(rt.alloc(), hall, addresses.len(), title, desks)?;
+    serve_sockets(rt, patience, sockets, &mut service, &mut streams, writer)
+}
+
+/// Says where it listens, and serves until it can't go on.
+pub fn serve<'a, W: Write>(
+    rt: &'a HostRuntime,
+    order: Order,
+    sockets: BrowserSockets<'a, HostRuntime>,
+    writer: &mut W,
+) -> io::Result<End> {
+    let Order {
+        hall,
+        desks,
+        title,
+        patience,
+        ..
+    } = order;
+    serve_hall(rt, hall, &desks, title, patience, sockets, writer)
 }

@@ -1,5 +1,6 @@
 -- A round in HTML.
-use Rattle.std.specs.Prelude.{ℕ, ◌+◌, List, [], ◌++◌, codes, decimal, flat_map, option_map, unwrap_or}
+use Rattle.std.specs.Prelude.{ℕ, ◌+◌, List, [], ◌++◌, codes, decimal, flat_map, option_map}
+use Rattle.std.specs.Prelude.{unwrap_or}
 use Rattle.std.specs.List.{range_with_len}
 use Rattle.commands.specs.Accepted.{round_of}
 use Rattle.formats.specs.Events.{attempts_of, unit_of}

@@ -7,21 +7,22 @@ use Rattle.page_replies.specs.declared.page.Page.{Page}
 use Rattle.page_replies.specs.Replies.{Replies}
 use Rattle.board_views.specs.Views.{IsPageAt}
 use Rattle.board_service.specs.declared.shelf.Shelf.{Shelf}
-use Rattle.board_service.specs.Services.{ServiceOf, Shows, path_of, service}
+use Rattle.hall_standings.specs.Halls.{HallDesksOf}
+use Rattle.board_service.specs.Services.{ServiceOf, ShowsPage, path_of, service}
 use Rattle.board_service.specs.Shelves.{AreAllAt, page_on}
 
 pub shows : (s : ServiceOf) (request : Request (List ℕ)) (response : Response) (path : List ℕ)
     (page : Option Page) → path ≡ path_of request
     → IsPageAt s.title s.mirroring.entries path page → Replies request page response
-    → Shows s request response
+    → ShowsPage s request response
 shows s request response path page is stands replies = record {
   page = page;
   stands = subst (λ (p : List ℕ). IsPageAt s.title s.mirroring.entries p page) is stands;
   replies = replies;
 }
 
-module _ (title : List ℕ) (m : MirroringOf) (s : ServiceOf) (is : service title m ≡ s)
-    (path : List ℕ) (page : Option Page) where
+module _ (title : List ℕ) (m : MirroringOf) (d : HallDesksOf) (s : ServiceOf)
+    (is : service title m d ≡ s) (path : List ℕ) (page : Option Page) where
   pub stands_as_seen : IsPageAt title m.entries path page
       → IsPageAt s.title s.mirroring.entries path page
   stands_as_seen stands =
@@ -33,8 +34,8 @@ module _ (title : List ℕ) (m : MirroringOf) (s : ServiceOf) (is : service titl
       subst (λ (z : ServiceOf). IsPageAt z.title z.mirroring.entries path page) (sym is) stands
 
 -- a page that is kept
-pub kept_stands : (title : List ℕ) (m : MirroringOf) (s : ServiceOf) (shelf : Shelf)
-    → service title m ≡ s → AreAllAt title m.entries shelf → (path : List ℕ) (p : Page)
-    → page_on shelf path ≡ Some p → IsPageAt s.title s.mirroring.entries path (Some p)
-kept_stands title m s shelf is all path p at =
-    stands_as_seen title m s is path (Some p) (all path p at)
+pub kept_stands : (title : List ℕ) (m : MirroringOf) (d : HallDesksOf) (s : ServiceOf)
+    (shelf : Shelf) → service title m d ≡ s → AreAllAt title m.entries shelf → (path : List ℕ)
+    (p : Page) → page_on shelf path ≡ Some p → IsPageAt s.title s.mirroring.entries path (Some p)
+kept_stands title m d s shelf is all path p at =
+    stands_as_seen title m d s is path (Some p) (all path p at)

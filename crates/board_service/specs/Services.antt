@@ -1,33 +1,61 @@
 -- What the board answers.
-use Rattle.std.specs.Prelude.{◌≡◌, ℕ, List, Option}
+use Rattle.std.specs.Prelude.{◌≡◌, ℕ, ◌&&◌, Bool, true, false, List, [], ◌∷◌, Option, codes}
+use Rattle.std.specs.Str.{bytes_eq}
 use Rattle.http.specs.declared.request.Request.{Request}
 use Rattle.http.specs.Request.{head_of}
 use Rattle.http_uri.specs.Uri.{uri_path}
+use Rattle.http1.specs.Fields.{Header}
 use Rattle.http_server.specs.declared.response.Response.{Response}
+use Rattle.http_server.specs.Response.{IsResponse}
 use Rattle.page_replies.specs.declared.page.Page.{Page}
-use Rattle.page_replies.specs.Replies.{Replies}
+use Rattle.page_replies.specs.Replies.{Replies, is_read, no_store}
 use Rattle.board_views.specs.Views.{IsPageAt}
 use Rattle.mirroring.specs.Mirrorings.{MirroringOf}
+use Rattle.hall_standings.specs.Halls.{HallDesksOf, IsStatus}
 
--- the title of the competition, and the mirror with what keeps it up
+-- the title of the competition, the mirror with what keeps it up, and the desks that are asked
 pub record ServiceOf : Type 0 where
   pub title : List ℕ
   pub mirroring : MirroringOf
+  pub desks : HallDesksOf
 
-abbrev pub service : List ℕ → MirroringOf → ServiceOf
-service title mirroring = record { title = title; mirroring = mirroring }
+abbrev pub service : List ℕ → MirroringOf → HallDesksOf → ServiceOf
+service title mirroring desks = record { title = title; mirroring = mirroring; desks = desks }
 
 -- the path that a request asks for, without the query
 abbrev pub path_of : Request (List ℕ) → List ℕ
 path_of request = uri_path (head_of request).uri
 
+-- ---- how the desks stand
+
+-- GET and HEAD of /status.json
+abbrev pub asks_status : Request (List ℕ) → Bool
+asks_status request =
+    bytes_eq (path_of request) (codes "/status.json") && is_read (head_of request).method
+
+-- it is JSON, and nobody is to keep it
+abbrev pub status_fields : List Header
+status_fields = (codes "content-type", codes "application/json") ∷ no_store ∷ []
+
+abbrev pub ShowsStatus : ServiceOf → Response → Type 0
+ShowsStatus s response =
+    (text : List ℕ) × IsStatus s.desks text × IsResponse 200 status_fields text response
+
+-- ---- pages
+
 -- the reply for the page that stands at the request's path in the mirror as it is, or for none
-pub record Shows (s : ServiceOf) (request : Request (List ℕ)) (response : Response)
+pub record ShowsPage (s : ServiceOf) (request : Request (List ℕ)) (response : Response)
     : Type 0 where
   pub page : Option Page
   pub stands : IsPageAt s.title s.mirroring.entries (path_of request) page
   pub replies : Replies request page response
 
--- such a reply, and nothing changes
+-- how the desks stand, where that is asked, else such a reply
+abbrev pub ShowsBy : Bool → ServiceOf → Request (List ℕ) → Response → Type 0
+ShowsBy true s request response = ShowsStatus s response
+ShowsBy false s request response = ShowsPage s request response
+
+-- so it is answered, and nothing changes
 abbrev pub Answers : ServiceOf → Request (List ℕ) → Response → ServiceOf → Type 0
-Answers old request response new = (new ≡ old) × Shows old request response
+Answers old request response new =
+    (new ≡ old) × ShowsBy (asks_status request) old request response

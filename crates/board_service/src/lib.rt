@@ -1,8 +1,9 @@
 //! What the board answers to browsers: the pages of a mirror of a hall's log, which is kept up
-//! between the answers.
+//! between the answers, and how the desks of the hall stand.
 #![tactic(auto)]
 
 mod service;
 mod shelf;
+mod status;
 
 pub use service::BoardService;

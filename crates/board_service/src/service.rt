@@ -1,33 +1,46 @@
 //! The service of the board.
 
-ghost use Rattle.std.specs.Prelude.{◌≡◌, IfOk, string_bytes};
+ghost use Rattle.std.specs.Prelude.{◌≡◌, IfOk, OnOk, string_bytes};
 ghost use Rattle.board_views.specs.Views.{IsPageAt};
-ghost use Rattle.board_service.specs.Services.{service};
+ghost use Rattle.http_server.specs.Response.{IsBlank};
+ghost use Rattle.board_service.specs.Services.{ShowsPage, ShowsStatus, asks_status, service};
+ghost use Rattle.hall_standings.specs.Halls.{IsKept};
 
 use crate::shelf::Shelf;
+use crate::status::send_status;
 use board_views::page_at;
 use bytes::Bytes;
 use desk_sockets::{DeskStream, Kept};
+use hall_standings::HallDesks;
 use http::Request;
 use http_server::{Response, Service};
 use mirroring::Mirroring;
-use page_replies::{Page, reply};
+use page_replies::{Page, is_read, reply};
 use std::alloc::{AllocError, Global};
 use std::marker::Model;
 use std::net::Net;
 
-/// Answers browsers with the pages of a mirror of a hall's log.
+/// Whether a request asks how the desks stand.
+fn asks_status(request: &Request<Bytes>) -> bool
+    ensures { result ≡ asks_status request.now }
+{
+    request.uri().path() == "/status.json" && is_read(request.method())
+}
+
+/// Answers browsers with the pages of a mirror of a hall's log, and programs that ask how the desks
+/// of the hall stand.
 ///
 /// A page is made once for all browsers that ask for it until the mirror grows: at most 64 pages
 /// are kept until then.
 ///
-/// A contract sees the title of the competition, and the mirror with what keeps it up. Which pages
-/// are kept makes no difference to an answer.
+/// A contract sees the title of the competition, the mirror with what keeps it up, and the desks
+/// that are asked how they stand. Which pages are kept makes no difference to an answer.
 #[derive(Drop)]
 pub struct BoardService {
     alloc: Global,
     title: String,
     mirroring: Mirroring,
+    desks: HallDesks,
     /// Pages of the mirror as it is.
     shelf: Shelf,
 }
@@ -39,25 +52,27 @@ impl Model for BoardService {
 
     ghost Value = { ServiceOf };
 
-    ghost view = { λ s. service (string_bytes s.title) s.mirroring };
+    ghost view = { λ s. service (string_bytes s.title) s.mirroring s.desks };
 
     ghost invariant = { λ s. AreAllAt (string_bytes s.title) s.mirroring.entries s.shelf };
 }
 
 impl BoardService {
-    /// A service over a mirror, for the competition of this title.
+    /// A service over a mirror, for the competition of this title, and over the desks of a hall.
     pub fn new(
         alloc: Global,
         title: String,
         mirroring: Mirroring,
+        desks: HallDesks,
     ) -> Result<BoardService, AllocError>
-        ensures { IfOk result (λ s. s ≡ service (string_bytes title) mirroring) }
+        ensures { IfOk result (λ s. s ≡ service (string_bytes title) mirroring desks) }
     {
         let shelf = Shelf::new(alloc)?;
         Ok(BoardService {
             alloc,
             title,
             mirroring,
+            desks,
             shelf,
         })
     }
@@ -74,12 +89,30 @@ impl BoardService {
     /// are given up.
     pub fn keep<R: Net>(&mut self, stream: &mut DeskStream<'_, R>, now: u64) -> Kept
         ensures title { self.new.title ≡ self.old.title }
+        ensures desks { self.new.desks ≡ self.old.desks }
         ensures same { result ≡ Kept.Same
             → self.new.mirroring.entries ≡ self.old.mirroring.entries }
     {
         let kept = stream.keep(&mut self.mirroring, now);
         self.shelf.refresh(kept);
         kept
+    }
+
+    /// Does all that can be done now for the survey of a desk over a connection to it, as
+    /// `HallDesks::keep` does it.
+    pub fn keep_desk<R: Net>(&mut self, place: usize, stream: &mut DeskStream<'_, R>, now: u64)
+        ensures title { self.new.title ≡ self.old.title }
+        ensures mirroring { self.new.mirroring ≡ self.old.mirroring }
+        ensures desks { IsKept place self.old.desks self.new.desks }
+    {
+        self.desks.keep(place, stream, now);
+    }
+
+    /// In how many milliseconds something is to be done for the mirror or for a survey, if nothing
+    /// comes.
+    pub fn wait(&self, now: u64) -> u64 {
+        let wait = self.mirroring.wait(now);
+        self.desks.wait(now).min(wait)
     }
 
     /// The page at a path, if one stands there.
@@ -104,20 +137,22 @@ impl BoardService {
             self.shelf.put(path, page);
         }
     }
-}
 
-impl Service for BoardService {
-    ghost use Rattle.board_service.specs.Services.{Answers};
+    /// How the desks stand.
+    fn tell_status(&self, response: &mut Response) -> Result<(), AllocError>
+        requires { IsBlank response.old }
+        ensures { OnOk result (ShowsStatus self.now response.new) }
+    {
+        let text = self.desks.status(self.alloc)?;
+        send_status(text, response)
+    }
 
-    // The response is that of `page_replies::reply` for the page that stands at the request's path
-    // as the mirror is, and nothing changes.
-    ghost answers = { Answers };
-
-    fn call(
-        &mut self,
-        request: &Request<Bytes>,
-        response: &mut Response,
-    ) -> Result<(), AllocError> {
+    /// Answers a request for a page.
+    fn show(&mut self, request: &Request<Bytes>, response: &mut Response) -> Result<(), AllocError>
+        requires { IsBlank response.old }
+        ensures same { self.new ≡ self.old }
+        ensures shows { OnOk result (ShowsPage self.old request.now response.new) }
+    {
         let path = request.uri().path();
         if let Some(page) = self.shelf.get(path) {
             reply(request, Some(page), response)?;
@@ -127,5 +162,25 @@ impl Service for BoardService {
         reply(request, made.as_ref(), response)?;
         self.remember(path, made);
         Ok(())
+    }
+}
+
+impl Service for BoardService {
+    ghost use Rattle.board_service.specs.Services.{Answers};
+
+    // The response is that of `page_replies::reply` for the page that stands at the request's path
+    // as the mirror is, or says how the desks stand, and nothing changes.
+    ghost answers = { Answers };
+
+    fn call(
+        &mut self,
+        request: &Request<Bytes>,
+        response: &mut Response,
+    ) -> Result<(), AllocError> {
+        if asks_status(request) {
+            self.tell_status(response)
+        } else {
+            self.show(request, response)
+        }
     }
 }

@@ -95,6 +95,9 @@ tr.changed > th::after { content: \" \\2731\"; }
   section { break-after: page; }
   section:last-of-type { break-after: auto; }
   thead { display: table-header-group; }
+  section:has([data-title]) > :is(h2, .told) { display: none; }
+  [data-title]::before { content: attr(data-title); display: block; width: 0; white-space: nowrap;
+    text-align: left; font-size: 9pt; font-weight: bold; margin-bottom: .4em; }
   tr { break-inside: avoid; }
   tr.yes > * { font-weight: bold; }
 }
@@ -102,8 +105,10 @@ tr.changed > th::after { content: \" \\2731\"; }
 
 /// Asks every 700 milliseconds for the page, and shows it where it has changed. Where the board
 /// does not answer or is behind, it says since when. A line of which a result has changed is marked
-/// for ten seconds. On a projector each round is shown for 15 seconds, or as many of its lines at
-/// once as there is room for, in the largest type with which they are on the screen.
+/// for ten seconds. The first line in sight that has not changed stays where it is on the screen.
+/// On a projector each round is shown for 15 seconds, or as many of its lines at once as there is
+/// room for, in the largest type with which they are on the screen. On paper each page of a round
+/// has the round's title.
 const SCRIPT: &str = "\
 \"use strict\";
 const rows = (page) => [...page.querySelectorAll(\"section:not(.person) tbody tr\")];
@@ -159,6 +164,12 @@ function show() {
   }
   fit();
 }
+function title(page) {
+  for (const section of page.querySelectorAll(\"section\")) {
+    const said = [...section.querySelectorAll(\"h2, .told\")].map((part) => part.textContent);
+    section.querySelector(\"th\").dataset.title = said.join(\": \");
+  }
+}
 let last = null, since = null;
 function tell(what) {
   if (since === null) since = new Date();
@@ -177,15 +188,26 @@ const positionOf = (page) => {
   const said = [...page.querySelectorAll(\".at\")].map((at) => Number(at.textContent.slice(9)));
   return Math.max(0, ...said);
 };
+function anchor(page) {
+  const now = new Map(rows(page).map((row) => [keyOf(row), row]));
+  for (const row of rows(main())) {
+    const { top, bottom } = row.getBoundingClientRect(), same = now.get(keyOf(row));
+    if (bottom > 0 && same && resultsOf(same) === resultsOf(row)) return [same, top];
+  }
+  return null;
+}
 function replace(page) {
   const focused = document.activeElement && document.activeElement.getAttribute(\"href\");
+  const held = scrollY > 0 ? anchor(page) : null;
   mark(main(), page);
+  title(page);
   main().replaceWith(page);
   if (focused) {
     const isIt = (link) => link.getAttribute(\"href\") === focused;
     const again = [...page.querySelectorAll(\"a\")].find(isIt);
     if (again) again.focus({ preventScroll: true });
   }
+  if (held) scrollBy(0, held[0].getBoundingClientRect().top - held[1]);
   show();
 }
 async function update() {
@@ -210,6 +232,7 @@ setInterval(unmark, 500);
 setInterval(() => { turn += 1; show(); }, 15000);
 addEventListener(\"resize\", show);
 addEventListener(\"visibilitychange\", update);
+title(document);
 show();
 ";
 

@@ -6,5 +6,5 @@ mod replies;
 mod tags;
 
 pub use page::Page;
-pub use replies::{is_fresh, reply};
+pub use replies::{is_fresh, is_read, reply};
 pub use tags::{entity_tag, names};

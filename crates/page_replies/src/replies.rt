@@ -15,8 +15,8 @@ use http::{HeaderValue, Method, Request, StatusCode, header};
 use http_server::Response;
 use std::alloc::AllocError;
 
-/// Whether a method only reads.
-fn is_read(method: &Method) -> bool
+/// Whether a method only reads: GET and HEAD do.
+pub fn is_read(method: &Method) -> bool
     ensures { result ≡ is_read method.now }
 {
     method.as_str() == "GET" || method.as_str() == "HEAD"
@@ -100,8 +100,8 @@ fn send(page: &Page, response: &mut Response) -> Result<(), AllocError>
 }
 
 /// Answers a request for a page, if one stands at its path: with the page, with 304 where the
-/// browser has it already, with 404 where there is none, which no browser is to keep, and with 405 where the method is neither
-/// GET nor HEAD. The error is for memory alone.
+/// browser has it already, with 404 where there is none, which no browser is to keep, and with 405
+/// where the method is neither GET nor HEAD. The error is for memory alone.
 pub fn reply(
     request: &Request<Bytes>,
     page: Option<&Page>,

@@ -7,6 +7,7 @@ use Rattle.board_rounds.proofs.persons.push_start.Goals as goal
 pub returns : goal.returns
 unfolding person_start
 returns c =
-    three_parts c.args.out.now.items (codes "<section class=\"person\"><h2 dir=\"auto\">") (escaped c.args.name.now) (codes "</h2>\n<table><thead><tr>")
+    three_parts c.args.out.now.items (codes "<section class=\"person\"><h2 dir=\"auto\">")
+    (escaped c.args.name.now) (codes "</h2>\n<table><thead><tr>")
     _ _ _ c.in_ok-extend_from_slice.ensures.items c.in_ok-push_escaped.ensures
     c.in_ok-extend_from_slice-2.ensures.items

@@ -1,0 +1,42 @@
+-- The desks of a hall, and what is told of them.
+use Rattle.std.specs.Prelude.{◌≡◌, ◌≢◌, ℕ, List, [], ◌∷◌, ◌++◌, length, if◌then◌else◌, nat_le}
+use Rattle.std.specs.Prelude.{slice_get, String}
+use Rattle.std.specs.Global.{Global}
+use Rattle.surveying.specs.Surveys.{new_survey}
+use Rattle.standings.specs.Reports.{json_line}
+use Rattle.standings.specs.declared.polled.Polled.{Polled}
+use Rattle.hall_standings.specs.declared.asked.Asked.{Asked}
+use Rattle.hall_standings.specs.Told.{AreTold}
+
+-- the number of the hall, and the desks that are asked
+pub record HallDesksOf : Type 0 where
+  pub hall : ℕ
+  pub asked : List Asked
+
+abbrev pub hall_desks : ℕ → List Asked → HallDesksOf
+hall_desks hall asked = record { hall = hall; asked = asked }
+
+abbrev pub no_desks : ℕ → HallDesksOf
+no_desks hall = hall_desks hall []
+
+-- a desk of the hall that was not asked yet
+abbrev pub new_asked : ℕ → ℕ → String Global → Asked
+new_asked hall desk address =
+    record { desk = desk; address = address; survey = new_survey hall desk }
+
+-- a desk after the others; a sixth one is left out
+abbrev pub adds : HallDesksOf → ℕ → String Global → HallDesksOf
+adds h desk address =
+    if nat_le 5 (length h.asked) then h
+    else hall_desks h.hall (h.asked ++ new_asked h.hall desk address ∷ [])
+
+-- nothing is another one but the survey of the desk at a place
+pub record IsKept (place : ℕ) (old new : HallDesksOf) : Type 0 where
+  pub hall : new.hall ≡ old.hall
+  pub others : (other : ℕ) → other ≢ place
+      → slice_get new.asked other ≡ slice_get old.asked other
+
+-- the JSON value of all that is told of the desks, on a line
+abbrev pub IsStatus : HallDesksOf → List ℕ → Type 0
+IsStatus h text =
+    (told : List Polled) × AreTold h.asked told × (text ≡ json_line h.hall told)

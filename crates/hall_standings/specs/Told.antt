@@ -1,0 +1,46 @@
+-- What is told of the desks that are asked.
+use Rattle.std.specs.Prelude.{◌≡◌, ℕ, ⊤, List, [], ◌∷◌, Option, None, Some, string_bytes, ◌++◌}
+use Rattle.surveying.specs.Surveys.{SurveyOf}
+use Rattle.surveying.specs.declared.survey.Contact.{Contact}
+use Rattle.surveying.specs.declared.survey.Contact.TheVariants as contact
+use Rattle.surveying.specs.declared.survey.Told.{Told}
+use Rattle.standings.specs.declared.polled.Polled.{Polled}
+use Rattle.standings.specs.declared.polled.Reply.{Reply}
+use Rattle.standings.specs.declared.polled.Reply.TheVariants as reply
+use Rattle.hall_standings.specs.declared.asked.Asked.{Asked}
+
+-- how a desk stands that said so last
+abbrev pub stands_as_told : ℕ → Option Told → Reply
+stands_as_told desk None = reply.Late
+stands_as_told desk (Some told) = reply.Stands desk told.standing
+
+abbrev pub standing_of : ℕ → SurveyOf → Reply
+standing_of desk s = stands_as_told desk s.told
+
+-- by what came of asking it last: a desk that was not asked yet, or did not answer, has no answer
+-- in time
+abbrev pub reply_by : Contact → ℕ → SurveyOf → Reply
+reply_by contact.Answers desk s = standing_of desk s
+reply_by (contact.Refuses refusal) desk s = reply.Refused refusal
+reply_by contact.NotAsked desk s = reply.Late
+reply_by contact.Silent desk s = reply.Late
+
+abbrev pub reply_of : ℕ → SurveyOf → Reply
+reply_of desk s = reply_by s.contact desk s
+
+-- this is told of a desk
+pub record IsTold (a : Asked) (told : Polled) : Type 0 where
+  pub asked : told.asked ≡ a.desk
+  pub address : told.address.now ≡ string_bytes a.address
+  pub reply : told.reply ≡ reply_of a.desk a.survey
+
+-- these are told of these desks, one of each, in order
+abbrev pub AreTold : List Asked → List Polled → Type 0
+AreTold [] [] = ⊤
+AreTold (a ∷ others) (told ∷ more) = IsTold a told × AreTold others more
+AreTold _ _ = ⊥
+
+-- what is told of the first of these desks; whatever is told of the others completes it
+abbrev pub Begins : (asked others : List Asked) → List Polled → Type 0
+Begins asked others told =
+    (more : List Polled) → AreTold others more → AreTold asked (told ++ more)

@@ -1,0 +1,66 @@
+//! One desk, and what is told of it.
+
+ghost use Rattle.std.specs.Prelude.{◌≡◌, IfOk, length};
+ghost use Rattle.hall_standings.specs.Told.{AreTold, IsTold, reply_of, standing_of};
+
+use standings::{Polled, Reply};
+use std::alloc::{AllocError, Global};
+use surveying::{Contact, Survey};
+
+/// A desk that is asked.
+#[derive(Drop)]
+pub(crate) struct Asked {
+    /// The number of the desk, 1 to 5.
+    pub(crate) desk: u8,
+    /// Where it is asked, as it is printed.
+    pub(crate) address: String,
+    pub(crate) survey: Survey,
+}
+
+/// How a desk stands that answered when it was asked last.
+fn standing_of(desk: u8, survey: &Survey) -> Reply
+    ensures { result ≡ standing_of desk survey.now }
+{
+    match survey.told() {
+        Some(told) => Reply::Stands {
+            desk,
+            standing: told.standing,
+        },
+        None => Reply::Late,
+    }
+}
+
+/// What came of asking a desk last.
+fn reply_of(desk: u8, survey: &Survey) -> Reply
+    ensures { result ≡ reply_of desk survey.now }
+{
+    match survey.contact() {
+        Contact::Answers => standing_of(desk, survey),
+        Contact::Refuses(refusal) => Reply::Refused { refusal },
+        Contact::NotAsked | Contact::Silent => Reply::Late,
+    }
+}
+
+/// What is told of a desk.
+fn told_of(asked: &Asked) -> Polled<'_>
+    ensures { IsTold asked.now result }
+{
+    Polled {
+        asked: asked.desk,
+        address: &asked.address,
+        reply: reply_of(asked.desk, &asked.survey),
+    }
+}
+
+/// What is told of these desks.
+#[tactic(auto, using(crate::proofs::Told::begins, crate::proofs::Told::goes_on))]
+pub(crate) fn all_told(alloc: Global, asked: &[Asked]) -> Result<Vec<Polled<'_>>, AllocError>
+    ensures told { IfOk result (λ told. AreTold asked.now told.items) }
+    ensures length { IfOk result (λ told. length told.items ≡ length asked.now) }
+{
+    let mut told = Vec::new(alloc);
+    for one in asked {
+        told.push(told_of(one))?;
+    }
+    Ok(told)
+}

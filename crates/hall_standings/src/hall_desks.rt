@@ -1,0 +1,111 @@
+//! The desks of a hall.
+
+ghost use Rattle.std.specs.Prelude.{◌≡◌, IfOk, OnErr, OnOk, string_bytes};
+ghost use Rattle.hall_standings.specs.Halls.{IsKept, IsStatus, adds, no_desks};
+ghost use Rattle.wire.specs.Ranges.{IsDesk};
+
+use crate::asked::{Asked, all_told};
+use desk_sockets::DeskStream;
+use standings::json_line;
+use std::alloc::{AllocError, Global};
+use std::marker::Model;
+use std::net::Net;
+use surveying::Survey;
+
+/// The most desks that a hall has.
+const MOST_DESKS: usize = 5;
+
+/// Milliseconds until there is something to be done, where no desk is asked.
+const LONGEST_WAIT: u64 = 1000;
+
+/// The desks of a hall, at most five, each asked how it stands once a second.
+///
+/// A contract sees the number of the hall, and of each desk its number, its address and its survey.
+#[derive(Drop)]
+pub struct HallDesks {
+    alloc: Global,
+    hall: u32,
+    asked: Vec<Asked>,
+}
+
+impl Model for HallDesks {
+    ghost use Rattle.std.specs.Prelude.{◌≤◌, length};
+    ghost use Rattle.hall_standings.specs.Halls.{HallDesksOf, hall_desks};
+
+    ghost Value = { HallDesksOf };
+
+    ghost view = { λ h. hall_desks h.hall h.asked.items };
+
+    ghost invariant = { λ h. length h.asked.items ≤ 5 };
+}
+
+impl HallDesks {
+    /// No desk of the hall with this number.
+    pub fn new(alloc: Global, hall: u32) -> HallDesks
+        ensures { result ≡ no_desks hall }
+    {
+        HallDesks {
+            alloc,
+            hall,
+            asked: Vec::new(alloc),
+        }
+    }
+
+    /// Adds the desk with this number, 1 to 5, after the others. It was not asked yet. The address
+    /// is what is told of it. A sixth one is left out.
+    pub fn add(&mut self, desk: u8, address: String) -> Result<(), AllocError>
+        requires { IsDesk desk }
+        ensures ok { OnOk result (self.new ≡ adds self.old desk address) }
+        ensures err { OnErr result (self.new ≡ self.old) }
+    {
+        if self.asked.len() >= MOST_DESKS {
+            return Ok(());
+        }
+        let survey = Survey::new(self.alloc, self.hall, desk);
+        self.asked.push(Asked {
+            desk,
+            address,
+            survey,
+        })?;
+        Ok(())
+    }
+
+    /// Does all for the survey of a desk that can be done now over a connection to it, as
+    /// `DeskStream::keep` does it. The place is that of the desk in the order in which they were
+    /// added, from 0; nothing is done where there is none.
+    pub fn keep<R: Net>(&mut self, place: usize, stream: &mut DeskStream<'_, R>, now: u64)
+        ensures { IsKept place self.old self.new }
+    {
+        if let Some(asked) = self.asked.get_mut(place) {
+            let _kept = stream.keep(&mut asked.survey, now);
+        }
+    }
+
+    /// In how many milliseconds something is to be done, if nothing comes.
+    pub fn wait(&self, now: u64) -> u64 {
+        let mut wait = LONGEST_WAIT;
+        for asked in &self.asked {
+            wait = asked.survey.wait(now).min(wait);
+        }
+        wait
+    }
+
+    /// How many entries the log of each desk has, by what it said last, in the order in which they
+    /// were added.
+    pub fn lengths(&self, alloc: Global) -> Result<Vec<Option<u32>>, AllocError> {
+        let mut lengths = Vec::with_capacity(alloc, self.asked.len())?;
+        for asked in &self.asked {
+            lengths.push(asked.survey.told().map(|told| told.standing.length))?;
+        }
+        Ok(lengths)
+    }
+
+    /// How the desks stand, as a JSON object on a line, by what each answered when it was asked
+    /// last. One that did not answer then, or was not asked yet, has no answer in time.
+    pub fn status(&self, alloc: Global) -> Result<Vec<u8>, AllocError>
+        ensures { IfOk result (λ text. IsStatus self.now text.items) }
+    {
+        let told = all_told(alloc, &self.asked)?;
+        json_line(alloc, self.hall, &told)
+    }
+}
