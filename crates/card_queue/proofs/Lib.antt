@@ -1,0 +1,15 @@
+pub mod Again
+pub mod Few
+pub mod FirstLines
+pub mod Fitting
+pub mod Kept
+pub mod Lost
+pub mod Once
+pub mod OneText
+pub mod OwnIds
+pub mod Pieces
+pub mod Places
+pub mod Positions
+pub mod Preparing
+pub mod Said
+pub mod Solid

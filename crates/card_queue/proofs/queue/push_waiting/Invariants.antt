@@ -1,0 +1,12 @@
+use Rattle.std.proofs.Common.{◌≡◌, ◌++◌, map, reverse}
+use Rattle.std.specs.VecDeque.Iter.{deque_iter_rest}
+use Rattle.card_queue.specs.Queues.{shown, shown_waiting}
+use Rattle.card_queue.proofs.queue.push_waiting.Given as goal
+
+abbrev pub invariant-loop-one : goal.invariant-loop-one
+invariant-loop-one l =
+    (goal.iterator-loop-one).can_next l.one-iterator
+    × (goal.iterator-loop-one).is_finite l.one-iterator
+    × (map shown l.recent.items
+    ++ reverse (map shown_waiting (deque_iter_rest l.one-iterator.iter))
+    ≡ map shown l.initial.recent.items ++ reverse (map shown_waiting l.waiting.items))
