@@ -1,0 +1,487 @@
+#!/usr/bin/env python3
+"""What `table_views_runs` has to print: a second program of the pages' definitions.
+
+    bench/table_views.py < crates/table_views_runs/stdin > crates/table_views_runs/stdout
+
+Reads the lines of crates/table_views_runs, whose src/main.rt says how they are written. The results
+come from bench/rules.py, which shares nothing with the crates. Standard library only.
+"""
+
+import html
+import re
+import sys
+from pathlib import Path
+
+sys.dont_write_bytecode = True
+sys.path.append(str(Path(__file__).resolve().parent.parent / "scripts"))
+import rules
+from board_views import WORDS
+
+TOKEN = "0123456789abcdef"
+IDS = [1000 + 37 * place for place in range(32)]
+FORMS = {"ao5": "average of 5", "mo3": "mean of 3", "bo1": "best of 1", "bo2": "best of 2",
+         "bo3": "best of 3"}
+ROUND = re.compile("(%s)-([1-4])" % "|".join(WORDS))
+NUMBER = re.compile("[1-9][0-9]{0,3}")
+NOTES = {
+    "n": (0, "whose card is it?", True),
+    "f": (2, "a time is like 1043, 10.43 or 1:02.33", True),
+    "c": (6, "the round is closed", True),
+    "k": (3, "the cutoff is not met: attempt 3 stays empty", True),
+    "u": (1, "more than twice or less than half of the others: is it right?", False),
+    "s": (2, "empty, and a later attempt is not: is it right?", False),
+}
+CHANGES = (1, "another result stands: change it?", False)
+
+
+def escaped(text):
+    return html.escape(text, quote=True).replace("&#x27;", "'")
+
+
+def hidden(name, value):
+    return f'<input type="hidden" name="{name}" value="{escaped(str(value))}">'
+
+
+def unit(what):
+    return {"333fm": "moves", "333mbf": "multi"}.get(what, "time")
+
+
+class Pages:
+    """A competition, what is known of the desks, and its pages."""
+
+    def __init__(self):
+        self.meet, self.length, self.hall, self.now = rules.Meet(), 0, "", 0
+        self.followed, self.silent, self.undecided, self.lengths = 1, None, None, []
+        self.sent = []
+
+    def name(self, who):
+        return escaped(self.meet.names.get(who, b"").decode())
+
+    # ---- the frame
+
+    def bar(self):
+        waits = "s. Go on: cards are kept here, and sent"
+        if self.silent is not None and self.silent >= 2000:
+            return ("lost", f"Desk {self.followed} has not answered for {self.silent // 1000} "
+                    f"{waits} once a desk answers.")
+        if self.undecided is not None and self.undecided >= 2000:
+            seconds = self.undecided // 1000
+            return "lost", f"The desks have not decided for {seconds} {waits} again."
+        return "well", f"desk {self.followed}, position {self.length}"
+
+    def page(self, kind, title, inside):
+        state, told = self.bar()
+        return ('<!DOCTYPE html>\n<html lang="en"><head><meta charset="utf-8">\n'
+                '<meta name="viewport" content="width=device-width, initial-scale=1">\n'
+                f'<title>{escaped(title)}</title><link rel="stylesheet" href="/table.css">\n'
+                f'<script src="/table.js" defer></script></head>\n<body class="{kind}">\n'
+                '<nav><a href="/">all rounds</a>\n<a href="/rounds">open and close</a>\n'
+                '<a href="/people">competitors</a></nav>\n'
+                f'<p id="bar" class="{state}" role="status">{told}</p>\n<main>\n'
+                f"{inside}</main></body></html>\n")
+
+    def recent(self):
+        out = '<section id="recent"><h2>Last entered</h2>\n<ol>\n'
+        for what, state in self.sent:
+            kind, told = self.state(state)
+            out += f'<li class="{kind}">{what()} <em>{told}</em></li>\n'
+        return out + "</ol></section>\n"
+
+    def state(self, text):
+        count = int(text[1:] or 0)
+        if text[0] == "w":
+            return "waits", f"waiting, {max(0, self.now - count) // 1000} s"
+        if text[0] == "s":
+            holding = sum(length is not None and length >= count for length in self.lengths)
+            return "saved", f"saved at {holding} of {len(self.lengths)} desks"
+        if text[0] == "r":
+            return "refused", "not entered: the round is closed"
+        return "saved", "entered before the last start"
+
+    def card_sent(self, where, typed):
+        if NUMBER.fullmatch(typed[0].strip()):
+            who = int(typed[0])
+            link = f"?number={who}\"><b>{who}</b> <bdi>{self.name(who)}</bdi></a>"
+        else:
+            link = f"\"><b>{escaped(typed[0])}</b></a>"
+        spans = "".join(f"<span>{escaped(field)}</span>" for field in typed[1:])
+        return (f'<a href="/card/{where}{link} <small>{where}</small> '
+                f'<span class="typed">{spans}</span>')
+
+    # ---- rounds in words
+
+    def words(self, what, which):
+        final = self.meet.rounds[what, which].advance == ("final",)
+        return f"{WORDS[what]}, " + ("Final" if final else f"Round {which}")
+
+    def settings(self, what, table):
+        out = FORMS[table.form]
+        if table.cutoff != "-":
+            out += f", cutoff {rules.printed(table.cutoff[1], what)} in {table.cutoff[0]}"
+        if table.limit != "-":
+            out += f", limit {rules.printed(table.limit, '333')}"
+        if table.advance[0] != "final":
+            sign = "%" if table.advance[0] == "pct" else ""
+            out += f", top {table.advance[1]}{sign} advance"
+        return out
+
+    @staticmethod
+    def progress(table, who):
+        values = table.entrants.get(who, [])
+        if not values:
+            return "absent"
+        return "begun" if len(values) < table.allotted(values) else "done"
+
+    def with_progress(self, table, progress):
+        return [who for who in table.standings() if self.progress(table, who) == progress]
+
+    def records(self, what, which):
+        table = self.meet.rounds[what, which]
+        attempts = [str(count + 1) for count in range(rules.ATTEMPTS[table.form])]
+        yield ["place", "number", "name", "average", "best", *attempts, "advances"]
+        for place, who, shown, advances in rules.rows(table):
+            yield [str(place), str(who), self.meet.names[who].decode(), *shown,
+                   "yes" if advances else "no"]
+
+    @staticmethod
+    def cells(fields):
+        return "".join(f"<td>{escaped(field)}</td>" for field in fields)
+
+    @staticmethod
+    def headings(fields):
+        return "".join(f'<th scope="col">{escaped(field)}</th>' for field in fields)
+
+    # ---- the card
+
+    def card(self, what, which, number, typed, notes):
+        table, where = self.meet.rounds[what, which], f"{what}-{which}"
+        who = int(number) if NUMBER.fullmatch(number.strip()) else None
+        values = [rules.printed(value, what) for value in table.entrants.get(who, [])]
+        standing = values + [""] * 5
+        filled = typed or ([""] * 5 if unit(what) == "moves" else standing)
+        said = [NOTES.get(letter, CHANGES) for letter in notes]
+
+        def at(place):
+            return "".join(f'<strong role="alert">{words}</strong>'
+                           for there, words, _ in said if there == place)
+
+        out = (f'<section id="card"><h1>{self.words(what, which)}</h1>\n'
+               f'<p class="rules">{self.settings(what, table)}</p>\n'
+               '<form method="post" action="/card" autocomplete="off" '
+               f'data-unit="{unit(what)}" data-format="{table.form}" '
+               f'data-cutoff="{rules.spelled(table.cutoff)}" data-limit="{table.limit}" '
+               f'data-spare="{"".join(f" {spare}" for spare in IDS[1:])}">\n'
+               f'{hidden("token", TOKEN)}{hidden("id", IDS[0])}\n{hidden("round", where)}\n')
+        if any(fault for _, _, fault in said):
+            out += '<p class="told">Not entered yet: what is wrong is said below.</p>\n'
+        elif said:
+            out += (hidden("sure", 1)
+                    + '<p class="told">Not entered yet: Enter once more, if it is right.</p>\n')
+        out += (f'{at(6)}<div class="field"><label for="number">Competitor</label>'
+                f'<input id="number" name="number" autofocus value="{escaped(number)}">'
+                f'<output id="who"><bdi>{self.name(who)}</bdi></output>'
+                f'<ul id="found"></ul>{at(0)}</div>\n')
+        for place in range(rules.ATTEMPTS[table.form]):
+            name = f"a{place + 1}"
+            out += (f'<p class="field"><label for="{name}">{place + 1}</label>'
+                    f'<input id="{name}" name="{name}" value="{escaped(filled[place])}">'
+                    f'<output></output><span class="stands">{standing[place]}</span>'
+                    f"{at(place + 1)}</p>\n")
+        return out + (
+            '<p class="results"><output id="average"></output><output id="best"></output></p>\n'
+            '<button>Enter the card</button>\n</form>\n<p class="options" hidden><label>'
+            '<input id="sound" type="checkbox"> sound</label> <label>'
+            '<input id="blind" type="checkbox"> second reading: what differs is listed</label>'
+            '</p>\n'
+            '<p id="unsent"></p>\n<ol id="back"></ol></section>\n')
+
+    def beside(self, what, which):
+        table, where = self.meet.rounds[what, which], f"{what}-{which}"
+        counts = {kind: len(self.with_progress(table, kind))
+                  for kind in ("done", "begun", "absent")}
+        names, *lines = self.records(what, which)
+        out = ('<div id="beside"><p hidden><label>Filter by name <input id="filter" type="search">'
+               f'</label></p>\n<section id="round"><h2>{self.words(what, which)}</h2>\n'
+               f'<p class="count">{counts["done"]} of {len(table.entrants)} done, '
+               f'{counts["begun"]} in the middle, {counts["absent"]} without an attempt</p>\n'
+               f"<table><thead><tr>{self.headings(names)}</tr></thead><tbody>\n")
+        for fields in lines:
+            who = fields[1]
+            out += (f'<tr class="{self.progress(table, int(who))}">{self.cells(fields[:1])}'
+                    f'<td><a href="/card/{where}?number={who}">{who}</a></td>'
+                    f"{self.cells(fields[2:])}</tr>\n")
+        return out + "</tbody></table>\n</section></div>\n"
+
+    def card_page(self, what, which, number="", typed=None, notes=""):
+        inside = self.card(what, which, number, typed, notes) + self.recent()
+        return self.page("entry", self.words(what, which), inside + self.beside(what, which))
+
+    # ---- the hall
+
+    def overview(self):
+        out = '<section id="rounds"><h1>Rounds</h1>\n<table><tbody>\n'
+        order = list(WORDS)
+        for what, which in sorted(self.meet.rounds, key=lambda it: (order.index(it[0]), it[1])):
+            table, where = self.meet.rounds[what, which], f"{what}-{which}"
+            done, begun = (len(self.with_progress(table, kind)) for kind in ("done", "begun"))
+            links = (("/rounds?round=", "open and close"), ("/wall/", "sheet for the wall"),
+                     ("/scorecards/", "scorecards"))
+            out += (f'<tr><th scope="row"><a href="/card/{where}">{self.words(what, which)}</a>'
+                    "</th>"
+                    f"<td>{'closed' if table.closed else 'open'}</td>"
+                    f"<td>{done} of {len(table.entrants)} done, {begun} in the middle</td>"
+                    + "".join(f'<td><a href="{path}{where}">{words}</a></td>'
+                              for path, words in links) + "</tr>\n")
+        out += '</tbody></table>\n<p><a href="/rounds">Open a round</a></p></section>\n'
+        return self.page("hall", "Score table", out + self.recent())
+
+    @staticmethod
+    def form(form, command, back):
+        return ('<form method="post" action="/command" autocomplete="off">\n'
+                f'{hidden("token", TOKEN)}{hidden("id", IDS[form])}\n{hidden("command", command)}\n'
+                f'{hidden("back", back)}\n')
+
+    @staticmethod
+    def field(name, label, value=""):
+        return f'<label>{label} <input name="{name}" value="{escaped(str(value))}"></label>\n'
+
+    @staticmethod
+    def button(words):
+        return f"<button>{words}</button></form>\n"
+
+    @staticmethod
+    def choices(pairs):
+        return "".join(f'<option value="{value}">{words}</option>\n' for value, words in pairs)
+
+    def people(self):
+        free = next((who for who in range(1, 9999) if who not in self.meet.names), 9999)
+        first = [(what, self.meet.rounds[what, 1]) for what in WORDS
+                 if (what, 1) in self.meet.rounds]
+        out = ("<section><h1>Competitors</h1>\n<h2>Register a competitor</h2>\n"
+               + self.form(0, "REG", "/people") + self.field("number", "Number", free)
+               + self.field("name", "Name") + self.button("Register")
+               + "<h2>Enter a competitor in an event</h2>\n" + self.form(1, "ENT", "/people")
+               + '<label>Event <select name="event">\n'
+               + self.choices((what, WORDS[what]) for what, table in first if not table.closed)
+               + "</select></label>\n" + self.field("number", "Number") + self.button("Enter")
+               + "<table><thead><tr><th>number</th><th>name</th><th>events</th></tr></thead>"
+               + "<tbody>\n")
+        for who in sorted(self.meet.names):
+            events = "".join(f" {what}" for what, table in first if who in table.entrants)
+            out += (f'<tr><td>{who}</td><td dir="auto">{self.name(who)}</td>'
+                    f"<td>{events}</td></tr>\n")
+        out += "</tbody></table></section>\n"
+        return self.page("hall", "Competitors", out + self.recent())
+
+    def refused(self):
+        return self.page("hall", "Not sent", (
+            '<section><h1>Not sent</h1>\n<p><strong role="alert">nothing is written &lt;here&gt;'
+            '</strong></p>\n<p><a href="/people">Back to the form</a></p></section>\n'))
+
+    def is_next(self, what, which):
+        before = self.meet.rounds.get((what, which - 1))
+        return which == 1 or bool(before and before.closed and before.advance != ("final",))
+
+    def all_rounds(self):
+        out = "<section><h1>Open and close rounds</h1>\n<table><tbody>\n"
+        for what in WORDS:
+            if what == "333mbf" and self.meet.edition < 2:
+                continue
+            out += f'<tr><th scope="row">{WORDS[what]}</th>'
+            for which in range(1, 5):
+                table = self.meet.rounds.get((what, which))
+                if table is None and not self.is_next(what, which):
+                    continue
+                words = "to open" if table is None else "closed" if table.closed else "open"
+                out += (f'<td><a href="/rounds?round={what}-{which}">Round {which}</a>: '
+                        f"{words}</td>")
+            out += "</tr>\n"
+        out += "</tbody></table>\n"
+        if self.meet.edition >= 2:
+            return out + "<p>Edition 2 of the commands holds.</p>\n</section>\n"
+        return out + ("<h2>Edition 2</h2>\n<p>With it the commands have 3x3x3 Multi-Blind. "
+                      "It can't be taken back. This is sent: <code>EDITION 2</code></p>\n"
+                      + self.form(0, "EDITION", "/rounds") + hidden("text", "EDITION 2") + "\n"
+                      + self.button("Go on to edition 2") + "</section>\n")
+
+    def advance_fields(self):
+        return ('<label>Who goes on <select name="advance">\n'
+                + self.choices((("final", "nobody: it is the final"), ("top", "so many"),
+                                ("pct", "so many percent")))
+                + "</select></label>\n" + self.field("amount", "how many"))
+
+    def opening(self, what, where):
+        forms = [form for form in FORMS if form in rules.FORMATS[what]]
+        out = ("<h2>Open the round</h2>\n" + self.form(0, "OPEN", f"/rounds?round={where}")
+               + hidden("round", where) + '\n<label>Format <select name="format">\n'
+               + self.choices((form, FORMS[form]) for form in forms) + "</select></label>\n")
+        if what != "333mbf":
+            most = 4 if "ao5" in forms else 2
+            out += ('<label>Cutoff after <select name="after">\n<option value="">none</option>\n'
+                    + "".join(f"<option>{count + 1}</option>\n" for count in range(most))
+                    + "</select> attempts</label>\n"
+                    + self.field("cutoff", "one of them below (as 15.00)"))
+        if unit(what) == "time":
+            out += self.field("limit", "Time limit", "10:00.00")
+        return out + self.advance_fields() + self.button("Open the round")
+
+    def entrants(self, where, numbers):
+        return "".join(f'<li><a href="/card/{where}?number={who}"><b>{who}</b> '
+                       f"<bdi>{self.name(who)}</bdi></a></li>\n" for who in numbers)
+
+    def through(self, where, table):
+        if table.advance == ("final",):
+            return "<p>It is the final: nobody goes on.</p>\n"
+        numbers, most = table.advancing(), rules.quota(table.advance, len(table.started()))
+        out = (f"<h2>Who goes on, as it stands: {len(numbers)}</h2>\n<ol>\n"
+               + self.entrants(where, numbers) + "</ol>\n")
+        if len(numbers) < most:
+            out += (f'<p class="told">{most} could go on: the others are tied at the border, or '
+                    "have no result.</p>\n")
+        return out
+
+    def scrambles(self, what, where, table):
+        out = "<h2>Scrambles</h2>\n"
+        for count in range(1, rules.ATTEMPTS[table.form] + 1):
+            if count in table.scrambles:
+                moves = " ".join(table.scrambles[count])
+                out += f"<p>Scramble {count}: <code>{escaped(moves)}</code></p>\n"
+            else:
+                out += (self.form(count + 1, "SCR", f"/rounds?round={where}")
+                        + hidden("round", where) + "\n"
+                        + self.field("attempt", "Scramble of attempt", count)
+                        + self.field("moves", "moves") + self.button("Set the scramble"))
+        return out
+
+    def open_round(self, what, where, table):
+        out = self.scrambles(what, where, table) if what == "333fm" else ""
+        for heading, kind in (("In the middle", "begun"), ("Without an attempt", "absent")):
+            numbers = self.with_progress(table, kind)
+            if numbers:
+                out += f"<h2>{heading}</h2>\n<ul>\n{self.entrants(where, numbers)}</ul>\n"
+        text, back = f"CLOSE {where.replace('-', ' ')}", f"/rounds?round={where}"
+        return (out + self.through(where, table) + "<h2>Change who goes on</h2>\n"
+                + self.form(1, "ADV", back) + hidden("round", where) + "\n" + self.advance_fields()
+                + self.button("Change who goes on") + "<h2>Close the round</h2>\n"
+                + self.form(0, "CLOSE", back) + hidden("round", where) + "\n" + hidden("text", text)
+                + f"\n<p>Nothing in it changes afterwards. This is sent: <code>{text}</code></p>\n"
+                + self.button("Close the round"))
+
+    def forms(self, what, which):
+        table, where = self.meet.rounds.get((what, which)), f"{what}-{which}"
+        out = (f'<section><h1>{WORDS[what]}, Round {which}</h1>\n'
+               f'<p><a href="/card/{where}">its cards</a></p>\n')
+        if table is None and self.is_next(what, which):
+            out += self.opening(what, where)
+        elif table is None:
+            out += "<p>The round before it is not closed, or is the final.</p>\n"
+        else:
+            out += f'<p class="rules">{self.settings(what, table)}</p>\n'
+            out += self.closed(what, which, table) if table.closed \
+                else self.open_round(what, where, table)
+        return out + "</section>\n"
+
+    def closed(self, what, which, table):
+        out = "<p>The round is closed.</p>\n" + self.through(f"{what}-{which}", table)
+        if table.advance == ("final",):
+            return out
+        link = f"/rounds?round={what}-{which + 1}"
+        return out + f'<p><a href="{link}">Open the next round</a></p>\n'
+
+    def rounds(self, round_):
+        inside = self.all_rounds() if round_ is None else self.forms(*round_)
+        return self.page("hall", "Open and close rounds", inside + self.recent())
+
+    # ---- paper
+
+    def printed(self, kind, inside):
+        return ('<!DOCTYPE html>\n<html lang="en"><head><meta charset="utf-8">\n'
+                f'<title>{escaped(self.hall)}</title><link rel="stylesheet" href="/table.css">'
+                f'</head>\n<body class="{kind}"><main>\n{inside}</main></body></html>\n')
+
+    def wall(self, what, which):
+        names, *lines = self.records(what, which)
+        table = self.meet.rounds[what, which]
+        out = (f'<table><thead><tr><th colspan="20" class="head"><b>{self.words(what, which)}</b> '
+               f"<span>{self.settings(what, table)}</span> <i>{escaped(self.hall)}, position "
+               f"{self.length}</i></th></tr>\n<tr>{self.headings(names)}</tr></thead><tbody>\n")
+        for fields in lines:
+            out += f'<tr class="{fields[-1]}">{self.cells(fields)}</tr>\n'
+        return self.printed("wall", out + '</tbody></table>\n<p class="signature">Delegate: <span>'
+                            "</span> Date: <span></span></p>\n")
+
+    def scorecards(self, what, which):
+        table, out = self.meet.rounds[what, which], ""
+        for who in table.standings():
+            out += (f'<section class="scorecard"><p class="hall">{escaped(self.hall)}</p>\n'
+                    f'<p class="round">{self.words(what, which)}</p>\n<p class="who"><b>{who}</b> '
+                    f"<bdi>{self.name(who)}</bdi></p>\n<table><thead><tr><th></th><th>result</th>"
+                    "<th>judge</th><th>competitor</th></tr></thead><tbody>\n")
+            for count in range(rules.ATTEMPTS[table.form]):
+                out += f'<tr><th scope="row">{count + 1}</th><td></td><td></td><td></td></tr>\n'
+            out += (f'</tbody></table>\n<p class="rules">{self.settings(what, table)}</p>'
+                    "</section>\n")
+        return self.printed("scorecards", out)
+
+    # ---- paths
+
+    def at(self, path):
+        fixed = {"/": self.overview, "/people": self.people, "/refused": self.refused}
+        if path in fixed:
+            return fixed[path]()
+        kind, _, rest = path.removeprefix("/").partition("/")
+        if path.startswith("/rounds"):
+            found = ROUND.fullmatch(path.removeprefix("/rounds").removeprefix("?round="))
+            return self.rounds(found and (found[1], int(found[2])))
+        name, _, query = rest.partition("?number=")
+        found = ROUND.fullmatch(name)
+        if not found or (found[1], int(found[2])) not in self.meet.rounds:
+            return "none\n"
+        what, which = found[1], int(found[2])
+        if kind == "card":
+            return self.card_page(what, which, query)
+        return {"wall": self.wall, "scorecards": self.scorecards}[kind](what, which)
+
+    def typed(self, text):
+        where, _, rest = text.partition(" ")
+        notes, _, fields = rest.partition(" ")
+        found = ROUND.fullmatch(where)
+        number, *typed = (fields.split("|") + [""] * 6)[:6]
+        return self.card_page(found[1], int(found[2]), number, typed, notes)
+
+    def put_card(self, text):
+        where, _, rest = text.partition(" ")
+        state, _, fields = rest.partition(" ")
+        typed = (fields.split("|") + [""] * 6)[:6]
+        self.sent.append((lambda: self.card_sent(where, typed), state))
+
+    def line(self, line, out):
+        word, _, text = line.partition(" ")
+        if word == ">":
+            self.meet.apply(text.encode())
+            self.length += 1
+        elif word == "hall":
+            self.hall = text
+        elif word == "now":
+            self.now = int(text)
+        elif word == "desks":
+            read = [None if it == "-" else int(it) for it in text.split(" ")]
+            self.followed, self.silent, self.undecided, *self.lengths = read
+        elif word == "card":
+            self.put_card(text)
+        elif word == "command":
+            state, _, command = text.partition(" ")
+            self.sent.append((lambda: f"<code>{escaped(command)}</code>", state))
+        elif word in ("get", "typed"):
+            out.append(f"== {text}\n" + (self.at(text) if word == "get" else self.typed(text)))
+
+
+def main():
+    pages, out = Pages(), []
+    for line in sys.stdin.buffer.read().decode().split("\n"):
+        pages.line(line, out)
+    sys.stdout.buffer.write("".join(out).encode())
+
+
+if __name__ == "__main__":
+    main()

@@ -1,0 +1,27 @@
+use Rattle.std.proofs.Common.{◌++◌, ◌∙◌, ap, codes, drop, flat_map}
+use Rattle.board_page.specs.Table.{cell}
+use Rattle.board_page.proofs.Steps.{five_parts}
+use Rattle.csv.specs.Records.{fields_of}
+use Rattle.table_views.specs.People.{number_in}
+use Rattle.entry_views.specs.Beside.{field_in, line, line_start, number_cell, progress_at}
+use Rattle.entry_views.proofs.beside.push_line.Goals as goal
+
+pub returns : goal.returns
+unfolding line
+returns c =
+    let out = c.args.out.now.items in
+    let fields = fields_of c.args.row.now in
+    let far = progress_at c.args.format c.args.table.now in
+    five_parts out (line_start (far (number_in (field_in fields 1)))) (cell (field_in fields 0))
+    (number_cell c.args.id (field_in fields 1)) (flat_map cell (drop 2 fields)) (codes "</tr>\n")
+    _ _ _ _ _
+    (c.in_ok-push_line_start.ensures
+    ∙ ap (λ progress. out ++ line_start progress)
+    (c.progress_at.ensures
+    ∙ ap far (c.number_of.ensures ∙ ap number_in c.field_at-number.ensures)))
+    (c.in_ok-push_cell.ensures
+    ∙ ap (λ field. c.push_line_start.new.out.items ++ cell field) c.field_at.ensures)
+    (c.in_ok-push_number_cell.ensures
+    ∙ ap (λ field. c.push_cell.new.out.items ++ number_cell c.args.id field)
+    c.field_at-number.ensures)
+    c.in_ok-push_cells.ensures c.in_ok-extend_from_slice.ensures.items

@@ -1,0 +1,5 @@
+pub mod Notes
+pub mod Fields
+pub mod Card
+pub mod Beside
+pub mod Page

@@ -1,0 +1,13 @@
+//! The page of a card: its form, the last cards, and the round beside it.
+#![tactic(auto)]
+
+mod beside;
+mod card;
+mod draft;
+mod fields;
+mod notes;
+mod page;
+
+pub use draft::Draft;
+pub use notes::Note;
+pub use page::card_page;

@@ -1,0 +1,122 @@
+//! The page of a card.
+
+ghost use Rattle.std.specs.Prelude.{◌≡◌, ◌++◌, IfOk, OnOk, Some, option_map};
+ghost use Rattle.commands.specs.Accepted.{round_by};
+ghost use Rattle.round_words.specs.Words.{round_words};
+ghost use Rattle.sheets.specs.Sheet.{table_sheet};
+ghost use Rattle.entry_views.specs.Page.{card_section, front, IsCardPage, IsPageOf};
+ghost use Rattle.table_views.specs.Logs.{accepted_in};
+
+use crate::beside::push_round;
+use crate::card::{push_card_fields, push_form_end, push_form_start, push_head};
+use crate::draft::Draft;
+use acceptor::NoMemory;
+use commands::Meet;
+use round_counts::{Opened, round_opened};
+use round_words::push_round_words;
+use sheets::table;
+use std::alloc::{AllocError, Global};
+use table_views::{Around, push_bottom, push_recent, push_top};
+use texts::{Advance, RoundId};
+
+/// What a browser's window is called.
+fn title_of(alloc: Global, id: RoundId, advance: Advance) -> Result<Vec<u8>, NoMemory>
+    ensures { IfOk result (λ title. title.items ≡ round_words id advance) }
+{
+    let mut title = Vec::new(alloc);
+    push_round_words(&mut title, id, advance)?;
+    Ok(title)
+}
+
+/// The table of a round that was opened, as its sheet has it.
+fn sheet_of(alloc: Global, meet: &Meet, id: RoundId) -> Result<Vec<u8>, NoMemory>
+    ensures { IfOk result (λ sheet.
+        table_sheet meet.now.accepted id.event id.round ≡ Some sheet.items) }
+{
+    match table(alloc, meet, id.event, id.round, 0) {
+        Ok(text) => Ok(text),
+        Err(_) => Err(AllocError),
+    }
+}
+
+/// Adds the section of the card.
+fn push_card(
+    out: &mut Vec<u8>,
+    around: &Around<'_>,
+    id: RoundId,
+    round: Opened<'_>,
+    draft: Draft<'_>,
+) -> Result<(), NoMemory>
+    ensures { OnOk result (out.new.items ≡ out.old.items ++ card_section around.entry.now id
+        (round.entry.settings, round.entry.table.now) draft.entry) }
+{
+    push_head(out, id, round.settings)?;
+    push_form_start(out, around.token, around.ids, id, round.settings)?;
+    push_card_fields(out, around.mirror.meet(), id, round, draft)?;
+    push_form_end(out)?;
+    Ok(())
+}
+
+/// Adds what stands before the round.
+fn push_front(
+    out: &mut Vec<u8>,
+    around: &Around<'_>,
+    id: RoundId,
+    round: Opened<'_>,
+    draft: Draft<'_>,
+) -> Result<(), NoMemory>
+    ensures { OnOk result (out.new.items ≡ out.old.items ++ front around.entry.now id
+        (round.entry.settings, round.entry.table.now) draft.entry) }
+{
+    let title = title_of(*out.allocator(), id, round.settings.advance)?;
+    push_top(out, around.desks, around.mirror.len(), b"entry", &title)?;
+    push_card(out, around, id, round, draft)?;
+    push_recent(
+        out,
+        around.mirror.meet(),
+        around.desks,
+        around.now,
+        around.recent,
+    )?;
+    Ok(())
+}
+
+/// The page of a card of a round that was opened.
+fn page_of(
+    alloc: Global,
+    around: &Around<'_>,
+    id: RoundId,
+    round: Opened<'_>,
+    draft: Draft<'_>,
+) -> Result<Vec<u8>, NoMemory>
+    ensures { IfOk result (λ page. IsPageOf around.entry.now id
+        (round.entry.settings, round.entry.table.now) draft.entry page.items) }
+{
+    let sheet = sheet_of(alloc, around.mirror.meet(), id)?;
+    let mut page = Vec::new(alloc);
+    push_front(&mut page, around, id, round, draft)?;
+    push_round(&mut page, id, round, &sheet)?;
+    push_bottom(&mut page)?;
+    Ok(page)
+}
+
+/// The page of a card of a round; none where the round was not opened.
+///
+/// It has the form of the card, filled in with the draft, which carries the token and the first of
+/// the ids; the cards and commands of late; and the round, whose cells are the fields of its sheet.
+pub fn card_page(
+    alloc: Global,
+    around: &Around<'_>,
+    id: RoundId,
+    draft: Draft<'_>,
+) -> Result<Option<Vec<u8>>, NoMemory>
+    ensures { IfOk result (λ page. IsCardPage around.entry.now id draft.entry
+        (round_by (accepted_in around.entry.now.mirror.now) id)
+        (option_map (λ text. text.items) page)) }
+{
+    let Some(round) = round_opened(around.mirror.meet(), id) else {
+        return Ok(None);
+    };
+    let page = page_of(alloc, around, id, round, draft)?;
+    Ok(Some(page))
+}

@@ -1,0 +1,21 @@
+use Rattle.std.proofs.Common.{codes, flat_map, length, ◌++◌}
+use Rattle.std.proofs.lemmas.Result.{on_ok_weaker}
+use Rattle.board_page.proofs.Steps.{three_parts, two_parts}
+use Rattle.hall_views.specs.Closing.{list_through, these_go_on, tie}
+use Rattle.hall_views.specs.Entrants.{entrant_line}
+use Rattle.hall_views.proofs.closing.push_list_through.Goals as goal
+
+pub returns : goal.returns
+unfolding list_through
+returns c =
+    let out = c.args.out.now.items in
+    let numbers = c.args.numbers.now in
+    on_ok_weaker c.push_tie.result
+    (two_parts out
+    (these_go_on (length numbers)
+    ++ flat_map (entrant_line c.args.meet.now.accepted c.args.id) numbers ++ codes "</ol>\n")
+    (tie (length numbers) c.args.most) _ _
+    (three_parts out (these_go_on (length numbers))
+    (flat_map (entrant_line c.args.meet.now.accepted c.args.id) numbers) (codes "</ol>\n") _ _ _
+    c.in_ok-push_count.ensures c.in_ok-push_entrants.ensures
+    c.in_ok-extend_from_slice.ensures.items)) c.push_tie.ensures

@@ -1,0 +1,15 @@
+use Rattle.std.proofs.Common.{[], codes, flat_map, ◌∷◌}
+use Rattle.std.proofs.lemmas.Result.{on_ok_weaker}
+use Rattle.board_page.proofs.Steps.{three_parts, when_ok}
+use Rattle.hall_views.specs.Rounds.{event_head, link_in, row_of}
+use Rattle.hall_views.proofs.round_forms.push_row.Goals as goal
+
+pub returns : goal.returns
+unfolding row_of
+returns c =
+    let out = c.args.out.now.items in
+    on_ok_weaker c.extend_from_slice.result
+    (three_parts out (event_head c.args.event)
+    (flat_map (link_in c.args.meet.now.accepted c.args.event) (1 ∷ 2 ∷ 3 ∷ 4 ∷ []))
+    (codes "</tr>\n") _ _ _ c.in_ok-push_event_head.ensures c.in_ok-push_links.ensures)
+    (when_ok _ _ _ _ c.extend_from_slice.ensures.items)

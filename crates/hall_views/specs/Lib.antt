@@ -1,0 +1,9 @@
+pub mod Forms
+pub mod Overview
+pub mod Refused
+pub mod Entrants
+pub mod Opening
+pub mod Closing
+pub mod People
+pub mod Scrambles
+pub mod Rounds

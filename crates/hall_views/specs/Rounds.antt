@@ -1,0 +1,178 @@
+-- The page that opens and closes rounds.
+use Rattle.std.specs.Prelude.{ℕ, ◌+◌, ◌-◌, Bool, true, false, if◌then◌else◌, nat_le, nat_lt, List}
+use Rattle.std.specs.Prelude.{[], ◌∷◌, ◌++◌, codes, decimal, flat_map, get_or, length}
+use Rattle.std.specs.Prelude.{Option, None, Some}
+use Rattle.commands.specs.Accepted.{edition_in, leads_on, round_by}
+use Rattle.formats.specs.declared.advance.Advance.{Advance}
+use Rattle.formats.specs.declared.advance.Advance.TheVariants.{Final, Top, Percent}
+use Rattle.formats.specs.declared.events.Event.{Event}
+use Rattle.formats.specs.Events.{all_events, attempts_of, event_edition, last_round}
+use Rattle.rounds.specs.Tables.{Table}
+use Rattle.round_words.specs.Words.{event_words, round_name, settings_words}
+use Rattle.texts.specs.declared.command.Command.{Command}
+use Rattle.texts.specs.declared.command.RoundId.{RoundId}
+use Rattle.texts.specs.declared.command.Settings.{Settings}
+use Rattle.markup.specs.Pieces.{joined}
+use Rattle.table_views.specs.declared.around.Around.{Around}
+use Rattle.table_views.specs.Frame.{top, bottom}
+use Rattle.table_views.specs.Logs.{accepted_in}
+use Rattle.table_views.specs.Recent.{recent_section}
+use Rattle.hall_views.specs.declared.round_forms.State.{State}
+use Rattle.hall_views.specs.declared.round_forms.State.TheVariants.{Closed, Open, ToOpen}
+use Rattle.hall_views.specs.Closing.{open_round, through}
+use Rattle.hall_views.specs.Forms.{button, form_start, unseen}
+use Rattle.hall_views.specs.Opening.{opening}
+use Rattle.hall_views.specs.Scrambles.{scrambles}
+
+-- ---- which rounds have forms
+
+abbrev pub round_numbered : Event → ℕ → RoundId
+round_numbered event round = record { event = event; round = round }
+
+-- a round can be opened, as far as those before it go: it is the first, or the one before it is
+-- closed and no final
+abbrev pub is_next : List Command → RoundId → Bool
+is_next accepted id =
+    if nat_le id.round 1 then true
+    else leads_on (round_by accepted (round_numbered id.event (id.round - 1)))
+
+abbrev pub closed_or_open : Bool → State
+closed_or_open true = Closed
+closed_or_open false = Open
+
+abbrev pub state_of : Bool → Option (Settings × Table) → Option State
+state_of next (Some round) = Some (closed_or_open round.1.is_closed)
+state_of true None = Some ToOpen
+state_of false None = None
+
+abbrev pub state_words : State → List ℕ
+state_words Closed = codes "closed"
+state_words Open = codes "open"
+state_words ToOpen = codes "to open"
+
+-- ---- the rounds of all events
+
+abbrev pub link_rest : ℕ → List ℕ → List ℕ
+link_rest round words = joined (
+    codes "\">Round " ∷ decimal round ∷ codes "</a>: " ∷ words ∷ codes "</td>" ∷ []
+    )
+
+unfoldable pub link : RoundId → List ℕ → List ℕ
+link id words = codes "<td><a href=\"/rounds?round=" ++ round_name id ++ link_rest id.round words
+
+abbrev pub link_if : RoundId → Option State → List ℕ
+link_if id None = []
+link_if id (Some state) = link id (state_words state)
+
+-- a link to the forms of a round, if it was opened or can be
+abbrev pub round_link : List Command → RoundId → List ℕ
+round_link accepted id = link_if id (state_of (is_next accepted id) (round_by accepted id))
+
+abbrev pub link_in : List Command → Event → ℕ → List ℕ
+link_in accepted event round = round_link accepted (round_numbered event round)
+
+abbrev pub event_head : Event → List ℕ
+event_head event = joined (
+    codes "<tr><th scope=\"row\">" ∷ event_words event ∷ codes "</th>" ∷ []
+    )
+
+unfoldable pub row_of : List Command → Event → List ℕ
+row_of accepted event =
+    event_head event ++ flat_map (link_in accepted event) (1 ∷ 2 ∷ 3 ∷ 4 ∷ []) ++ codes "</tr>\n"
+
+-- the row of an event, where the edition has it
+abbrev pub event_row : List Command → Event → List ℕ
+event_row accepted event =
+    if nat_lt (edition_in accepted) (event_edition event) then []
+    else row_of accepted event
+
+unfoldable pub edition_form : List ℕ → ℕ → List ℕ
+edition_form token form =
+    codes "<h2>Edition 2</h2>\n<p>With it the commands have 3x3x3 Multi-Blind. "
+    ++ codes "It can't be taken back. This is sent: <code>EDITION 2</code></p>\n"
+    ++ form_start token form (codes "EDITION") (codes "/rounds")
+    ++ unseen (codes "text") (codes "EDITION 2") ++ button (codes "Go on to edition 2")
+
+-- the button of edition 2, until it holds
+abbrev pub edition_section : Around → List ℕ
+edition_section around =
+    if nat_le 2 (edition_in (accepted_in around.mirror.now))
+    then codes "<p>Edition 2 of the commands holds.</p>\n"
+    else edition_form around.token.now (get_or around.ids.now 0 0)
+
+unfoldable pub all_section : Around → List ℕ
+all_section around =
+    codes "<section><h1>Open and close rounds</h1>\n<table><tbody>\n"
+    ++ flat_map (event_row (accepted_in around.mirror.now)) all_events
+    ++ codes "</tbody></table>\n" ++ edition_section around ++ codes "</section>\n"
+
+-- ---- the forms of a round
+
+unfoldable pub link_to_next : RoundId → List ℕ
+link_to_next id =
+    codes "<p><a href=\"/rounds?round=" ++ round_name id
+    ++ codes "\">Open the next round</a></p>\n"
+
+-- the round after a round of an event that has at most four
+abbrev pub after : RoundId → RoundId
+after id =
+    round_numbered id.event
+    (if nat_le id.round last_round then id.round + 1 else last_round + 1)
+
+abbrev pub next_link : RoundId → Advance → List ℕ
+next_link id Final = []
+next_link id (Top number) = link_to_next (after id)
+next_link id (Percent percent) = link_to_next (after id)
+
+unfoldable pub closed_forms : List Command → RoundId → Settings × Table → List ℕ
+closed_forms accepted id round =
+    codes "<p>The round is closed.</p>\n" ++ through accepted id round
+    ++ next_link id round.0.advance
+
+unfoldable pub running_forms : Around → RoundId → Settings × Table → List ℕ
+running_forms around id round =
+    scrambles id.event around id (attempts_of round.0.format) ++ open_round around id round
+
+abbrev pub closed_or_open_forms : Bool → Around → RoundId → Settings × Table → List ℕ
+closed_or_open_forms true around id round =
+    closed_forms (accepted_in around.mirror.now) id round
+closed_or_open_forms false around id round = running_forms around id round
+
+unfoldable pub opened_forms : Around → RoundId → Settings × Table → List ℕ
+opened_forms around id round =
+    codes "<p class=\"rules\">" ++ settings_words id.event round.0 ++ codes "</p>\n"
+    ++ closed_or_open_forms round.1.is_closed around id round
+
+abbrev pub unopened_forms : Around → RoundId → List ℕ
+unopened_forms around id =
+    if is_next (accepted_in around.mirror.now) id
+    then opening around.token.now (get_or around.ids.now 0 0) id
+    else codes "<p>The round before it is not closed, or is the final.</p>\n"
+
+abbrev pub forms_if : Around → RoundId → Option (Settings × Table) → List ℕ
+forms_if around id (Some round) = opened_forms around id round
+forms_if around id None = unopened_forms around id
+
+abbrev pub round_head : RoundId → List ℕ
+round_head id = joined (
+    codes "<section><h1>" ∷ event_words id.event ∷ codes ", Round " ∷ decimal id.round
+    ∷ codes "</h1>\n<p><a href=\"/card/" ∷ []
+    )
+
+unfoldable pub round_section : Around → RoundId → List ℕ
+round_section around id =
+    round_head id ++ round_name id ++ codes "\">its cards</a></p>\n"
+    ++ forms_if around id (round_by (accepted_in around.mirror.now) id) ++ codes "</section>\n"
+
+-- ---- the page: of all events, or of a round
+
+abbrev pub inside : Around → Option RoundId → List ℕ
+inside around None = all_section around
+inside around (Some id) = round_section around id
+
+unfoldable pub rounds_page : Around → Option RoundId → List ℕ
+rounds_page around round =
+    top (codes "hall") (codes "Open and close rounds") around.desks.now (length around.mirror.now)
+    ++ inside around round
+    ++ recent_section (accepted_in around.mirror.now) around.desks.now around.now around.recent.now
+    ++ bottom

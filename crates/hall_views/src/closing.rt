@@ -1,0 +1,181 @@
+//! The forms of a round that is open: who goes on, and closing it.
+
+ghost use Rattle.std.specs.Prelude.{◌≡◌, ◌++◌, IfOk, OnOk};
+ghost use Rattle.advancement.specs.Advancing.{advancing, quota};
+ghost use Rattle.rounds.specs.Tables.{started};
+ghost use Rattle.hall_views.specs.Closing.{change, close, closing_told, close_text, list_through};
+ghost use Rattle.hall_views.specs.Closing.{open_round};
+ghost use Rattle.hall_views.specs.Closing.{these_go_on, through, tie};
+
+use crate::forms::{id_at, path_of, push_button, push_form, push_round_value, push_unseen};
+use crate::opening::push_advance;
+use crate::unfinished::{push_entrants, push_unfinished};
+use acceptor::NoMemory;
+use advancement::{advancing, quota};
+use card_forms::FormId;
+use commands::Meet;
+use formats::Advance;
+use markup::{Piece, push_pieces};
+use round_counts::Opened;
+use rounds::RoundTable;
+use std::alloc::Global;
+use table_views::Around;
+use texts::{Command, RoundId, print};
+
+/// The text of the command that closes a round.
+fn close_text(alloc: Global, id: RoundId) -> Result<Vec<u8>, NoMemory>
+    ensures { IfOk result (λ text. text.items ≡ close_text id) }
+{
+    print(alloc, &Command::Close { id })
+}
+
+/// Adds that a tie keeps people out, where fewer go on than could.
+fn push_tie(out: &mut Vec<u8>, through: usize, most: u16) -> Result<(), NoMemory>
+    ensures { OnOk result (out.new.items ≡ out.old.items ++ tie through most) }
+{
+    if through >= usize::from(most) {
+        return Ok(());
+    }
+    push_pieces(
+        out,
+        &[
+            Piece::Html(b"<p class=\"told\">"),
+            Piece::Number(most as u64),
+            Piece::Html(
+                b" could go on: the others are tied at the border, or have no result.</p>\n",
+            ),
+        ],
+    )
+}
+
+fn push_count(out: &mut Vec<u8>, count: usize) -> Result<(), NoMemory>
+    ensures { OnOk result (out.new.items ≡ out.old.items ++ these_go_on count) }
+{
+    push_pieces(
+        out,
+        &[
+            Piece::Html(b"<h2>Who goes on, as it stands: "),
+            Piece::Number(count as u64),
+            Piece::Html(b"</h2>\n<ol>\n"),
+        ],
+    )
+}
+
+/// Adds these as those who go on, of whom there could be so many.
+fn push_list_through(
+    out: &mut Vec<u8>,
+    meet: &Meet,
+    id: RoundId,
+    numbers: &[u16],
+    most: u16,
+) -> Result<(), NoMemory>
+    ensures { OnOk result (out.new.items
+        ≡ out.old.items ++ list_through meet.now.accepted id numbers.now most) }
+{
+    push_count(out, numbers.len())?;
+    push_entrants(out, meet, id, numbers)?;
+    out.extend_from_slice(b"</ol>\n")?;
+    push_tie(out, numbers.len(), most)
+}
+
+/// Adds who goes on by a rule.
+fn push_through_by(
+    out: &mut Vec<u8>,
+    meet: &Meet,
+    id: RoundId,
+    table: &RoundTable,
+    advance: Advance,
+) -> Result<(), NoMemory>
+    ensures { OnOk result (out.new.items ≡ out.old.items ++ list_through meet.now.accepted id
+        (advancing table.now advance) (quota advance (started table.now))) }
+{
+    let numbers = advancing(*out.allocator(), table, advance)?;
+    push_list_through(out, meet, id, &numbers, quota(advance, table.started()))
+}
+
+/// Adds who goes on, if the round is closed as it stands.
+pub(crate) fn push_through(
+    out: &mut Vec<u8>,
+    meet: &Meet,
+    id: RoundId,
+    round: Opened<'_>,
+) -> Result<(), NoMemory>
+    ensures { OnOk result (out.new.items ≡ out.old.items ++ through meet.now.accepted id
+        (round.entry.settings, round.entry.table.now)) }
+{
+    let advance = round.settings.advance;
+    match advance {
+        Advance::Final => out.extend_from_slice(b"<p>It is the final: nobody goes on.</p>\n"),
+        Advance::Top(_) | Advance::Percent(_) => {
+            push_through_by(out, meet, id, round.table, advance)
+        }
+    }
+}
+
+/// Adds the form that changes who goes on.
+fn push_change(
+    out: &mut Vec<u8>,
+    token: &[u8],
+    form: FormId,
+    id: RoundId,
+    back: &[u8],
+) -> Result<(), NoMemory>
+    ensures { OnOk result (out.new.items ≡ out.old.items ++ change token.now form id back.now) }
+{
+    out.extend_from_slice(b"<h2>Change who goes on</h2>\n")?;
+    push_form(out, token, form, b"ADV", back)?;
+    push_round_value(out, id)?;
+    push_advance(out)?;
+    push_button(out, b"Change who goes on")
+}
+
+/// Adds the command that closes the round, which is sent as it is shown.
+fn push_told(out: &mut Vec<u8>, text: &[u8]) -> Result<(), NoMemory>
+    ensures { OnOk result (out.new.items ≡ out.old.items ++ closing_told text.now) }
+{
+    push_unseen(out, b"text", text)?;
+    push_pieces(
+        out,
+        &[
+            Piece::Html(b"<p>Nothing in it changes afterwards. This is sent: <code>"),
+            Piece::Text(text),
+            Piece::Html(b"</code></p>\n"),
+        ],
+    )
+}
+
+/// Adds the form that closes the round.
+fn push_close(
+    out: &mut Vec<u8>,
+    token: &[u8],
+    form: FormId,
+    id: RoundId,
+    back: &[u8],
+) -> Result<(), NoMemory>
+    ensures { OnOk result (out.new.items ≡ out.old.items ++ close token.now form id back.now) }
+{
+    let text = close_text(*out.allocator(), id)?;
+    out.extend_from_slice(b"<h2>Close the round</h2>\n")?;
+    push_form(out, token, form, b"CLOSE", back)?;
+    push_round_value(out, id)?;
+    push_told(out, &text)?;
+    push_button(out, b"Close the round")
+}
+
+/// Adds the lists and the forms of a round that is open.
+pub(crate) fn push_open_round(
+    out: &mut Vec<u8>,
+    around: &Around<'_>,
+    id: RoundId,
+    round: Opened<'_>,
+) -> Result<(), NoMemory>
+    ensures { OnOk result (out.new.items ≡ out.old.items ++ open_round around.entry.now id
+        (round.entry.settings, round.entry.table.now)) }
+{
+    let meet = around.mirror.meet();
+    let back = path_of(*out.allocator(), id)?;
+    push_unfinished(out, meet, id, round)?;
+    push_through(out, meet, id, round)?;
+    push_change(out, around.token, id_at(around.ids, 1), id, &back)?;
+    push_close(out, around.token, id_at(around.ids, 0), id, &back)
+}

@@ -1,0 +1,47 @@
+//! The page of a form that asks for no command.
+
+ghost use Rattle.std.specs.Prelude.{◌≡◌, ◌++◌, IfOk, OnOk};
+ghost use Rattle.hall_views.specs.Refused.{refusal, refused_page};
+
+use acceptor::NoMemory;
+use markup::{Piece, push_pieces};
+use std::alloc::Global;
+use table_views::{Around, push_bottom, push_top};
+
+/// Adds why, with a link back.
+fn push_refusal<'a>(out: &mut Vec<u8>, back: &'a [u8], why: &'a [u8]) -> Result<(), NoMemory>
+    ensures { OnOk result (out.new.items ≡ out.old.items ++ refusal back.now why.now) }
+{
+    push_pieces(
+        out,
+        &[
+            Piece::Html(b"<section><h1>Not sent</h1>\n<p><strong role=\"alert\">"),
+            Piece::Text(why),
+            Piece::Html(b"</strong></p>\n<p><a href=\""),
+            Piece::Text(back),
+            Piece::Html(b"\">Back to the form</a></p></section>\n"),
+        ],
+    )
+}
+
+/// The page that says why a form asks for no command, with a link back to the page of the form.
+pub fn refused_page(
+    alloc: Global,
+    around: &Around<'_>,
+    back: &[u8],
+    why: &[u8],
+) -> Result<Vec<u8>, NoMemory>
+    ensures { IfOk result (λ page. page.items ≡ refused_page around.entry.now back.now why.now) }
+{
+    let mut page = Vec::new(alloc);
+    push_top(
+        &mut page,
+        around.desks,
+        around.mirror.len(),
+        b"hall",
+        b"Not sent",
+    )?;
+    push_refusal(&mut page, back, why)?;
+    push_bottom(&mut page)?;
+    Ok(page)
+}

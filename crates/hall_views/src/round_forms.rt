@@ -1,0 +1,422 @@
+//! The page that opens and closes rounds.
+
+ghost use Rattle.std.specs.Prelude.{◌≡◌, ◌++◌, IfOk, OnOk, flat_map, option_map};
+ghost use Rattle.commands.specs.Accepted.{is_final, leads_on, round_by};
+ghost use Rattle.table_views.specs.Logs.{accepted_in};
+ghost use Rattle.hall_views.specs.Rounds.{all_section, closed_forms, edition_section, event_head};
+ghost use Rattle.hall_views.specs.Rounds.{event_row, forms_if, inside, is_next, link_if, link_rest};
+ghost use Rattle.hall_views.specs.Rounds.{next_link, opened_forms, round_head, round_link};
+ghost use Rattle.hall_views.specs.Rounds.{round_section, rounds_page, state_of, state_words};
+ghost use Rattle.hall_views.specs.Rounds.{after, closed_or_open_forms, edition_form, link};
+ghost use Rattle.hall_views.specs.Rounds.{link_in, link_to_next, row_of, running_forms};
+ghost use Rattle.hall_views.specs.Rounds.{unopened_forms};
+
+use crate::closing::{push_open_round, push_through};
+use crate::forms::{id_at, push_button, push_form, push_unseen};
+use crate::opening::push_opening;
+use crate::scrambles::push_scrambles;
+use acceptor::NoMemory;
+use card_forms::FormId;
+use commands::Meet;
+use formats::{Advance, Event, LAST_ROUND};
+use markup::{Piece, push_pieces};
+use round_counts::{Opened, round_opened};
+use round_words::{event_words, push_round_name, push_settings};
+use std::alloc::Global;
+use table_views::{Around, push_bottom, push_recent, push_top};
+use texts::RoundId;
+
+/// The rounds that an event can have.
+const ROUNDS: [u8; 4] = [1, 2, 3, 4];
+
+/// How far a round is that has forms.
+#[derive(Clone, Copy, Debug, PartialEq, Eq)]
+pub(crate) enum State {
+    Closed,
+    Open,
+    ToOpen,
+}
+
+/// Whether nobody goes on from a round.
+fn is_final(advance: Advance) -> bool
+    ensures { result ≡ is_final advance }
+{
+    match advance {
+        Advance::Final => true,
+        Advance::Top(_) | Advance::Percent(_) => false,
+    }
+}
+
+/// Whether a round may follow this one: it is closed, and no final.
+fn leads_on(round: Option<Opened<'_>>) -> bool
+    ensures { result ≡ leads_on (option_map (λ r. (r.settings, r.table.now)) round.entry) }
+{
+    match round {
+        Some(round) => round.table.is_closed() && !is_final(round.settings.advance),
+        None => false,
+    }
+}
+
+/// Whether a round can be opened, as far as the rounds before it go: it is an event's first, or the
+/// one before it is closed and is not the final.
+fn is_next(meet: &Meet, id: RoundId) -> bool
+    ensures { result ≡ is_next meet.now.accepted id }
+{
+    if id.round <= 1 {
+        return true;
+    }
+    let before = RoundId {
+        event: id.event,
+        round: id.round - 1,
+    };
+    leads_on(round_opened(meet, before))
+}
+
+/// What is said of a round that was opened, or can be.
+fn state_of(round: Option<Opened<'_>>, next: bool) -> Option<State>
+    ensures { result ≡ state_of next
+        (option_map (λ r. (r.settings, r.table.now)) round.entry) }
+{
+    match round {
+        Some(round) if round.table.is_closed() => Some(State::Closed),
+        Some(_) => Some(State::Open),
+        None if next => Some(State::ToOpen),
+        None => None,
+    }
+}
+
+/// A state in words.
+fn state_words(state: State) -> &'static [u8]
+    ensures { result.now ≡ state_words state }
+{
+    match state {
+        State::Closed => b"closed",
+        State::Open => b"open",
+        State::ToOpen => b"to open",
+    }
+}
+
+fn push_link_rest(out: &mut Vec<u8>, round: u8, words: &[u8]) -> Result<(), NoMemory>
+    ensures { OnOk result (out.new.items ≡ out.old.items ++ link_rest round words.now) }
+{
+    push_pieces(
+        out,
+        &[
+            Piece::Html(b"\">Round "),
+            Piece::Number(round as u64),
+            Piece::Html(b"</a>: "),
+            Piece::Html(words),
+            Piece::Html(b"</td>"),
+        ],
+    )
+}
+
+/// Adds a link to the forms of a round that is so far.
+fn push_link(out: &mut Vec<u8>, id: RoundId, words: &[u8]) -> Result<(), NoMemory>
+    ensures { OnOk result (out.new.items ≡ out.old.items ++ link id words.now) }
+{
+    out.extend_from_slice(b"<td><a href=\"/rounds?round=")?;
+    push_round_name(out, id)?;
+    push_link_rest(out, id.round, words)
+}
+
+/// Adds a link to the forms of a round, if it has any.
+fn push_link_if(out: &mut Vec<u8>, id: RoundId, state: Option<State>) -> Result<(), NoMemory>
+    ensures { OnOk result (out.new.items ≡ out.old.items ++ link_if id state) }
+{
+    match state {
+        Some(state) => push_link(out, id, state_words(state)),
+        None => Ok(()),
+    }
+}
+
+/// Adds a link to the forms of a round, if it was opened or can be.
+fn push_round_link(out: &mut Vec<u8>, meet: &Meet, id: RoundId) -> Result<(), NoMemory>
+    ensures { OnOk result (out.new.items
+        ≡ out.old.items ++ round_link meet.now.accepted id) }
+{
+    let state = state_of(round_opened(meet, id), is_next(meet, id));
+    push_link_if(out, id, state)
+}
+
+/// Adds links to the forms of these rounds of an event.
+fn push_links(out: &mut Vec<u8>, meet: &Meet, event: Event, rounds: &[u8]) -> Result<(), NoMemory>
+    ensures { OnOk result (out.new.items
+        ≡ out.old.items ++ flat_map (link_in meet.now.accepted event) rounds.now) }
+{
+    for round in rounds {
+        push_round_link(
+            out,
+            meet,
+            RoundId {
+                event,
+                round: *round,
+            },
+        )?;
+    }
+    Ok(())
+}
+
+fn push_event_head(out: &mut Vec<u8>, event: Event) -> Result<(), NoMemory>
+    ensures { OnOk result (out.new.items ≡ out.old.items ++ event_head event) }
+{
+    push_pieces(
+        out,
+        &[
+            Piece::Html(b"<tr><th scope=\"row\">"),
+            Piece::Html(event_words(event).as_bytes()),
+            Piece::Html(b"</th>"),
+        ],
+    )
+}
+
+/// Adds the row of an event.
+fn push_row(out: &mut Vec<u8>, meet: &Meet, event: Event) -> Result<(), NoMemory>
+    ensures { OnOk result (out.new.items ≡ out.old.items ++ row_of meet.now.accepted event) }
+{
+    push_event_head(out, event)?;
+    push_links(out, meet, event, &ROUNDS)?;
+    out.extend_from_slice(b"</tr>\n")
+}
+
+/// Adds the row of an event, where the edition has it.
+fn push_event(out: &mut Vec<u8>, meet: &Meet, event: Event) -> Result<(), NoMemory>
+    ensures { OnOk result (out.new.items ≡ out.old.items ++ event_row meet.now.accepted event) }
+{
+    if event.edition() > meet.edition() {
+        Ok(())
+    } else {
+        push_row(out, meet, event)
+    }
+}
+
+fn push_events(out: &mut Vec<u8>, meet: &Meet, events: &[Event]) -> Result<(), NoMemory>
+    ensures { OnOk result (out.new.items
+        ≡ out.old.items ++ flat_map (event_row meet.now.accepted) events.now) }
+{
+    for event in events {
+        push_event(out, meet, *event)?;
+    }
+    Ok(())
+}
+
+/// Adds the button of edition 2.
+fn push_edition_form(out: &mut Vec<u8>, token: &[u8], form: FormId) -> Result<(), NoMemory>
+    ensures { OnOk result (out.new.items ≡ out.old.items ++ edition_form token.now form) }
+{
+    out.extend_from_slice(
+        b"<h2>Edition 2</h2>\n<p>With it the commands have 3x3x3 Multi-Blind. \
+It can't be taken back. This is sent: <code>EDITION 2</code></p>\n",
+    )?;
+    push_form(out, token, form, b"EDITION", b"/rounds")?;
+    push_unseen(out, b"text", b"EDITION 2")?;
+    push_button(out, b"Go on to edition 2")
+}
+
+/// Adds the button of edition 2, until it holds.
+fn push_edition(out: &mut Vec<u8>, around: &Around<'_>) -> Result<(), NoMemory>
+    ensures { OnOk result (out.new.items ≡ out.old.items ++ edition_section around.entry.now) }
+{
+    if around.mirror.meet().edition() >= 2 {
+        out.extend_from_slice(b"<p>Edition 2 of the commands holds.</p>\n")
+    } else {
+        push_edition_form(out, around.token, id_at(around.ids, 0))
+    }
+}
+
+/// Adds the rounds of all events, with links to their forms.
+fn push_all(out: &mut Vec<u8>, around: &Around<'_>) -> Result<(), NoMemory>
+    ensures { OnOk result (out.new.items ≡ out.old.items ++ all_section around.entry.now) }
+{
+    out.extend_from_slice(b"<section><h1>Open and close rounds</h1>\n<table><tbody>\n")?;
+    push_events(out, around.mirror.meet(), &Event::ALL)?;
+    out.extend_from_slice(b"</tbody></table>\n")?;
+    push_edition(out, around)?;
+    out.extend_from_slice(b"</section>\n")
+}
+
+/// The round after a round of an event, which has at most four.
+fn after(id: RoundId) -> RoundId
+    ensures { result ≡ after id }
+{
+    RoundId {
+        event: id.event,
+        round: if id.round <= LAST_ROUND {
+            id.round + 1
+        } else {
+            LAST_ROUND + 1
+        },
+    }
+}
+
+/// Adds a link to the forms of a round that is to be opened next.
+fn push_link_to_next(out: &mut Vec<u8>, next: RoundId) -> Result<(), NoMemory>
+    ensures { OnOk result (out.new.items ≡ out.old.items ++ link_to_next next) }
+{
+    out.extend_from_slice(b"<p><a href=\"/rounds?round=")?;
+    push_round_name(out, next)?;
+    out.extend_from_slice(b"\">Open the next round</a></p>\n")
+}
+
+/// Adds a link to the forms of the next round, unless this one is the final.
+fn push_next(out: &mut Vec<u8>, id: RoundId, advance: Advance) -> Result<(), NoMemory>
+    ensures { OnOk result (out.new.items ≡ out.old.items ++ next_link id advance) }
+{
+    match advance {
+        Advance::Final => Ok(()),
+        Advance::Top(_) | Advance::Percent(_) => push_link_to_next(out, after(id)),
+    }
+}
+
+/// Adds who goes on from a round that is closed.
+fn push_closed(
+    out: &mut Vec<u8>,
+    meet: &Meet,
+    id: RoundId,
+    round: Opened<'_>,
+) -> Result<(), NoMemory>
+    ensures { OnOk result (out.new.items ≡ out.old.items ++ closed_forms meet.now.accepted id
+        (round.entry.settings, round.entry.table.now)) }
+{
+    out.extend_from_slice(b"<p>The round is closed.</p>\n")?;
+    push_through(out, meet, id, round)?;
+    push_next(out, id, round.settings.advance)
+}
+
+/// Adds the forms of a round that is open.
+fn push_running(
+    out: &mut Vec<u8>,
+    around: &Around<'_>,
+    id: RoundId,
+    round: Opened<'_>,
+) -> Result<(), NoMemory>
+    ensures { OnOk result (out.new.items ≡ out.old.items ++ running_forms around.entry.now id
+        (round.entry.settings, round.entry.table.now)) }
+{
+    push_scrambles(out, around, id, round.settings.format)?;
+    push_open_round(out, around, id, round)
+}
+
+/// Adds what there is of a round that was opened: who goes on, or the forms.
+fn push_closed_or_open(
+    out: &mut Vec<u8>,
+    around: &Around<'_>,
+    id: RoundId,
+    round: Opened<'_>,
+) -> Result<(), NoMemory>
+    ensures { OnOk result (out.new.items ≡ out.old.items
+        ++ closed_or_open_forms round.entry.table.now.is_closed around.entry.now id
+        (round.entry.settings, round.entry.table.now)) }
+{
+    if round.table.is_closed() {
+        push_closed(out, around.mirror.meet(), id, round)
+    } else {
+        push_running(out, around, id, round)
+    }
+}
+
+/// Adds the forms of a round that was opened.
+fn push_opened(
+    out: &mut Vec<u8>,
+    around: &Around<'_>,
+    id: RoundId,
+    round: Opened<'_>,
+) -> Result<(), NoMemory>
+    ensures { OnOk result (out.new.items ≡ out.old.items ++ opened_forms around.entry.now id
+        (round.entry.settings, round.entry.table.now)) }
+{
+    out.extend_from_slice(b"<p class=\"rules\">")?;
+    push_settings(out, id.event, round.settings)?;
+    out.extend_from_slice(b"</p>\n")?;
+    push_closed_or_open(out, around, id, round)
+}
+
+/// Adds the form that opens a round, or why there is none.
+fn push_unopened(out: &mut Vec<u8>, around: &Around<'_>, id: RoundId) -> Result<(), NoMemory>
+    ensures { OnOk result (out.new.items ≡ out.old.items ++ unopened_forms around.entry.now id) }
+{
+    if is_next(around.mirror.meet(), id) {
+        push_opening(out, around.token, id_at(around.ids, 0), id)
+    } else {
+        out.extend_from_slice(b"<p>The round before it is not closed, or is the final.</p>\n")
+    }
+}
+
+/// Adds the forms of a round.
+fn push_forms(out: &mut Vec<u8>, around: &Around<'_>, id: RoundId) -> Result<(), NoMemory>
+    ensures { OnOk result (out.new.items ≡ out.old.items
+        ++ forms_if around.entry.now id (round_by (accepted_in around.entry.now.mirror.now) id)) }
+{
+    match round_opened(around.mirror.meet(), id) {
+        Some(round) => push_opened(out, around, id, round),
+        None => push_unopened(out, around, id),
+    }
+}
+
+fn push_round_head(out: &mut Vec<u8>, id: RoundId) -> Result<(), NoMemory>
+    ensures { OnOk result (out.new.items ≡ out.old.items ++ round_head id) }
+{
+    push_pieces(
+        out,
+        &[
+            Piece::Html(b"<section><h1>"),
+            Piece::Html(event_words(id.event).as_bytes()),
+            Piece::Html(b", Round "),
+            Piece::Number(id.round as u64),
+            Piece::Html(b"</h1>\n<p><a href=\"/card/"),
+        ],
+    )
+}
+
+/// Adds the section of a round.
+fn push_round(out: &mut Vec<u8>, around: &Around<'_>, id: RoundId) -> Result<(), NoMemory>
+    ensures { OnOk result (out.new.items ≡ out.old.items ++ round_section around.entry.now id) }
+{
+    push_round_head(out, id)?;
+    push_round_name(out, id)?;
+    out.extend_from_slice(b"\">its cards</a></p>\n")?;
+    push_forms(out, around, id)?;
+    out.extend_from_slice(b"</section>\n")
+}
+
+/// Adds the section of a round, or that of all events.
+fn push_inside(
+    out: &mut Vec<u8>,
+    around: &Around<'_>,
+    round: Option<RoundId>,
+) -> Result<(), NoMemory>
+    ensures { OnOk result (out.new.items ≡ out.old.items ++ inside around.entry.now round) }
+{
+    match round {
+        Some(id) => push_round(out, around, id),
+        None => push_all(out, around),
+    }
+}
+
+/// The page that opens and closes rounds: the rounds of all events, or the forms of one round.
+pub fn rounds_page(
+    alloc: Global,
+    around: &Around<'_>,
+    round: Option<RoundId>,
+) -> Result<Vec<u8>, NoMemory>
+    ensures { IfOk result (λ page. page.items ≡ rounds_page around.entry.now round) }
+{
+    let mut page = Vec::new(alloc);
+    push_top(
+        &mut page,
+        around.desks,
+        around.mirror.len(),
+        b"hall",
+        b"Open and close rounds",
+    )?;
+    push_inside(&mut page, around, round)?;
+    push_recent(
+        &mut page,
+        around.mirror.meet(),
+        around.desks,
+        around.now,
+        around.recent,
+    )?;
+    push_bottom(&mut page)?;
+    Ok(page)
+}

@@ -1,0 +1,5 @@
+use Rattle.table_service.proofs.Planned.{secured}
+use Rattle.table_service.proofs.laws.answers_are_secured.Goals as goal
+
+pub returns : goal.returns
+returns c = secured

@@ -1,0 +1,59 @@
+-- What a path and a query ask for.
+use Rattle.std.specs.Prelude.{ℕ, Bool, true, false, if◌then◌else◌, bytes_eq, codes, List, drop}
+use Rattle.std.specs.Prelude.{length, take, Option, None, Some, Result, Ok, Err}
+use Rattle.card_forms.specs.Cards.{round_of}
+use Rattle.card_forms.specs.Pairs.{pairs_of, value_of}
+use Rattle.card_forms.specs.Readings.{number_of}
+use Rattle.card_forms.specs.declared.faults.NumberFault.{NumberFault}
+use Rattle.texts.specs.declared.command.RoundId.{RoundId}
+use Rattle.table_service.specs.declared.reading.Asked.{Asked}
+use Rattle.table_service.specs.declared.reading.Asked.TheVariants.{Page, Style, Script}
+use Rattle.table_service.specs.declared.reading.View.TheVariants.{Overview, Card, Wall}
+use Rattle.table_service.specs.declared.reading.View.TheVariants.{Scorecards, People, Rounds}
+
+-- the round of a path below a folder
+abbrev pub round_below : List ℕ → List ℕ → Option RoundId
+round_below folder path =
+    if bytes_eq (take (length folder) path) folder then round_of (drop (length folder) path)
+    else None
+
+-- what stands at a path that names no round, and has no query
+abbrev pub fixed : List ℕ → Option Asked
+fixed path =
+    if bytes_eq path (codes "/") then Some (Page Overview)
+    else if bytes_eq path (codes "/people") then Some (Page People)
+    else if bytes_eq path (codes "/table.css") then Some Style
+    else if bytes_eq path (codes "/table.js") then Some Script
+    else None
+
+abbrev pub rounds_asked : List ℕ → Asked
+rounds_asked query = Page (Rounds (round_of (value_of (codes "round") (pairs_of query))))
+
+abbrev pub number_if : Result ℕ NumberFault → Option ℕ
+number_if (Ok number) = Some number
+number_if (Err why) = None
+
+abbrev pub card_asked : List ℕ → RoundId → Asked
+card_asked query round =
+    Page (Card round (number_if (number_of (value_of (codes "number") (pairs_of query)))))
+
+-- by the round of the path of a card, of a sheet for the wall, and of blank cards
+abbrev pub by_folder : List ℕ → Option RoundId → Option RoundId → Option RoundId → Option Asked
+by_folder query (Some round) wall scorecards = Some (card_asked query round)
+by_folder query None (Some round) scorecards = Some (Page (Wall round))
+by_folder query None None (Some round) = Some (Page (Scorecards round))
+by_folder query None None None = None
+
+abbrev pub in_folder : List ℕ → List ℕ → Option Asked
+in_folder path query =
+    by_folder query (round_below (codes "/card/") path) (round_below (codes "/wall/") path)
+    (round_below (codes "/scorecards/") path)
+
+abbrev pub asked_by : Option Asked → Bool → List ℕ → List ℕ → Option Asked
+asked_by (Some asked) rounds path query = Some asked
+asked_by None true path query = Some (rounds_asked query)
+asked_by None false path query = in_folder path query
+
+-- what a path and a query ask for, if anything
+abbrev pub asked_at : List ℕ → List ℕ → Option Asked
+asked_at path query = asked_by (fixed path) (bytes_eq path (codes "/rounds")) path query

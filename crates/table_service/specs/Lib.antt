@@ -1,0 +1,9 @@
+pub mod Gate
+pub mod Requests
+pub mod Replies
+pub mod Asked
+pub mod Pages
+pub mod Checks
+pub mod Plans
+pub mod Services
+pub mod Laws

@@ -1,0 +1,73 @@
+-- What is answered.
+use Rattle.std.specs.Prelude.{◌⊎◌, ℕ, List, [], ◌∷◌, ◌++◌, codes}
+use Rattle.http1.specs.Fields.{Header}
+use Rattle.http_header.specs.FieldValue.{IsFieldValue}
+use Rattle.http_server.specs.declared.response.Response.{Response}
+use Rattle.http_server.specs.Response.{IsResponse}
+use Rattle.table_views.specs.Looks.{style, script}
+use Rattle.table_service.specs.declared.plan.Problem.{Problem}
+use Rattle.table_service.specs.declared.plan.Problem.TheVariants as problem
+use Rattle.table_service.specs.declared.plan.Reply.{Reply}
+use Rattle.table_service.specs.declared.plan.Reply.TheVariants as reply
+use Rattle.table_service.specs.declared.plan.Shown.{Shown}
+use Rattle.table_service.specs.declared.plan.Shown.TheVariants as shown
+
+-- the fields that each answer has: pages may load what the program serves and nothing else, their
+-- forms go to it alone, no other page may frame them, and nothing of them is kept
+abbrev pub security : List Header
+security = (
+  codes "content-security-policy",
+  codes "default-src 'none'; script-src 'self'; style-src 'self'; connect-src 'self'; "
+      ++ codes "form-action 'self'; base-uri 'none'; frame-ancestors 'none'",
+)
+    ∷ (codes "x-content-type-options", codes "nosniff")
+    ∷ (codes "referrer-policy", codes "same-origin")
+    ∷ (codes "cache-control", codes "no-store") ∷ []
+
+abbrev pub kind : List ℕ → Header
+kind text = (codes "content-type", text)
+
+abbrev pub fields_with : Header → List Header
+fields_with field = security ++ field ∷ []
+
+abbrev pub text_kind : List ℕ
+text_kind = codes "text/plain; charset=utf-8"
+
+abbrev pub status_of : Problem → ℕ
+status_of problem.BadForm = 400
+status_of problem.Foreign = 403
+status_of problem.NotFound = 404
+status_of problem.Method = 405
+status_of problem.Busy = 503
+
+abbrev pub line_of : Problem → List ℕ
+line_of problem.BadForm = codes "400 Bad Request\n"
+line_of problem.Foreign = codes "403 Forbidden\n"
+line_of problem.NotFound = codes "404 Not Found\n"
+line_of problem.Method = codes "405 Method Not Allowed\n"
+line_of problem.Busy = codes "503 Service Unavailable\n"
+
+abbrev pub shown_status : Shown → ℕ
+shown_status shown.Asked = 200
+shown_status shown.Wrong = 422
+
+abbrev pub IsProblem : Problem → Response → Type 0
+IsProblem why r =
+    IsResponse (status_of why) (fields_with (kind text_kind)) (line_of why) r
+
+-- another page is to be asked for, where its place can stand in a field
+abbrev pub Sees : List ℕ → Response → Type 0
+Sees location r =
+    IsResponse 303 (fields_with (codes "location", location)) [] r
+    ⊎ (¬ (IsFieldValue location) × IsResponse 303 security [] r)
+
+abbrev pub Writes : Reply → Response → Type 0
+Writes (reply.Text why) r = IsProblem why r
+Writes (reply.Html status page) r =
+    IsResponse (shown_status status) (fields_with (kind (codes "text/html; charset=utf-8")))
+    page.items r
+Writes reply.Style r =
+    IsResponse 200 (fields_with (kind (codes "text/css; charset=utf-8"))) style r
+Writes reply.Script r =
+    IsResponse 200 (fields_with (kind (codes "text/javascript; charset=utf-8"))) script r
+Writes (reply.SeeOther location) r = Sees location.items r

@@ -1,0 +1,27 @@
+-- What is read of a request.
+use Rattle.std.specs.Prelude.{ℕ, ◌||◌, Bool, List, [], bytes_eq, codes, unwrap_or}
+use Rattle.http.specs.declared.request.Request.{Request}
+use Rattle.http.specs.Request.{head_of}
+use Rattle.http_uri.specs.Uri.{uri_path, uri_query}
+use Rattle.card_forms.specs.declared.pairs.Pair.{Pair}
+use Rattle.card_forms.specs.Pairs.{pairs_of}
+
+abbrev pub path_of : Request (List ℕ) → List ℕ
+path_of request = uri_path (head_of request).uri
+
+abbrev pub query_of : Request (List ℕ) → List ℕ
+query_of request = unwrap_or (uri_query (head_of request).uri) []
+
+-- the pairs of the body
+abbrev pub sent_pairs : Request (List ℕ) → List Pair
+sent_pairs request = pairs_of request.body
+
+-- it only reads
+abbrev pub is_read : Request (List ℕ) → Bool
+is_read request =
+    bytes_eq (head_of request).method (codes "GET")
+    || bytes_eq (head_of request).method (codes "HEAD")
+
+-- it sends a form
+abbrev pub is_post : Request (List ℕ) → Bool
+is_post request = bytes_eq (head_of request).method (codes "POST")

@@ -1,0 +1,104 @@
+//! What is to be done for a request.
+
+use card_forms::Item;
+
+/// What is answered.
+#[derive(Drop)]
+pub(crate) enum Reply {
+    /// A line of text, with this status.
+    Text(Problem),
+    /// A page, with this status.
+    Html { status: Shown, page: Vec<u8> },
+    /// The style of the pages.
+    Style,
+    /// The script of the pages.
+    Script,
+    /// Another page is to be asked for.
+    SeeOther { location: Vec<u8> },
+}
+
+/// Why there is no page.
+#[derive(Clone, Copy)]
+pub(crate) enum Problem {
+    /// The form is none of a page's: 400.
+    BadForm,
+    /// The request is not from a page of the program's own: 403.
+    Foreign,
+    /// No page stands at the path: 404.
+    NotFound,
+    /// The path is not to be asked with this method: 405.
+    Method,
+    /// There is no room for what was sent, or it was not kept, or no ids are left: 503.
+    Busy,
+}
+
+/// What a page is sent as.
+#[derive(Clone, Copy)]
+pub(crate) enum Shown {
+    /// As what was asked for, or to be confirmed: 200.
+    Asked,
+    /// As what was sent, with what is wrong with it: 422.
+    Wrong,
+}
+
+/// What changes.
+#[derive(Drop)]
+pub(crate) enum Effect {
+    /// Nothing.
+    Nothing,
+    /// The ids of a page are used.
+    Ids,
+    /// The item is queued.
+    Take(Item),
+}
+
+/// What is to be done for a request.
+#[derive(Drop)]
+pub(crate) struct Plan {
+    pub(crate) reply: Reply,
+    pub(crate) effect: Effect,
+}
+
+impl Plan {
+    ghost use Rattle.std.specs.Prelude.{◌≡◌};
+
+    /// No page, and why.
+    pub(crate) fn problem(problem: Problem) -> Plan
+        ensures { result ≡ record { reply = Reply.Text problem; effect = Effect.Nothing } }
+    {
+        Plan {
+            reply: Reply::Text(problem),
+            effect: Effect::Nothing,
+        }
+    }
+
+    /// A page that has forms.
+    pub(crate) fn with_ids(status: Shown, page: Vec<u8>) -> Plan
+        ensures { result ≡ record { reply = Reply.Html status page; effect = Effect.Ids } }
+    {
+        Plan {
+            reply: Reply::Html { status, page },
+            effect: Effect::Ids,
+        }
+    }
+
+    /// What stands at a path.
+    pub(crate) fn shown(reply: Reply) -> Plan
+        ensures { result ≡ record { reply = reply; effect = Effect.Nothing } }
+    {
+        Plan {
+            reply,
+            effect: Effect::Nothing,
+        }
+    }
+
+    /// Another page is to be asked for.
+    pub(crate) fn see(location: Vec<u8>, effect: Effect) -> Plan
+        ensures { result ≡ record { reply = Reply.SeeOther location; effect = effect } }
+    {
+        Plan {
+            reply: Reply::SeeOther { location },
+            effect,
+        }
+    }
+}

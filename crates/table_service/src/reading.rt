@@ -1,0 +1,118 @@
+//! The pages that stand at paths.
+
+ghost use Rattle.std.specs.Prelude.{◌≡◌, IfOk};
+ghost use Rattle.table_service.specs.Asked.{asked_at, card_asked, fixed, in_folder, round_below};
+ghost use Rattle.table_service.specs.Asked.{rounds_asked};
+
+use card_forms::{Pairs, number_of, round_of};
+use std::alloc::{AllocError, Global};
+use texts::RoundId;
+
+/// A page that is made of the mirror.
+#[derive(Clone, Copy)]
+pub(crate) enum View {
+    /// `/`: all rounds.
+    Overview,
+    /// `/card/333-1`: a card, with what stands of a competitor where `?number=17` names one.
+    Card { round: RoundId, number: Option<u16> },
+    /// `/wall/333-1`: the sheet for the wall.
+    Wall(RoundId),
+    /// `/scorecards/333-1`: blank cards.
+    Scorecards(RoundId),
+    /// `/people`.
+    People,
+    /// `/rounds`, of one round where `?round=333-1` names one.
+    Rounds(Option<RoundId>),
+}
+
+/// What a path and a query ask for.
+#[derive(Clone, Copy)]
+pub(crate) enum Asked {
+    Page(View),
+    /// `/table.css`.
+    Style,
+    /// `/table.js`.
+    Script,
+}
+
+/// The round of a path below a folder.
+pub(crate) fn round_below(path: &[u8], folder: &[u8]) -> Option<RoundId>
+    ensures { result ≡ round_below folder.now path.now }
+{
+    match path.strip_prefix(folder) {
+        Some(name) => round_of(name),
+        None => None,
+    }
+}
+
+/// What stands at a path that names no round, and has no query.
+fn fixed(path: &[u8]) -> Option<Asked>
+    ensures { result ≡ fixed path.now }
+{
+    if path == b"/".as_slice() {
+        Some(Asked::Page(View::Overview))
+    } else if path == b"/people".as_slice() {
+        Some(Asked::Page(View::People))
+    } else if path == b"/table.css".as_slice() {
+        Some(Asked::Style)
+    } else if path == b"/table.js".as_slice() {
+        Some(Asked::Script)
+    } else {
+        None
+    }
+}
+
+/// The page that opens and closes rounds, for a query.
+fn rounds_asked(alloc: Global, query: &[u8]) -> Result<Asked, AllocError>
+    ensures { IfOk result (λ asked. asked ≡ rounds_asked query.now) }
+{
+    let pairs = Pairs::read(alloc, query)?;
+    Ok(Asked::Page(View::Rounds(round_of(pairs.value("round")))))
+}
+
+/// The page of a card of a round, for a query.
+fn card_asked(alloc: Global, query: &[u8], round: RoundId) -> Result<Asked, AllocError>
+    ensures { IfOk result (λ asked. asked ≡ card_asked query.now round) }
+{
+    let pairs = Pairs::read(alloc, query)?;
+    let number = match number_of(pairs.value("number")) {
+        Ok(number) => Some(number),
+        Err(_) => None,
+    };
+    Ok(Asked::Page(View::Card { round, number }))
+}
+
+/// What stands at the path of a round.
+fn in_folder(alloc: Global, path: &[u8], query: &[u8]) -> Result<Option<Asked>, AllocError>
+    ensures { IfOk result (λ asked. asked ≡ in_folder path.now query.now) }
+{
+    if let Some(round) = round_below(path, b"/card/") {
+        let asked = card_asked(alloc, query, round)?;
+        return Ok(Some(asked));
+    }
+    if let Some(round) = round_below(path, b"/wall/") {
+        return Ok(Some(Asked::Page(View::Wall(round))));
+    }
+    match round_below(path, b"/scorecards/") {
+        Some(round) => Ok(Some(Asked::Page(View::Scorecards(round)))),
+        None => Ok(None),
+    }
+}
+
+/// What is asked for, if anything stands at the path.
+pub(crate) fn asked_at(
+    alloc: Global,
+    path: &[u8],
+    query: &[u8],
+) -> Result<Option<Asked>, AllocError>
+    ensures { IfOk result (λ asked. asked ≡ asked_at path.now query.now) }
+{
+    if let Some(asked) = fixed(path) {
+        return Ok(Some(asked));
+    }
+    if path == b"/rounds".as_slice() {
+        let asked = rounds_asked(alloc, query)?;
+        return Ok(Some(asked));
+    }
+    in_folder(alloc, path, query)
+}

@@ -1,0 +1,88 @@
+//! The pages that are made of the mirror.
+
+ghost use Rattle.std.specs.Prelude.{◌≡◌, IfOk, codes};
+ghost use Rattle.std.specs.Option.{option_map};
+ghost use Rattle.table_service.specs.Pages.{IsPage, draft_of};
+ghost use Rattle.table_service.specs.Plans.{PlansRead, ShowsIf};
+ghost use Rattle.table_service.specs.Requests.{query_of};
+
+use crate::plan::{Plan, Problem, Reply, Shown};
+use crate::reading::{Asked, View, asked_at};
+use bytes::Bytes;
+use entry_views::{Draft, card_page};
+use hall_views::{overview, people_page, rounds_page};
+use http::Request;
+use paper_views::{scorecards, wall_sheet};
+use std::alloc::{AllocError, Global};
+use table_views::Around;
+
+/// What a card is filled in with that is asked for.
+fn draft_of<'a>(number: Option<u16>) -> Draft<'a>
+    ensures { result ≡ draft_of number }
+{
+    match number {
+        Some(number) => Draft::Number(number),
+        None => Draft::Empty,
+    }
+}
+
+/// A page. None where its round was not opened.
+fn page_of(
+    alloc: Global,
+    title: &[u8],
+    around: &Around<'_>,
+    view: View,
+) -> Result<Option<Vec<u8>>, AllocError>
+    ensures { IfOk result (λ page. IsPage around.entry.now title.now view
+        (option_map (λ text. text.items) page)) }
+{
+    match view {
+        View::Overview => Ok(Some(overview(alloc, around)?)),
+        View::People => Ok(Some(people_page(alloc, around)?)),
+        View::Rounds(round) => Ok(Some(rounds_page(alloc, around, round)?)),
+        View::Card { round, number } => card_page(alloc, around, round, draft_of(number)),
+        View::Wall(round) => wall_sheet(alloc, around.mirror, title, round),
+        View::Scorecards(round) => scorecards(alloc, around.mirror, title, round),
+    }
+}
+
+/// What is to be done where a page is asked for.
+fn plan_page(page: Option<Vec<u8>>) -> Plan
+    ensures { ShowsIf (option_map (λ text. text.items) page) result }
+{
+    match page {
+        Some(page) => Plan::with_ids(Shown::Asked, page),
+        None => Plan::problem(Problem::NotFound),
+    }
+}
+
+/// The query of a request.
+fn query_of(request: &Request<Bytes>) -> &[u8]
+    ensures { result.now ≡ query_of request.now }
+{
+    match request.uri().query() {
+        Some(query) => query.as_bytes(),
+        None => b"",
+    }
+}
+
+/// What is to be done for a request that only reads.
+pub(crate) fn plan_read(
+    alloc: Global,
+    title: &[u8],
+    around: &Around<'_>,
+    request: &Request<Bytes>,
+) -> Result<Plan, AllocError>
+    ensures { IfOk result (PlansRead around.entry.now title.now request.now) }
+{
+    let path = request.uri().path().as_bytes();
+    match asked_at(alloc, path, query_of(request))? {
+        None => Ok(Plan::problem(Problem::NotFound)),
+        Some(Asked::Style) => Ok(Plan::shown(Reply::Style)),
+        Some(Asked::Script) => Ok(Plan::shown(Reply::Script)),
+        Some(Asked::Page(view)) => {
+            let page = page_of(alloc, title, around, view)?;
+            Ok(plan_page(page))
+        }
+    }
+}

@@ -1,0 +1,9 @@
+pub mod Desks
+pub mod Hidden
+pub mod Bar
+pub mod Frame
+pub mod People
+pub mod Reasons
+pub mod Recent
+pub mod Looks
+pub mod Logs
