@@ -1,0 +1,207 @@
+//! What is kept up with the desks of the hall.
+
+ghost use Rattle.following.specs.Following.{IsPlace};
+ghost use Rattle.wire.specs.Ranges.{IsDesk};
+
+use crate::journal_file::JournalFile;
+use crate::sending::Sending;
+use crate::surveys::{Surveys, stream_of};
+use card_queue::Stepped;
+use desk_sockets::{DeskStream, Kept};
+use mio::Registry;
+use mirroring::Stage;
+use std::alloc::Global;
+use std::io;
+use std::net::SocketAddr;
+use submitting::Submission;
+use table_service::TableService;
+use table_views::Desks;
+
+/// Milliseconds that sockets are waited for at most.
+const LONGEST_WAIT: u64 = 250;
+
+/// How often the desk is asked for its log while entries wait, in milliseconds.
+const HURRY: u64 = 20;
+
+/// How many steps the queue takes at once: more than there are items that wait, each with two.
+const MOST_STEPS: u32 = 2_500;
+
+/// So many desks, of which there are one to five.
+pub fn count_of(length: usize) -> u8
+    ensures place { IsPlace 1 result }
+    ensures desk { IsDesk result }
+{
+    match length {
+        0 | 1 => 1,
+        2 => 2,
+        3 => 3,
+        4 => 4,
+        _ => 5,
+    }
+}
+
+/// What is kept up with the desks of the hall, beside the mirror.
+#[derive(Drop)]
+pub struct DesksSide<'a> {
+    alloc: Global,
+    stream: DeskStream<'a, HostRuntime>,
+    sending: Sending<'a, HostRuntime>,
+    surveys: Surveys<'a, HostRuntime>,
+    /// Whether the mirror had all that a desk's log had, since the start.
+    caught_up: bool,
+    /// When the desk that is followed answered last.
+    answered_at: u64,
+    /// When the desk was asked at once for what comes next.
+    hurried_at: u64,
+}
+
+/// Nothing is on its way to the desks at these addresses.
+fn sending_of<'a>(
+    rt: &'a HostRuntime,
+    registry: &Registry,
+    hall: u32,
+    desks: &[Option<SocketAddr>],
+) -> io::Result<Sending<'a, HostRuntime>> {
+    let alloc = rt.alloc();
+    let stream = stream_of(rt, alloc, registry, 1, desks)?;
+    let submission = Submission::new(alloc, hall, 1);
+    Ok(Sending::new(submission, stream, count_of(desks.len())))
+}
+
+impl<'a> DesksSide<'a> {
+    /// Nothing is connected yet. The addresses are those of desk 1, of desk 2 and so on.
+    pub fn new(
+        rt: &'a HostRuntime,
+        registry: &Registry,
+        hall: u32,
+        desks: &[Option<SocketAddr>],
+    ) -> io::Result<DesksSide<'a>> {
+        let alloc = rt.alloc();
+        let surveys = Surveys::new(rt, alloc, registry, hall, desks)?;
+        let stream = stream_of(rt, alloc, registry, 0, desks)?;
+        let sending = sending_of(rt, registry, hall, desks)?;
+        Ok(DesksSide {
+            alloc,
+            stream,
+            sending,
+            surveys,
+            caught_up: false,
+            answered_at: 0,
+            hurried_at: 0,
+        })
+    }
+
+    /// Notes that the desk that is followed answered, where it did.
+    fn note_answer(&mut self, stage: Stage, now: u64) {
+        match stage {
+            Stage::Answered { last } => {
+                self.answered_at = now;
+                self.caught_up = self.caught_up || last.is_some();
+            }
+            _ => {}
+        }
+    }
+
+    /// Keeps the mirror up. False: the hall is broken.
+    fn keep_mirror(&mut self, service: &mut TableService<JournalFile>, now: u64) -> bool {
+        if service.keep(&mut self.stream, now) == Kept::Broken {
+            return false;
+        }
+        self.note_answer(service.mirroring().stage(), now);
+        let log = service.mirroring().mirror().log();
+        self.sending.forget_decided(log);
+        true
+    }
+
+    /// Lets the queue do the next thing that it can. Whether it may do more now.
+    fn step_once(&mut self, service: &mut TableService<JournalFile>) -> io::Result<bool> {
+        match service.step()? {
+            Stepped::Idle | Stepped::Waits => Ok(false),
+            Stepped::Ends { .. } => Ok(true),
+            Stepped::Sends => {
+                self.sending.send(service.queue().sent())?;
+                Ok(true)
+            }
+        }
+    }
+
+    /// Lets the queue do what it can now.
+    fn step(&mut self, service: &mut TableService<JournalFile>) -> io::Result<()> {
+        if !self.caught_up {
+            return Ok(());
+        }
+        for _step in 0..MOST_STEPS {
+            if !self.step_once(service)? {
+                return Ok(());
+            }
+        }
+        Ok(())
+    }
+
+    /// Asks the desk at once for what comes next, where what it has taken waits to be decided.
+    fn hurry(&mut self, service: &mut TableService<JournalFile>, now: u64) {
+        if self.sending.is_taken() && now.saturating_sub(self.hurried_at) >= HURRY {
+            self.hurried_at = now;
+            service.hurry();
+        }
+    }
+
+    /// How the desks are doing.
+    fn desks(&self, service: &TableService<JournalFile>, now: u64) -> io::Result<Desks> {
+        let lengths = self.surveys.lengths(self.alloc)?;
+        let undecided = match service.queue().sent_since() {
+            Some(since) => Some(now.saturating_sub(since)),
+            None => None,
+        };
+        Ok(Desks {
+            followed: service.mirroring().desk(),
+            silent: Some(now.saturating_sub(self.answered_at)),
+            undecided,
+            lengths,
+        })
+    }
+
+    /// Submits what is on its way, at the desk that it is to be submitted at.
+    fn keep_sending(&mut self, service: &TableService<JournalFile>, now: u64) {
+        let sent = service.queue().sent_since();
+        self.sending.follow(service.mirroring().desk(), sent, now);
+        self.sending.keep(now);
+    }
+
+    /// Says how the desks are doing.
+    fn tell(&self, service: &mut TableService<JournalFile>, now: u64) -> io::Result<()> {
+        let desks = self.desks(service, now)?;
+        service.set_desks(desks);
+        Ok(())
+    }
+
+    /// Does all that can be done now. False: the hall is broken.
+    pub fn keep(&mut self, service: &mut TableService<JournalFile>, now: u64) -> io::Result<bool> {
+        self.surveys.keep(now);
+        if !self.keep_mirror(service, now) {
+            return Ok(false);
+        }
+        self.step(service)?;
+        self.keep_sending(service, now);
+        self.hurry(service, now);
+        if !self.keep_mirror(service, now) {
+            return Ok(false);
+        }
+        self.tell(service, now)?;
+        Ok(true)
+    }
+
+    /// How long browsers may be waited for.
+    pub fn wait(&self, service: &TableService<JournalFile>, now: u64) -> u64 {
+        let wait = service
+            .mirroring()
+            .wait(now)
+            .min(self.sending.wait(now))
+            .min(self.surveys.wait(now));
+        if self.sending.is_taken() {
+            wait.min(HURRY)
+        } else {
+            wait.min(LONGEST_WAIT)
+        }
+    }
+}
