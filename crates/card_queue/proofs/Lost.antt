@@ -1,6 +1,7 @@
 -- Where endings are not written, nothing that waits is lost.
 use Rattle.std.proofs.Common.{◌≡◌, ◌≢◌, ℕ, ◌+◌, ◌==◌, ◌||◌, inl, inr, Bool, true, false, cond}
-use Rattle.std.proofs.Common.{List, [], ◌∷◌, ◌++◌, All, map, is_some, Option, Some, None, Result, Ok, refl}
+use Rattle.std.proofs.Common.{List, [], ◌∷◌, ◌++◌, All, map, is_some, Option, Some, None}
+use Rattle.std.proofs.Common.{Result, Ok, refl}
 use Rattle.std.proofs.Common.{sym, ap, ◌∙◌, subst, eq-eqb, eqb-true, append_assoc}
 use Rattle.std.specs.Prelude.{nat_eq}
 use Rattle.std.specs.List.{AllByRecursion, list_any}
@@ -12,7 +13,8 @@ use Rattle.card_queue.specs.declared.stepping.Taken.TheVariants as taken
 use Rattle.card_queue.specs.declared.stepping.Stepped.TheVariants as stepped
 use Rattle.card_queue.specs.Queues.{IsEnded, QueueOf, empty_queue, found_in, is_full, queued}
 use Rattle.card_queue.specs.Queues.{since_of}
-use Rattle.card_queue.specs.Journals.{Call, Does, DoesAll, IsOfProgram, IsPart, MayWrite, MayWriteAll}
+use Rattle.card_queue.specs.Journals.{Call, Does, DoesAll, IsOfProgram, IsPart, MayWrite}
+use Rattle.card_queue.specs.Journals.{MayWriteAll}
 use Rattle.card_queue.specs.Journals.{Step, Take, after_lines, followed_if, go_on, item_of}
 use Rattle.card_queue.specs.Journals.{kept_of, restored, whole_lines}
 use Rattle.card_queue.specs.Laws.{NothingLost}
@@ -187,7 +189,8 @@ lags_queued : (q r : QueueOf) (one : Item) (now later : ℕ) → Lags q r
     → Lags (queued q one now) (queued r one later)
 lags_queued q r one now later lags = record {
   part =
-      subst (λ (k : Kept). IsPart k.0 (kept_of (queued r one later)).0) (sym (kept_queued q one now))
+      subst (λ (k : Kept). IsPart k.0 (kept_of (queued r one later)).0)
+      (sym (kept_queued q one now))
       (subst (λ (k : Kept). IsPart (queued_kept (kept_of q) one).0 k.0)
       (sym (kept_queued r one later))
       (part_push (kept_of q).0 (kept_of r).0 one lags.part));
@@ -391,7 +394,8 @@ on_calls q r last again later number bytes cut [] all ofs may lags free reads =
     subst (λ x. after_lines r later number (whole_lines (x ++ cut)) ≡ Ok again) may reads in
     let none : after_lines r later number (whole_lines cut) ≡ Ok r =
     ap (after_lines r later number) (whole_none cut free) in
-    let same : r ≡ again = ok_same r again (after_lines r later number (whole_lines cut)) none left in
+    let same : r ≡ again =
+    ok_same r again (after_lines r later number (whole_lines cut)) none left in
     subst (λ x. Lags last x) same (lags_same q last r (ap kept_of all) lags)
   where
     ok_same : (x y : QueueOf) (a : Result QueueOf ℕ) → a ≡ Ok x → a ≡ Ok y → x ≡ y

@@ -35,8 +35,8 @@ pub fn tell<F: Write>(faults: &mut F, program: &str, why: &str, status: u8) -> u
     status
 }
 
-/// Says why the system did not do something, and returns the status: 5 where memory was refused, and
-/// else 4.
+/// Says why the system did not do something, and returns the status: 5 where memory was refused,
+/// and else 4.
 pub fn tell_system<F: Write>(faults: &mut F, program: &str, error: &io::Error, why: &str) -> u8
     ensures { (result ≡ 5) ⊎ (result ≡ 4) }
 {

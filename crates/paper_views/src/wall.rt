@@ -127,8 +127,8 @@ fn page_of(
 }
 
 /// The sheet of a round for the wall, to be printed: a table whose cells are the fields of the
-/// round's sheet, with the hall, the round, its rules and the position on every page, and a line for
-/// the delegate's signature. None where the round was not opened.
+/// round's sheet, with the hall, the round, its rules and the position on every page, and a line
+/// for the delegate's signature. None where the round was not opened.
 pub fn wall_sheet(
     alloc: Global,
     mirror: &Mirror,

@@ -89,7 +89,8 @@ fn write_round(
 ) -> Result<(), NoMemory>
     requires { IsBorder round.table.now round.settings.advance round.border }
     ensures { OnOk result (Adds out.old out.new (json_tokens (round_json
-        round.entry.meet.now.accepted event number (round.entry.settings, round.entry.table.now)))) }
+        round.entry.meet.now.accepted event number
+        (round.entry.settings, round.entry.table.now)))) }
 {
     out.begin_object()?;
     out.key("event")?;
