@@ -117,10 +117,11 @@ class Client:
         self.stream.sendall(data)
         return read_frame(self.stream, self.desk)
 
-    def exchange(self, kind, body, wanted):
+    def exchange(self, kind, body, wanted, version=1):
         """The fields of the desk's answer to one frame. Where a kept connection has ended, it is
         asked once more, over a new one."""
-        was_kept, data = self.stream is not None, frame(self.desk, kind, body)
+        was_kept = self.stream is not None
+        data = frame(self.desk, kind, body, version=version)
         try:
             try:
                 got, fields = self.written_and_read(data)
@@ -154,7 +155,8 @@ class Client:
         return isinstance(self.state(number), tuple)
 
     def sheet(self, event, number, position):
-        return self.exchange(SHEET, sheet_of(event, number, position), SHEET_TEXT)
+        version = 1 if event <= 16 else 2  # multi-blind can be asked for since version 2
+        return self.exchange(SHEET, sheet_of(event, number, position), SHEET_TEXT, version)
 
     def tick(self):
         self.exchange(TICK, b"", FINE)
