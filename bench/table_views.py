@@ -32,6 +32,8 @@ NOTES = {
     "s": (2, "empty, and a later attempt is not: is it right?", False),
 }
 CHANGES = (1, "another result stands: change it?", False)
+MEANINGS = {"1": "no command of the edition that holds",
+            "4": "another number has this name", "15": "it is there already"}
 
 
 def escaped(text):
@@ -52,7 +54,7 @@ class Pages:
     def __init__(self):
         self.meet, self.length, self.hall, self.now = rules.Meet(), 0, "", 0
         self.followed, self.silent, self.undecided, self.lengths = 1, None, None, []
-        self.sent = []
+        self.sent, self.tried = [], []
 
     def name(self, who):
         return escaped(self.meet.names.get(who, b"").decode())
@@ -153,7 +155,7 @@ class Pages:
 
     # ---- the card
 
-    def card(self, what, which, number, typed, notes):
+    def card(self, what, which, number, typed, notes, origin=None):
         table, where = self.meet.rounds[what, which], f"{what}-{which}"
         who = int(number) if NUMBER.fullmatch(number.strip()) else None
         values = [rules.printed(value, what) for value in table.entrants.get(who, [])]
@@ -172,6 +174,10 @@ class Pages:
                f'data-cutoff="{rules.spelled(table.cutoff)}" data-limit="{table.limit}" '
                f'data-spare="{"".join(f" {spare}" for spare in IDS[1:])}">\n'
                f'{hidden("token", TOKEN)}{hidden("id", IDS[0])}\n{hidden("round", where)}\n')
+        if origin:
+            place = ("entered at this table" if origin[0] == "here"
+                     else "from no card of this table")
+            out += f'<p class="origin">Entry {origin[1]} of the log, {place}</p>\n'
         if any(fault for _, _, fault in said):
             out += '<p class="told">Not entered yet: what is wrong is said below.</p>\n'
         elif said:
@@ -212,8 +218,8 @@ class Pages:
                     f"{self.cells(fields[2:])}</tr>\n")
         return out + "</tbody></table>\n</section></div>\n"
 
-    def card_page(self, what, which, number="", typed=None, notes=""):
-        inside = self.card(what, which, number, typed, notes) + self.recent()
+    def card_page(self, what, which, number="", typed=None, notes="", origin=None):
+        inside = self.card(what, which, number, typed, notes, origin) + self.recent()
         return self.page("entry", self.words(what, which), inside + self.beside(what, which))
 
     # ---- the hall
@@ -257,7 +263,8 @@ class Pages:
         free = next((who for who in range(1, 9999) if who not in self.meet.names), 9999)
         first = [(what, self.meet.rounds[what, 1]) for what in WORDS
                  if (what, 1) in self.meet.rounds]
-        out = ("<section><h1>Competitors</h1>\n<h2>Register a competitor</h2>\n"
+        out = ("<section><h1>Competitors</h1>\n<p><a href=\"/import\">From a competition's file or "
+               "from lines</a></p>\n<h2>Register a competitor</h2>\n"
                + self.form(0, "REG", "/people") + self.field("number", "Number", free)
                + self.field("name", "Name") + self.button("Register")
                + "<h2>Enter a competitor in an event</h2>\n" + self.form(1, "ENT", "/people")
@@ -277,6 +284,74 @@ class Pages:
         return self.page("hall", "Not sent", (
             '<section><h1>Not sent</h1>\n<p><strong role="alert">nothing is written &lt;here&gt;'
             '</strong></p>\n<p><a href="/people">Back to the form</a></p></section>\n'))
+
+    def faults(self):
+        return self.page("hall", "Not entered", (
+            '<section><h1>Not entered</h1>\n<pre role="alert">a.json:1:2: &lt;\n333-r1: &amp;\n'
+            '</pre>\n<p><a href="/import">Back to the form</a></p></section>\n'))
+
+    # ---- several commands
+
+    @staticmethod
+    def lines_form(form, back, lines, words):
+        text = "".join(f"\n{escaped(line)}" for line in lines)
+        return ('<form method="post" action="/commands" autocomplete="off">\n'
+                f'{hidden("token", TOKEN)}{hidden("id", IDS[form])}\n{hidden("back", back)}\n'
+                "<details><summary>What is sent</summary>\n"
+                f'<textarea name="lines" rows="12" cols="60" readonly>{text}</textarea></details>\n'
+                f"<button>{words}</button></form>\n")
+
+    def importing(self):
+        carried = [hidden("token", TOKEN) + hidden("id", IDS[form]) + "\n" for form in (0, 1)]
+        out = ("<section><h1>From a file or from lines</h1>\n<p>Nothing is entered yet: what would "
+               "be entered is shown first.</p>\n<h2>A competition's file</h2>\n"
+               '<form method="post" action="/import" enctype="multipart/form-data">\n'
+               + carried[0] + "<label>A competition in the WCA Competition Interchange Format "
+               '<input type="file" name="file" accept=".json"></label>\n')
+        for name, value, words in (
+                ("cumulative", "as-single",
+                 "A time limit for several attempts together becomes the limit of each"),
+                ("same-names", "id",
+                 "Each of several persons with one name gets his WCA ID behind it")):
+            out += (f'<label><input type="checkbox" name="{name}" value="{value}"> '
+                    f"{words}</label>\n")
+        out += ("<button>Look at it</button></form>\n<h2>Lines of commands</h2>\n"
+                '<form method="post" action="/lines" autocomplete="off">\n' + carried[1]
+                + "<label>One command a line, as in REG 17 Ann Li "
+                '<textarea name="lines" rows="12" cols="60"></textarea></label>\n'
+                "<button>Look at them</button></form></section>\n")
+        return self.page("hall", "From a file or from lines", out + self.recent())
+
+    def preview(self):
+        entered = [text for code, text in self.tried if code == "-"]
+        refused = [(text, MEANINGS[code]) for code, text in self.tried if code != "-"]
+        out = (f'<section><h1>What would be entered</h1>\n<p class="told">{len(entered)} commands '
+               f"would be entered, and {len(refused)} would not.</p>\n")
+        if refused:
+            out += "<h2>Not entered</h2>\n<ol>\n" + "".join(
+                f"<li><code>{escaped(text)}</code> <em>{why}</em></li>\n"
+                for text, why in refused) + "</ol>\n"
+        if entered:
+            out += "<h2>To enter</h2>\n<ol>\n" + "".join(
+                f"<li><code>{escaped(text)}</code></li>\n" for text in entered) + "</ol>\n"
+            out += self.lines_form(0, "/import", entered,
+                                   f"Enter these {len(entered)} commands")
+        return self.page("hall", "What would be entered", (
+            out + '<p><a href="/import">Another file, or other lines</a></p></section>\n'))
+
+    def never_came(self, where, table):
+        numbers = self.with_progress(table, "absent")
+        lines = [f"ATT {where.replace('-', ' ')} {count + 1} {who} DNS"
+                 for who in numbers for count in range(table.allotted([]))]
+        if not lines:
+            return ""
+        return (f"<p>If none of them comes any more: this sends {len(lines)} commands, DNS for "
+                "each attempt of each of them. Whoever still comes must not be in the list: enter "
+                "DNS on the cards of the others then.</p>\n"
+                + self.lines_form(16, f"/rounds?round={where}", lines,
+                                  "Enter DNS for all who never came"))
+
+    # ---- rounds
 
     def is_next(self, what, which):
         before = self.meet.rounds.get((what, which - 1))
@@ -304,17 +379,38 @@ class Pages:
                       + self.form(0, "EDITION", "/rounds") + hidden("text", "EDITION 2") + "\n"
                       + self.button("Go on to edition 2") + "</section>\n")
 
-    def advance_fields(self):
-        return ('<label>Who goes on <select name="advance">\n'
-                + self.choices((("final", "nobody: it is the final"), ("top", "so many"),
+    def advance_fields(self, advance):
+        options = "".join(
+            f'<option value="{name}"{" selected" if name == advance[0] else ""}>{words}</option>\n'
+            for name, words in (("final", "nobody: it is the final"), ("top", "so many"),
                                 ("pct", "so many percent")))
-                + "</select></label>\n" + self.field("amount", "how many"))
+        return (f'<label>Who goes on <select name="advance">\n{options}</select></label>\n'
+                + self.field("amount", "how many", "".join(map(str, advance[1:]))))
 
-    def opening(self, what, where):
+    def proposed(self, what, which):
+        """What is said of it, and the format, the limit and who goes on."""
+        if which == 1:
+            return "What is chosen here is proposed: ", None, "10:00.00", ("final",)
+        before = self.meet.rounds[what, which - 1]
+        come = len(before.advancing())
+        last = any(rules.later_rounds(len(self.meet.rounds[what, j].started())) < which + 1 - j
+                   for j in range(1, which))
+        advance = ("final",) if last or come <= 16 else ("top", rules.quota(("top", 16), come))
+        told = (f"{come} come into this round. What is chosen here is proposed, after the round "
+                "before: ")
+        limit = "" if before.limit == "-" else rules.printed(before.limit, "333")
+        return told, before.form, limit, advance
+
+    def opening(self, what, which):
+        where = f"{what}-{which}"
+        told, proposed, limit, advance = self.proposed(what, which)
         forms = [form for form in FORMS if form in rules.FORMATS[what]]
-        out = ("<h2>Open the round</h2>\n" + self.form(0, "OPEN", f"/rounds?round={where}")
-               + hidden("round", where) + '\n<label>Format <select name="format">\n'
-               + self.choices((form, FORMS[form]) for form in forms) + "</select></label>\n")
+        options = "".join(
+            f'<option value="{form}"{" selected" if form == proposed else ""}>{FORMS[form]}'
+            "</option>\n" for form in forms)
+        out = (f"<h2>Open the round</h2>\n<p>{told}change what you like.</p>\n"
+               + self.form(0, "OPEN", f"/rounds?round={where}") + hidden("round", where)
+               + f'\n<label>Format <select name="format">\n{options}</select></label>\n')
         if what != "333mbf":
             most = 4 if "ao5" in forms else 2
             out += ('<label>Cutoff after <select name="after">\n<option value="">none</option>\n'
@@ -322,8 +418,8 @@ class Pages:
                     + "</select> attempts</label>\n"
                     + self.field("cutoff", "one of them below (as 15.00)"))
         if unit(what) == "time":
-            out += self.field("limit", "Time limit", "10:00.00")
-        return out + self.advance_fields() + self.button("Open the round")
+            out += self.field("limit", "Time limit", limit)
+        return out + self.advance_fields(advance) + self.button("Open the round")
 
     def entrants(self, where, numbers):
         return "".join(f'<li><a href="/card/{where}?number={who}"><b>{who}</b> '
@@ -359,9 +455,11 @@ class Pages:
             numbers = self.with_progress(table, kind)
             if numbers:
                 out += f"<h2>{heading}</h2>\n<ul>\n{self.entrants(where, numbers)}</ul>\n"
+        out += self.never_came(where, table)
         text, back = f"CLOSE {where.replace('-', ' ')}", f"/rounds?round={where}"
         return (out + self.through(where, table) + "<h2>Change who goes on</h2>\n"
-                + self.form(1, "ADV", back) + hidden("round", where) + "\n" + self.advance_fields()
+                + self.form(1, "ADV", back) + hidden("round", where) + "\n"
+                + self.advance_fields(table.advance)
                 + self.button("Change who goes on") + "<h2>Close the round</h2>\n"
                 + self.form(0, "CLOSE", back) + hidden("round", where) + "\n" + hidden("text", text)
                 + f"\n<p>Nothing in it changes afterwards. This is sent: <code>{text}</code></p>\n"
@@ -369,10 +467,11 @@ class Pages:
 
     def forms(self, what, which):
         table, where = self.meet.rounds.get((what, which)), f"{what}-{which}"
-        out = (f'<section><h1>{WORDS[what]}, Round {which}</h1>\n'
+        called = self.words(what, which) if table else f"{WORDS[what]}, Round {which}"
+        out = (f'<section><h1>{called}</h1>\n'
                f'<p><a href="/card/{where}">its cards</a></p>\n')
         if table is None and self.is_next(what, which):
-            out += self.opening(what, where)
+            out += self.opening(what, which)
         elif table is None:
             out += "<p>The round before it is not closed, or is the final.</p>\n"
         else:
@@ -383,7 +482,7 @@ class Pages:
 
     def closed(self, what, which, table):
         out = "<p>The round is closed.</p>\n" + self.through(f"{what}-{which}", table)
-        if table.advance == ("final",):
+        if table.advance == ("final",) or which == 4:
             return out
         link = f"/rounds?round={what}-{which + 1}"
         return out + f'<p><a href="{link}">Open the next round</a></p>\n'
@@ -426,7 +525,8 @@ class Pages:
     # ---- paths
 
     def at(self, path):
-        fixed = {"/": self.overview, "/people": self.people, "/refused": self.refused}
+        fixed = {"/": self.overview, "/people": self.people, "/refused": self.refused,
+                 "/faults": self.faults, "/import": self.importing, "/preview": self.preview}
         if path in fixed:
             return fixed[path]()
         kind, _, rest = path.removeprefix("/").partition("/")
@@ -434,12 +534,13 @@ class Pages:
             found = ROUND.fullmatch(path.removeprefix("/rounds").removeprefix("?round="))
             return self.rounds(found and (found[1], int(found[2])))
         name, _, query = rest.partition("?number=")
+        query, _, origin = query.partition("&")
         found = ROUND.fullmatch(name)
         if not found or (found[1], int(found[2])) not in self.meet.rounds:
             return "none\n"
         what, which = found[1], int(found[2])
         if kind == "card":
-            return self.card_page(what, which, query)
+            return self.card_page(what, which, query, origin=origin and origin.split("="))
         return {"wall": self.wall, "scorecards": self.scorecards}[kind](what, which)
 
     def typed(self, text):
@@ -469,6 +570,8 @@ class Pages:
             self.followed, self.silent, self.undecided, *self.lengths = read
         elif word == "card":
             self.put_card(text)
+        elif word == "try":
+            self.tried.append(text.split(" ", 1))
         elif word == "command":
             state, _, command = text.partition(" ")
             self.sent.append((lambda: f"<code>{escaped(command)}</code>", state))

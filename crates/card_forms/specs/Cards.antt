@@ -14,7 +14,7 @@ use Rattle.card_forms.specs.Pairs.{value_of}
 
 -- an id of a form, as it is sent
 abbrev pub form_id_of : List ℕ → Option ℕ
-form_id_of text = number_between 1 (2 ^ 63 - 32) text
+form_id_of text = number_between 1 (2 ^ 63 - 16384) text
 
 -- a round of an event
 abbrev pub round_with : Event → Option (List ℕ) → Option RoundId

@@ -80,7 +80,7 @@ pub enum Wrong {
 /// Why a form asks for no command.
 #[derive(Clone, Copy, Debug, PartialEq, Eq, Error)]
 pub enum CommandFormFault {
-    /// `id` is no number of 1 to 2^63 - 32.
+    /// `id` is no number of 1 to 2^63 - 16,384.
     #[error("the form has no id")]
     BadId,
     /// A field is wrong: the first one, in the order of the command's fields.

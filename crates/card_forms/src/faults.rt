@@ -7,7 +7,7 @@ use thiserror::Error;
 /// round.
 #[derive(Clone, Copy, Debug, PartialEq, Eq, Error)]
 pub enum CardFormFault {
-    /// `id` is no number of 1 to 2^63 - 32.
+    /// `id` is no number of 1 to 2^63 - 16,384.
     #[error("the form has no id")]
     BadId,
     /// The id is good, and `round` is no event and round, as `333-1`.

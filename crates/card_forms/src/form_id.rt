@@ -6,8 +6,8 @@ ghost use Rattle.card_forms.specs.Ids.{IsFormId};
 
 use std::marker::Model;
 
-/// The id of a form: 1 to 2^63 - 32, drawn at random when the form is made. The entries of what it
-/// asks for have this id or one of the 31 above it.
+/// The id of a form: 1 to 2^63 - 16,384, drawn at random when the form is made. The entries of what
+/// it asks for have this id or one of the 16,383 above it.
 ///
 /// A contract sees the number.
 #[derive(Clone, Copy, Debug, PartialEq, Eq)]
@@ -29,10 +29,10 @@ impl Model for FormId {
 }
 
 impl FormId {
-    /// The greatest id, 2^63 - 32.
-    pub(crate) const MOST: u64 = 9_223_372_036_854_775_776;
+    /// The greatest id, 2^63 - 16,384.
+    pub const MOST: u64 = 9_223_372_036_854_759_424;
 
-    /// The id of this number. None: it is 0 or above 2^63 - 32.
+    /// The id of this number. None: it is 0 or above 2^63 - 16,384.
     pub fn new(number: u64) -> Option<FormId>
         ensures { SomeIff result (IsFormId number) number }
     {

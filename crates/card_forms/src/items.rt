@@ -1,18 +1,18 @@
 //! What is to be entered, and what became of it.
 
 use crate::cards::CardForm;
-use crate::command_text::CommandText;
+use crate::command_texts::CommandTexts;
 use crate::form_id::FormId;
 use derivation::CardFault;
 use texts::Code;
 
-/// What a scoretaker asked for: a card, or one command.
+/// What a scoretaker asked for: a card, or commands.
 #[derive(Drop)]
 pub enum Item {
     /// A card as it was typed. Its entries have ids of its form.
     Card(CardForm),
-    /// A command. Its entry has the id of the form.
-    Command { id: FormId, text: CommandText },
+    /// Commands. The entry of the first has the id of the form, and each further one the next.
+    Commands { id: FormId, texts: CommandTexts },
 }
 
 /// Why an item was not entered.
@@ -65,7 +65,7 @@ impl Item {
     {
         match self {
             Item::Card(form) => form.id,
-            Item::Command { id, .. } => *id,
+            Item::Commands { id, .. } => *id,
         }
     }
 }

@@ -2,8 +2,8 @@
 //!
 //! [`Pairs`] are the names and values of a body of `application/x-www-form-urlencoded`. From them
 //! [`card_form`] takes a card as it was typed, and [`command_form`] a command as it will be sent.
-//! [`card_of`] reads the fields of a card. An [`Item`] is one of the two, and [`State`] says what
-//! has become of it.
+//! [`card_of`] reads the fields of a card. An [`Item`] is a card or some commands, and [`State`] says
+//! what has become of it.
 #![tactic(auto)]
 
 mod asking;
@@ -11,6 +11,7 @@ mod cards;
 mod command_faults;
 mod command_fields;
 mod command_text;
+mod command_texts;
 mod faults;
 mod form_id;
 mod items;
@@ -22,6 +23,7 @@ pub use asking::{CommandForm, command_form};
 pub use cards::{CardForm, card_form, round_of};
 pub use command_faults::{CommandFormFault, Field, Wrong};
 pub use command_text::CommandText;
+pub use command_texts::CommandTexts;
 pub use faults::{CardFormFault, CardReading, NumberFault, Unread};
 pub use form_id::FormId;
 pub use items::{Item, Outcome, Reason, Recent, State};

@@ -2,6 +2,7 @@ pub mod Again
 pub mod Few
 pub mod FirstLines
 pub mod Fitting
+pub mod InTurn
 pub mod Kept
 pub mod Lost
 pub mod Once

@@ -38,8 +38,9 @@ use Rattle.card_forms.specs.Items.{id_of}
 use Rattle.card_forms.specs.Readings.{AllSay, IsReadAs, Says}
 use Rattle.card_queue.specs.Ids.{count_strikes, entries_for, entry_before}
 use Rattle.card_queue.specs.Ids.{strike_place}
-use Rattle.card_queue.specs.Laws.{IdsAreApart, IdsDiffer, IdsSayOneText}
+use Rattle.card_queue.specs.Laws.{IdsAreApart, IdsDiffer, IdsSayOneText, count_ids}
 use Rattle.card_queue.specs.Sending.{AreDerived, SendsFor}
+use Rattle.card_queue.proofs.InTurn.{in_turn, same_text, same_turn}
 use Rattle.card_queue.proofs.OwnIds.{Differ, Pairwise, all_at, attempted, corrected, five}
 use Rattle.card_queue.proofs.OwnIds.{own_ids, parted, same_place}
 
@@ -351,20 +352,18 @@ ids_one_text (item.Card form) now later entries others i j entry another a b is 
     (all_at (EntryOf form.id a.card.round a.card.competitor (filled a.card.attempts.items)) others
     j another (sent_alike form later others b a.card a.read) at)
     same
-ids_one_text (item.Command id text) now later entries others i j entry another a b is at same =
-    all_at (λ e. e.text ≡ text) entries i entry
-    (subst (AllByRecursion (λ e. e.text ≡ text)) (sym a) (refl, tt)) is
-    ∙ sym
-    (all_at (λ e. e.text ≡ text) others j another
-    (subst (AllByRecursion (λ e. e.text ≡ text)) (sym b) (refl, tt)) at)
+ids_one_text (item.Commands id texts) now later entries others i j entry another a b is at same =
+    same_text id texts i j entry another (sym (ap (λ es. slice_get es i) a) ∙ is)
+    (sym (ap (λ es. slice_get es j) b) ∙ at) same
 
 pub ids_differ : IdsDiffer
 ids_differ (item.Card form) log entries i j entry another a is at same =
     same_place entries i j entry another
     (subst (Pairwise Differ) (sym a.are) (own_ids form.id a.card log a.commands a.derives)) is at
     same
-ids_differ (item.Command id text) log entries i j entry another a is at same =
-    same_place entries i j entry another (subst (Pairwise Differ) (sym a) (tt, tt)) is at same
+ids_differ (item.Commands id texts) log entries i j entry another a is at same =
+    same_turn id texts i j entry another (sym (ap (λ es. slice_get es i) a) ∙ is)
+    (sym (ap (λ es. slice_get es j) a) ∙ at) same
 
 -- ---- ids of different forms
 
@@ -400,18 +399,24 @@ all_near id round n xs filled [] h = tt
 all_near id round n xs filled (c ∷ cs) h =
     (near_of id round n xs filled c cs h.0, all_near id round n xs filled cs h.1)
 
-sent_near : (one : Item) (now : List Command) (entries : List Entry) → SendsFor one now entries
-    → AllByRecursion (IsNear (id_of one)) entries
-sent_near (item.Card form) now entries a =
-    subst (AllByRecursion (IsNear form.id)) (sym a.are)
+-- an entry's id is one of those that its item may have
+sent_within : (one : Item) (now : List Command) (entries : List Entry) (i : ℕ) (entry : Entry)
+    → SendsFor one now entries → slice_get entries i ≡ Some entry
+    → (id_of one ≤ entry.id) × (entry.id < id_of one + count_ids one)
+sent_within (item.Card form) now entries i entry a is =
+    let near =
+    all_at (IsNear form.id) entries i entry
+    (subst (AllByRecursion (IsNear form.id)) (sym a.are)
     (all_near form.id a.card.round a.card.competitor (filled a.card.attempts.items)
-    (count_filled a.card.attempts.items) a.commands (commands_said now a.card a.commands a.derives))
-sent_near (item.Command id text) now entries a =
-    subst (AllByRecursion (IsNear id)) (sym a) ((omega arith, omega arith), tt)
+    (count_filled a.card.attempts.items) a.commands
+    (commands_said now a.card a.commands a.derives))) is in
+    (near.0, omega (arith, near.1))
+sent_within (item.Commands id texts) now entries i entry a is =
+    let turn = in_turn id texts i entry (sym (ap (λ es. slice_get es i) a) ∙ is) in
+    (omega (arith, turn.0), omega (arith, turn.0, turn.1))
 
 pub ids_apart : IdsAreApart
 ids_apart one other now later entries others i j entry another a b far is at same =
-    let first = all_at (IsNear (id_of one)) entries i entry (sent_near one now entries a) is in
-    let second =
-    all_at (IsNear (id_of other)) others j another (sent_near other later others b) at in
+    let first = sent_within one now entries i entry a is in
+    let second = sent_within other later others j another b at in
     omega (arith, first.1, second.0, far, same)

@@ -1,7 +1,7 @@
 -- The line of an item says that item.
-use Rattle.std.proofs.Common.{◌≡◌, ℕ, ◌-◌, ◌^◌, ◌<◌, ◌≤◌, true, nat_le, List, [], ◌∷◌}
-use Rattle.std.proofs.Common.{All, length, map, codes, decimal, Some, refl, ap}
-use Rattle.std.proofs.Common.{◌∙◌, arith}
+use Rattle.std.proofs.Common.{◌≡◌, ℕ, ◌-◌, ◌^◌, ◌<◌, ◌≤◌, true, nat_le, List, [], ◌∷◌, ◌++◌}
+use Rattle.std.proofs.Common.{All, length, map, codes, decimal, Some, refl, sym, ap}
+use Rattle.std.proofs.Common.{◌∙◌, append_assoc, append-nil, arith}
 use Rattle.std.specs.List.{AllByRecursion}
 use Rattle.std.proofs.lemmas.Bool.Decides.{nat_tests}
 use Rattle.percent_encoding.specs.Percent.{percent_decode}
@@ -23,8 +23,9 @@ use Rattle.card_forms.specs.Cards.{form_id_of, round_of}
 use Rattle.card_forms.specs.Ids.{IsFormId}
 use Rattle.card_queue.specs.declared.lines.TheConstants.{ESCAPED}
 use Rattle.card_queue.specs.declared.lines.Line.TheVariants as line
-use Rattle.card_queue.specs.Words.{AreBytes, IsWritable, card_words, command_words}
+use Rattle.card_queue.specs.Words.{AreBytes, IsShort, IsWritable, card_words, command_words}
 use Rattle.card_queue.specs.Words.{done_line, escaped, item_line, round_word, said, said_by}
+use Rattle.card_queue.specs.Words.{texts_after}
 use Rattle.card_queue.proofs.Solid.{IsNoEnd, IsWord, decimal_word, escaped_word, escaped_words}
 use Rattle.card_queue.proofs.Solid.{first_words, line_no_end, parts_spaced, round_is_word}
 
@@ -32,7 +33,7 @@ pub undone : (typed : List ℕ) → AreBytes typed → percent_decode (escaped t
 undone typed small = round_trip ESCAPED typed refl small
 
 pub id_read : (id : ℕ) → IsFormId id → form_id_of (decimal id) ≡ Some id
-id_read id is = number_between-decimal 1 (2 ^ 63 - 32) id is.0 is.1 (omega arith)
+id_read id is = number_between-decimal 1 (2 ^ 63 - 16384) id is.0 is.1 (omega arith)
 
 name_lacks : (e : Event) → lacks 45 (event_name e) ≡ true
 name_lacks Cube3 = refl
@@ -108,6 +109,19 @@ module _ (id : ℕ) (round : RoundId) (number : List ℕ) (is : IsFormId id) (fi
 few_true : (n : ℕ) → n ≤ 600 → nat_le n 600 ≡ true
 few_true n h = grind (arith, nat_tests)
 
+most_true : (n : ℕ) → n ≤ 16384 → nat_le n 16384 ≡ true
+most_true n h = grind (arith, nat_tests)
+
+-- words that texts were escaped into stand for these texts
+texts_read : (texts before : List (List ℕ)) → AllByRecursion AreBytes texts
+    → AllByRecursion IsShort texts → texts_after before (map escaped texts) ≡ Some (before ++ texts)
+texts_read [] before small short = ap Some (sym (append-nil before))
+texts_read (text ∷ texts) before small short =
+    rw (undone text small.0)
+    (rw (few_true (length text) short.0)
+    (texts_read texts (before ++ text ∷ []) small.1 short.1
+    ∙ ap Some (append_assoc before (text ∷ []) texts)))
+
 pub said_item : (one : Item) → IsWritable one → said (item_line one) ≡ Some (line.Taken one)
 said_item (item.Card form) w =
     ap said_by
@@ -115,12 +129,12 @@ said_item (item.Card form) w =
     (card_solid form.id form.round form.number form.attempts w.id w.last))
     ∙ said_card form.id form.round form.number w.id w.first w.last w.number form.attempts w.five
     w.attempts
-said_item (item.Command id text) w =
-    let few : nat_le (length text) 600 ≡ true = few_true (length text) w.2 in
+said_item (item.Commands id texts) w =
+    let few : nat_le (length texts) 16384 ≡ true = most_true (length texts) w.2 in
     ap said_by
-    (parts_spaced (codes "command") (command_words id text) first_words.1
-    (decimal_word id (small_id id w.0), (escaped_word text, tt)))
-    ∙ rw (id_read id w.0) (rw (undone text w.1) (rw few refl))
+    (parts_spaced (codes "command") (command_words id texts) first_words.1
+    (decimal_word id (small_id id w.0), escaped_words texts))
+    ∙ rw (id_read id w.0) (rw (texts_read texts [] w.1 w.3) (rw few refl))
 
 pub said_done : (id : ℕ) → IsFormId id → said (done_line id) ≡ Some (line.Done id)
 said_done id is =
@@ -133,9 +147,9 @@ pub item_no_end : (one : Item) → IsWritable one → All IsNoEnd (item_line one
 item_no_end (item.Card form) w =
     line_no_end (codes "card") (card_words form) first_words.0
     (card_solid form.id form.round form.number form.attempts w.id w.last)
-item_no_end (item.Command id text) w =
-    line_no_end (codes "command") (command_words id text) first_words.1
-    (decimal_word id (small_id id w.0), (escaped_word text, tt))
+item_no_end (item.Commands id texts) w =
+    line_no_end (codes "command") (command_words id texts) first_words.1
+    (decimal_word id (small_id id w.0), escaped_words texts)
 
 pub done_no_end : (id : ℕ) → IsFormId id → All IsNoEnd (done_line id)
 done_no_end id is =

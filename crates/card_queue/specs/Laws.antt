@@ -1,10 +1,11 @@
 -- What holds of a queue whatever is sent to it.
 use Rattle.std.specs.Prelude.{◌≡◌, ◌≢◌, ℕ, ◌+◌, ◌≤◌, List, [], ◌++◌, All, Ok, Some, is_some}
-use Rattle.std.specs.Prelude.{slice_get}
+use Rattle.std.specs.Prelude.{length, slice_get}
 use Rattle.std.specs.List.{AllByRecursion}
 use Rattle.acceptor.specs.declared.entry.Entry.{Entry}
 use Rattle.texts.specs.declared.command.Command.{Command}
 use Rattle.card_forms.specs.declared.items.Item.{Item}
+use Rattle.card_forms.specs.declared.items.Item.TheVariants as item
 use Rattle.card_forms.specs.Items.{id_of}
 use Rattle.card_queue.specs.declared.stepping.Taken.{Taken}
 use Rattle.card_queue.specs.declared.stepping.Taken.TheVariants as taken
@@ -56,12 +57,18 @@ NothingLost =
 
 -- ---- the ids of entries
 
--- what is sent for items whose ids are apart by 32 or more has no id in common
+-- how many ids an item may have entries of, from its own on
+abbrev pub count_ids : Item → ℕ
+count_ids (item.Card form) = 32
+count_ids (item.Commands id texts) = length texts
+
+-- what is sent for two items, of which one has its id behind those of the other, has no id in
+-- common
 abbrev pub IdsAreApart : Type 0
 IdsAreApart =
     (one other : Item) (now later : List Command) (entries others : List Entry) (i j : ℕ)
     (entry another : Entry)
-    → SendsFor one now entries → SendsFor other later others → id_of one + 32 ≤ id_of other
+    → SendsFor one now entries → SendsFor other later others → id_of one + count_ids one ≤ id_of other
     → slice_get entries i ≡ Some entry → slice_get others j ≡ Some another
     → entry.id ≢ another.id
 

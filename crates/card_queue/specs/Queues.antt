@@ -1,8 +1,9 @@
 -- Items in the order in which they came, and what a step does with the one in front.
-use Rattle.std.specs.Prelude.{◌≡◌, ◌⊎◌, ℕ, ◌+◌, ◌<◌, ◌≤◌, ◌||◌, ◌==◌, nat_le, nat_eq, Bool, true}
-use Rattle.std.specs.Prelude.{false}
+use Rattle.std.specs.Prelude.{◌≡◌, ◌⊎◌, ℕ, ◌+◌, ◌-◌, ◌^◌, ◌<◌, ◌≤◌, ◌||◌, ◌&&◌, ◌==◌, nat_le, nat_eq}
+use Rattle.std.specs.Prelude.{Bool, true, false, is_some}
 use Rattle.std.specs.Prelude.{if◌then◌else◌, map, reverse, List, [], ◌∷◌, ◌++◌, length, take}
 use Rattle.std.specs.Prelude.{Option, None, Some}
+use Rattle.std.specs.List.{list_any}
 use Rattle.std.specs.Option.{option_map, option_or}
 use Rattle.std.specs.Map.{lookup}
 use Rattle.indexmap.specs.IndexMap.{insert_entry}
@@ -23,6 +24,7 @@ use Rattle.card_queue.specs.declared.stepping.Taken.{Taken}
 use Rattle.card_queue.specs.declared.stepping.Taken.TheVariants as taken
 use Rattle.card_queue.specs.declared.stepping.Stepped.{Stepped}
 use Rattle.card_queue.specs.declared.stepping.Stepped.TheVariants as stepped
+use Rattle.card_queue.specs.declared.queue.TheConstants.{PLACES}
 use Rattle.card_queue.specs.Sending.{SendsFor, RefusesItem}
 use Rattle.card_queue.specs.Settling.{outcome_of}
 
@@ -73,6 +75,15 @@ abbrev pub found_in : QueueOf → ℕ → Option State
 found_in q id =
     option_or (option_map is_done (lookup (nat_eq id) q.outcomes))
     (option_map waits_since (since_of id q.waiting))
+
+-- a number is the id of a form, and its item is known
+abbrev pub knows : QueueOf → ℕ → Bool
+knows q number =
+    nat_le 1 number && nat_le number (2 ^ 63 - 16384) && is_some (found_in q number)
+
+-- an id is that of a known card's form, or at most 24 above it, as those of its entries are
+abbrev pub has_card_of : QueueOf → ℕ → Bool
+has_card_of q id = list_any (λ place. knows q (id - place)) PLACES
 
 -- ---- taking
 

@@ -1,5 +1,5 @@
 -- What is sent for an item, by the commands that are accepted so far.
-use Rattle.std.specs.Prelude.{◌≡◌, ℕ, List, [], ◌∷◌, Ok, Err}
+use Rattle.std.specs.Prelude.{◌≡◌, ℕ, ◌+◌, List, [], ◌∷◌, Ok, Err}
 use Rattle.acceptor.specs.declared.entry.Entry.{Entry}
 use Rattle.texts.specs.declared.command.Command.{Command}
 use Rattle.derivation.specs.declared.card.Card.{Card}
@@ -29,10 +29,15 @@ pub record AreDerived (form : CardForm) (now : List Command) (entries : List Ent
 abbrev pub command_entry : ℕ → List ℕ → Entry
 command_entry id text = record { id = id; text = text }
 
+-- the entries of commands: the first has this id, and each further one the next
+abbrev pub command_entries : ℕ → List (List ℕ) → List Entry
+command_entries id [] = []
+command_entries id (text ∷ texts) = command_entry id text ∷ command_entries (id + 1) texts
+
 -- what is sent for an item
 abbrev pub SendsFor : Item → List Command → List Entry → Type 0
 SendsFor (item.Card form) now entries = AreDerived form now entries
-SendsFor (item.Command id text) now entries = entries ≡ command_entry id text ∷ []
+SendsFor (item.Commands id texts) now entries = entries ≡ command_entries id texts
 
 -- no commands are derived from the card that the form says
 pub record IsRefused (form : CardForm) (now : List Command) (why : CardFault) : Type 0 where
@@ -48,7 +53,7 @@ RefusesForm form now _ = ⊥
 -- why nothing is sent for an item
 abbrev pub RefusesItem : Item → List Command → Reason → Type 0
 RefusesItem (item.Card form) now why = RefusesForm form now why
-RefusesItem (item.Command id text) now why = ⊥
+RefusesItem (item.Commands id texts) now why = ⊥
 
 -- what is prepared for a card under an id
 abbrev pub IsPreparedCard : ℕ → Card → List Command → Prepared → Type 0
@@ -62,9 +67,9 @@ abbrev pub IsPreparedForm : CardForm → List Command → Prepared → Type 0
 IsPreparedForm form now (prepared.Entries entries) = AreDerived form now entries.items
 IsPreparedForm form now (prepared.Refused why) = RefusesForm form now why
 
-abbrev pub IsPreparedText : ℕ → List ℕ → Prepared → Type 0
-IsPreparedText id text (prepared.Entries entries) = entries.items ≡ command_entry id text ∷ []
-IsPreparedText id text (prepared.Refused why) = ⊥
+abbrev pub ArePreparedTexts : ℕ → List (List ℕ) → Prepared → Type 0
+ArePreparedTexts id texts (prepared.Entries entries) = entries.items ≡ command_entries id texts
+ArePreparedTexts id texts (prepared.Refused why) = ⊥
 
 -- what is prepared for an item: its entries, or why there are none
 abbrev pub IsPrepared : Item → List Command → Prepared → Type 0

@@ -1,7 +1,8 @@
 -- The lines of a journal: words with a space between each two. A word is a number, a round, or what
 -- somebody typed, with each byte escaped that would end a word or a line.
-use Rattle.std.specs.Prelude.{◌≡◌, ◌==◌, ℕ, ◌<◌, ◌≤◌, nat_le, if◌then◌else◌, List, [], ◌∷◌}
-use Rattle.std.specs.Prelude.{◌++◌, All, length, map, bytes_eq, codes, decimal, Option, None, Some}
+use Rattle.std.specs.Prelude.{◌≡◌, ◌==◌, ℕ, ◌<◌, ◌≤◌, nat_le, if◌then◌else◌, List, []}
+use Rattle.std.specs.Prelude.{◌∷◌, ◌++◌, All, length, map, bytes_eq, codes, decimal, Option, None}
+use Rattle.std.specs.Prelude.{Some}
 use Rattle.std.specs.List.{AllByRecursion, flat_map, slice_split}
 use Rattle.std.specs.Option.{option_map}
 use Rattle.percent_encoding.specs.Percent.{percent_decode, percent_encode}
@@ -37,13 +38,13 @@ abbrev pub card_words : CardForm → List (List ℕ)
 card_words form =
     decimal form.id ∷ round_word form.round ∷ escaped form.number ∷ map escaped form.attempts
 
-abbrev pub command_words : ℕ → List ℕ → List (List ℕ)
-command_words id text = decimal id ∷ escaped text ∷ []
+abbrev pub command_words : ℕ → List (List ℕ) → List (List ℕ)
+command_words id texts = decimal id ∷ map escaped texts
 
 -- the line that says that an item was taken, without its end
 abbrev pub item_line : Item → List ℕ
 item_line (item.Card form) = codes "card" ++ spaced (card_words form)
-item_line (item.Command id text) = codes "command" ++ spaced (command_words id text)
+item_line (item.Commands id texts) = codes "command" ++ spaced (command_words id texts)
 
 -- the line that says that the item of an id is done, without its end
 abbrev pub done_line : ℕ → List ℕ
@@ -72,15 +73,23 @@ card_in (id ∷ round ∷ number ∷ first ∷ second ∷ third ∷ fourth ∷ f
     (first ∷ second ∷ third ∷ fourth ∷ fifth ∷ [])
 card_in _ = None
 
-abbrev pub command_with : Option ℕ → List ℕ → Option Item
-command_with None text = None
-command_with (Some id) text =
-    if nat_le (length text) 600 then Some (item.Command id text) else None
+-- the texts that these words stand for, after others; none where one has more than 600 bytes
+abbrev pub texts_after : List (List ℕ) → List (List ℕ) → Option (List (List ℕ))
+texts_after texts [] = Some texts
+texts_after texts (word ∷ words) =
+    if nat_le (length (percent_decode word)) 600
+    then texts_after (texts ++ percent_decode word ∷ []) words else None
 
--- the command of these words: an id and a text
+abbrev pub command_with : Option ℕ → Option (List (List ℕ)) → Option Item
+command_with None texts = None
+command_with (Some id) None = None
+command_with (Some id) (Some texts) =
+    if nat_le (length texts) 16384 then Some (item.Commands id texts) else None
+
+-- the commands of these words: an id and texts
 abbrev pub command_in : List (List ℕ) → Option Item
-command_in (id ∷ text ∷ []) = command_with (form_id_of id) (percent_decode text)
-command_in _ = None
+command_in [] = None
+command_in (id ∷ words) = command_with (form_id_of id) (texts_after [] words)
 
 abbrev pub done_in : List (List ℕ) → Option ℕ
 done_in (id ∷ []) = form_id_of id
@@ -123,7 +132,12 @@ pub record IsWritableCard (form : CardForm) : Type 0 where
   pub five : length form.attempts ≡ 5
   pub attempts : AllByRecursion AreBytes form.attempts
 
+abbrev pub IsShort : List ℕ → Type 0
+IsShort text = length text ≤ 600
+
 -- an item of a program: its id is one of a form, and what was typed is bytes
 abbrev pub IsWritable : Item → Type 0
 IsWritable (item.Card form) = IsWritableCard form
-IsWritable (item.Command id text) = IsFormId id × AreBytes text × (length text ≤ 600)
+IsWritable (item.Commands id texts) =
+    IsFormId id × AllByRecursion AreBytes texts × (length texts ≤ 16384)
+    × AllByRecursion IsShort texts

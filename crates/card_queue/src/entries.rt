@@ -4,15 +4,16 @@ ghost use Rattle.std.specs.Prelude.{◌≡◌, ◌+◌, ◌<◌, ◌≤◌, ◌^
 ghost use Rattle.std.specs.Prelude.{length};
 ghost use Rattle.std.specs.Prelude.{◌-◌, if◌then◌else◌, position, true};
 ghost use Rattle.std.specs.List.{AllByRecursion};
+ghost use Rattle.acceptor.specs.Entries.{IsId};
 ghost use Rattle.texts.specs.Spelling.{IsFit, spelling};
 ghost use Rattle.derivation.specs.Cards.{count_filled, is_empty};
 ghost use Rattle.card_queue.specs.Ids.{is_strike, count_strikes, place_of, strike_place};
 ghost use Rattle.card_queue.specs.Ids.{entries_for};
-ghost use Rattle.card_queue.specs.Sending.{IsPrepared, IsPreparedCard, IsPreparedForm};
-ghost use Rattle.card_queue.specs.Sending.{IsPreparedText};
+ghost use Rattle.card_queue.specs.Sending.{ArePreparedTexts, IsPrepared, IsPreparedCard};
+ghost use Rattle.card_queue.specs.Sending.{IsPreparedForm, command_entries, command_entry};
 
 use acceptor::entry::{Entry, EntryFault};
-use card_forms::{CardForm, CardReading, CommandText, FormId, Item, Reason, card_of};
+use card_forms::{CardForm, CardReading, CommandText, CommandTexts, FormId, Item, Reason, card_of};
 use commands::Meet;
 use derivation::{Card, CardFault, derive};
 use std::alloc::{AllocError, Global};
@@ -185,17 +186,50 @@ fn prepared_form(alloc: Global, form: &CardForm, meet: &Meet) -> Result<Prepared
     }
 }
 
-/// The entry of a command.
-fn prepared_text(alloc: Global, id: FormId, text: &CommandText) -> Result<Prepared, AllocError>
-    ensures { IfOk result (IsPreparedText id text.now) }
+/// The entry of a command, under this id.
+fn text_entry(alloc: Global, id: u64, text: &CommandText) -> Result<Entry, AllocError>
+    requires { IsId id }
+    ensures { IfOk result (λ entry. entry ≡ command_entry id text.now) }
 {
-    let entry = match Entry::new(alloc, id.number(), text.as_bytes()) {
-        Ok(entry) => entry,
-        Err(EntryFault::NoMemory) => return Err(AllocError),
+    match Entry::new(alloc, id, text.as_bytes()) {
+        Ok(entry) => Ok(entry),
+        Err(EntryFault::NoMemory) => Err(AllocError),
         Err(EntryFault::BadId | EntryFault::TooLong) => unreachable!(),
-    };
+    }
+}
+
+/// The entries of commands: the first has this id, and each further one the next.
+fn text_entries(alloc: Global, id: u64, texts: &[CommandText]) -> Result<Vec<Entry>, AllocError>
+    requires first { 1 ≤ id }
+    requires last { id + length texts.now ≤ 2 ^ 63 }
+    ensures { IfOk result (λ entries. entries.items ≡ command_entries id texts.now) }
+{
     let mut entries = Vec::new(alloc);
-    put(&mut entries, entry)?;
+    let mut next = id;
+    for text in texts {
+        let entry = text_entry(alloc, next, text)?;
+        put(&mut entries, entry)?;
+        next += 1;
+    }
+    Ok(entries)
+}
+
+/// The entries of commands: the first has the id of their form, and each further one the next.
+pub fn command_entries(
+    alloc: Global,
+    id: FormId,
+    texts: &CommandTexts,
+) -> Result<Vec<Entry>, AllocError>
+    ensures { IfOk result (λ entries. entries.items ≡ command_entries id texts.now) }
+{
+    text_entries(alloc, id.number(), texts.as_slice())
+}
+
+/// What is to be done for commands.
+fn prepared_texts(alloc: Global, id: FormId, texts: &CommandTexts) -> Result<Prepared, AllocError>
+    ensures { IfOk result (ArePreparedTexts id texts.now) }
+{
+    let entries = command_entries(alloc, id, texts)?;
     Ok(Prepared::Entries(entries))
 }
 
@@ -205,6 +239,6 @@ pub(crate) fn prepare(alloc: Global, item: &Item, meet: &Meet) -> Result<Prepare
 {
     match item {
         Item::Card(form) => prepared_form(alloc, form, meet),
-        Item::Command { id, text } => prepared_text(alloc, *id, text),
+        Item::Commands { id, texts } => prepared_texts(alloc, *id, texts),
     }
 }

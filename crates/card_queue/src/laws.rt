@@ -20,7 +20,8 @@ pub fn journal_reads_back()
 
 /// A law: an id is one command's. No two entries that are sent for a form have one id; the same
 /// form sent again, at whatever table and time, has no other command under an id; and what is sent
-/// for a form whose id is apart by 32 or more has no id in common with it.
+/// for a form whose id is behind all that another one may have, of which a card may have 32, has no
+/// id in common with it.
 pub fn ids_are_one_commands()
     ensures differ { IdsDiffer }
     ensures say_one_text { IdsSayOneText }

@@ -14,6 +14,7 @@ mod settling;
 mod stepping;
 mod waiting;
 
+pub use entries::command_entries;
 pub use journal::{Journal, JournalFault, read_journal};
 pub use laws::{ids_are_one_commands, journal_reads_back, taken_once};
 pub use lines::{Line, done_line, line_of, read_line};

@@ -6,9 +6,9 @@ ghost use Rattle.percent_encoding.specs.Percent.{percent_decode};
 ghost use Rattle.card_forms.specs.Cards.{form_id_of};
 ghost use Rattle.card_queue.specs.Words.{card_in, card_words, command_in, done_in, done_line};
 ghost use Rattle.card_queue.specs.Words.{escaped, item_line, parts, round_word, said, said_by};
-ghost use Rattle.card_queue.specs.Words.{spaced, with_end};
+ghost use Rattle.card_queue.specs.Words.{spaced, texts_after, with_end};
 
-use card_forms::{CardForm, CommandText, Fields, FormId, Item, Typed, round_of};
+use card_forms::{CardForm, CommandText, CommandTexts, Fields, FormId, Item, Typed, round_of};
 use itoa::Buffer;
 use percent_encoding::{AsciiSet, CONTROLS, ascii_set, percent_decode, percent_encode};
 use std::alloc::{AllocError, Global};
@@ -17,13 +17,10 @@ use texts::{RoundId, number_between};
 /// What a word escapes, beside all that is not ASCII.
 const ESCAPED: AsciiSet = ascii_set!(CONTROLS.add(b' ').add(b'%'));
 
-/// The greatest id of a form, 2^63 - 32.
-const MOST_ID: u64 = 9_223_372_036_854_775_776;
-
 /// What a line of a journal says.
 #[derive(Drop)]
 pub enum Line {
-    /// `card ID EVENT-ROUND NUMBER FIELD FIELD FIELD FIELD FIELD` or `command ID TEXT`: it was
+    /// `card ID EVENT-ROUND NUMBER FIELD FIELD FIELD FIELD FIELD` or `command ID TEXT..`: it was
     /// taken.
     Taken(Item),
     /// `done ID`: it is done.
@@ -68,6 +65,17 @@ fn push_fields(line: &mut String, fields: &[Typed]) -> Result<(), AllocError>
     Ok(())
 }
 
+/// Puts the texts of commands after the others.
+fn push_texts(line: &mut String, texts: &[CommandText]) -> Result<(), AllocError>
+    ensures { OnOk result (string_bytes line.new
+        ≡ string_bytes line.old ++ spaced (map escaped texts.now)) }
+{
+    for text in texts {
+        push_typed(line, text.as_bytes())?;
+    }
+    Ok(())
+}
+
 /// Puts a card after the word.
 fn push_card(line: &mut String, form: &CardForm) -> Result<(), AllocError>
     ensures { OnOk result (string_bytes line.new
@@ -89,10 +97,10 @@ fn push_item(line: &mut String, item: &Item) -> Result<(), AllocError>
             line.push_str("card")?;
             push_card(line, form)
         }
-        Item::Command { id, text } => {
+        Item::Commands { id, texts } => {
             line.push_str("command")?;
             push_id(line, *id)?;
-            push_typed(line, text.as_bytes())
+            push_texts(line, texts.as_slice())
         }
     }
 }
@@ -122,7 +130,7 @@ pub fn done_line(alloc: Global, id: FormId) -> Result<String, AllocError>
 fn id_of(bytes: &[u8]) -> Option<FormId>
     ensures { result ≡ form_id_of bytes.now }
 {
-    FormId::new(number_between(1, MOST_ID, bytes)?)
+    FormId::new(number_between(1, FormId::MOST, bytes)?)
 }
 
 /// The bytes that a word stands for.
@@ -183,20 +191,38 @@ fn card(alloc: Global, words: &[&[u8]]) -> Result<Option<CardForm>, AllocError>
     }))
 }
 
-/// The command of these words.
-fn command(alloc: Global, words: &[&[u8]]) -> Result<Option<Item>, AllocError>
+/// The texts that these words stand for. None where one of them has more than 600 bytes.
+fn texts_of(alloc: Global, words: &[&[u8]]) -> Result<Option<Vec<CommandText>>, AllocError>
+    ensures { IfOk result (λ texts. option_map (λ t. t.items) texts
+        ≡ texts_after [] (map (λ word. word.now) words.now)) }
+{
+    let mut texts = Vec::new(alloc);
+    for word in words {
+        match CommandText::new(unescaped(alloc, word)?) {
+            Some(text) => texts.push(text)?,
+            None => return Ok(None),
+        }
+    }
+    Ok(Some(texts))
+}
+
+/// The commands of these words.
+fn commands(alloc: Global, words: &[&[u8]]) -> Result<Option<Item>, AllocError>
     ensures { IfOk result (λ item. item ≡ command_in (map (λ word. word.now) words.now)) }
 {
-    let [id, text] = words else {
+    let Some((id, left)) = words.split_first() else {
         return Ok(None);
     };
-    let Some(id) = id_of(id) else {
+    let Some(id) = id_of(*id) else {
         return Ok(None);
     };
-    let Some(text) = CommandText::new(unescaped(alloc, text)?) else {
+    let Some(texts) = texts_of(alloc, left)? else {
         return Ok(None);
     };
-    Ok(Some(Item::Command { id, text }))
+    match CommandTexts::new(texts) {
+        Some(texts) => Ok(Some(Item::Commands { id, texts })),
+        None => Ok(None),
+    }
 }
 
 /// The id of these words.
@@ -221,7 +247,7 @@ fn said(alloc: Global, words: &[&[u8]]) -> Result<Option<Line>, AllocError>
         return Ok(card.map(|form| Line::Taken(Item::Card(form))));
     }
     if *word == b"command".as_slice() {
-        let item = command(alloc, left)?;
+        let item = commands(alloc, left)?;
         return Ok(item.map(|item| Line::Taken(item)));
     }
     if *word == b"done".as_slice() {

@@ -24,6 +24,11 @@ const MOST_KNOWN: usize = 65_536;
 /// The most items that are kept when they are done.
 const MOST_DONE: usize = 10;
 
+/// How far the ids of a card's entries are above that of its form.
+const PLACES: [u64; 25] = [
+    0, 1, 2, 3, 4, 5, 6, 7, 8, 9, 10, 11, 12, 13, 14, 15, 16, 17, 18, 19, 20, 21, 22, 23, 24,
+];
+
 /// Items in the order in which they came, and what became of those that are done.
 ///
 /// At most 1,000 wait, and at most 65,536 are known. A contract sees what `QueueOf` says.
@@ -86,7 +91,8 @@ fn push_done<'a>(recent: &mut Vec<Recent<'a>>, done: &'a VecDeque<Done>) -> Resu
 impl CardQueue {
     ghost use Rattle.std.specs.Prelude.{◌<◌, [], IfOk, OnErr, length, map, not, position};
     ghost use Rattle.card_queue.specs.Queues.{empty_queue, found_in, is_full, Takes, Steps};
-    ghost use Rattle.card_queue.specs.Queues.{IsEndedAs, since_of, since_sent, recent_in, shown};
+    ghost use Rattle.card_queue.specs.Queues.{IsEndedAs, has_card_of, knows, since_of};
+    ghost use Rattle.card_queue.specs.Queues.{since_sent, recent_in, shown};
     ghost use Rattle.card_queue.specs.Journals.{is_of, Restores};
 
     /// A queue of no item.
@@ -126,6 +132,26 @@ impl CardQueue {
             Some(since) => Some(State::Waits { since }),
             None => None,
         }
+    }
+
+    /// Whether a number is the id of a form, and the queue knows its item.
+    fn knows(&self, number: u64) -> bool
+        ensures { result ≡ knows self.now number }
+    {
+        match FormId::new(number) {
+            Some(id) => self.find(id).is_some(),
+            None => false,
+        }
+    }
+
+    /// Whether an entry with this id is of a card that the queue knows, as long as the id is at
+    /// most 24 above that of the card's form.
+    pub fn has_card_of(&self, id: u64) -> bool
+        ensures { result ≡ has_card_of self.now id }
+    {
+        PLACES
+            .iter()
+            .any(|place| self.knows(id.saturating_sub(*place)))
     }
 
     /// Whether there is room for one more item that waits.

@@ -11,36 +11,39 @@ use Rattle.table_views.specs.Frame.{top, bottom}
 use Rattle.table_views.specs.Logs.{accepted_in}
 use Rattle.table_views.specs.Recent.{recent_section}
 use Rattle.entry_views.specs.declared.draft.Draft.{Draft}
+use Rattle.entry_views.specs.declared.origin.Origin.{Origin}
 use Rattle.entry_views.specs.Beside.{IsBeside}
 use Rattle.entry_views.specs.Card.{card_head, card_fields, form_start, form_end, spare}
+use Rattle.entry_views.specs.Origin.{origin_line}
 
 -- the section of the card: the round and its rules, and the form, which carries the token, the
--- first id and the others as spare ones
-unfoldable pub card_section : Around → RoundId → Settings × Table → Draft → List ℕ
-card_section around id round draft =
+-- first id and the others as spare ones, and says where what stands comes from
+unfoldable pub card_section : Around → RoundId → Settings × Table → Draft → Option Origin → List ℕ
+card_section around id round draft origin =
     card_head id round.0
     ++ form_start around.token.now (get_or around.ids.now 0 0)
-    (flat_map spare (drop 1 around.ids.now)) id round.0
+    (flat_map spare (drop 1 around.ids.now)) id round.0 ++ origin_line origin
     ++ card_fields (accepted_in around.mirror.now) id round.0 round.1 draft ++ form_end
 
 -- what stands before the round
-unfoldable pub front : Around → RoundId → Settings × Table → Draft → List ℕ
-front around id round draft =
+unfoldable pub front : Around → RoundId → Settings × Table → Draft → Option Origin → List ℕ
+front around id round draft origin =
     top (codes "entry") (round_words id round.0.advance) around.desks.now (length around.mirror.now)
-    ++ card_section around id round draft
+    ++ card_section around id round draft origin
     ++ recent_section (accepted_in around.mirror.now) around.desks.now around.now around.recent.now
 
 -- this text is the page of a card of a round
-abbrev pub IsPageOf : Around → RoundId → Settings × Table → Draft → List ℕ → Type 0
-IsPageOf around id round draft page =
+abbrev pub IsPageOf : Around → RoundId → Settings × Table → Draft → Option Origin → List ℕ → Type 0
+IsPageOf around id round draft origin page =
     (sheet : List ℕ) × (beside : List ℕ)
     × (table_sheet (accepted_in around.mirror.now) id.event id.round ≡ Some sheet)
     × IsBeside id round.0 round.1 sheet beside
-    × (page ≡ front around id round draft ++ beside ++ bottom)
+    × (page ≡ front around id round draft origin ++ beside ++ bottom)
 
 -- the page of a card, where the round was opened
-abbrev pub IsCardPage : Around → RoundId → Draft → Option (Settings × Table) → Option (List ℕ)
-    → Type 0
-IsCardPage around id draft None page = page ≡ None
-IsCardPage around id draft (Some round) None = ⊥
-IsCardPage around id draft (Some round) (Some page) = IsPageOf around id round draft page
+abbrev pub IsCardPage : Around → RoundId → Draft → Option Origin → Option (Settings × Table)
+    → Option (List ℕ) → Type 0
+IsCardPage around id draft origin None page = page ≡ None
+IsCardPage around id draft origin (Some round) None = ⊥
+IsCardPage around id draft origin (Some round) (Some page) =
+    IsPageOf around id round draft origin page

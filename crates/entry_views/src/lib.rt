@@ -6,8 +6,10 @@ mod card;
 mod draft;
 mod fields;
 mod notes;
+mod origin;
 mod page;
 
 pub use draft::Draft;
 pub use notes::Note;
+pub use origin::Origin;
 pub use page::card_page;

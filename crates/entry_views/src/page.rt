@@ -10,6 +10,7 @@ ghost use Rattle.table_views.specs.Logs.{accepted_in};
 use crate::beside::push_round;
 use crate::card::{push_card_fields, push_form_end, push_form_start, push_head};
 use crate::draft::Draft;
+use crate::origin::{Origin, push_origin};
 use acceptor::NoMemory;
 use commands::Meet;
 use round_counts::{Opened, round_opened};
@@ -46,12 +47,14 @@ fn push_card(
     id: RoundId,
     round: Opened<'_>,
     draft: Draft<'_>,
+    origin: Option<Origin>,
 ) -> Result<(), NoMemory>
     ensures { OnOk result (out.new.items ≡ out.old.items ++ card_section around.entry.now id
-        (round.entry.settings, round.entry.table.now) draft.entry) }
+        (round.entry.settings, round.entry.table.now) draft.entry origin) }
 {
     push_head(out, id, round.settings)?;
     push_form_start(out, around.token, around.ids, id, round.settings)?;
+    push_origin(out, origin)?;
     push_card_fields(out, around.mirror.meet(), id, round, draft)?;
     push_form_end(out)?;
     Ok(())
@@ -64,13 +67,14 @@ fn push_front(
     id: RoundId,
     round: Opened<'_>,
     draft: Draft<'_>,
+    origin: Option<Origin>,
 ) -> Result<(), NoMemory>
     ensures { OnOk result (out.new.items ≡ out.old.items ++ front around.entry.now id
-        (round.entry.settings, round.entry.table.now) draft.entry) }
+        (round.entry.settings, round.entry.table.now) draft.entry origin) }
 {
     let title = title_of(*out.allocator(), id, round.settings.advance)?;
     push_top(out, around.desks, around.mirror.len(), b"entry", &title)?;
-    push_card(out, around, id, round, draft)?;
+    push_card(out, around, id, round, draft, origin)?;
     push_recent(
         out,
         around.mirror.meet(),
@@ -88,13 +92,14 @@ fn page_of(
     id: RoundId,
     round: Opened<'_>,
     draft: Draft<'_>,
+    origin: Option<Origin>,
 ) -> Result<Vec<u8>, NoMemory>
     ensures { IfOk result (λ page. IsPageOf around.entry.now id
-        (round.entry.settings, round.entry.table.now) draft.entry page.items) }
+        (round.entry.settings, round.entry.table.now) draft.entry origin page.items) }
 {
     let sheet = sheet_of(alloc, around.mirror.meet(), id)?;
     let mut page = Vec::new(alloc);
-    push_front(&mut page, around, id, round, draft)?;
+    push_front(&mut page, around, id, round, draft, origin)?;
     push_round(&mut page, id, round, &sheet)?;
     push_bottom(&mut page)?;
     Ok(page)
@@ -103,20 +108,22 @@ fn page_of(
 /// The page of a card of a round; none where the round was not opened.
 ///
 /// It has the form of the card, filled in with the draft, which carries the token and the first of
-/// the ids; the cards and commands of late; and the round, whose cells are the fields of its sheet.
+/// the ids, and says which entry of the log was the last on these attempts, where `origin` says so;
+/// the cards and commands of late; and the round, whose cells are the fields of its sheet.
 pub fn card_page(
     alloc: Global,
     around: &Around<'_>,
     id: RoundId,
     draft: Draft<'_>,
+    origin: Option<Origin>,
 ) -> Result<Option<Vec<u8>>, NoMemory>
-    ensures { IfOk result (λ page. IsCardPage around.entry.now id draft.entry
+    ensures { IfOk result (λ page. IsCardPage around.entry.now id draft.entry origin
         (round_by (accepted_in around.entry.now.mirror.now) id)
         (option_map (λ text. text.items) page)) }
 {
     let Some(round) = round_opened(around.mirror.meet(), id) else {
         return Ok(None);
     };
-    let page = page_of(alloc, around, id, round, draft)?;
+    let page = page_of(alloc, around, id, round, draft, origin)?;
     Ok(Some(page))
 }

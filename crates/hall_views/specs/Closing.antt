@@ -14,6 +14,7 @@ use Rattle.texts.specs.declared.command.Settings.{Settings}
 use Rattle.markup.specs.Pieces.{joined}
 use Rattle.table_views.specs.declared.around.Around.{Around}
 use Rattle.table_views.specs.Logs.{accepted_in}
+use Rattle.hall_views.specs.Absent.{never_came}
 use Rattle.hall_views.specs.Entrants.{entrant_line, unfinished}
 use Rattle.hall_views.specs.Forms.{button, form_start, path_of, round_value, unseen}
 use Rattle.hall_views.specs.Opening.{advance_fields}
@@ -52,10 +53,11 @@ through_by (Percent percent) accepted id t =
 abbrev pub through : List Command → RoundId → Settings × Table → List ℕ
 through accepted id round = through_by round.0.advance accepted id round.1
 
-unfoldable pub change : List ℕ → ℕ → RoundId → List ℕ → List ℕ
-change token form id back =
+-- who goes on now is chosen beforehand
+unfoldable pub change : List ℕ → ℕ → RoundId → Advance → List ℕ → List ℕ
+change token form id advance back =
     codes "<h2>Change who goes on</h2>\n" ++ form_start token form (codes "ADV") back
-    ++ round_value id ++ advance_fields ++ button (codes "Change who goes on")
+    ++ round_value id ++ advance_fields advance ++ button (codes "Change who goes on")
 
 -- the command is sent as it is shown
 abbrev pub closing_told : List ℕ → List ℕ
@@ -69,10 +71,10 @@ close token form id back =
     codes "<h2>Close the round</h2>\n" ++ form_start token form (codes "CLOSE") back
     ++ round_value id ++ closing_told (close_text id) ++ button (codes "Close the round")
 
--- who is unfinished, who goes on, and the forms
+-- who is unfinished, with a form for those who never came; who goes on; and the other forms
 unfoldable pub open_round : Around → RoundId → Settings × Table → List ℕ
 open_round around id round =
-    unfinished (accepted_in around.mirror.now) id round
+    unfinished (accepted_in around.mirror.now) id round ++ never_came around id round
     ++ through (accepted_in around.mirror.now) id round
-    ++ change around.token.now (get_or around.ids.now 1 0) id (path_of id)
+    ++ change around.token.now (get_or around.ids.now 1 0) id round.0.advance (path_of id)
     ++ close around.token.now (get_or around.ids.now 0 0) id (path_of id)

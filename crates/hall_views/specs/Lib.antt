@@ -2,8 +2,13 @@ pub mod Forms
 pub mod Overview
 pub mod Refused
 pub mod Entrants
+pub mod Lines
+pub mod Absent
+pub mod Proposal
 pub mod Opening
 pub mod Closing
 pub mod People
 pub mod Scrambles
 pub mod Rounds
+pub mod Importing
+pub mod Preview

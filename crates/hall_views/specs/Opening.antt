@@ -1,7 +1,11 @@
 -- The form that opens a round.
-use Rattle.std.specs.Prelude.{ℕ, if◌then◌else◌, List, [], ◌∷◌, ◌++◌, codes, decimal, flat_map, take}
+use Rattle.std.specs.Prelude.{ℕ, Bool, true, false, if◌then◌else◌, List, [], ◌∷◌, ◌++◌, codes}
+use Rattle.std.specs.Prelude.{decimal, flat_map, take, Option, None, Some}
+use Rattle.attempts.specs.Texts.{time_text}
 use Rattle.attempts.specs.declared.Unit.{Unit as Measure}
 use Rattle.attempts.specs.declared.Unit.TheVariants.{Time, Moves, Multi}
+use Rattle.formats.specs.declared.advance.Advance.{Advance}
+use Rattle.formats.specs.declared.advance.Advance.TheVariants.{Final, Top, Percent}
 use Rattle.formats.specs.declared.events.Event.{Event}
 use Rattle.formats.specs.declared.events.Format.{Format}
 use Rattle.formats.specs.declared.events.Format.TheVariants.{Ao5, Mo3, Bo1, Bo2, Bo3}
@@ -9,12 +13,37 @@ use Rattle.formats.specs.Events.{format_name, is_allowed, unit_of}
 use Rattle.round_words.specs.Words.{format_words}
 use Rattle.texts.specs.declared.command.RoundId.{RoundId}
 use Rattle.markup.specs.Pieces.{joined}
-use Rattle.hall_views.specs.Forms.{button, choice, form_start, path_of, round_value, text_field}
+use Rattle.hall_views.specs.declared.proposal.Proposal.{Proposal}
+use Rattle.hall_views.specs.Forms.{button, form_start, path_of, round_value, text_field}
+
+abbrev pub plain : List ℕ
+plain = codes "\">"
+
+abbrev pub chosen : List ℕ
+chosen = codes "\" selected>"
+
+abbrev pub same_format : Format → Format → Bool
+same_format Ao5 Ao5 = true
+same_format Mo3 Mo3 = true
+same_format Bo1 Bo1 = true
+same_format Bo2 Bo2 = true
+same_format Bo3 Bo3 = true
+same_format _ _ = false
+
+-- how an option goes on, which is chosen beforehand if it is the proposed one
+abbrev pub format_mark : Option Format → Format → List ℕ
+format_mark None format = plain
+format_mark (Some proposed) format = if same_format proposed format then chosen else plain
 
 -- a format, where the event may have it
-abbrev pub format_choice : Event → Format → List ℕ
-format_choice event format =
-    if is_allowed event format then choice (format_name format) (format_words format) else []
+abbrev pub format_choice : Event → Option Format → Format → List ℕ
+format_choice event proposed format =
+    if is_allowed event format
+    then joined (
+    codes "<option value=\"" ∷ format_name format ∷ format_mark proposed format
+    ∷ format_words format ∷ codes "</option>\n" ∷ []
+    )
+    else []
 
 abbrev pub cutoff_choice : ℕ → List ℕ
 cutoff_choice attempts = joined (codes "<option>" ∷ decimal attempts ∷ codes "</option>\n" ∷ [])
@@ -42,29 +71,65 @@ cutoff_for Moves most = cutoff_select most
 abbrev pub cutoff_fields : Event → List ℕ
 cutoff_fields event = cutoff_for (unit_of event) (most_attempts event)
 
+-- ten minutes, or the limit of the round before
+abbrev pub proposed_limit : Option ℕ → List ℕ
+proposed_limit None = codes "10:00.00"
+proposed_limit (Some limit) = time_text limit
+
 -- timed events have a limit
-abbrev pub limit_field : Measure → List ℕ
-limit_field Time = text_field (codes "limit") (codes "Time limit") (codes "10:00.00")
-limit_field Moves = []
-limit_field Multi = []
+abbrev pub limit_field : Measure → Option ℕ → List ℕ
+limit_field Time proposed =
+    text_field (codes "limit") (codes "Time limit") (proposed_limit proposed)
+limit_field Moves proposed = []
+limit_field Multi proposed = []
 
--- who goes on
-unfoldable pub advance_fields : List ℕ
-advance_fields =
-    codes "<label>Who goes on <select name=\"advance\">\n"
-    ++ choice (codes "final") (codes "nobody: it is the final")
-    ++ choice (codes "top") (codes "so many") ++ choice (codes "pct") (codes "so many percent")
-    ++ codes "</select></label>\n" ++ text_field (codes "amount") (codes "how many") (codes "")
+-- who can go on, each option with how it goes on
+abbrev pub advance_options : List ℕ → List ℕ → List ℕ → List ℕ
+advance_options final top percent = joined (
+    codes "<option value=\"final" ∷ final
+    ∷ codes "nobody: it is the final</option>\n<option value=\"top" ∷ top
+    ∷ codes "so many</option>\n<option value=\"pct" ∷ percent
+    ∷ codes "so many percent</option>\n" ∷ []
+    )
 
--- what the event allows can be chosen
-unfoldable pub opening_fields : Event → List ℕ
-opening_fields event =
-    codes "<label>Format <select name=\"format\">\n" ++ flat_map (format_choice event) formats
-    ++ codes "</select></label>\n" ++ cutoff_fields event ++ limit_field (unit_of event)
-    ++ advance_fields
+-- one of them is chosen beforehand
+abbrev pub advance_choices : Advance → List ℕ
+advance_choices Final = advance_options chosen plain plain
+advance_choices (Top number) = advance_options plain chosen plain
+advance_choices (Percent percent) = advance_options plain plain chosen
+
+abbrev pub amount_of : Advance → List ℕ
+amount_of Final = []
+amount_of (Top number) = decimal number
+amount_of (Percent percent) = decimal percent
+
+-- who goes on, with this chosen beforehand
+unfoldable pub advance_fields : Advance → List ℕ
+advance_fields advance =
+    codes "<label>Who goes on <select name=\"advance\">\n" ++ advance_choices advance
+    ++ codes "</select></label>\n"
+    ++ text_field (codes "amount") (codes "how many") (amount_of advance)
+
+-- what the event allows can be chosen, and what is proposed is chosen beforehand
+unfoldable pub opening_fields : Event → Proposal → List ℕ
+opening_fields event proposal =
+    codes "<label>Format <select name=\"format\">\n"
+    ++ flat_map (format_choice event proposal.format) formats ++ codes "</select></label>\n"
+    ++ cutoff_fields event ++ limit_field (unit_of event) proposal.limit
+    ++ advance_fields proposal.advance
+
+-- that it is proposed, and how many come
+abbrev pub opening_head : Option ℕ → List ℕ
+opening_head None =
+    codes "<h2>Open the round</h2>\n<p>What is chosen here is proposed: change what you like.</p>\n"
+opening_head (Some come) = joined (
+    codes "<h2>Open the round</h2>\n<p>" ∷ decimal come
+    ∷ codes " come into this round. What is chosen here is proposed, after the round before: "
+    ∷ codes "change what you like.</p>\n" ∷ []
+    )
 
 -- the form that opens a round
-unfoldable pub opening : List ℕ → ℕ → RoundId → List ℕ
-opening token form id =
-    codes "<h2>Open the round</h2>\n" ++ form_start token form (codes "OPEN") (path_of id)
-    ++ round_value id ++ opening_fields id.event ++ button (codes "Open the round")
+unfoldable pub opening : List ℕ → ℕ → RoundId → Proposal → List ℕ
+opening token form id proposal =
+    opening_head proposal.come ++ form_start token form (codes "OPEN") (path_of id)
+    ++ round_value id ++ opening_fields id.event proposal ++ button (codes "Open the round")

@@ -89,11 +89,15 @@ pub record IsProposed (accepted : List Command) (number : ℕ) : Type 0 where
   pub before : (k : ℕ) → k < number → 1 ≤ k → IsSome (name_of accepted k)
   pub free : number < 9999 → name_of accepted number ≡ None
 
+unfoldable pub section_start : List ℕ
+section_start =
+    codes "<section><h1>Competitors</h1>\n<p><a href=\"/import\">"
+    ++ codes "From a competition's file or from lines</a></p>\n"
+
 -- the forms, the first with a number proposed, and all competitors
 unfoldable pub section : Around → ℕ → List ℕ
 section around proposed =
-    codes "<section><h1>Competitors</h1>\n"
-    ++ registering around.token.now (get_or around.ids.now 0 0) proposed
+    section_start ++ registering around.token.now (get_or around.ids.now 0 0) proposed
     ++ entering (accepted_in around.mirror.now) around.token.now (get_or around.ids.now 1 0)
     ++ codes "<table><thead><tr><th>number</th><th>name</th><th>events</th></tr></thead><tbody>\n"
     ++ competitors (accepted_in around.mirror.now) 9999

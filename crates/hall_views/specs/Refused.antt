@@ -17,3 +17,16 @@ abbrev pub refused_page : Around → List ℕ → List ℕ → List ℕ
 refused_page around back why =
     top (codes "hall") (codes "Not sent") around.desks.now (length around.mirror.now)
     ++ refusal back why ++ bottom
+
+abbrev pub faults : List ℕ → List ℕ → List ℕ
+faults back why = joined (
+    codes "<section><h1>Not entered</h1>\n<pre role=\"alert\">" ∷ escaped why
+    ∷ codes "</pre>\n<p><a href=\"" ∷ escaped back
+    ∷ codes "\">Back to the form</a></p></section>\n" ∷ []
+    )
+
+-- why, in several lines, with a link back to the page of the form
+abbrev pub faults_page : Around → List ℕ → List ℕ → List ℕ
+faults_page around back why =
+    top (codes "hall") (codes "Not entered") around.desks.now (length around.mirror.now)
+    ++ faults back why ++ bottom

@@ -8,7 +8,7 @@ use Rattle.formats.specs.declared.advance.Advance.TheVariants.{Final, Top, Perce
 use Rattle.formats.specs.declared.events.Event.{Event}
 use Rattle.formats.specs.Events.{all_events, attempts_of, event_edition, last_round}
 use Rattle.rounds.specs.Tables.{Table}
-use Rattle.round_words.specs.Words.{event_words, round_name, settings_words}
+use Rattle.round_words.specs.Words.{event_words, round_name, round_words, settings_words}
 use Rattle.texts.specs.declared.command.Command.{Command}
 use Rattle.texts.specs.declared.command.RoundId.{RoundId}
 use Rattle.texts.specs.declared.command.Settings.{Settings}
@@ -22,6 +22,7 @@ use Rattle.hall_views.specs.declared.round_forms.State.TheVariants.{Closed, Open
 use Rattle.hall_views.specs.Closing.{open_round, through}
 use Rattle.hall_views.specs.Forms.{button, form_start, unseen}
 use Rattle.hall_views.specs.Opening.{opening}
+use Rattle.hall_views.specs.Proposal.{proposed}
 use Rattle.hall_views.specs.Scrambles.{scrambles}
 
 -- ---- which rounds have forms
@@ -113,16 +114,16 @@ link_to_next id =
     codes "<p><a href=\"/rounds?round=" ++ round_name id
     ++ codes "\">Open the next round</a></p>\n"
 
--- the round after a round of an event that has at most four
-abbrev pub after : RoundId → RoundId
-after id =
-    round_numbered id.event
-    (if nat_le id.round last_round then id.round + 1 else last_round + 1)
+-- an event has at most four rounds (WCA Regulations, article 9m)
+abbrev pub link_after : RoundId → List ℕ
+link_after id =
+    if nat_le last_round id.round then []
+    else link_to_next (round_numbered id.event (id.round + 1))
 
 abbrev pub next_link : RoundId → Advance → List ℕ
 next_link id Final = []
-next_link id (Top number) = link_to_next (after id)
-next_link id (Percent percent) = link_to_next (after id)
+next_link id (Top number) = link_after id
+next_link id (Percent percent) = link_after id
 
 unfoldable pub closed_forms : List Command → RoundId → Settings × Table → List ℕ
 closed_forms accepted id round =
@@ -147,21 +148,29 @@ abbrev pub unopened_forms : Around → RoundId → List ℕ
 unopened_forms around id =
     if is_next (accepted_in around.mirror.now) id
     then opening around.token.now (get_or around.ids.now 0 0) id
+    (proposed (accepted_in around.mirror.now) id)
     else codes "<p>The round before it is not closed, or is the final.</p>\n"
 
 abbrev pub forms_if : Around → RoundId → Option (Settings × Table) → List ℕ
 forms_if around id (Some round) = opened_forms around id round
 forms_if around id None = unopened_forms around id
 
-abbrev pub round_head : RoundId → List ℕ
-round_head id = joined (
-    codes "<section><h1>" ∷ event_words id.event ∷ codes ", Round " ∷ decimal id.round
-    ∷ codes "</h1>\n<p><a href=\"/card/" ∷ []
-    )
+abbrev pub numbered : RoundId → List ℕ
+numbered id = joined (event_words id.event ∷ codes ", Round " ∷ decimal id.round ∷ [])
+
+-- a round is called by its number, until it is opened
+abbrev pub called : RoundId → Option (Settings × Table) → List ℕ
+called id None = numbered id
+called id (Some round) = round_words id round.0.advance
+
+unfoldable pub round_head : RoundId → Option (Settings × Table) → List ℕ
+round_head id round =
+    codes "<section><h1>" ++ called id round ++ codes "</h1>\n<p><a href=\"/card/"
 
 unfoldable pub round_section : Around → RoundId → List ℕ
 round_section around id =
-    round_head id ++ round_name id ++ codes "\">its cards</a></p>\n"
+    round_head id (round_by (accepted_in around.mirror.now) id) ++ round_name id
+    ++ codes "\">its cards</a></p>\n"
     ++ forms_if around id (round_by (accepted_in around.mirror.now) id) ++ codes "</section>\n"
 
 -- ---- the page: of all events, or of a round

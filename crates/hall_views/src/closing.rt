@@ -7,6 +7,7 @@ ghost use Rattle.hall_views.specs.Closing.{change, close, closing_told, close_te
 ghost use Rattle.hall_views.specs.Closing.{open_round};
 ghost use Rattle.hall_views.specs.Closing.{these_go_on, through, tie};
 
+use crate::absent::push_never_came;
 use crate::forms::{id_at, path_of, push_button, push_form, push_round_value, push_unseen};
 use crate::opening::push_advance;
 use crate::unfinished::{push_entrants, push_unfinished};
@@ -112,20 +113,22 @@ pub(crate) fn push_through(
     }
 }
 
-/// Adds the form that changes who goes on.
+/// Adds the form that changes who goes on, with who does now chosen beforehand.
 fn push_change(
     out: &mut Vec<u8>,
     token: &[u8],
     form: FormId,
     id: RoundId,
+    advance: Advance,
     back: &[u8],
 ) -> Result<(), NoMemory>
-    ensures { OnOk result (out.new.items ≡ out.old.items ++ change token.now form id back.now) }
+    ensures { OnOk result (out.new.items
+        ≡ out.old.items ++ change token.now form id advance back.now) }
 {
     out.extend_from_slice(b"<h2>Change who goes on</h2>\n")?;
     push_form(out, token, form, b"ADV", back)?;
     push_round_value(out, id)?;
-    push_advance(out)?;
+    push_advance(out, advance)?;
     push_button(out, b"Change who goes on")
 }
 
@@ -175,7 +178,15 @@ pub(crate) fn push_open_round(
     let meet = around.mirror.meet();
     let back = path_of(*out.allocator(), id)?;
     push_unfinished(out, meet, id, round)?;
+    push_never_came(out, around, id, round)?;
     push_through(out, meet, id, round)?;
-    push_change(out, around.token, id_at(around.ids, 1), id, &back)?;
+    push_change(
+        out,
+        around.token,
+        id_at(around.ids, 1),
+        id,
+        round.settings.advance,
+        &back,
+    )?;
     push_close(out, around.token, id_at(around.ids, 0), id, &back)
 }

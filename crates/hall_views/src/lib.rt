@@ -1,17 +1,24 @@
 //! The pages of rounds and people.
 #![tactic(auto)]
 
+mod absent;
 mod all_rounds;
 mod closing;
 mod forms;
+mod importing;
+mod lines;
 mod opening;
 mod people;
+mod preview;
+mod proposal;
 mod refused;
 mod round_forms;
 mod scrambles;
 mod unfinished;
 
 pub use all_rounds::overview;
+pub use importing::import_page;
 pub use people::people_page;
-pub use refused::refused_page;
+pub use preview::{Tried, preview_page};
+pub use refused::{faults_page, refused_page};
 pub use round_forms::rounds_page;

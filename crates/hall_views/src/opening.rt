@@ -1,48 +1,80 @@
 //! The form that opens a round.
 
-ghost use Rattle.std.specs.Prelude.{◌≡◌, ◌++◌, OnOk, flat_map};
+ghost use Rattle.std.specs.Prelude.{◌≡◌, ◌++◌, IfOk, OnOk, Some, flat_map};
 ghost use Rattle.formats.specs.Events.{unit_of};
-ghost use Rattle.hall_views.specs.Opening.{advance_fields, cutoff_choice, cutoff_fields};
-ghost use Rattle.hall_views.specs.Opening.{cutoff_select};
-ghost use Rattle.hall_views.specs.Opening.{format_choice, limit_field, most_attempts, opening};
-ghost use Rattle.hall_views.specs.Opening.{opening_fields};
+ghost use Rattle.hall_views.specs.Opening.{advance_choices, advance_fields, advance_options};
+ghost use Rattle.hall_views.specs.Opening.{amount_of, cutoff_choice, cutoff_fields};
+ghost use Rattle.hall_views.specs.Opening.{cutoff_select, format_choice, format_mark, limit_field};
+ghost use Rattle.hall_views.specs.Opening.{most_attempts, opening, opening_fields, opening_head};
+ghost use Rattle.hall_views.specs.Opening.{proposed_limit};
 
-use crate::forms::{
-    path_of, push_button, push_choice, push_form, push_round_value, push_text_field,
-};
+use crate::forms::{digits_of, path_of, push_button, push_form, push_round_value, push_text_field};
+use crate::proposal::Proposal;
 use acceptor::NoMemory;
-use attempts::Unit;
+use attempts::{Unit, Value, print_value};
 use card_forms::FormId;
-use formats::{Event, Format, allowed, unit_of};
+use formats::{Advance, Event, Format, allowed, unit_of};
 use markup::{Piece, push_pieces};
 use round_words::format_words;
+use std::alloc::Global;
 use texts::RoundId;
+
+/// How an option goes on after its value.
+const PLAIN: &[u8] = b"\">";
+
+/// How the option goes on that is chosen beforehand.
+const CHOSEN: &[u8] = b"\" selected>";
 
 /// The numbers of attempts after which a cutoff can count.
 const AFTER: [u8; 4] = [1, 2, 3, 4];
 
-/// Adds a format, where the event may have it.
-fn push_format(out: &mut Vec<u8>, event: Event, format: Format) -> Result<(), NoMemory>
-    ensures { OnOk result (out.new.items ≡ out.old.items ++ format_choice event format) }
+/// How the option of a format goes on.
+fn format_mark(proposed: Option<Format>, format: Format) -> &'static [u8]
+    ensures { result.now ≡ format_mark proposed format }
 {
-    if allowed(event, format) {
-        push_choice(
-            out,
-            format.name().as_bytes(),
-            format_words(format).as_bytes(),
-        )
-    } else {
-        Ok(())
+    match proposed {
+        Some(proposed) if proposed == format => CHOSEN,
+        _ => PLAIN,
     }
 }
 
-/// Adds those of the formats that the event may have.
-fn push_formats(out: &mut Vec<u8>, event: Event, formats: &[Format]) -> Result<(), NoMemory>
+/// Adds a format, where the event may have it.
+fn push_format(
+    out: &mut Vec<u8>,
+    event: Event,
+    proposed: Option<Format>,
+    format: Format,
+) -> Result<(), NoMemory>
     ensures { OnOk result (out.new.items
-        ≡ out.old.items ++ flat_map (format_choice event) formats.now) }
+        ≡ out.old.items ++ format_choice event proposed format) }
+{
+    if !allowed(event, format) {
+        return Ok(());
+    }
+    push_pieces(
+        out,
+        &[
+            Piece::Html(b"<option value=\""),
+            Piece::Html(format.name().as_bytes()),
+            Piece::Html(format_mark(proposed, format)),
+            Piece::Html(format_words(format).as_bytes()),
+            Piece::Html(b"</option>\n"),
+        ],
+    )
+}
+
+/// Adds those of the formats that the event may have.
+fn push_formats(
+    out: &mut Vec<u8>,
+    event: Event,
+    proposed: Option<Format>,
+    formats: &[Format],
+) -> Result<(), NoMemory>
+    ensures { OnOk result (out.new.items
+        ≡ out.old.items ++ flat_map (format_choice event proposed) formats.now) }
 {
     for format in formats {
-        push_format(out, event, *format)?;
+        push_format(out, event, proposed, *format)?;
     }
     Ok(())
 }
@@ -100,53 +132,140 @@ fn push_cutoff(out: &mut Vec<u8>, event: Event) -> Result<(), NoMemory>
     }
 }
 
-/// Adds the field of the time limit, which timed events have.
-fn push_limit(out: &mut Vec<u8>, event: Event) -> Result<(), NoMemory>
-    ensures { OnOk result (out.new.items ≡ out.old.items ++ limit_field (unit_of event)) }
+/// The limit that is proposed: ten minutes, where there is none before.
+fn proposed_limit(alloc: Global, limit: Option<u32>) -> Result<Vec<u8>, NoMemory>
+    ensures { IfOk result (λ text. text.items ≡ proposed_limit limit) }
 {
+    match limit {
+        Some(limit) => print_value(alloc, Value::Number(limit), Unit::Time),
+        None => Vec::from_slice(alloc, b"10:00.00"),
+    }
+}
+
+/// Adds the field of the time limit, which timed events have.
+fn push_limit(out: &mut Vec<u8>, event: Event, proposed: Option<u32>) -> Result<(), NoMemory>
+    ensures { OnOk result (out.new.items
+        ≡ out.old.items ++ limit_field (unit_of event) proposed) }
+{
+    let limit = proposed_limit(*out.allocator(), proposed)?;
     match unit_of(event) {
-        Unit::Time => push_text_field(out, b"limit", b"Time limit", b"10:00.00"),
+        Unit::Time => push_text_field(out, b"limit", b"Time limit", &limit),
         Unit::Moves | Unit::Multi => Ok(()),
     }
 }
 
-/// Adds the fields of who goes on.
-pub(crate) fn push_advance(out: &mut Vec<u8>) -> Result<(), NoMemory>
-    ensures { OnOk result (out.new.items ≡ out.old.items ++ advance_fields) }
+/// Adds who can go on, each option with how it goes on.
+fn push_advance_options(
+    out: &mut Vec<u8>,
+    last: &'static [u8],
+    top: &'static [u8],
+    percent: &'static [u8],
+) -> Result<(), NoMemory>
+    ensures { OnOk result (out.new.items
+        ≡ out.old.items ++ advance_options last.now top.now percent.now) }
 {
+    push_pieces(
+        out,
+        &[
+            Piece::Html(b"<option value=\"final"),
+            Piece::Html(last),
+            Piece::Html(b"nobody: it is the final</option>\n<option value=\"top"),
+            Piece::Html(top),
+            Piece::Html(b"so many</option>\n<option value=\"pct"),
+            Piece::Html(percent),
+            Piece::Html(b"so many percent</option>\n"),
+        ],
+    )
+}
+
+/// Adds who can go on, with this chosen beforehand.
+fn push_advance_choices(out: &mut Vec<u8>, advance: Advance) -> Result<(), NoMemory>
+    ensures { OnOk result (out.new.items ≡ out.old.items ++ advance_choices advance) }
+{
+    match advance {
+        Advance::Final => push_advance_options(out, CHOSEN, PLAIN, PLAIN),
+        Advance::Top(_) => push_advance_options(out, PLAIN, CHOSEN, PLAIN),
+        Advance::Percent(_) => push_advance_options(out, PLAIN, PLAIN, CHOSEN),
+    }
+}
+
+/// The number of those who go on, or the percentage.
+fn amount_of(alloc: Global, advance: Advance) -> Result<Vec<u8>, NoMemory>
+    ensures { IfOk result (λ amount. amount.items ≡ amount_of advance) }
+{
+    match advance {
+        Advance::Final => Ok(Vec::new(alloc)),
+        Advance::Top(number) => digits_of(alloc, u32::from(number)),
+        Advance::Percent(percent) => digits_of(alloc, u32::from(percent)),
+    }
+}
+
+/// Adds the fields of who goes on, with this chosen beforehand.
+pub(crate) fn push_advance(out: &mut Vec<u8>, advance: Advance) -> Result<(), NoMemory>
+    ensures { OnOk result (out.new.items ≡ out.old.items ++ advance_fields advance) }
+{
+    let amount = amount_of(*out.allocator(), advance)?;
     out.extend_from_slice(b"<label>Who goes on <select name=\"advance\">\n")?;
-    push_choice(out, b"final", b"nobody: it is the final")?;
-    push_choice(out, b"top", b"so many")?;
-    push_choice(out, b"pct", b"so many percent")?;
+    push_advance_choices(out, advance)?;
     out.extend_from_slice(b"</select></label>\n")?;
-    push_text_field(out, b"amount", b"how many", b"")
+    push_text_field(out, b"amount", b"how many", &amount)
 }
 
 /// Adds the fields of the form: what the event allows can be chosen.
-fn push_fields(out: &mut Vec<u8>, event: Event) -> Result<(), NoMemory>
-    ensures { OnOk result (out.new.items ≡ out.old.items ++ opening_fields event) }
+fn push_fields(out: &mut Vec<u8>, event: Event, proposal: Proposal) -> Result<(), NoMemory>
+    ensures { OnOk result (out.new.items ≡ out.old.items ++ opening_fields event proposal) }
 {
     out.extend_from_slice(b"<label>Format <select name=\"format\">\n")?;
-    push_formats(out, event, &Format::ALL)?;
+    push_formats(out, event, proposal.format, &Format::ALL)?;
     out.extend_from_slice(b"</select></label>\n")?;
     push_cutoff(out, event)?;
-    push_limit(out, event)?;
-    push_advance(out)
+    push_limit(out, event, proposal.limit)?;
+    push_advance(out, proposal.advance)
 }
 
-/// Adds the form that opens a round.
+fn push_come(out: &mut Vec<u8>, come: u16) -> Result<(), NoMemory>
+    ensures { OnOk result (out.new.items ≡ out.old.items ++ opening_head (Some come)) }
+{
+    push_pieces(
+        out,
+        &[
+            Piece::Html(b"<h2>Open the round</h2>\n<p>"),
+            Piece::Number(come as u64),
+            Piece::Html(
+                b" come into this round. What is chosen here is proposed, after the round before: ",
+            ),
+            Piece::Html(b"change what you like.</p>\n"),
+        ],
+    )
+}
+
+/// Adds that what the form has is proposed, and how many come into the round.
+fn push_head(out: &mut Vec<u8>, come: Option<u16>) -> Result<(), NoMemory>
+    ensures { OnOk result (out.new.items ≡ out.old.items ++ opening_head come) }
+{
+    match come {
+        Some(come) => push_come(out, come),
+        None => out.extend_from_slice(
+            b"<h2>Open the round</h2>\n<p>What is chosen here is proposed: \
+change what you like.</p>\n",
+        ),
+    }
+}
+
+/// Adds the form that opens a round, with what is proposed for it.
 pub(crate) fn push_opening(
     out: &mut Vec<u8>,
     token: &[u8],
     form: FormId,
     id: RoundId,
+    proposal: Proposal,
 ) -> Result<(), NoMemory>
-    ensures { OnOk result (out.new.items ≡ out.old.items ++ opening token.now form id) }
+    ensures { OnOk result (out.new.items ≡ out.old.items ++ opening token.now form id proposal) }
 {
     let back = path_of(*out.allocator(), id)?;
-    out.extend_from_slice(b"<h2>Open the round</h2>\n")?;
+    push_head(out, proposal.come)?;
     push_form(out, token, form, b"OPEN", &back)?;
     push_round_value(out, id)?;
-    push_fields(out, id.event)?;
+    push_fields(out, id.event, proposal)?;
     push_button(out, b"Open the round")
 }

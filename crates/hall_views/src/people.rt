@@ -7,7 +7,7 @@ ghost use Rattle.hall_views.specs.People.{competitor_in, competitor_line, compet
 ghost use Rattle.hall_views.specs.People.{competitors, IsProposed};
 ghost use Rattle.hall_views.specs.People.{entering, entered_if, entered_in, event_word};
 ghost use Rattle.hall_views.specs.People.{open_choice, open_if, registering, IsPeoplePage};
-ghost use Rattle.hall_views.specs.People.{IsSection};
+ghost use Rattle.hall_views.specs.People.{section_start, IsSection};
 
 use crate::forms::{digits_of, id_at, push_button, push_choice, push_form, push_text_field};
 use acceptor::NoMemory;
@@ -202,12 +202,23 @@ fn push_entering(out: &mut Vec<u8>, meet: &Meet, token: &[u8], form: FormId) -> 
     push_button(out, b"Enter")
 }
 
+/// Adds a link to the page that takes a file.
+#[tactic(auto, unfolding(crate::specs::People::section_start))]
+fn push_section_start(out: &mut Vec<u8>) -> Result<(), NoMemory>
+    ensures { OnOk result (out.new.items ≡ out.old.items ++ section_start) }
+{
+    out.extend_from_slice(
+        b"<section><h1>Competitors</h1>\n<p><a href=\"/import\">\
+From a competition's file or from lines</a></p>\n",
+    )
+}
+
 /// Adds the section of competitors.
 fn push_section(out: &mut Vec<u8>, around: &Around<'_>) -> Result<(), NoMemory>
     ensures { OnOk result (Adds out.old.items out.new.items (IsSection around.entry.now)) }
 {
     let meet = around.mirror.meet();
-    out.extend_from_slice(b"<section><h1>Competitors</h1>\n")?;
+    push_section_start(out)?;
     push_registering(out, around.token, id_at(around.ids, 0), free_number(meet))?;
     push_entering(out, meet, around.token, id_at(around.ids, 1))?;
     out.extend_from_slice(

@@ -1,7 +1,7 @@
-//! The page of a form that asks for no command.
+//! The pages of a form that asks for no command.
 
 ghost use Rattle.std.specs.Prelude.{◌≡◌, ◌++◌, IfOk, OnOk};
-ghost use Rattle.hall_views.specs.Refused.{refusal, refused_page};
+ghost use Rattle.hall_views.specs.Refused.{faults, faults_page, refusal, refused_page};
 
 use acceptor::NoMemory;
 use markup::{Piece, push_pieces};
@@ -42,6 +42,45 @@ pub fn refused_page(
         b"Not sent",
     )?;
     push_refusal(&mut page, back, why)?;
+    push_bottom(&mut page)?;
+    Ok(page)
+}
+
+/// Adds why, in several lines, with a link back.
+fn push_faults<'a>(out: &mut Vec<u8>, back: &'a [u8], lines: &'a [u8]) -> Result<(), NoMemory>
+    ensures { OnOk result (out.new.items ≡ out.old.items ++ faults back.now lines.now) }
+{
+    push_pieces(
+        out,
+        &[
+            Piece::Html(b"<section><h1>Not entered</h1>\n<pre role=\"alert\">"),
+            Piece::Text(lines),
+            Piece::Html(b"</pre>\n<p><a href=\""),
+            Piece::Text(back),
+            Piece::Html(b"\">Back to the form</a></p></section>\n"),
+        ],
+    )
+}
+
+/// The page that says in several lines why nothing of a file or of lines can be entered, with a
+/// link back to the page of the form.
+pub fn faults_page(
+    alloc: Global,
+    around: &Around<'_>,
+    back: &[u8],
+    faults: &[u8],
+) -> Result<Vec<u8>, NoMemory>
+    ensures { IfOk result (λ page. page.items ≡ faults_page around.entry.now back.now faults.now) }
+{
+    let mut page = Vec::new(alloc);
+    push_top(
+        &mut page,
+        around.desks,
+        around.mirror.len(),
+        b"hall",
+        b"Not entered",
+    )?;
+    push_faults(&mut page, back, faults)?;
     push_bottom(&mut page)?;
     Ok(page)
 }

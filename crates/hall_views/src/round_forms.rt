@@ -1,19 +1,22 @@
 //! The page that opens and closes rounds.
 
-ghost use Rattle.std.specs.Prelude.{◌≡◌, ◌++◌, IfOk, OnOk, flat_map, option_map};
+ghost use Rattle.std.specs.Prelude.{◌≡◌, ◌++◌, IfOk, OnOk, flat_map, get_or, option_map};
 ghost use Rattle.commands.specs.Accepted.{is_final, leads_on, round_by};
 ghost use Rattle.table_views.specs.Logs.{accepted_in};
+ghost use Rattle.hall_views.specs.Opening.{opening};
+ghost use Rattle.hall_views.specs.Proposal.{proposed};
 ghost use Rattle.hall_views.specs.Rounds.{all_section, closed_forms, edition_section, event_head};
 ghost use Rattle.hall_views.specs.Rounds.{event_row, forms_if, inside, is_next, link_if, link_rest};
 ghost use Rattle.hall_views.specs.Rounds.{next_link, opened_forms, round_head, round_link};
 ghost use Rattle.hall_views.specs.Rounds.{round_section, rounds_page, state_of, state_words};
-ghost use Rattle.hall_views.specs.Rounds.{after, closed_or_open_forms, edition_form, link};
-ghost use Rattle.hall_views.specs.Rounds.{link_in, link_to_next, row_of, running_forms};
-ghost use Rattle.hall_views.specs.Rounds.{unopened_forms};
+ghost use Rattle.hall_views.specs.Rounds.{called, closed_or_open_forms, edition_form, link};
+ghost use Rattle.hall_views.specs.Rounds.{link_after, link_in, link_to_next, numbered, row_of};
+ghost use Rattle.hall_views.specs.Rounds.{running_forms, unopened_forms};
 
 use crate::closing::{push_open_round, push_through};
 use crate::forms::{id_at, push_button, push_form, push_unseen};
 use crate::opening::push_opening;
+use crate::proposal::proposed;
 use crate::scrambles::push_scrambles;
 use acceptor::NoMemory;
 use card_forms::FormId;
@@ -21,7 +24,7 @@ use commands::Meet;
 use formats::{Advance, Event, LAST_ROUND};
 use markup::{Piece, push_pieces};
 use round_counts::{Opened, round_opened};
-use round_words::{event_words, push_round_name, push_settings};
+use round_words::{event_words, push_round_name, push_round_words, push_settings};
 use std::alloc::Global;
 use table_views::{Around, push_bottom, push_recent, push_top};
 use texts::RoundId;
@@ -235,20 +238,6 @@ fn push_all(out: &mut Vec<u8>, around: &Around<'_>) -> Result<(), NoMemory>
     out.extend_from_slice(b"</section>\n")
 }
 
-/// The round after a round of an event, which has at most four.
-fn after(id: RoundId) -> RoundId
-    ensures { result ≡ after id }
-{
-    RoundId {
-        event: id.event,
-        round: if id.round <= LAST_ROUND {
-            id.round + 1
-        } else {
-            LAST_ROUND + 1
-        },
-    }
-}
-
 /// Adds a link to the forms of a round that is to be opened next.
 fn push_link_to_next(out: &mut Vec<u8>, next: RoundId) -> Result<(), NoMemory>
     ensures { OnOk result (out.new.items ≡ out.old.items ++ link_to_next next) }
@@ -258,13 +247,29 @@ fn push_link_to_next(out: &mut Vec<u8>, next: RoundId) -> Result<(), NoMemory>
     out.extend_from_slice(b"\">Open the next round</a></p>\n")
 }
 
+/// Adds a link to the forms of the next round, unless this one is the last that an event can have.
+fn push_link_after(out: &mut Vec<u8>, id: RoundId) -> Result<(), NoMemory>
+    ensures { OnOk result (out.new.items ≡ out.old.items ++ link_after id) }
+{
+    if id.round >= LAST_ROUND {
+        return Ok(());
+    }
+    push_link_to_next(
+        out,
+        RoundId {
+            event: id.event,
+            round: id.round + 1,
+        },
+    )
+}
+
 /// Adds a link to the forms of the next round, unless this one is the final.
 fn push_next(out: &mut Vec<u8>, id: RoundId, advance: Advance) -> Result<(), NoMemory>
     ensures { OnOk result (out.new.items ≡ out.old.items ++ next_link id advance) }
 {
     match advance {
         Advance::Final => Ok(()),
-        Advance::Top(_) | Advance::Percent(_) => push_link_to_next(out, after(id)),
+        Advance::Top(_) | Advance::Percent(_) => push_link_after(out, id),
     }
 }
 
@@ -331,12 +336,22 @@ fn push_opened(
     push_closed_or_open(out, around, id, round)
 }
 
+/// Adds the form that opens a round, with what is proposed for it.
+fn push_proposed(out: &mut Vec<u8>, around: &Around<'_>, id: RoundId) -> Result<(), NoMemory>
+    ensures { OnOk result (out.new.items ≡ out.old.items ++ opening around.entry.now.token.now
+        (get_or around.entry.now.ids.now 0 0) id
+        (proposed (accepted_in around.entry.now.mirror.now) id)) }
+{
+    let proposal = proposed(*out.allocator(), around.mirror.meet(), id)?;
+    push_opening(out, around.token, id_at(around.ids, 0), id, proposal)
+}
+
 /// Adds the form that opens a round, or why there is none.
 fn push_unopened(out: &mut Vec<u8>, around: &Around<'_>, id: RoundId) -> Result<(), NoMemory>
     ensures { OnOk result (out.new.items ≡ out.old.items ++ unopened_forms around.entry.now id) }
 {
     if is_next(around.mirror.meet(), id) {
-        push_opening(out, around.token, id_at(around.ids, 0), id)
+        push_proposed(out, around, id)
     } else {
         out.extend_from_slice(b"<p>The round before it is not closed, or is the final.</p>\n")
     }
@@ -353,26 +368,44 @@ fn push_forms(out: &mut Vec<u8>, around: &Around<'_>, id: RoundId) -> Result<(),
     }
 }
 
-fn push_round_head(out: &mut Vec<u8>, id: RoundId) -> Result<(), NoMemory>
-    ensures { OnOk result (out.new.items ≡ out.old.items ++ round_head id) }
+fn push_numbered(out: &mut Vec<u8>, id: RoundId) -> Result<(), NoMemory>
+    ensures { OnOk result (out.new.items ≡ out.old.items ++ numbered id) }
 {
     push_pieces(
         out,
         &[
-            Piece::Html(b"<section><h1>"),
             Piece::Html(event_words(id.event).as_bytes()),
             Piece::Html(b", Round "),
             Piece::Number(id.round as u64),
-            Piece::Html(b"</h1>\n<p><a href=\"/card/"),
         ],
     )
+}
+
+/// Adds what a round is called: by its number, until it is opened.
+fn push_called(out: &mut Vec<u8>, id: RoundId, round: Option<Opened<'_>>) -> Result<(), NoMemory>
+    ensures { OnOk result (out.new.items ≡ out.old.items ++ called id
+        (option_map (λ r. (r.settings, r.table.now)) round.entry)) }
+{
+    match round {
+        Some(round) => push_round_words(out, id, round.settings.advance),
+        None => push_numbered(out, id),
+    }
+}
+
+fn push_round_head(out: &mut Vec<u8>, meet: &Meet, id: RoundId) -> Result<(), NoMemory>
+    ensures { OnOk result (out.new.items
+        ≡ out.old.items ++ round_head id (round_by meet.now.accepted id)) }
+{
+    out.extend_from_slice(b"<section><h1>")?;
+    push_called(out, id, round_opened(meet, id))?;
+    out.extend_from_slice(b"</h1>\n<p><a href=\"/card/")
 }
 
 /// Adds the section of a round.
 fn push_round(out: &mut Vec<u8>, around: &Around<'_>, id: RoundId) -> Result<(), NoMemory>
     ensures { OnOk result (out.new.items ≡ out.old.items ++ round_section around.entry.now id) }
 {
-    push_round_head(out, id)?;
+    push_round_head(out, around.mirror.meet(), id)?;
     push_round_name(out, id)?;
     out.extend_from_slice(b"\">its cards</a></p>\n")?;
     push_forms(out, around, id)?;

@@ -45,26 +45,48 @@ Exit status: 2 invalid arguments, or help or the version; 3 FILE describes no ha
 is damaged; 4 an invalid address, the journal cannot be used, cannot listen, cannot go on, or two
 desks told different entries; 5 no memory. Standard error gets a line that says why.";
 
-/// The program, as the parser knows it.
-fn command<'a>(alloc: Global) -> Result<Command<'a>, AllocError> {
-    let command = Command::new(alloc, PROGRAM)
+/// The program without its options, as the parser knows it.
+fn plain_command<'a>(alloc: Global) -> Command<'a> {
+    Command::new(alloc, PROGRAM)
         .about(ABOUT)
         .version(VERSION)
-        .after_help(AFTER);
-    let command = with_desks(alloc, command)?;
+        .after_help(AFTER)
+}
+
+/// The option where browsers find it.
+fn listen_option<'a>(alloc: Global) -> Arg<'a> {
     let help = "Where browsers find the score table, as 127.0.0.1:8081";
-    let listen = option(alloc, "listen", "ADDR", help, ValueParser::string());
-    let command = command.arg(listen.required(true))?;
+    option(alloc, "listen", "ADDR", help, ValueParser::string()).required(true)
+}
+
+/// The option of the title.
+fn title_option<'a>(alloc: Global) -> Arg<'a> {
     let help = "The title of the sheets on paper; without this option Results";
-    let command = command.arg(option(alloc, "title", "TEXT", help, ValueParser::string()))?;
+    option(alloc, "title", "TEXT", help, ValueParser::string())
+}
+
+/// The option of the journal.
+fn journal_option<'a>(alloc: Global) -> Arg<'a> {
     let help = "The file that keeps what was entered; without this option scoretable.journal";
-    let command = command.arg(option(alloc, "journal", "FILE", help, ValueParser::string()))?;
+    option(alloc, "journal", "FILE", help, ValueParser::string())
+}
+
+/// The option that opens it to a network.
+fn open_option<'a>(alloc: Global) -> Arg<'a> {
     let help = "Lets ADDR be one that other machines reach";
-    let open = Arg::new(alloc, "open-network")
+    Arg::new(alloc, "open-network")
         .long("open-network")
         .help(help)
-        .action(ArgAction::SetTrue);
-    command.arg(open)
+        .action(ArgAction::SetTrue)
+}
+
+/// The program, as the parser knows it.
+fn command<'a>(alloc: Global) -> Result<Command<'a>, AllocError> {
+    with_desks(alloc, plain_command(alloc))?
+        .arg(listen_option(alloc))?
+        .arg(title_option(alloc))?
+        .arg(journal_option(alloc))?
+        .arg(open_option(alloc))
 }
 
 /// Why the arguments give no order.

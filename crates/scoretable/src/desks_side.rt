@@ -5,9 +5,9 @@ ghost use Rattle.wire.specs.Ranges.{IsDesk};
 
 use crate::journal_file::JournalFile;
 use crate::sending::Sending;
-use crate::surveys::{Surveys, stream_of};
 use card_queue::Stepped;
 use desk_sockets::{DeskStream, Kept};
+use hall_standings::{AskedDesks, stream_to};
 use mio::Registry;
 use mirroring::Stage;
 use std::alloc::Global;
@@ -46,13 +46,22 @@ pub struct DesksSide<'a> {
     alloc: Global,
     stream: DeskStream<'a, HostRuntime>,
     sending: Sending<'a, HostRuntime>,
-    surveys: Surveys<'a, HostRuntime>,
+    asked: AskedDesks<'a, HostRuntime>,
     /// Whether the mirror had all that a desk's log had, since the start.
     caught_up: bool,
     /// When the desk that is followed answered last.
     answered_at: u64,
     /// When the desk was asked at once for what comes next.
     hurried_at: u64,
+}
+
+/// Does all that can be done now for the desks that are asked how they stand.
+fn keep_asked(asked: &mut AskedDesks<'_, HostRuntime>, now: u64) {
+    for place in 0..asked.streams.len() {
+        if let Some(stream) = asked.streams.get_mut(place) {
+            asked.desks.keep(place, stream, now);
+        }
+    }
 }
 
 /// Nothing is on its way to the desks at these addresses.
@@ -63,7 +72,7 @@ fn sending_of<'a>(
     desks: &[Option<SocketAddr>],
 ) -> io::Result<Sending<'a, HostRuntime>> {
     let alloc = rt.alloc();
-    let stream = stream_of(rt, alloc, registry, 1, desks)?;
+    let stream = stream_to(rt, alloc, registry, 1, desks)?;
     let submission = Submission::new(alloc, hall, 1);
     Ok(Sending::new(submission, stream, count_of(desks.len())))
 }
@@ -77,14 +86,14 @@ impl<'a> DesksSide<'a> {
         desks: &[Option<SocketAddr>],
     ) -> io::Result<DesksSide<'a>> {
         let alloc = rt.alloc();
-        let surveys = Surveys::new(rt, alloc, registry, hall, desks)?;
-        let stream = stream_of(rt, alloc, registry, 0, desks)?;
+        let asked = AskedDesks::new(rt, alloc, registry, hall, desks)?;
+        let stream = stream_to(rt, alloc, registry, 0, desks)?;
         let sending = sending_of(rt, registry, hall, desks)?;
         Ok(DesksSide {
             alloc,
             stream,
             sending,
-            surveys,
+            asked,
             caught_up: false,
             answered_at: 0,
             hurried_at: 0,
@@ -109,7 +118,7 @@ impl<'a> DesksSide<'a> {
         }
         self.note_answer(service.mirroring().stage(), now);
         let log = service.mirroring().mirror().log();
-        self.sending.forget_decided(log);
+        self.sending.forget_decided(log, now);
         true
     }
 
@@ -148,9 +157,9 @@ impl<'a> DesksSide<'a> {
 
     /// How the desks are doing.
     fn desks(&self, service: &TableService<JournalFile>, now: u64) -> io::Result<Desks> {
-        let lengths = self.surveys.lengths(self.alloc)?;
+        let lengths = self.asked.desks.lengths(self.alloc)?;
         let undecided = match service.queue().sent_since() {
-            Some(since) => Some(now.saturating_sub(since)),
+            Some(since) => Some(now.saturating_sub(self.sending.still_since(since))),
             None => None,
         };
         Ok(Desks {
@@ -177,7 +186,7 @@ impl<'a> DesksSide<'a> {
 
     /// Does all that can be done now. False: the hall is broken.
     pub fn keep(&mut self, service: &mut TableService<JournalFile>, now: u64) -> io::Result<bool> {
-        self.surveys.keep(now);
+        keep_asked(&mut self.asked, now);
         if !self.keep_mirror(service, now) {
             return Ok(false);
         }
@@ -197,7 +206,7 @@ impl<'a> DesksSide<'a> {
             .mirroring()
             .wait(now)
             .min(self.sending.wait(now))
-            .min(self.surveys.wait(now));
+            .min(self.asked.desks.wait(now));
         if self.sending.is_taken() {
             wait.min(HURRY)
         } else {

@@ -7,14 +7,11 @@ use std::io;
 use std::io::{Error, ErrorKind};
 use std::random::RandomSource;
 
-/// So many ids of forms there are: 1 to 2^63 - 32.
-const IDS: u64 = 9_223_372_036_854_775_776;
-
 /// The id of a form: 63 random bits, in its range.
 fn drawn_id<R: RandomSource>(source: &R) -> io::Result<FormId> {
     let mut bytes = [0; 8];
     source.fill_bytes(&mut bytes)?;
-    let number = u64::from_le_bytes(bytes) % IDS + 1;
+    let number = u64::from_le_bytes(bytes) % FormId::MOST + 1;
     FormId::new(number).ok_or(Error::from(ErrorKind::InvalidData))
 }
 

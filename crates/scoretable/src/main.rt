@@ -9,7 +9,6 @@ mod hosts;
 mod journal_file;
 mod sending;
 mod serving;
-mod surveys;
 
 use arguments::{run_given, tell_no_arguments};
 use command_line::given;

@@ -25,6 +25,8 @@ pub struct Sending<'a, R> {
     /// The desk that entries are submitted at, and since when.
     aim: u8,
     aimed_at: u64,
+    /// When something on its way was decided last.
+    moved_at: u64,
     /// How many entries of the mirror's log were looked through.
     seen: u32,
     ghost in_range: { IsDesk desks × IsDesk aim },
@@ -85,6 +87,7 @@ impl<'a, R: Net> Sending<'a, R> {
             followed: 1,
             aim: 1,
             aimed_at: 0,
+            moved_at: 0,
             seen: 0,
         }
     }
@@ -98,18 +101,24 @@ impl<'a, R: Net> Sending<'a, R> {
         self.submission.aim(desk);
     }
 
-    /// Goes on to the next desk, where what is on its way since this time is not decided in five
-    /// seconds.
+    /// Since when nothing is decided of what is on its way since this time.
+    pub fn still_since(&self, since: u64) -> u64 {
+        since.max(self.moved_at)
+    }
+
+    /// Goes on to the next desk, where nothing is decided for five seconds of what is on its way
+    /// since this time.
     fn go_on(&mut self, since: u64, now: u64) {
-        if now.saturating_sub(since.max(self.aimed_at)) >= PATIENCE {
+        let still = self.still_since(since).max(self.aimed_at);
+        if now.saturating_sub(still) >= PATIENCE {
             let next = next_of(self.aim, self.desks);
             self.aim_at(next, now);
         }
     }
 
     /// Goes on to the desk that the mirror follows, 1 to 5, where it is another one than before;
-    /// and to the next desk, where what is on its way since that time is not decided in five
-    /// seconds.
+    /// and to the next desk, where nothing is decided for five seconds of what is on its way since
+    /// that time.
     pub fn follow(&mut self, desk: u8, sent: Option<u64>, now: u64)
         requires { IsDesk desk }
     {
@@ -125,9 +134,13 @@ impl<'a, R: Net> Sending<'a, R> {
     }
 
     /// Forgets what stands in the hall's log.
-    pub fn forget_decided(&mut self, log: &Log) {
+    pub fn forget_decided(&mut self, log: &Log, now: u64) {
+        let before = self.submission.entries().len();
         forget_from(&mut self.submission, log, self.seen);
         self.seen = log.len();
+        if self.submission.entries().len() < before {
+            self.moved_at = now;
+        }
     }
 
     /// Submits these entries, in order, after those that are on their way.

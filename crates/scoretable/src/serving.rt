@@ -18,14 +18,18 @@ use std::io::Write;
 use std::net::SocketAddr;
 use table_service::{Setup, TableService};
 
-/// The most browsers whose connections are open at once.
-pub const MOST_BROWSERS: usize = 200;
+/// The most browsers whose connections are open at once. With the longest bodies they take half a
+/// GiB.
+pub const MOST_BROWSERS: usize = 64;
 
 /// How long a browser is waited for, in milliseconds.
 const PATIENCE: u64 = 10_000;
 
-/// The most bytes of a request's head, and of its body.
-const LONGEST_REQUEST: usize = 16_384;
+/// The most bytes of a request's head.
+const LONGEST_HEAD: usize = 16_384;
+
+/// The most bytes of a request's body, 8 MiB: a competition's file with a thousand persons.
+const LONGEST_BODY: usize = 8_388_608;
 
 /// What the score table is to do.
 #[derive(Drop)]
@@ -50,8 +54,8 @@ pub enum End {
 /// How browsers are served.
 fn terms() -> Terms {
     let mut config = Config::default();
-    config.limits.max_head_len = LONGEST_REQUEST;
-    config.max_body_len = LONGEST_REQUEST;
+    config.limits.max_head_len = LONGEST_HEAD;
+    config.max_body_len = LONGEST_BODY;
     Terms {
         most: MOST_BROWSERS,
         patience: PATIENCE,

@@ -1,2 +1,4 @@
+pub mod Looked
+pub mod Pairs
 pub mod Walks
 pub mod Planned

@@ -6,6 +6,7 @@ use Rattle.std.proofs.lemmas.List.{append-nil}
 use Rattle.std.proofs.lemmas.Slice.Eq.{bytes_eq-Decides}
 use Rattle.std.specs.Prelude.{IfOk}
 use Rattle.std.specs.declared.alloc.AllocError.{AllocError}
+use Rattle.acceptor.specs.declared.entry.Entry.{Entry}
 use Rattle.http.specs.declared.request.Request.{Request}
 use Rattle.http1.specs.Fields.{Header}
 use Rattle.http_server.specs.declared.response.Response.{Response}
@@ -21,6 +22,9 @@ use Rattle.card_forms.specs.Cards.{card_form_of, form_id_of}
 use Rattle.card_forms.specs.Items.{id_of}
 use Rattle.card_forms.specs.Pairs.{value_of}
 use Rattle.card_queue.specs.Queues.{QueueOf, found_in, is_full}
+use Rattle.form_data.specs.Bodies.{parts_of}
+use Rattle.wcif.specs.Lines as printed
+use Rattle.command_lists.specs.Lists.{texts_in}
 use Rattle.table_views.specs.declared.around.Around.{Around}
 use Rattle.table_service.specs.declared.checks.Checked.{Checked}
 use Rattle.table_service.specs.declared.plan.Effect.{Effect}
@@ -36,12 +40,17 @@ use Rattle.table_service.specs.declared.reading.Asked.TheVariants as asked
 use Rattle.table_service.specs.Asked.{asked_at}
 use Rattle.table_service.specs.Gate.{has_token, is_own}
 use Rattle.table_service.specs.Laws.{Asks, AsksFor, IsQueued, IsSecured}
-use Rattle.table_service.specs.Plans.{GoesTo, PlansAt, PlansBy}
-use Rattle.table_service.specs.Plans.{PlansChecked, PlansCommand, PlansForm, PlansKnown, PlansOwn}
-use Rattle.table_service.specs.Plans.{PlansPosted, PlansText, ShowsAs, ShowsView, is_held}
+use Rattle.table_service.specs.Imports.{PlansBody, PlansCarried, PlansPartsIf, boundary_in}
+use Rattle.table_service.specs.Imports.{content_of}
+use Rattle.table_service.specs.Lists.{LooksAt, PlansAsked, PlansLines, PlansListFor, PlansListOf}
+use Rattle.table_service.specs.Lists.{would_be_done}
+use Rattle.table_service.specs.Plans.{GoesTo, PlansChecked, PlansCommand, PlansForm, PlansKnown}
+use Rattle.table_service.specs.Plans.{PlansText, ShowsAs, ShowsView, is_held}
 use Rattle.table_service.specs.Plans.{card_place, is_sure, page_after, refuses, shows}
 use Rattle.table_service.specs.Replies.{Writes, fields_with, security}
 use Rattle.table_service.specs.Requests.{is_post, is_read, path_of, query_of, sent_pairs}
+use Rattle.table_service.specs.Sent.{PlansAt, PlansAtLines, PlansBy, PlansFormAt, PlansOwn}
+use Rattle.table_service.specs.Sent.{PlansPosted}
 use Rattle.table_service.specs.Services.{Answers, DoesAs, IsAround, Plans, PlansAround, PlansIf}
 use Rattle.table_service.specs.Services.{PlansWith, ServiceOf}
 
@@ -74,35 +83,37 @@ module _ (plan : Plan) (one : Item) (takes : plan.effect ≡ effect.Take one) wh
   not_page status None is = not_refused problem.NotFound is
   not_page status (Some text) is = not_ids is.1
 
-  not_view : (around : Around) (title : List ℕ) (what : Option Asked)
-      → ShowsView around title what plan → ⊥
-  not_view around title None is = not_refused problem.NotFound is
-  not_view around title (Some asked.Style) is = not_shown reply.Style is
-  not_view around title (Some asked.Script) is = not_shown reply.Script is
-  not_view around title (Some (asked.Page view)) is = not_page _ is.0 is.2
+  not_view : (q : QueueOf) (around : Around) (title : List ℕ) (what : Option Asked)
+      → ShowsView q around title what plan → ⊥
+  not_view q around title None is = not_refused problem.NotFound is
+  not_view q around title (Some asked.Style) is = not_shown reply.Style is
+  not_view q around title (Some asked.Script) is = not_shown reply.Script is
+  not_view q around title (Some (asked.Page view)) is = not_page _ is.0 is.2
 
   -- what the pairs at a path ask for, and that it is new and there is room
-  abbrev FoundAs : QueueOf → List Pair → List ℕ → Item → Type 0
-  FoundAs q pairs path it =
-      AsksFor path pairs it × (found_in q (id_of it) ≡ None) × (is_full q ≡ false)
+  abbrev FoundAs : List Entry → QueueOf → List Pair → List ℕ → Item → Type 0
+  FoundAs log q pairs path it =
+      AsksFor log path pairs it × (found_in q (id_of it) ≡ None) × (is_full q ≡ false)
       × GoesOn plan.reply
 
   module _ (around : Around) (q : QueueOf) (pairs : List Pair) (path : List ℕ) where
+    abbrev Found : Type 0
+    Found = FoundAs around.mirror.now q pairs path one
+
     card_checked : (form : CardForm) → path ≡ codes "/card" → card_form_of pairs ≡ Ok form
         → found_in q form.id ≡ None → is_full q ≡ false → (checked : Checked) (held : Bool)
-        → PlansChecked around form checked held plan → FoundAs q pairs path one
+        → PlansChecked q around form checked held plan → Found
     card_checked form at is unknown room checked true holds =
         absurd (not_page _ holds.page holds.shows)
     card_checked form at is unknown room checked false sends =
         let both : effect.Take (item.Card form) ≡ effect.Take one = sym sends.1 ∙ takes in
         let same : item.Card form ≡ one = cc in
-        subst (λ (it : Item). FoundAs q pairs path it) same
+        subst (λ (it : Item). FoundAs around.mirror.now q pairs path it) same
         ((at, is), unknown, room, (card_place form, sends.0))
 
     card_known : (form : CardForm) → path ≡ codes "/card" → card_form_of pairs ≡ Ok form
         → (sure : Bool) (state : Option State) → found_in q form.id ≡ state → (full : Bool)
-        → is_full q ≡ full → PlansKnown around form sure state full plan
-        → FoundAs q pairs path one
+        → is_full q ≡ full → PlansKnown q around form sure state full plan → Found
     card_known form at is sure (Some state) known full room plans = absurd (not_nothing plans.1)
     card_known form at is sure None unknown true room plans =
         absurd (not_refused problem.Busy plans)
@@ -110,7 +121,7 @@ module _ (plan : Plan) (one : Item) (takes : plan.effect ≡ effect.Take one) wh
         card_checked form at is unknown room plans.0 (is_held sure plans.0) plans.2
 
     card_form : path ≡ codes "/card" → (sure : Bool) (r : Result CardForm CardFormFault)
-        → card_form_of pairs ≡ r → PlansForm around q sure r plan → FoundAs q pairs path one
+        → card_form_of pairs ≡ r → PlansForm around q sure r plan → Found
     card_form at sure (Err why) is plans = absurd (not_refused problem.BadForm plans)
     card_form at sure (Ok form) is plans =
         card_known form at is sure (found_in q form.id) refl (is_full q) refl plans
@@ -118,40 +129,93 @@ module _ (plan : Plan) (one : Item) (takes : plan.effect ≡ effect.Take one) wh
     command_text : (id : ℕ) (text back : List ℕ) → path ≡ codes "/command"
         → form_id_of (value_of (codes "id") pairs) ≡ Some id → IsCommandText text
         → (state : Option State) → found_in q id ≡ state → (full : Bool) → is_full q ≡ full
-        → PlansText id text back state full plan → FoundAs q pairs path one
+        → PlansText id text back state full plan → Found
     command_text id text back at is fit (Some state) known full room plans =
         absurd (not_nothing plans.1)
     command_text id text back at is fit None unknown true room plans =
         absurd (not_refused problem.Busy plans)
     command_text id text back at is fit None unknown false room sends =
-        let both : effect.Take (item.Command id text) ≡ effect.Take one = sym sends.1 ∙ takes in
-        let same : item.Command id text ≡ one = cc in
-        subst (λ (it : Item). FoundAs q pairs path it) same
-        ((at, is, fit), unknown, room, (back, sends.0))
+        let both : effect.Take (item.Commands id (text ∷ [])) ≡ effect.Take one =
+        sym sends.1 ∙ takes in
+        let same : item.Commands id (text ∷ []) ≡ one = cc in
+        subst (λ (it : Item). FoundAs around.mirror.now q pairs path it) same
+        ((is, inl (at, (text, fit, refl))), unknown, room, (back, sends.0))
 
-    command_asked : path ≡ codes "/command" → PlansCommand around q pairs plan
-        → FoundAs q pairs path one
+    command_asked : path ≡ codes "/command" → PlansCommand around q pairs plan → Found
     command_asked at (inl refused) = absurd (not_refused problem.BadForm refused)
     command_asked at (inr (inl wrong)) = absurd (not_ids wrong.1.1)
     command_asked at (inr (inr asks)) =
         command_text asks.id asks.text (page_after pairs) at asks.named asks.fit
         (found_in q asks.id) refl (is_full q) refl asks.plans
 
+    -- by whether the commands of the lines would be accepted
+    texts_done : (id : ℕ) (texts : List (List ℕ)) → path ≡ codes "/commands"
+        → form_id_of (value_of (codes "id") pairs) ≡ Some id
+        → texts_in (value_of (codes "lines") pairs) ≡ Some texts → found_in q id ≡ None
+        → is_full q ≡ false → (done : Bool) → would_be_done around.mirror.now id texts ≡ done
+        → PlansAsked around pairs id texts done plan → Found
+    texts_done id texts at is are unknown room false so wrong = absurd (not_ids wrong.1.1)
+    texts_done id texts at is are unknown room true so sends =
+        let both : effect.Take (item.Commands id texts) ≡ effect.Take one =
+        sym sends.1 ∙ takes in
+        let same : item.Commands id texts ≡ one = cc in
+        subst (λ (it : Item). FoundAs around.mirror.now q pairs path it) same
+        ((is, inr (at, (are, so))), unknown, room, (page_after pairs, sends.0))
+
+    lines_asked : (id : ℕ) → path ≡ codes "/commands"
+        → form_id_of (value_of (codes "id") pairs) ≡ Some id → found_in q id ≡ None
+        → is_full q ≡ false → PlansLines around pairs id plan → Found
+    lines_asked id at is unknown room (inl unfit) = absurd (not_ids unfit.1.1.1)
+    lines_asked id at is unknown room (inr asks) =
+        texts_done id asks.texts at is asks.are unknown room
+        (would_be_done around.mirror.now id asks.texts) refl asks.plans
+
+    list_known : (id : ℕ) → path ≡ codes "/commands"
+        → form_id_of (value_of (codes "id") pairs) ≡ Some id → (state : Option State)
+        → found_in q id ≡ state → (full : Bool) → is_full q ≡ full
+        → PlansListFor around pairs id state full plan → Found
+    list_known id at is (Some state) known full room plans = absurd (not_nothing plans.1)
+    list_known id at is None unknown true room plans =
+        absurd (not_refused problem.Busy plans)
+    list_known id at is None unknown false room plans =
+        lines_asked id at is unknown room plans
+
+    list_asked : path ≡ codes "/commands" → (id : Option ℕ)
+        → form_id_of (value_of (codes "id") pairs) ≡ id → PlansListOf around q pairs id plan
+        → Found
+    list_asked at None is plans = absurd (not_refused problem.BadForm plans)
+    list_asked at (Some id) is plans =
+        list_known id at is (found_in q id) refl (is_full q) refl plans
+
+    -- looking at lines takes nothing
+    not_looked : (lines : List ℕ) → LooksAt around lines plan → ⊥
+    not_looked lines (inl unfit) = not_ids unfit.1.1.1
+    not_looked lines (inr looked) = not_ids looked.2.shows.1
+
+    sent_lines : (commands lines : Bool) → bytes_eq path (codes "/commands") ≡ commands
+        → PlansAtLines around q pairs commands lines plan → Found
+    sent_lines true lines at plans =
+        list_asked ((bytes_eq-Decides path (codes "/commands")).0 at)
+        (form_id_of (value_of (codes "id") pairs)) refl plans
+    sent_lines false true at plans = absurd (not_looked _ plans)
+    sent_lines false false at plans = absurd (not_refused problem.Method plans)
+
     sent : (card command : Bool) → bytes_eq path (codes "/card") ≡ card
-        → bytes_eq path (codes "/command") ≡ command → PlansAt around q pairs card command plan
-        → FoundAs q pairs path one
+        → bytes_eq path (codes "/command") ≡ command
+        → PlansAt around q path pairs card command plan → Found
     sent true command at other plans =
         card_form ((bytes_eq-Decides path (codes "/card")).0 at) (is_sure pairs)
         (card_form_of pairs) refl plans
     sent false true other at plans =
         command_asked ((bytes_eq-Decides path (codes "/command")).0 at) plans
-    sent false false other another plans = absurd (not_refused problem.Method plans)
+    sent false false other another plans =
+        sent_lines (bytes_eq path (codes "/commands")) (bytes_eq path (codes "/lines")) refl plans
 
   module _ (s : ServiceOf) (request : Request (List ℕ)) where
     abbrev FoundForm : Type 0
     FoundForm =
         (has_token s.token (sent_pairs request) ≡ true)
-        × FoundAs s.queue (sent_pairs request) (path_of request) one
+        × FoundAs s.mirroring.entries s.queue (sent_pairs request) (path_of request) one
 
     abbrev FoundPost : Type 0
     FoundPost = (is_post request ≡ true) × FoundForm
@@ -163,20 +227,48 @@ module _ (plan : Plan) (one : Item) (takes : plan.effect ≡ effect.Take one) wh
     posted set around is false not-so plans = absurd (not_refused problem.Foreign plans)
     posted set around is true so plans = (
       subst (λ (t : List ℕ). has_token t (sent_pairs request) ≡ true) is.token so,
-      sent around s.queue (sent_pairs request) (path_of request)
+      subst
+          (λ (log : List Entry).
+          FoundAs log s.queue (sent_pairs request) (path_of request) one) is.mirror
+          (sent around s.queue (sent_pairs request) (path_of request)
           (bytes_eq (path_of request) (codes "/card"))
-          (bytes_eq (path_of request) (codes "/command")) refl refl plans,
+          (bytes_eq (path_of request) (codes "/command")) refl refl plans),
     )
+
+    -- a competition's file takes nothing
+    not_file : (around : Around) (parts : List (List ℕ × List ℕ)) (carries : Bool)
+        → PlansCarried around parts carries plan → ⊥
+    not_file around parts false plans = not_refused problem.Foreign plans
+    not_file around parts true (inl looks) =
+        not_looked around s.queue [] [] (printed.lines looks.0) looks.2
+    not_file around parts true (inr faults) = not_ids faults.3.1
+
+    not_parts : (around : Around) (parts : Option (List (List ℕ × List ℕ)))
+        → PlansPartsIf around parts plan → ⊥
+    not_parts around None plans = not_refused problem.BadForm plans
+    not_parts around (Some parts) plans =
+        not_file around parts (bytes_eq (content_of (codes "token") parts) around.token.now) plans
+
+    not_import : (around : Around) (boundary : Option (List ℕ))
+        → PlansBody around request.body boundary plan → ⊥
+    not_import around None plans = not_refused problem.BadForm plans
+    not_import around (Some boundary) plans =
+        not_parts around (parts_of boundary request.body) plans
+
+    by_form : (set : List ℕ) (around : Around) → IsAround s set around → (file : Bool)
+        → PlansFormAt around s.queue request file plan → FoundForm
+    by_form set around is true plans = absurd (not_import around (boundary_in request) plans)
+    by_form set around is false plans =
+        posted set around is (has_token around.token.now (sent_pairs request)) refl plans
 
     by_method : (set : List ℕ) (around : Around) → IsAround s set around → (read post : Bool)
         → is_post request ≡ post → PlansBy around s.title s.queue request read post plan
         → FoundPost
     by_method set around is true post so plans =
-        absurd (not_view around s.title (asked_at (path_of request) (query_of request)) plans)
-    by_method set around is false true so plans = (
-      so,
-      posted set around is (has_token around.token.now (sent_pairs request)) refl plans,
-    )
+        absurd
+        (not_view s.queue around s.title (asked_at (path_of request) (query_of request)) plans)
+    by_method set around is false true so plans =
+        (so, by_form set around is (bytes_eq (path_of request) (codes "/import")) plans)
     by_method set around is false false so plans = absurd (not_refused problem.Method plans)
 
     by_ids : (set : Option (List ℕ)) → PlansWith s request set plan → FoundPost

@@ -9,7 +9,8 @@ use Rattle.texts.specs.declared.command.RoundId.{RoundId}
 use Rattle.table_service.specs.declared.reading.Asked.{Asked}
 use Rattle.table_service.specs.declared.reading.Asked.TheVariants.{Page, Style, Script}
 use Rattle.table_service.specs.declared.reading.View.TheVariants.{Overview, Card, Wall}
-use Rattle.table_service.specs.declared.reading.View.TheVariants.{Scorecards, People, Rounds}
+use Rattle.table_service.specs.declared.reading.View.TheVariants.{Scorecards, People, Import}
+use Rattle.table_service.specs.declared.reading.View.TheVariants.{Rounds}
 
 -- the round of a path below a folder
 abbrev pub round_below : List ℕ → List ℕ → Option RoundId
@@ -22,6 +23,7 @@ abbrev pub fixed : List ℕ → Option Asked
 fixed path =
     if bytes_eq path (codes "/") then Some (Page Overview)
     else if bytes_eq path (codes "/people") then Some (Page People)
+    else if bytes_eq path (codes "/import") then Some (Page Import)
     else if bytes_eq path (codes "/table.css") then Some Style
     else if bytes_eq path (codes "/table.js") then Some Script
     else None

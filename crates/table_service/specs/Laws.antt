@@ -1,5 +1,6 @@
 -- What holds of each answer of the score table.
-use Rattle.std.specs.Prelude.{◌≡◌, ◌⊎◌, ℕ, ◌++◌, true, false, List, None, Some, Ok, codes}
+use Rattle.std.specs.Prelude.{◌≡◌, ◌⊎◌, ℕ, ◌++◌, ◌∷◌, [], true, false, List, None, Some, Ok, codes}
+use Rattle.acceptor.specs.declared.entry.Entry.{Entry}
 use Rattle.http.specs.declared.request.Request.{Request}
 use Rattle.http1.specs.Fields.{Header}
 use Rattle.http_server.specs.declared.response.Response.{Response}
@@ -12,8 +13,10 @@ use Rattle.card_forms.specs.Cards.{card_form_of, form_id_of}
 use Rattle.card_forms.specs.Items.{id_of}
 use Rattle.card_forms.specs.Pairs.{value_of}
 use Rattle.card_queue.specs.Queues.{found_in, is_full}
+use Rattle.command_lists.specs.Lists.{texts_in}
 use Rattle.table_service.specs.declared.plan.Problem.TheVariants as problem
 use Rattle.table_service.specs.Gate.{has_token, is_own}
+use Rattle.table_service.specs.Lists.{would_be_done}
 use Rattle.table_service.specs.Replies.{IsProblem, security}
 use Rattle.table_service.specs.Requests.{is_post, path_of, sent_pairs}
 use Rattle.table_service.specs.Services.{Answers, ServiceOf, with_item}
@@ -25,18 +28,29 @@ pub record IsForm (s : ServiceOf) (request : Request (List ℕ)) : Type 0 where
   pub method : is_post request ≡ true
   pub token : has_token s.token (sent_pairs request) ≡ true
 
+-- the command that a command's form asks for
+abbrev pub AsksForOne : List (List ℕ) → Type 0
+AsksForOne texts = (text : List ℕ) × IsCommandText text × (texts ≡ text ∷ [])
+
+-- the commands of the lines of a form, each of which would be accepted after the log
+abbrev pub AsksForAll : List Entry → List Pair → ℕ → List (List ℕ) → Type 0
+AsksForAll log pairs id texts =
+    (texts_in (value_of (codes "lines") pairs) ≡ Some texts) × (would_be_done log id texts ≡ true)
+
 -- the item that the pairs at a path ask for
-abbrev pub AsksFor : List ℕ → List Pair → Item → Type 0
-AsksFor path pairs (item.Card form) = (path ≡ codes "/card") × (card_form_of pairs ≡ Ok form)
-AsksFor path pairs (item.Command id text) =
-    (path ≡ codes "/command") × (form_id_of (value_of (codes "id") pairs) ≡ Some id)
-    × IsCommandText text
+abbrev pub AsksFor : List Entry → List ℕ → List Pair → Item → Type 0
+AsksFor log path pairs (item.Card form) =
+    (path ≡ codes "/card") × (card_form_of pairs ≡ Ok form)
+AsksFor log path pairs (item.Commands id texts) =
+    (form_id_of (value_of (codes "id") pairs) ≡ Some id)
+    × (((path ≡ codes "/command") × AsksForOne texts)
+    ⊎ ((path ≡ codes "/commands") × AsksForAll log pairs id texts))
 
 -- a form of one of the program's own pages asks for an item whose id is not known, and there is
 -- room for it
 pub record Asks (s : ServiceOf) (request : Request (List ℕ)) (one : Item) : Type 0 where
   pub form : IsForm s request
-  pub asked : AsksFor (path_of request) (sent_pairs request) one
+  pub asked : AsksFor s.mirroring.entries (path_of request) (sent_pairs request) one
   pub unknown : found_in s.queue (id_of one) ≡ None
   pub room : is_full s.queue ≡ false
 

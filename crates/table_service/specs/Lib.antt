@@ -1,9 +1,12 @@
 pub mod Gate
+pub mod Imports
 pub mod Requests
 pub mod Replies
 pub mod Asked
 pub mod Pages
 pub mod Checks
 pub mod Plans
+pub mod Sent
 pub mod Services
 pub mod Laws
+pub mod Lists

@@ -1,6 +1,6 @@
 -- What is to be done for a request, by what stands around a page.
 use Rattle.std.specs.Prelude.{◌≡◌, ◌⊎◌, ℕ, ◌&&◌, ◌||◌, not, Bool, true, false, if◌then◌else◌}
-use Rattle.std.specs.Prelude.{bytes_eq, nat_lt, codes, decimal, List, ◌++◌, length, is_some}
+use Rattle.std.specs.Prelude.{bytes_eq, nat_lt, codes, decimal, List, [], ◌∷◌, ◌++◌, length, is_some}
 use Rattle.std.specs.Prelude.{Option, None, Some, Result, Ok, Err}
 use Rattle.http.specs.declared.request.Request.{Request}
 use Rattle.formats.specs.Events.{event_name}
@@ -33,9 +33,8 @@ use Rattle.table_service.specs.declared.reading.Asked.{Asked}
 use Rattle.table_service.specs.declared.reading.Asked.TheVariants as asked
 use Rattle.table_service.specs.Asked.{asked_at, round_below}
 use Rattle.table_service.specs.Checks.{Checks}
-use Rattle.table_service.specs.Gate.{has_token}
 use Rattle.table_service.specs.Pages.{IsCard, IsPage}
-use Rattle.table_service.specs.Requests.{is_post, is_read, path_of, query_of, sent_pairs}
+use Rattle.table_service.specs.Requests.{path_of, query_of}
 
 -- ---- answers
 
@@ -72,17 +71,17 @@ Sends location what plan = GoesTo location plan.reply × (plan.effect ≡ what)
 
 -- ---- a request that only reads
 
-abbrev pub ShowsView : Around → List ℕ → Option Asked → Plan → Type 0
-ShowsView around title None plan = plan ≡ refuses problem.NotFound
-ShowsView around title (Some asked.Style) plan = plan ≡ shows reply.Style
-ShowsView around title (Some asked.Script) plan = plan ≡ shows reply.Script
-ShowsView around title (Some (asked.Page view)) plan =
-    (page : Option (List ℕ)) × IsPage around title view page × ShowsIf page plan
+abbrev pub ShowsView : QueueOf → Around → List ℕ → Option Asked → Plan → Type 0
+ShowsView q around title None plan = plan ≡ refuses problem.NotFound
+ShowsView q around title (Some asked.Style) plan = plan ≡ shows reply.Style
+ShowsView q around title (Some asked.Script) plan = plan ≡ shows reply.Script
+ShowsView q around title (Some (asked.Page view)) plan =
+    (page : Option (List ℕ)) × IsPage q around title view page × ShowsIf page plan
 
 -- what stands at the path
-abbrev pub PlansRead : Around → List ℕ → Request (List ℕ) → Plan → Type 0
-PlansRead around title request plan =
-    ShowsView around title (asked_at (path_of request) (query_of request)) plan
+abbrev pub PlansRead : QueueOf → Around → List ℕ → Request (List ℕ) → Plan → Type 0
+PlansRead q around title request plan =
+    ShowsView q around title (asked_at (path_of request) (query_of request)) plan
 
 -- ---- the form of a card
 
@@ -106,36 +105,36 @@ IsTyped form notes (draft.Typed typed with) = (typed.now ≡ form) × (with.now 
 IsTyped form notes _ = ⊥
 
 -- the card's page, with what was typed and what is said of it
-pub record HoldsCard (around : Around) (form : CardForm) (checked : Checked) (plan : Plan)
-    : Type 0 where
+pub record HoldsCard (q : QueueOf) (around : Around) (form : CardForm) (checked : Checked)
+    (plan : Plan) : Type 0 where
   pub draft : Draft
   pub page : Option (List ℕ)
   pub typed : IsTyped form checked.notes.items draft
-  pub is : IsCard around form.round draft page
+  pub is : IsCard q around form.round draft page
   pub shows : ShowsAs (held_as checked.refused) page plan
 
-abbrev pub PlansChecked : Around → CardForm → Checked → Bool → Plan → Type 0
-PlansChecked around form checked true plan = HoldsCard around form checked plan
-PlansChecked around form checked false plan =
+abbrev pub PlansChecked : QueueOf → Around → CardForm → Checked → Bool → Plan → Type 0
+PlansChecked q around form checked true plan = HoldsCard q around form checked plan
+PlansChecked q around form checked false plan =
     Sends (card_place form) (effect.Take (item.Card form)) plan
 
 -- a card that is new, and for which there is room
-abbrev pub PlansNew : Around → CardForm → Bool → Plan → Type 0
-PlansNew around form sure plan =
+abbrev pub PlansNew : QueueOf → Around → CardForm → Bool → Plan → Type 0
+PlansNew q around form sure plan =
     (checked : Checked) × Checks form (accepted_in around.mirror.now) checked
-    × PlansChecked around form checked (is_held sure checked) plan
+    × PlansChecked q around form checked (is_held sure checked) plan
 
 -- by what has become of the card's form, and whether there is no room
-abbrev pub PlansKnown : Around → CardForm → Bool → Option State → Bool → Plan → Type 0
-PlansKnown around form sure (Some state) full plan =
+abbrev pub PlansKnown : QueueOf → Around → CardForm → Bool → Option State → Bool → Plan → Type 0
+PlansKnown q around form sure (Some state) full plan =
     Sends (card_place form) effect.Nothing plan
-PlansKnown around form sure None true plan = plan ≡ refuses problem.Busy
-PlansKnown around form sure None false plan = PlansNew around form sure plan
+PlansKnown q around form sure None true plan = plan ≡ refuses problem.Busy
+PlansKnown q around form sure None false plan = PlansNew q around form sure plan
 
 abbrev pub PlansForm : Around → QueueOf → Bool → Result CardForm CardFormFault → Plan → Type 0
 PlansForm around q sure (Err why) plan = plan ≡ refuses problem.BadForm
 PlansForm around q sure (Ok form) plan =
-    PlansKnown around form sure (found_in q form.id) (is_full q) plan
+    PlansKnown q around form sure (found_in q form.id) (is_full q) plan
 
 -- the scoretaker is sure
 abbrev pub is_sure : List Pair → Bool
@@ -149,6 +148,7 @@ PlansCard around q pairs plan = PlansForm around q (is_sure pairs) (card_form_of
 abbrev pub has_forms : List ℕ → Bool
 has_forms path =
     bytes_eq path (codes "/people") || bytes_eq path (codes "/rounds")
+    || bytes_eq path (codes "/import")
     || is_some (round_below (codes "/rounds?round=") path)
 
 -- the page to go on with: the form's `back`, where it is one of the pages that have forms
@@ -156,17 +156,21 @@ abbrev pub page_after : List Pair → List ℕ
 page_after pairs =
     if has_forms (value_of (codes "back") pairs) then value_of (codes "back") pairs else codes "/"
 
+-- the page that says why nothing is sent, with a link back to this page
+abbrev pub RefusesFor : Around → List ℕ → Plan → Type 0
+RefusesFor around back plan =
+    (why : List ℕ) × ShowsPage shown.Wrong (refused_page around back why) plan
+
 -- the page that says what is wrong
 abbrev pub IsWrong : Around → List Pair → Plan → Type 0
-IsWrong around pairs plan =
-    (why : List ℕ)
-    × ShowsPage shown.Wrong (refused_page around (page_after pairs) why) plan
+IsWrong around pairs plan = RefusesFor around (page_after pairs) plan
 
 -- by what has become of the command's form, and whether there is no room
 abbrev pub PlansText : ℕ → List ℕ → List ℕ → Option State → Bool → Plan → Type 0
 PlansText id text back (Some state) full plan = Sends back effect.Nothing plan
 PlansText id text back None true plan = plan ≡ refuses problem.Busy
-PlansText id text back None false plan = Sends back (effect.Take (item.Command id text)) plan
+PlansText id text back None false plan =
+    Sends back (effect.Take (item.Commands id (text ∷ []))) plan
 
 -- the form asks for a command under its id
 pub record AsksCommand (q : QueueOf) (pairs : List Pair) (plan : Plan) : Type 0 where
@@ -179,36 +183,3 @@ pub record AsksCommand (q : QueueOf) (pairs : List Pair) (plan : Plan) : Type 0 
 abbrev pub PlansCommand : Around → QueueOf → List Pair → Plan → Type 0
 PlansCommand around q pairs plan =
     (plan ≡ refuses problem.BadForm) ⊎ (IsWrong around pairs plan ⊎ AsksCommand q pairs plan)
-
--- ---- any request
-
--- by whether the path is that of a card's form, and that of a command's
-abbrev pub PlansAt : Around → QueueOf → List Pair → Bool → Bool → Plan → Type 0
-PlansAt around q pairs true command plan = PlansCard around q pairs plan
-PlansAt around q pairs false true plan = PlansCommand around q pairs plan
-PlansAt around q pairs false false plan = plan ≡ refuses problem.Method
-
--- the pairs that are sent to a path
-abbrev pub PlansSent : Around → QueueOf → List ℕ → List Pair → Plan → Type 0
-PlansSent around q path pairs plan =
-    PlansAt around q pairs (bytes_eq path (codes "/card")) (bytes_eq path (codes "/command")) plan
-
-abbrev pub PlansPosted : Around → QueueOf → List ℕ → List Pair → Bool → Plan → Type 0
-PlansPosted around q path pairs false plan = plan ≡ refuses problem.Foreign
-PlansPosted around q path pairs true plan = PlansSent around q path pairs plan
-
--- a form that is sent, if it carries the token
-abbrev pub PlansPost : Around → QueueOf → Request (List ℕ) → Plan → Type 0
-PlansPost around q request plan =
-    PlansPosted around q (path_of request) (sent_pairs request)
-    (has_token around.token.now (sent_pairs request)) plan
-
--- by whether the method only reads, and whether it sends a form
-abbrev pub PlansBy : Around → List ℕ → QueueOf → Request (List ℕ) → Bool → Bool → Plan → Type 0
-PlansBy around title q request true post plan = PlansRead around title request plan
-PlansBy around title q request false true plan = PlansPost around q request plan
-PlansBy around title q request false false plan = plan ≡ refuses problem.Method
-
-abbrev pub PlansOwn : Around → List ℕ → QueueOf → Request (List ℕ) → Plan → Type 0
-PlansOwn around title q request plan =
-    PlansBy around title q request (is_read request) (is_post request) plan

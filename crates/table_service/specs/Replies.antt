@@ -42,10 +42,13 @@ status_of problem.Busy = 503
 
 abbrev pub line_of : Problem → List ℕ
 line_of problem.BadForm = codes "400 Bad Request\n"
-line_of problem.Foreign = codes "403 Forbidden\n"
+line_of problem.Foreign =
+    codes "Not taken: the page is not of this score table, or was loaded before its last start. "
+    ++ codes "Go back, load the page again, and send it again.\n"
 line_of problem.NotFound = codes "404 Not Found\n"
 line_of problem.Method = codes "405 Method Not Allowed\n"
-line_of problem.Busy = codes "503 Service Unavailable\n"
+line_of problem.Busy =
+    codes "Not taken: there is no room now. Go back, and send it again in a while.\n"
 
 abbrev pub shown_status : Shown → ℕ
 shown_status shown.Asked = 200

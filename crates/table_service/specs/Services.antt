@@ -14,8 +14,9 @@ use Rattle.table_service.specs.declared.plan.Effect.TheVariants as effect
 use Rattle.table_service.specs.declared.plan.Plan.{Plan}
 use Rattle.table_service.specs.declared.plan.Problem.TheVariants as problem
 use Rattle.table_service.specs.Gate.{is_own}
-use Rattle.table_service.specs.Plans.{PlansOwn, refuses}
+use Rattle.table_service.specs.Plans.{refuses}
 use Rattle.table_service.specs.Replies.{IsProblem, Writes}
+use Rattle.table_service.specs.Sent.{PlansOwn}
 
 -- the title of the hall, the hosts and the token of the program, the mirror with what keeps it up,
 -- what is known of the desks, the queue, the ids for the forms of pages, a set for each page, and

@@ -2,12 +2,12 @@
 
 ghost use Rattle.std.specs.Prelude.{◌≡◌, IfOk};
 ghost use Rattle.card_queue.specs.Queues.{found_in, is_full};
-ghost use Rattle.table_service.specs.Plans.{IsWrong, PlansCommand, PlansText, has_forms};
-ghost use Rattle.table_service.specs.Plans.{page_after};
+ghost use Rattle.table_service.specs.Plans.{IsWrong, PlansCommand, PlansText, RefusesFor};
+ghost use Rattle.table_service.specs.Plans.{has_forms, page_after};
 
 use crate::plan::{Effect, Plan, Problem, Shown};
 use crate::reading::round_below;
-use card_forms::{CommandForm, CommandFormFault, Item, Pairs, command_form};
+use card_forms::{CommandForm, CommandFormFault, CommandTexts, Item, Pairs, command_form};
 use card_queue::CardQueue;
 use hall_views::refused_page;
 use std::alloc::{AllocError, Global};
@@ -19,15 +19,29 @@ fn has_forms(path: &[u8]) -> bool
 {
     path == b"/people".as_slice()
         || path == b"/rounds".as_slice()
+        || path == b"/import".as_slice()
         || round_below(path, b"/rounds?round=").is_some()
 }
 
 /// The page to go on with: the form's `back`, where it is one of the pages that have forms.
-fn page_after(pairs: &Pairs) -> &[u8]
+pub(crate) fn page_after(pairs: &Pairs) -> &[u8]
     ensures { result.now ≡ page_after pairs.now }
 {
     let back = pairs.value("back");
     if has_forms(back) { back } else { b"/" }
+}
+
+/// The page that says why nothing is sent, with a link back to this page.
+pub(crate) fn refuse(
+    alloc: Global,
+    around: &Around<'_>,
+    back: &[u8],
+    why: &[u8],
+) -> Result<Plan, AllocError>
+    ensures { IfOk result (RefusesFor around.entry.now back.now) }
+{
+    let page = refused_page(alloc, around, back, why)?;
+    Ok(Plan::with_ids(Shown::Wrong, page))
 }
 
 /// The page that says what is wrong.
@@ -40,8 +54,7 @@ fn wrong(
     ensures { IfOk result (IsWrong around.entry.now pairs.now) }
 {
     let why = format!(in alloc; "{fault}")?;
-    let page = refused_page(alloc, around, page_after(pairs), why.as_bytes())?;
-    Ok(Plan::with_ids(Shown::Wrong, page))
+    refuse(alloc, around, page_after(pairs), why.as_bytes())
 }
 
 /// What is to be done for a command that a form asks for.
@@ -61,10 +74,8 @@ fn plan_text(
     if !queue.has_room() {
         return Ok(Plan::problem(Problem::Busy));
     }
-    let item = Item::Command {
-        id: form.id,
-        text: form.text,
-    };
+    let texts = CommandTexts::one(alloc, form.text)?;
+    let item = Item::Commands { id: form.id, texts };
     Ok(Plan::see(location, Effect::Take(item)))
 }
 

@@ -5,11 +5,12 @@ ghost use Rattle.card_queue.specs.Queues.{found_in, is_full};
 ghost use Rattle.table_service.specs.Plans.{HoldsCard, PlansCard, PlansKnown, PlansNew};
 ghost use Rattle.table_service.specs.Plans.{card_place, held_as, is_held, is_sure};
 
+use crate::cards::card;
 use crate::checks::{Checked, notes_of};
 use crate::plan::{Effect, Plan, Problem, Shown};
 use card_forms::{CardForm, CardFormFault, Item, Pairs, card_form};
 use card_queue::CardQueue;
-use entry_views::{Draft, card_page};
+use entry_views::Draft;
 use itoa::Buffer;
 use std::alloc::{AllocError, Global};
 use table_views::Around;
@@ -51,17 +52,18 @@ fn held_as(refused: bool) -> Shown
 /// The card's page, with what was typed and what is said of it.
 fn hold(
     alloc: Global,
+    queue: &CardQueue,
     around: &Around<'_>,
     form: &CardForm,
     checked: &Checked,
 ) -> Result<Plan, AllocError>
-    ensures { IfOk result (HoldsCard around.entry.now form.now checked.now) }
+    ensures { IfOk result (HoldsCard queue.now around.entry.now form.now checked.now) }
 {
     let draft = Draft::Typed {
         form,
         notes: &checked.notes,
     };
-    match card_page(alloc, around, form.round, draft)? {
+    match card(alloc, queue, around, form.round, draft)? {
         Some(page) => Ok(Plan::with_ids(held_as(checked.refused), page)),
         None => Ok(Plan::problem(Problem::NotFound)),
     }
@@ -70,15 +72,16 @@ fn hold(
 /// What is to be done for a card that is new, and for which there is room.
 fn plan_new(
     alloc: Global,
+    queue: &CardQueue,
     around: &Around<'_>,
     form: CardForm,
     sure: bool,
 ) -> Result<Plan, AllocError>
-    ensures { IfOk result (PlansNew around.entry.now form sure) }
+    ensures { IfOk result (PlansNew queue.now around.entry.now form sure) }
 {
     let checked = notes_of(alloc, &form, around.mirror.meet())?;
     if is_held(sure, &checked) {
-        return hold(alloc, around, &form, &checked);
+        return hold(alloc, queue, around, &form, &checked);
     }
     let place = place_of(alloc, &form)?;
     Ok(Plan::see(place, Effect::Take(Item::Card(form))))
@@ -92,8 +95,8 @@ fn plan_form(
     form: CardForm,
     sure: bool,
 ) -> Result<Plan, AllocError>
-    ensures { IfOk result (PlansKnown around.entry.now form sure (found_in queue.now form.id)
-        (is_full queue.now)) }
+    ensures { IfOk result (PlansKnown queue.now around.entry.now form sure
+        (found_in queue.now form.id) (is_full queue.now)) }
 {
     if queue.find(form.id).is_some() {
         let place = place_of(alloc, &form)?;
@@ -102,7 +105,7 @@ fn plan_form(
     if !queue.has_room() {
         return Ok(Plan::problem(Problem::Busy));
     }
-    plan_new(alloc, around, form, sure)
+    plan_new(alloc, queue, around, form, sure)
 }
 
 /// What is to be done for the pairs of a card's form.

@@ -2,12 +2,15 @@
 //! sent from their forms, which goes into a queue.
 #![tactic(auto)]
 
+mod cards;
 mod checks;
 mod commanding;
 mod entering;
 mod gate;
 mod keeper;
 mod laws;
+mod listing;
+mod looking;
 mod plan;
 mod posting;
 mod reading;

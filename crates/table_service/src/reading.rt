@@ -21,6 +21,8 @@ pub(crate) enum View {
     Scorecards(RoundId),
     /// `/people`.
     People,
+    /// `/import`: a competition's file, or lines of commands.
+    Import,
     /// `/rounds`, of one round where `?round=333-1` names one.
     Rounds(Option<RoundId>),
 }
@@ -53,6 +55,8 @@ fn fixed(path: &[u8]) -> Option<Asked>
         Some(Asked::Page(View::Overview))
     } else if path == b"/people".as_slice() {
         Some(Asked::Page(View::People))
+    } else if path == b"/import".as_slice() {
+        Some(Asked::Page(View::Import))
     } else if path == b"/table.css".as_slice() {
         Some(Asked::Style)
     } else if path == b"/table.js".as_slice() {

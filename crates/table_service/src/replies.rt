@@ -61,12 +61,16 @@ fn status_of(problem: Problem) -> (StatusCode, &'static [u8])
 {
     match problem {
         Problem::BadForm => (StatusCode::BAD_REQUEST, b"400 Bad Request\n"),
-        Problem::Foreign => (StatusCode::FORBIDDEN, b"403 Forbidden\n"),
+        Problem::Foreign => (
+            StatusCode::FORBIDDEN,
+            b"Not taken: the page is not of this score table, or was loaded before its last start. \
+Go back, load the page again, and send it again.\n",
+        ),
         Problem::NotFound => (StatusCode::NOT_FOUND, b"404 Not Found\n"),
         Problem::Method => (StatusCode::METHOD_NOT_ALLOWED, b"405 Method Not Allowed\n"),
         Problem::Busy => (
             StatusCode::SERVICE_UNAVAILABLE,
-            b"503 Service Unavailable\n",
+            b"Not taken: there is no room now. Go back, and send it again in a while.\n",
         ),
     }
 }

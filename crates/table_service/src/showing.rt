@@ -6,11 +6,13 @@ ghost use Rattle.table_service.specs.Pages.{IsPage, draft_of};
 ghost use Rattle.table_service.specs.Plans.{PlansRead, ShowsIf};
 ghost use Rattle.table_service.specs.Requests.{query_of};
 
+use crate::cards::card;
 use crate::plan::{Plan, Problem, Reply, Shown};
 use crate::reading::{Asked, View, asked_at};
 use bytes::Bytes;
-use entry_views::{Draft, card_page};
-use hall_views::{overview, people_page, rounds_page};
+use card_queue::CardQueue;
+use entry_views::Draft;
+use hall_views::{import_page, overview, people_page, rounds_page};
 use http::Request;
 use paper_views::{scorecards, wall_sheet};
 use std::alloc::{AllocError, Global};
@@ -29,18 +31,20 @@ fn draft_of<'a>(number: Option<u16>) -> Draft<'a>
 /// A page. None where its round was not opened.
 fn page_of(
     alloc: Global,
+    queue: &CardQueue,
     title: &[u8],
     around: &Around<'_>,
     view: View,
 ) -> Result<Option<Vec<u8>>, AllocError>
-    ensures { IfOk result (λ page. IsPage around.entry.now title.now view
+    ensures { IfOk result (λ page. IsPage queue.now around.entry.now title.now view
         (option_map (λ text. text.items) page)) }
 {
     match view {
         View::Overview => Ok(Some(overview(alloc, around)?)),
         View::People => Ok(Some(people_page(alloc, around)?)),
+        View::Import => Ok(Some(import_page(alloc, around)?)),
         View::Rounds(round) => Ok(Some(rounds_page(alloc, around, round)?)),
-        View::Card { round, number } => card_page(alloc, around, round, draft_of(number)),
+        View::Card { round, number } => card(alloc, queue, around, round, draft_of(number)),
         View::Wall(round) => wall_sheet(alloc, around.mirror, title, round),
         View::Scorecards(round) => scorecards(alloc, around.mirror, title, round),
     }
@@ -69,11 +73,12 @@ fn query_of(request: &Request<Bytes>) -> &[u8]
 /// What is to be done for a request that only reads.
 pub(crate) fn plan_read(
     alloc: Global,
+    queue: &CardQueue,
     title: &[u8],
     around: &Around<'_>,
     request: &Request<Bytes>,
 ) -> Result<Plan, AllocError>
-    ensures { IfOk result (PlansRead around.entry.now title.now request.now) }
+    ensures { IfOk result (PlansRead queue.now around.entry.now title.now request.now) }
 {
     let path = request.uri().path().as_bytes();
     match asked_at(alloc, path, query_of(request))? {
@@ -81,7 +86,7 @@ pub(crate) fn plan_read(
         Some(Asked::Style) => Ok(Plan::shown(Reply::Style)),
         Some(Asked::Script) => Ok(Plan::shown(Reply::Script)),
         Some(Asked::Page(view)) => {
-            let page = page_of(alloc, title, around, view)?;
+            let page = page_of(alloc, queue, title, around, view)?;
             Ok(plan_page(page))
         }
     }

@@ -1,5 +1,5 @@
 -- The cards and the commands of late, and what became of each.
-use Rattle.std.specs.Prelude.{ℕ, ◌-◌, ◌/◌, List, [], ◌∷◌, ◌++◌, codes, decimal, flat_map, length}
+use Rattle.std.specs.Prelude.{ℕ, zero, suc, ◌-◌, ◌/◌, List, [], ◌∷◌, ◌++◌, codes, decimal, flat_map, length}
 use Rattle.std.specs.Prelude.{count_by, Option, None, Some}
 use Rattle.board_page.specs.Escaped.{escaped}
 use Rattle.card_forms.specs.declared.cards.CardForm.{CardForm}
@@ -71,9 +71,18 @@ card_line accepted form =
 abbrev pub command_line : List ℕ → List ℕ
 command_line text = joined (codes "<code>" ∷ escaped text ∷ codes "</code>" ∷ [])
 
+abbrev pub more_line : ℕ → List ℕ
+more_line zero = []
+more_line (suc more) = joined (codes " and " ∷ decimal (suc more) ∷ codes " more" ∷ [])
+
+-- the first of some commands, and how many more there are
+abbrev pub commands_line : List (List ℕ) → List ℕ
+commands_line [] = []
+commands_line (text ∷ texts) = command_line text ++ more_line (length texts)
+
 abbrev pub item_line : List Command → Item → List ℕ
 item_line accepted (item.Card form) = card_line accepted form
-item_line accepted (item.Command id text) = command_line text
+item_line accepted (item.Commands id texts) = commands_line texts
 
 -- ---- the section
 

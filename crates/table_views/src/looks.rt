@@ -77,6 +77,7 @@ tr.current td { border-top: 2px solid var(--link); border-bottom: 2px solid var(
 body.hall form { display: flex; flex-wrap: wrap; gap: .6rem; align-items: end; }
 body.hall td { overflow-wrap: anywhere; }
 body.hall ul, body.hall main section > ol { columns: 16rem; margin: .2rem 0; padding-left: 1.6rem; }
+body.hall li { break-inside: avoid; }
 @media (max-width: 70rem) {
   body.entry main { display: block; }
 }
@@ -122,7 +123,6 @@ const fields = form ? all('input[id^=a]', form) : [];
 const beside = (field, selector) => field.parentNode.querySelector(selector);
 const make = (tag, text) => Object.assign(document.createElement(tag), { textContent: text });
 const pageOf = (text) => new DOMParser().parseFromString(text, 'text/html');
-
 // ---- what is typed, read as the program reads it
 const two = (number) => String(number).padStart(2, '0');
 const clock = (n) => (n < 6000 ? Math.floor(n / 100)
@@ -163,7 +163,6 @@ function read(text) {
   if (!short) return { words: plain.split(/ +/).length + ' moves and rotations' };
   return rules.unit === 'time' ? readTime(plain) : readMulti(plain);
 }
-
 // ---- best and average as they would be
 const third = (n) => n <= 180000 ? Math.floor((2 * n + 3) / 6) : Math.floor((n + 150) / 300) * 100;
 function averageOf(values) {
@@ -178,7 +177,6 @@ function bestOf(readings) {
   const [best] = done.sort((a, b) => a.value - b.value);
   return best ? 'best ' + best.result : '';
 }
-
 // ---- the card
 let touched = false, warned = null, sure = false, chosen = 0;
 const rows = () => all('#round tbody tr');
@@ -212,7 +210,7 @@ function update() {
   return readings;
 }
 function show(number, name, standing, typed) {
-  for (const old of all('strong, .told, [name=sure]', form)) old.remove();
+  for (const old of all('strong, .told, .origin, [name=sure]', form)) old.remove();
   $('number').value = number;
   say($('who'), name);
   fields.forEach((field, place) => {
@@ -223,8 +221,7 @@ function show(number, name, standing, typed) {
   });
   [touched, warned] = [Boolean(typed), null];
   $('found').replaceChildren();
-  update();
-  mark();
+  update(), mark();
 }
 const enter = (field) => { field.focus(); field.select(); };
 function empty() {
@@ -235,7 +232,14 @@ function empty() {
 function open(row, typed) {
   const standing = $('blind').checked ? [] : fields.map((field, place) => cell(row, 5 + place));
   show(cell(row, 1), cell(row, 2), standing, typed);
+  if (standing.some((text) => text !== '-')) tell(row);
   enter(fields.find((field) => !field.disabled && field.value === '') || fields[0]);
+}
+// Says by which entry of the log a card stands so.
+async function tell(row) {
+  const answer = await fetch(location.pathname + '?number=' + cell(row, 1)).catch(() => null);
+  const origin = answer && pageOf(await answer.text()).querySelector('.origin');
+  if (origin && $('number').value === cell(row, 1) && !$('blind').checked) form.prepend(origin);
 }
 // Those of whose name one part begins so.
 function candidates() {
@@ -302,7 +306,6 @@ function compare(row, readings) {
   });
   if (differs.length > 0) list(nameOf(row), differs.join('; '), () => open(row));
 }
-
 // ---- sending, in order, each until it is taken
 const sending = [];
 let spare = form ? rules.spare.trim().split(' ') : [], busy = false, asked = 0;
@@ -335,7 +338,6 @@ async function send() {
   }
   busy = false;
 }
-
 // ---- keeping up with the round
 const shown = {};
 function mark() {
@@ -374,7 +376,6 @@ async function refresh() {
     $('bar').className = shown.bar = 'lost';
   }
 }
-
 // ---- keys
 function keys(event) {
   const at = fields.indexOf(event.target), step = { ArrowDown: 1, ArrowUp: -1 }[event.key];
@@ -409,8 +410,7 @@ function begin() {
   form.addEventListener('submit', (event) => { event.preventDefault(); submit(); });
   addEventListener('beforeunload', (event) => { if (sending.length > 0) event.preventDefault(); });
   document.addEventListener('click', follow);
-  update();
-  mark();
+  update(), mark();
 }
 if (form) begin();
 setInterval(refresh, 1000);

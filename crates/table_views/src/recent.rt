@@ -2,7 +2,7 @@
 
 ghost use Rattle.std.specs.Prelude.{◌≡◌, ◌++◌, OnOk, flat_map};
 ghost use Rattle.table_views.specs.Recent.{attempt_typed, card_line, card_link, class_of};
-ghost use Rattle.table_views.specs.Recent.{command_line};
+ghost use Rattle.table_views.specs.Recent.{command_line, commands_line, more_line};
 ghost use Rattle.table_views.specs.Recent.{competitor, line_start, recent_line, recent_section};
 ghost use Rattle.table_views.specs.People.{number_in};
 ghost use Rattle.table_views.specs.Recent.{item_line, outcome_words, state_words, waits_words};
@@ -11,7 +11,7 @@ use crate::desks::Desks;
 use crate::people::{number_of, push_name};
 use crate::reasons::push_reason;
 use acceptor::NoMemory;
-use card_forms::{CardForm, Item, Outcome, Recent, State, Typed};
+use card_forms::{CardForm, CommandText, Item, Outcome, Recent, State, Typed};
 use commands::Meet;
 use markup::{Piece, push_pieces};
 use round_words::push_round_name;
@@ -169,6 +169,36 @@ fn push_command(out: &mut Vec<u8>, text: &[u8]) -> Result<(), NoMemory>
     )
 }
 
+/// Adds that there are so many more.
+fn push_more(out: &mut Vec<u8>, more: usize) -> Result<(), NoMemory>
+    ensures { OnOk result (out.new.items ≡ out.old.items ++ more_line more) }
+{
+    if more == 0 {
+        return Ok(());
+    }
+    push_pieces(
+        out,
+        &[
+            Piece::Html(b" and "),
+            Piece::Number(more as u64),
+            Piece::Html(b" more"),
+        ],
+    )
+}
+
+/// Adds the first of some commands, and how many more there are.
+fn push_commands(out: &mut Vec<u8>, texts: &[CommandText]) -> Result<(), NoMemory>
+    ensures { OnOk result (out.new.items ≡ out.old.items ++ commands_line texts.now) }
+{
+    match texts.split_first() {
+        Some((first, left)) => {
+            push_command(out, first.as_bytes())?;
+            push_more(out, left.len())
+        }
+        None => Ok(()),
+    }
+}
+
 /// Adds what was sent.
 fn push_item(out: &mut Vec<u8>, meet: &Meet, item: &Item) -> Result<(), NoMemory>
     ensures { OnOk result (out.new.items ≡ out.old.items
@@ -176,7 +206,7 @@ fn push_item(out: &mut Vec<u8>, meet: &Meet, item: &Item) -> Result<(), NoMemory
 {
     match item {
         Item::Card(form) => push_card(out, meet, form),
-        Item::Command { text, .. } => push_command(out, text.as_bytes()),
+        Item::Commands { texts, .. } => push_commands(out, texts.as_slice()),
     }
 }
 

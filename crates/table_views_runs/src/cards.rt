@@ -2,7 +2,8 @@
 
 use crate::hall::{Hall, Sent, number};
 use card_forms::{
-    CardForm, CommandText, Fields, FormId, Item, Outcome, Reason, State, Typed, round_of,
+    CardForm, CommandText, CommandTexts, Fields, FormId, Item, Outcome, Reason, State, Typed,
+    round_of,
 };
 use derivation::CardFault;
 use std::alloc::{AllocError, Global};
@@ -77,8 +78,9 @@ pub fn put_command(alloc: Global, hall: &mut Hall, text: &[u8]) -> Result<(), Al
     let (state, rest) = words(text);
     let bytes = Vec::from_slice(alloc, rest)?;
     if let (Some(text), Some(id)) = (CommandText::new(bytes), FormId::new(1)) {
+        let texts = CommandTexts::one(alloc, text)?;
         hall.sent.push(Sent {
-            item: Item::Command { id, text },
+            item: Item::Commands { id, texts },
             state: state_of(state),
         })?;
     }

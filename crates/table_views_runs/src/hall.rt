@@ -5,7 +5,7 @@ use card_forms::{Item, State};
 use mirror::Mirror;
 use std::alloc::{AllocError, Global};
 use table_views::Desks;
-use texts::number_between;
+use texts::{cut, number_between};
 use wire::Entries;
 
 /// A card or a command of late.
@@ -15,6 +15,13 @@ pub struct Sent {
     pub state: State,
 }
 
+/// A command that was tried, and the number of the code of its refusal.
+#[derive(Drop)]
+pub struct Trial {
+    pub text: Vec<u8>,
+    pub code: Option<u8>,
+}
+
 /// All that was said so far.
 #[derive(Drop)]
 pub struct Hall {
@@ -22,6 +29,7 @@ pub struct Hall {
     pub name: Vec<u8>,
     pub desks: Desks,
     pub sent: Vec<Sent>,
+    pub trials: Vec<Trial>,
     pub now: u64,
 }
 
@@ -42,6 +50,7 @@ impl Hall {
                 lengths: Vec::new(alloc),
             },
             sent: Vec::new(alloc),
+            trials: Vec::new(alloc),
             now: 0,
         })
     }
@@ -58,6 +67,15 @@ impl Hall {
         };
         let entries = Entries::one(alloc, entry)?;
         self.mirror.take(position, entries)?;
+        Ok(())
+    }
+
+    /// Puts a command after those that were tried: its code or `-`, and its text.
+    pub fn put_trial(&mut self, alloc: Global, line: &[u8]) -> Result<(), AllocError> {
+        let (code, text) = cut(line, b' ');
+        let text = Vec::from_slice(alloc, text.unwrap_or(b""))?;
+        let code = number(code).map(|code| code.min(22) as u8);
+        self.trials.push(Trial { text, code })?;
         Ok(())
     }
 

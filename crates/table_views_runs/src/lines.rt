@@ -24,6 +24,8 @@ fn run_line(
         put_card(alloc, hall, text)?;
     } else if let Some(text) = line.strip_prefix(b"command ".as_slice()) {
         put_command(alloc, hall, text)?;
+    } else if let Some(text) = line.strip_prefix(b"try ".as_slice()) {
+        hall.put_trial(alloc, text)?;
     } else if let Some(text) = line.strip_prefix(b"typed ".as_slice()) {
         show(alloc, hall, text, true, out)?;
     } else if let Some(path) = line.strip_prefix(b"get ".as_slice()) {

@@ -7,6 +7,7 @@
 //! - `card ROUND STATE NUMBER FIELD..` is a card of late, and `command STATE TEXT` a command, the
 //!   newest one first: `w17` has waited since 17, `s12` is saved by position 12, `b` was done
 //!   before, `r` is refused as closed.
+//! - `try CODE COMMAND` is a command that would be refused with this code, or entered for `-`.
 //! - `typed ROUND NOTES NUMBER FIELD..` writes the page of a card as it was typed.
 //! - `get PATH` writes the page at a path.
 //!

@@ -4,12 +4,14 @@ use crate::cards::{card, words};
 use crate::hall::{Hall, number};
 use card_forms::{FormId, NumberFault, Recent, round_of};
 use derivation::CardFault;
-use entry_views::{Draft, Note, card_page};
-use hall_views::{overview, people_page, refused_page, rounds_page};
+use entry_views::{Draft, Note, Origin, card_page};
+use hall_views::{
+    Tried, faults_page, import_page, overview, people_page, preview_page, refused_page, rounds_page,
+};
 use paper_views::{scorecards, wall_sheet};
 use std::alloc::{AllocError, Global};
 use table_views::{Around, script, style};
-use texts::cut;
+use texts::{Answer, Code, cut};
 
 /// Ids that are as random as a stored run can have them.
 fn ids() -> Option<[FormId; 32]> {
@@ -41,18 +43,47 @@ fn notes_of(alloc: Global, letters: &[u8]) -> Result<Vec<Note>, AllocError> {
     Ok(notes)
 }
 
+/// Where what stands comes from: `here=POSITION`, or `there=POSITION`.
+fn origin_of(text: &[u8]) -> Option<Origin> {
+    let (place, position) = cut(text, b'=');
+    let position = number(position?)?.min(65_536) as u32;
+    let here = place == b"here".as_slice();
+    Some(Origin { position, here })
+}
+
+/// What a command that was tried was answered.
+fn answer_of(code: Option<u8>) -> Answer {
+    match code.and_then(Code::from_number) {
+        Some(code) => Answer::Refused(code),
+        None => Answer::Done,
+    }
+}
+
+/// The page of the commands that were tried.
+fn preview(alloc: Global, hall: &Hall, around: &Around<'_>) -> Result<Vec<u8>, AllocError> {
+    let mut tried = Vec::new(alloc);
+    for trial in &hall.trials {
+        tried.push(Tried {
+            text: &trial.text,
+            answer: answer_of(trial.code),
+        })?;
+    }
+    preview_page(alloc, around, &tried)
+}
+
 /// The page of a card at a path after `/card/`.
 fn card_at(alloc: Global, around: &Around<'_>, path: &[u8]) -> Result<Option<Vec<u8>>, AllocError> {
     let (name, query) = cut(path, b'?');
     let Some(id) = round_of(name) else {
         return Ok(None);
     };
-    let typed = query.unwrap_or(b"").strip_prefix(b"number=".as_slice());
+    let (query, origin) = cut(query.unwrap_or(b""), b'&');
+    let typed = query.strip_prefix(b"number=".as_slice());
     let draft = match number(typed.unwrap_or(b"")) {
         Some(number) => Draft::Number(number.min(9_999) as u16),
         None => Draft::Empty,
     };
-    card_page(alloc, around, id, draft)
+    card_page(alloc, around, id, draft, origin_of(origin.unwrap_or(b"")))
 }
 
 /// The page at a path.
@@ -80,6 +111,9 @@ fn page_at(
             None => Ok(None),
         };
     }
+    if path == b"/preview".as_slice() {
+        return Ok(Some(preview(alloc, hall, around)?));
+    }
     fixed(alloc, around, path)
 }
 
@@ -93,6 +127,11 @@ fn fixed(alloc: Global, around: &Around<'_>, path: &[u8]) -> Result<Option<Vec<u
         Ok(Some(rounds_page(alloc, around, None)?))
     } else if path == b"/refused".as_slice() {
         Ok(Some(refused_page(alloc, around, b"/people", b"nothing is written <here>")?))
+    } else if path == b"/import".as_slice() {
+        Ok(Some(import_page(alloc, around)?))
+    } else if path == b"/faults".as_slice() {
+        let why: &[u8] = b"a.json:1:2: <\n333-r1: &\n";
+        Ok(Some(faults_page(alloc, around, b"/import", why)?))
     } else if path == b"/table.css".as_slice() {
         Ok(Some(Vec::from_slice(alloc, style().as_bytes())?))
     } else if path == b"/table.js".as_slice() {
@@ -173,6 +212,7 @@ fn typed_page(
                     form: &form,
                     notes: &notes,
                 },
+                None,
             )
         }
         None => Ok(None),

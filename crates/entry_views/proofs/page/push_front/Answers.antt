@@ -21,7 +21,7 @@ returns c =
     let desks = around.desks.now in
     let recents = around.recent.now in
     three_parts out (top (codes "entry") title desks (length log))
-    (card_section around c.args.id round c.args.draft)
+    (card_section around c.args.id round c.args.draft c.args.origin)
     (recent_section (accepted_in log) desks around.now recents) _ _ _
     (c.in_ok-push_top.ensures
     ∙ ap (λ (words : List ℕ). out ++ top (codes "entry") words desks c.len.result)

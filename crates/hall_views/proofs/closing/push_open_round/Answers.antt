@@ -1,11 +1,12 @@
 use Rattle.std.proofs.Common.{List, ap, get_or, ℕ, ◌++◌, ◌∙◌}
 use Rattle.std.proofs.lemmas.Result.{on_ok_weaker}
-use Rattle.board_page.proofs.Steps.{three_parts, two_parts}
+use Rattle.board_page.proofs.Steps.{five_parts}
 use Rattle.commands.specs.History.{History}
 use Rattle.rounds.specs.Tables.{Table}
 use Rattle.table_views.specs.Logs.{accepted_in}
 use Rattle.texts.specs.declared.command.Settings.{Settings}
 use Rattle.hall_views.proofs.Tails.{same_after}
+use Rattle.hall_views.specs.Absent.{never_came}
 use Rattle.hall_views.specs.Closing.{change, close, open_round, through}
 use Rattle.hall_views.specs.Entrants.{unfinished}
 use Rattle.hall_views.specs.Forms.{path_of}
@@ -19,26 +20,27 @@ returns c =
     let token = c.args.around.now.token.now in
     let ids = c.args.around.now.ids.now in
     let round : Settings × Table = (c.args.round.settings, c.args.round.table.now) in
+    let advance = c.args.round.settings.advance in
     on_ok_weaker c.push_close.result
-    (two_parts out
-    (unfinished (accepted_in log) c.args.id round ++ through (accepted_in log) c.args.id round
-    ++ change token (get_or ids 1 0) c.args.id (path_of c.args.id))
-    (close token (get_or ids 0 0) c.args.id (path_of c.args.id)) _ _
-    (three_parts out (unfinished (accepted_in log) c.args.id round)
-    (through (accepted_in log) c.args.id round)
-    (change token (get_or ids 1 0) c.args.id (path_of c.args.id)) _ _ _
+    (five_parts out (unfinished (accepted_in log) c.args.id round)
+    (never_came c.args.around.now c.args.id round) (through (accepted_in log) c.args.id round)
+    (change token (get_or ids 1 0) c.args.id advance (path_of c.args.id))
+    (close token (get_or ids 0 0) c.args.id (path_of c.args.id)) _ _ _ _ _
     (c.in_ok-push_unfinished.ensures
     ∙ ap (λ (h : History). out ++ unfinished h.accepted c.args.id round) c.meet-meet.ensures)
+    c.in_ok-push_never_came.ensures
     (c.in_ok-push_through.ensures
-    ∙ ap (λ (h : History). c.push_unfinished.new.out.items ++ through h.accepted c.args.id round)
+    ∙ ap (λ (h : History). c.push_never_came.new.out.items ++ through h.accepted c.args.id round)
     c.meet-meet.ensures)
     (c.in_ok-push_change.ensures
     ∙ ap
-    (λ (form : ℕ). c.push_through.new.out.items ++ change token form c.args.id c.deref.result.now)
+    (λ (form : ℕ). c.push_through.new.out.items
+    ++ change token form c.args.id advance c.deref.result.now)
     c.id_at.ensures
     ∙ ap
-    (λ (back : List ℕ). c.push_through.new.out.items ++ change token (get_or ids 1 0) c.args.id
-    back) (c.deref.ensures.value ∙ c.in_ok-back.ensures))))
+    (λ (back : List ℕ). c.push_through.new.out.items
+    ++ change token (get_or ids 1 0) c.args.id advance back)
+    (c.deref.ensures.value ∙ c.in_ok-back.ensures)))
     (same_after c.push_close.result _ _ _
     (ap
     (λ (form : ℕ). c.push_change.new.out.items ++ close token form c.args.id c.deref-2.result.now)

@@ -12,8 +12,10 @@ returns c =
     let out = c.args.out.now.items in
     on_ok_weaker c.push_advance.result
     (six_parts out (codes "<label>Format <select name=\"format\">\n")
-    (flat_map (format_choice c.args.event) formats) (codes "</select></label>\n")
-    (cutoff_fields c.args.event) (limit_field (unit_of c.args.event)) advance_fields _ _ _ _ _ _
+    (flat_map (format_choice c.args.event c.args.proposal.format) formats)
+    (codes "</select></label>\n") (cutoff_fields c.args.event)
+    (limit_field (unit_of c.args.event) c.args.proposal.limit)
+    (advance_fields c.args.proposal.advance) _ _ _ _ _ _
     c.in_ok-extend_from_slice.ensures.items c.in_ok-push_formats.ensures
     c.in_ok-extend_from_slice-2.ensures.items c.in_ok-push_cutoff.ensures
     c.in_ok-push_limit.ensures) c.push_advance.ensures

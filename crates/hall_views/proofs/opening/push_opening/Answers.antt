@@ -2,7 +2,7 @@ use Rattle.std.proofs.Common.{List, ap, codes, ℕ, ◌++◌, ◌∙◌}
 use Rattle.std.proofs.lemmas.Result.{on_ok_weaker}
 use Rattle.board_page.proofs.Steps.{five_parts}
 use Rattle.hall_views.specs.Forms.{button, form_start, path_of, round_value}
-use Rattle.hall_views.specs.Opening.{opening, opening_fields}
+use Rattle.hall_views.specs.Opening.{opening, opening_fields, opening_head}
 use Rattle.hall_views.proofs.opening.push_opening.Goals as goal
 
 pub returns : goal.returns
@@ -10,12 +10,12 @@ unfolding opening
 returns c =
     let out = c.args.out.now.items in
     on_ok_weaker c.push_button.result
-    (five_parts out (codes "<h2>Open the round</h2>\n")
+    (five_parts out (opening_head c.args.proposal.come)
     (form_start c.args.token.now c.args.form (codes "OPEN") (path_of c.args.id))
-    (round_value c.args.id) (opening_fields c.args.id.event) (button (codes "Open the round")) _ _
-    _ _ _ c.in_ok-extend_from_slice.ensures.items
+    (round_value c.args.id) (opening_fields c.args.id.event c.args.proposal)
+    (button (codes "Open the round")) _ _ _ _ _ c.in_ok-push_head.ensures
     (c.in_ok-push_form.ensures
     ∙ ap
-    (λ (back : List ℕ). c.extend_from_slice.new.self.items ++ form_start c.args.token.now
+    (λ (back : List ℕ). c.push_head.new.out.items ++ form_start c.args.token.now
     c.args.form (codes "OPEN") back) (c.deref.ensures.value ∙ c.in_ok-back.ensures))
     c.in_ok-push_round_value.ensures c.in_ok-push_fields.ensures) c.push_button.ensures

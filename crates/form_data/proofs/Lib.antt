@@ -1,0 +1,5 @@
+pub mod Cuts
+pub mod Marks
+pub mod PartLemmas
+pub mod Words
+pub mod WrittenParts

@@ -1,0 +1,7 @@
+use Rattle.std.proofs.Common.{◌≡◌, ℕ, ◌<◌, false, nat_eq, drop}
+use Rattle.std.specs.List.{starts_with}
+use Rattle.form_data.proofs.cutting.cut.Given as goal
+
+abbrev pub invariant-loop-place : goal.invariant-loop-place
+invariant-loop-place l =
+    (k : ℕ) → k < l.place → starts_with nat_eq (drop k l.bytes) l.mark ≡ false

@@ -1,0 +1,4 @@
+pub mod Bodies
+pub mod Cutting
+pub mod Headers
+pub mod Written

@@ -1,0 +1,25 @@
+-- The form that sends several commands, one a line.
+use Rattle.std.specs.Prelude.{ℕ, List, [], ◌∷◌, ◌++◌, codes}
+use Rattle.board_page.specs.Escaped.{escaped}
+use Rattle.markup.specs.Pieces.{joined}
+use Rattle.table_views.specs.Hidden.{hidden}
+
+-- a command after a break. HTML leaves out a break with which a text area begins, so that what is
+-- sent of commands, each after a break, has a break between each two.
+abbrev pub line : List ℕ → List ℕ
+line text = codes "\n" ++ text
+
+-- where to go after the form, the lines, folded, and the button
+abbrev pub lines_rest : List ℕ → List ℕ → List ℕ → List ℕ
+lines_rest back lines words = joined (
+    codes "<input type=\"hidden\" name=\"back\" value=\"" ∷ escaped back
+    ∷ codes "\">\n<details><summary>What is sent</summary>\n" ∷
+    codes "<textarea name=\"lines\" rows=\"12\" cols=\"60\" readonly>" ∷ escaped lines
+    ∷ codes "</textarea></details>\n<button>" ∷ words ∷ codes "</button></form>\n" ∷ []
+    )
+
+-- a form that sends these lines carries its token and its id
+unfoldable pub lines_form : List ℕ → ℕ → List ℕ → List ℕ → List ℕ → List ℕ
+lines_form token id back lines words =
+    codes "<form method=\"post\" action=\"/commands\" autocomplete=\"off\">\n" ++ hidden token id
+    ++ lines_rest back lines words

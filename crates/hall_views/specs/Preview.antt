@@ -1,0 +1,88 @@
+-- The page that shows which commands would be entered.
+use Rattle.std.specs.Prelude.{ℕ, ◌-◌, Bool, true, false, if◌then◌else◌, nat_lt, List, [], ◌∷◌, ◌++◌}
+use Rattle.std.specs.Prelude.{codes, count_by, decimal, flat_map, get_or, length}
+use Rattle.board_page.specs.Escaped.{escaped}
+use Rattle.code_meanings.specs.Meanings.{meaning_of}
+use Rattle.texts.specs.declared.answer.Answer.{Answer}
+use Rattle.texts.specs.declared.answer.Answer.TheVariants.{Done, Refused}
+use Rattle.texts.specs.declared.answer.Code.{Code}
+use Rattle.markup.specs.Pieces.{joined}
+use Rattle.table_views.specs.declared.around.Around.{Around}
+use Rattle.table_views.specs.Frame.{top, bottom}
+use Rattle.hall_views.specs.declared.preview.Tried.{Tried}
+use Rattle.hall_views.specs.Lines.{line, lines_form}
+
+abbrev pub is_entered : Answer → Bool
+is_entered Done = true
+is_entered (Refused code) = false
+
+abbrev pub would_enter : Tried → Bool
+would_enter tried = is_entered tried.answer
+
+-- ---- a command, and why it would be refused
+
+abbrev pub refused_item : List ℕ → Code → List ℕ
+refused_item text code = joined (
+    codes "<li><code>" ∷ escaped text ∷ codes "</code> <em>" ∷ meaning_of code
+    ∷ codes "</em></li>\n" ∷ []
+    )
+
+abbrev pub refused_if : List ℕ → Answer → List ℕ
+refused_if text Done = []
+refused_if text (Refused code) = refused_item text code
+
+abbrev pub refused_line : Tried → List ℕ
+refused_line tried = refused_if tried.text.now tried.answer
+
+abbrev pub entered_item : List ℕ → List ℕ
+entered_item text = joined (codes "<li><code>" ∷ escaped text ∷ codes "</code></li>\n" ∷ [])
+
+abbrev pub entered_line : Tried → List ℕ
+entered_line tried = if would_enter tried then entered_item tried.text.now else []
+
+-- the lines that are sent are those that would be entered, as they are
+abbrev pub sent_line : Tried → List ℕ
+sent_line tried = if would_enter tried then line tried.text.now else []
+
+-- ---- the section
+
+abbrev pub told : ℕ → ℕ → List ℕ
+told entered refused = joined (
+    codes "<section><h1>What would be entered</h1>\n<p class=\"told\">" ∷ decimal entered
+    ∷ codes " commands would be entered, and " ∷ decimal refused ∷ codes " would not.</p>\n" ∷ []
+    )
+
+-- those that would be refused, where there are any
+unfoldable pub refused_list : ℕ → List Tried → List ℕ
+refused_list refused tried =
+    if nat_lt 0 refused
+    then codes "<h2>Not entered</h2>\n<ol>\n" ++ flat_map refused_line tried ++ codes "</ol>\n"
+    else []
+
+abbrev pub enter_words : ℕ → List ℕ
+enter_words count = joined (codes "Enter these " ∷ decimal count ∷ codes " commands" ∷ [])
+
+unfoldable pub entered_all : List ℕ → ℕ → ℕ → List Tried → List ℕ
+entered_all token id entered tried =
+    codes "<h2>To enter</h2>\n<ol>\n" ++ flat_map entered_line tried ++ codes "</ol>\n"
+    ++ lines_form token id (codes "/import") (flat_map sent_line tried) (enter_words entered)
+
+-- those that would be entered, and the form that enters them, where there are any
+abbrev pub entered_list : List ℕ → ℕ → ℕ → List Tried → List ℕ
+entered_list token id entered tried =
+    if nat_lt 0 entered then entered_all token id entered tried else []
+
+unfoldable pub lists : Around → ℕ → ℕ → List Tried → List ℕ
+lists around entered refused tried =
+    told entered refused ++ refused_list refused tried
+    ++ entered_list around.token.now (get_or around.ids.now 0 0) entered tried
+    ++ codes "<p><a href=\"/import\">Another file, or other lines</a></p></section>\n"
+
+abbrev pub preview_section : Around → List Tried → List ℕ
+preview_section around tried =
+    lists around (count_by would_enter tried) (length tried - count_by would_enter tried) tried
+
+unfoldable pub preview_page : Around → List Tried → List ℕ
+preview_page around tried =
+    top (codes "hall") (codes "What would be entered") around.desks.now (length around.mirror.now)
+    ++ preview_section around tried ++ bottom

@@ -1,0 +1,78 @@
+-- What is planned for several commands, and for lines and files that are looked at.
+use Rattle.std.proofs.Common.{◌≡◌, ◌∙◌, ℕ, List, Vec, Global, Bool, false, Result, Ok, Err, Option}
+use Rattle.std.proofs.Common.{None, codes, inl, inr, refl, subst, sym}
+use Rattle.std.specs.Prelude.{IfOk}
+use Rattle.std.specs.declared.alloc.AllocError.{AllocError}
+use Rattle.card_forms.specs.declared.pairs.Pair.{Pair}
+use Rattle.card_forms.specs.Pairs.{value_of}
+use Rattle.command_lists.specs.declared.file.FileLines.{FileLines}
+use Rattle.command_lists.specs.declared.file.FileLines.TheVariants as file
+use Rattle.command_lists.specs.Files.{IsOfFile}
+use Rattle.command_lists.specs.Lists.{AreUnfit, IsReadFrom}
+use Rattle.hall_views.specs.Refused.{faults_page}
+use Rattle.wcif.specs.declared.file.FileFault.{FileFault}
+use Rattle.wcif.specs.declared.options.Options.{Options}
+use Rattle.table_views.specs.declared.around.Around.{Around}
+use Rattle.table_service.specs.declared.plan.Effect.TheVariants as effect
+use Rattle.table_service.specs.declared.plan.Plan.{Plan}
+use Rattle.table_service.specs.declared.plan.Reply.TheVariants as reply
+use Rattle.table_service.specs.declared.plan.Shown.{Shown}
+use Rattle.table_service.specs.declared.plan.Shown.TheVariants as shown
+use Rattle.table_service.specs.Imports.{PlansFile}
+use Rattle.table_service.specs.Lists.{LooksAt, PlansAsked, PlansLines, would_be_done}
+use Rattle.table_service.specs.Plans.{RefusesFor, ShowsPage, page_after}
+
+-- a page that is sent
+pub page_shown : (status : Shown) (text : List ℕ) (page : Vec ℕ Global) (plan : Plan)
+    → page.items ≡ text
+    → plan ≡ record { reply = reply.Html status page; effect = effect.Ids }
+    → ShowsPage status text plan
+page_shown status text page plan is made =
+    subst (λ (p : Plan). ShowsPage status text p) (sym made) ((refl, is), refl)
+
+module _ (around : Around) (pairs : List Pair) (id : ℕ) (back : List ℕ)
+    (same : back ≡ page_after pairs) where
+  -- not all commands would be accepted
+  pub not_done : (texts : List (List ℕ)) → would_be_done around.mirror.now id texts ≡ false
+      → (r : Result Plan AllocError) → IfOk r (RefusesFor around back)
+      → IfOk r (PlansAsked around pairs id texts (would_be_done around.mirror.now id texts))
+  not_done texts is (Ok plan) wrong =
+      subst (λ (b : Bool). PlansAsked around pairs id texts b plan) (sym is)
+      (subst (λ (place : List ℕ). RefusesFor around place plan) same wrong)
+  not_done texts is (Err error) wrong = tt
+
+  -- the lines have no commands that can be sent together
+  pub none_read : (lines : List ℕ) → lines ≡ value_of (codes "lines") pairs
+      → (texts : Option (List (List ℕ))) → texts ≡ None → IsReadFrom lines texts
+      → (r : Result Plan AllocError) → IfOk r (RefusesFor around back)
+      → IfOk r (PlansLines around pairs id)
+  none_read lines of texts is read (Ok plan) wrong =
+      inl (
+        subst AreUnfit of
+            (subst (λ (o : Option (List (List ℕ))). IsReadFrom lines o) is read),
+        subst (λ (place : List ℕ). RefusesFor around place plan) same wrong,
+      )
+  none_read lines of texts is read (Err error) wrong = tt
+
+module _ (around : Around) (options : Options) (bytes : List ℕ) (found : FileLines)
+    (of : IsOfFile options bytes found) where
+  -- the file's commands are looked at
+  pub file_looked : (printed : Vec ℕ Global) → found ≡ file.Lines printed → (text : List ℕ)
+      → text ≡ printed.items → (r : Result Plan AllocError) → IfOk r (LooksAt around text)
+      → IfOk r (PlansFile around options bytes)
+  file_looked printed is text same (Ok plan) looks =
+      let so : IsOfFile options bytes (file.Lines printed) =
+      subst (λ (f : FileLines). IsOfFile options bytes f) is of in
+      inl
+      (so.0, so.1, subst (λ (t : List ℕ). LooksAt around t plan) (same ∙ so.2) looks)
+  file_looked printed is text same (Err error) looks = tt
+
+  -- the file gives none
+  pub file_refused : (fault : FileFault) (words : Vec ℕ Global) → found ≡ file.Refused fault words
+      → (said : List ℕ) (plan : Plan)
+      → ShowsPage shown.Wrong (faults_page around (codes "/import") said) plan
+      → PlansFile around options bytes plan
+  file_refused fault words is said plan shows =
+      let so : IsOfFile options bytes (file.Refused fault words) =
+      subst (λ (f : FileLines). IsOfFile options bytes f) is of in
+      inr (fault, so, said, shows)

@@ -1,0 +1,92 @@
+-- Several commands that are sent together, one a line.
+use Rattle.std.specs.Prelude.{◌≡◌, ◌⊎◌, ℕ, Bool, true, false, codes, List, [], ◌∷◌, get_or}
+use Rattle.std.specs.Prelude.{map, Option, None, Some}
+use Rattle.std.specs.List.{list_all}
+use Rattle.acceptor.specs.declared.entry.Entry.{Entry}
+use Rattle.texts.specs.declared.answer.Answer.{Answer}
+use Rattle.card_forms.specs.declared.items.Item.TheVariants as item
+use Rattle.card_forms.specs.declared.items.State.{State}
+use Rattle.card_forms.specs.declared.pairs.Pair.{Pair}
+use Rattle.card_forms.specs.Cards.{form_id_of}
+use Rattle.card_forms.specs.Pairs.{value_of}
+use Rattle.card_queue.specs.Queues.{QueueOf, found_in, is_full}
+use Rattle.card_queue.specs.Sending.{command_entries}
+use Rattle.command_lists.specs.Answered.{is_done}
+use Rattle.command_lists.specs.Lists.{AreUnfit, texts_in}
+use Rattle.hall_views.specs.declared.preview.Tried.{Tried}
+use Rattle.hall_views.specs.Preview.{preview_page}
+use Rattle.mirror.specs.Answered.{answers_after}
+use Rattle.table_views.specs.declared.around.Around.{Around}
+use Rattle.table_service.specs.declared.plan.Effect.TheVariants as effect
+use Rattle.table_service.specs.declared.plan.Plan.{Plan}
+use Rattle.table_service.specs.declared.plan.Problem.TheVariants as problem
+use Rattle.table_service.specs.declared.plan.Shown.TheVariants as shown
+use Rattle.table_service.specs.Plans.{IsWrong, RefusesFor, Sends, ShowsPage, page_after, refuses}
+
+-- what commands would be answered after a log, if the first has this id
+abbrev pub answered : List Entry → ℕ → List (List ℕ) → List Answer
+answered log id texts = answers_after log (command_entries id texts)
+
+abbrev pub would_be_done : List Entry → ℕ → List (List ℕ) → Bool
+would_be_done log id texts = list_all is_done (answered log id texts)
+
+-- ---- commands that are sent
+
+-- by whether all of them would be accepted
+abbrev pub PlansAsked : Around → List Pair → ℕ → List (List ℕ) → Bool → Plan → Type 0
+PlansAsked around pairs id texts true plan =
+    Sends (page_after pairs) (effect.Take (item.Commands id texts)) plan
+PlansAsked around pairs id texts false plan = IsWrong around pairs plan
+
+-- the lines have commands that can be sent together
+pub record AsksTexts (around : Around) (pairs : List Pair) (id : ℕ) (plan : Plan) : Type 0 where
+  pub texts : List (List ℕ)
+  pub are : texts_in (value_of (codes "lines") pairs) ≡ Some texts
+  pub plans : PlansAsked around pairs id texts (would_be_done around.mirror.now id texts) plan
+
+-- new commands, for which there is room
+abbrev pub PlansLines : Around → List Pair → ℕ → Plan → Type 0
+PlansLines around pairs id plan =
+    (AreUnfit (value_of (codes "lines") pairs) × IsWrong around pairs plan)
+    ⊎ AsksTexts around pairs id plan
+
+-- by what has become of the form, and whether there is no room
+abbrev pub PlansListFor : Around → List Pair → ℕ → Option State → Bool → Plan → Type 0
+PlansListFor around pairs id (Some state) full plan =
+    Sends (page_after pairs) effect.Nothing plan
+PlansListFor around pairs id None true plan = plan ≡ refuses problem.Busy
+PlansListFor around pairs id None false plan = PlansLines around pairs id plan
+
+abbrev pub PlansListOf : Around → QueueOf → List Pair → Option ℕ → Plan → Type 0
+PlansListOf around q pairs None plan = plan ≡ refuses problem.BadForm
+PlansListOf around q pairs (Some id) plan =
+    PlansListFor around pairs id (found_in q id) (is_full q) plan
+
+-- the form of several commands
+abbrev pub PlansList : Around → QueueOf → List Pair → Plan → Type 0
+PlansList around q pairs plan =
+    PlansListOf around q pairs (form_id_of (value_of (codes "id") pairs)) plan
+
+-- ---- commands that are looked at
+
+abbrev pub tried_as : Tried → List ℕ × Answer
+tried_as tried = (tried.text.now, tried.answer)
+
+-- each text with its answer
+abbrev pub paired : List (List ℕ) → List Answer → List (List ℕ × Answer)
+paired [] answers = []
+paired (text ∷ texts) [] = []
+paired (text ∷ texts) (answer ∷ answers) = (text, answer) ∷ paired texts answers
+
+-- the page says what each would be answered, if the first had the first id of the page's forms
+pub record Previews (around : Around) (texts : List (List ℕ)) (plan : Plan) : Type 0 where
+  pub tried : List Tried
+  pub are : map tried_as tried
+      ≡ paired texts (answered around.mirror.now (get_or around.ids.now 0 0) texts)
+  pub shows : ShowsPage shown.Asked (preview_page around tried) plan
+
+-- lines are looked at
+abbrev pub LooksAt : Around → List ℕ → Plan → Type 0
+LooksAt around lines plan =
+    (AreUnfit lines × RefusesFor around (codes "/import") plan)
+    ⊎ ((texts : List (List ℕ)) × (texts_in lines ≡ Some texts) × Previews around texts plan)

@@ -1,0 +1,167 @@
+//! Commands that are looked at before they are sent: from lines, or from a competition's file.
+
+ghost use Rattle.std.specs.Prelude.{◌≡◌, ◌++◌, ◌∷◌, [], IfOk, OnOk, get_or, length, map};
+ghost use Rattle.std.specs.Option.{option_copied};
+ghost use Rattle.table_service.specs.Lists.{LooksAt, Previews, paired, tried_as};
+ghost use Rattle.table_service.specs.Imports.{PlansFile, PlansImport, PlansParts, boundary_in};
+ghost use Rattle.table_service.specs.Imports.{content_of, named, options_of};
+
+use crate::commanding::refuse;
+use crate::listing::UNFIT;
+use crate::plan::{Plan, Problem, Shown};
+use bytes::Bytes;
+use card_forms::{CommandText, CommandTexts, FormId};
+use command_lists::{FileLines, answers_to, lines_of_file, texts_in};
+use form_data::{Part, boundary_of, parts};
+use hall_views::{Tried, faults_page, preview_page};
+use http::{Request, header};
+use std::alloc::{AllocError, Global};
+use table_views::Around;
+use texts::Answer;
+use wcif::{CumulativeLimits, Options, SameNames};
+
+/// The page that commands are sent from.
+const PLACE: &[u8] = b"/import";
+
+/// Puts a text with its answer after the others.
+fn push_tried<'a>(
+    tried: &mut Vec<Tried<'a>>,
+    text: &'a CommandText,
+    answer: Answer,
+) -> Result<(), AllocError>
+    ensures { OnOk result (map tried_as tried.new.items
+        ≡ map tried_as tried.old.items ++ (text.now, answer) ∷ []) }
+{
+    let text = text.as_bytes();
+    tried.push(Tried { text, answer })?;
+    Ok(())
+}
+
+/// Each text with its answer.
+fn tried_of<'a>(
+    alloc: Global,
+    texts: &'a [CommandText],
+    answers: &[Answer],
+) -> Result<Vec<Tried<'a>>, AllocError>
+    requires { length answers.now ≡ length texts.now }
+    ensures { IfOk result (λ tried. map tried_as tried.items ≡ paired texts.now answers.now) }
+{
+    let mut tried = Vec::new(alloc);
+    for (place, text) in texts.iter().enumerate() {
+        push_tried(&mut tried, text, answers[place])?;
+    }
+    Ok(tried)
+}
+
+/// The first of the ids of a page's forms.
+fn first_id(ids: &[FormId; 32]) -> FormId
+    ensures { result ≡ get_or ids.now 0 0 }
+{
+    ids[0]
+}
+
+/// The page that says what each command would be answered.
+fn preview(alloc: Global, around: &Around<'_>, texts: &CommandTexts) -> Result<Plan, AllocError>
+    ensures { IfOk result (Previews around.entry.now texts.now) }
+{
+    let id = first_id(around.ids);
+    let answers = answers_to(alloc, around.mirror.log(), id, texts)?;
+    let tried = tried_of(alloc, texts.as_slice(), &answers)?;
+    let page = preview_page(alloc, around, &tried)?;
+    Ok(Plan::with_ids(Shown::Asked, page))
+}
+
+/// What is to be done for lines that are to be looked at.
+pub(crate) fn look(alloc: Global, around: &Around<'_>, lines: &[u8]) -> Result<Plan, AllocError>
+    ensures { IfOk result (LooksAt around.entry.now lines.now) }
+{
+    match texts_in(alloc, lines)? {
+        Some(texts) => preview(alloc, around, &texts),
+        None => refuse(alloc, around, PLACE, UNFIT),
+    }
+}
+
+/// What is to be done for a competition's file.
+fn look_at_file(
+    alloc: Global,
+    around: &Around<'_>,
+    options: Options,
+    bytes: &[u8],
+) -> Result<Plan, AllocError>
+    ensures { IfOk result (PlansFile around.entry.now options bytes.now) }
+{
+    match lines_of_file(alloc, bytes, options)? {
+        FileLines::Lines(lines) => look(alloc, around, &lines),
+        FileLines::Refused { fault, words } => {
+            let _fault = fault;
+            let page = faults_page(alloc, around, PLACE, &words)?;
+            Ok(Plan::with_ids(Shown::Wrong, page))
+        }
+    }
+}
+
+/// The content of the first part of this name; nothing where there is none.
+fn content_of<'a>(parts: &[Part<'a>], name: &[u8]) -> &'a [u8]
+    ensures { result.now ≡ content_of name.now (map named parts.now) }
+{
+    for part in parts {
+        if part.name == name {
+            return part.content;
+        }
+    }
+    b""
+}
+
+/// How the file is to be read.
+fn options_of(parts: &[Part<'_>]) -> Options
+    ensures { result ≡ options_of (map named parts.now) }
+{
+    Options {
+        limits: if content_of(parts, b"cumulative") == b"as-single".as_slice() {
+            CumulativeLimits::AsSingle
+        } else {
+            CumulativeLimits::Refuse
+        },
+        names: if content_of(parts, b"same-names") == b"id".as_slice() {
+            SameNames::WithId
+        } else {
+            SameNames::Refuse
+        },
+    }
+}
+
+/// What is to be done for the parts of a form with a file, if it carries the token.
+fn look_at_parts(alloc: Global, around: &Around<'_>, parts: &[Part<'_>]) -> Result<Plan, AllocError>
+    ensures { IfOk result (PlansParts around.entry.now (map named parts.now)) }
+{
+    if content_of(parts, b"token") == around.token {
+        look_at_file(alloc, around, options_of(parts), content_of(parts, b"file"))
+    } else {
+        Ok(Plan::problem(Problem::Foreign))
+    }
+}
+
+/// The boundary of the parts of a request's body.
+fn boundary_in(request: &Request<Bytes>) -> Option<&[u8]>
+    ensures { option_copied result ≡ boundary_in request.now }
+{
+    let value = request.headers().get(header::CONTENT_TYPE)?;
+    boundary_of(value.as_bytes())
+}
+
+/// What is to be done for a form with a competition's file.
+pub(crate) fn plan_import(
+    alloc: Global,
+    around: &Around<'_>,
+    request: &Request<Bytes>,
+) -> Result<Plan, AllocError>
+    ensures { IfOk result (PlansImport around.entry.now request.now) }
+{
+    let Some(boundary) = boundary_in(request) else {
+        return Ok(Plan::problem(Problem::BadForm));
+    };
+    match parts(alloc, boundary, request.body())? {
+        Some(parts) => look_at_parts(alloc, around, &parts),
+        None => Ok(Plan::problem(Problem::BadForm)),
+    }
+}
