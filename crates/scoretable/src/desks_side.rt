@@ -20,8 +20,9 @@ use table_views::Desks;
 /// Milliseconds that sockets are waited for at most.
 const LONGEST_WAIT: u64 = 250;
 
-/// How often the desk is asked for its log while entries wait, in milliseconds.
-const HURRY: u64 = 20;
+/// How long after the desk has taken the last entry it is asked for its log, and how often while
+/// entries wait, in milliseconds. Three desks on one machine have mostly decided by then.
+const HURRY: u64 = 10;
 
 /// How many steps the queue takes at once: more than there are items that wait, each with two.
 const MOST_STEPS: u32 = 2_500;
@@ -51,7 +52,7 @@ pub struct DesksSide<'a> {
     caught_up: bool,
     /// When the desk that is followed answered last.
     answered_at: u64,
-    /// When the desk was asked at once for what comes next.
+    /// When the desk was asked at once for what comes next, or had not taken everything.
     hurried_at: u64,
 }
 
@@ -147,9 +148,13 @@ impl<'a> DesksSide<'a> {
         Ok(())
     }
 
-    /// Asks the desk at once for what comes next, where what it has taken waits to be decided.
+    /// Asks the desk at once for what comes next, where what it has taken waits to be decided. Not
+    /// as soon as it was taken: a desk takes few questions on one connection, and one that comes
+    /// too early may be its last.
     fn hurry(&mut self, service: &mut TableService<JournalFile>, now: u64) {
-        if self.sending.is_taken() && now.saturating_sub(self.hurried_at) >= HURRY {
+        if !self.sending.is_taken() {
+            self.hurried_at = now;
+        } else if now.saturating_sub(self.hurried_at) >= HURRY {
             self.hurried_at = now;
             service.hurry();
         }
