@@ -2,8 +2,8 @@
 //!
 //! [`Pairs`] are the names and values of a body of `application/x-www-form-urlencoded`. From them
 //! [`card_form`] takes a card as it was typed, and [`command_form`] a command as it will be sent.
-//! [`card_of`] reads the fields of a card. An [`Item`] is a card or some commands, and [`State`] says
-//! what has become of it.
+//! [`card_of`] reads the fields of a card. An [`Item`] is a card or some commands, and [`State`]
+//! says what has become of it.
 #![tactic(auto)]
 
 mod asking;

@@ -68,7 +68,8 @@ abbrev pub IdsAreApart : Type 0
 IdsAreApart =
     (one other : Item) (now later : List Command) (entries others : List Entry) (i j : ℕ)
     (entry another : Entry)
-    → SendsFor one now entries → SendsFor other later others → id_of one + count_ids one ≤ id_of other
+    → SendsFor one now entries → SendsFor other later others
+    → id_of one + count_ids one ≤ id_of other
     → slice_get entries i ≡ Some entry → slice_get others j ≡ Some another
     → entry.id ≢ another.id
 

@@ -17,7 +17,8 @@ pub pairs_left : (texts : List (List ℕ)) (answers : List Answer) (i : ℕ) (t 
 pairs_left texts answers i t a within among =
     at_drop_more (λ (ts : List (List ℕ)). paired ts (drop i answers)) texts i t within
     ∙ at_drop_more
-    (λ (given : List Answer). paired (get_or texts i t ∷ drop (i + 1) texts) given) answers i a among
+    (λ (given : List Answer). paired (get_or texts i t ∷ drop (i + 1) texts) given) answers i a
+    among
 
 entries_count : (id : ℕ) (texts : List (List ℕ)) → length (command_entries id texts) ≡ length texts
 entries_count id [] = refl

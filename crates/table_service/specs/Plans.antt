@@ -1,6 +1,7 @@
 -- What is to be done for a request, by what stands around a page.
 use Rattle.std.specs.Prelude.{◌≡◌, ◌⊎◌, ℕ, ◌&&◌, ◌||◌, not, Bool, true, false, if◌then◌else◌}
-use Rattle.std.specs.Prelude.{bytes_eq, nat_lt, codes, decimal, List, [], ◌∷◌, ◌++◌, length, is_some}
+use Rattle.std.specs.Prelude.{bytes_eq, nat_lt, codes, decimal, List, [], ◌∷◌, ◌++◌, length}
+use Rattle.std.specs.Prelude.{is_some}
 use Rattle.std.specs.Prelude.{Option, None, Some, Result, Ok, Err}
 use Rattle.http.specs.declared.request.Request.{Request}
 use Rattle.formats.specs.Events.{event_name}

@@ -1,5 +1,6 @@
 -- The cards and the commands of late, and what became of each.
-use Rattle.std.specs.Prelude.{ℕ, zero, suc, ◌-◌, ◌/◌, List, [], ◌∷◌, ◌++◌, codes, decimal, flat_map, length}
+use Rattle.std.specs.Prelude.{ℕ, zero, suc, ◌-◌, ◌/◌, List, [], ◌∷◌, ◌++◌, codes, decimal}
+use Rattle.std.specs.Prelude.{flat_map, length}
 use Rattle.std.specs.Prelude.{count_by, Option, None, Some}
 use Rattle.board_page.specs.Escaped.{escaped}
 use Rattle.card_forms.specs.declared.cards.CardForm.{CardForm}
