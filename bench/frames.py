@@ -26,7 +26,9 @@ CODES = ("Unread", "Repeat", "UnknownCompetitor", "NameTaken", "RoundUnknown", "
          "WrongOutcome",
          "Closed", "Already", "Full", "NotEntered", "OutOfOrder", "NoMoreAttempts", "NoSuchAttempt",
          "CutoffLost",
-         "Unfinished")
+         "Unfinished", "HasAttempts", "NotClosed")
+# versions 1 and 2 have none of the codes after Unfinished
+CODES_OF_1 = CODES[:22]
 REFUSALS = ("Busy", "LogFull", "BallotsSpent", "NoMemory", "Down", "NotThere", "NoSuchRound",
             "Foreign")
 STYLES = ("Text", "Table")
@@ -95,7 +97,8 @@ class Fields:
         if case < 2:
             return ("Unknown", "Pending")[case]
         position = self.position()
-        answer = self.one_of(("Done",) + CODES, 0)
+        codes = CODES if self.version == 3 else CODES_OF_1
+        answer = self.one_of(("Done",) + codes, 0)
         said = answer if answer == "Done" else f"Refused({answer})"
         return f"Done {{ pos: {position}, answer: {said} }}"
 

@@ -28,7 +28,7 @@ CODES = ("Unread", "Repeat", "UnknownCompetitor", "NameTaken", "RoundUnknown", "
          "WrongOutcome",
          "Closed", "Already", "Full", "NotEntered", "OutOfOrder", "NoMoreAttempts", "NoSuchAttempt",
          "CutoffLost",
-         "Unfinished")
+         "Unfinished", "HasAttempts", "NotClosed")
 # the order in which an event's formats are listed
 FORMATS = ("ao5", "mo3", "bo1", "bo2", "bo3")
 MOST_MOVES = 400
@@ -212,7 +212,7 @@ def format_lines(text):
 
 def code_lines(text):
     number = int(text)
-    return [f"{number} {CODES[number - 1]} {CODES[number - 1]}" if 1 <= number <= 22 else "no code"]
+    return [f"{number} {CODES[number - 1]} {CODES[number - 1]}" if 1 <= number <= 24 else "no code"]
 
 
 def later_lines(text):
@@ -232,14 +232,23 @@ def percent_lines(text):
 # --- commands ------------------------------------------------------------------------------------
 
 
+def any_name(text):
+    """A name of some edition."""
+    return rules.early_name(text) or rules.clear_name(text)
+
+
+# the words of all editions
+WORDS = rules.WORDS_OF_THREE | {b"REG": ([rules.WHO, any_name], True)}
+
+
 def read_lines(text):
     """The text again, or its first fault from the left."""
     if len(text) > rules.MOST_IN_COMMAND:
         return ["TooLong"]
     word, space, rest = text.partition(b" ")
-    if word not in rules.WORDS:
+    if word not in WORDS:
         return ["NotACommand"]
-    readers, last_is_rest = rules.WORDS[word]
+    readers, last_is_rest = WORDS[word]
     fields = (rest.split(b" ", len(readers) - 1) if last_is_rest
               else rest.split(b" ")) if space else []
     for index, reader in enumerate(readers, 1):

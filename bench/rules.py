@@ -10,6 +10,7 @@ crates: slow, plain, with whole lists in place of tables; bench/stickers.py has 
 
 import re
 import sys
+import unicodedata
 from pathlib import Path
 
 sys.dont_write_bytecode = True
@@ -36,6 +37,8 @@ MOST_IN_COMMAND = 600
 MOST_ENTRANTS = 999
 
 NUMBER = re.compile(rb"0|[1-9][0-9]*")
+# the categories of characters that no name of edition 3 has
+UNSEEN = ("Cc", "Cf", "Co", "Cn", "Zl", "Zp")
 
 
 # --- lines ---------------------------------------------------------------------------------------
@@ -77,14 +80,29 @@ def one_of(spellings):
     return lambda text: text.decode() if text in known else None
 
 
-def name(text):
+def parted(text):
+    """Whether it is UTF-8, and one space stands between two words."""
     try:
         text.decode("utf-8")
     except UnicodeDecodeError:
-        return None
+        return False
+    return not (text.startswith(b" ") or text.endswith(b" ") or b"  " in text)
+
+
+def early_name(text):
+    """A name of editions 1 and 2."""
     plain = all(byte >= 32 and byte != 127 for byte in text)
-    spaced = text.startswith(b" ") or text.endswith(b" ") or b"  " in text
-    return text if 1 <= len(text) <= 80 and plain and not spaced else None
+    return text if 1 <= len(text) <= 80 and plain and parted(text) else None
+
+
+def clear_name(text):
+    """A name of edition 3. (Python's Unicode is older than the program's: what has come since is
+    Cn here.)"""
+    if not 1 <= len(text) <= 160 or not parted(text):
+        return None
+    plain = all(letter != '"' and unicodedata.category(letter) not in UNSEEN
+                for letter in text.decode("utf-8"))
+    return text if plain else None
 
 
 def cutoff(text):
@@ -142,7 +160,7 @@ ROUND, COUNT = in_range(1, 4), in_range(1, 5)
 
 # each word: how its fields are read, and whether the last is the rest of the text
 WORDS = {
-    b"REG": ([WHO, name], True),
+    b"REG": ([WHO, early_name], True),
     b"OPEN": ([EVENT, ROUND, FORMAT, cutoff, limit, advance], False),
     b"ENT": ([EVENT, WHO], False),
     b"SCR": ([EVENT, ROUND, COUNT, moves], True),
@@ -151,27 +169,40 @@ WORDS = {
     b"STR": ([EVENT, ROUND, WHO], False),
     b"ADV": ([EVENT, ROUND, advance], False),
     b"CLOSE": ([EVENT, ROUND], False),
-    b"EDITION": ([in_range(2, 2)], False),
+    b"EDITION": ([in_range(2, 3)], False),
+}
+
+# what edition 3 has otherwise, and besides
+WORDS_OF_THREE = WORDS | {
+    b"REG": ([WHO, clear_name], True),
+    b"REN": ([WHO, clear_name], True),
+    b"SET": ([EVENT, ROUND, FORMAT, cutoff, limit], False),
+    b"RSC": ([EVENT, ROUND, COUNT, moves], True),
+    b"WDR": ([EVENT, ROUND, WHO], False),
+    b"REOPEN": ([EVENT, ROUND], False),
 }
 
 
-def read(text):
-    """A word and its fields, or None where the text is no command."""
+def read(text, edition):
+    """A word and its fields, or None where the text is no command of the edition."""
+    words = WORDS_OF_THREE if edition == 3 else WORDS
     word, space, rest = text.partition(b" ")
-    if len(text) > MOST_IN_COMMAND or word not in WORDS or not space:
+    if len(text) > MOST_IN_COMMAND or word not in words or not space:
         return None
-    readers, last_is_rest = WORDS[word]
+    readers, last_is_rest = words[word]
     fields = rest.split(b" ", len(readers) - 1) if last_is_rest else rest.split(b" ")
     if len(fields) != len(readers):
         return None
     values = [reader(field) for reader, field in zip(readers, fields)]
-    return None if None in values else (word.decode(), values)
+    if None in values or (edition == 1 and has_multi(values)):
+        return None
+    return word.decode(), values
 
 
-def edition_of(word, fields):
-    """The first edition that has the spelling."""
-    outcomes = [field for field in fields if isinstance(field, tuple) and field[0] == "M"]
-    return 2 if "333mbf" in fields or outcomes else 1
+def has_multi(values):
+    """Whether a field came with edition 2: its event or its outcome."""
+    return "333mbf" in values or any(isinstance(value, tuple) and value[0] == "M"
+                                     for value in values)
 
 
 # --- results -------------------------------------------------------------------------------------
@@ -242,6 +273,10 @@ class Round:
         self.limit, self.advance = time_limit, wish
         self.scrambles = {}
         self.entrants = {who: [] for who in entrants}
+        # whose attempts stand as solutions: (competitor, attempt)
+        self.solved = set()
+        # those of the round before who took the place of one who withdrew
+        self.taken_in = set()
         self.closed = False
 
     def meets(self, values):
@@ -288,20 +323,23 @@ class Round:
 class Meet:
     def __init__(self):
         self.names = {}
-        self.taken = set()
+        # who has a name
+        self.owners = {}
         # (event, round) to Round
         self.rounds = {}
         self.edition = 1
 
     def apply(self, text):
         """None where the command is done, otherwise the code of its refusal."""
-        command = read(text)
-        if command is None or edition_of(*command) > self.edition:
+        command = read(text, self.edition)
+        if command is None:
             return "Unread"
         word, fields = command
         return {"REG": self.register, "OPEN": self.open, "ENT": self.enter, "SCR": self.scramble,
                 "ATT": self.attempt, "COR": self.correct, "STR": self.strike, "ADV": self.change,
-                "CLOSE": self.close, "EDITION": self.set_edition}[word](*fields)
+                "CLOSE": self.close, "EDITION": self.set_edition, "REN": self.rename,
+                "SET": self.set_round, "RSC": self.rescramble, "WDR": self.withdraw,
+                "REOPEN": self.reopen}[word](*fields)
 
     def set_edition(self, edition):
         if edition <= self.edition:
@@ -311,10 +349,19 @@ class Meet:
     def register(self, who, text):
         if who in self.names:
             return "Already"
-        if text in self.taken:
+        if text in self.owners:
             return "NameTaken"
         self.names[who] = text
-        self.taken.add(text)
+        self.owners[text] = who
+
+    def rename(self, who, text):
+        if who not in self.names:
+            return "UnknownCompetitor"
+        if self.owners.get(text, who) != who:
+            return "NameTaken"
+        del self.owners[self.names[who]]
+        self.names[who] = text
+        self.owners[text] = who
 
     def open(self, what, which, form, cut, time_limit, wish):
         if (what, which) in self.rounds:
@@ -322,14 +369,34 @@ class Meet:
         before = self.rounds.get((what, which - 1))
         if which > 1 and (before is None or not before.closed or before.advance == ("final",)):
             return "RoundUnknown"
+        refusal = self.settings_refusal(what, form, cut, time_limit)
+        if refusal is not None:
+            return refusal
+        entrants = before.advancing() if which > 1 else []
+        self.rounds[what, which] = Round(what, form, cut, time_limit, wish, entrants)
+
+    @staticmethod
+    def settings_refusal(what, form, cut, time_limit):
         if form not in FORMATS[what]:
             return "FormatNotAllowed"
         if cut != "-" and (what == "333mbf" or cut[0] >= ATTEMPTS[form]):
             return "CutoffNotAllowed"
         if (time_limit == "-") != (what in TAKES):
             return "LimitNotAllowed"
-        entrants = before.advancing() if which > 1 else []
-        self.rounds[what, which] = Round(what, form, cut, time_limit, wish, entrants)
+        return None
+
+    def set_round(self, what, which, form, cut, time_limit):
+        if (what, which) not in self.rounds:
+            return "RoundUnknown"
+        table = self.rounds[what, which]
+        if table.closed:
+            return "Closed"
+        if any(table.entrants.values()):
+            return "HasAttempts"
+        refusal = self.settings_refusal(what, form, cut, time_limit)
+        if refusal is not None:
+            return refusal
+        table.form, table.cutoff, table.limit = form, cut, time_limit
 
     def enter(self, what, who):
         if who not in self.names:
@@ -358,6 +425,54 @@ class Meet:
         if count in table.scrambles:
             return "ScrambleThere"
         table.scrambles[count] = tokens
+
+    def rescramble(self, what, which, count, tokens):
+        if (what, which) not in self.rounds:
+            return "RoundUnknown"
+        table = self.rounds[what, which]
+        if what != "333fm":
+            return "WrongOutcome"
+        if count not in table.scrambles:
+            return "NoScramble"
+        if table.closed:
+            return "Closed"
+        if any(solved == count for _, solved in table.solved):
+            return "HasAttempts"
+        table.scrambles[count] = tokens
+
+    def withdraw(self, what, which, who):
+        if who not in self.names:
+            return "UnknownCompetitor"
+        if (what, which) not in self.rounds:
+            return "RoundUnknown"
+        table = self.rounds[what, which]
+        if table.closed:
+            return "Closed"
+        if who not in table.entrants:
+            return "NotEntered"
+        if table.entrants[who]:
+            return "HasAttempts"
+        del table.entrants[who]
+        if which == 1:
+            return None
+        before = self.rounds[what, which - 1]
+        advanced = before.advancing()
+        for other in before.standings():
+            if (other not in advanced and other not in table.taken_in
+                    and numbers(before.entrants[other])):
+                table.taken_in.add(other)
+                table.entrants[other] = []
+                break
+        return None
+
+    def reopen(self, what, which):
+        if (what, which) not in self.rounds:
+            return "RoundUnknown"
+        if not self.rounds[what, which].closed:
+            return "NotClosed"
+        if (what, which + 1) in self.rounds:
+            return "RoundOpen"
+        self.rounds[what, which].closed = False
 
     def refusal(self, what, which, count, who, out):
         """The checks that an attempt and a correction begin with."""
@@ -399,6 +514,8 @@ class Meet:
         if len(values) == table.allotted(values):
             return "NoMoreAttempts"
         values.append(self.settle(what, which, count, out))
+        if out[0] == "S":
+            table.solved.add((who, count))
 
     def correct(self, what, which, count, who, out):
         refusal = self.refusal(what, which, count, who, out)
@@ -412,6 +529,9 @@ class Meet:
         if table.cutoff != "-" and len(values) > table.cutoff[0] and not table.meets(changed):
             return "CutoffLost"
         table.entrants[who] = changed
+        table.solved.discard((who, count))
+        if out[0] == "S":
+            table.solved.add((who, count))
 
     def strike(self, what, which, who):
         if who not in self.names:
@@ -425,6 +545,7 @@ class Meet:
             return "NotEntered"
         if not table.entrants[who]:
             return "NoSuchAttempt"
+        table.solved.discard((who, len(table.entrants[who])))
         table.entrants[who].pop()
 
     def change(self, what, which, wish):

@@ -134,6 +134,10 @@ class Pages:
             return "absent"
         return "begun" if len(values) < table.allotted(values) else "done"
 
+    @staticmethod
+    def may_leave(table, who):
+        return not table.closed and who in table.entrants and not table.entrants[who]
+
     def with_progress(self, table, progress):
         return [who for who in table.standings() if self.progress(table, who) == progress]
 
@@ -178,6 +182,9 @@ class Pages:
             place = ("entered at this table" if origin[0] == "here"
                      else "from no card of this table")
             out += f'<p class="origin">Entry {origin[1]} of the log, {place}</p>\n'
+        if self.may_leave(table, who):
+            out += (f'<p class="origin"><a href="/person/{who}">Withdraw competitor {who}</a>'
+                    "</p>\n")
         if any(fault for _, _, fault in said):
             out += '<p class="told">Not entered yet: what is wrong is said below.</p>\n'
         elif said:
@@ -275,10 +282,43 @@ class Pages:
                + "<tbody>\n")
         for who in sorted(self.meet.names):
             events = "".join(f" {what}" for what, table in first if who in table.entrants)
-            out += (f'<tr><td>{who}</td><td dir="auto">{self.name(who)}</td>'
-                    f"<td>{events}</td></tr>\n")
+            out += (f'<tr><td>{who}</td><td dir="auto"><a href="/person/{who}">{self.name(who)}'
+                    f"</a></td><td>{events}</td></tr>\n")
         out += "</tbody></table></section>\n"
         return self.page("hall", "Competitors", out + self.recent())
+
+    def edition_form(self, back):
+        return ("<h2>Edition 3</h2>\n<p>With it the commands can change a name, the settings of a "
+                "round and a scramble, withdraw a competitor, and open a closed round again, and "
+                "they have 3x3x3 Multi-Blind. It can't be taken back. This is sent: "
+                "<code>EDITION 3</code></p>\n" + self.form(0, "EDITION", back)
+                + hidden("text", "EDITION 3") + "\n" + self.button("Go on to edition 3"))
+
+    def person(self, who):
+        back, number = f"/person/{who}", hidden("number", who) + "\n"
+        events = "".join(f" {what}" for what in WORDS
+                         if (what, 1) in self.meet.rounds
+                         and who in self.meet.rounds[what, 1].entrants)
+        out = (f'<section><h1 dir="auto">{self.name(who)}</h1>\n'
+               f"<p>Number {who}, events:{events}</p>\n")
+        if self.meet.edition < 3:
+            out += self.edition_form(back)
+        else:
+            out += ("<h2>Change the name</h2>\n" + self.form(0, "REN", back) + number
+                    + self.field("name", "Name", self.meet.names[who].decode())
+                    + self.button("Change the name"))
+            rounds = [(what, which) for what in WORDS for which in range(1, 5)
+                      if (what, which) in self.meet.rounds
+                      and self.may_leave(self.meet.rounds[what, which], who)]
+            if rounds:
+                out += ("<h2>Withdraw</h2>\n<p>From a round that is open, before the first attempt "
+                        "in it. From a later round it can't be taken back: the best of the round "
+                        "before who has a result, did not go on and has not taken a place yet "
+                        "takes the place.</p>\n" + self.form(1, "WDR", back) + number
+                        + "".join(f'<button name="round" value="{what}-{which}">Withdraw from '
+                                  f"{self.words(what, which)}</button>\n"
+                                  for what, which in rounds) + "</form>\n")
+        return self.page("hall", "Competitor", out + "</section>\n" + self.recent())
 
     def refused(self):
         return self.page("hall", "Not sent", (
@@ -372,12 +412,9 @@ class Pages:
                         f"{words}</td>")
             out += "</tr>\n"
         out += "</tbody></table>\n"
-        if self.meet.edition >= 2:
-            return out + "<p>Edition 2 of the commands holds.</p>\n</section>\n"
-        return out + ("<h2>Edition 2</h2>\n<p>With it the commands have 3x3x3 Multi-Blind. "
-                      "It can't be taken back. This is sent: <code>EDITION 2</code></p>\n"
-                      + self.form(0, "EDITION", "/rounds") + hidden("text", "EDITION 2") + "\n"
-                      + self.button("Go on to edition 2") + "</section>\n")
+        if self.meet.edition >= 3:
+            return out + "<p>Edition 3 of the commands holds.</p>\n</section>\n"
+        return out + self.edition_form("/rounds") + "</section>\n"
 
     def advance_fields(self, advance):
         options = "".join(
@@ -401,25 +438,47 @@ class Pages:
         limit = "" if before.limit == "-" else rules.printed(before.limit, "333")
         return told, before.form, limit, advance
 
+    def rule_fields(self, what, chosen, cutoff, limit):
+        forms = [form for form in FORMS if form in rules.FORMATS[what]]
+        options = "".join(
+            f'<option value="{form}"{" selected" if form == chosen else ""}>{FORMS[form]}'
+            "</option>\n" for form in forms)
+        out = f'<label>Format <select name="format">\n{options}</select></label>\n'
+        if what != "333mbf":
+            after, below = ("", "") if cutoff == "-" else cutoff
+            out += ('<label>Cutoff after <select name="after">\n<option value="">none</option>\n'
+                    + "".join(f"<option{' selected' if count == after else ''}>{count}</option>\n"
+                              for count in range(1, 5 if "ao5" in forms else 3))
+                    + "</select> attempts</label>\n"
+                    + self.field("cutoff", "one of them below (as 15.00)",
+                                 below and rules.printed(below, what)))
+        if unit(what) == "time":
+            out += self.field("limit", "Time limit", limit)
+        return out
+
     def opening(self, what, which):
         where = f"{what}-{which}"
         told, proposed, limit, advance = self.proposed(what, which)
-        forms = [form for form in FORMS if form in rules.FORMATS[what]]
-        options = "".join(
-            f'<option value="{form}"{" selected" if form == proposed else ""}>{FORMS[form]}'
-            "</option>\n" for form in forms)
-        out = (f"<h2>Open the round</h2>\n<p>{told}change what you like.</p>\n"
-               + self.form(0, "OPEN", f"/rounds?round={where}") + hidden("round", where)
-               + f'\n<label>Format <select name="format">\n{options}</select></label>\n')
-        if what != "333mbf":
-            most = 4 if "ao5" in forms else 2
-            out += ('<label>Cutoff after <select name="after">\n<option value="">none</option>\n'
-                    + "".join(f"<option>{count + 1}</option>\n" for count in range(most))
-                    + "</select> attempts</label>\n"
-                    + self.field("cutoff", "one of them below (as 15.00)"))
-        if unit(what) == "time":
-            out += self.field("limit", "Time limit", limit)
-        return out + self.advance_fields(advance) + self.button("Open the round")
+        return (f"<h2>Open the round</h2>\n<p>{told}change what you like.</p>\n"
+                + self.form(0, "OPEN", f"/rounds?round={where}") + hidden("round", where) + "\n"
+                + self.rule_fields(what, proposed, "-", limit)
+                + self.advance_fields(advance) + self.button("Open the round"))
+
+    def changing(self, what, where, table):
+        attempted = any(table.entrants.values())
+        link = '<p>With <a href="/rounds">edition 3</a>'
+        if self.meet.edition < 3:
+            if what == "333fm":
+                return (f"{link} a scramble could be changed, and before the first attempt format "
+                        "and cutoff.</p>\n")
+            return "" if attempted else (f"{link} format, cutoff and limit could be changed before "
+                                         "the first attempt.</p>\n")
+        limit = "" if table.limit == "-" else rules.printed(table.limit, "333")
+        return "" if attempted else (
+            "<h2>Change format, cutoff and limit</h2>\n"
+            + self.form(5, "SET", f"/rounds?round={where}") + hidden("round", where) + "\n"
+            + self.rule_fields(what, table.form, table.cutoff, limit)
+            + self.button("Change format, cutoff and limit"))
 
     def entrants(self, where, numbers):
         return "".join(f'<li><a href="/card/{where}?number={who}"><b>{who}</b> '
@@ -439,14 +498,16 @@ class Pages:
     def scrambles(self, what, where, table):
         out = "<h2>Scrambles</h2>\n"
         for count in range(1, rules.ATTEMPTS[table.form] + 1):
+            word, words, moves = "SCR", "Set the scramble", ""
             if count in table.scrambles:
+                word, words = "RSC", "Change the scramble"
                 moves = " ".join(table.scrambles[count])
                 out += f"<p>Scramble {count}: <code>{escaped(moves)}</code></p>\n"
-            else:
-                out += (self.form(count + 1, "SCR", f"/rounds?round={where}")
+            if word == "SCR" or self.meet.edition >= 3:
+                out += (self.form(count + 1, word, f"/rounds?round={where}")
                         + hidden("round", where) + "\n"
                         + self.field("attempt", "Scramble of attempt", count)
-                        + self.field("moves", "moves") + self.button("Set the scramble"))
+                        + self.field("moves", "moves", moves) + self.button(words))
         return out
 
     def open_round(self, what, where, table):
@@ -457,12 +518,16 @@ class Pages:
                 out += f"<h2>{heading}</h2>\n<ul>\n{self.entrants(where, numbers)}</ul>\n"
         out += self.never_came(where, table)
         text, back = f"CLOSE {where.replace('-', ' ')}", f"/rounds?round={where}"
-        return (out + self.through(where, table) + "<h2>Change who goes on</h2>\n"
+        again = (", unless it is opened again before the next round is opened"
+                 if self.meet.edition >= 3 else "")
+        return (out + self.through(where, table) + self.changing(what, where, table)
+                + "<h2>Change who goes on</h2>\n"
                 + self.form(1, "ADV", back) + hidden("round", where) + "\n"
                 + self.advance_fields(table.advance)
                 + self.button("Change who goes on") + "<h2>Close the round</h2>\n"
                 + self.form(0, "CLOSE", back) + hidden("round", where) + "\n" + hidden("text", text)
-                + f"\n<p>Nothing in it changes afterwards. This is sent: <code>{text}</code></p>\n"
+                + f"\n<p>Nothing in it changes afterwards{again}. This is sent: "
+                f"<code>{text}</code></p>\n"
                 + self.button("Close the round"))
 
     def forms(self, what, which):
@@ -481,11 +546,19 @@ class Pages:
         return out + "</section>\n"
 
     def closed(self, what, which, table):
-        out = "<p>The round is closed.</p>\n" + self.through(f"{what}-{which}", table)
-        if table.advance == ("final",) or which == 4:
+        where = f"{what}-{which}"
+        out = "<p>The round is closed.</p>\n" + self.through(where, table)
+        if table.advance != ("final",) and which < 4:
+            link = f"/rounds?round={what}-{which + 1}"
+            out += f'<p><a href="{link}">Open the next round</a></p>\n'
+        if (what, which + 1) in self.meet.rounds:
             return out
-        link = f"/rounds?round={what}-{which + 1}"
-        return out + f'<p><a href="{link}">Open the next round</a></p>\n'
+        if self.meet.edition < 3:
+            return out + ('<p>With <a href="/rounds">edition 3</a> it could be opened again.'
+                          "</p>\n")
+        return out + ("<p>It can be opened again until the next round is opened.</p>\n"
+                      + self.form(0, "REOPEN", f"/rounds?round={where}") + hidden("round", where)
+                      + "\n" + self.button("Open it again"))
 
     def rounds(self, round_):
         inside = self.all_rounds() if round_ is None else self.forms(*round_)
@@ -533,6 +606,9 @@ class Pages:
         if path.startswith("/rounds"):
             found = ROUND.fullmatch(path.removeprefix("/rounds").removeprefix("?round="))
             return self.rounds(found and (found[1], int(found[2])))
+        if kind == "person":
+            who = int(rest)
+            return self.person(who) if who in self.meet.names else "none\n"
         name, _, query = rest.partition("?number=")
         query, _, origin = query.partition("&")
         found = ROUND.fullmatch(name)

@@ -25,8 +25,9 @@ EVENTS = """333 222 444 555 666 777 333bf 333fm 333oh clock minx pyram skewb sq1
 555bf 333mbf""".split()
 CODES = """Done Unread Repeat UnknownCompetitor NameTaken RoundUnknown RoundOpen RoundsRule
 FormatNotAllowed CutoffNotAllowed LimitNotAllowed NoScramble ScrambleThere WrongOutcome Closed
-Already Full NotEntered OutOfOrder NoMoreAttempts NoSuchAttempt CutoffLost Unfinished""".split()
-REFUSALS = "Busy LogFull BallotsSpent NoMemory Down NotThere NoSuchRound Foreign".split()
+Already Full NotEntered OutOfOrder NoMoreAttempts NoSuchAttempt CutoffLost Unfinished
+HasAttempts NotClosed""".split()
+REFUSALS = "Busy LogFull BallotsSpent NoMemory Down NotThere NoSuchRound Foreign NotAllowed".split()
 ROLES = "idle gathering proposing leading".split()
 SUBMIT, ASK, SHEET, TICK, STOP, STATUS, LOG = 16, 17, 18, 19, 20, 21, 22
 TAKEN, TOLD, SHEET_TEXT, REFUSED, FINE, STANDING, ENTRIES = 32, 33, 34, 35, 36, 37, 38
@@ -111,8 +112,17 @@ def enter(given):
 
 
 def ask(given):
+    return asked_in(given, THIRD)  # versions 1 and 2 tell the last two codes as Unread
+
+
+def asked_at_first(given):
+    """What became of an id, in the version that each program knows."""
+    return asked_in(given, FIRST)
+
+
+def asked_in(given, version):
     identity = struct.pack(">Q", given.id)
-    told = exchange(given, ASK, identity, TOLD)
+    told = exchange(given, ASK, identity, TOLD, version)
     if told in (identity + b"\0", identity + b"\1"):
         return b"%s %d\n" % ((b"unknown", b"pending")[told[8]], given.id)
     if told[:9] != identity + b"\2" or len(told) != 14 or told[13] >= len(CODES):
@@ -187,7 +197,7 @@ def met(given, number, address, question):
                 return said
             continue
         name = "" if desk == number else f"this is desk {desk}  "
-        if question is ask:
+        if question is asked_at_first:
             return name + "an earlier program", desk, None
         role, length, waiting, _ = answer
         noun = "command" if length == 1 else "commands"
@@ -202,7 +212,7 @@ def status(given):
     for number, address in enumerate(given.to, 1):
         row = met(given, number, address, standing)
         if row[0] == "no answer":
-            row = met(given, number, address, ask)
+            row = met(given, number, address, asked_at_first)
         said = "no answer in time" if row[0].startswith("no answer from") else row[0]
         rows.append((said, *row[1:]))
     answers = {desk: how for _, desk, how in rows if how}

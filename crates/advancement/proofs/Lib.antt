@@ -1,3 +1,4 @@
 pub mod EachOnce
 pub mod Through
+pub mod Turns
 pub mod Whom

@@ -40,7 +40,7 @@ found_or test true e rest others h = and_true (test e)
 found_or test false e rest others h = h
 
 -- an entrant that is found is among the entrants
-among_entrants : (test : Entrant → Bool) (n : ℕ) (es : List Entrant)
+pub among_entrants : (test : Entrant → Bool) (n : ℕ) (es : List Entrant)
     → (holds_of test (find (has_number n) es) && list_any (λ m. nat_eq m n)
     (map number_of_entrant es))
     ≡ holds_of test (find (has_number n) es)

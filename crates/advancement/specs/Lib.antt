@@ -1,1 +1,3 @@
 pub mod Advancing
+pub mod Waiting
+pub mod WaitingCases

@@ -2,6 +2,8 @@
 //! article 9).
 #![tactic(auto)]
 
+mod waits;
+
 ghost use Rattle.std.specs.Prelude.{◌≡◌, ◌≤◌, ◌&&◌, IfOk, is_some, length, nat_eq, nat_lt};
 ghost use Rattle.std.specs.List.{IsDistinct};
 ghost use Rattle.formats.specs.Results.{number_of};
@@ -13,6 +15,7 @@ use attempts::{NoMemory, Value};
 pub use formats::Advance;
 use rounds::RoundTable;
 use std::alloc::Global;
+pub use waits::{waiting, waiting_worked};
 
 /// How many rounds may follow one with so many competitors (WCA Regulations, article 9m): at most 7
 /// competitors allow none, at most 15 one, at most 99 two, and more three.
@@ -103,7 +106,7 @@ fn is_before(table: &RoundTable, border: u16, number: u16) -> bool
 }
 
 /// Whether a value is a number.
-fn is_number(value: Value) -> bool
+pub(crate) fn is_number(value: Value) -> bool
     ensures { result ≡ is_some (number_of value) }
 {
     matches!(value, Value::Number(_))

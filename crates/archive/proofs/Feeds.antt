@@ -31,15 +31,17 @@ use Rattle.formats.specs.declared.advance.Advance.TheVariants.{Final, Top, Perce
 use Rattle.texts.specs.declared.command.Command.{Command}
 use Rattle.texts.specs.declared.command.Command.TheVariants.{Register, Open, Enter, Scramble}
 use Rattle.texts.specs.declared.command.Command.TheVariants.{Attempt, Correct, Strike, SetAdvance}
-use Rattle.texts.specs.declared.command.Command.TheVariants.{Close, SetEdition}
+use Rattle.texts.specs.declared.command.Command.TheVariants.{Close, SetEdition, Rename, SetRound}
+use Rattle.texts.specs.declared.command.Command.TheVariants.{Rescramble, Withdraw, Reopen}
 use Rattle.texts.specs.declared.command.Entered.{Entered}
 use Rattle.texts.specs.declared.command.Entered.TheVariants.{Time, Solution, Multi, Dnf, Dns}
-use Rattle.texts.specs.Spelling.{is_name_byte, is_name, IsFit, IsFitCutoff, IsFitLimit}
+use Rattle.texts.specs.Names.{is_name_byte, is_name, is_name_in}
+use Rattle.texts.specs.Spelling.{IsFit, IsFitCutoff, IsFitLimit}
 use Rattle.texts.specs.Spelling.{IsFitAdvance, IsEntered, cutoff_text, limit_text, advance_text}
 use Rattle.texts.specs.Spelling.{entered_text, words_of, spelling}
 use Rattle.texts.specs.Reading.{SpellsWhatIsRead, command_of}
 use Rattle.texts.proofs.Cuts.{lacks, and-true}
-use Rattle.texts.proofs.FieldSpellings.{decimal_digits}
+use Rattle.texts.proofs.FieldSpellings.{decimal_digits, name_bytes, new_name_bytes}
 use Rattle.lines.specs.Lines.{is_line}
 
 -- ---- bytes
@@ -68,9 +70,10 @@ number-lacks n small =
     lack is_ascii_digit refl (decimal n) (decimal_digits n (omega (arith, small)))
 
 name-lacks : (name : List ℕ) → is_name name ≡ true → lacks 10 name ≡ true
-name-lacks name fits =
-    let bytes : list_all is_name_byte name ≡ true = grind (arith, nat_tests) in
-    lack is_name_byte refl name bytes
+name-lacks name fits = lack is_name_byte refl name (name_bytes name fits)
+
+new-name-lacks : (name : List ℕ) → is_name_in 3 name ≡ true → lacks 10 name ≡ true
+new-name-lacks name fits = lack is_name_byte refl name (new_name_bytes name fits)
 
 -- ---- words
 
@@ -231,6 +234,29 @@ words-lack (SetAdvance id a) fits =
     rw (event-lacks id.event, number-lacks id.round (omega arith), advance-lacks a fits.1) refl
 words-lack (Close id) fits = rw (event-lacks id.event, number-lacks id.round (omega arith)) refl
 words-lack (SetEdition e) fits = rw (number-lacks e (omega arith)) refl
+words-lack (Rename n name) fits =
+    rw (number-lacks n (omega arith), new-name-lacks name fits.1) refl
+words-lack (SetRound id form cutoff limit) fits =
+    rw (
+      event-lacks id.event,
+      number-lacks id.round (omega arith),
+      format-lacks form,
+      cutoff-lacks cutoff fits.1,
+      limit-lacks limit fits.2,
+    )
+    refl
+words-lack (Rescramble id k moves) fits =
+    rw (
+      event-lacks id.event,
+      number-lacks id.round (omega arith),
+      number-lacks k (omega arith),
+      moves-lack moves,
+    )
+    refl
+words-lack (Withdraw id n) fits =
+    rw (event-lacks id.event, number-lacks id.round (omega arith), number-lacks n (omega arith))
+    refl
+words-lack (Reopen id) fits = rw (event-lacks id.event, number-lacks id.round (omega arith)) refl
 
 -- ---- lines
 

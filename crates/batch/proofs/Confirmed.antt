@@ -26,7 +26,7 @@ told_within r id other pos said h =
     (answers (ask_of r id) given) h.2 in
     let body : IsBody given.version (what.Told other (Done pos said)) =
     subst (λ w. IsBody given.version w) is.0 h.1.body in
-    body.1
+    body.1.0
 
 -- the entry at the position is this one
 pub confirms : {here : Place} (r : Receiver) (id : ℕ) (text : List ℕ) (told answer : What)

@@ -10,16 +10,23 @@ use Rattle.wire.specs.declared.frame.What.{What}
 use Rattle.wire.specs.declared.frame.What.TheVariants as what
 use Rattle.wire.specs.declared.values.ClientRefusal.TheVariants.{Busy}
 use Rattle.wire.specs.declared.values.CommandState.TheVariants.{Done, Unknown}
-use Rattle.wire.specs.declared.values.Version.TheVariants.{One}
+use Rattle.wire.specs.declared.values.Version.{Version}
+use Rattle.wire.specs.declared.values.Version.TheVariants.{One, Three}
 pub use Rattle.batch.specs.Dialing.{Adds, Asked, Asks, Goes, Told, asked_so, told}
 use Rattle.batch.specs.declared.asking.Receiver.{Receiver}
 use Rattle.batch.specs.declared.fault.BatchFault.{BatchFault}
 use Rattle.batch.specs.declared.fault.BatchFault.TheVariants.{Asking, CannotConnect, Late, NoMemory}
 
--- a request goes from a client, which is 0, to the desk, in version 1
+-- what became of a command is asked in version 3, which alone tells each code; the others are of
+-- version 1
+abbrev pub version_for : What → Version
+version_for (what.Ask id) = Three
+version_for _ = One
+
+-- a request goes from a client, which is 0, to the desk
 abbrev pub request_to : Receiver → What → Frame
 request_to r asked =
-    record { version = One; hall = r.hall; from = 0; to = r.desk; what = asked }
+    record { version = version_for asked; hall = r.hall; from = 0; to = r.desk; what = asked }
 
 -- the request that enters a text with an id
 abbrev pub submit_of : Receiver → ℕ → List ℕ → Frame

@@ -1,7 +1,7 @@
 //! Requests to a desk.
 
 ghost use Rattle.std.specs.Prelude.{◌≡◌};
-ghost use Rattle.batch.specs.Asking.{request_to};
+ghost use Rattle.batch.specs.Asking.{request_to, version_for};
 
 use wire::{Frame, Version, What};
 
@@ -14,12 +14,23 @@ pub struct Receiver {
     pub desk: u8,
 }
 
-/// The request of a client, which is 0, to a desk, in version 1 of the wire.
+/// The version of the wire in which a request is made: 3 for what became of a command, since it
+/// alone tells each code, and else 1.
+fn version_for(what: &What) -> Version
+    ensures { result ≡ version_for what.now }
+{
+    match what {
+        What::Ask { .. } => Version::Three,
+        _ => Version::One,
+    }
+}
+
+/// The request of a client, which is 0, to a desk.
 pub(crate) fn request_to(receiver: Receiver, what: What) -> Frame
     ensures { result ≡ request_to receiver what }
 {
     Frame {
-        version: Version::One,
+        version: version_for(&what),
         hall: receiver.hall,
         from: 0,
         to: receiver.desk,

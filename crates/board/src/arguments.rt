@@ -2,18 +2,18 @@
 
 use crate::serving::{End, MOST_BROWSERS, Order, serve};
 use clap::builder::ValueParser;
-use clap::{ArgMatches, Command, Error};
-use command_line::{NOT_TEXT, borrowed};
+use clap::{Arg, ArgMatches, Command, Error};
+use command_line::borrowed;
 use hall_options::{
     FoundHall, Mistake, address_at, hall_of, number_at, option, tell, tell_mistake,
     tell_parse_error, tell_system, with_desks,
 };
 use page_sockets::BrowserSockets;
 use std::alloc::{AllocError, Global};
-use std::io;
-use std::io::{ErrorKind, Write};
+use std::io::Write;
 
-const PROGRAM: &str = "board";
+/// The name of the program.
+pub const PROGRAM: &str = "board";
 
 const ABOUT: &str = "Keeps up with a hall's log, and serves its sheets as pages for browsers.";
 
@@ -43,22 +43,39 @@ Exit status: 2 invalid arguments, or help or the version; 3 FILE describes no ha
 address, cannot listen, cannot go on, or two desks told different entries; 5 no memory. Standard
 error gets a line that says why.";
 
-/// The program, as the parser knows it.
-fn command<'a>(alloc: Global) -> Result<Command<'a>, AllocError> {
-    let command = Command::new(alloc, PROGRAM)
+/// The program without its options, as the parser knows it.
+fn plain_command<'a>(alloc: Global) -> Command<'a> {
+    Command::new(alloc, PROGRAM)
         .about(ABOUT)
         .version(VERSION)
-        .after_help(AFTER);
-    let command = with_desks(alloc, command)?;
+        .after_help(AFTER)
+}
+
+/// The option where browsers find it.
+fn listen_option<'a>(alloc: Global) -> Arg<'a> {
     let help = "Where browsers find the board, as 127.0.0.1:8080";
-    let listen = option(alloc, "listen", "ADDR", help, ValueParser::string());
-    let command = command.arg(listen.required(true))?;
+    option(alloc, "listen", "ADDR", help, ValueParser::string()).required(true)
+}
+
+/// The option of the title.
+fn title_option<'a>(alloc: Global) -> Arg<'a> {
     let help = "The title of the pages; without this option Results";
-    let title = option(alloc, "title", "TEXT", help, ValueParser::string());
-    let command = command.arg(title)?;
+    option(alloc, "title", "TEXT", help, ValueParser::string())
+}
+
+/// The option that says how long it waits for a browser.
+fn patience_option<'a>(alloc: Global) -> Arg<'a> {
     let help = "How long to wait for a browser, 1 to 3600; without this option 10";
     let parser = ValueParser::unsigned(1, 3600);
-    command.arg(option(alloc, "patience", "SECONDS", help, parser))
+    option(alloc, "patience", "SECONDS", help, parser)
+}
+
+/// The program, as the parser knows it.
+fn command<'a>(alloc: Global) -> Result<Command<'a>, AllocError> {
+    with_desks(alloc, plain_command(alloc))?
+        .arg(listen_option(alloc))?
+        .arg(title_option(alloc))?
+        .arg(patience_option(alloc))
 }
 
 /// The title of the pages.
@@ -141,14 +158,4 @@ pub fn run_given<W: Write, F: Write>(
         Ok(texts) => run_arguments(rt, &texts, writer, faults),
         Err(_) => tell(faults, PROGRAM, "no memory", 5),
     }
-}
-
-/// Says why the program has no arguments, and returns the status: memory ran out, or they are not
-/// text.
-pub fn tell_no_arguments<F: Write>(error: &io::Error, faults: &mut F) -> u8 {
-    if error.kind() == ErrorKind::OutOfMemory {
-        return tell(faults, PROGRAM, "no memory", 5);
-    }
-    let _ = faults.write_all(NOT_TEXT);
-    2
 }

@@ -5,8 +5,9 @@
 mod arguments;
 mod serving;
 
-use arguments::{run_given, tell_no_arguments};
+use arguments::{PROGRAM, run_given};
 use command_line::given;
+use hall_options::tell_no_arguments;
 use std::process::ExitCode;
 
 fn main(rt: HostRuntime) -> ExitCode {
@@ -14,7 +15,7 @@ fn main(rt: HostRuntime) -> ExitCode {
     let mut faults = rt.stderr();
     let status = match given(&rt) {
         Ok(texts) => run_given(&rt, &texts, &mut output, &mut faults),
-        Err(error) => tell_no_arguments(&error, &mut faults),
+        Err(error) => tell_no_arguments(&mut faults, PROGRAM, &error),
     };
     ExitCode::from(status)
 }

@@ -7,8 +7,6 @@ use Rattle.std.proofs.Common.{drop-cons}
 use Rattle.std.specs.Result.{is_ok}
 use Rattle.std.proofs.lemmas.List.{append-nil, drop_all, take_all}
 use Rattle.csv.specs.Records.{field_at}
-use Rattle.board_page.specs.Page.{AreSheetsOf, IsShown}
-use Rattle.board_page.specs.declared.sheet.Sheet.{Sheet}
 
 -- a place with no field
 pub no_field : (fields : List (List ℕ)) (i : ℕ) → field_at fields i ≡ None
@@ -91,36 +89,3 @@ pub six_parts : (out a b c d e f u v w x y z : List ℕ) → u ≡ out ++ a → 
 six_parts out a b c d e f u v w x y z p q r s t k =
     two_parts out (a ++ b ++ c ++ d ++ e) f y z
     (five_parts out a b c d e u v w x y p q r s t) k
-
--- Whatever text shows the sheets that are left, what was written and that text are a text that
--- shows them all after what was there first.
-abbrev pub Completes : List Sheet → ℕ → List ℕ → List ℕ → Type 0
-Completes sheets i first out = (back : List ℕ) → AreSheetsOf (drop i sheets) back
-    → (whole : List ℕ) × AreSheetsOf sheets whole × (out ++ back ≡ first ++ whole)
-
--- so it is once one more sheet was written
-pub one_sheet_more : (sheets : List Sheet) (i : ℕ) (d : Sheet) (first before after front : List ℕ)
-    → i < length sheets → Completes sheets i first before → IsShown (get_or sheets i d) front
-    → after ≡ before ++ front → Completes sheets (i + 1) first after
-unfolding AreSheetsOf
-one_sheet_more sheets i d first before after front low so shown is back rest =
-    let there = drop-cons sheets i d low in
-    let left = subst (λ k. AreSheetsOf (drop k sheets) back) (add-one i) rest in
-    let all = subst (λ (l : List Sheet). AreSheetsOf l (front ++ back)) (sym there)
-    (front, back, shown, left, refl) in
-    let made = so (front ++ back) all in
-    (made.0, made.1, ap (λ x. x ++ back) is ∙ append_assoc before front back ∙ made.2)
-
--- once all were written
-pub all_sheets : (sheets : List Sheet) (i : ℕ) (first out : List ℕ)
-    → length sheets ≤ i → Completes sheets i first out
-    → (text : List ℕ) × AreSheetsOf sheets text × (out ≡ first ++ text)
-unfolding AreSheetsOf
-all_sheets sheets i first out end so =
-    let none = drop_all i sheets end in
-    let made = so [] (subst (λ (l : List Sheet). AreSheetsOf l []) (sym none) refl) in
-    (made.0, made.1, sym (append-nil out) ∙ made.2)
-
--- before any was written
-pub no_sheet_yet : (sheets : List Sheet) (first : List ℕ) → Completes sheets 0 first first
-no_sheet_yet sheets first back rest = (back, rest, refl)

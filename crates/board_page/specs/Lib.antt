@@ -1,4 +1,3 @@
 pub mod Adding
 pub mod Escaped
 pub mod Table
-pub mod Page

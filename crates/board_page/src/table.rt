@@ -1,10 +1,8 @@
-//! A sheet's table in HTML.
+//! The records of a sheet's table, and their fields in HTML.
 
 ghost use Rattle.std.specs.Prelude.{◌≡◌, ◌++◌, [], get_or, map, flat_map, IfOk, OnOk};
 ghost use Rattle.csv.specs.Records.{fields_of};
-ghost use Rattle.board_page.specs.Adding.{Adds};
-ghost use Rattle.board_page.specs.Table.{cell, heading, headings, line, line_start, position_of};
-ghost use Rattle.board_page.specs.Table.{section_start, table, title_of, AreRecordsOf, IsSheetOf};
+ghost use Rattle.board_page.specs.Table.{cell, heading, line, line_start, AreRecordsOf};
 
 use crate::escaping::push_escaped;
 use csv::{ByteRecord, ReaderBuilder};
@@ -78,16 +76,6 @@ fn push_each_cell(out: &mut Vec<u8>, row: &ByteRecord) -> Result<(), AllocError>
     Ok(())
 }
 
-/// Adds the beginning of a table, up to its first line.
-fn push_headings(out: &mut Vec<u8>, row: &ByteRecord) -> Result<(), AllocError>
-    ensures { OnOk result (out.new.items ≡ out.old.items ++ headings (fields_of row.now)) }
-{
-    out.extend_from_slice(b"<table><thead><tr>")?;
-    push_each_heading(out, row)?;
-    out.extend_from_slice(b"</tr></thead><tbody>\n")?;
-    Ok(())
-}
-
 fn push_line_start(out: &mut Vec<u8>, class: &[u8]) -> Result<(), AllocError>
     ensures { OnOk result (out.new.items ≡ out.old.items ++ line_start class.now) }
 {
@@ -115,70 +103,5 @@ pub fn push_lines(out: &mut Vec<u8>, rows: &[ByteRecord]) -> Result<(), AllocErr
     for row in rows {
         push_line(out, row)?;
     }
-    Ok(())
-}
-
-fn push_table(out: &mut Vec<u8>, rows: &[ByteRecord]) -> Result<(), AllocError>
-    ensures { OnOk result (out.new.items ≡ out.old.items ++ table (map fields_of rows.now)) }
-{
-    let [names, entrants @ ..] = rows else {
-        return out.extend_from_slice(b"<table></table>\n");
-    };
-    push_headings(out, names)?;
-    push_lines(out, entrants)?;
-    out.extend_from_slice(b"</tbody></table>\n")?;
-    Ok(())
-}
-
-fn push_section_start(out: &mut Vec<u8>, anchor: &[u8]) -> Result<(), AllocError>
-    ensures { OnOk result (out.new.items ≡ out.old.items ++ section_start anchor.now) }
-{
-    out.extend_from_slice(b"<section id=\"")?;
-    push_escaped(out, anchor)?;
-    out.extend_from_slice(b"\">")?;
-    Ok(())
-}
-
-fn push_title(out: &mut Vec<u8>, title: &[u8]) -> Result<(), AllocError>
-    ensures { OnOk result (out.new.items ≡ out.old.items ++ title_of title.now) }
-{
-    out.extend_from_slice(b"<h2>")?;
-    push_escaped(out, title)?;
-    out.extend_from_slice(b"</h2>\n")?;
-    Ok(())
-}
-
-fn push_position(out: &mut Vec<u8>, position: &[u8]) -> Result<(), AllocError>
-    ensures { OnOk result (out.new.items ≡ out.old.items ++ position_of position.now) }
-{
-    out.extend_from_slice(b"<p>position ")?;
-    push_escaped(out, position)?;
-    out.extend_from_slice(b"</p></section>\n")?;
-    Ok(())
-}
-
-/// Adds a sheet in HTML: under its title the table whose cells are the fields of the CSV `text`, as
-/// a reader of CSV reads it, each escaped, in their order; below it the position. The first record
-/// of the text names the columns; each further one is a line, whose class is its last field. Other
-/// pages refer to the sheet by its anchor.
-///
-/// # Errors
-///
-/// Where memory runs out. A front part of the sheet may have been added then.
-pub fn push_sheet(
-    out: &mut Vec<u8>,
-    anchor: &[u8],
-    title: &[u8],
-    text: &[u8],
-    position: &[u8],
-) -> Result<(), AllocError>
-    ensures { OnOk result (Adds out.old.items out.new.items
-        (IsSheetOf anchor.now title.now position.now text.now)) }
-{
-    let rows = records_of(*out.allocator(), text)?;
-    push_section_start(out, anchor)?;
-    push_title(out, title)?;
-    push_table(out, &rows)?;
-    push_position(out, position)?;
     Ok(())
 }

@@ -7,12 +7,14 @@ ghost use Rattle.card_forms.specs.Pairs.{value_of};
 
 use crate::cards::form_id_of;
 use crate::command_faults::{CommandFormFault, Field, Wrong};
-use crate::command_fields::{advance, attempt, competitor, event, round, settings};
+use crate::command_fields::{
+    advance, attempt, competitor, cutoff, event, format, limit, round, settings,
+};
 use crate::command_text::CommandText;
 use crate::form_id::FormId;
 use crate::pairs::Pairs;
 use notation::{Moves, ReadFault};
-use std::alloc::Global;
+use std::alloc::{AllocError, Global};
 use texts::{Command, CommandFault, Name, print, read};
 
 /// A command that a form asks for, under the form's id.
@@ -39,16 +41,34 @@ fn printed(alloc: Global, command: &Command) -> Result<Asked, CommandFormFault> 
     })
 }
 
-/// A registration.
-fn register(alloc: Global, pairs: &Pairs) -> Result<Asked, CommandFormFault> {
-    let number = competitor(pairs)?;
-    let name = Name::new(Vec::from_slice(alloc, pairs.value("name").trim_ascii())?);
-    let text = print(alloc, &Command::Register { number, name })?;
+/// A competitor's name.
+fn name_of(alloc: Global, pairs: &Pairs) -> Result<Name, AllocError> {
+    let bytes = Vec::from_slice(alloc, pairs.value("name").trim_ascii())?;
+    Ok(Name::new(bytes))
+}
+
+/// A command whose name is yet to be checked.
+fn named(alloc: Global, command: &Command) -> Result<Asked, CommandFormFault> {
+    let text = print(alloc, command)?;
     Ok(Asked {
         text,
         last: Field::Name,
         why: Wrong::NotAName,
     })
+}
+
+/// A registration.
+fn register(alloc: Global, pairs: &Pairs) -> Result<Asked, CommandFormFault> {
+    let number = competitor(pairs)?;
+    let name = name_of(alloc, pairs)?;
+    named(alloc, &Command::Register { number, name })
+}
+
+/// Another name for a competitor.
+fn rename(alloc: Global, pairs: &Pairs) -> Result<Asked, CommandFormFault> {
+    let number = competitor(pairs)?;
+    let name = name_of(alloc, pairs)?;
+    named(alloc, &Command::Rename { number, name })
 }
 
 /// The moves of a scramble.
@@ -63,17 +83,70 @@ fn moves_of(alloc: Global, pairs: &Pairs) -> Result<Moves, CommandFormFault> {
     }
 }
 
-/// A scramble.
-fn scramble(alloc: Global, pairs: &Pairs) -> Result<Asked, CommandFormFault> {
-    let id = round(pairs)?;
-    let attempt = attempt(pairs)?;
-    let moves = moves_of(alloc, pairs)?;
-    let text = print(alloc, &Command::Scramble { id, attempt, moves })?;
+/// A command whose moves may make it too long.
+fn scrambled(alloc: Global, command: &Command) -> Result<Asked, CommandFormFault> {
+    let text = print(alloc, command)?;
     Ok(Asked {
         text,
         last: Field::Moves,
         why: Wrong::NotMoves,
     })
+}
+
+/// A scramble.
+fn scramble(alloc: Global, pairs: &Pairs) -> Result<Asked, CommandFormFault> {
+    let id = round(pairs)?;
+    let attempt = attempt(pairs)?;
+    let moves = moves_of(alloc, pairs)?;
+    scrambled(alloc, &Command::Scramble { id, attempt, moves })
+}
+
+/// Another scramble.
+fn rescramble(alloc: Global, pairs: &Pairs) -> Result<Asked, CommandFormFault> {
+    let id = round(pairs)?;
+    let attempt = attempt(pairs)?;
+    let moves = moves_of(alloc, pairs)?;
+    scrambled(alloc, &Command::Rescramble { id, attempt, moves })
+}
+
+/// Other settings of a round.
+fn set_round(alloc: Global, pairs: &Pairs) -> Result<Asked, CommandFormFault> {
+    let id = round(pairs)?;
+    let format = format(pairs)?;
+    let cutoff = cutoff(alloc, pairs, id.event)?;
+    let limit = limit(alloc, pairs)?;
+    printed(
+        alloc,
+        &Command::SetRound {
+            id,
+            format,
+            cutoff,
+            limit,
+        },
+    )
+}
+
+/// The text of the command that the fields ask for, where its word came with edition 3.
+fn asked_by_new_word(alloc: Global, word: &[u8], pairs: &Pairs) -> Result<Asked, CommandFormFault> {
+    if word == b"REN".as_slice() {
+        rename(alloc, pairs)
+    } else if word == b"SET".as_slice() {
+        set_round(alloc, pairs)
+    } else if word == b"RSC".as_slice() {
+        rescramble(alloc, pairs)
+    } else if word == b"WDR".as_slice() {
+        let id = round(pairs)?;
+        let number = competitor(pairs)?;
+        printed(alloc, &Command::Withdraw { id, number })
+    } else if word == b"REOPEN".as_slice() {
+        let id = round(pairs)?;
+        printed(alloc, &Command::Reopen { id })
+    } else {
+        Err(CommandFormFault::Wrong {
+            field: Field::Command,
+            why: Wrong::NoSuchCommand,
+        })
+    }
 }
 
 /// The text of the command that the fields ask for.
@@ -99,12 +172,9 @@ fn asked_by_fields(alloc: Global, pairs: &Pairs) -> Result<Asked, CommandFormFau
     } else if word == b"SCR".as_slice() {
         scramble(alloc, pairs)
     } else if word == b"EDITION".as_slice() {
-        printed(alloc, &Command::SetEdition { edition: 2 })
+        printed(alloc, &Command::SetEdition { edition: 3 })
     } else {
-        Err(CommandFormFault::Wrong {
-            field: Field::Command,
-            why: Wrong::NoSuchCommand,
-        })
+        asked_by_new_word(alloc, word, pairs)
     }
 }
 
@@ -152,7 +222,13 @@ fn checked(alloc: Global, asked: Asked) -> Result<CommandText, CommandFormFault>
 /// - `OPEN`: `round`, `format`, `cutoff` and `after`, `limit`, `advance` and `amount`. Times are
 ///   written as on a scorecard; an empty field or `-` is no cutoff and no limit.
 /// - `ADV`: `round`, `advance` (`top`, `pct` or `final`) and `amount`.
-/// - `SCR`: `round`, `attempt`, `moves`. `EDITION`: nothing, it is edition 2.
+/// - `SCR`: `round`, `attempt`, `moves`. `EDITION`: nothing, it is edition 3.
+///
+/// These came with edition 3; in an earlier one they are refused, as `Unread`:
+///
+/// - `REN`: `number`, `name`. `WDR`: `round`, `number`. `REOPEN`: `round`.
+/// - `SET`: `round`, `format`, `cutoff` and `after`, `limit`, as for `OPEN`.
+/// - `RSC`: `round`, `attempt`, `moves`.
 ///
 /// The fault is `BadId`; or the first field of the command that is wrong, in that order; or
 /// `NoMemory`, in place of any answer.

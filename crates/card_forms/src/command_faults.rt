@@ -48,8 +48,8 @@ pub enum Wrong {
     /// It is no number of this range.
     #[error("a number of {low} to {high}")]
     NotBetween { low: u32, high: u32 },
-    /// It is no name of a competitor.
-    #[error("a name has 1 to 80 bytes, and one space between its parts")]
+    /// It is no name of a competitor in any edition; or, in `REN`, it is none in edition 3.
+    #[error("a name has 1 to 160 bytes that are seen, no quote mark, one space between its parts")]
     NotAName,
     /// It is the name of no event.
     #[error("there is no such event")]

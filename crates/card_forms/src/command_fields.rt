@@ -59,7 +59,7 @@ pub(crate) fn round(pairs: &Pairs) -> Result<RoundId, CommandFormFault> {
 }
 
 /// The format.
-fn format(pairs: &Pairs) -> Result<Format, CommandFormFault> {
+pub(crate) fn format(pairs: &Pairs) -> Result<Format, CommandFormFault> {
     let text = pairs.value("format").trim_ascii();
     Format::from_name(text).ok_or(wrong(Field::Format, Wrong::NotAFormat))
 }
@@ -97,7 +97,7 @@ fn below(alloc: Global, event: Event, text: &[u8]) -> Result<u32, CommandFormFau
 }
 
 /// The cutoff: none where nothing or `-` is written in both of its fields.
-fn cutoff(
+pub(crate) fn cutoff(
     alloc: Global,
     pairs: &Pairs,
     event: Event,
@@ -112,7 +112,7 @@ fn cutoff(
 }
 
 /// The time limit: none where nothing or `-` is written.
-fn limit(alloc: Global, pairs: &Pairs) -> Result<Option<u32>, CommandFormFault> {
+pub(crate) fn limit(alloc: Global, pairs: &Pairs) -> Result<Option<u32>, CommandFormFault> {
     let text = pairs.value("limit").trim_ascii();
     if is_none(text) {
         return Ok(None);

@@ -51,3 +51,26 @@ fn commands_are_asked_for(rt: HostRuntime) -> Result<(), Fail> {
     assert_eq!(rt; text.as_bytes(), b"CLOSE 333 1".as_slice());
     Ok(())
 }
+
+#[test]
+fn mends_are_asked_for(rt: HostRuntime) -> Result<(), Fail> {
+    let text = text_of(&rt, b"id=1&command=REN&number=17&name=+Anna+Li")?;
+    assert_eq!(rt; text.as_bytes(), b"REN 17 Anna Li".as_slice());
+    let text = text_of(
+        &rt,
+        b"id=1&command=SET&round=333-1&format=bo3&after=1&cutoff=15.00&limit=-",
+    )?;
+    assert_eq!(rt; text.as_bytes(), b"SET 333 1 bo3 1:1500 -".as_slice());
+    let text = text_of(
+        &rt,
+        b"id=1&command=RSC&round=333fm-1&attempt=2&moves=R+U%27+F2",
+    )?;
+    assert_eq!(rt; text.as_bytes(), b"RSC 333fm 1 2 R U' F2".as_slice());
+    let text = text_of(&rt, b"id=1&command=WDR&round=333-2&number=17")?;
+    assert_eq!(rt; text.as_bytes(), b"WDR 333 2 17".as_slice());
+    let text = text_of(&rt, b"id=1&command=REOPEN&round=333-1")?;
+    assert_eq!(rt; text.as_bytes(), b"REOPEN 333 1".as_slice());
+    let text = text_of(&rt, b"id=1&command=EDITION")?;
+    assert_eq!(rt; text.as_bytes(), b"EDITION 3".as_slice());
+    Ok(())
+}

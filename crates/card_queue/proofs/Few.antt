@@ -1,13 +1,13 @@
 -- An entrant has at most five attempts, whatever the entries of a log are.
 use Rattle.std.proofs.Common.{◌≡◌, ℕ, zero, suc, ◌+◌, ◌-◌, ◌≤◌, Bool, true, false, ◌&&◌, ◌==◌}
 use Rattle.std.proofs.Common.{not, cond}
-use Rattle.std.proofs.Common.{nat_le, nat_lt, List, [], ◌∷◌, ◌++◌, length, map, find, fold}
+use Rattle.std.proofs.Common.{nat_le, List, [], ◌∷◌, ◌++◌, length, map, filter, find, fold}
 use Rattle.std.proofs.Common.{Option, Some, None, IfSome, option_map, is_some, Result, Ok, Err}
 use Rattle.std.proofs.Common.{IfOk}
 use Rattle.std.proofs.Common.{refl, sym, ap, ◌∙◌, subst, arith, append-nil, length-append}
 use Rattle.std.proofs.Common.{length-set}
 use Rattle.std.proofs.Common.{eqb-true}
-use Rattle.std.specs.Option.{option_or}
+use Rattle.std.specs.Option.{option_or, option_and_then}
 use Rattle.std.proofs.lemmas.Bool.{false≢true}
 use Rattle.std.proofs.lemmas.List.{length-take}
 use Rattle.attempts.specs.declared.Value.{Value}
@@ -23,23 +23,28 @@ use Rattle.texts.specs.declared.command.AttemptEntry.{AttemptEntry}
 use Rattle.texts.specs.declared.command.Command.{Command}
 use Rattle.texts.specs.declared.command.Command.TheVariants.{Register, Open, Enter, Scramble}
 use Rattle.texts.specs.declared.command.Command.TheVariants.{Attempt, Correct, Strike, SetAdvance}
-use Rattle.texts.specs.declared.command.Command.TheVariants.{Close, SetEdition}
+use Rattle.texts.specs.declared.command.Command.TheVariants.{Close, SetEdition, Rename, SetRound}
+use Rattle.texts.specs.declared.command.Command.TheVariants.{Rescramble, Withdraw, Reopen}
 use Rattle.texts.specs.declared.command.Settings.{Settings}
 use Rattle.texts.specs.declared.reading.CommandFault.{CommandFault}
 use Rattle.texts.specs.Spelling.{IsFit}
 use Rattle.texts.specs.Reading.{command_of}
-use Rattle.texts.specs.Editions.{edition_of}
+use Rattle.texts.specs.Editions.{is_spelled_in}
 use Rattle.texts.proofs.Words.{spelled_only}
 use Rattle.commands.specs.Accepted.{edition_in, entered_refusal, is_of, is_registered, put_code}
 use Rattle.commands.specs.Accepted.{put_refusal, refusal, round_in, round_of, scramble_by}
 use Rattle.commands.specs.Accepted.{settled, unfit_refusal, who_advance}
 use Rattle.commands.specs.History.{History, added_read, after, history, is_seen, nothing}
 use Rattle.commands.specs.History.{read_refusal, spelled_refusal}
-use Rattle.commands.specs.model.Kept.{newcomer, with_advance, with_attempt, with_correction}
-use Rattle.commands.specs.model.Kept.{with_end, with_entry, with_strike}
+use Rattle.commands.specs.model.Kept.{first_of_all, newcomer, waiting_of, with_advance}
+use Rattle.commands.specs.model.Kept.{with_attempt, with_correction, with_end, with_entry}
+use Rattle.commands.specs.model.Kept.{with_exit, with_reopening, with_settings, with_strike}
 use Rattle.commands.proofs.EachCommand.{opening_table, round_advance, round_attempt, round_close}
 use Rattle.commands.proofs.EachCommand.{round_correct, round_edition, round_enter, round_open}
-use Rattle.commands.proofs.EachCommand.{round_register, round_scramble, round_strike}
+use Rattle.commands.proofs.EachCommand.{round_register, round_rename, round_reopen}
+use Rattle.commands.proofs.EachCommand.{round_rescramble, round_scramble, round_settings}
+use Rattle.commands.proofs.EachCommand.{round_strike}
+use Rattle.commands.proofs.Exits.{round_exit}
 use Rattle.commands.proofs.OneMore.{with_table}
 
 abbrev pub IsFewEntrant : Entrant → Type 0
@@ -147,6 +152,46 @@ appended n (x ∷ xs) ys h k = step (has_number n x) h (λ g. appended n xs ys g
     step true here others = here
     step false here others = others here
 
+-- who is left where those of one number leave
+abbrev without : ℕ → List Entrant → List Entrant
+without m es = filter (λ (e : Entrant). not (has_number m e)) es
+
+left_none : (m : ℕ) (es : List Entrant) → find (has_number m) (without m es) ≡ None
+left_none m [] = refl
+left_none m (x ∷ es) = step (has_number m x) refl (left_none m es)
+  where
+    step : (b : Bool) → has_number m x ≡ b → find (has_number m) (without m es) ≡ None
+        → find (has_number m) (cond (not b) (x ∷ without m es) (without m es)) ≡ None
+    step true is rest = rest
+    step false is rest =
+        ap (λ (c : Bool). cond c (Some x) (find (has_number m) (without m es))) is ∙ rest
+
+left_same : (m n : ℕ) (es : List Entrant) → (n == m) ≡ false
+    → find (has_number n) (without m es) ≡ find (has_number n) es
+left_same m n [] other = refl
+left_same m n (x ∷ es) other = step (has_number m x) refl (left_same m n es other)
+  where
+    step : (b : Bool) → has_number m x ≡ b
+        → find (has_number n) (without m es) ≡ find (has_number n) es
+        → find (has_number n) (cond (not b) (x ∷ without m es) (without m es))
+        ≡ cond (has_number n x) (Some x) (find (has_number n) es)
+    step true is rest =
+        let same : m ≡ x.number = eqb-true m x.number is in
+        let away : has_number n x ≡ false = subst (λ k. (n == k) ≡ false) same other in
+        rest ∙ sym (ap (λ c. cond c (Some x) (find (has_number n) es)) away)
+    step false is rest = ap (λ o. cond (has_number n x) (Some x) o) rest
+
+left_few : (m n : ℕ) (es : List Entrant) → IfSome (find (has_number n) es) IsFewEntrant
+    → IfSome (find (has_number n) (without m es)) IsFewEntrant
+left_few m n es few = step (n == m) refl
+  where
+    step : (b : Bool) → (n == m) ≡ b → IfSome (find (has_number n) (without m es)) IsFewEntrant
+    step true is =
+        subst (λ o. IfSome o IsFewEntrant)
+        (sym
+        (ap (λ k. find (has_number k) (without m es)) (eqb-true n m is) ∙ left_none m es)) tt
+    step false is = subst (λ o. IfSome o IsFewEntrant) (sym (left_same m n es is)) few
+
 -- ---- rounds
 
 some≢none : {X : Type 0} (x : X) → Some x ≡ None → ⊥
@@ -248,6 +293,13 @@ put_allowed cs entry e r x allowed is here =
     (sym there)
     ∙ taken)
 
+exit_few : (m : ℕ) (next : Option ℕ) (x : Settings × Table) → IsFewRound x
+    → IsFewRound (with_exit m next x)
+exit_few m None x few n = left_few m n x.1.entrants (few n)
+exit_few m (Some next) x few n =
+    appended n (without m x.1.entrants) (newcomer next ∷ []) (left_few m n x.1.entrants (few n))
+    (newcomers_few (next ∷ []) n)
+
 shorter : (vs : List Value) → length vs ≤ 5 → length (without_last vs) ≤ 5
 shorter vs few = omega (arith, length-take (length vs - 1) vs, few)
 
@@ -302,18 +354,35 @@ few_more cs (Close id) fits allowed h e r =
     (changed (is_of e r id) with_end (round_of cs e r) (h e r) (λ x is here few. few))
 few_more cs (SetEdition edition) fits allowed h e r =
     round_is _ _ (round_edition e r edition cs) (h e r)
+few_more cs (Rename n name) fits allowed h e r =
+    round_is _ _ (round_rename e r n name cs) (h e r)
+few_more cs (SetRound id form cutoff limit) fits allowed h e r =
+    round_is _ _ (round_settings e id.event r id.round form cutoff limit cs)
+    (changed (is_of e r id) (with_settings form cutoff limit) (round_of cs e r) (h e r)
+    (λ x is here few. few))
+few_more cs (Rescramble id k moves) fits allowed h e r =
+    round_is _ _ (round_rescramble e id.event r id.round k moves cs) (h e r)
+few_more cs (Withdraw id m) fits allowed h e r =
+    let next : Option ℕ =
+    option_and_then first_of_all (waiting_of cs id.event id.round) in
+    round_is _ _ (round_exit e id.event r id.round m cs)
+    (changed (is_of e r id) (with_exit m next) (round_of cs e r) (h e r)
+    (λ x is here few. exit_few m next x few))
+few_more cs (Reopen id) fits allowed h e r =
+    round_is _ _ (round_reopen e id.event r id.round cs)
+    (changed (is_of e r id) with_reopening (round_of cs e r) (h e r) (λ x is here few. few))
 
 -- ---- entries
 
-not_refused : (later : Bool) (refused : Option Code)
-    → cond later (Some code.Unread) refused ≡ None → refused ≡ None
-not_refused true refused h = absurd (some≢none code.Unread h)
-not_refused false refused h = h
+not_refused : (spelled : Bool) (refused : Option Code)
+    → cond spelled refused (Some code.Unread) ≡ None → refused ≡ None
+not_refused true refused h = h
+not_refused false refused h = absurd (some≢none code.Unread h)
 
 few_answered : (cs : List Command) (c : Command) → IsFit c → HasFew cs → (refused : Option Code)
     → spelled_refusal cs c ≡ refused → HasFew (cs ++ added_read refused (Ok c))
 few_answered cs c fits h None is =
-    few_more cs c fits (not_refused (nat_lt (edition_in cs) (edition_of c)) (refusal cs c) is) h
+    few_more cs c fits (not_refused (is_spelled_in (edition_in cs) c) (refusal cs c) is) h
 few_answered cs c fits h (Some why) is = subst HasFew (sym (append-nil cs)) h
 
 few_read : (cs : List Command) (read : Result Command CommandFault) → IfOk read IsFit → HasFew cs

@@ -17,7 +17,8 @@ use Rattle.formats.specs.Events.{attempts_of}
 use Rattle.texts.specs.declared.command.Command.{Command}
 use Rattle.texts.specs.declared.command.Command.TheVariants.{Register, Open, Enter, Scramble}
 use Rattle.texts.specs.declared.command.Command.TheVariants.{Attempt, Correct, Strike, SetAdvance}
-use Rattle.texts.specs.declared.command.Command.TheVariants.{Close, SetEdition}
+use Rattle.texts.specs.declared.command.Command.TheVariants.{Close, SetEdition, Rename, SetRound}
+use Rattle.texts.specs.declared.command.Command.TheVariants.{Rescramble, Withdraw, Reopen}
 use Rattle.texts.specs.declared.command.Entered.{Entered}
 use Rattle.texts.specs.declared.command.RoundId.{RoundId}
 use Rattle.texts.specs.declared.command.Settings.{Settings}
@@ -351,6 +352,11 @@ same_stand filled later (Strike round n) h = absurd (false≢true (sym h))
 same_stand filled later (SetAdvance round advance) h = refl
 same_stand filled later (Close round) h = refl
 same_stand filled later (SetEdition edition) h = refl
+same_stand filled later (Rename n name) h = refl
+same_stand filled later (SetRound round form cutoff limit) h = refl
+same_stand filled later (Rescramble round k moves) h = refl
+same_stand filled later (Withdraw round n) h = refl
+same_stand filled later (Reopen round) h = refl
 
 module _ (id filled : ℕ) where
   abbrev IsHigh : Entry → Type 0

@@ -41,6 +41,7 @@ refusal_name refusal.Down = codes "Down"
 refusal_name refusal.NotThere = codes "NotThere"
 refusal_name refusal.NoSuchRound = codes "NoSuchRound"
 refusal_name refusal.Foreign = codes "Foreign"
+refusal_name refusal.NotAllowed = codes "NotAllowed"
 
 -- the line of a fault, without its line feed
 abbrev pub fault_text : ClientFault → List ℕ

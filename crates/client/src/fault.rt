@@ -32,6 +32,7 @@ pub fn refusal_name(refusal: ClientRefusal) -> &'static str
         ClientRefusal::NotThere => "NotThere",
         ClientRefusal::NoSuchRound => "NoSuchRound",
         ClientRefusal::Foreign => "Foreign",
+        ClientRefusal::NotAllowed => "NotAllowed",
     }
 }
 

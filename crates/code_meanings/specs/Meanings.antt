@@ -8,7 +8,8 @@ use Rattle.texts.specs.declared.answer.Code.TheVariants.{CutoffNotAllowed, Limit
 use Rattle.texts.specs.declared.answer.Code.TheVariants.{NoScramble, ScrambleThere, WrongOutcome}
 use Rattle.texts.specs.declared.answer.Code.TheVariants.{Closed, Already, Full, NotEntered}
 use Rattle.texts.specs.declared.answer.Code.TheVariants.{OutOfOrder, NoMoreAttempts, NoSuchAttempt}
-use Rattle.texts.specs.declared.answer.Code.TheVariants.{CutoffLost, Unfinished}
+use Rattle.texts.specs.declared.answer.Code.TheVariants.{CutoffLost, Unfinished, HasAttempts}
+use Rattle.texts.specs.declared.answer.Code.TheVariants.{NotClosed}
 
 abbrev pub meaning_of : Code → List ℕ
 meaning_of Unread = codes "no command of the edition that holds"
@@ -16,7 +17,7 @@ meaning_of Repeat = codes "this id was entered before"
 meaning_of UnknownCompetitor = codes "nobody is registered under this number"
 meaning_of NameTaken = codes "another number has this name"
 meaning_of RoundUnknown = codes "the round is not opened, or the one before it is not closed"
-meaning_of RoundOpen = codes "the round was opened before"
+meaning_of RoundOpen = codes "the round was opened before, or the next one is open"
 meaning_of RoundsRule = codes "too few competitors for the rounds that would follow"
 meaning_of FormatNotAllowed = codes "the event does not have this format"
 meaning_of CutoffNotAllowed = codes "the event or the format does not allow this cutoff"
@@ -33,3 +34,5 @@ meaning_of NoMoreAttempts = codes "all attempts that are allotted are done"
 meaning_of NoSuchAttempt = codes "there is no such attempt"
 meaning_of CutoffLost = codes "the cutoff would be missed, and attempts after it are done"
 meaning_of Unfinished = codes "somebody has not done all attempts that are allotted"
+meaning_of HasAttempts = codes "an attempt is entered already"
+meaning_of NotClosed = codes "the round is not closed"

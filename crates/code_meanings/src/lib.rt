@@ -16,7 +16,7 @@ pub fn meaning_of(code: Code) -> &'static str
         Code::UnknownCompetitor => "nobody is registered under this number",
         Code::NameTaken => "another number has this name",
         Code::RoundUnknown => "the round is not opened, or the one before it is not closed",
-        Code::RoundOpen => "the round was opened before",
+        Code::RoundOpen => "the round was opened before, or the next one is open",
         Code::RoundsRule => "too few competitors for the rounds that would follow",
         Code::FormatNotAllowed => "the event does not have this format",
         Code::CutoffNotAllowed => "the event or the format does not allow this cutoff",
@@ -33,5 +33,7 @@ pub fn meaning_of(code: Code) -> &'static str
         Code::NoSuchAttempt => "there is no such attempt",
         Code::CutoffLost => "the cutoff would be missed, and attempts after it are done",
         Code::Unfinished => "somebody has not done all attempts that are allotted",
+        Code::HasAttempts => "an attempt is entered already",
+        Code::NotClosed => "the round is not closed",
     }
 }

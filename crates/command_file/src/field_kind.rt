@@ -47,7 +47,9 @@ impl FieldKind {
     {
         match self {
             FieldKind::Number => "competitor's number from 1 to 9999, as 17",
-            FieldKind::Name => "name with single spaces, of at most 80 bytes, as Ann Example",
+            FieldKind::Name => {
+                "name of at most 160 bytes with single spaces and no double quote, as Ann Example"
+            }
             FieldKind::Event => "event, as 333",
             FieldKind::Round => "round from 1 to 4, as 1",
             FieldKind::Format => "format, as ao5",
@@ -57,7 +59,7 @@ impl FieldKind {
             FieldKind::Attempt => "attempt from 1 to 5, as 2",
             FieldKind::Moves => "sequence of moves with single spaces, as R U' F2",
             FieldKind::Outcome => "T:h:p, as T:1626:0",
-            FieldKind::Edition => "edition, as 2",
+            FieldKind::Edition => "edition, as 3",
         }
     }
 
@@ -85,7 +87,7 @@ const ENTRY: [FieldKind; 5] = [
 pub(crate) fn fields_of(word: &[u8]) -> &'static [FieldKind]
     ensures { result.now ≡ fields_of word.now }
 {
-    if word == b"REG".as_slice() {
+    if word == b"REG".as_slice() || word == b"REN".as_slice() {
         &[FieldKind::Number, FieldKind::Name]
     } else if word == b"OPEN".as_slice() {
         &[
@@ -96,9 +98,17 @@ pub(crate) fn fields_of(word: &[u8]) -> &'static [FieldKind]
             FieldKind::Limit,
             FieldKind::Advance,
         ]
+    } else if word == b"SET".as_slice() {
+        &[
+            FieldKind::Event,
+            FieldKind::Round,
+            FieldKind::Format,
+            FieldKind::Cutoff,
+            FieldKind::Limit,
+        ]
     } else if word == b"ENT".as_slice() {
         &[FieldKind::Event, FieldKind::Number]
-    } else if word == b"SCR".as_slice() {
+    } else if word == b"SCR".as_slice() || word == b"RSC".as_slice() {
         &[
             FieldKind::Event,
             FieldKind::Round,
@@ -107,11 +117,11 @@ pub(crate) fn fields_of(word: &[u8]) -> &'static [FieldKind]
         ]
     } else if word == b"ATT".as_slice() || word == b"COR".as_slice() {
         &ENTRY
-    } else if word == b"STR".as_slice() {
+    } else if word == b"STR".as_slice() || word == b"WDR".as_slice() {
         &[FieldKind::Event, FieldKind::Round, FieldKind::Number]
     } else if word == b"ADV".as_slice() {
         &[FieldKind::Event, FieldKind::Round, FieldKind::Advance]
-    } else if word == b"CLOSE".as_slice() {
+    } else if word == b"CLOSE".as_slice() || word == b"REOPEN".as_slice() {
         &[FieldKind::Event, FieldKind::Round]
     } else if word == b"EDITION".as_slice() {
         &[FieldKind::Edition]

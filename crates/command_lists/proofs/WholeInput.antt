@@ -1,5 +1,5 @@
 -- An input of known bytes that is read to its end.
-use Rattle.std.proofs.Common.{◌≡◌, ℕ, List, [], ◌++◌, Option, None, Some, sym, ap, ◌∙◌, inl, inr}
+use Rattle.std.proofs.Common.{◌≡◌, ℕ, List, [], ◌++◌, Option, None, Some, sym, ap, ◌∙◌, inr}
 use Rattle.std.proofs.Common.{append-nil}
 use Rattle.command_file.specs.Commands.{Numbered, ReadsCommands, commands_of}
 use Rattle.command_lists.specs.Lists.{IsReadFrom, fit, shorts, texts_in}

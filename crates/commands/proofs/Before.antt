@@ -1,4 +1,4 @@
--- Without `EDITION 2` everything is as edition 1 had it.
+-- Without `EDITION 2` edition 2 has everything as edition 1 had it.
 use Rattle.std.proofs.Common.{◌≡◌, ℕ, zero, suc, ◌-◌, ◌≤◌, Bool, true, false, not, ◌==◌, ◌&&◌, cond}
 use Rattle.std.proofs.Common.{nat_lt, max, List, [], ◌∷◌, ◌++◌, map, fold, codes, Option, Some}
 use Rattle.std.proofs.Common.{None, option_map, option_to_list, is_some, unwrap_or, Result, Ok, Err}
@@ -25,33 +25,35 @@ use Rattle.texts.specs.declared.answer.Code.TheVariants as code
 use Rattle.texts.specs.declared.command.Command.{Command}
 use Rattle.texts.specs.declared.command.Command.TheVariants.{Register, Open, Enter, Scramble}
 use Rattle.texts.specs.declared.command.Command.TheVariants.{Attempt, Correct, Strike, SetAdvance}
-use Rattle.texts.specs.declared.command.Command.TheVariants.{Close, SetEdition}
+use Rattle.texts.specs.declared.command.Command.TheVariants.{Close, SetEdition, Rename, SetRound}
+use Rattle.texts.specs.declared.command.Command.TheVariants.{Rescramble, Withdraw, Reopen}
 use Rattle.texts.specs.declared.command.Entered.{Entered}
 use Rattle.texts.specs.declared.command.Entered.TheVariants as entered
 use Rattle.texts.specs.declared.command.Settings.{Settings}
 use Rattle.texts.specs.Fields.{round_id}
 use Rattle.texts.specs.declared.reading.CommandFault.{CommandFault}
-use Rattle.texts.specs.Editions.{entered_edition, edition_of}
-use Rattle.texts.specs.Reading.{command_of}
+use Rattle.texts.specs.SecondEdition.{command_of}
 use Rattle.texts.specs.FirstEdition.{command_of as first_command_of}
-use Rattle.texts.proofs.ReadBefore.{reads_as_before, edition_spelled}
 use Rattle.rounds.specs.Tables.{Entrant, Table, replaced, correct_fault, close_fault}
-use Rattle.commands.specs.Accepted.{scramble_by, is_registered, Opened, opened, opening, scrambling}
-use Rattle.commands.specs.Accepted.{scramble_of, first_of, settled, one_value, values_after}
-use Rattle.commands.specs.Accepted.{entering, entrant_after, entrants_after, closing, settings_now}
-use Rattle.commands.specs.Accepted.{table_of, round_at, who_advance, round_in, round_of}
-use Rattle.commands.specs.Accepted.{edition_set, edition_after, edition_in, enter_refusal, is_moves}
-use Rattle.commands.specs.Accepted.{is_multi, is_wrong, lacks_scramble, scramble_refusal}
-use Rattle.commands.specs.Accepted.{unfit_refusal, entered_refusal, put_refusal, correct_code}
-use Rattle.commands.specs.Accepted.{correct_refusal, strike_refusal, advance_refusal, is_final}
-use Rattle.commands.specs.Accepted.{leads_on, has_too_few, end_refusal, close_refusal, is_cutoff}
-use Rattle.commands.specs.Accepted.{is_limit, refusal}
-use Rattle.commands.specs.History.{History, nothing, answer_of, is_seen, added, spelled_refusal}
-use Rattle.commands.specs.History.{read_refusal, added_read, entry_refusal, answer_to, after}
-use Rattle.commands.specs.History.{history}
+use Rattle.commands.specs.SecondEdition.{scramble_by, is_registered, Opened, opened, opening, scrambling}
+use Rattle.commands.specs.SecondEdition.{scramble_of, first_of, settled, one_value, values_after}
+use Rattle.commands.specs.SecondEdition.{entering, entrant_after, entrants_after, closing, settings_now}
+use Rattle.commands.specs.SecondEdition.{table_of, round_at, who_advance, round_in, round_of}
+use Rattle.commands.specs.SecondEdition.{edition_set, edition_after, edition_in, enter_refusal, is_moves}
+use Rattle.commands.specs.SecondEdition.{is_multi, is_wrong, lacks_scramble, scramble_refusal}
+use Rattle.commands.specs.SecondEdition.{unfit_refusal, entered_refusal, put_refusal, correct_code}
+use Rattle.commands.specs.SecondEdition.{correct_refusal, strike_refusal, advance_refusal, is_final}
+use Rattle.commands.specs.SecondEdition.{leads_on, has_too_few, end_refusal, close_refusal, is_cutoff}
+use Rattle.commands.specs.SecondEdition.{is_limit, refusal}
+use Rattle.commands.specs.Seen.{History, nothing, answer_of, is_seen, added}
+use Rattle.commands.specs.SecondEdition.{edition_of, entered_edition, spelled_refusal}
+use Rattle.commands.specs.SecondEdition.{read_refusal, added_read, entry_refusal, answer_to}
+use Rattle.commands.specs.SecondEdition.{after, history}
 use Rattle.commands.specs.FirstEdition as first
-use Rattle.commands.specs.EditionLaws.{IsWithoutSecond, AnswersAsBefore}
+use Rattle.commands.specs.EditionLaws.{IsWithoutSecond, IsWithoutThird}
 use Rattle.commands.proofs.OneMore.{with_table}
+use Rattle.commands.proofs.Early.{IsEarly}
+use Rattle.commands.proofs.ReadOf.{reads_of_first, unset}
 
 -- Events
 
@@ -138,11 +140,17 @@ edition_least (Strike id n) = event_least id.event
 edition_least (SetAdvance id advance) = event_least id.event
 edition_least (Close id) = event_least id.event
 edition_least (SetEdition edition) = omega arith
+edition_least (Rename n name) = omega arith
+edition_least (SetRound id format cutoff limit) = omega arith
+edition_least (Rescramble id k moves) = omega arith
+edition_least (Withdraw id n) = omega arith
+edition_least (Reopen id) = omega arith
 
 -- Commands
 
 -- a command of edition 1, which sets no edition
 pub record IsFirst (c : Command) : Type 0 where
+  pub early : IsEarly c
   pub edition : edition_of c ≡ 1
   pub unset : edition_set c ≡ None
 
@@ -157,6 +165,44 @@ edition_one : (cs : List Command) → AreFirst cs → edition_in cs ≡ 1
 edition_one [] h = refl
 edition_one (c ∷ cs) h =
     ap (λ (o : Option ℕ). edition_after (unwrap_or o 1) cs) h.0.unset ∙ edition_one cs h.1
+
+-- a command of edition 1 opens no round of multi-blind
+pub not_multi : (r : ℕ) (c : Command) → IsFirst c → opening MultiBlind r c ≡ None
+not_multi r (Open id settings) h = step id.event h.edition
+  where
+    step : (e : Event) → event_edition e ≡ 1
+        → cond (same_event MultiBlind e && r == id.round) (Some settings) None ≡ None
+    step MultiBlind is = absurd (let bad : 2 ≡ 1 = is in omega (arith, bad))
+    step Cube3 is = refl
+    step Cube2 is = refl
+    step Cube4 is = refl
+    step Cube5 is = refl
+    step Cube6 is = refl
+    step Cube7 is = refl
+    step Blind3 is = refl
+    step FewestMoves is = refl
+    step OneHanded is = refl
+    step Clock is = refl
+    step Megaminx is = refl
+    step Pyraminx is = refl
+    step Skewb is = refl
+    step Square1 is = refl
+    step Blind4 is = refl
+    step Blind5 is = refl
+not_multi r (Register n name) h = refl
+not_multi r (Enter e n) h = refl
+not_multi r (Scramble id k moves) h = refl
+not_multi r (Attempt entry) h = refl
+not_multi r (Correct entry) h = refl
+not_multi r (Strike id n) h = refl
+not_multi r (SetAdvance id advance) h = refl
+not_multi r (Close id) h = refl
+not_multi r (SetEdition edition) h = refl
+not_multi r (Rename n name) h = refl
+not_multi r (SetRound id format cutoff limit) h = refl
+not_multi r (Rescramble id k moves) h = refl
+not_multi r (Withdraw id n) h = refl
+not_multi r (Reopen id) h = refl
 
 -- Rounds
 
@@ -217,6 +263,11 @@ value_alike e r settings n earlier vs (Strike id m) h = refl
 value_alike e r settings n earlier vs (SetAdvance id advance) h = refl
 value_alike e r settings n earlier vs (Close id) h = refl
 value_alike e r settings n earlier vs (SetEdition edition) h = refl
+value_alike e r settings n earlier vs (Rename m name) h = absurd h.early
+value_alike e r settings n earlier vs (SetRound id format cutoff limit) h = absurd h.early
+value_alike e r settings n earlier vs (Rescramble id k moves) h = absurd h.early
+value_alike e r settings n earlier vs (Withdraw id m) h = absurd h.early
+value_alike e r settings n earlier vs (Reopen id) h = absurd h.early
 
 values_alike : (e : Event) (r : ℕ) (settings : Settings) (n : ℕ) (earlier : List Command)
     (vs : List Value) (cs : List Command) → AreFirst cs
@@ -497,21 +548,17 @@ refusal_alike cs (Close id) h is =
     (λ j. round_alike id.event j cs event h) id.round
 refusal_alike cs (SetEdition edition) h is =
     absurd (let bad : Some edition ≡ None = is.unset in cc)
+refusal_alike cs (Rename n name) h is = absurd is.early
+refusal_alike cs (SetRound id format cutoff limit) h is = absurd is.early
+refusal_alike cs (Rescramble id k moves) h is = absurd is.early
+refusal_alike cs (Withdraw id n) h is = absurd is.early
+refusal_alike cs (Reopen id) h is = absurd is.early
 
 -- Entries
 
-unset : (text : List ℕ) (c : Command) → ¬ (text ≡ codes "EDITION 2") → command_of text ≡ Ok c
-    → edition_set c ≡ None
-unset text (Register n name) other is = refl
-unset text (Open id settings) other is = refl
-unset text (Enter e n) other is = refl
-unset text (Scramble id k moves) other is = refl
-unset text (Attempt entry) other is = refl
-unset text (Correct entry) other is = refl
-unset text (Strike id n) other is = refl
-unset text (SetAdvance id advance) other is = refl
-unset text (Close id) other is = refl
-unset text (SetEdition edition) other is = absurd (other (edition_spelled text edition is))
+-- a text that sets no edition
+abbrev pub IsOtherText : List ℕ → Type 0
+IsOtherText text = ¬ (text ≡ codes "EDITION 2") × ¬ (text ≡ codes "EDITION 3")
 
 -- what a text comes to behind these commands, in edition 1 and in both
 record IsAlike (cs : List Command) (before now : Result Command CommandFault) : Type 0 where
@@ -556,7 +603,7 @@ late cs fault c h other =
     above true is least = absurd (other (grind (arith, nat_tests)))
     above false is least = grind (arith, nat_tests)
 
-read_alike : (cs : List Command) (text : List ℕ) → AreFirst cs → ¬ (text ≡ codes "EDITION 2")
+read_alike : (cs : List Command) (text : List ℕ) → AreFirst cs → IsOtherText text
     → IsAlike cs (first_command_of text) (command_of text)
 read_alike cs text h other =
     step (first_command_of text) (command_of text) refl refl
@@ -564,13 +611,19 @@ read_alike cs text h other =
     step : (before now : Result Command CommandFault) → first_command_of text ≡ before
         → command_of text ≡ now → IsAlike cs before now
     step (Ok c) now is says =
-        let both = (reads_as_before text c other).0 is in
-        let same : Ok c ≡ now = sym both.0 ∙ says in
+        let both = (reads_of_first text c other.0 other.1).0 is in
+        let same : Ok c ≡ now = sym both.reads ∙ says in
         subst (λ (r : Result Command CommandFault). IsAlike cs (Ok c) r) same
-        (taken cs c h (record { edition = both.1; unset = unset text c other both.0 }))
+        (taken cs c h
+        (record {
+          early = both.early;
+          edition = both.edition;
+          unset = unset text c other.0 other.1 both.reads;
+        }))
     step (Err fault) (Ok c) is says =
         late cs fault c h (λ one.
-        let bad : Err fault ≡ Ok c = sym is ∙ (reads_as_before text c other).1 (says, one) in
+        let bad : Err fault ≡ Ok c =
+        sym is ∙ (reads_of_first text c other.0 other.1).1 says one in
         absurd (let worse : Err fault ≡ Ok c = bad in cc))
     step (Err fault) (Err why) is says = record { refused = refl; added = refl; still = tt }
 
@@ -579,7 +632,7 @@ record AfterAlike (before now : History) : Type 0 where
   still : AreFirst now.accepted
 
 after_alike : (h : History) (id : ℕ) (text : List ℕ) → AreFirst h.accepted
-    → ¬ (text ≡ codes "EDITION 2") → AfterAlike (first.after h id text) (after h id text)
+    → IsOtherText text → AfterAlike (first.after h id text) (after h id text)
 unfolding after first.after
 after_alike h id text are other = step (is_seen h id)
   where
@@ -603,7 +656,21 @@ after_alike h id text are other = step (is_seen h id)
     }
 
 abbrev IsOther : ℕ × List ℕ → Type 0
-IsOther entry = ¬ (entry.1 ≡ codes "EDITION 2")
+IsOther entry = IsOtherText entry.1
+
+-- what holds of each entry by two laws
+both_of : (entries : List (ℕ × List ℕ)) → IsWithoutSecond entries → IsWithoutThird entries
+    → AllByRecursion IsOther entries
+both_of entries second third =
+    go entries (recursion_from_All (λ entry. ¬ (entry.1 ≡ codes "EDITION 2")) entries second)
+    (recursion_from_All (λ entry. ¬ (entry.1 ≡ codes "EDITION 3")) entries third)
+  where
+    go : (xs : List (ℕ × List ℕ))
+        → AllByRecursion (λ (entry : ℕ × List ℕ). ¬ (entry.1 ≡ codes "EDITION 2")) xs
+        → AllByRecursion (λ (entry : ℕ × List ℕ). ¬ (entry.1 ≡ codes "EDITION 3")) xs
+        → AllByRecursion IsOther xs
+    go [] h k = tt
+    go (x ∷ xs) h k = ((h.0, k.0), go xs h.1 k.1)
 
 fold_alike : (h : History) (entries : List (ℕ × List ℕ)) → AreFirst h.accepted
     → AllByRecursion IsOther entries
@@ -625,24 +692,18 @@ fold_alike h (entry ∷ entries) are others =
     }
 
 pub history_first : (entries : List (ℕ × List ℕ)) → IsWithoutSecond entries
-    → AreFirst (history entries).accepted
-history_first entries others =
-    (fold_alike nothing entries tt (recursion_from_All IsOther entries others)).still
+    → IsWithoutThird entries → AreFirst (history entries).accepted
+history_first entries second third =
+    (fold_alike nothing entries tt (both_of entries second third)).still
 
 pub history_alike : (entries : List (ℕ × List ℕ)) → IsWithoutSecond entries
-    → first.history entries ≡ history entries
-history_alike entries others =
-    (fold_alike nothing entries tt (recursion_from_All IsOther entries others)).same
+    → IsWithoutThird entries → first.history entries ≡ history entries
+history_alike entries second third =
+    (fold_alike nothing entries tt (both_of entries second third)).same
 
-answer_alike : (h : History) (id : ℕ) (text : List ℕ) → AreFirst h.accepted
-    → ¬ (text ≡ codes "EDITION 2") → first.answer_to h id text ≡ answer_to h id text
+pub answer_alike : (h : History) (id : ℕ) (text : List ℕ) → AreFirst h.accepted
+    → IsOtherText text → first.answer_to h id text ≡ answer_to h id text
 unfolding entry_refusal first.entry_refusal
 answer_alike h id text are other =
     ap (λ (o : Option Code). answer_of (cond (is_seen h id) (Some code.Repeat) o))
     (read_alike h.accepted text are other).refused
-
-pub answers_as_before : AnswersAsBefore
-answers_as_before entries id text others other =
-    sym
-    (ap (λ (h : History). first.answer_to h id text) (history_alike entries others)
-    ∙ answer_alike (history entries) id text (history_first entries others) other)

@@ -1,61 +1,70 @@
 -- What each command makes of a round, as the accepted commands have it.
-use Rattle.std.proofs.Common.{◌≡◌, ℕ, zero, suc, ◌-◌, ◌≤◌, Bool, true, false, ◌&&◌, ◌||◌, ◌==◌}
-use Rattle.std.proofs.Common.{cond, unwrap_or, List, [], ◌∷◌, ◌++◌, map, Option, Some, None}
-use Rattle.std.proofs.Common.{option_map, option_to_list, refl, ap, ◌∙◌, sym, append-nil, arith}
-use Rattle.std.proofs.Common.{eqb-true}
+use Rattle.std.proofs.Common.{◌≡◌, ℕ, zero, suc, ◌-◌, ◌≤◌, Bool, true, false, ◌&&◌, ◌==◌}
+use Rattle.std.proofs.Common.{cond, unwrap_or, List, [], ◌∷◌, ◌++◌, map}
+use Rattle.std.proofs.Common.{Option, Some, None, option_map, option_to_list, refl, ap}
+use Rattle.std.proofs.Common.{◌∙◌, sym, append-nil, arith, eqb-true}
 use Rattle.std.specs.Option.{option_or, option_and_then}
 use Rattle.std.proofs.lemmas.Bool.Decides.{nat_tests}
 use Rattle.cube.specs.declared.moves.Move.{Move}
 use Rattle.attempts.specs.declared.Value.{Value}
 use Rattle.formats.specs.declared.events.Event.{Event}
+use Rattle.formats.specs.declared.events.Format.{Format}
 use Rattle.formats.specs.Events.{same_event}
 use Rattle.formats.proofs.SameEvent.{same_event-equal}
 use Rattle.texts.specs.declared.command.Command.{Command}
 use Rattle.texts.specs.declared.command.Command.TheVariants.{Register, Open, Enter, Scramble}
 use Rattle.texts.specs.declared.command.Command.TheVariants.{Attempt, Correct, Strike, SetAdvance}
-use Rattle.texts.specs.declared.command.Command.TheVariants.{Close, SetEdition}
+use Rattle.texts.specs.declared.command.Command.TheVariants.{Close, SetEdition, Rename, SetRound}
+use Rattle.texts.specs.declared.command.Command.TheVariants.{Rescramble, Reopen}
 use Rattle.texts.specs.declared.command.Entered.{Entered}
 use Rattle.texts.specs.declared.command.Settings.{Settings}
 use Rattle.texts.specs.Fields.{round_id, attempt_entry}
 use Rattle.rounds.specs.Tables.{Entrant, Table, replaced, without_last}
 use Rattle.formats.specs.declared.advance.Advance.{Advance}
 use Rattle.commands.specs.model.Kept.{with_attempt, with_correction, with_strike, with_advance}
-use Rattle.commands.specs.model.Kept.{with_end, with_entry, newcomer, with_newcomers}
+use Rattle.commands.specs.model.Kept.{with_end, with_entry, with_settings, newcomer}
+use Rattle.commands.specs.model.Kept.{with_reopening, with_newcomers}
 use Rattle.commands.specs.Accepted.{Opened, opened, opening, scramble_since, scramble_of, settled}
-use Rattle.commands.specs.Accepted.{entering, closing, advance_given, settings_now, table_of}
-use Rattle.commands.specs.Accepted.{round_at, who_advance, round_in, round_of}
+use Rattle.commands.specs.Accepted.{settings_by, entering, closing}
+use Rattle.commands.specs.Accepted.{entrants_left, is_ended, settings_now, round_at}
+use Rattle.commands.specs.Accepted.{who_advance, who_wait}
+use Rattle.commands.specs.Accepted.{round_in, round_of}
 use Rattle.commands.proofs.OneMore.{plus_command, just_opened, opened_push, one_more, new_table}
-use Rattle.commands.proofs.OneMore.{with_entrants, with_table, entrants_with, with_parts}
-use Rattle.commands.proofs.OneMore.{advance_of, is_ended, or_false, or_true, round_more, round_with}
-use Rattle.commands.proofs.OneMore.{map_same, map_alike, KeepsValues, same_entrants, still}
-use Rattle.commands.proofs.OneMore.{round_changed}
+use Rattle.commands.proofs.OneMore.{with_entrants, with_table, with_parts, entrants_at}
+use Rattle.commands.proofs.OneMore.{entrants_with, left_all, entered_last, round_more}
+use Rattle.commands.proofs.OneMore.{round_with, map_same, map_alike, KeepsValues, TakesNobodyOut}
+use Rattle.commands.proofs.OneMore.{same_entrants, still, round_changed}
 
 -- a change of the values of one number
 abbrev pub change_of : ℕ → (List Value → List Value) → Entrant → Entrant
 change_of m change x = cond (m == x.number) (record x { values = change x.values }) x
 
-abbrev with_change : Event → ℕ → List ℕ → Opened → ℕ → (List Value → List Value) → Settings × Table
-with_change e r first o m change =
-    with_table (settings_now e r o)
-    (with_entrants (table_of e r first o)
-    (map (change_of m change) (table_of e r first o).entrants))
+abbrev with_change : Event → ℕ → Option (Settings × Table) → Opened → ℕ
+    → (List Value → List Value) → Settings × Table
+with_change e r before o m change =
+    with_parts e (settings_now e r o) (is_ended e r o.since)
+    (map (change_of m change) (entrants_at e r before o))
 
 -- a command that changes the values of one number makes that change of the entrants, or none
-values_changed : (e : Event) (r : ℕ) (first : List ℕ) (c : Command) (o : Opened) (m : ℕ)
-    (change : List Value → List Value) (b : Bool)
-    → advance_given e r c ≡ None → closing e r c ≡ false → entering e r c ≡ None
+values_changed : (e : Event) (r : ℕ) (before : Option (Settings × Table)) (c : Command)
+    (o : Opened) (m : ℕ) (change : List Value → List Value) (b : Bool)
+    → ((s : Settings) → settings_by e r c s ≡ s) → closing e r c ≡ None
+    → ((waiting : List ℕ) (earlier : List Command) → entering e r waiting earlier c ≡ None)
+    → TakesNobodyOut e r c
     → ((x : Entrant)
     → one_more e r o.settings o.since c x
     ≡ (let y : Entrant =
     record { number = x.number; values = cond (b && m == x.number) (change x.values) x.values } in
     y))
-    → round_at e r first (plus_command c o)
-    ≡ cond b (with_change e r first o m change) (round_at e r first o)
-values_changed e r first c o m change b none stays nobody is =
-    round_with e r first c o _ none stays
-    (rw nobody
-    (ap (λ (xs : List Entrant). xs ++ []) (map_alike _ _ each (table_of e r first o).entrants)
-    ∙ all b (table_of e r first o).entrants))
+    → round_at e r before (plus_command c o)
+    ≡ cond b (with_change e r before o m change) (round_at e r before o)
+values_changed e r before c o m change b sets stays nobody stay is =
+    round_with e r before c o _ sets stays
+    (rw (nobody (who_wait before) o.since)
+    (ap (λ (xs : List Entrant). xs ++ [])
+    (left_all e r o.settings o.since c (entrants_at e r before o) stay
+    ∙ map_alike _ _ each (entrants_at e r before o))
+    ∙ all b (entrants_at e r before o)))
     ∙ both b
   where
     at : (a t : Bool) (x : Entrant)
@@ -77,11 +86,9 @@ values_changed e r first c o m change b none stays nobody is =
     all false xs = append-nil _ ∙ map_same _ (λ x. refl) xs
 
     both : (a : Bool)
-        → with_table (settings_now e r o)
-        (with_entrants (table_of e r first o)
-        (cond a (map (change_of m change) (table_of e r first o).entrants)
-        (table_of e r first o).entrants))
-        ≡ cond a (with_change e r first o m change) (round_at e r first o)
+        → with_parts e (settings_now e r o) (is_ended e r o.since)
+        (cond a (map (change_of m change) (entrants_at e r before o)) (entrants_at e r before o))
+        ≡ cond a (with_change e r before o m change) (round_at e r before o)
     both true = refl
     both false = refl
 
@@ -97,16 +104,17 @@ scramble_here e f r s k cs o is here =
     ∙ ap (λ (n : ℕ). scramble_of cs f n k) round
 
 -- a change that asks for the scramble of an attempt
-under_scramble : (e f : Event) (r s k : ℕ) (first : List ℕ) (cs : List Command) (o : Opened)
+under_scramble : (e f : Event) (r s k : ℕ) (before : Option (Settings × Table))
+    (cs : List Command) (o : Opened)
     (change : Option (List Move) → Settings × Table → Settings × Table)
     → opened e r [] cs ≡ Some o
     → (b : Bool) → (same_event e f && r == s) ≡ b
-    → cond b (change (scramble_since e r k o) (round_at e r first o)) (round_at e r first o)
-    ≡ cond b (change (scramble_of cs f s k) (round_at e r first o)) (round_at e r first o)
-under_scramble e f r s k first cs o change is true here =
-    ap (λ (scramble : Option (List Move)). change scramble (round_at e r first o))
+    → cond b (change (scramble_since e r k o) (round_at e r before o)) (round_at e r before o)
+    ≡ cond b (change (scramble_of cs f s k) (round_at e r before o)) (round_at e r before o)
+under_scramble e f r s k before cs o change is true here =
+    ap (λ (scramble : Option (List Move)). change scramble (round_at e r before o))
     (scramble_here e f r s k cs o is here)
-under_scramble e f r s k first cs o change is false here = refl
+under_scramble e f r s k before cs o change is false here = refl
 
 -- an attempt adds a value in its round, and changes no other
 pub round_attempt : (e f : Event) (r s k m : ℕ) (x : Entered) (cs : List Command)
@@ -117,15 +125,16 @@ round_attempt e f r s k m x cs =
     round_changed e r cs (Attempt (attempt_entry (round_id f s) k m x)) (same_event e f && r == s)
     (with_attempt m (scramble_of cs f s k) x) refl changes
   where
-    changes : (o : Opened) (first : List ℕ) → opened e r [] cs ≡ Some o
-        → round_at e r first (plus_command (Attempt (attempt_entry (round_id f s) k m x)) o)
+    changes : (o : Opened) (before : Option (Settings × Table)) → opened e r [] cs ≡ Some o
+        → round_at e r before (plus_command (Attempt (attempt_entry (round_id f s) k m x)) o)
         ≡ cond (same_event e f && r == s)
-        (with_attempt m (scramble_of cs f s k) x (round_at e r first o)) (round_at e r first o)
-    changes o first is =
-        values_changed e r first (Attempt (attempt_entry (round_id f s) k m x)) o m
-        (λ vs. vs ++ settled o.settings (scramble_since e r k o) x ∷ []) (same_event e f && r == s)
-        refl refl refl (λ y. refl)
-        ∙ under_scramble e f r s k first cs o (λ scramble. with_attempt m scramble x) is
+        (with_attempt m (scramble_of cs f s k) x (round_at e r before o)) (round_at e r before o)
+    changes o before is =
+        values_changed e r before (Attempt (attempt_entry (round_id f s) k m x)) o m
+        (λ vs. vs ++ settled (settings_now e r o) (scramble_since e r k o) x ∷ [])
+        (same_event e f && r == s)
+        (λ s. refl) refl (λ waiting earlier. refl) (λ n. refl) (λ y. refl)
+        ∙ under_scramble e f r s k before cs o (λ scramble. with_attempt m scramble x) is
         (same_event e f && r == s) refl
 
 -- a correction replaces a value in its round, and changes no other
@@ -137,15 +146,17 @@ round_correct e f r s k m x cs =
     round_changed e r cs (Correct (attempt_entry (round_id f s) k m x)) (same_event e f && r == s)
     (with_correction m k (scramble_of cs f s k) x) refl changes
   where
-    changes : (o : Opened) (first : List ℕ) → opened e r [] cs ≡ Some o
-        → round_at e r first (plus_command (Correct (attempt_entry (round_id f s) k m x)) o)
+    changes : (o : Opened) (before : Option (Settings × Table)) → opened e r [] cs ≡ Some o
+        → round_at e r before (plus_command (Correct (attempt_entry (round_id f s) k m x)) o)
         ≡ cond (same_event e f && r == s)
-        (with_correction m k (scramble_of cs f s k) x (round_at e r first o)) (round_at e r first o)
-    changes o first is =
-        values_changed e r first (Correct (attempt_entry (round_id f s) k m x)) o m
-        (λ vs. replaced k (settled o.settings (scramble_since e r k o) x) vs)
-        (same_event e f && r == s) refl refl refl (λ y. refl)
-        ∙ under_scramble e f r s k first cs o (λ scramble. with_correction m k scramble x) is
+        (with_correction m k (scramble_of cs f s k) x (round_at e r before o))
+        (round_at e r before o)
+    changes o before is =
+        values_changed e r before (Correct (attempt_entry (round_id f s) k m x)) o m
+        (λ vs. replaced k (settled (settings_now e r o) (scramble_since e r k o) x) vs)
+        (same_event e f && r == s)
+        (λ s. refl) refl (λ waiting earlier. refl) (λ n. refl) (λ y. refl)
+        ∙ under_scramble e f r s k before cs o (λ scramble. with_correction m k scramble x) is
         (same_event e f && r == s) refl
 
 -- a strike removes a value in its round, and changes no other
@@ -155,9 +166,9 @@ pub round_strike : (e f : Event) (r s m : ℕ) (cs : List Command)
     (round_of cs e r)
 round_strike e f r s m cs =
     round_changed e r cs (Strike (round_id f s) m) (same_event e f && r == s) (with_strike m) refl
-    (λ o first is.
-    values_changed e r first (Strike (round_id f s) m) o m without_last (same_event e f && r == s)
-    refl refl refl (λ y. refl))
+    (λ o before is.
+    values_changed e r before (Strike (round_id f s) m) o m without_last (same_event e f && r == s)
+    (λ s. refl) refl (λ waiting earlier. refl) (λ n. refl) (λ y. refl))
 
 -- an advance that is given stands in its round, and in no other
 pub round_advance : (e f : Event) (r s : ℕ) (advance : Advance) (cs : List Command)
@@ -166,69 +177,132 @@ pub round_advance : (e f : Event) (r s : ℕ) (advance : Advance) (cs : List Com
     (round_of cs e r)
 round_advance e f r s advance cs =
     round_changed e r cs c (same_event e f && r == s) (with_advance advance) refl
-    (λ o first is. changes o first)
+    (λ o before is. changes o before)
   where
     c : Command
     c = SetAdvance (round_id f s) advance
 
-    step : (o : Opened) (first : List ℕ) (b : Bool)
-        → with_parts e r first o (unwrap_or (cond b (Some advance) None) (advance_of e r o))
-        (is_ended e r o) (table_of e r first o).entrants
-        ≡ cond b (with_advance advance (round_at e r first o)) (round_at e r first o)
-    step o first true = refl
-    step o first false = refl
+    step : (o : Opened) (before : Option (Settings × Table)) (b : Bool)
+        → with_parts e
+        (cond b (record (settings_now e r o) { advance = advance }) (settings_now e r o))
+        (is_ended e r o.since) (entrants_at e r before o)
+        ≡ cond b (with_advance advance (round_at e r before o)) (round_at e r before o)
+    step o before true = refl
+    step o before false = refl
 
-    changes : (o : Opened) (first : List ℕ)
-        → round_at e r first (plus_command c o)
-        ≡ cond (same_event e f && r == s) (with_advance advance (round_at e r first o))
-        (round_at e r first o)
-    changes o first =
-        round_more e r first o c
-        ∙ ap
-        (λ (b : Bool).
-        with_parts e r first o (unwrap_or (advance_given e r c) (advance_of e r o)) b
-        (entrants_with e r first o c))
-        (or_false (is_ended e r o))
+    changes : (o : Opened) (before : Option (Settings × Table))
+        → round_at e r before (plus_command c o)
+        ≡ cond (same_event e f && r == s) (with_advance advance (round_at e r before o))
+        (round_at e r before o)
+    changes o before =
+        round_more e r before o c
         ∙ ap
         (λ (xs : List Entrant).
-        with_parts e r first o (unwrap_or (advance_given e r c) (advance_of e r o)) (is_ended e r o)
-        xs)
-        (same_entrants e r first o c refl (λ settings earlier x. refl))
-        ∙ step o first (same_event e f && r == s)
+        with_parts e (settings_by e r c (settings_now e r o)) (is_ended e r o.since) xs)
+        (same_entrants e r before o c (λ waiting earlier. refl) (λ n. refl)
+        (λ settings earlier x. refl))
+        ∙ step o before (same_event e f && r == s)
+
+-- other settings stand in their round, and in no other
+pub round_settings : (e f : Event) (r s : ℕ) (format : Format) (cutoff : Option (ℕ × ℕ))
+    (limit : Option ℕ) (cs : List Command)
+    → round_of (cs ++ SetRound (round_id f s) format cutoff limit ∷ []) e r
+    ≡ cond (same_event e f && r == s)
+    (option_map (with_settings format cutoff limit) (round_of cs e r)) (round_of cs e r)
+round_settings e f r s format cutoff limit cs =
+    round_changed e r cs c (same_event e f && r == s) (with_settings format cutoff limit) refl
+    (λ o before is. changes o before)
+  where
+    c : Command
+    c = SetRound (round_id f s) format cutoff limit
+
+    step : (o : Opened) (before : Option (Settings × Table)) (b : Bool)
+        → with_parts e
+        (cond b (record (settings_now e r o) {
+          format = format;
+          cutoff = cutoff;
+          limit = limit;
+        }) (settings_now e r o))
+        (is_ended e r o.since) (entrants_at e r before o)
+        ≡ cond b (with_settings format cutoff limit (round_at e r before o))
+        (round_at e r before o)
+    step o before true = refl
+    step o before false = refl
+
+    changes : (o : Opened) (before : Option (Settings × Table))
+        → round_at e r before (plus_command c o)
+        ≡ cond (same_event e f && r == s)
+        (with_settings format cutoff limit (round_at e r before o)) (round_at e r before o)
+    changes o before =
+        round_more e r before o c
+        ∙ ap
+        (λ (xs : List Entrant).
+        with_parts e (settings_by e r c (settings_now e r o)) (is_ended e r o.since) xs)
+        (same_entrants e r before o c (λ waiting earlier. refl) (λ n. refl)
+        (λ settings earlier x. refl))
+        ∙ step o before (same_event e f && r == s)
+
+-- a command that closes a round, or opens it again
+ends : (e f : Event) (r s : ℕ) (c : Command) (closed : Bool)
+    (change : Settings × Table → Settings × Table) (cs : List Command)
+    → opening e r c ≡ None → ((settings : Settings) → settings_by e r c settings ≡ settings)
+    → ((waiting : List ℕ) (earlier : List Command) → entering e r waiting earlier c ≡ None)
+    → TakesNobodyOut e r c → KeepsValues e r c
+    → closing e r c ≡ cond (same_event e f && r == s) (Some closed) None
+    → ((settings : Settings) (now : Bool) (es : List Entrant)
+    → with_parts e settings closed es ≡ change (with_parts e settings now es))
+    → round_of (cs ++ c ∷ []) e r
+    ≡ cond (same_event e f && r == s) (option_map change (round_of cs e r)) (round_of cs e r)
+ends e f r s c closed change cs closes sets nobody stay keeps ending changes =
+    round_changed e r cs c (same_event e f && r == s) change closes (λ o before is. changed o before)
+  where
+    step : (o : Opened) (before : Option (Settings × Table)) (b : Bool)
+        → with_parts e (settings_now e r o)
+        (unwrap_or (cond b (Some closed) None) (is_ended e r o.since)) (entrants_at e r before o)
+        ≡ cond b (change (round_at e r before o)) (round_at e r before o)
+    step o before true =
+        changes (settings_now e r o) (is_ended e r o.since) (entrants_at e r before o)
+    step o before false = refl
+
+    changed : (o : Opened) (before : Option (Settings × Table))
+        → round_at e r before (plus_command c o)
+        ≡ cond (same_event e f && r == s) (change (round_at e r before o)) (round_at e r before o)
+    changed o before =
+        round_more e r before o c
+        ∙ ap
+        (λ (settings : Settings).
+        with_parts e settings (unwrap_or (closing e r c) (is_ended e r o.since))
+        (entrants_with e r before o c))
+        (sets (settings_now e r o))
+        ∙ ap
+        (λ (xs : List Entrant).
+        with_parts e (settings_now e r o) (unwrap_or (closing e r c) (is_ended e r o.since)) xs)
+        (same_entrants e r before o c nobody stay keeps)
+        ∙ ap
+        (λ (x : Option Bool).
+        with_parts e (settings_now e r o) (unwrap_or x (is_ended e r o.since))
+        (entrants_at e r before o))
+        ending
+        ∙ step o before (same_event e f && r == s)
 
 -- a closing closes its round, and no other
 pub round_close : (e f : Event) (r s : ℕ) (cs : List Command)
     → round_of (cs ++ Close (round_id f s) ∷ []) e r
     ≡ cond (same_event e f && r == s) (option_map with_end (round_of cs e r)) (round_of cs e r)
 round_close e f r s cs =
-    round_changed e r cs c (same_event e f && r == s) with_end refl (λ o first is. changes o first)
-  where
-    c : Command
-    c = Close (round_id f s)
+    ends e f r s (Close (round_id f s)) true with_end cs refl (λ settings. refl)
+    (λ waiting earlier. refl) (λ n. refl) (λ settings earlier x. refl) refl
+    (λ settings now es. refl)
 
-    step : (o : Opened) (first : List ℕ) (b : Bool)
-        → with_parts e r first o (advance_of e r o) (is_ended e r o || b)
-        (table_of e r first o).entrants
-        ≡ cond b (with_end (round_at e r first o)) (round_at e r first o)
-    step o first true =
-        ap
-        (λ (t : Bool). with_parts e r first o (advance_of e r o) t (table_of e r first o).entrants)
-        (or_true (is_ended e r o))
-    step o first false =
-        ap
-        (λ (t : Bool). with_parts e r first o (advance_of e r o) t (table_of e r first o).entrants)
-        (or_false (is_ended e r o))
-
-    changes : (o : Opened) (first : List ℕ)
-        → round_at e r first (plus_command c o)
-        ≡ cond (same_event e f && r == s) (with_end (round_at e r first o)) (round_at e r first o)
-    changes o first =
-        round_more e r first o c
-        ∙ ap
-        (λ (xs : List Entrant).
-        with_parts e r first o (advance_of e r o) (is_ended e r o || closing e r c) xs)
-        (same_entrants e r first o c refl (λ settings earlier x. refl))
-        ∙ step o first (same_event e f && r == s)
+-- a round that is opened again is open, and no other is changed
+pub round_reopen : (e f : Event) (r s : ℕ) (cs : List Command)
+    → round_of (cs ++ Reopen (round_id f s) ∷ []) e r
+    ≡ cond (same_event e f && r == s) (option_map with_reopening (round_of cs e r))
+    (round_of cs e r)
+round_reopen e f r s cs =
+    ends e f r s (Reopen (round_id f s)) false with_reopening cs refl (λ settings. refl)
+    (λ waiting earlier. refl) (λ n. refl) (λ settings earlier x. refl) refl
+    (λ settings now es. refl)
 
 -- an entry adds an entrant to the first round, and changes no other
 pub round_enter : (e f : Event) (r n : ℕ) (cs : List Command)
@@ -236,63 +310,87 @@ pub round_enter : (e f : Event) (r n : ℕ) (cs : List Command)
     ≡ cond (same_event e f && r == 1) (option_map (with_entry n) (round_of cs e r))
     (round_of cs e r)
 round_enter e f r n cs =
-    round_changed e r cs (Enter f n) (same_event e f && r == 1) (with_entry n) refl
-    (λ o first is. changes o first)
+    round_changed e r cs c (same_event e f && r == 1) (with_entry n) refl
+    (λ o before is. changes o before)
   where
-    both : (b : Bool) (o : Opened) (first : List ℕ)
-        → with_table (settings_now e r o)
-        (with_entrants (table_of e r first o)
-        ((table_of e r first o).entrants ++ option_to_list
-        (option_map newcomer (cond b (Some n) None))))
-        ≡ cond b (with_entry n (round_at e r first o)) (round_at e r first o)
-    both true o first = refl
-    both false o first =
+    c : Command
+    c = Enter f n
+
+    both : (b : Bool) (o : Opened) (before : Option (Settings × Table))
+        → with_parts e (settings_now e r o) (is_ended e r o.since)
+        (entrants_at e r before o ++ option_to_list (option_map newcomer (cond b (Some n) None)))
+        ≡ cond b (with_entry n (round_at e r before o)) (round_at e r before o)
+    both true o before = refl
+    both false o before =
         ap
-        (λ (xs : List Entrant).
-        with_table (settings_now e r o) (with_entrants (table_of e r first o) xs))
+        (λ (xs : List Entrant). with_parts e (settings_now e r o) (is_ended e r o.since) xs)
         (append-nil _)
 
-    changes : (o : Opened) (first : List ℕ)
-        → round_at e r first (plus_command (Enter f n) o)
-        ≡ cond (same_event e f && r == 1) (with_entry n (round_at e r first o))
-        (round_at e r first o)
-    changes o first =
-        round_with e r first (Enter f n) o _ refl refl
-        (ap
-        (λ (xs : List Entrant).
-        xs ++ option_to_list (option_map newcomer (entering e r (Enter f n))))
-        (map_same _ (λ x. refl) (table_of e r first o).entrants))
-        ∙ both (same_event e f && r == 1) o first
+    changes : (o : Opened) (before : Option (Settings × Table))
+        → round_at e r before (plus_command c o)
+        ≡ cond (same_event e f && r == 1) (with_entry n (round_at e r before o))
+        (round_at e r before o)
+    changes o before =
+        round_with e r before c o _ (λ settings. refl) refl
+        (ap (λ (xs : List Entrant). xs ++ entered_last e r (who_wait before) o.since c)
+        (left_all e r o.settings o.since c (entrants_at e r before o) (λ m. refl)
+        ∙ map_same _ (λ x. refl) (entrants_at e r before o)))
+        ∙ both (same_event e f && r == 1) o before
 
--- a command that opens no round, changes no values, enters nobody, gives no advance and closes no
--- round changes no round
+-- a command that changes nothing of a round that is open, and opens none, changes no round
 round_same : (e : Event) (r : ℕ) (cs : List Command) (c : Command) → opening e r c ≡ None
-    → advance_given e r c ≡ None → closing e r c ≡ false → entering e r c ≡ None → KeepsValues e r c
+    → ((s : Settings) → settings_by e r c s ≡ s) → closing e r c ≡ None
+    → ((waiting : List ℕ) (earlier : List Command) → entering e r waiting earlier c ≡ None)
+    → TakesNobodyOut e r c → KeepsValues e r c
     → round_of (cs ++ c ∷ []) e r ≡ round_of cs e r
-round_same e r cs c closed none stays nobody keeps =
+round_same e r cs c closed sets stays nobody stay keeps =
     round_changed e r cs c false (λ round. round) closed
-    (λ o first is. still e r first c o none stays nobody keeps)
+    (λ o before is. still e r before c o sets stays nobody stay keeps)
 
 pub round_register : (e : Event) (r n : ℕ) (name : List ℕ) (cs : List Command)
     → round_of (cs ++ Register n name ∷ []) e r ≡ round_of cs e r
 round_register e r n name cs =
-    round_same e r cs (Register n name) refl refl refl refl (λ settings earlier x. refl)
+    round_same e r cs (Register n name) refl (λ s. refl) refl (λ waiting earlier. refl) (λ m. refl)
+    (λ settings earlier x. refl)
+
+pub round_rename : (e : Event) (r n : ℕ) (name : List ℕ) (cs : List Command)
+    → round_of (cs ++ Rename n name ∷ []) e r ≡ round_of cs e r
+round_rename e r n name cs =
+    round_same e r cs (Rename n name) refl (λ s. refl) refl (λ waiting earlier. refl) (λ m. refl)
+    (λ settings earlier x. refl)
 
 pub round_scramble : (e f : Event) (r s k : ℕ) (moves : List Move) (cs : List Command)
     → round_of (cs ++ Scramble (round_id f s) k moves ∷ []) e r ≡ round_of cs e r
 round_scramble e f r s k moves cs =
-    round_same e r cs (Scramble (round_id f s) k moves) refl refl refl refl
-    (λ settings earlier x. refl)
+    round_same e r cs (Scramble (round_id f s) k moves) refl (λ s. refl) refl
+    (λ waiting earlier. refl) (λ m. refl) (λ settings earlier x. refl)
+
+pub round_rescramble : (e f : Event) (r s k : ℕ) (moves : List Move) (cs : List Command)
+    → round_of (cs ++ Rescramble (round_id f s) k moves ∷ []) e r ≡ round_of cs e r
+round_rescramble e f r s k moves cs =
+    round_same e r cs (Rescramble (round_id f s) k moves) refl (λ s. refl) refl
+    (λ waiting earlier. refl) (λ m. refl) (λ settings earlier x. refl)
 
 pub round_edition : (e : Event) (r edition : ℕ) (cs : List Command)
     → round_of (cs ++ SetEdition edition ∷ []) e r ≡ round_of cs e r
 round_edition e r edition cs =
-    round_same e r cs (SetEdition edition) refl refl refl refl (λ settings earlier x. refl)
+    round_same e r cs (SetEdition edition) refl (λ s. refl) refl (λ waiting earlier. refl)
+    (λ m. refl) (λ settings earlier x. refl)
 
 -- the table of a round that is opened behind these commands
 abbrev pub opening_table : Event → ℕ → Settings → List Command → Table
 opening_table e r settings cs =
     with_newcomers (new_table e settings) (who_advance (round_of cs e (r - 1)))
+
+-- those who came in at an opening behind which no command came
+abbrev entrants_now : Event → ℕ → Settings → List ℕ → List Entrant
+entrants_now e r settings ns = entrants_left e r settings [] [] ns
+
+none_left_out : (e : Event) (r : ℕ) (settings : Settings) (ns : List ℕ)
+    → entrants_now e r settings ns ≡ map newcomer ns
+none_left_out e r settings [] = refl
+none_left_out e r settings (n ∷ ns) =
+    ap (λ (xs : List Entrant). newcomer n ∷ xs) (none_left_out e r settings ns)
 
 -- an opening adds a round with those in it who advance from the one before, and changes no round
 -- that is open
@@ -310,7 +408,7 @@ round_open e f (suc r) s settings cs low =
     ∙ step (opened e (suc r) [] cs) (same_event e f && suc r == s) refl
   where
     at : Opened → Settings × Table
-    at o = round_at e (suc r) (who_advance (round_in e r o.before)) o
+    at o = round_at e (suc r) (round_in e r o.before) o
 
     made : List ℕ → Event → Settings × Table
     made first x = with_table settings (with_newcomers (new_table x settings) first)
@@ -324,7 +422,8 @@ round_open e f (suc r) s settings cs low =
         let before : r ≡ s - 1 = omega arith in
         ap Some
         (ap (λ (xs : List Entrant). with_table settings (with_entrants (new_table e settings) xs))
-        (append-nil (map newcomer (who_advance (round_in e r cs))))
+        (append-nil (entrants_now e (suc r) settings (who_advance (round_in e r cs)))
+        ∙ none_left_out e (suc r) settings (who_advance (round_in e r cs)))
         ∙ ap (λ (x : Event). made (who_advance (round_in x r cs)) x) event
         ∙ ap (λ (n : ℕ). made (who_advance (round_in f n cs)) f) before)
     fresh false h = refl
@@ -338,5 +437,5 @@ round_open e f (suc r) s settings cs low =
     step None b h = fresh b h
     step (Some o) b h =
         ap Some
-        (still e (suc r) (who_advance (round_in e r o.before)) (Open (round_id f s) settings) o refl
-        refl refl (λ settings earlier x. refl))
+        (still e (suc r) (round_in e r o.before) (Open (round_id f s) settings) o (λ s. refl) refl
+        (λ waiting earlier. refl) (λ n. refl) (λ settings earlier x. refl))

@@ -1,16 +1,16 @@
 -- What one more command makes of the index of the accepted commands.
 use Rattle.std.proofs.Common.{◌≡◌, ◌≤◌, ◌+◌, ◌-◌, ℕ, zero, suc, Bool, true, false, not, cond, ◌&&◌}
-use Rattle.std.proofs.Common.{◌==◌, List, [], ◌∷◌, ◌++◌, length, Option, Some, None, is_some}
-use Rattle.std.proofs.Common.{option_map, IfNone, OnSome, Result, Ok, Err, IfOk, refl, ap, ◌∙◌, sym}
-use Rattle.std.proofs.Common.{append-nil, arith, eqb-true}
+use Rattle.std.proofs.Common.{◌==◌, List, [], ◌∷◌, ◌++◌, length, drop, find, count_by, Option, Some}
+use Rattle.std.proofs.Common.{None, is_some, option_map, IfNone, OnSome, Result, Ok, Err, IfOk}
+use Rattle.std.proofs.Common.{refl, ap, ◌∙◌, sym, subst, append-nil, arith, eqb-true}
 use Rattle.std.specs.Prelude.{nat_lt}
 use Rattle.std.specs.List.{list_any, range_with_len}
 use Rattle.std.specs.declared.alloc.AllocError.{AllocError}
 use Rattle.std.specs.Option.{option_or, option_and_then}
 use Rattle.std.proofs.lemmas.Bool.{false≢true}
-use Rattle.std.proofs.lemmas.Bool.Decides.{nat_tests}
 use Rattle.cube.specs.declared.moves.Move.{Move}
 use Rattle.formats.specs.declared.events.Event.{Event}
+use Rattle.formats.specs.declared.events.Format.{Format}
 use Rattle.formats.specs.Events.{same_event, unit_of, attempts_of}
 use Rattle.formats.proofs.SameEvent.{same_event-equal}
 use Rattle.texts.specs.declared.answer.Code.{Code}
@@ -18,174 +18,433 @@ use Rattle.texts.specs.declared.answer.Code.TheVariants as code
 use Rattle.texts.specs.declared.command.Command.{Command}
 use Rattle.texts.specs.declared.command.Command.TheVariants.{Register, Open, Enter, Scramble}
 use Rattle.texts.specs.declared.command.Command.TheVariants.{Attempt, Correct, Strike, SetAdvance}
-use Rattle.texts.specs.declared.command.Command.TheVariants.{Close, SetEdition}
+use Rattle.texts.specs.declared.command.Command.TheVariants.{Close, SetEdition, Rename, SetRound}
+use Rattle.texts.specs.declared.command.Command.TheVariants.{Rescramble, Withdraw, Reopen}
 use Rattle.texts.specs.declared.command.Entered.{Entered}
 use Rattle.texts.specs.declared.command.Settings.{Settings}
 use Rattle.texts.specs.Fields.{round_id, attempt_entry}
 use Rattle.commands.specs.declared.kept_rounds.KeptRound.{KeptRound}
 use Rattle.commands.specs.declared.index.Index.{Index}
-use Rattle.rounds.specs.Tables.{Table, close_fault}
+use Rattle.rounds.specs.Tables.{Table, close_fault, entrant, has_done, is_entered}
+use Rattle.rounds.specs.Tables.{standings}
 use Rattle.formats.specs.declared.advance.Advance.{Advance}
-use Rattle.advancement.specs.Advancing.{later_rounds}
-use Rattle.commands.specs.Accepted.{name_given, scrambling, scramble_of, is_moves, scramble_refusal}
-use Rattle.commands.specs.Accepted.{is_final, competitors_of, has_too_few, end_refusal}
-use Rattle.commands.specs.Accepted.{close_refusal, who_advance, round_in, round_of}
+use Rattle.advancement.specs.Advancing.{later_rounds, holds_of}
+use Rattle.commands.specs.Accepted.{name_given, renaming, Opened, opened as opened_in, opening}
+use Rattle.commands.specs.Accepted.{scrambling, rescrambling, scramble_of, settled, is_withdrawal}
+use Rattle.commands.specs.Accepted.{is_moves, scramble_refusal, rescramble_refusal, is_final}
+use Rattle.commands.specs.Accepted.{competitors_of, has_too_few, end_refusal, close_refusal}
+use Rattle.commands.specs.Accepted.{who_advance, who_wait, round_in, round_of, is_solution}
+use Rattle.commands.specs.Accepted.{solving, is_solved, has_solved}
 use Rattle.commands.specs.History.{added}
-use Rattle.commands.specs.model.Kept.{has_name, scramble_at, kept_round, kept_scramble}
-use Rattle.commands.specs.model.Kept.{AreCompetitors, AreRounds, IsIndexOf, ChangesRound, AddsRound}
-use Rattle.commands.specs.model.Kept.{AddsScramble, with_attempt, with_correction, with_strike}
-use Rattle.commands.specs.model.Kept.{with_advance, with_end, with_entry, with_newcomers}
+use Rattle.commands.specs.model.Kept.{is_round, scramble_given, scramble_at, kept_round}
+use Rattle.commands.specs.model.Kept.{kept_waiting, kept_scramble, waiting_now, waiting_of}
+use Rattle.commands.specs.model.Kept.{first_of_all, AreCompetitors, AreRounds, IsIndexOf, AreApart}
+use Rattle.commands.specs.model.Kept.{IsApart, ChangesRound, EntersRound, ExchangesRound, Opens}
+use Rattle.commands.specs.model.Kept.{AddsScramble, IsAsBefore, kept_solved}
+use Rattle.commands.specs.model.Kept.{with_attempt, with_correction, with_strike, with_advance}
+use Rattle.commands.specs.model.Kept.{with_end, with_entry, with_settings, with_exit}
+use Rattle.commands.specs.model.Kept.{with_reopening, with_newcomers, table_opened}
+use Rattle.commands.proofs.Apart.{nobody_waits, apart_same, plus_stays, replaced_stays, less_stays}
+use Rattle.commands.proofs.Apart.{apart_exit, apart_opened, apart_added, apart_changed}
 use Rattle.commands.proofs.Lookups.{at_end, found_push}
 use Rattle.commands.proofs.EachCommand.{round_attempt, round_correct, round_strike, round_advance}
-use Rattle.commands.proofs.EachCommand.{round_close, round_enter, round_register, round_scramble}
-use Rattle.commands.proofs.EachCommand.{round_open, round_edition}
+use Rattle.commands.proofs.EachCommand.{round_settings, round_close, round_reopen, round_enter}
+use Rattle.commands.proofs.EachCommand.{round_register, round_rename, round_scramble}
+use Rattle.commands.proofs.EachCommand.{round_rescramble, round_open, round_edition}
+use Rattle.commands.proofs.Exits.{waiting_same, waiting_exit, waiting_open, round_exit}
 use Rattle.commands.proofs.OneMore.{new_table, with_table, scramble_kept, scramble_new}
+use Rattle.commands.proofs.OneMore.{scramble_again}
 use Rattle.commands.proofs.Registrations.{AreCompetitors-other}
+use Rattle.commands.proofs.Solved.{solved_same, solved_entered}
 
 -- a command that sets no scramble leaves those that are kept as they are
 scrambles_kept : (cs : List Command) (c : Command) (old new : List KeptRound) → AreRounds cs old
     → ((e : Event) (r k : ℕ) → scrambling e r k c ≡ None)
+    → ((e : Event) (r k : ℕ) → rescrambling e r k c ≡ None)
     → ((e : Event) (r k : ℕ) → kept_scramble e r k new ≡ kept_scramble e r k old)
     → (e : Event) (r k : ℕ) → 1 ≤ k
     → option_and_then (scramble_at (cs ++ c ∷ []) e r k) (kept_scramble e r k new)
     ≡ scramble_of (cs ++ c ∷ []) e r k
-scrambles_kept cs c old new are sets same e r k low =
+scrambles_kept cs c old new are sets again same e r k low =
     ap (option_and_then (scramble_at (cs ++ c ∷ []) e r k)) (same e r k)
-    ∙ found_push (scrambling e r k) cs c (kept_scramble e r k old) (sets e r k)
+    ∙ found_push (scramble_given e r k) cs c (kept_scramble e r k old)
+    (rw (sets e r k, again e r k) refl)
     ∙ are.scrambles e r k low
-    ∙ sym (scramble_kept e r k cs c (sets e r k))
+    ∙ sym (scramble_kept e r k cs c (sets e r k) (again e r k))
 
-same_rounds : (cs : List Command) (c : Command) (old new : List KeptRound)
-    → ((e : Event) (r : ℕ) → kept_round e r new ≡ kept_round e r old)
-    → ((e : Event) (r k : ℕ) → kept_scramble e r k new ≡ kept_scramble e r k old)
+-- a command that changes no round and no scramble, and by which nobody withdraws
+same_rounds : (cs : List Command) (c : Command) (xs : List KeptRound)
     → ((e : Event) (r k : ℕ) → scrambling e r k c ≡ None)
-    → ((e : Event) (r : ℕ) → round_of (cs ++ c ∷ []) e r ≡ round_of cs e r) → AreRounds cs old
-    → AreRounds (cs ++ c ∷ []) new
-same_rounds cs c old new rounds scrambles sets one are = record {
-  rounds = λ e r. rounds e r ∙ are.rounds e r ∙ sym (one e r);
-  scrambles = scrambles_kept cs c old new are sets scrambles;
+    → ((e : Event) (r k : ℕ) → rescrambling e r k c ≡ None)
+    → ((e : Event) (r : ℕ) → opening e r c ≡ None)
+    → ((e : Event) (r : ℕ) → is_withdrawal e r c ≡ false)
+    → ((e : Event) (r k n : ℕ) → solving e r k n c ≡ None)
+    → ((e : Event) (r : ℕ) → round_of (cs ++ c ∷ []) e r ≡ round_of cs e r) → AreRounds cs xs
+    → AreRounds (cs ++ c ∷ []) xs
+same_rounds cs c xs sets again opens stay unsolved one are = record {
+  rounds = λ e r. are.rounds e r ∙ sym (one e r);
+  scrambles = scrambles_kept cs c xs xs are sets again (λ e r k. refl);
+  waiting = λ e r. are.waiting e r ∙ sym (waiting_same e r cs c (opens e r) (stay e r));
+  apart = are.apart;
+  solved =
+      λ e r k n low. are.solved e r k n low
+      ∙ sym (solved_same e r k n cs c (unsolved e r k n));
 }
 
--- a registration, which the competitors note
-pub registered_or : (cs : List Command) (n : ℕ) (name : List ℕ) (refused : Option Code)
-    (old new : Index)
+-- a registration or another name, which the competitors note
+pub named_or : (cs : List Command) (c : Command) (refused : Option Code) (old new : Index)
     → IsIndexOf cs old
-    → AreCompetitors (cs ++ added refused (Register n name)) new.competitors
+    → ((e : Event) (r k : ℕ) → scrambling e r k c ≡ None)
+    → ((e : Event) (r k : ℕ) → rescrambling e r k c ≡ None)
+    → ((e : Event) (r : ℕ) → opening e r c ≡ None)
+    → ((e : Event) (r : ℕ) → is_withdrawal e r c ≡ false)
+    → ((e : Event) (r k n : ℕ) → solving e r k n c ≡ None)
+    → ((e : Event) (r : ℕ) → round_of (cs ++ c ∷ []) e r ≡ round_of cs e r)
+    → AreCompetitors (cs ++ added refused c) new.competitors
     → new.rounds.opened.items ≡ old.rounds.opened.items
-    → IsIndexOf (cs ++ added refused (Register n name)) new
-registered_or cs n name None old new is competitors rounds = record {
+    → IsIndexOf (cs ++ added refused c) new
+named_or cs c None old new is sets again opens stay unsolved one competitors rounds = record {
   competitors = competitors;
   rounds =
       rw rounds
-      (same_rounds cs (Register n name) old.rounds.opened.items old.rounds.opened.items
-      (λ e r. refl) (λ e r k. refl) (λ e r k. refl) (λ e r. round_register e r n name cs)
-      is.rounds);
+      (same_rounds cs c old.rounds.opened.items sets again opens stay unsolved one is.rounds);
 }
-registered_or cs n name (Some code) old new is competitors rounds = record {
+named_or cs c (Some code) old new is sets again opens stay unsolved one competitors rounds = record {
   competitors = competitors;
   rounds = rw (rounds, append-nil cs) is.rounds;
 }
+
+-- a change of one round leaves those who wait for a place in it outside
+abbrev pub KeepsApart : List Command → Event → ℕ → (Settings × Table → Settings × Table) → Type 0
+KeepsApart cs e r change =
+    (f : Event) (s : ℕ) (x : Settings × Table) (ns : List ℕ)
+    → (same_event f e && s == r) ≡ true → waiting_of cs f s ≡ Some ns → AreApart x.1 ns
+    → AreApart (change x).1 ns
 
 -- a round changes as a command changes it
 changes : (cs : List Command) (c : Command) (e : Event) (r : ℕ)
     (change : Settings × Table → Settings × Table) (old new : List KeptRound)
     → AreRounds cs old → ChangesRound e r change old new
     → ((f : Event) (s k : ℕ) → scrambling f s k c ≡ None)
+    → ((f : Event) (s k : ℕ) → rescrambling f s k c ≡ None)
+    → ((f : Event) (s : ℕ) → opening f s c ≡ None)
+    → ((f : Event) (s : ℕ) → is_withdrawal f s c ≡ false)
+    → ((f : Event) (s k n : ℕ) → solving f s k n c ≡ None)
     → ((f : Event) (s : ℕ)
     → round_of (cs ++ c ∷ []) f s
     ≡ cond (same_event f e && s == r) (option_map change (round_of cs f s)) (round_of cs f s))
+    → KeepsApart cs e r change
     → AreRounds (cs ++ c ∷ []) new
-changes cs c e r change old new are changed sets one = record {
+changes cs c e r change old new are changed sets again opens stay unsolved one keeps = record {
   rounds =
       λ f s. changed.rounds f s
       ∙ ap
       (λ (x : Option (Settings × Table)). cond (same_event f e && s == r) (option_map change x) x)
       (are.rounds f s)
       ∙ sym (one f s);
-  scrambles = scrambles_kept cs c old new are sets changed.scrambles;
+  scrambles = scrambles_kept cs c old new are sets again changed.scrambles;
+  waiting =
+      λ f s. changed.waiting f s ∙ are.waiting f s
+      ∙ sym (waiting_same f s cs c (opens f s) (stay f s));
+  apart =
+      λ f s.
+      rw (changed.rounds f s, changed.waiting f s)
+      (apart_changed (same_event f e && s == r) change (kept_round f s old) (kept_waiting f s old)
+      (are.apart f s)
+      (λ x ns here waits. keeps f s x ns here (sym (are.waiting f s) ∙ waits)));
+  solved =
+      λ f s k n low. changed.solved f s k n ∙ are.solved f s k n low
+      ∙ sym (solved_same f s k n cs c (unsolved f s k n));
 }
 
--- a command that changes one round and registers nobody, or is refused
-pub changed_or : (cs : List Command) (c : Command) (e : Event) (r : ℕ)
-    (change : Settings × Table → Settings × Table) (refused : Option Code) (old new : Index)
-    → IsIndexOf cs old
-    → ((n : ℕ) → name_given n c ≡ None) → ((name : List ℕ) → has_name name c ≡ false)
-    → ((f : Event) (s k : ℕ) → scrambling f s k c ≡ None)
+-- what is entered for an attempt changes a round as the command does
+enters : (cs : List Command) (c : Command) (e : Event) (r k n : ℕ) (x : Entered)
+    (change : Settings × Table → Settings × Table) (old new : List KeptRound)
+    → AreRounds cs old → EntersRound e r k n x change old new
+    → ((f : Event) (s j : ℕ) → scrambling f s j c ≡ None)
+    → ((f : Event) (s j : ℕ) → rescrambling f s j c ≡ None)
+    → ((f : Event) (s : ℕ) → opening f s c ≡ None)
+    → ((f : Event) (s : ℕ) → is_withdrawal f s c ≡ false)
+    → ((f : Event) (s j m : ℕ)
+    → solving f s j m c
+    ≡ cond (same_event f e && s == r && (m == n && j == k)) (Some (is_solution x)) None)
     → ((f : Event) (s : ℕ)
     → round_of (cs ++ c ∷ []) f s
     ≡ cond (same_event f e && s == r) (option_map change (round_of cs f s)) (round_of cs f s))
+    → KeepsApart cs e r change
+    → AreRounds (cs ++ c ∷ []) new
+enters cs c e r k n x change old new are done sets again opens stay solves one keeps = record {
+  rounds =
+      λ f s. done.rounds f s
+      ∙ ap
+      (λ (y : Option (Settings × Table)). cond (same_event f e && s == r) (option_map change y) y)
+      (are.rounds f s)
+      ∙ sym (one f s);
+  scrambles = scrambles_kept cs c old new are sets again done.scrambles;
+  waiting =
+      λ f s. done.waiting f s ∙ are.waiting f s
+      ∙ sym (waiting_same f s cs c (opens f s) (stay f s));
+  apart =
+      λ f s.
+      rw (done.rounds f s, done.waiting f s)
+      (apart_changed (same_event f e && s == r) change (kept_round f s old) (kept_waiting f s old)
+      (are.apart f s)
+      (λ y ns here waits. keeps f s y ns here (sym (are.waiting f s) ∙ waits)));
+  solved =
+      λ f s j m low.
+      done.solved f s j m low
+      ∙ ap
+      (cond (same_event f e && s == r && (m == n && j == k)) (is_solution x))
+      (are.solved f s j m low)
+      ∙ sym
+      (solved_entered f s j m cs c (same_event f e && s == r && (m == n && j == k))
+      (is_solution x) (solves f s j m) (there f s j m));
+}
+  where
+    there : (f : Event) (s j m : ℕ) → (same_event f e && s == r && (m == n && j == k)) ≡ true
+        → is_some (round_of cs f s) ≡ true
+    there f s j m h =
+        let event : f ≡ e = same_event-equal f e (grind arith) in
+        let round : s ≡ r = eqb-true s r (grind arith) in
+        ap is_some
+        (ap (λ (g : Event). round_of cs g s) event ∙ ap (λ (l : ℕ). round_of cs e l) round
+        ∙ sym (are.rounds e r))
+        ∙ done.there
+
+-- where nothing is looked up otherwise, the rounds are those of the same commands
+as_before : (cs : List Command) (old new : List KeptRound) → AreRounds cs old
+    → ((e : Event) (r : ℕ) → ChangesRound e r (λ round. round) old new) → AreRounds cs new
+as_before cs old new are same = record {
+  rounds = λ e r. rounds e r ∙ are.rounds e r;
+  scrambles =
+      λ e r k low.
+      ap (option_and_then (scramble_at cs e r k)) ((same e r).scrambles e r k)
+      ∙ are.scrambles e r k low;
+  waiting = λ e r. (same e r).waiting e r ∙ are.waiting e r;
+  apart = λ e r. rw (rounds e r, (same e r).waiting e r) (are.apart e r);
+  solved = λ e r k n low. (same e r).solved e r k n ∙ are.solved e r k n low;
+}
+  where
+    kept : (b : Bool) (x : Option (Settings × Table))
+        → cond b (option_map (λ (y : Settings × Table). y) x) x ≡ x
+    kept true None = refl
+    kept true (Some y) = refl
+    kept false x = refl
+
+    rounds : (e : Event) (r : ℕ) → kept_round e r new ≡ kept_round e r old
+    rounds e r =
+        (same e r).rounds e r ∙ kept (same_event e e && r == r) (kept_round e r old)
+
+-- a command that names nobody, gives no scramble, opens no round and takes nobody out
+pub record ChangesOnly (c : Command) : Type 0 where
+  pub unnamed : (n : ℕ) → name_given n c ≡ None
+  pub same : (n : ℕ) → renaming n c ≡ None
+  pub sets : (f : Event) (s k : ℕ) → scrambling f s k c ≡ None
+  pub again : (f : Event) (s k : ℕ) → rescrambling f s k c ≡ None
+  pub opens : (f : Event) (s : ℕ) → opening f s c ≡ None
+  pub stay : (f : Event) (s : ℕ) → is_withdrawal f s c ≡ false
+  pub unsolved : (f : Event) (s k n : ℕ) → solving f s k n c ≡ None
+
+-- such a command changes one round, or is refused
+pub changed_or : (cs : List Command) (c : Command) (e : Event) (r : ℕ)
+    (change : Settings × Table → Settings × Table) (refused : Option Code) (old new : Index)
+    → IsIndexOf cs old → ChangesOnly c
+    → ((f : Event) (s : ℕ)
+    → round_of (cs ++ c ∷ []) f s
+    ≡ cond (same_event f e && s == r) (option_map change (round_of cs f s)) (round_of cs f s))
+    → KeepsApart cs e r change
     → new.competitors ≡ old.competitors
     → IfNone refused (ChangesRound e r change old.rounds.opened.items new.rounds.opened.items)
     → OnSome refused (new.rounds.opened.items ≡ old.rounds.opened.items)
     → IsIndexOf (cs ++ added refused c) new
-changed_or cs c e r change None old new is unnamed nameless sets one same done unchanged = record {
-  competitors = rw same (AreCompetitors-other cs c old.competitors unnamed nameless is.competitors);
+changed_or cs c e r change None old new is only one keeps same done unchanged = record {
+  competitors =
+      rw same (AreCompetitors-other cs c old.competitors only.unnamed only.same is.competitors);
   rounds =
-      changes cs c e r change old.rounds.opened.items new.rounds.opened.items is.rounds done sets
-      one;
+      changes cs c e r change old.rounds.opened.items new.rounds.opened.items is.rounds done
+      only.sets only.again only.opens only.stay only.unsolved one keeps;
 }
-changed_or cs c e r change (Some code) old new is unnamed nameless sets one same done unchanged =
+changed_or cs c e r change (Some code) old new is only one keeps same done unchanged =
     record {
       competitors = rw (same, append-nil cs) is.competitors;
       rounds = rw (unchanged, append-nil cs) is.rounds;
     }
 
+-- the same are entered after a change
+same_entered : (cs : List Command) (e : Event) (r : ℕ) (change : Settings × Table → Settings × Table)
+    → ((x : Settings × Table) (n : ℕ) → is_entered (change x).1 n ≡ is_entered x.1 n)
+    → KeepsApart cs e r change
+same_entered cs e r change same f s x ns here waits a =
+    apart_same x.1 (change x).1 ns (same x) a
+
+-- nobody waits for a place in a first round
+first_waits : (cs : List Command) (f : Event) (s : ℕ) (ns : List ℕ) → s ≡ 1
+    → waiting_of cs f s ≡ Some ns → ns ≡ []
+unfolding round_in
+first_waits cs f s ns first waits =
+    step (opened_in f 1 [] cs) (ap (waiting_of cs f) (sym first) ∙ waits)
+  where
+    none : (k : ℕ) → drop k (who_wait None) ≡ []
+    none zero = refl
+    none (suc k) = refl
+
+    step : (o : Option Opened)
+        → option_map (λ (x : Opened). waiting_now f 1 (round_in f 0 x.before) x) o ≡ Some ns
+        → ns ≡ []
+    step None h = absurd (false≢true (ap is_some h))
+    step (Some o) h =
+        let same : drop (count_by (is_withdrawal f 1) o.since) (who_wait None) ≡ ns = cc in
+        sym same ∙ none (count_by (is_withdrawal f 1) o.since)
+
+first_apart : (cs : List Command) (e : Event) (change : Settings × Table → Settings × Table)
+    → KeepsApart cs e 1 change
+first_apart cs e change f s x ns here waits a =
+    subst (AreApart (change x).1) (sym (first_waits cs f s ns (eqb-true s 1 (grind arith)) waits))
+    (nobody_waits (change x).1)
+
 -- an attempt, which the rounds note
-pub attempted : (cs : List Command) (e : Event) (r k n : ℕ) (x : Entered) (refused : Option Code)
+pub attempted_or : (cs : List Command) (e : Event) (r k n : ℕ) (x : Entered) (refused : Option Code)
     (old new : Index)
     → IsIndexOf cs old
     → new.competitors ≡ old.competitors
     → IfNone refused
-    (ChangesRound e r (with_attempt n (scramble_of cs e r k) x) old.rounds.opened.items
+    (EntersRound e r k n x (with_attempt n (scramble_of cs e r k) x) old.rounds.opened.items
     new.rounds.opened.items)
-    → OnSome refused (new.rounds.opened.items ≡ old.rounds.opened.items)
+    → OnSome refused (IsAsBefore old.rounds new.rounds)
     → IsIndexOf (cs ++ added refused (Attempt (attempt_entry (round_id e r) k n x))) new
-attempted cs e r k n x refused old new is same done unchanged =
-    changed_or cs (Attempt (attempt_entry (round_id e r) k n x)) e r
-    (with_attempt n (scramble_of cs e r k) x) refused old new is (λ m. refl) (λ name. refl)
-    (λ f s j. refl) (λ f s. round_attempt f e s r k n x cs) same done
-    unchanged
+attempted_or cs e r k n x None old new is same done unchanged = record {
+  competitors =
+      rw same
+      (AreCompetitors-other cs (Attempt (attempt_entry (round_id e r) k n x)) old.competitors
+      (λ m. refl) (λ m. refl) is.competitors);
+  rounds =
+      enters cs (Attempt (attempt_entry (round_id e r) k n x)) e r k n x
+      (with_attempt n (scramble_of cs e r k) x) old.rounds.opened.items new.rounds.opened.items is.rounds
+      done (λ f s j. refl) (λ f s j. refl) (λ f s. refl) (λ f s. refl) (λ f s j m. refl)
+      (λ f s. round_attempt f e s r k n x cs)
+      (same_entered cs e r (with_attempt n (scramble_of cs e r k) x)
+      (λ y m. plus_stays m n (settled y.0 (scramble_of cs e r k) x) y.1.entrants));
+}
+attempted_or cs e r k n x (Some code) old new is same done unchanged = record {
+  competitors = rw (same, append-nil cs) is.competitors;
+  rounds =
+      rw (append-nil cs)
+      (as_before cs old.rounds.opened.items new.rounds.opened.items is.rounds unchanged);
+}
+
+pub attempted : (cs : List Command) (e : Event) (r k n : ℕ) (x : Entered)
+    (result : Result (Option Code) AllocError) (old new : Index)
+    → IsIndexOf cs old
+    → new.competitors ≡ old.competitors
+    → IfOk result
+    (λ refused.
+    IfNone refused
+    (EntersRound e r k n x (with_attempt n (scramble_of cs e r k) x) old.rounds.opened.items
+    new.rounds.opened.items))
+    → IfOk result (λ refused. OnSome refused (IsAsBefore old.rounds new.rounds))
+    → IfOk result
+    (λ refused. IsIndexOf (cs ++ added refused (Attempt (attempt_entry (round_id e r) k n x))) new)
+attempted cs e r k n x (Ok refused) old new is same done unchanged =
+    attempted_or cs e r k n x refused old new is same done unchanged
+attempted cs e r k n x (Err fault) old new is same done unchanged = tt
 
 -- an entry, which the rounds note
-pub entered_or : (cs : List Command) (e : Event) (n : ℕ) (refused : Option Code) (old new : Index)
+pub entered_or : (cs : List Command) (e : Event) (n : ℕ) (refused : Option Code)
+    (old new : Index)
     → IsIndexOf cs old
     → new.competitors ≡ old.competitors
     → IfNone refused
-    (ChangesRound e 1 (with_entry n) old.rounds.opened.items new.rounds.opened.items)
+    (ChangesRound e 1 (with_entry n) old.rounds.opened.items
+    new.rounds.opened.items)
     → OnSome refused (new.rounds.opened.items ≡ old.rounds.opened.items)
     → IsIndexOf (cs ++ added refused (Enter e n)) new
 entered_or cs e n refused old new is same done unchanged =
-    changed_or cs (Enter e n) e 1 (with_entry n) refused old new is (λ m. refl) (λ name. refl)
-    (λ f s j. refl) (λ f s. round_enter f e s n cs) same done unchanged
+    changed_or cs (Enter e n) e 1
+    (with_entry n) refused old new is
+    (record {
+      unnamed = λ m. refl;
+      same = λ m. refl;
+      sets = λ f s j. refl;
+      again = λ f s j. refl;
+      opens = λ f s. refl;
+      stay = λ f s. refl;
+      unsolved = λ f s k m. refl;
+    })
+    (λ f s. round_enter f e s n cs)
+    (first_apart cs e (with_entry n))
+    same done unchanged
 
 -- a correction, which the rounds note
-pub corrected : (cs : List Command) (e : Event) (r k n : ℕ) (x : Entered) (refused : Option Code)
+pub corrected_or : (cs : List Command) (e : Event) (r k n : ℕ) (x : Entered) (refused : Option Code)
     (old new : Index)
     → IsIndexOf cs old
     → new.competitors ≡ old.competitors
     → IfNone refused
-    (ChangesRound e r (with_correction n k (scramble_of cs e r k) x) old.rounds.opened.items
+    (EntersRound e r k n x (with_correction n k (scramble_of cs e r k) x) old.rounds.opened.items
     new.rounds.opened.items)
-    → OnSome refused (new.rounds.opened.items ≡ old.rounds.opened.items)
+    → OnSome refused (IsAsBefore old.rounds new.rounds)
     → IsIndexOf (cs ++ added refused (Correct (attempt_entry (round_id e r) k n x))) new
-corrected cs e r k n x refused old new is same done unchanged =
-    changed_or cs (Correct (attempt_entry (round_id e r) k n x)) e r
-    (with_correction n k (scramble_of cs e r k) x) refused old new is (λ m. refl) (λ name. refl)
-    (λ f s j. refl) (λ f s. round_correct f e s r k n x cs) same
-    done unchanged
+corrected_or cs e r k n x None old new is same done unchanged = record {
+  competitors =
+      rw same
+      (AreCompetitors-other cs (Correct (attempt_entry (round_id e r) k n x)) old.competitors
+      (λ m. refl) (λ m. refl) is.competitors);
+  rounds =
+      enters cs (Correct (attempt_entry (round_id e r) k n x)) e r k n x
+      (with_correction n k (scramble_of cs e r k) x) old.rounds.opened.items new.rounds.opened.items is.rounds
+      done (λ f s j. refl) (λ f s j. refl) (λ f s. refl) (λ f s. refl) (λ f s j m. refl)
+      (λ f s. round_correct f e s r k n x cs)
+      (same_entered cs e r (with_correction n k (scramble_of cs e r k) x)
+      (λ y m. replaced_stays m n k (settled y.0 (scramble_of cs e r k) x) y.1.entrants));
+}
+corrected_or cs e r k n x (Some code) old new is same done unchanged = record {
+  competitors = rw (same, append-nil cs) is.competitors;
+  rounds =
+      rw (append-nil cs)
+      (as_before cs old.rounds.opened.items new.rounds.opened.items is.rounds unchanged);
+}
+
+pub corrected : (cs : List Command) (e : Event) (r k n : ℕ) (x : Entered)
+    (result : Result (Option Code) AllocError) (old new : Index)
+    → IsIndexOf cs old
+    → new.competitors ≡ old.competitors
+    → IfOk result
+    (λ refused.
+    IfNone refused
+    (EntersRound e r k n x (with_correction n k (scramble_of cs e r k) x) old.rounds.opened.items
+    new.rounds.opened.items))
+    → IfOk result (λ refused. OnSome refused (IsAsBefore old.rounds new.rounds))
+    → IfOk result
+    (λ refused. IsIndexOf (cs ++ added refused (Correct (attempt_entry (round_id e r) k n x))) new)
+corrected cs e r k n x (Ok refused) old new is same done unchanged =
+    corrected_or cs e r k n x refused old new is same done unchanged
+corrected cs e r k n x (Err fault) old new is same done unchanged = tt
 
 -- a strike, which the rounds note
-pub stricken : (cs : List Command) (e : Event) (r n : ℕ) (refused : Option Code) (old new : Index)
+pub stricken : (cs : List Command) (e : Event) (r n : ℕ) (refused : Option Code)
+    (old new : Index)
     → IsIndexOf cs old
     → new.competitors ≡ old.competitors
     → IfNone refused
-    (ChangesRound e r (with_strike n) old.rounds.opened.items new.rounds.opened.items)
+    (ChangesRound e r (with_strike n) old.rounds.opened.items
+    new.rounds.opened.items)
     → OnSome refused (new.rounds.opened.items ≡ old.rounds.opened.items)
     → IsIndexOf (cs ++ added refused (Strike (round_id e r) n)) new
 stricken cs e r n refused old new is same done unchanged =
-    changed_or cs (Strike (round_id e r) n) e r (with_strike n) refused old new is (λ m. refl)
-    (λ name. refl)
-    (λ f s j. refl) (λ f s. round_strike f e s r n cs) same done unchanged
+    changed_or cs (Strike (round_id e r) n) e r
+    (with_strike n) refused old new is
+    (record {
+      unnamed = λ m. refl;
+      same = λ m. refl;
+      sets = λ f s j. refl;
+      again = λ f s j. refl;
+      opens = λ f s. refl;
+      stay = λ f s. refl;
+      unsolved = λ f s k m. refl;
+    })
+    (λ f s. round_strike f e s r n cs)
+    (same_entered cs e r (with_strike n) (λ y m. less_stays m n y.1.entrants))
+    same done unchanged
 
 -- another advance, which the rounds note
 pub advanced : (cs : List Command) (e : Event) (r : ℕ) (advance : Advance) (refused : Option Code)
@@ -193,24 +452,188 @@ pub advanced : (cs : List Command) (e : Event) (r : ℕ) (advance : Advance) (re
     → IsIndexOf cs old
     → new.competitors ≡ old.competitors
     → IfNone refused
-    (ChangesRound e r (with_advance advance) old.rounds.opened.items new.rounds.opened.items)
+    (ChangesRound e r (with_advance advance) old.rounds.opened.items
+    new.rounds.opened.items)
     → OnSome refused (new.rounds.opened.items ≡ old.rounds.opened.items)
     → IsIndexOf (cs ++ added refused (SetAdvance (round_id e r) advance)) new
 advanced cs e r advance refused old new is same done unchanged =
-    changed_or cs (SetAdvance (round_id e r) advance) e r (with_advance advance) refused old new is
-    (λ m. refl) (λ name. refl) (λ f s j. refl) (λ f s. round_advance f e s r advance cs)
+    changed_or cs (SetAdvance (round_id e r) advance) e r
+    (with_advance advance) refused old new is
+    (record {
+      unnamed = λ m. refl;
+      same = λ m. refl;
+      sets = λ f s j. refl;
+      again = λ f s j. refl;
+      opens = λ f s. refl;
+      stay = λ f s. refl;
+      unsolved = λ f s k m. refl;
+    })
+    (λ f s. round_advance f e s r advance cs)
+    (same_entered cs e r (with_advance advance) (λ y m. refl))
+    same done unchanged
+
+-- other settings, which the rounds note
+pub settings_changed : (cs : List Command) (e : Event) (r : ℕ) (format : Format) (cutoff : Option (ℕ × ℕ)) (limit : Option ℕ) (refused : Option Code)
+    (old new : Index)
+    → IsIndexOf cs old
+    → new.competitors ≡ old.competitors
+    → IfNone refused
+    (ChangesRound e r (with_settings format cutoff limit) old.rounds.opened.items
+    new.rounds.opened.items)
+    → OnSome refused (new.rounds.opened.items ≡ old.rounds.opened.items)
+    → IsIndexOf (cs ++ added refused (SetRound (round_id e r) format cutoff limit)) new
+settings_changed cs e r format cutoff limit refused old new is same done unchanged =
+    changed_or cs (SetRound (round_id e r) format cutoff limit) e r
+    (with_settings format cutoff limit) refused old new is
+    (record {
+      unnamed = λ m. refl;
+      same = λ m. refl;
+      sets = λ f s j. refl;
+      again = λ f s j. refl;
+      opens = λ f s. refl;
+      stay = λ f s. refl;
+      unsolved = λ f s k m. refl;
+    })
+    (λ f s. round_settings f e s r format cutoff limit cs)
+    (same_entered cs e r (with_settings format cutoff limit) (λ y m. refl))
     same done unchanged
 
 -- a closing, which the rounds note
-pub ended : (cs : List Command) (e : Event) (r : ℕ) (refused : Option Code) (old new : Index)
+pub ended : (cs : List Command) (e : Event) (r : ℕ) (refused : Option Code)
+    (old new : Index)
     → IsIndexOf cs old
     → new.competitors ≡ old.competitors
-    → IfNone refused (ChangesRound e r with_end old.rounds.opened.items new.rounds.opened.items)
+    → IfNone refused
+    (ChangesRound e r with_end old.rounds.opened.items
+    new.rounds.opened.items)
     → OnSome refused (new.rounds.opened.items ≡ old.rounds.opened.items)
     → IsIndexOf (cs ++ added refused (Close (round_id e r))) new
 ended cs e r refused old new is same done unchanged =
-    changed_or cs (Close (round_id e r)) e r with_end refused old new is (λ m. refl) (λ name. refl)
-    (λ f s j. refl) (λ f s. round_close f e s r cs) same done unchanged
+    changed_or cs (Close (round_id e r)) e r
+    with_end refused old new is
+    (record {
+      unnamed = λ m. refl;
+      same = λ m. refl;
+      sets = λ f s j. refl;
+      again = λ f s j. refl;
+      opens = λ f s. refl;
+      stay = λ f s. refl;
+      unsolved = λ f s k m. refl;
+    })
+    (λ f s. round_close f e s r cs)
+    (same_entered cs e r with_end (λ y m. refl))
+    same done unchanged
+
+-- a round that is opened again, which the rounds note
+pub reopened_or : (cs : List Command) (e : Event) (r : ℕ) (refused : Option Code)
+    (old new : Index)
+    → IsIndexOf cs old
+    → new.competitors ≡ old.competitors
+    → IfNone refused
+    (ChangesRound e r with_reopening old.rounds.opened.items
+    new.rounds.opened.items)
+    → OnSome refused (new.rounds.opened.items ≡ old.rounds.opened.items)
+    → IsIndexOf (cs ++ added refused (Reopen (round_id e r))) new
+reopened_or cs e r refused old new is same done unchanged =
+    changed_or cs (Reopen (round_id e r)) e r
+    with_reopening refused old new is
+    (record {
+      unnamed = λ m. refl;
+      same = λ m. refl;
+      sets = λ f s j. refl;
+      again = λ f s j. refl;
+      opens = λ f s. refl;
+      stay = λ f s. refl;
+      unsolved = λ f s k m. refl;
+    })
+    (λ f s. round_reopen f e s r cs)
+    (same_entered cs e r with_reopening (λ y m. refl))
+    same done unchanged
+
+-- a withdrawal, which the rounds note
+exited : (cs : List Command) (e : Event) (r n : ℕ) (old new : List KeptRound)
+    → AreRounds cs old → ExchangesRound e r n old new
+    → AreRounds (cs ++ Withdraw (round_id e r) n ∷ []) new
+exited cs e r n old new are done = record {
+  rounds =
+      λ f s. done.rounds f s
+      ∙ ap
+      (λ (x : Option (List ℕ)).
+      cond (same_event f e && s == r)
+      (option_map (with_exit n (option_and_then first_of_all x)) (kept_round f s old))
+      (kept_round f s old))
+      (are.waiting e r)
+      ∙ ap
+      (λ (x : Option (Settings × Table)).
+      cond (same_event f e && s == r)
+      (option_map (with_exit n (option_and_then first_of_all (waiting_of cs e r))) x) x)
+      (are.rounds f s)
+      ∙ sym (round_exit f e s r n cs);
+  scrambles =
+      scrambles_kept cs (Withdraw (round_id e r) n) old new are (λ f s k. refl) (λ f s k. refl)
+      done.scrambles;
+  waiting =
+      λ f s. done.waiting f s
+      ∙ ap
+      (λ (x : Option (List ℕ)). cond (same_event f e && s == r) (option_map (drop 1) x) x)
+      (are.waiting f s)
+      ∙ sym (waiting_exit f e s r n cs);
+  apart =
+      λ f s.
+      rw (done.rounds f s, done.waiting f s)
+      (step f s (same_event f e && s == r) refl);
+  solved =
+      λ f s k m low. done.solved f s k m ∙ are.solved f s k m low
+      ∙ sym (solved_same f s k m cs (Withdraw (round_id e r) n) refl);
+}
+  where
+    next : Option ℕ
+    next = option_and_then first_of_all (kept_waiting e r old)
+
+    both : (x : Option (Settings × Table)) (w : Option (List ℕ)) → IsApart x w
+        → IsApart (option_map (with_exit n (option_and_then first_of_all w)) x)
+        (option_map (drop 1) w)
+    both None w a = tt
+    both (Some x) None a = tt
+    both (Some x) (Some ns) a = apart_exit x.1 n ns a
+
+    alike : (f : Event) (s : ℕ) → (same_event f e && s == r) ≡ true
+        → kept_waiting f s old ≡ kept_waiting e r old
+    alike f s h =
+        let event : f ≡ e = same_event-equal f e (grind arith) in
+        let round : s ≡ r = eqb-true s r (grind arith) in
+        ap (λ (g : Event). kept_waiting g s old) event
+        ∙ ap (λ (k : ℕ). kept_waiting e k old) round
+
+    step : (f : Event) (s : ℕ) (b : Bool) → (same_event f e && s == r) ≡ b
+        → IsApart (cond b (option_map (with_exit n next) (kept_round f s old)) (kept_round f s old))
+        (cond b (option_map (drop 1) (kept_waiting f s old)) (kept_waiting f s old))
+    step f s true h =
+        subst
+        (λ (w : Option (List ℕ)).
+        IsApart (option_map (with_exit n (option_and_then first_of_all w)) (kept_round f s old))
+        (option_map (drop 1) (kept_waiting f s old)))
+        (alike f s h)
+        (both (kept_round f s old) (kept_waiting f s old) (are.apart f s))
+    step f s false h = are.apart f s
+
+exited_or : (cs : List Command) (e : Event) (r n : ℕ) (refused : Option Code) (old new : Index)
+    → IsIndexOf cs old
+    → new.competitors ≡ old.competitors
+    → IfNone refused (ExchangesRound e r n old.rounds.opened.items new.rounds.opened.items)
+    → OnSome refused (new.rounds.opened.items ≡ old.rounds.opened.items)
+    → IsIndexOf (cs ++ added refused (Withdraw (round_id e r) n)) new
+exited_or cs e r n None old new is same done unchanged = record {
+  competitors =
+      rw same
+      (AreCompetitors-other cs (Withdraw (round_id e r) n) old.competitors (λ m. refl) (λ m. refl)
+      is.competitors);
+  rounds = exited cs e r n old.rounds.opened.items new.rounds.opened.items is.rounds done;
+}
+exited_or cs e r n (Some code) old new is same done unchanged = record {
+  competitors = rw (same, append-nil cs) is.competitors;
+  rounds = rw (unchanged, append-nil cs) is.rounds;
+}
 
 any_alike : (p q : ℕ → Bool) → ((n : ℕ) → p n ≡ q n) → (ns : List ℕ) → list_any p ns ≡ list_any q ns
 any_alike p q h [] = refl
@@ -240,28 +663,21 @@ close_alike cs xs e r are =
 pub opened : (cs : List Command) (e : Event) (r : ℕ) (settings : Settings) (old new : Index)
     → IsIndexOf cs old → 1 ≤ r
     → new.competitors ≡ old.competitors
-    → AddsRound e r
-    (with_table settings
-    (with_newcomers (new_table e settings)
-    (who_advance (kept_round e (r - 1) old.rounds.opened.items))))
-    old.rounds.opened.items new.rounds.opened.items
+    → Opens (round_id e r) settings old.rounds new.rounds
     → IsIndexOf (cs ++ Open (round_id e r) settings ∷ []) new
-opened cs e r settings old new is low same adds = record {
+opened cs e r settings old new is low same opens = record {
   competitors =
       rw same
       (AreCompetitors-other cs (Open (round_id e r) settings) old.competitors (λ m. refl)
-      (λ name. refl) is.competitors);
+      (λ m. refl) is.competitors);
   rounds = record {
     rounds = λ f s.
-        adds.rounds f s
+        opens.adds.rounds f s
         ∙ ap
         (λ (x : Option (Settings × Table)).
         option_or x
         (cond (same_event f e && s == r)
-        (Some
-        (with_table settings
-        (with_newcomers (new_table e settings)
-        (who_advance (kept_round e (r - 1) old.rounds.opened.items)))))
+        (Some (with_table settings (with_newcomers (new_table e settings) (who_advance before))))
         None))
         (is.rounds.rounds f s)
         ∙ ap
@@ -273,9 +689,33 @@ opened cs e r settings old new is low same adds = record {
         ∙ sym (round_open f e s r settings cs low);
     scrambles =
         scrambles_kept cs (Open (round_id e r) settings) old.rounds.opened.items
-        new.rounds.opened.items is.rounds (λ f s k. refl) adds.scrambles;
+        new.rounds.opened.items is.rounds (λ f s k. refl) (λ f s k. refl) opens.adds.scrambles;
+    waiting = λ f s.
+        opens.adds.waiting f s
+        ∙ ap
+        (λ (x : Option (List ℕ)).
+        option_or x (cond (same_event f e && s == r) (Some (who_wait before)) None))
+        (is.rounds.waiting f s)
+        ∙ ap
+        (λ (x : Option (Settings × Table)).
+        option_or (waiting_of cs f s)
+        (cond (same_event f e && s == r) (Some (who_wait x)) None))
+        (is.rounds.rounds e (r - 1))
+        ∙ sym (waiting_open f e s r settings cs low);
+    apart = λ f s.
+        rw (opens.adds.rounds f s, opens.adds.waiting f s)
+        (apart_added (find (is_round f s) old.rounds.opened.items) (same_event f e && s == r)
+        (settings, table_opened e settings (who_advance before)) (who_wait before)
+        (is.rounds.apart f s)
+        (apart_opened e settings (who_advance before) (who_wait before) opens.once opens.others));
+    solved = λ f s k m low.
+        opens.adds.solved f s k m ∙ is.rounds.solved f s k m low
+        ∙ sym (solved_same f s k m cs (Open (round_id e r) settings) refl);
   };
 }
+  where
+    before : Option (Settings × Table)
+    before = kept_round e (r - 1) old.rounds.opened.items
 
 -- a scramble that is not refused is the first of its attempt
 unscrambled : (e : Event) (k : ℕ) (scramble : Option (List Move))
@@ -297,89 +737,249 @@ unscrambled e k scramble (Some round) h =
     step (Some x) false true true h = absurd (false≢true (sym (ap is_some h)))
     step (Some x) false true false h = absurd (false≢true (sym (ap is_some h)))
 
--- a scramble, which the rounds note
-scrambles_set : (cs : List Command) (e : Event) (r k : ℕ) (moves : List Move)
+-- a scramble that takes the place of another one finds one
+scrambled_before : (e : Event) (k : ℕ) (scramble : Option (List Move)) (solved : ℕ → Bool)
+    (round : Option (Settings × Table))
+    → rescramble_refusal e k scramble solved round ≡ None → is_some scramble ≡ true
+scrambled_before e k scramble solved None h = absurd (false≢true (sym (ap is_some h)))
+scrambled_before e k scramble solved (Some round) h =
+    step scramble (is_moves (unit_of e)) round.1.is_closed
+    (list_any (has_solved solved round.1 k) (standings round.1)) h
+  where
+    step : (x : Option (List Move)) (moves closed attempted : Bool)
+        → cond (not moves) (Some code.WrongOutcome)
+        (cond (not (is_some x)) (Some code.NoScramble)
+        (cond closed (Some code.Closed) (cond attempted (Some code.HasAttempts) None)))
+        ≡ None
+        → is_some x ≡ true
+    step (Some x) moves closed attempted h = refl
+    step None true closed attempted h = absurd (false≢true (sym (ap is_some h)))
+    step None false closed attempted h = absurd (false≢true (sym (ap is_some h)))
+
+-- a command that gives one attempt a scramble, which stands then
+pub record Scrambles (cs : List Command) (c : Command) (e : Event) (r k : ℕ)
+    (moves : List Move) : Type 0 where
+  pub gives : (f : Event) (s j : ℕ) → (same_event f e && s == r && j == k) ≡ true
+      → scramble_given f s j c ≡ Some moves
+  pub stands : (f : Event) (s j : ℕ) → (same_event f e && s == r && j == k) ≡ true
+      → scramble_of (cs ++ c ∷ []) f s j ≡ Some moves
+  pub sets : (f : Event) (s j : ℕ) → (same_event f e && s == r && j == k) ≡ false
+      → scrambling f s j c ≡ None
+  pub again : (f : Event) (s j : ℕ) → (same_event f e && s == r && j == k) ≡ false
+      → rescrambling f s j c ≡ None
+  pub unnamed : (n : ℕ) → name_given n c ≡ None
+  pub same : (n : ℕ) → renaming n c ≡ None
+  pub opens : (f : Event) (s : ℕ) → opening f s c ≡ None
+  pub stay : (f : Event) (s : ℕ) → is_withdrawal f s c ≡ false
+  pub unsolved : (f : Event) (s j n : ℕ) → solving f s j n c ≡ None
+  pub rounds : (f : Event) (s : ℕ) → round_of (cs ++ c ∷ []) f s ≡ round_of cs f s
+
+-- its place is noted
+scrambles_set : (cs : List Command) (c : Command) (e : Event) (r k : ℕ) (moves : List Move)
     (old new : List KeptRound)
-    → AreRounds cs old → 1 ≤ k → scramble_of cs e r k ≡ None
+    → AreRounds cs old → Scrambles cs c e r k moves
     → AddsScramble e r k (length cs) old new → (f : Event) (s j : ℕ) → 1 ≤ j
-    → option_and_then (scramble_at (cs ++ Scramble (round_id e r) k moves ∷ []) f s j)
-    (kept_scramble f s j new)
-    ≡ scramble_of (cs ++ Scramble (round_id e r) k moves ∷ []) f s j
-scrambles_set cs e r k moves old new are low absent adds f s j one =
+    → option_and_then (scramble_at (cs ++ c ∷ []) f s j) (kept_scramble f s j new)
+    ≡ scramble_of (cs ++ c ∷ []) f s j
+scrambles_set cs c e r k moves old new are gives adds f s j one =
     step (same_event f e && s == r && j == k) refl
   where
-    c : Command
-    c = Scramble (round_id e r) k moves
-
     step : (b : Bool) → (same_event f e && s == r && j == k) ≡ b
         → option_and_then (scramble_at (cs ++ c ∷ []) f s j) (kept_scramble f s j new)
         ≡ scramble_of (cs ++ c ∷ []) f s j
     step true h =
-        let event : f ≡ e = same_event-equal f e (grind arith) in
-        let round : s ≡ r = eqb-true s r (grind arith) in
-        let attempt : j ≡ k = eqb-true j k (grind arith) in
-        let sets : scrambling f s j c ≡ Some moves = rw h refl in
         let place : kept_scramble f s j new ≡ Some (length cs) = adds.scrambles f s j one
         ∙ rw h refl in
-        let there : is_some (round_of cs f s) ≡ true =
-        ap is_some
-        (ap (λ (x : Event). round_of cs x s) event ∙ ap (λ (n : ℕ). round_of cs e n) round
-        ∙ sym (are.rounds e r))
-        ∙ adds.there in
-        let none : scramble_of cs f s j ≡ None = ap (λ (x : Event). scramble_of cs x s j) event
-        ∙ ap (λ (n : ℕ). scramble_of cs e n j) round ∙ ap (λ (n : ℕ). scramble_of cs e r n) attempt
-        ∙ absent in
         ap (option_and_then (scramble_at (cs ++ c ∷ []) f s j)) place
-        ∙ ap (option_and_then (scrambling f s j)) (at_end cs c)
-        ∙ sets
-        ∙ sym (scramble_new f s j cs c moves sets there none)
+        ∙ ap (option_and_then (scramble_given f s j)) (at_end cs c)
+        ∙ gives.gives f s j h ∙ sym (gives.stands f s j h)
     step false h =
-        let sets : scrambling f s j c ≡ None = rw h refl in
         let place : kept_scramble f s j new ≡ kept_scramble f s j old = adds.scrambles f s j one
         ∙ rw h refl in
         ap (option_and_then (scramble_at (cs ++ c ∷ []) f s j)) place
-        ∙ found_push (scrambling f s j) cs c (kept_scramble f s j old) sets
+        ∙ found_push (scramble_given f s j) cs c (kept_scramble f s j old)
+        (rw (gives.sets f s j h, gives.again f s j h) refl)
         ∙ are.scrambles f s j one
-        ∙ sym (scramble_kept f s j cs c sets)
+        ∙ sym (scramble_kept f s j cs c (gives.sets f s j h) (gives.again f s j h))
 
+noted_or : (cs : List Command) (c : Command) (e : Event) (r k : ℕ) (moves : List Move)
+    (refused : Option Code) (old new : Index)
+    → IsIndexOf cs old
+    → (refused ≡ None → Scrambles cs c e r k moves)
+    → new.competitors ≡ old.competitors
+    → IfNone refused
+    (AddsScramble e r k (length cs) old.rounds.opened.items new.rounds.opened.items)
+    → OnSome refused (new.rounds.opened.items ≡ old.rounds.opened.items)
+    → IsIndexOf (cs ++ added refused c) new
+noted_or cs c e r k moves None old new is gives same done unchanged =
+    let g = gives refl in
+    record {
+      competitors = rw same (AreCompetitors-other cs c old.competitors g.unnamed g.same
+          is.competitors);
+      rounds = record {
+        rounds = λ f s. done.rounds f s ∙ is.rounds.rounds f s ∙ sym (g.rounds f s);
+        scrambles =
+            scrambles_set cs c e r k moves old.rounds.opened.items new.rounds.opened.items
+            is.rounds g done;
+        waiting =
+            λ f s. done.waiting f s ∙ is.rounds.waiting f s
+            ∙ sym (waiting_same f s cs c (g.opens f s) (g.stay f s));
+        apart = λ f s. rw (done.rounds f s, done.waiting f s) (is.rounds.apart f s);
+        solved =
+            λ f s j n low. done.solved f s j n ∙ is.rounds.solved f s j n low
+            ∙ sym (solved_same f s j n cs c (g.unsolved f s j n));
+      };
+    }
+noted_or cs c e r k moves (Some code) old new is gives same done unchanged = record {
+  competitors = rw (same, append-nil cs) is.competitors;
+  rounds = rw (unchanged, append-nil cs) is.rounds;
+}
+
+-- what is the same of one event and round
+here_of : {X : Type 0} (P : Event → ℕ → ℕ → X) (e f : Event) (r s k j : ℕ)
+    → (same_event f e && s == r && j == k) ≡ true → P f s j ≡ P e r k
+here_of P e f r s k j h =
+    let event : f ≡ e = same_event-equal f e (grind arith) in
+    let round : s ≡ r = eqb-true s r (grind arith) in
+    let attempt : j ≡ k = eqb-true j k (grind arith) in
+    ap (λ (g : Event). P g s j) event ∙ ap (λ (m : ℕ). P e m j) round
+    ∙ ap (λ (m : ℕ). P e r m) attempt
+
+first_scramble : (cs : List Command) (e : Event) (r k : ℕ) (moves : List Move)
+    → is_some (round_of cs e r) ≡ true → scramble_of cs e r k ≡ None
+    → Scrambles cs (Scramble (round_id e r) k moves) e r k moves
+first_scramble cs e r k moves there absent = record {
+  gives = λ f s j h. rw h refl;
+  stands =
+      λ f s j h.
+      scramble_new f s j cs (Scramble (round_id e r) k moves) moves (rw h refl)
+      (here_of (λ g m i. is_some (round_of cs g m)) e f r s k j h ∙ there)
+      (here_of (λ g m i. scramble_of cs g m i) e f r s k j h ∙ absent);
+  sets = λ f s j h. rw h refl;
+  again = λ f s j h. refl;
+  unnamed = λ n. refl;
+  same = λ n. refl;
+  opens = λ f s. refl;
+  stay = λ f s. refl;
+  unsolved = λ f s j n. refl;
+  rounds = λ f s. round_scramble f e s r k moves cs;
+}
+
+other_scramble : (cs : List Command) (e : Event) (r k : ℕ) (moves : List Move)
+    → is_some (scramble_of cs e r k) ≡ true
+    → Scrambles cs (Rescramble (round_id e r) k moves) e r k moves
+other_scramble cs e r k moves there = record {
+  gives = λ f s j h. rw h refl;
+  stands =
+      λ f s j h.
+      scramble_again f s j cs (Rescramble (round_id e r) k moves) moves (rw h refl)
+      (here_of (λ g m i. is_some (scramble_of cs g m i)) e f r s k j h ∙ there);
+  sets = λ f s j h. refl;
+  again = λ f s j h. rw h refl;
+  unnamed = λ n. refl;
+  same = λ n. refl;
+  opens = λ f s. refl;
+  stay = λ f s. refl;
+  unsolved = λ f s j n. refl;
+  rounds = λ f s. round_rescramble f e s r k moves cs;
+}
+
+-- a scramble, which the rounds note
 pub scrambled : (cs : List Command) (e : Event) (r k : ℕ) (moves : List Move)
     (refused : Option Code) (old new : Index)
-    → IsIndexOf cs old → 1 ≤ k
+    → IsIndexOf cs old
     → refused ≡ scramble_refusal e k (scramble_of cs e r k) (round_of cs e r)
     → new.competitors ≡ old.competitors
     → IfNone refused
     (AddsScramble e r k (length cs) old.rounds.opened.items new.rounds.opened.items)
     → OnSome refused (new.rounds.opened.items ≡ old.rounds.opened.items)
     → IsIndexOf (cs ++ added refused (Scramble (round_id e r) k moves)) new
-scrambled cs e r k moves None old new is low allowed same done unchanged = record {
-  competitors =
-      rw same
-      (AreCompetitors-other cs (Scramble (round_id e r) k moves) old.competitors (λ m. refl)
-      (λ name. refl) is.competitors);
-  rounds = record {
-    rounds =
-        λ f s. done.rounds f s ∙ is.rounds.rounds f s ∙ sym (round_scramble f e s r k moves cs);
-    scrambles =
-        scrambles_set cs e r k moves old.rounds.opened.items new.rounds.opened.items is.rounds low
-        (unscrambled e k (scramble_of cs e r k) (round_of cs e r) (sym allowed)) done;
-  };
-}
-scrambled cs e r k moves (Some code) old new is low allowed same done unchanged = record {
-  competitors = rw (same, append-nil cs) is.competitors;
-  rounds = rw (unchanged, append-nil cs) is.rounds;
-}
+scrambled cs e r k moves refused old new is says same done unchanged =
+    noted_or cs (Scramble (round_id e r) k moves) e r k moves refused old new is
+    (λ none.
+    first_scramble cs e r k moves
+    (round_there e k (scramble_of cs e r k) (round_of cs e r) (sym says ∙ none))
+    (unscrambled e k (scramble_of cs e r k) (round_of cs e r) (sym says ∙ none)))
+    same done unchanged
+  where
+    round_there : (e : Event) (k : ℕ) (scramble : Option (List Move))
+        (round : Option (Settings × Table)) → scramble_refusal e k scramble round ≡ None
+        → is_some round ≡ true
+    round_there e k scramble None h = absurd (false≢true (sym (ap is_some h)))
+    round_there e k scramble (Some round) h = refl
+
+-- another scramble, which the rounds note
+rescrambled_or : (cs : List Command) (e : Event) (r k : ℕ) (moves : List Move)
+    (refused : Option Code) (old new : Index)
+    → IsIndexOf cs old
+    → refused
+    ≡ rescramble_refusal e k (scramble_of cs e r k) (is_solved cs e r k) (round_of cs e r)
+    → new.competitors ≡ old.competitors
+    → IfNone refused
+    (AddsScramble e r k (length cs) old.rounds.opened.items new.rounds.opened.items)
+    → OnSome refused (new.rounds.opened.items ≡ old.rounds.opened.items)
+    → IsIndexOf (cs ++ added refused (Rescramble (round_id e r) k moves)) new
+rescrambled_or cs e r k moves refused old new is says same done unchanged =
+    noted_or cs (Rescramble (round_id e r) k moves) e r k moves refused old new is
+    (λ none.
+    other_scramble cs e r k moves
+    (scrambled_before e k (scramble_of cs e r k) (is_solved cs e r k) (round_of cs e r)
+    (sym says ∙ none)))
+    same done unchanged
+
+pub rescrambled : (cs : List Command) (e : Event) (r k : ℕ) (moves : List Move)
+    (result : Result (Option Code) AllocError) (old new : Index)
+    → IsIndexOf cs old
+    → IfOk result
+    (λ refused.
+    refused
+    ≡ rescramble_refusal e k (scramble_of cs e r k) (is_solved cs e r k) (round_of cs e r))
+    → new.competitors ≡ old.competitors
+    → IfOk result
+    (λ refused.
+    IfNone refused
+    (AddsScramble e r k (length cs) old.rounds.opened.items new.rounds.opened.items))
+    → IfOk result (λ refused. OnSome refused (new.rounds.opened.items ≡ old.rounds.opened.items))
+    → IfOk result
+    (λ refused. IsIndexOf (cs ++ added refused (Rescramble (round_id e r) k moves)) new)
+rescrambled cs e r k moves (Ok refused) old new is says same done unchanged =
+    rescrambled_or cs e r k moves refused old new is says same done unchanged
+rescrambled cs e r k moves (Err fault) old new is says same done unchanged = tt
+
+-- why another scramble is refused, by the rounds as they are kept
+pub rescramble_alike : (cs : List Command) (xs : List KeptRound) (e : Event) (r k : ℕ) → 1 ≤ k
+    → AreRounds cs xs → (scramble : Option (List Move))
+    → rescramble_refusal e k scramble (λ n. kept_solved e r k n xs) (kept_round e r xs)
+    ≡ rescramble_refusal e k scramble (is_solved cs e r k) (round_of cs e r)
+rescramble_alike cs xs e r k low are scramble =
+    ap (rescramble_refusal e k scramble (λ n. kept_solved e r k n xs)) (are.rounds e r)
+    ∙ step (round_of cs e r)
+  where
+    step : (x : Option (Settings × Table))
+        → rescramble_refusal e k scramble (λ n. kept_solved e r k n xs) x
+        ≡ rescramble_refusal e k scramble (is_solved cs e r k) x
+    step None = refl
+    step (Some round) =
+        ap
+        (λ (b : Bool).
+        cond (not (is_moves (unit_of e))) (Some code.WrongOutcome)
+        (cond (not (is_some scramble)) (Some code.NoScramble)
+        (cond round.1.is_closed (Some code.Closed) (cond b (Some code.HasAttempts) None))))
+        (any_alike (has_solved (λ n. kept_solved e r k n xs) round.1 k)
+        (has_solved (is_solved cs e r k) round.1 k) (λ n.
+        ap (λ b. holds_of (has_done k) (entrant round.1 n) && b) (are.solved e r k n low))
+        (standings round.1))
 
 -- a setting of the edition, which the index does not note
 pub edition_noted : (cs : List Command) (edition : ℕ) (refused : Option Code) (index : Index)
     → IsIndexOf cs index → IsIndexOf (cs ++ added refused (SetEdition edition)) index
 edition_noted cs edition None index is = record {
   competitors =
-      AreCompetitors-other cs (SetEdition edition) index.competitors (λ n. refl) (λ name. refl)
+      AreCompetitors-other cs (SetEdition edition) index.competitors (λ n. refl) (λ n. refl)
       is.competitors;
   rounds =
-      same_rounds cs (SetEdition edition) index.rounds.opened.items index.rounds.opened.items
-      (λ e r. refl) (λ e r k. refl) (λ e r k. refl) (λ e r. round_edition e r edition cs)
-      is.rounds;
+      same_rounds cs (SetEdition edition) index.rounds.opened.items (λ e r k. refl) (λ e r k. refl)
+      (λ e r. refl) (λ e r. refl) (λ e r k n. refl) (λ e r. round_edition e r edition cs) is.rounds;
 }
 edition_noted cs edition (Some code) index is = record {
   competitors = rw (append-nil cs) is.competitors;
@@ -400,8 +1000,21 @@ pub registered : (cs : List Command) (n : ℕ) (name : List ℕ)
     → new.rounds.opened.items ≡ old.rounds.opened.items
     → IfOk result (λ refused. IsIndexOf (cs ++ added refused (Register n name)) new)
 registered cs n name (Ok refused) old new is competitors rounds =
-    registered_or cs n name refused old new is competitors rounds
+    named_or cs (Register n name) refused old new is (λ e r k. refl) (λ e r k. refl) (λ e r. refl)
+    (λ e r. refl) (λ e r k m. refl) (λ e r. round_register e r n name cs) competitors rounds
 registered cs n name (Err fault) old new is competitors rounds = tt
+
+pub renamed : (cs : List Command) (n : ℕ) (name : List ℕ)
+    (result : Result (Option Code) AllocError) (old new : Index)
+    → IsIndexOf cs old
+    → IfOk result
+    (λ refused. AreCompetitors (cs ++ added refused (Rename n name)) new.competitors)
+    → new.rounds.opened.items ≡ old.rounds.opened.items
+    → IfOk result (λ refused. IsIndexOf (cs ++ added refused (Rename n name)) new)
+renamed cs n name (Ok refused) old new is competitors rounds =
+    named_or cs (Rename n name) refused old new is (λ e r k. refl) (λ e r k. refl) (λ e r. refl)
+    (λ e r. refl) (λ e r k m. refl) (λ e r. round_rename e r n name cs) competitors rounds
+renamed cs n name (Err fault) old new is competitors rounds = tt
 
 pub entered : (cs : List Command) (e : Event) (n : ℕ) (result : Result (Option Code) AllocError)
     (old new : Index)
@@ -417,11 +1030,28 @@ entered cs e n (Ok refused) old new is same done unchanged =
     entered_or cs e n refused old new is same done unchanged
 entered cs e n (Err fault) old new is same done unchanged = tt
 
+pub withdrew : (cs : List Command) (e : Event) (r n : ℕ) (result : Result (Option Code) AllocError)
+    (old new : Index)
+    → IsIndexOf cs old
+    → new.competitors ≡ old.competitors
+    → IfOk result
+    (λ refused.
+    IfNone refused (ExchangesRound e r n old.rounds.opened.items new.rounds.opened.items))
+    → IfOk result (λ refused. OnSome refused (new.rounds.opened.items ≡ old.rounds.opened.items))
+    → IfOk result (λ refused. IsIndexOf (cs ++ added refused (Withdraw (round_id e r) n)) new)
+withdrew cs e r n (Ok refused) old new is same done unchanged =
+    exited_or cs e r n refused old new is same done unchanged
+withdrew cs e r n (Err fault) old new is same done unchanged = tt
+
 -- before any command no round is open
 nothing_open : (e : Event) (r : ℕ) → None ≡ round_of [] e r
 unfolding round_in
 nothing_open e zero = refl
 nothing_open e (suc r) = refl
+
+nobody_waits_yet : (e : Event) (r : ℕ) → None ≡ waiting_of [] e r
+nobody_waits_yet e zero = refl
+nobody_waits_yet e (suc r) = refl
 
 pub no_rounds : (xs : List KeptRound) → xs ≡ [] → AreRounds [] xs
 no_rounds xs is = record {
@@ -430,4 +1060,16 @@ no_rounds xs is = record {
       λ e r k low.
       ap (λ (ys : List KeptRound). option_and_then (scramble_at [] e r k) (kept_scramble e r k ys))
       is;
+  waiting = λ e r. ap (kept_waiting e r) is ∙ nobody_waits_yet e r;
+  apart = λ e r. rw is tt;
+  solved =
+      λ e r k n low. ap (λ (ys : List KeptRound). kept_solved e r k n ys) is ∙ refl;
+}
+
+-- the same where memory ran out while an entry was done
+pub kept_as_before : (cs : List Command) (old new : Index) → IsIndexOf cs old
+    → new.competitors ≡ old.competitors → IsAsBefore old.rounds new.rounds → IsIndexOf cs new
+kept_as_before cs old new is same unchanged = record {
+  competitors = rw same is.competitors;
+  rounds = as_before cs old.rounds.opened.items new.rounds.opened.items is.rounds unchanged;
 }

@@ -13,7 +13,7 @@ use Rattle.formats.specs.declared.events.Format.{Format}
 use Rattle.rounds.specs.Tables.{empty_table, has_number, enter_fault}
 use Rattle.commands.specs.model.Kept.{newcomer, with_newcomers}
 
-is_among : (n : ℕ) (ms : List ℕ)
+pub is_among : (n : ℕ) (ms : List ℕ)
     → list_any (has_number n) (map newcomer ms) ≡ list_any (λ m. n == m) ms
 is_among n [] = refl
 is_among n (m ∷ ms) = ap (λ (b : Bool). (n == m) || b) (is_among n ms)

@@ -1,7 +1,8 @@
 -- What one more command makes of a list of accepted commands.
-use Rattle.std.proofs.Common.{◌≡◌, ℕ, zero, suc, Bool, true, false, ◌||◌, cond, unwrap_or, List, []}
-use Rattle.std.proofs.Common.{◌∷◌, ◌++◌, map, Option, Some, None, option_map, option_to_list}
-use Rattle.std.proofs.Common.{is_some, refl, ap, ◌∙◌, sym, append_assoc, append-nil}
+use Rattle.std.proofs.Common.{◌≡◌, ℕ, zero, suc, Bool, true, false, not, ◌||◌, cond, unwrap_or}
+use Rattle.std.proofs.Common.{List, [], ◌∷◌, ◌++◌, map, filter, Option}
+use Rattle.std.proofs.Common.{Some, None, is_some, option_map, option_to_list, refl, ap, ◌∙◌, sym}
+use Rattle.std.proofs.Common.{append_assoc, append-nil}
 use Rattle.std.specs.Option.{option_or, option_and_then}
 use Rattle.std.specs.List.{list_any}
 use Rattle.std.proofs.lemmas.Bool.{false≢true}
@@ -14,14 +15,14 @@ use Rattle.formats.specs.Events.{unit_of}
 use Rattle.texts.specs.declared.command.Command.{Command}
 use Rattle.texts.specs.declared.command.Settings.{Settings}
 use Rattle.rounds.specs.Tables.{Entrant, Table, empty_table}
-use Rattle.formats.specs.declared.advance.Advance.{Advance}
 use Rattle.commands.specs.model.Kept.{newcomer}
-use Rattle.commands.specs.Accepted.{Opened, opened, opening, scrambling, scramble_since}
-use Rattle.commands.specs.Accepted.{scramble_of, entering, one_value, values_after, entrant_after}
-use Rattle.commands.specs.Accepted.{entrants_after, closing, advance_given, advance_after}
-use Rattle.commands.specs.Accepted.{settings_now, table_of, round_at, who_advance, round_in}
-use Rattle.commands.specs.Accepted.{round_of}
-use Rattle.commands.proofs.Lookups.{or_none, first_push}
+use Rattle.commands.specs.Accepted.{last_of, Opened, opened, opening, scrambling, rescrambling}
+use Rattle.commands.specs.Accepted.{scramble_since, scramble_of, settings_by, settings_after}
+use Rattle.commands.specs.Accepted.{takes_out, entering, one_value, values_after, entrant_after}
+use Rattle.commands.specs.Accepted.{stays, entrants_left, entrants_after, closing, is_ended}
+use Rattle.commands.specs.Accepted.{settings_now, table_of, who_advance, who_wait, round_at}
+use Rattle.commands.specs.Accepted.{round_in, round_of}
+use Rattle.commands.proofs.Lookups.{or_none, last_push, stands, standing_push}
 
 -- a round with one more command since its opening
 abbrev pub plus_command : Command → Opened → Opened
@@ -84,72 +85,167 @@ abbrev pub one_more : Event → ℕ → Settings → List Command → Command �
 one_more e r settings earlier c x =
     record { number = x.number; values = one_value e r settings x.number earlier x.values c }
 
--- one more command changes each entrant by itself, and may enter one
-pub entrants_push : (e : Event) (r : ℕ) (settings : Settings) (earlier cs : List Command)
-    (c : Command)
-    → entrants_after e r settings earlier (cs ++ c ∷ [])
-    ≡ map (one_more e r settings (earlier ++ cs) c) (entrants_after e r settings earlier cs) ++
-    option_to_list (option_map newcomer (entering e r c))
-entrants_push e r settings earlier [] c = append-nil _
-entrants_push e r settings earlier (d ∷ ds) c =
-    step (entering e r d)
-    (entrants_push e r settings here ds c
-    ∙ ap (λ (before : List Command). map (one_more e r settings before c) there ++ last) along)
+-- a command does not take an entrant out
+abbrev pub is_left_by : Event → ℕ → Command → Entrant → Bool
+is_left_by e r c x = not (takes_out e r x.number c)
+
+-- entrants after one more command that takes some out
+abbrev pub left_more : Event → ℕ → Settings → List Command → Command → List Entrant → List Entrant
+left_more e r settings earlier c xs =
+    map (one_more e r settings earlier c) (filter (is_left_by e r c) xs)
+
+pub or_last : (a b : Bool) → (a || (b || false)) ≡ (a || b)
+or_last true b = refl
+or_last false true = refl
+or_last false false = refl
+
+-- one more command changes each of these by itself, and may take them out
+pub left_push : (e : Event) (r : ℕ) (settings : Settings) (earlier cs : List Command) (c : Command)
+    (ns : List ℕ)
+    → entrants_left e r settings earlier (cs ++ c ∷ []) ns
+    ≡ left_more e r settings (earlier ++ cs) c (entrants_left e r settings earlier cs ns)
+left_push e r settings earlier cs c [] = refl
+left_push e r settings earlier cs c (n ∷ ns) =
+    ap
+    (λ (b : Bool).
+    map (entrant_after e r settings earlier (cs ++ c ∷ []))
+    (cond (not b) (n ∷ filter (stays e r (cs ++ c ∷ [])) ns)
+    (filter (stays e r (cs ++ c ∷ [])) ns)))
+    (list_any-append (takes_out e r n) cs (c ∷ [])
+    ∙ or_last (list_any (takes_out e r n) cs) (takes_out e r n c))
+    ∙ step (list_any (takes_out e r n) cs) (takes_out e r n c) refl
+    (left_push e r settings earlier cs c ns)
+  where
+    rest : List Entrant
+    rest = entrants_left e r settings earlier (cs ++ c ∷ []) ns
+
+    entrant : entrant_after e r settings earlier (cs ++ c ∷ []) n
+        ≡ one_more e r settings (earlier ++ cs) c (entrant_after e r settings earlier cs n)
+    entrant =
+        ap (λ (vs : List Value). let x : Entrant = record { number = n; values = vs } in x)
+        (values_push e r settings n earlier [] cs c)
+
+    one : Entrant → Entrant
+    one = one_more e r settings (earlier ++ cs) c
+
+    step : (b t : Bool) → takes_out e r n c ≡ t
+        → rest ≡ left_more e r settings (earlier ++ cs) c (entrants_left e r settings earlier cs ns)
+        → map (entrant_after e r settings earlier (cs ++ c ∷ []))
+        (cond (not (b || t)) (n ∷ filter (stays e r (cs ++ c ∷ [])) ns)
+        (filter (stays e r (cs ++ c ∷ [])) ns))
+        ≡ left_more e r settings (earlier ++ cs) c
+        (map (entrant_after e r settings earlier cs)
+        (cond (not b) (n ∷ filter (stays e r cs) ns) (filter (stays e r cs) ns)))
+    step true t is h = h
+    step false true is h =
+        h
+        ∙ ap
+        (λ (x : Bool).
+        map one
+        (cond (not x)
+        (entrant_after e r settings earlier cs n ∷ filter (is_left_by e r c)
+        (entrants_left e r settings earlier cs ns))
+        (filter (is_left_by e r c) (entrants_left e r settings earlier cs ns))))
+        (sym is)
+    step false false is h =
+        ap (λ (x : Entrant). x ∷ rest) entrant
+        ∙ ap (λ (xs : List Entrant). one (entrant_after e r settings earlier cs n) ∷ xs) h
+        ∙ ap
+        (λ (x : Bool).
+        map one
+        (cond (not x)
+        (entrant_after e r settings earlier cs n ∷ filter (is_left_by e r c)
+        (entrants_left e r settings earlier cs ns))
+        (filter (is_left_by e r c) (entrants_left e r settings earlier cs ns))))
+        (sym is)
+
+pub filter_append : {X : Type 0} (p : X → Bool) (xs ys : List X)
+    → filter p (xs ++ ys) ≡ filter p xs ++ filter p ys
+filter_append p [] ys = refl
+filter_append {X} p (x ∷ xs) ys = step (p x) (filter_append p xs ys)
+  where
+    step : (b : Bool) → filter p (xs ++ ys) ≡ filter p xs ++ filter p ys
+        → cond b (x ∷ filter p (xs ++ ys)) (filter p (xs ++ ys))
+        ≡ cond b (x ∷ filter p xs) (filter p xs) ++ filter p ys
+    step true h = ap (λ (zs : List X). x ∷ zs) h
+    step false h = h
+
+pub more_append : (e : Event) (r : ℕ) (settings : Settings) (earlier : List Command) (c : Command)
+    (xs ys : List Entrant)
+    → left_more e r settings earlier c (xs ++ ys)
+    ≡ left_more e r settings earlier c xs ++ left_more e r settings earlier c ys
+more_append e r settings earlier c xs ys =
+    ap (map (one_more e r settings earlier c)) (filter_append (is_left_by e r c) xs ys)
+    ∙ map-append (one_more e r settings earlier c) (filter (is_left_by e r c) xs)
+    (filter (is_left_by e r c) ys)
+
+-- who is entered as the last by a command
+abbrev pub entered_last : Event → ℕ → List ℕ → List Command → Command → List Entrant
+entered_last e r waiting earlier c =
+    option_to_list (option_map newcomer (entering e r waiting earlier c))
+
+-- one more command changes each entrant by itself, may take some out, and may enter one
+pub entrants_push : (e : Event) (r : ℕ) (settings : Settings) (waiting : List ℕ)
+    (earlier cs : List Command) (c : Command)
+    → entrants_after e r settings waiting earlier (cs ++ c ∷ [])
+    ≡ left_more e r settings (earlier ++ cs) c (entrants_after e r settings waiting earlier cs) ++
+    entered_last e r waiting (earlier ++ cs) c
+entrants_push e r settings waiting earlier [] c =
+    append-nil _ ∙ step (entering e r waiting earlier c)
+    ∙ ap (λ (before : List Command). entered_last e r waiting before c) (sym (append-nil earlier))
+  where
+    step : (o : Option ℕ)
+        → entrants_left e r settings (earlier ++ c ∷ []) [] (option_to_list o)
+        ≡ option_to_list (option_map newcomer o)
+    step None = refl
+    step (Some n) = refl
+entrants_push e r settings waiting earlier (d ∷ ds) c =
+    ap
+    (λ (xs : List Entrant). xs ++ entrants_after e r settings waiting here (ds ++ c ∷ []))
+    (left_push e r settings here ds c new)
+    ∙ ap
+    (λ (xs : List Entrant).
+    left_more e r settings (here ++ ds) c (entrants_left e r settings here ds new) ++ xs)
+    (entrants_push e r settings waiting here ds c)
+    ∙ ap
+    (λ (before : List Command).
+    left_more e r settings before c (entrants_left e r settings here ds new) ++
+    (left_more e r settings before c there ++ entered_last e r waiting before c))
+    (append_assoc earlier (d ∷ []) ds)
+    ∙ sym
+    (append_assoc
+    (left_more e r settings (earlier ++ d ∷ ds) c (entrants_left e r settings here ds new))
+    (left_more e r settings (earlier ++ d ∷ ds) c there)
+    (entered_last e r waiting (earlier ++ d ∷ ds) c))
+    ∙ ap (λ (xs : List Entrant). xs ++ entered_last e r waiting (earlier ++ d ∷ ds) c)
+    (sym
+    (more_append e r settings (earlier ++ d ∷ ds) c (entrants_left e r settings here ds new) there))
   where
     here : List Command
     here = earlier ++ d ∷ []
 
+    new : List ℕ
+    new = option_to_list (entering e r waiting earlier d)
+
     there : List Entrant
-    there = entrants_after e r settings here ds
+    there = entrants_after e r settings waiting here ds
 
-    last : List Entrant
-    last = option_to_list (option_map newcomer (entering e r c))
+-- one more command changes the settings by that command alone
+pub settings_push : (e : Event) (r : ℕ) (settings : Settings) (cs : List Command) (c : Command)
+    → settings_after e r settings (cs ++ c ∷ []) ≡ settings_by e r c (settings_after e r settings cs)
+settings_push e r settings [] c = refl
+settings_push e r settings (d ∷ ds) c = settings_push e r (settings_by e r d settings) ds c
 
-    along : here ++ ds ≡ earlier ++ d ∷ ds
-    along = append_assoc earlier (d ∷ []) ds
-
-    entrant : (n : ℕ)
-        → entrant_after e r settings here (ds ++ c ∷ []) n
-        ≡ one_more e r settings (earlier ++ d ∷ ds) c (entrant_after e r settings here ds n)
-    entrant n =
-        ap (λ (vs : List Value). let x : Entrant = record { number = n; values = vs } in x)
-        (values_push e r settings n here [] ds c
-        ∙ ap
-        (λ (before : List Command).
-        one_value e r settings n before (values_after e r settings n here [] ds) c)
-        along)
-
-    step : (x : Option ℕ)
-        → entrants_after e r settings here (ds ++ c ∷ [])
-        ≡ map (one_more e r settings (earlier ++ d ∷ ds) c) there ++ last
-        → option_to_list (option_map (entrant_after e r settings here (ds ++ c ∷ [])) x) ++
-        entrants_after e r settings here (ds ++ c ∷ [])
-        ≡ map (one_more e r settings (earlier ++ d ∷ ds) c)
-        (option_to_list (option_map (entrant_after e r settings here ds) x) ++ there) ++ last
-    step None h = h
-    step (Some n) h = rw (entrant n, h) refl
-
--- one more command changes the advance by that command alone
-pub advance_push : (e : Event) (r : ℕ) (advance : Advance) (cs : List Command) (c : Command)
-    → advance_after e r advance (cs ++ c ∷ [])
-    ≡ unwrap_or (advance_given e r c) (advance_after e r advance cs)
-advance_push e r advance [] c = refl
-advance_push e r advance (d ∷ ds) c =
-    advance_push e r (unwrap_or (advance_given e r d) advance) ds c
-
--- one more command changes each of those who came in at the opening by itself
-pub first_more : (e : Event) (r : ℕ) (settings : Settings) (cs : List Command) (c : Command)
-    (ns : List ℕ)
-    → map (entrant_after e r settings [] (cs ++ c ∷ [])) ns
-    ≡ map (one_more e r settings cs c) (map (entrant_after e r settings [] cs) ns)
-first_more e r settings cs c [] = refl
-first_more e r settings cs c (n ∷ ns) =
-    ap (λ (x : Entrant). x ∷ map (entrant_after e r settings [] (cs ++ c ∷ [])) ns)
-    (ap (λ (vs : List Value). let x : Entrant = record { number = n; values = vs } in x)
-    (values_push e r settings n [] [] cs c))
-    ∙ ap
-    (λ (xs : List Entrant). one_more e r settings cs c (entrant_after e r settings [] cs n) ∷ xs)
-    (first_more e r settings cs c ns)
+-- whether a round is closed goes by the last command to say it
+pub ended_push : (e : Event) (r : ℕ) (cs : List Command) (c : Command)
+    → is_ended e r (cs ++ c ∷ []) ≡ unwrap_or (closing e r c) (is_ended e r cs)
+ended_push e r cs c =
+    ap (λ (o : Option Bool). unwrap_or o false) (last_push (closing e r) cs c)
+    ∙ step (closing e r c) (last_of (closing e r) cs)
+  where
+    step : (a b : Option Bool) → unwrap_or (option_or a b) false ≡ unwrap_or a (unwrap_or b false)
+    step None b = refl
+    step (Some x) b = refl
 
 -- the table of a round in which nobody is entered yet
 abbrev pub new_table : Event → Settings → Table
@@ -162,98 +258,74 @@ with_entrants t es = record t { entrants = es }
 abbrev pub with_table : Settings → Table → Settings × Table
 with_table settings t = (settings, t)
 
--- what one more command makes of the entrants of a round that is open
-abbrev pub entrants_with : Event → ℕ → List ℕ → Opened → Command → List Entrant
-entrants_with e r first o c =
-    map (one_more e r o.settings o.since c) (table_of e r first o).entrants ++ option_to_list
-    (option_map newcomer (entering e r c))
-
-pub entrants_more : (e : Event) (r : ℕ) (first : List ℕ) (o : Opened) (c : Command)
-    → (table_of e r first (plus_command c o)).entrants ≡ entrants_with e r first o c
-entrants_more e r first o c =
-    ap (λ (xs : List Entrant). xs ++ entrants_after e r o.settings [] (o.since ++ c ∷ []))
-    (first_more e r o.settings o.since c first)
-    ∙ ap
-    (λ (xs : List Entrant). map one (map (entrant_after e r o.settings [] o.since) first) ++ xs)
-    (entrants_push e r o.settings [] o.since c)
-    ∙ sym
-    (append_assoc (map one (map (entrant_after e r o.settings [] o.since) first))
-    (map one (entrants_after e r o.settings [] o.since)) last)
-    ∙ ap (λ (xs : List Entrant). xs ++ last)
-    (sym
-    (map-append one (map (entrant_after e r o.settings [] o.since) first)
-    (entrants_after e r o.settings [] o.since)))
-  where
-    one : Entrant → Entrant
-    one = one_more e r o.settings o.since c
-
-    last : List Entrant
-    last = option_to_list (option_map newcomer (entering e r c))
-
--- a round with another advance, closed or not, and other entrants
-abbrev pub with_parts : Event → ℕ → List ℕ → Opened → Advance → Bool → List Entrant
-    → Settings × Table
-with_parts e r first o advance closed es = (
-  record o.settings { advance = advance },
-  record (table_of e r first o) { is_closed = closed; entrants = es },
+-- a round with these settings, closed or not, and these entrants
+abbrev pub with_parts : Event → Settings → Bool → List Entrant → Settings × Table
+with_parts e settings closed es = (
+  settings,
+  record {
+    format = settings.format;
+    unit = unit_of e;
+    cutoff = settings.cutoff;
+    is_closed = closed;
+    entrants = es;
+  },
 )
 
-abbrev pub advance_of : Event → ℕ → Opened → Advance
-advance_of e r o = advance_after e r o.settings.advance o.since
+-- the entrants of a round that was opened behind another
+abbrev pub entrants_at : Event → ℕ → Option (Settings × Table) → Opened → List Entrant
+entrants_at e r before o = (table_of e r (who_advance before) (who_wait before) o).entrants
 
-abbrev pub is_ended : Event → ℕ → Opened → Bool
-is_ended e r o = list_any (closing e r) o.since
+-- what one more command makes of the entrants of a round that is open
+abbrev pub entrants_with : Event → ℕ → Option (Settings × Table) → Opened → Command → List Entrant
+entrants_with e r before o c =
+    left_more e r o.settings o.since c (entrants_at e r before o) ++
+    entered_last e r (who_wait before) o.since c
 
-pub or_last : (a b : Bool) → (a || (b || false)) ≡ (a || b)
-or_last true b = refl
-or_last false true = refl
-or_last false false = refl
+pub entrants_more : (e : Event) (r : ℕ) (before : Option (Settings × Table)) (o : Opened)
+    (c : Command)
+    → entrants_at e r before (plus_command c o) ≡ entrants_with e r before o c
+entrants_more e r before o c =
+    ap
+    (λ (xs : List Entrant).
+    xs ++ entrants_after e r o.settings (who_wait before) [] (o.since ++ c ∷ []))
+    (left_push e r o.settings [] o.since c (who_advance before))
+    ∙ ap (λ (xs : List Entrant). left_more e r o.settings o.since c first ++ xs)
+    (entrants_push e r o.settings (who_wait before) [] o.since c)
+    ∙ sym
+    (append_assoc (left_more e r o.settings o.since c first)
+    (left_more e r o.settings o.since c later) last)
+    ∙ ap (λ (xs : List Entrant). xs ++ last)
+    (sym (more_append e r o.settings o.since c first later))
+  where
+    first : List Entrant
+    first = entrants_left e r o.settings [] o.since (who_advance before)
 
-pub or_false : (a : Bool) → (a || false) ≡ a
-or_false true = refl
-or_false false = refl
+    later : List Entrant
+    later = entrants_after e r o.settings (who_wait before) [] o.since
 
-pub or_true : (a : Bool) → (a || true) ≡ true
-or_true true = refl
-or_true false = refl
+    last : List Entrant
+    last = entered_last e r (who_wait before) o.since c
 
 -- what one more command makes of a round that is open
-pub round_more : (e : Event) (r : ℕ) (first : List ℕ) (o : Opened) (c : Command)
-    → round_at e r first (plus_command c o)
-    ≡ with_parts e r first o (unwrap_or (advance_given e r c) (advance_of e r o))
-    (is_ended e r o || closing e r c) (entrants_with e r first o c)
-round_more e r first o c =
+pub round_more : (e : Event) (r : ℕ) (before : Option (Settings × Table)) (o : Opened) (c : Command)
+    → round_at e r before (plus_command c o)
+    ≡ with_parts e (settings_by e r c (settings_now e r o))
+    (unwrap_or (closing e r c) (is_ended e r o.since)) (entrants_with e r before o c)
+round_more e r before o c =
     ap
-    (λ (a : Advance).
-    with_parts e r first o a (list_any (closing e r) (o.since ++ c ∷ []))
-    (table_of e r first (plus_command c o)).entrants)
-    (advance_push e r o.settings.advance o.since c)
+    (λ (s : Settings).
+    with_parts e s (is_ended e r (o.since ++ c ∷ [])) (entrants_at e r before (plus_command c o)))
+    (settings_push e r o.settings o.since c)
     ∙ ap
     (λ (b : Bool).
-    with_parts e r first o (unwrap_or (advance_given e r c) (advance_of e r o)) b
-    (table_of e r first (plus_command c o)).entrants)
-    (list_any-append (closing e r) o.since (c ∷ []) ∙ or_last (is_ended e r o) (closing e r c))
+    with_parts e (settings_by e r c (settings_now e r o)) b
+    (entrants_at e r before (plus_command c o)))
+    (ended_push e r o.since c)
     ∙ ap
     (λ (xs : List Entrant).
-    with_parts e r first o (unwrap_or (advance_given e r c) (advance_of e r o))
-    (is_ended e r o || closing e r c) xs)
-    (entrants_more e r first o c)
-
--- a command that gives no advance and closes no round
-pub round_with : (e : Event) (r : ℕ) (first : List ℕ) (c : Command) (o : Opened) (es : List Entrant)
-    → advance_given e r c ≡ None → closing e r c ≡ false → entrants_with e r first o c ≡ es
-    → round_at e r first (plus_command c o)
-    ≡ with_table (settings_now e r o) (with_entrants (table_of e r first o) es)
-round_with e r first c o es none stays h =
-    round_more e r first o c
-    ∙ ap
-    (λ (x : Option Advance).
-    with_parts e r first o (unwrap_or x (advance_of e r o)) (is_ended e r o || closing e r c)
-    (entrants_with e r first o c))
-    none
-    ∙ ap (λ (b : Bool). with_parts e r first o (advance_of e r o) b (entrants_with e r first o c))
-    (ap (λ (b : Bool). is_ended e r o || b) stays ∙ or_false (is_ended e r o))
-    ∙ ap (λ (xs : List Entrant). with_parts e r first o (advance_of e r o) (is_ended e r o) xs) h
+    with_parts e (settings_by e r c (settings_now e r o))
+    (unwrap_or (closing e r c) (is_ended e r o.since)) xs)
+    (entrants_more e r before o c)
 
 pub map_same : {X : Type 0} (f : X → X) → ((x : X) → f x ≡ x) → (xs : List X) → map f xs ≡ xs
 map_same f h [] = refl
@@ -264,37 +336,79 @@ pub map_alike : {X : Type 0} (f g : X → X) → ((x : X) → f x ≡ g x) → (
 map_alike f g h [] = refl
 map_alike f g h (x ∷ xs) = rw (h x, map_alike f g h xs) refl
 
+pub filter_all : {X : Type 0} (p : X → Bool) → ((x : X) → p x ≡ true) → (xs : List X)
+    → filter p xs ≡ xs
+filter_all p h [] = refl
+filter_all p h (x ∷ xs) = rw (h x, filter_all p h xs) refl
+
+-- a command takes nobody out
+abbrev pub TakesNobodyOut : Event → ℕ → Command → Type 0
+TakesNobodyOut e r c = (n : ℕ) → takes_out e r n c ≡ false
+
 -- a command changes no values
 abbrev pub KeepsValues : Event → ℕ → Command → Type 0
 KeepsValues e r c =
     (settings : Settings) (earlier : List Command) (x : Entrant)
     → one_more e r settings earlier c x ≡ x
 
--- a command that changes no values and enters nobody leaves the entrants as they are
-pub same_entrants : (e : Event) (r : ℕ) (first : List ℕ) (o : Opened) (c : Command)
-    → entering e r c ≡ None → KeepsValues e r c
-    → entrants_with e r first o c ≡ (table_of e r first o).entrants
-same_entrants e r first o c nobody keeps =
-    rw nobody
-    (append-nil _
-    ∙ map_same (one_more e r o.settings o.since c) (keeps o.settings o.since)
-    (table_of e r first o).entrants)
+-- who is left by a command that takes nobody out
+pub left_all : (e : Event) (r : ℕ) (settings : Settings) (earlier : List Command) (c : Command)
+    (xs : List Entrant)
+    → TakesNobodyOut e r c
+    → left_more e r settings earlier c xs ≡ map (one_more e r settings earlier c) xs
+left_all e r settings earlier c xs nobody =
+    ap (map (one_more e r settings earlier c))
+    (filter_all (is_left_by e r c) (λ x. ap not (nobody x.number)) xs)
 
-pub still : (e : Event) (r : ℕ) (first : List ℕ) (c : Command) (o : Opened)
-    → advance_given e r c ≡ None
-    → closing e r c ≡ false → entering e r c ≡ None → KeepsValues e r c
-    → round_at e r first (plus_command c o) ≡ round_at e r first o
-still e r first c o none stays nobody keeps =
-    round_with e r first c o (table_of e r first o).entrants none stays
-    (same_entrants e r first o c nobody keeps)
+-- a command that changes no values, takes nobody out and enters nobody leaves the entrants
+pub same_entrants : (e : Event) (r : ℕ) (before : Option (Settings × Table)) (o : Opened)
+    (c : Command)
+    → ((waiting : List ℕ) (earlier : List Command) → entering e r waiting earlier c ≡ None)
+    → TakesNobodyOut e r c → KeepsValues e r c
+    → entrants_with e r before o c ≡ entrants_at e r before o
+same_entrants e r before o c nobody stay keeps =
+    rw (nobody (who_wait before) o.since)
+    (append-nil _
+    ∙ left_all e r o.settings o.since c (entrants_at e r before o) stay
+    ∙ map_same (one_more e r o.settings o.since c) (keeps o.settings o.since)
+    (entrants_at e r before o))
+
+-- a command that sets nothing, and neither closes the round nor opens it again
+pub round_with : (e : Event) (r : ℕ) (before : Option (Settings × Table)) (c : Command) (o : Opened)
+    (es : List Entrant)
+    → ((s : Settings) → settings_by e r c s ≡ s) → closing e r c ≡ None
+    → entrants_with e r before o c ≡ es
+    → round_at e r before (plus_command c o)
+    ≡ with_parts e (settings_now e r o) (is_ended e r o.since) es
+round_with e r before c o es sets stays h =
+    round_more e r before o c
+    ∙ ap
+    (λ (s : Settings).
+    with_parts e s (unwrap_or (closing e r c) (is_ended e r o.since)) (entrants_with e r before o c))
+    (sets (settings_now e r o))
+    ∙ ap
+    (λ (x : Option Bool).
+    with_parts e (settings_now e r o) (unwrap_or x (is_ended e r o.since))
+    (entrants_with e r before o c))
+    stays
+    ∙ ap (λ (xs : List Entrant). with_parts e (settings_now e r o) (is_ended e r o.since) xs) h
+
+pub still : (e : Event) (r : ℕ) (before : Option (Settings × Table)) (c : Command) (o : Opened)
+    → ((s : Settings) → settings_by e r c s ≡ s) → closing e r c ≡ None
+    → ((waiting : List ℕ) (earlier : List Command) → entering e r waiting earlier c ≡ None)
+    → TakesNobodyOut e r c → KeepsValues e r c
+    → round_at e r before (plus_command c o) ≡ round_at e r before o
+still e r before c o sets stays nobody stay keeps =
+    round_with e r before c o (entrants_at e r before o) sets stays
+    (same_entrants e r before o c nobody stay keeps)
 
 -- a command that opens no round makes this change of a round that is open, or none
 pub round_changed : (e : Event) (r : ℕ) (cs : List Command) (c : Command) (b : Bool)
     (change : Settings × Table → Settings × Table)
     → opening e r c ≡ None
-    → ((o : Opened) (first : List ℕ) → opened e r [] cs ≡ Some o
-    → round_at e r first (plus_command c o)
-    ≡ cond b (change (round_at e r first o)) (round_at e r first o))
+    → ((o : Opened) (before : Option (Settings × Table)) → opened e r [] cs ≡ Some o
+    → round_at e r before (plus_command c o)
+    ≡ cond b (change (round_at e r before o)) (round_at e r before o))
     → round_of (cs ++ c ∷ []) e r ≡ cond b (option_map change (round_of cs e r)) (round_of cs e r)
 unfolding round_in
 round_changed e zero cs c b change closed changes = none b
@@ -307,7 +421,7 @@ round_changed e (suc r) cs c b change closed changes =
     ∙ rw closed (step (opened e (suc r) [] cs) refl)
   where
     at : Opened → Settings × Table
-    at o = round_at e (suc r) (who_advance (round_in e r o.before)) o
+    at o = round_at e (suc r) (round_in e r o.before) o
 
     none : (t : Bool) → None ≡ cond t (option_map change None) None
     none true = refl
@@ -323,13 +437,17 @@ round_changed e (suc r) cs c b change closed changes =
         (option_or (option_map (plus_command c) x) (option_map (just_opened cs) None))
         ≡ cond b (option_map change (option_map at x)) (option_map at x)
     step None h = none b
-    step (Some o) h = ap Some (changes o (who_advance (round_in e r o.before)) h) ∙ some b (at o)
+    step (Some o) h = ap Some (changes o (round_in e r o.before) h) ∙ some b (at o)
+
+-- what one more command makes of the scramble of an attempt of a round that is open
+abbrev pub scramble_with : Event → ℕ → ℕ → Command → Opened → Option (List Move)
+scramble_with e r k c o =
+    stands (scrambling e r k c) (rescrambling e r k c) (scramble_since e r k o)
 
 -- one more command changes the scramble of an attempt by itself, where the round is open
 pub scramble_push : (e : Event) (r k : ℕ) (cs : List Command) (c : Command)
     → scramble_of (cs ++ c ∷ []) e r k
-    ≡ option_and_then (λ (o : Opened). option_or (scramble_since e r k o) (scrambling e r k c))
-    (opened e r [] cs)
+    ≡ option_and_then (scramble_with e r k c) (opened e r [] cs)
 scramble_push e r k cs c =
     ap (option_and_then (scramble_since e r k)) (opened_push e r [] cs c)
     ∙ step (opened e r [] cs) (opening e r c)
@@ -337,22 +455,37 @@ scramble_push e r k cs c =
     step : (x : Option Opened) (y : Option Settings)
         → option_and_then (scramble_since e r k)
         (option_or (option_map (plus_command c) x) (option_map (just_opened cs) y))
-        ≡ option_and_then (λ (o : Opened). option_or (scramble_since e r k o) (scrambling e r k c))
-        x
+        ≡ option_and_then (scramble_with e r k c) x
     step None None = refl
     step None (Some s) = refl
-    step (Some o) y = first_push (scrambling e r k) o.since c
+    step (Some o) y = standing_push (scrambling e r k) (rescrambling e r k) o.since c
 
--- a command that sets no scramble for an attempt leaves it as it is
+-- a command that gives no scramble for an attempt leaves it as it is
 pub scramble_kept : (e : Event) (r k : ℕ) (cs : List Command) (c : Command)
-    → scrambling e r k c ≡ None → scramble_of (cs ++ c ∷ []) e r k ≡ scramble_of cs e r k
-scramble_kept e r k cs c none = scramble_push e r k cs c ∙ rw none (step (opened e r [] cs))
+    → scrambling e r k c ≡ None → rescrambling e r k c ≡ None
+    → scramble_of (cs ++ c ∷ []) e r k ≡ scramble_of cs e r k
+scramble_kept e r k cs c none same =
+    scramble_push e r k cs c
+    ∙ ap
+    (λ (a : Option (List Move)).
+    option_and_then
+    (λ (o : Opened). stands a (rescrambling e r k c) (scramble_since e r k o)) (opened e r [] cs))
+    none
+    ∙ ap
+    (λ (b : Option (List Move)).
+    option_and_then (λ (o : Opened). stands None b (scramble_since e r k o)) (opened e r [] cs))
+    same
+    ∙ step (opened e r [] cs)
   where
+    kept : (o : Option (List Move)) → stands None None o ≡ o
+    kept None = refl
+    kept (Some x) = refl
+
     step : (x : Option Opened)
-        → option_and_then (λ (o : Opened). option_or (scramble_since e r k o) None) x
+        → option_and_then (λ (o : Opened). stands None None (scramble_since e r k o)) x
         ≡ option_and_then (scramble_since e r k) x
     step None = refl
-    step (Some o) = or_none _
+    step (Some o) = kept (scramble_since e r k o)
 
 -- a command that sets the first scramble of an attempt
 pub scramble_new : (e : Event) (r k : ℕ) (cs : List Command) (c : Command) (moves : List Move)
@@ -361,14 +494,38 @@ pub scramble_new : (e : Event) (r k : ℕ) (cs : List Command) (c : Command) (mo
 unfolding round_in
 scramble_new e zero k cs c moves sets there absent = absurd (false≢true there)
 scramble_new e (suc r) k cs c moves sets there absent =
-    scramble_push e (suc r) k cs c ∙ rw sets (step (opened e (suc r) [] cs) there absent)
+    scramble_push e (suc r) k cs c ∙ step (opened e (suc r) [] cs) there absent
   where
     step : (x : Option Opened)
         → is_some
-        (option_map (λ (o : Opened). round_at e (suc r) (who_advance (round_in e r o.before)) o) x)
+        (option_map (λ (o : Opened). round_at e (suc r) (round_in e r o.before) o) x)
         ≡ true
         → option_and_then (scramble_since e (suc r) k) x ≡ None
-        → option_and_then (λ (o : Opened). option_or (scramble_since e (suc r) k o) (Some moves)) x
-        ≡ Some moves
+        → option_and_then (scramble_with e (suc r) k c) x ≡ Some moves
     step None h absent = absurd (false≢true h)
-    step (Some o) h absent = rw absent refl
+    step (Some o) h absent = rw absent sets
+
+-- a command that puts another scramble in the place of an attempt's
+pub scramble_again : (e : Event) (r k : ℕ) (cs : List Command) (c : Command) (moves : List Move)
+    → rescrambling e r k c ≡ Some moves → is_some (scramble_of cs e r k) ≡ true
+    → scramble_of (cs ++ c ∷ []) e r k ≡ Some moves
+scramble_again e r k cs c moves sets there =
+    scramble_push e r k cs c
+    ∙ ap
+    (λ (b : Option (List Move)).
+    option_and_then
+    (λ (o : Opened). stands (scrambling e r k c) b (scramble_since e r k o)) (opened e r [] cs))
+    sets
+    ∙ step (opened e r [] cs) there
+  where
+    put : (o : Option (List Move)) → is_some o ≡ true
+        → stands (scrambling e r k c) (Some moves) o ≡ Some moves
+    put None h = absurd (false≢true h)
+    put (Some x) h = refl
+
+    step : (x : Option Opened) → is_some (option_and_then (scramble_since e r k) x) ≡ true
+        → option_and_then
+        (λ (o : Opened). stands (scrambling e r k c) (Some moves) (scramble_since e r k o)) x
+        ≡ Some moves
+    step None h = absurd (false≢true h)
+    step (Some o) h = put (scramble_since e r k o) h

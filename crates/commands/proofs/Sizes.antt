@@ -1,13 +1,13 @@
 -- What every list of accepted commands keeps to: names and numbers in their ranges, and at most 999
 -- entrants in a round.
 use Rattle.std.proofs.Common.{◌≡◌, ℕ, zero, suc, ◌+◌, ◌-◌, ◌*◌, ◌/◌, ◌<◌, ◌≤◌, Bool, true, false}
-use Rattle.std.proofs.Common.{◌&&◌, ◌==◌, not, cond, nat_le, nat_lt, List, [], ◌∷◌, ◌++◌, length}
-use Rattle.std.proofs.Common.{take, set, map, filter, flat_map, fold, Option, Some, None, IfSome}
-use Rattle.std.proofs.Common.{option_map, is_some, Result, Ok, Err, IfOk, refl, sym, ap, ◌∙◌, subst}
+use Rattle.std.proofs.Common.{◌&&◌, ◌==◌, not, cond, nat_le, List, [], ◌∷◌, ◌++◌, length}
+use Rattle.std.proofs.Common.{take, drop, set, map, filter, find, flat_map, fold, count_by, Option}
+use Rattle.std.proofs.Common.{Some, None, IfSome}
+use Rattle.std.proofs.Common.{option_map, Result, Ok, Err, IfOk, refl, sym, ap, ◌∙◌, subst}
 use Rattle.std.proofs.Common.{arith, append-nil, length-append, eqb-true}
 use Rattle.std.specs.List.{range_with_len, AllByRecursion, list_any}
 use Rattle.std.specs.Option.{option_or, option_and_then}
-use Rattle.std.proofs.lemmas.Bool.{false≢true}
 use Rattle.std.proofs.lemmas.Bool.Decides.{nat_tests}
 use Rattle.std.proofs.lemmas.List.{length-map}
 use Rattle.std.proofs.lemmas.List.Sums.{length-filter, count_by-le-length}
@@ -22,38 +22,49 @@ use Rattle.attempts.specs.Attempts.{rounded, reaches, solution_value, multi_numb
 use Rattle.attempts.specs.Attempts.{is_multi_finished, IsInRangeOf}
 use Rattle.attempts.specs.declared.Unit.TheVariants as measure
 use Rattle.formats.specs.declared.events.Event.{Event}
+use Rattle.formats.specs.declared.events.Format.{Format}
 use Rattle.formats.specs.Events.{same_event}
 use Rattle.formats.proofs.SameEvent.{same_event-equal}
 use Rattle.rounds.specs.Tables.{Entrant, Table, has_number, enter_fault, plus_value, with_replaced}
-use Rattle.rounds.specs.Tables.{less_last, number_of_entrant, place, standings}
+use Rattle.rounds.specs.Tables.{less_last, number_of_entrant, place, standings, entrant}
+use Rattle.rounds.specs.Tables.{leave_fault, withdraw_fault}
+use Rattle.rounds.specs.declared.fault.WithdrawFault.TheVariants as withdraw
 use Rattle.rounds.specs.declared.fault.EnterFault.TheVariants as enter
 use Rattle.formats.specs.declared.advance.Advance.{Advance}
 use Rattle.advancement.specs.Advancing.{goes_on}
+use Rattle.advancement.specs.Waiting.{stays_out}
 use Rattle.texts.specs.declared.answer.Code.{Code}
 use Rattle.texts.specs.declared.answer.Code.TheVariants as code
 use Rattle.texts.specs.declared.command.Command.{Command}
 use Rattle.texts.specs.declared.command.Command.TheVariants.{Register, Open, Enter, Scramble}
 use Rattle.texts.specs.declared.command.Command.TheVariants.{Attempt, Correct, Strike, SetAdvance}
-use Rattle.texts.specs.declared.command.Command.TheVariants.{Close, SetEdition}
+use Rattle.texts.specs.declared.command.Command.TheVariants.{Close, SetEdition, Rename, SetRound}
+use Rattle.texts.specs.declared.command.Command.TheVariants.{Rescramble, Withdraw, Reopen}
 use Rattle.texts.specs.declared.command.Entered.{Entered}
 use Rattle.texts.specs.declared.command.Entered.TheVariants as entered
 use Rattle.texts.specs.declared.command.Settings.{Settings}
 use Rattle.texts.specs.declared.reading.CommandFault.{CommandFault}
-use Rattle.texts.specs.Spelling.{IsFit, IsFitSettings, IsFitAdvance, IsEntered}
+use Rattle.texts.specs.Spelling.{IsFit, IsFitCutoff, IsFitLimit, IsFitSettings, IsFitAdvance}
+use Rattle.texts.specs.Spelling.{IsEntered}
+use Rattle.texts.specs.Fields.{round_id}
 use Rattle.texts.specs.Reading.{command_of}
-use Rattle.texts.specs.Editions.{edition_of}
-use Rattle.commands.specs.Accepted.{is_of, scramble_by, name_given, name_of, is_registered, settled}
-use Rattle.commands.specs.Accepted.{edition_in, who_advance, round_in, round_of, refusal}
-use Rattle.commands.specs.Accepted.{enter_code, enter_refusal}
+use Rattle.texts.specs.Editions.{is_spelled_in}
+use Rattle.commands.specs.Accepted.{is_of, opening, scramble_by, name_given, renaming, name_of}
+use Rattle.commands.specs.Accepted.{is_registered, settled, is_withdrawal, edition_in, who_advance}
+use Rattle.commands.specs.Accepted.{who_wait, round_in, round_of, refusal, enter_code}
+use Rattle.commands.specs.Accepted.{enter_refusal, withdraw_code, withdraw_refusal}
 use Rattle.commands.specs.model.Kept.{with_attempt, with_correction, with_strike, with_advance}
-use Rattle.commands.specs.model.Kept.{with_end, with_entry, newcomer}
+use Rattle.commands.specs.model.Kept.{with_end, with_entry, with_settings, with_exit}
+use Rattle.commands.specs.model.Kept.{with_reopening, newcomer, first_of_all, waiting_of}
 use Rattle.commands.specs.History.{History, nothing, is_seen, added_read, spelled_refusal}
 use Rattle.commands.specs.History.{read_refusal, after, history}
-use Rattle.commands.proofs.Lookups.{first_push}
-use Rattle.texts.proofs.FieldSpellings.{name_short}
+use Rattle.commands.proofs.Lookups.{some≢none, stands, standing_push}
+use Rattle.texts.proofs.NameRoom.{name_room, new_name_room}
 use Rattle.commands.proofs.EachCommand.{opening_table, round_open, round_enter, round_scramble}
 use Rattle.commands.proofs.EachCommand.{round_attempt, round_correct, round_strike, round_advance}
-use Rattle.commands.proofs.EachCommand.{round_close, round_register, round_edition}
+use Rattle.commands.proofs.EachCommand.{round_close, round_register, round_edition, round_rename}
+use Rattle.commands.proofs.EachCommand.{round_settings, round_rescramble, round_reopen}
+use Rattle.commands.proofs.Exits.{waiting_same, waiting_exit, waiting_open, round_exit}
 use Rattle.commands.proofs.OneMore.{with_table}
 use Rattle.texts.proofs.Words.{spelled_only}
 
@@ -69,10 +80,19 @@ pub record IsSmallRound (r : ℕ) (x : Settings × Table) : Type 0 where
   pub few : length x.1.entrants ≤ 999
   pub entrants : AllByRecursion IsSmallEntrant x.1.entrants
 
--- the names that commands give are short, and the rounds that they make are small
+-- a name has at most 160 bytes, each double quote in it counted twice
+abbrev pub IsSmallName : List ℕ → Type 0
+IsSmallName name = length name + count_by (λ b. b == 34) name ≤ 160
+
+abbrev pub AreSmallNumbers : List ℕ → Type 0
+AreSmallNumbers ns = AllByRecursion (λ n. n ≤ 9999) ns
+
+-- the names that commands give are short, the rounds that they make are small, and so are the
+-- numbers of those who wait for a place
 pub record IsSmall (cs : List Command) : Type 0 where
-  pub names : (n : ℕ) → IfSome (name_of cs n) (λ name. length name ≤ 80)
+  pub names : (n : ℕ) → IfSome (name_of cs n) IsSmallName
   pub rounds : (e : Event) (r : ℕ) → IfSome (round_of cs e r) (IsSmallRound r)
+  pub waiting : (e : Event) (r : ℕ) → IfSome (waiting_of cs e r) AreSmallNumbers
 
 -- Lists
 
@@ -291,6 +311,22 @@ advance_small r advance fits x h =
       entrants = h.entrants;
     }
 
+settings_small : (r : ℕ) (format : Format) (cutoff : Option (ℕ × ℕ)) (limit : Option ℕ)
+    → IsFitCutoff cutoff → IsFitLimit limit → (x : Settings × Table)
+    → IsSmallRound r x → IsSmallRound r (with_settings format cutoff limit x)
+settings_small r format cutoff limit fit_cutoff fit_limit x h =
+    record {
+      last = h.last;
+      settings = (fit_cutoff, fit_limit, h.settings.2);
+      few = h.few;
+      entrants = h.entrants;
+    }
+
+reopening_small : (r : ℕ) (x : Settings × Table) → IsSmallRound r x
+    → IsSmallRound r (with_reopening x)
+reopening_small r x h =
+    record { last = h.last; settings = h.settings; few = h.few; entrants = h.entrants }
+
 end_small : (r : ℕ) (x : Settings × Table) → IsSmallRound r x → IsSmallRound r (with_end x)
 end_small r x h =
     record { last = h.last; settings = h.settings; few = h.few; entrants = h.entrants }
@@ -306,8 +342,72 @@ entry_small r n fits x room h = record {
       (record { number = fits; values = tt }, tt);
 }
 
-some≢none : {X : Type 0} (x : X) → Some x ≡ None → ⊥
-some≢none x h = false≢true (sym (ap is_some h))
+-- who is found leaves one entrant less
+found_left : (n : ℕ) (e : Entrant) (es : List Entrant) → find (has_number n) es ≡ Some e
+    → length (filter (λ x. not (has_number n x)) es) < length es
+found_left n e [] h = absurd (some≢none e (sym h))
+found_left n e (x ∷ es) h = step (has_number n x) refl h (found_left n e es)
+  where
+    rest : List Entrant
+    rest = filter (λ y. not (has_number n y)) es
+
+    step : (b : Bool) → has_number n x ≡ b → cond b (Some x) (find (has_number n) es) ≡ Some e
+        → (find (has_number n) es ≡ Some e → length rest < length es)
+        → length (cond (not (has_number n x)) (x ∷ rest) rest) < length (x ∷ es)
+    step true is h later =
+        let fewer : length rest ≤ length es =
+        omega (
+          arith,
+          length-filter (λ y. not (has_number n y)) es,
+          count_by-le-length (λ y. not (has_number n y)) es,
+        ) in
+        let here : length (cond (not (has_number n x)) (x ∷ rest) rest) ≡ length rest =
+        ap (λ (b : Bool). length (cond (not b) (x ∷ rest) rest)) is in
+        omega (arith, fewer, here)
+    step false is h later =
+        let less = later h in
+        let here : length (cond (not (has_number n x)) (x ∷ rest) rest) ≡ length (x ∷ rest) =
+        ap (λ (b : Bool). length (cond (not b) (x ∷ rest) rest)) is in
+        omega (arith, less, here)
+
+-- a withdrawal that is not refused finds its entrant
+leaves : (n : ℕ) (t : Table) → option_and_then withdraw_code (withdraw_fault t n) ≡ None
+    → (e : Entrant) × (entrant t n ≡ Some e)
+leaves n t h = step t.is_closed (entrant t n) refl h
+  where
+    step : (b : Bool) (o : Option Entrant) → entrant t n ≡ o
+        → option_and_then withdraw_code (cond b (Some withdraw.Closed) (leave_fault o)) ≡ None
+        → (e : Entrant) × (entrant t n ≡ Some e)
+    step true o is h = absurd (some≢none code.Closed h)
+    step false None is h = absurd (some≢none code.NotEntered h)
+    step false (Some e) is h = (e, is)
+
+exit_small : (r n : ℕ) (next : Option ℕ) → IfSome next (λ m. m ≤ 9999) → (x : Settings × Table)
+    → option_and_then withdraw_code (withdraw_fault x.1 n) ≡ None
+    → IsSmallRound r x → IsSmallRound r (with_exit n next x)
+exit_small r n None fits x allowed h =
+    let found = leaves n x.1 allowed in
+    let fewer = found_left n found.0 x.1.entrants found.1 in
+    record {
+      last = h.last;
+      settings = h.settings;
+      few = omega (arith, fewer, h.few);
+      entrants =
+          all_filter IsSmallEntrant (λ y. not (has_number n y)) x.1.entrants h.entrants;
+    }
+exit_small r n (Some m) fits x allowed h =
+    let found = leaves n x.1 allowed in
+    let fewer = found_left n found.0 x.1.entrants found.1 in
+    let left : List Entrant = filter (λ y. not (has_number n y)) x.1.entrants in
+    record {
+      last = h.last;
+      settings = h.settings;
+      few = omega (arith, fewer, h.few, length-append left (newcomer m ∷ []));
+      entrants =
+          all_append IsSmallEntrant left (newcomer m ∷ [])
+          (all_filter IsSmallEntrant (λ y. not (has_number n y)) x.1.entrants h.entrants)
+          (record { number = fits; values = tt }, tt);
+    }
 
 -- a table that takes an entry has room for it
 has_room : (n : ℕ) (t : Table) → option_and_then enter_code (enter_fault t n) ≡ None
@@ -353,6 +453,13 @@ advance_numbers r (Some x) h =
     all_filter (λ n. n ≤ 9999) (goes_on x.1 x.0.advance) (standings x.1)
     (standings_small x.1 h.entrants)
 
+wait_numbers : (r : ℕ) (x : Option (Settings × Table)) → IfSome x (IsSmallRound r)
+    → AreSmallNumbers (who_wait x)
+wait_numbers r None h = tt
+wait_numbers r (Some x) h =
+    all_filter (λ n. n ≤ 9999) (stays_out x.1 x.0.advance) (standings x.1)
+    (standings_small x.1 h.entrants)
+
 opening_small : (e : Event) (r : ℕ) (settings : Settings) (cs : List Command) → r ≤ 4
     → IsFitSettings settings → IsSmall cs
     → IsSmallRound r (with_table settings (opening_table e r settings cs))
@@ -387,33 +494,135 @@ changed r true change (Some y) h f = f y h
 changed r false change x h f = h
 
 abbrev HasShortName : Command → Type 0
-HasShortName c = (n : ℕ) → IfSome (name_given n c) (λ name. length name ≤ 80)
+HasShortName c =
+    (n : ℕ) → IfSome (name_given n c) IsSmallName × IfSome (renaming n c) IsSmallName
 
--- one more command that gives no long name and makes no large round
+stands_small : (given other old : Option (List ℕ)) → IfSome given IsSmallName
+    → IfSome other IsSmallName → IfSome old IsSmallName
+    → IfSome (stands given other old) IsSmallName
+stands_small given other None g o h = g
+stands_small given None (Some x) g o h = h
+stands_small given (Some y) (Some x) g o h = o
+
+-- one more command that gives no long name, makes no large round and lets nobody else wait
 small_with : (cs : List Command) (c : Command) → HasShortName c
-    → ((e : Event) (r : ℕ) → IfSome (round_of (cs ++ c ∷ []) e r) (IsSmallRound r)) → IsSmall cs
+    → ((e : Event) (r : ℕ) → IfSome (round_of (cs ++ c ∷ []) e r) (IsSmallRound r))
+    → ((e : Event) (r : ℕ) → IfSome (waiting_of (cs ++ c ∷ []) e r) AreSmallNumbers) → IsSmall cs
     → IsSmall (cs ++ c ∷ [])
-small_with cs c named rounds h = record {
+small_with cs c named rounds waiting h = record {
   names =
       λ n.
-      subst (λ o. IfSome o (λ (name : List ℕ). length name ≤ 80))
-      (sym (first_push (name_given n) cs c))
-      (either (λ (name : List ℕ). length name ≤ 80) (name_of cs n) (name_given n c) (h.names n)
-      (named n));
+      subst (λ o. IfSome o IsSmallName)
+      (sym (standing_push (name_given n) (renaming n) cs c))
+      (stands_small (name_given n c) (renaming n c) (name_of cs n) (named n).0 (named n).1
+      (h.names n));
   rounds = rounds;
+  waiting = waiting;
 }
+
+-- who waits is no other after a command by which nobody withdraws and that opens no round
+waits_still : (cs : List Command) (c : Command)
+    → ((e : Event) (r : ℕ) → opening e r c ≡ None)
+    → ((e : Event) (r : ℕ) → is_withdrawal e r c ≡ false) → IsSmall cs
+    → (e : Event) (r : ℕ) → IfSome (waiting_of (cs ++ c ∷ []) e r) AreSmallNumbers
+waits_still cs c opens stay h e r =
+    subst (λ o. IfSome o AreSmallNumbers) (sym (waiting_same e r cs c (opens e r) (stay e r)))
+    (h.waiting e r)
 
 -- by what the round is after the command
 round_is : (r : ℕ) (new old : Option (Settings × Table)) → new ≡ old → IfSome old (IsSmallRound r)
     → IfSome new (IsSmallRound r)
 round_is r new old is h = subst (λ o. IfSome o (IsSmallRound r)) (sym is) h
 
-register_small : (n : ℕ) (name : List ℕ) → length name ≤ 80 → HasShortName (Register n name)
-register_small n name short m = step (n == m)
+given_small : (name : List ℕ) → IsSmallName name → (b : Bool)
+    → IfSome (cond b (Some name) None) IsSmallName
+given_small name short true = short
+given_small name short false = tt
+
+register_small : (n : ℕ) (name : List ℕ) → IsSmallName name → HasShortName (Register n name)
+register_small n name short m = (given_small name short (n == m), tt)
+
+rename_small : (n : ℕ) (name : List ℕ) → IsSmallName name → HasShortName (Rename n name)
+rename_small n name short m = (tt, given_small name short (n == m))
+
+no_name : (c : Command) → ((n : ℕ) → name_given n c ≡ None) → ((n : ℕ) → renaming n c ≡ None)
+    → HasShortName c
+no_name c given other n = rw (given n, other n) (tt, tt)
+
+exited_small : (cs : List Command) (e f : Event) (r s n : ℕ)
+    → withdraw_refusal n (round_of cs f s) ≡ None → IsSmall cs
+    → IfSome
+    (cond (same_event e f && r == s)
+    (option_map (with_exit n (option_and_then first_of_all (waiting_of cs f s))) (round_of cs e r))
+    (round_of cs e r))
+    (IsSmallRound r)
+exited_small cs e f r s n allowed h = step (same_event e f && r == s) refl
   where
-    step : (b : Bool) → IfSome (cond b (Some name) None) (λ given. length given ≤ 80)
-    step true = short
-    step false = tt
+    first : (w : Option (List ℕ)) → IfSome w AreSmallNumbers
+        → IfSome (option_and_then first_of_all w) (λ m. m ≤ 9999)
+    first None is = tt
+    first (Some []) is = tt
+    first (Some (m ∷ ms)) is = is.0
+
+    there : (x : Option (Settings × Table)) → IfSome x (IsSmallRound r)
+        → withdraw_refusal n x ≡ None
+        → IfSome
+        (option_map (with_exit n (option_and_then first_of_all (waiting_of cs f s))) x)
+        (IsSmallRound r)
+    there None is leaves = tt
+    there (Some x) is leaves =
+        exit_small r n (option_and_then first_of_all (waiting_of cs f s))
+        (first (waiting_of cs f s) (h.waiting f s)) x leaves is
+
+    step : (b : Bool) → (same_event e f && r == s) ≡ b
+        → IfSome
+        (cond b
+        (option_map (with_exit n (option_and_then first_of_all (waiting_of cs f s)))
+        (round_of cs e r))
+        (round_of cs e r))
+        (IsSmallRound r)
+    step true here =
+        let event : e ≡ f = same_event-equal e f (grind arith) in
+        let round : r ≡ s = eqb-true r s (grind arith) in
+        there (round_of cs e r) (h.rounds e r)
+        (ap (λ (x : Event). withdraw_refusal n (round_of cs x r)) event
+        ∙ ap (λ (k : ℕ). withdraw_refusal n (round_of cs f k)) round ∙ allowed)
+    step false other = h.rounds e r
+
+-- who waits behind the first
+exit_waits : (cs : List Command) (e f : Event) (r s n : ℕ) → IsSmall cs
+    → IfSome (waiting_of (cs ++ Withdraw (round_id f s) n ∷ []) e r) AreSmallNumbers
+exit_waits cs e f r s n h =
+    subst (λ o. IfSome o AreSmallNumbers) (sym (waiting_exit e f r s n cs))
+    (step (same_event e f && r == s) (waiting_of cs e r) (h.waiting e r))
+  where
+    step : (b : Bool) (w : Option (List ℕ)) → IfSome w AreSmallNumbers
+        → IfSome (cond b (option_map (drop 1) w) w) AreSmallNumbers
+    step true None is = tt
+    step true (Some []) is = tt
+    step true (Some (m ∷ ms)) is = is.1
+    step false w is = is
+
+-- who waits once a round is opened
+open_waits : (cs : List Command) (e f : Event) (r s : ℕ) (settings : Settings) → 1 ≤ s → IsSmall cs
+    → IfSome (waiting_of (cs ++ Open (round_id f s) settings ∷ []) e r) AreSmallNumbers
+open_waits cs e f r s settings low h =
+    subst (λ o. IfSome o AreSmallNumbers) (sym (waiting_open e f r s settings cs low))
+    (step (same_event e f && r == s) (waiting_of cs e r) (h.waiting e r))
+  where
+    step : (b : Bool) (w : Option (List ℕ)) → IfSome w AreSmallNumbers
+        → IfSome
+        (option_or w (cond b (Some (who_wait (round_of cs f (s - 1)))) None)) AreSmallNumbers
+    step b (Some ns) is = is
+    step true None is =
+        wait_numbers (s - 1) (round_of cs f (s - 1)) (h.rounds f (s - 1))
+    step false None is = tt
+
+withdraws : (n : ℕ) (b : Bool) (round : Option (Settings × Table))
+    → cond (not b) (Some code.UnknownCompetitor) (withdraw_refusal n round) ≡ None
+    → withdraw_refusal n round ≡ None
+withdraws n true round h = h
+withdraws n false round h = absurd (some≢none code.UnknownCompetitor h)
 
 entered_small : (cs : List Command) (e f : Event) (r n : ℕ) → n ≤ 9999
     → enter_refusal n (round_of cs f 1) ≡ None → IsSmall cs
@@ -460,77 +669,141 @@ opened_small cs e f r s settings last fits h = step (same_event e f && r == s) r
 small_more : (cs : List Command) (c : Command) → IsFit c → refusal cs c ≡ None → IsSmall cs
     → IsSmall (cs ++ c ∷ [])
 small_more cs (Register n name) fits allowed h =
-    small_with cs (Register n name) (register_small n name (name_short name fits.1))
-    (λ e r. round_is r _ _ (round_register e r n name cs) (h.rounds e r)) h
+    small_with cs (Register n name)
+    (register_small n name (name_room name fits.1))
+    (λ e r. round_is r _ _ (round_register e r n name cs) (h.rounds e r))
+    (waits_still cs (Register n name) (λ e r. refl) (λ e r. refl) h)
+    h
+small_more cs (Rename n name) fits allowed h =
+    small_with cs (Rename n name)
+    (rename_small n name (new_name_room name fits.1))
+    (λ e r. round_is r _ _ (round_rename e r n name cs) (h.rounds e r))
+    (waits_still cs (Rename n name) (λ e r. refl) (λ e r. refl) h)
+    h
 small_more cs (Open id settings) fits allowed h =
-    small_with cs (Open id settings) (λ n. tt)
+    small_with cs (Open id settings)
+    (no_name (Open id settings) (λ n. refl) (λ n. refl))
     (λ e r.
     round_is r _ _ (round_open e id.event r id.round settings cs fits.0.0)
     (either (IsSmallRound r) _ _ (h.rounds e r)
     (opened_small cs e id.event r id.round settings fits.0.1 fits.1 h)))
+    (λ e r. open_waits cs e id.event r id.round settings fits.0.0 h)
     h
 small_more cs (Enter f n) fits allowed h =
-    let free = enters n (is_registered cs n) (round_of cs f 1) allowed in
-    small_with cs (Enter f n) (λ m. tt)
-    (λ e r. round_is r _ _ (round_enter e f r n cs) (entered_small cs e f r n fits.1 free h)) h
+    small_with cs (Enter f n)
+    (no_name (Enter f n) (λ n. refl) (λ n. refl))
+    (λ e r.
+    round_is r _ _ (round_enter e f r n cs)
+    (entered_small cs e f r n fits.1 (enters n (is_registered cs n) (round_of cs f 1) allowed) h))
+    (waits_still cs (Enter f n) (λ e r. refl) (λ e r. refl) h)
+    h
 small_more cs (Scramble id k moves) fits allowed h =
-    small_with cs (Scramble id k moves) (λ n. tt)
-    (λ e r. round_is r _ _ (round_scramble e id.event r id.round k moves cs) (h.rounds e r)) h
+    small_with cs (Scramble id k moves)
+    (no_name (Scramble id k moves) (λ n. refl) (λ n. refl))
+    (λ e r. round_is r _ _ (round_scramble e id.event r id.round k moves cs) (h.rounds e r))
+    (waits_still cs (Scramble id k moves) (λ e r. refl) (λ e r. refl) h)
+    h
+small_more cs (Rescramble id k moves) fits allowed h =
+    small_with cs (Rescramble id k moves)
+    (no_name (Rescramble id k moves) (λ n. refl) (λ n. refl))
+    (λ e r. round_is r _ _ (round_rescramble e id.event r id.round k moves cs) (h.rounds e r))
+    (waits_still cs (Rescramble id k moves) (λ e r. refl) (λ e r. refl) h)
+    h
 small_more cs (Attempt entry) fits allowed h =
-    let scramble = scramble_by cs entry in
-    small_with cs (Attempt entry) (λ n. tt)
+    small_with cs (Attempt entry)
+    (no_name (Attempt entry) (λ n. refl) (λ n. refl))
     (λ e r.
     round_is r _ _
     (round_attempt e entry.id.event r entry.id.round entry.attempt entry.number entry.outcome cs)
-    (changed r (is_of e r entry.id) (with_attempt entry.number scramble entry.outcome)
+    (changed r (is_of e r entry.id) (with_attempt entry.number (scramble_by cs entry) entry.outcome)
     (round_of cs e r) (h.rounds e r)
-    (attempt_small r entry.number scramble entry.outcome fits.3)))
+    (attempt_small r entry.number (scramble_by cs entry) entry.outcome fits.3)))
+    (waits_still cs (Attempt entry) (λ e r. refl) (λ e r. refl) h)
     h
 small_more cs (Correct entry) fits allowed h =
-    let scramble = scramble_by cs entry in
-    small_with cs (Correct entry) (λ n. tt)
+    small_with cs (Correct entry)
+    (no_name (Correct entry) (λ n. refl) (λ n. refl))
     (λ e r.
     round_is r _ _
     (round_correct e entry.id.event r entry.id.round entry.attempt entry.number entry.outcome cs)
     (changed r (is_of e r entry.id)
-    (with_correction entry.number entry.attempt scramble entry.outcome) (round_of cs e r)
-    (h.rounds e r) (correction_small r entry.number entry.attempt scramble entry.outcome fits.3)))
+    (with_correction entry.number entry.attempt (scramble_by cs entry) entry.outcome)
+    (round_of cs e r) (h.rounds e r)
+    (correction_small r entry.number entry.attempt (scramble_by cs entry) entry.outcome fits.3)))
+    (waits_still cs (Correct entry) (λ e r. refl) (λ e r. refl) h)
     h
 small_more cs (Strike id m) fits allowed h =
-    small_with cs (Strike id m) (λ n. tt)
+    small_with cs (Strike id m)
+    (no_name (Strike id m) (λ n. refl) (λ n. refl))
     (λ e r.
     round_is r _ _ (round_strike e id.event r id.round m cs)
     (changed r (is_of e r id) (with_strike m) (round_of cs e r) (h.rounds e r)
     (strike_small r m)))
+    (waits_still cs (Strike id m) (λ e r. refl) (λ e r. refl) h)
     h
 small_more cs (SetAdvance id advance) fits allowed h =
-    small_with cs (SetAdvance id advance) (λ n. tt)
+    small_with cs (SetAdvance id advance)
+    (no_name (SetAdvance id advance) (λ n. refl) (λ n. refl))
     (λ e r.
     round_is r _ _ (round_advance e id.event r id.round advance cs)
     (changed r (is_of e r id) (with_advance advance) (round_of cs e r) (h.rounds e r)
     (advance_small r advance fits.1)))
+    (waits_still cs (SetAdvance id advance) (λ e r. refl) (λ e r. refl) h)
+    h
+small_more cs (SetRound id format cutoff limit) fits allowed h =
+    small_with cs (SetRound id format cutoff limit)
+    (no_name (SetRound id format cutoff limit) (λ n. refl) (λ n. refl))
+    (λ e r.
+    round_is r _ _ (round_settings e id.event r id.round format cutoff limit cs)
+    (changed r (is_of e r id) (with_settings format cutoff limit) (round_of cs e r) (h.rounds e r)
+    (settings_small r format cutoff limit fits.1 fits.2)))
+    (waits_still cs (SetRound id format cutoff limit) (λ e r. refl) (λ e r. refl) h)
     h
 small_more cs (Close id) fits allowed h =
-    small_with cs (Close id) (λ n. tt)
+    small_with cs (Close id)
+    (no_name (Close id) (λ n. refl) (λ n. refl))
     (λ e r.
     round_is r _ _ (round_close e id.event r id.round cs)
-    (changed r (is_of e r id) with_end (round_of cs e r) (h.rounds e r) (end_small r)))
+    (changed r (is_of e r id) with_end (round_of cs e r) (h.rounds e r)
+    (end_small r)))
+    (waits_still cs (Close id) (λ e r. refl) (λ e r. refl) h)
+    h
+small_more cs (Reopen id) fits allowed h =
+    small_with cs (Reopen id)
+    (no_name (Reopen id) (λ n. refl) (λ n. refl))
+    (λ e r.
+    round_is r _ _ (round_reopen e id.event r id.round cs)
+    (changed r (is_of e r id) with_reopening (round_of cs e r) (h.rounds e r)
+    (reopening_small r)))
+    (waits_still cs (Reopen id) (λ e r. refl) (λ e r. refl) h)
+    h
+small_more cs (Withdraw id n) fits allowed h =
+    small_with cs (Withdraw id n)
+    (no_name (Withdraw id n) (λ n. refl) (λ n. refl))
+    (λ e r.
+    round_is r _ _ (round_exit e id.event r id.round n cs)
+    (exited_small cs e id.event r id.round n
+    (withdraws n (is_registered cs n) (round_of cs id.event id.round) allowed) h))
+    (λ e r. exit_waits cs e id.event r id.round n h)
     h
 small_more cs (SetEdition edition) fits allowed h =
-    small_with cs (SetEdition edition) (λ n. tt)
-    (λ e r. round_is r _ _ (round_edition e r edition cs) (h.rounds e r)) h
+    small_with cs (SetEdition edition)
+    (no_name (SetEdition edition) (λ n. refl) (λ n. refl))
+    (λ e r. round_is r _ _ (round_edition e r edition cs) (h.rounds e r))
+    (waits_still cs (SetEdition edition) (λ e r. refl) (λ e r. refl) h)
+    h
 
 -- Entries
 
-not_refused : (later : Bool) (refused : Option Code)
-    → cond later (Some code.Unread) refused ≡ None → refused ≡ None
-not_refused true refused h = absurd (some≢none code.Unread h)
-not_refused false refused h = h
+not_refused : (spelled : Bool) (refused : Option Code)
+    → cond spelled refused (Some code.Unread) ≡ None → refused ≡ None
+not_refused true refused h = h
+not_refused false refused h = absurd (some≢none code.Unread h)
 
 small_answered : (cs : List Command) (c : Command) → IsFit c → IsSmall cs → (refused : Option Code)
     → spelled_refusal cs c ≡ refused → IsSmall (cs ++ added_read refused (Ok c))
 small_answered cs c fits h None is =
-    small_more cs c fits (not_refused (nat_lt (edition_in cs) (edition_of c)) (refusal cs c) is) h
+    small_more cs c fits (not_refused (is_spelled_in (edition_in cs) c) (refusal cs c) is) h
 small_answered cs c fits h (Some why) is = subst IsSmall (sym (append-nil cs)) h
 
 small_read : (cs : List Command) (read : Result Command CommandFault) → IfOk read IsFit → IsSmall cs
@@ -566,6 +839,10 @@ small_fold h [] small = small
 small_fold h (entry ∷ entries) small =
     small_fold (after h entry.0 entry.1) entries (small_after h entry.0 entry.1 small)
 
+nobody_waits : (e : Event) (r : ℕ) → IfSome (waiting_of [] e r) AreSmallNumbers
+nobody_waits e zero = tt
+nobody_waits e (suc r) = tt
+
 none_opened : (e : Event) (r : ℕ) → IfSome (round_of [] e r) (IsSmallRound r)
 unfolding round_in
 none_opened e zero = tt
@@ -574,4 +851,5 @@ none_opened e (suc r) = tt
 -- what a list of entries comes to is small
 pub small_history : (entries : List (ℕ × List ℕ)) → IsSmall (history entries).accepted
 small_history entries =
-    small_fold nothing entries (record { names = λ n. tt; rounds = none_opened })
+    small_fold nothing entries
+    (record { names = λ n. tt; rounds = none_opened; waiting = nobody_waits })

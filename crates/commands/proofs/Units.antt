@@ -14,7 +14,7 @@ use Rattle.texts.specs.declared.command.Command.{Command}
 use Rattle.texts.specs.declared.command.Entered.{Entered}
 use Rattle.texts.specs.declared.command.Settings.{Settings}
 use Rattle.rounds.specs.Tables.{Table}
-use Rattle.commands.specs.Accepted.{Opened, opened, round_at, who_advance, round_in, round_of}
+use Rattle.commands.specs.Accepted.{Opened, opened, round_at, round_in, round_of}
 use Rattle.commands.specs.Accepted.{is_multi, is_wrong, lacks_scramble, unfit_refusal}
 use Rattle.commands.specs.declared.index.Index.{Index}
 use Rattle.commands.specs.model.Kept.{kept_round, IsIndexOf, HasUnit}
@@ -32,7 +32,7 @@ round_unit cs e (suc r) = step (opened e (suc r) [] cs)
   where
     step : (o : Option Opened)
         → HasUnit e
-        (option_map (λ x. round_at e (suc r) (who_advance (round_in e r x.before)) x) o)
+        (option_map (λ x. round_at e (suc r) (round_in e r x.before) x) o)
     step None = tt
     step (Some o) = refl
 

@@ -1,26 +1,23 @@
--- What a list of accepted commands says: who is registered, which rounds were opened, what was done
--- in them, and why a further command is refused. The checks and their order are this project's own;
--- a rule of the WCA Regulations is named with its article.
+-- What a list of accepted commands says in edition 3: who is registered under which name, which
+-- rounds were opened, what was done in them, who left and who took a place, and why a further
+-- command is refused. The checks and their order are this project's own; a rule of the WCA
+-- Regulations is named with its article. What edition 3 keeps as it was, it takes from edition 2.
 use Rattle.std.specs.Prelude.{ℕ, zero, suc, ◌+◌, ◌-◌, Bool, true, false, not, ◌==◌, ◌&&◌, nat_lt}
 use Rattle.std.specs.Prelude.{nat_le, if◌then◌else◌, List, [], ◌∷◌, ◌++◌, map, unwrap_or, bytes_eq}
-use Rattle.std.specs.Prelude.{option_to_list, is_some, Option, None, Some}
-use Rattle.std.specs.List.{list_any, range_with_len}
-use Rattle.std.specs.Option.{option_or, option_map, option_and_then}
+use Rattle.std.specs.Prelude.{option_to_list, is_some, filter, count_by, slice_get, Option, None}
+use Rattle.std.specs.Prelude.{Some}
+use Rattle.std.specs.List.{list_any}
+use Rattle.std.specs.Option.{option_or, option_map, option_map_or, option_and_then}
 use Rattle.cube.specs.declared.moves.Move.{Move}
-use Rattle.fmc_check.specs.Fewest.{result_of}
-use Rattle.attempts.specs.Attempts.{value_of}
-use Rattle.attempts.specs.declared.Outcome.{Outcome}
-use Rattle.attempts.specs.declared.Outcome.TheVariants as outcome
 use Rattle.attempts.specs.declared.Value.{Value}
-use Rattle.attempts.specs.declared.Unit.{Unit as Measure}
-use Rattle.attempts.specs.declared.Unit.TheVariants as measure
 use Rattle.formats.specs.declared.events.Event.{Event}
 use Rattle.formats.specs.declared.events.Format.{Format}
-use Rattle.formats.specs.Events.{same_event, unit_of, is_allowed, attempts_of}
+use Rattle.formats.specs.Events.{same_event, unit_of, is_allowed}
 use Rattle.texts.specs.declared.command.Command.{Command}
 use Rattle.texts.specs.declared.command.Command.TheVariants.{Register, Open, Enter, Scramble}
 use Rattle.texts.specs.declared.command.Command.TheVariants.{Attempt, Correct, Strike, SetAdvance}
-use Rattle.texts.specs.declared.command.Command.TheVariants.{Close, SetEdition}
+use Rattle.texts.specs.declared.command.Command.TheVariants.{Close, SetEdition, Rename, SetRound}
+use Rattle.texts.specs.declared.command.Command.TheVariants.{Rescramble, Withdraw, Reopen}
 use Rattle.texts.specs.declared.command.RoundId.{RoundId}
 use Rattle.texts.specs.declared.command.AttemptEntry.{AttemptEntry}
 use Rattle.texts.specs.declared.command.Entered.{Entered}
@@ -28,83 +25,82 @@ use Rattle.texts.specs.declared.command.Entered.TheVariants as entered
 use Rattle.texts.specs.declared.command.Settings.{Settings}
 use Rattle.texts.specs.declared.answer.Code.{Code}
 use Rattle.texts.specs.declared.answer.Code.TheVariants as code
-use Rattle.rounds.specs.declared.fault.EnterFault.{EnterFault}
-use Rattle.rounds.specs.declared.fault.EnterFault.TheVariants as enter
-use Rattle.rounds.specs.declared.fault.PutFault.{PutFault}
-use Rattle.rounds.specs.declared.fault.PutFault.TheVariants as put
-use Rattle.rounds.specs.declared.fault.CorrectFault.{CorrectFault}
-use Rattle.rounds.specs.declared.fault.CorrectFault.TheVariants as correct
-use Rattle.rounds.specs.declared.fault.StrikeFault.{StrikeFault}
-use Rattle.rounds.specs.declared.fault.StrikeFault.TheVariants as strike
-use Rattle.rounds.specs.declared.fault.CloseFault.{CloseFault}
-use Rattle.rounds.specs.declared.fault.CloseFault.TheVariants as close
-use Rattle.rounds.specs.Tables.{Entrant, Table, enter_fault, put_fault, replaced, correct_fault}
-use Rattle.rounds.specs.Tables.{without_last, strike_fault, started, close_fault}
-use Rattle.formats.specs.declared.advance.Advance.{Advance}
-use Rattle.formats.specs.declared.advance.Advance.TheVariants.{Final, Top, Percent}
-use Rattle.advancement.specs.Advancing.{later_rounds, advancing}
+use Rattle.rounds.specs.declared.fault.WithdrawFault.{WithdrawFault}
+use Rattle.rounds.specs.declared.fault.WithdrawFault.TheVariants as withdraw
+use Rattle.rounds.specs.declared.fault.RulesFault.{RulesFault}
+use Rattle.rounds.specs.declared.fault.RulesFault.TheVariants as rules
+use Rattle.rounds.specs.declared.fault.ReopenFault.{ReopenFault}
+use Rattle.rounds.specs.declared.fault.ReopenFault.TheVariants as reopen
+use Rattle.rounds.specs.Tables.{Entrant, Table, replaced}
+use Rattle.rounds.specs.Tables.{without_last, withdraw_fault}
+use Rattle.rounds.specs.Tables.{has_done, rules_fault, reopen_fault, entrant, standings}
+use Rattle.advancement.specs.Advancing.{holds_of}
+use Rattle.advancement.specs.Waiting.{waiting}
+pub use Rattle.commands.specs.SecondEdition.{Opened, advance_refusal, breaks_rounds_rule}
+pub use Rattle.commands.specs.SecondEdition.{close_code, close_refusal, competitors_of}
+pub use Rattle.commands.specs.SecondEdition.{correct_code, correct_refusal, edition_after}
+pub use Rattle.commands.specs.SecondEdition.{edition_in, edition_set, end_refusal, enter_code}
+pub use Rattle.commands.specs.SecondEdition.{enter_refusal, entered_refusal, has_too_few}
+pub use Rattle.commands.specs.SecondEdition.{is_cutoff, is_final, is_limit, is_moves, is_multi}
+pub use Rattle.commands.specs.SecondEdition.{is_of, is_time, is_wrong, lacks_scramble, leads_on}
+pub use Rattle.commands.specs.SecondEdition.{name_given, opened, opening, outcome_of, put_code}
+pub use Rattle.commands.specs.SecondEdition.{put_refusal, scramble_refusal, scrambling, settled}
+pub use Rattle.commands.specs.SecondEdition.{solved_under, strike_code, strike_refusal}
+pub use Rattle.commands.specs.SecondEdition.{unfit_refusal, who_advance}
 
 -- Competitors
 
--- the name that a command gives a number
-abbrev pub name_given : ℕ → Command → Option (List ℕ)
-name_given n (Register m name) = if m == n then Some name else None
-name_given n _ = None
+-- what the last command to say something says
+abbrev pub last_of : {A : Type 0} → (Command → Option A) → List Command → Option A
+last_of f [] = None
+last_of f (c ∷ cs) = option_or (last_of f cs) (f c)
 
--- what the first command to say something says
-abbrev pub first_of : {A : Type 0} → (Command → Option A) → List Command → Option A
-first_of f [] = None
-first_of f (c ∷ cs) = option_or (f c) (first_of f cs)
+-- what is first given stands, or the last that took its place since
+abbrev pub standing : {A : Type 0} → (Command → Option A) → (Command → Option A) → List Command
+    → Option A
+standing given other [] = None
+standing given other (c ∷ cs) =
+    option_or (option_map (unwrap_or (last_of other cs)) (given c)) (standing given other cs)
 
--- the name under which a number is registered
+-- the other name that a command gives a number
+abbrev pub renaming : ℕ → Command → Option (List ℕ)
+renaming n (Rename m name) = if m == n then Some name else None
+renaming n _ = None
+
+-- the name of a number: the one under which it is registered, or the last other one
 abbrev pub name_of : List Command → ℕ → Option (List ℕ)
-name_of cs n = first_of (name_given n) cs
+name_of cs n = standing (name_given n) (renaming n) cs
 
 abbrev pub is_registered : List Command → ℕ → Bool
 is_registered cs n = is_some (name_of cs n)
 
--- a command registers another number under this name
-abbrev pub names_other : ℕ → List ℕ → Command → Bool
-names_other n name (Register m other) = not (m == n) && bytes_eq name other
-names_other n name _ = false
+-- a number has this name now
+abbrev pub is_called : List Command → ℕ → List ℕ → Bool
+is_called cs n name = option_map_or (bytes_eq name) (name_of cs n) false
+
+-- a command registers another number, which has this name now
+abbrev pub names_other : List Command → ℕ → List ℕ → Command → Bool
+names_other cs n name (Register m given) = not (m == n) && is_called cs m name
+names_other cs n name _ = false
+
+-- another number has this name now
+abbrev pub is_taken : List Command → ℕ → List ℕ → Bool
+is_taken cs n name = list_any (names_other cs n name) cs
 
 -- Rounds
 
--- a round is that of an event and a number
-abbrev pub is_of : Event → ℕ → RoundId → Bool
-is_of e r id = same_event e id.event && r == id.round
+-- the scramble that a command puts in the place of an attempt's
+abbrev pub rescrambling : Event → ℕ → ℕ → Command → Option (List Move)
+rescrambling e r k (Rescramble id j moves) = if is_of e r id && k == j then Some moves else None
+rescrambling e r k _ = None
 
--- a round that was opened: the commands before its opening, the settings that it was opened with,
--- and the commands since
-pub record Opened : Type 0 where
-  pub before : List Command
-  pub settings : Settings
-  pub since : List Command
+-- the scramble of an attempt, by the commands since its round was opened: the first that was set
+-- for it, or the last that took its place
+abbrev pub scramble_in : Event → ℕ → ℕ → List Command → Option (List Move)
+scramble_in e r k cs = standing (scrambling e r k) (rescrambling e r k) cs
 
--- the settings with which a command opens a round
-abbrev pub opening : Event → ℕ → Command → Option Settings
-opening e r (Open id settings) = if is_of e r id then Some settings else None
-opening e r _ = None
-
--- a round as the first command to open it opened it; `earlier` are the commands in front of these
-abbrev pub opened : Event → ℕ → List Command → List Command → Option Opened
-opened e r earlier [] = None
-opened e r earlier (c ∷ cs) =
-    option_or (option_map (λ settings. record {
-      before =
-          earlier;
-      settings = settings;
-      since = cs;
-    }) (opening e r c)) (opened e r (earlier ++ c ∷ []) cs)
-
--- the scramble that a command sets for an attempt
-abbrev pub scrambling : Event → ℕ → ℕ → Command → Option (List Move)
-scrambling e r k (Scramble id j moves) = if is_of e r id && k == j then Some moves else None
-scrambling e r k _ = None
-
--- the scramble of an attempt: the first that was set for it since its round was opened
 abbrev pub scramble_since : Event → ℕ → ℕ → Opened → Option (List Move)
-scramble_since e r k o = first_of (scrambling e r k) o.since
+scramble_since e r k o = scramble_in e r k o.since
 
 abbrev pub scramble_of : List Command → Event → ℕ → ℕ → Option (List Move)
 scramble_of cs e r k = option_and_then (scramble_since e r k) (opened e r [] cs)
@@ -113,33 +109,46 @@ scramble_of cs e r k = option_and_then (scramble_since e r k) (opened e r [] cs)
 abbrev pub scramble_by : List Command → AttemptEntry → Option (List Move)
 scramble_by cs entry = scramble_of cs entry.id.event entry.id.round entry.attempt
 
--- the outcome of a solution under a scramble; without a scramble no solution is taken
-abbrev pub solved_under : Option (List Move) → List Move → Outcome
-solved_under None solution = outcome.Dnf
-solved_under (Some scramble) solution = outcome.Solution (result_of scramble solution)
+-- the settings of a round after one more command: others may be set, and another advance
+abbrev pub settings_by : Event → ℕ → Command → Settings → Settings
+settings_by e r (SetAdvance id advance) settings =
+    if is_of e r id then record settings { advance = advance } else settings
+settings_by e r (SetRound id format cutoff limit) settings =
+    if is_of e r id
+    then record settings { format = format; cutoff = cutoff; limit = limit } else settings
+settings_by e r _ settings = settings
 
--- what was entered, a solution by its result under the attempt's scramble
-abbrev pub outcome_of : Option (List Move) → Entered → Outcome
-outcome_of scramble (entered.Time time penalties) = outcome.Time time penalties
-outcome_of scramble (entered.Solution solution) = solved_under scramble solution
-outcome_of scramble (entered.Multi solved attempted seconds) =
-    outcome.Multi solved attempted seconds
-outcome_of scramble entered.Dnf = outcome.Dnf
-outcome_of scramble entered.Dns = outcome.Dns
+-- the settings of a round that was opened with these, after more commands, one after the other
+abbrev pub settings_after : Event → ℕ → Settings → List Command → Settings
+settings_after e r settings [] = settings
+settings_after e r settings (c ∷ cs) = settings_after e r (settings_by e r c settings) cs
 
--- the value of what was entered, under the round's limit and the attempt's scramble
-abbrev pub settled : Settings → Option (List Move) → Entered → Value
-settled settings scramble x = value_of settings.limit (outcome_of scramble x)
+-- a command takes an entrant out of a round
+abbrev pub is_withdrawal : Event → ℕ → Command → Bool
+is_withdrawal e r (Withdraw id n) = is_of e r id
+is_withdrawal e r _ = false
 
--- the number that a command enters in a round: entries are for first rounds
-abbrev pub entering : Event → ℕ → Command → Option ℕ
-entering e r (Enter f n) = if same_event e f && r == 1 then Some n else None
-entering e r _ = None
+-- a command takes this number out of a round
+abbrev pub takes_out : Event → ℕ → ℕ → Command → Bool
+takes_out e r n (Withdraw id m) = is_of e r id && m == n
+takes_out e r n _ = false
 
--- the value that is entered for an attempt, under the scramble that these commands set for it
+-- the number that a command enters in a round as its last entrant: entries are for first rounds,
+-- and whoever withdraws from a round gives the place to those who wait for one, each in turn: to
+-- the first of them who was not taken in before (`IsTakenInTurn` of `advancement`). `earlier` are
+-- the commands between the opening and this one.
+abbrev pub entering : Event → ℕ → List ℕ → List Command → Command → Option ℕ
+entering e r waiting earlier (Enter f n) = if same_event e f && r == 1 then Some n else None
+entering e r waiting earlier (Withdraw id n) =
+    if is_of e r id then slice_get waiting (count_by (is_withdrawal e r) earlier) else None
+entering e r waiting earlier _ = None
+
+-- the value that is entered for an attempt, under the settings and the scramble that these commands
+-- leave; the round was opened with `settings`
 abbrev pub value_entered : Event → ℕ → Settings → List Command → AttemptEntry → Value
 value_entered e r settings earlier entry =
-    settled settings (first_of (scrambling e r entry.attempt) earlier) entry.outcome
+    settled (settings_after e r settings earlier) (scramble_in e r entry.attempt earlier)
+    entry.outcome
 
 -- the values of a number after one more command; `earlier` are the commands between the opening and
 -- this one
@@ -167,61 +176,97 @@ abbrev pub entrant_after : Event → ℕ → Settings → List Command → List 
 entrant_after e r settings earlier cs n =
     record { number = n; values = values_after e r settings n earlier [] cs }
 
--- those whom these commands enter, in order of entry, each with the values since the entry
-abbrev pub entrants_after : Event → ℕ → Settings → List Command → List Command → List Entrant
-entrants_after e r settings earlier [] = []
-entrants_after e r settings earlier (c ∷ cs) =
-    option_to_list (option_map (entrant_after e r settings (earlier ++ c ∷ []) cs) (entering e r c))
-    ++ entrants_after e r settings (earlier ++ c ∷ []) cs
+-- none of these commands takes a number out
+abbrev pub stays : Event → ℕ → List Command → ℕ → Bool
+stays e r cs n = not (list_any (takes_out e r n) cs)
 
--- a command closes a round
-abbrev pub closing : Event → ℕ → Command → Bool
-closing e r (Close id) = is_of e r id
-closing e r _ = false
+-- those of these numbers whom no command takes out, each with the values since the entry
+abbrev pub entrants_left : Event → ℕ → Settings → List Command → List Command → List ℕ
+    → List Entrant
+entrants_left e r settings earlier cs ns =
+    map (entrant_after e r settings earlier cs) (filter (stays e r cs) ns)
 
--- the advance that a command gives a round
-abbrev pub advance_given : Event → ℕ → Command → Option Advance
-advance_given e r (SetAdvance id advance) = if is_of e r id then Some advance else None
-advance_given e r _ = None
+-- those whom these commands enter and do not take out, in order of entry; the others wait for a
+-- place
+abbrev pub entrants_after : Event → ℕ → Settings → List ℕ → List Command → List Command
+    → List Entrant
+entrants_after e r settings waiting earlier [] = []
+entrants_after e r settings waiting earlier (c ∷ cs) =
+    entrants_left e r settings (earlier ++ c ∷ []) cs
+    (option_to_list (entering e r waiting earlier c))
+    ++ entrants_after e r settings waiting (earlier ++ c ∷ []) cs
 
--- the advance after more commands: the last that was given
-abbrev pub advance_after : Event → ℕ → Advance → List Command → Advance
-advance_after e r advance [] = advance
-advance_after e r advance (c ∷ cs) = advance_after e r (unwrap_or (advance_given e r c) advance) cs
+-- whether a command leaves a round closed, where it closes it or opens it again
+abbrev pub closing : Event → ℕ → Command → Option Bool
+closing e r (Close id) = if is_of e r id then Some true else None
+closing e r (Reopen id) = if is_of e r id then Some false else None
+closing e r _ = None
+
+-- a round is closed where the last of these commands to close it or to open it again closed it
+abbrev pub is_ended : Event → ℕ → List Command → Bool
+is_ended e r cs = unwrap_or (last_of (closing e r) cs) false
 
 -- the settings of a round that was opened, as they stand now
 abbrev pub settings_now : Event → ℕ → Opened → Settings
-settings_now e r o = record o.settings { advance = advance_after e r o.settings.advance o.since }
+settings_now e r o = settings_after e r o.settings o.since
 
--- the table of a round that was opened with these entrants: they come before those who were entered
--- since
-abbrev pub table_of : Event → ℕ → List ℕ → Opened → Table
-table_of e r first o = record {
-  format = o.settings.format;
+-- the table of a round that was opened with these entrants, who come before those who were entered
+-- since; and the others wait for a place
+abbrev pub table_of : Event → ℕ → List ℕ → List ℕ → Opened → Table
+table_of e r first waiting o = record {
+  format = (settings_now e r o).format;
   unit = unit_of e;
-  cutoff = o.settings.cutoff;
-  is_closed = list_any (closing e r) o.since;
+  cutoff = (settings_now e r o).cutoff;
+  is_closed = is_ended e r o.since;
   entrants =
-      map (entrant_after e r o.settings [] o.since) first ++ entrants_after e r o.settings []
-      o.since;
+      entrants_left e r o.settings [] o.since first
+      ++ entrants_after e r o.settings waiting [] o.since;
 }
 
-abbrev pub round_at : Event → ℕ → List ℕ → Opened → Settings × Table
-round_at e r first o = (settings_now e r o, table_of e r first o)
+-- those who did not advance from a round and wait for a place in the next, in order of its
+-- standings
+abbrev pub who_wait : Option (Settings × Table) → List ℕ
+who_wait None = []
+who_wait (Some round) = waiting round.1 round.0.advance
 
--- those who advance from a round, in order of its standings
-abbrev pub who_advance : Option (Settings × Table) → List ℕ
-who_advance None = []
-who_advance (Some round) = advancing round.1 round.0.advance
+-- a round, with the one before it as it was at the opening
+abbrev pub round_at : Event → ℕ → Option (Settings × Table) → Opened → Settings × Table
+round_at e r before o =
+    (settings_now e r o, table_of e r (who_advance before) (who_wait before) o)
 
 -- a round: its settings as they stand now, and its table. The entrants of a later round are those
--- who advance from the one before, as the commands before the opening make that one. Rounds are
--- counted from 1.
+-- who advance from the one before, as the commands before the opening make that one, and those who
+-- took a place since. The one before was closed then, and stays so: it cannot be opened again once
+-- the next one is open. Rounds are counted from 1.
 unfoldable pub round_in : Event → ℕ → List Command → Option (Settings × Table)
 round_in e zero cs = None
 round_in e (suc r) cs =
-    option_map (λ o. round_at e (suc r) (who_advance (round_in e r o.before)) o)
-    (opened e (suc r) [] cs)
+    option_map (λ o. round_at e (suc r) (round_in e r o.before) o) (opened e (suc r) [] cs)
+
+-- a solution was entered
+abbrev pub is_solution : Entered → Bool
+is_solution (entered.Solution solution) = true
+is_solution (entered.Time time penalties) = false
+is_solution (entered.Multi solved attempted seconds) = false
+is_solution entered.Dnf = false
+is_solution entered.Dns = false
+
+-- a command enters a solution for attempt k of a number, or something else
+abbrev pub solving : Event → ℕ → ℕ → ℕ → Command → Option Bool
+solving e r k n (Attempt entry) =
+    if is_of e r entry.id && (n == entry.number && k == entry.attempt)
+    then Some (is_solution entry.outcome) else None
+solving e r k n (Correct entry) =
+    if is_of e r entry.id && (n == entry.number && k == entry.attempt)
+    then Some (is_solution entry.outcome) else None
+solving e r k n _ = None
+
+-- what was entered last for attempt k of a number is a solution
+abbrev pub is_solved_since : Event → ℕ → ℕ → ℕ → Opened → Bool
+is_solved_since e r k n o = unwrap_or (last_of (solving e r k n) o.since) false
+
+abbrev pub is_solved : List Command → Event → ℕ → ℕ → ℕ → Bool
+is_solved cs e r k n = option_map_or (is_solved_since e r k n) (opened e r [] cs) false
 
 abbrev pub round_of : List Command → Event → ℕ → Option (Settings × Table)
 round_of cs e r = round_in e r cs
@@ -230,197 +275,80 @@ round_of cs e r = round_in e r cs
 abbrev pub round_by : List Command → RoundId → Option (Settings × Table)
 round_by cs id = round_of cs id.event id.round
 
--- Editions
-
--- the edition that a command sets
-abbrev pub edition_set : Command → Option ℕ
-edition_set (SetEdition edition) = Some edition
-edition_set _ = None
-
--- the edition after more commands: the last that was set
-abbrev pub edition_after : ℕ → List Command → ℕ
-edition_after edition [] = edition
-edition_after edition (c ∷ cs) = edition_after (unwrap_or (edition_set c) edition) cs
-
--- the edition that holds: edition 1 until another is set
-abbrev pub edition_in : List Command → ℕ
-edition_in cs = edition_after 1 cs
-
 -- Checks
 
--- the code for a table's refusal of an entry; want of memory is no answer to a command
-abbrev pub enter_code : EnterFault → Option Code
-enter_code enter.Closed = Some code.Closed
-enter_code enter.Already = Some code.Already
-enter_code enter.Full = Some code.Full
-enter_code enter.NoMemory = None
+-- the code for a table's refusal that an entrant leaves; want of memory is no answer to a command
+abbrev pub withdraw_code : WithdrawFault → Option Code
+withdraw_code withdraw.Closed = Some code.Closed
+withdraw_code withdraw.NotEntered = Some code.NotEntered
+withdraw_code withdraw.HasAttempts = Some code.HasAttempts
+withdraw_code withdraw.NoMemory = None
 
--- the code for a table's refusal of an attempt
-abbrev pub put_code : PutFault → Code
-put_code put.Closed = code.Closed
-put_code put.NotEntered = code.NotEntered
-put_code put.OutOfOrder = code.OutOfOrder
-put_code put.NoMoreAttempts = code.NoMoreAttempts
+-- the code for a table's refusal of other rules
+abbrev pub rules_code : RulesFault → Code
+rules_code rules.Closed = code.Closed
+rules_code rules.HasAttempts = code.HasAttempts
 
--- the code for a table's refusal of a correction
-abbrev pub correct_code : CorrectFault → Code
-correct_code correct.Closed = code.Closed
-correct_code correct.NotEntered = code.NotEntered
-correct_code correct.NoSuchAttempt = code.NoSuchAttempt
-correct_code correct.CutoffLost = code.CutoffLost
+-- the code for a table's refusal to be opened again
+abbrev pub reopen_code : ReopenFault → Code
+reopen_code reopen.NotClosed = code.NotClosed
 
--- the code for a table's refusal to strike an attempt
-abbrev pub strike_code : StrikeFault → Code
-strike_code strike.Closed = code.Closed
-strike_code strike.NotEntered = code.NotEntered
-strike_code strike.NoSuchAttempt = code.NoSuchAttempt
+-- attempt k of the entrant with a number stands, and a solution was entered for it
+abbrev pub has_solved : (ℕ → Bool) → Table → ℕ → ℕ → Bool
+has_solved solved t k n = holds_of (has_done k) (entrant t n) && solved n
 
--- the code for a table's refusal to be closed
-abbrev pub close_code : CloseFault → Code
-close_code close.Closed = code.Closed
-close_code close.Unfinished = code.Unfinished
-
-abbrev pub enter_refusal : ℕ → Option (Settings × Table) → Option Code
-enter_refusal n None = Some code.RoundUnknown
-enter_refusal n (Some round) = option_and_then enter_code (enter_fault round.1 n)
-
--- timed events alone accept times
-abbrev pub is_time : Measure → Bool
-is_time measure.Time = true
-is_time measure.Moves = false
-is_time measure.Multi = false
-
--- fewest moves alone accepts scrambles and solutions
-abbrev pub is_moves : Measure → Bool
-is_moves measure.Moves = true
-is_moves measure.Time = false
-is_moves measure.Multi = false
-
--- multi-blind alone accepts cubes
-abbrev pub is_multi : Measure → Bool
-is_multi measure.Multi = true
-is_multi measure.Time = false
-is_multi measure.Moves = false
-
--- what was entered is not what an event accepts: a time in fewest moves and multi-blind, a solution
--- but in fewest moves, cubes but in multi-blind
-abbrev pub is_wrong : Measure → Entered → Bool
-is_wrong unit (entered.Time time penalties) = not (is_time unit)
-is_wrong unit (entered.Solution solution) = not (is_moves unit)
-is_wrong unit (entered.Multi solved attempted seconds) = not (is_multi unit)
-is_wrong unit entered.Dnf = false
-is_wrong unit entered.Dns = false
-
--- a solution, for an attempt that has no scramble
-abbrev pub lacks_scramble : Option (List Move) → Entered → Bool
-lacks_scramble scramble (entered.Solution solution) = not (is_some scramble)
-lacks_scramble scramble (entered.Time time penalties) = false
-lacks_scramble scramble (entered.Multi solved attempted seconds) = false
-lacks_scramble scramble entered.Dnf = false
-lacks_scramble scramble entered.Dns = false
-
--- the first check of a scramble that fails
-abbrev pub scramble_refusal : Event → ℕ → Option (List Move) → Option (Settings × Table)
-    → Option Code
-scramble_refusal e k scramble None = Some code.RoundUnknown
-scramble_refusal e k scramble (Some round) =
-    if round.1.is_closed then Some code.Closed
-    else if not (is_moves (unit_of e)) then Some code.WrongOutcome
-    else if nat_lt (attempts_of round.0.format) k then Some code.NoSuchAttempt
-    else if is_some scramble then Some code.ScrambleThere
-    else None
-
--- the first check that fails of what was entered, under the scramble that the attempt has
-abbrev pub unfit_refusal : Event → Option (List Move) → Entered → Option Code
-unfit_refusal e scramble x =
-    if is_wrong (unit_of e) x then Some code.WrongOutcome
-    else if lacks_scramble scramble x then Some code.NoScramble
-    else None
-
--- the first check of an attempt, or of its correction, that fails; the table's own checks come last
-abbrev pub entered_refusal : Event → Entered → Option (List Move) → (Settings × Table → Option Code)
+-- the first check of another scramble that fails; the numbers are those for whose attempt a
+-- solution was entered last
+abbrev pub rescramble_refusal : Event → ℕ → Option (List Move) → (ℕ → Bool)
     → Option (Settings × Table) → Option Code
-entered_refusal e x scramble table_refusal None = Some code.RoundUnknown
-entered_refusal e x scramble table_refusal (Some round) =
-    option_or (unfit_refusal e scramble x) (table_refusal round)
+rescramble_refusal e k scramble solved None = Some code.RoundUnknown
+rescramble_refusal e k scramble solved (Some round) =
+    if not (is_moves (unit_of e)) then Some code.WrongOutcome
+    else if not (is_some scramble) then Some code.NoScramble
+    else if round.1.is_closed then Some code.Closed
+    else if list_any (has_solved solved round.1 k) (standings round.1) then Some code.HasAttempts
+    else None
 
-abbrev pub put_refusal : ℕ → ℕ → Settings × Table → Option Code
-put_refusal n k round = option_map put_code (put_fault round.1 n k)
+-- the first check of a withdrawal that fails
+abbrev pub withdraw_refusal : ℕ → Option (Settings × Table) → Option Code
+withdraw_refusal n None = Some code.RoundUnknown
+withdraw_refusal n (Some round) = option_and_then withdraw_code (withdraw_fault round.1 n)
 
-abbrev pub correct_refusal : ℕ → ℕ → Option (List Move) → Entered → Settings × Table → Option Code
-correct_refusal n k scramble x round =
-    option_map correct_code (correct_fault round.1 n k (settled round.0 scramble x))
+-- the first check of the settings of a round that fails
+abbrev pub settings_refusal : Event → Format → Option (ℕ × ℕ) → Option ℕ → Option Code
+settings_refusal e format cutoff limit =
+    if not (is_allowed e format) then Some code.FormatNotAllowed
+    else if not (is_cutoff (unit_of e) format cutoff) then Some code.CutoffNotAllowed
+    else if not (is_limit (unit_of e) limit) then Some code.LimitNotAllowed
+    else None
 
-abbrev pub strike_refusal : ℕ → Option (Settings × Table) → Option Code
-strike_refusal n None = Some code.RoundUnknown
-strike_refusal n (Some round) = option_map strike_code (strike_fault round.1 n)
+-- the first check of other settings that fails: the table's own checks, then those of the settings
+abbrev pub rules_refusal : Event → Format → Option (ℕ × ℕ) → Option ℕ
+    → Option (Settings × Table) → Option Code
+rules_refusal e format cutoff limit None = Some code.RoundUnknown
+rules_refusal e format cutoff limit (Some round) =
+    option_or (option_map rules_code (rules_fault round.1)) (settings_refusal e format cutoff limit)
 
-abbrev pub advance_refusal : Option (Settings × Table) → Option Code
-advance_refusal None = Some code.RoundUnknown
-advance_refusal (Some round) = if round.1.is_closed then Some code.Closed else None
+-- the first check that fails of opening a closed round again, whose next one is open or not
+abbrev pub again_refusal : Option ReopenFault → Bool → Option Code
+again_refusal (Some fault) is_next_open = Some (reopen_code fault)
+again_refusal None is_next_open = if is_next_open then Some code.RoundOpen else None
 
-abbrev pub is_final : Advance → Bool
-is_final Final = true
-is_final (Top number) = false
-is_final (Percent percent) = false
-
--- a round is closed, and is not the event's last
-abbrev pub leads_on : Option (Settings × Table) → Bool
-leads_on None = false
-leads_on (Some round) = round.1.is_closed && not (is_final round.0.advance)
-
--- how many competitors a round has
-abbrev pub competitors_of : Option (Settings × Table) → ℕ
-competitors_of None = 0
-competitors_of (Some round) = started round.1
-
--- the competitors of round j do not allow the r + 1 - j later rounds up to round r + 1 (WCA
--- Regulations, article 9m)
-abbrev pub has_too_few : (ℕ → Option (Settings × Table)) → ℕ → ℕ → Bool
-has_too_few rounds r j = nat_lt (later_rounds (competitors_of (rounds j))) (r + 1 - j)
-
--- round r is to be followed by another, and some round from 1 to r has too few competitors for it
-abbrev pub breaks_rounds_rule : (ℕ → Option (Settings × Table)) → ℕ → Advance → Bool
-breaks_rounds_rule rounds r advance =
-    not (is_final advance) && list_any (has_too_few rounds r) (range_with_len 1 r)
-
--- the first check of a closing that fails, of a table that is there
-abbrev pub end_refusal : Option CloseFault → Bool → Option Code
-end_refusal (Some fault) breaks = Some (close_code fault)
-end_refusal None breaks = if breaks then Some code.RoundsRule else None
-
-abbrev pub close_refusal : (ℕ → Option (Settings × Table)) → ℕ → Option (Settings × Table)
-    → Option Code
-close_refusal rounds r None = Some code.RoundUnknown
-close_refusal rounds r (Some round) =
-    end_refusal (close_fault round.1) (breaks_rounds_rule rounds r round.0.advance)
-
--- a cutoff counts fewer attempts than the format has; multi-blind has no cutoff
-abbrev pub is_cutoff : Measure → Format → Option (ℕ × ℕ) → Bool
-is_cutoff unit format None = true
-is_cutoff unit format (Some cutoff) = not (is_multi unit) && nat_lt cutoff.0 (attempts_of format)
-
--- timed events have a limit, and others have none
-abbrev pub is_limit : Measure → Option ℕ → Bool
-is_limit measure.Time limit = is_some limit
-is_limit measure.Moves limit = not (is_some limit)
-is_limit measure.Multi limit = not (is_some limit)
+abbrev pub reopen_refusal : Option (Settings × Table) → Option (Settings × Table) → Option Code
+reopen_refusal next None = Some code.RoundUnknown
+reopen_refusal next (Some round) = again_refusal (reopen_fault round.1) (is_some next)
 
 -- the first check of a command that fails, each a sentence on the accepted commands so far
 abbrev pub refusal : List Command → Command → Option Code
 refusal cs (Register n name) =
     if is_registered cs n then Some code.Already
-    else if list_any (names_other n name) cs then Some code.NameTaken
+    else if is_taken cs n name then Some code.NameTaken
     else None
 refusal cs (Open id settings) =
     if is_some (round_by cs id) then Some code.RoundOpen
     else if nat_lt 1 id.round && not (leads_on (round_of cs id.event (id.round - 1)))
     then Some code.RoundUnknown
-    else if not (is_allowed id.event settings.format) then Some code.FormatNotAllowed
-    else if not (is_cutoff (unit_of id.event) settings.format settings.cutoff)
-    then Some code.CutoffNotAllowed
-    else if not (is_limit (unit_of id.event) settings.limit) then Some code.LimitNotAllowed
-    else None
+    else settings_refusal id.event settings.format settings.cutoff settings.limit
 refusal cs (Enter e n) =
     if not (is_registered cs n) then Some code.UnknownCompetitor
     else enter_refusal n (round_of cs e 1)
@@ -442,3 +370,17 @@ refusal cs (SetAdvance id advance) = advance_refusal (round_by cs id)
 refusal cs (Close id) = close_refusal (round_of cs id.event) id.round (round_by cs id)
 refusal cs (SetEdition edition) =
     if nat_le edition (edition_in cs) then Some code.Already else None
+refusal cs (Rename n name) =
+    if not (is_registered cs n) then Some code.UnknownCompetitor
+    else if is_taken cs n name then Some code.NameTaken
+    else None
+refusal cs (SetRound id format cutoff limit) =
+    rules_refusal id.event format cutoff limit (round_by cs id)
+refusal cs (Rescramble id k moves) =
+    rescramble_refusal id.event k (scramble_of cs id.event id.round k)
+    (is_solved cs id.event id.round k) (round_by cs id)
+refusal cs (Withdraw id n) =
+    if not (is_registered cs n) then Some code.UnknownCompetitor
+    else withdraw_refusal n (round_by cs id)
+refusal cs (Reopen id) =
+    reopen_refusal (round_of cs id.event (id.round + 1)) (round_by cs id)

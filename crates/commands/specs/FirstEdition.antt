@@ -1,7 +1,7 @@
 -- What edition 1 made of its commands, as it stands since before there was another. What it does
--- not share with `Accepted` and `History` is kept here in its own words; the laws of editions
--- compare the two. What edition 1 has no words for, multi-blind, comes to nothing in it: no text of
--- edition 1 asks for it.
+-- not share with edition 2, which changes no more either, is kept here in its own words; the laws
+-- of editions compare it with `Accepted` and `History`. What edition 1 has no words for,
+-- multi-blind, comes to nothing in it: no text of edition 1 asks for it.
 use Rattle.std.specs.Prelude.{ℕ, zero, suc, ◌+◌, ◌-◌, ◌*◌, Bool, true, false, not, ◌==◌, ◌&&◌}
 use Rattle.std.specs.Prelude.{nat_lt, if◌then◌else◌, List, [], ◌∷◌, ◌++◌, map, fold, option_to_list}
 use Rattle.std.specs.Prelude.{is_some, Option, None, Some, Result, Ok, Err}
@@ -23,7 +23,7 @@ use Rattle.formats.specs.Events.{attempts_of, is_average_format, is_mean_format,
 use Rattle.texts.specs.declared.command.Command.{Command}
 use Rattle.texts.specs.declared.command.Command.TheVariants.{Register, Open, Enter, Scramble}
 use Rattle.texts.specs.declared.command.Command.TheVariants.{Attempt, Correct, Strike, SetAdvance}
-use Rattle.texts.specs.declared.command.Command.TheVariants.{Close, SetEdition}
+use Rattle.texts.specs.declared.command.Command.TheVariants.{Close}
 use Rattle.texts.specs.declared.command.RoundId.{RoundId}
 use Rattle.texts.specs.declared.command.AttemptEntry.{AttemptEntry}
 use Rattle.texts.specs.declared.command.Entered.{Entered}
@@ -35,12 +35,13 @@ use Rattle.texts.specs.declared.answer.Code.TheVariants as code
 use Rattle.texts.specs.declared.reading.CommandFault.{CommandFault}
 use Rattle.texts.specs.FirstEdition.{command_of}
 use Rattle.rounds.specs.Tables.{Entrant, Table, replaced, without_last, correct_fault}
-use Rattle.commands.specs.Accepted.{is_registered, names_other, Opened, opened, scrambling}
-use Rattle.commands.specs.Accepted.{scramble_of, scramble_by, is_of, first_of, solved_under}
-use Rattle.commands.specs.Accepted.{entering, closing, settings_now, who_advance, enter_refusal}
-use Rattle.commands.specs.Accepted.{put_refusal, correct_code, strike_refusal, advance_refusal}
-use Rattle.commands.specs.Accepted.{leads_on, close_refusal}
-use Rattle.commands.specs.History.{History, nothing, answer_of, is_seen, added}
+use Rattle.commands.specs.SecondEdition.{is_registered, names_other, Opened, opened, scrambling}
+use Rattle.commands.specs.SecondEdition.{scramble_of, scramble_by, is_of, first_of, solved_under}
+use Rattle.commands.specs.SecondEdition.{entering, closing, settings_now, who_advance}
+use Rattle.commands.specs.SecondEdition.{enter_refusal}
+use Rattle.commands.specs.SecondEdition.{put_refusal, correct_code, strike_refusal, advance_refusal}
+use Rattle.commands.specs.SecondEdition.{leads_on, close_refusal}
+use Rattle.commands.specs.Seen.{History, nothing, answer_of, is_seen, added}
 
 -- Events and values
 
@@ -224,7 +225,7 @@ refusal cs (Strike id n) =
     else strike_refusal n (round_by cs id)
 refusal cs (SetAdvance id advance) = advance_refusal (round_by cs id)
 refusal cs (Close id) = close_refusal (round_of cs id.event) id.round (round_by cs id)
-refusal cs (SetEdition edition) = Some code.Unread
+refusal cs _ = Some code.Unread
 
 -- Entries
 

@@ -1,44 +1,23 @@
 -- What a list of entries, each an id and a text, comes to. That each id is done once, and what each
 -- is answered, are rules of this project's own.
-use Rattle.std.specs.Prelude.{◌≡◌, ℕ, Bool, ◌==◌, nat_lt, if◌then◌else◌, List, [], ◌∷◌, ◌++◌, fold}
-use Rattle.std.specs.Prelude.{Option, None, Some, Result, Ok, Err}
+use Rattle.std.specs.Prelude.{◌≡◌, ℕ, ◌==◌, if◌then◌else◌, List, [], ◌∷◌, ◌++◌, fold}
+use Rattle.std.specs.Prelude.{Option, Some, Result, Ok, Err}
 use Rattle.std.specs.List.{list_any}
 use Rattle.texts.specs.declared.command.Command.{Command}
 use Rattle.texts.specs.declared.answer.Answer.{Answer}
-use Rattle.texts.specs.declared.answer.Answer.TheVariants.{Done, Refused}
 use Rattle.texts.specs.declared.answer.Code.{Code}
 use Rattle.texts.specs.declared.answer.Code.TheVariants as code
 use Rattle.texts.specs.declared.reading.CommandFault.{CommandFault}
-use Rattle.texts.specs.Editions.{edition_of}
+use Rattle.texts.specs.Editions.{is_spelled_in}
 use Rattle.texts.specs.Reading.{command_of}
 use Rattle.commands.specs.Accepted.{edition_in, refusal}
-
--- the ids seen so far, and the accepted commands, each in order
-pub record History : Type 0 where
-  pub ids : List ℕ
-  pub accepted : List Command
-
--- before any entry
-abbrev pub nothing : History
-nothing = record { ids = []; accepted = [] }
-
-abbrev pub answer_of : Option Code → Answer
-answer_of None = Done
-answer_of (Some c) = Refused c
-
-abbrev pub is_seen : History → ℕ → Bool
-is_seen h id = list_any (λ other. id == other) h.ids
-
--- what a command that was refused, or not, adds to the accepted ones
-abbrev pub added : Option Code → Command → List Command
-added None c = c ∷ []
-added (Some why) c = []
+pub use Rattle.commands.specs.Seen.{History, nothing, answer_of, is_seen, added}
 
 -- the first check that fails for a command: that the edition that holds has its spelling, then its
 -- own
 abbrev pub spelled_refusal : List Command → Command → Option Code
 spelled_refusal cs c =
-    if nat_lt (edition_in cs) (edition_of c) then Some code.Unread else refusal cs c
+    if is_spelled_in (edition_in cs) c then refusal cs c else Some code.Unread
 
 -- the first check that fails for what a text reads as: that it is a command, then the checks of the
 -- command

@@ -2,10 +2,14 @@ pub mod Accepted
 pub mod EditionLaws
 pub mod FirstEdition
 pub mod History
+pub mod MendingLaws
 pub mod model
+pub mod SecondEdition
+pub mod Seen
 pub use Rattle.texts.specs.Codes
 pub use Rattle.texts.specs.Editions
 pub use Rattle.texts.specs.Fields
+pub use Rattle.texts.specs.Names
 pub use Rattle.texts.specs.Numerals
 pub use Rattle.texts.specs.Reading
 pub use Rattle.texts.specs.Spelling

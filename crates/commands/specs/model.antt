@@ -2,3 +2,4 @@
 -- public contract cites them.
 pub mod Kept
 pub mod Settled
+pub mod Solved

@@ -12,7 +12,7 @@ use cube::Move;
 use rounds::RoundTable;
 use std::alloc::Global;
 use std::marker::Model;
-use texts::{Answer, Code, Command, RoundId, Settings, edition_of};
+use texts::{Answer, Code, Command, RoundId, Settings, is_spelled_in};
 
 /// The accepted commands in order, with what is looked up of them, and the edition that holds.
 #[derive(Drop)]
@@ -64,7 +64,7 @@ impl AcceptedCommands {
         self.edition
     }
 
-    /// Does what a text spells, or says why not: the spelling of a later edition than holds is
+    /// Does what a text spells, or says why not: what the edition that holds has no spelling of is
     /// `Unread`.
     pub(crate) fn apply(&mut self, alloc: Global, command: Command) -> Result<Answer, NoMemory>
         requires { IsFit command }
@@ -73,7 +73,7 @@ impl AcceptedCommands {
             (self.new ≡ self.old ++ added (spelled_refusal self.old command) command) }
         ensures err { OnErr result (self.new ≡ self.old) }
     {
-        if edition_of(&command) > self.edition() {
+        if !is_spelled_in(self.edition(), &command) {
             return Ok(Answer::Refused(Code::Unread));
         }
         self.do_command(alloc, command)

@@ -10,10 +10,11 @@ ghost use Rattle.commands.specs.model.Kept.{kept_by, rounds_of, with_strike, wit
 ghost use Rattle.commands.specs.model.Kept.{with_end, with_entry, HasUnit, Changes, AddsScramble};
 ghost use Rattle.commands.specs.model.Settled.{IsSettled, IsUnfit, attempt_refusal};
 ghost use Rattle.commands.specs.model.Settled.{correction_refusal, AddsAttempt, Corrects};
+ghost use Rattle.commands.specs.model.Kept.{IsAsBefore};
 
 use crate::codes::{close_code, correct_code, put_code, strike_code};
 use crate::kept_rounds::KeptRounds;
-use crate::outcomes::{is_moves, outcome_of, refusal};
+use crate::outcomes::{is_moves, is_solution, outcome_of, refusal};
 use crate::rounds_rule::breaks_rounds_rule;
 use advancement::Advance;
 use attempts::{NoMemory, Value, settle};
@@ -109,50 +110,68 @@ impl KeptRounds {
     }
 
     /// Adds an attempt of an entrant, or says why not. The attempt has this scramble, where it has
-    /// one.
-    pub(crate) fn put(&mut self, entry: &AttemptEntry, scramble: Option<&[Move]>) -> Option<Code>
+    /// one. Where it is refused, nothing is looked up otherwise than before.
+    pub(crate) fn put(
+        &mut self,
+        entry: &AttemptEntry,
+        scramble: Option<&[Move]>,
+    ) -> Result<Option<Code>, NoMemory>
         requires entered { IsEntered entry.now.outcome }
+        requires attempt { (1 ≤ entry.now.attempt) × (entry.now.attempt ≤ 5) }
         requires unit { HasUnit entry.now.id.event (kept_by entry.now.id self.old) }
-        ensures code { result
-            ≡ attempt_refusal entry.now (option_copied scramble.entry) self.old }
-        ensures done { IfNone result
-            (AddsAttempt entry.now (option_copied scramble.entry) self.old self.new) }
-        ensures refused { OnSome result (self.new.opened.items ≡ self.old.opened.items) }
+        ensures code { IfOk result (λ code. code
+            ≡ attempt_refusal entry.now (option_copied scramble.entry) self.old) }
+        ensures done { IfOk result (λ code. IfNone code
+            (AddsAttempt entry.now (option_copied scramble.entry) self.old self.new)) }
+        ensures refused { IfOk result (λ code. OnSome code (IsAsBefore self.old self.new)) }
+        ensures err { OnErr result (IsAsBefore self.old self.new) }
     {
         let (place, value) = match self.settled(entry, scramble) {
             Ok(found) => found,
-            Err(code) => return Some(code),
+            Err(code) => return Ok(Some(code)),
         };
+        let solved = is_solution(&entry.outcome);
         let kept = &mut self.opened[place];
+        kept.solutions.make_room(entry.number, solved)?;
         match kept.table.put(entry.number, entry.attempt, value) {
-            Ok(()) => None,
-            Err(fault) => Some(put_code(fault)),
+            Ok(()) => {
+                kept.solutions.note(entry.number, entry.attempt, solved);
+                Ok(None)
+            }
+            Err(fault) => Ok(Some(put_code(fault))),
         }
     }
 
     /// Replaces an attempt of an entrant, or says why not. The attempt has this scramble, where it
-    /// has one.
+    /// has one. Where it is refused, nothing is looked up otherwise than before.
     pub(crate) fn correct(
         &mut self,
         entry: &AttemptEntry,
         scramble: Option<&[Move]>,
-    ) -> Option<Code>
+    ) -> Result<Option<Code>, NoMemory>
         requires entered { IsEntered entry.now.outcome }
+        requires attempt { (1 ≤ entry.now.attempt) × (entry.now.attempt ≤ 5) }
         requires unit { HasUnit entry.now.id.event (kept_by entry.now.id self.old) }
-        ensures code { result
-            ≡ correction_refusal entry.now (option_copied scramble.entry) self.old }
-        ensures done { IfNone result
-            (Corrects entry.now (option_copied scramble.entry) self.old self.new) }
-        ensures refused { OnSome result (self.new.opened.items ≡ self.old.opened.items) }
+        ensures code { IfOk result (λ code. code
+            ≡ correction_refusal entry.now (option_copied scramble.entry) self.old) }
+        ensures done { IfOk result (λ code. IfNone code
+            (Corrects entry.now (option_copied scramble.entry) self.old self.new)) }
+        ensures refused { IfOk result (λ code. OnSome code (IsAsBefore self.old self.new)) }
+        ensures err { OnErr result (IsAsBefore self.old self.new) }
     {
         let (place, value) = match self.settled(entry, scramble) {
             Ok(found) => found,
-            Err(code) => return Some(code),
+            Err(code) => return Ok(Some(code)),
         };
+        let solved = is_solution(&entry.outcome);
         let kept = &mut self.opened[place];
+        kept.solutions.make_room(entry.number, solved)?;
         match kept.table.correct(entry.number, entry.attempt, value) {
-            Ok(()) => None,
-            Err(fault) => Some(correct_code(fault)),
+            Ok(()) => {
+                kept.solutions.note(entry.number, entry.attempt, solved);
+                Ok(None)
+            }
+            Err(fault) => Ok(Some(correct_code(fault))),
         }
     }
 
@@ -181,10 +200,11 @@ impl KeptRounds {
         let Some(place) = self.place_of(id) else {
             return Some(Code::RoundUnknown);
         };
-        if self.opened[place].table.is_closed() {
+        let kept = &mut self.opened[place];
+        if kept.table.is_closed() {
             return Some(Code::Closed);
         }
-        self.opened[place].settings.advance = advance;
+        kept.settings.advance = advance;
         None
     }
 

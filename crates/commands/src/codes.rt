@@ -2,8 +2,9 @@
 
 ghost use Rattle.std.specs.Prelude.{◌≡◌};
 ghost use Rattle.commands.specs.Accepted.{put_code, correct_code, strike_code, close_code};
+ghost use Rattle.commands.specs.Accepted.{rules_code, reopen_code};
 
-use rounds::{CloseFault, CorrectFault, PutFault, StrikeFault};
+use rounds::{CloseFault, CorrectFault, PutFault, ReopenFault, RulesFault, StrikeFault};
 use texts::Code;
 
 /// The code for a table's refusal of an attempt.
@@ -48,5 +49,24 @@ pub(crate) fn close_code(fault: CloseFault) -> Code
     match fault {
         CloseFault::Closed => Code::Closed,
         CloseFault::Unfinished => Code::Unfinished,
+    }
+}
+
+/// The code for a table's refusal of other rules.
+pub(crate) fn rules_code(fault: RulesFault) -> Code
+    ensures { result ≡ rules_code fault }
+{
+    match fault {
+        RulesFault::Closed => Code::Closed,
+        RulesFault::HasAttempts => Code::HasAttempts,
+    }
+}
+
+/// The code for a table's refusal to be opened again.
+pub(crate) fn reopen_code(fault: ReopenFault) -> Code
+    ensures { result ≡ reopen_code fault }
+{
+    match fault {
+        ReopenFault::NotClosed => Code::NotClosed,
     }
 }

@@ -1,21 +1,22 @@
 //! Who is registered, found by number and by name.
 
-ghost use Rattle.std.specs.Prelude.{◌≡◌, ◌++◌, ◌∷◌, [], None, OnOk, OnErr, IfOk, option_map};
-ghost use Rattle.commands.specs.Accepted.{name_of, is_registered, refusal};
+ghost use Rattle.std.specs.Prelude.{◌≡◌, ◌++◌, [], true, OnOk, OnErr, IfOk, option_map};
+ghost use Rattle.commands.specs.Accepted.{name_of, is_called, is_registered, is_taken, refusal};
 ghost use Rattle.commands.specs.History.{added};
-ghost use Rattle.commands.specs.model.Kept.{name_at, AreCompetitors};
+ghost use Rattle.commands.specs.model.Kept.{name_at, AreCompetitors, Notes, IsAsGood};
 ghost use Rattle.texts.specs.declared.command.Command.TheVariants as command;
 
 use attempts::NoMemory;
 use std::alloc::Global;
-use std::collections::{HashMap, HashSet};
+use std::collections::HashMap;
 use texts::{Code, Command, Name};
 
-/// Where the registrations stand among the accepted commands, and the names that they gave.
+/// Where the name of each number stands among the accepted commands, and the number to which each
+/// name was given last.
 #[derive(Drop)]
 pub(crate) struct Competitors {
     places: HashMap<u16, usize>,
-    names: HashSet<Vec<u8>>,
+    holders: HashMap<Vec<u8>, u16>,
 }
 
 /// The name that the command at a place gives a number.
@@ -24,6 +25,10 @@ fn name_at(accepted: &[Command], number: u16, place: usize) -> Option<&[u8]>
 {
     match accepted.get(place)? {
         Command::Register {
+            number: other,
+            name,
+        } if *other == number => Some(name.as_bytes()),
+        Command::Rename {
             number: other,
             name,
         } if *other == number => Some(name.as_bytes()),
@@ -38,11 +43,11 @@ impl Competitors {
     {
         Competitors {
             places: HashMap::new(alloc),
-            names: HashSet::new(alloc),
+            holders: HashMap::new(alloc),
         }
     }
 
-    /// The name under which a number is registered.
+    /// The name of a number, where it is registered.
     pub(crate) fn name<'a>(&self, accepted: &'a [Command], number: u16) -> Option<&'a [u8]>
         requires { AreCompetitors accepted.now self.now }
         ensures { option_map (λ name. name.now) result ≡ name_of accepted.now number }
@@ -59,38 +64,46 @@ impl Competitors {
         self.name(accepted, number).is_some()
     }
 
-    /// Why a registration is refused, where it is.
-    fn refusal(&self, accepted: &[Command], number: u16, name: &Name) -> Option<Code>
+    /// Whether a number has this name.
+    fn is_called(&self, accepted: &[Command], number: u16, name: &[u8]) -> bool
         requires { AreCompetitors accepted.now self.now }
-        ensures { result ≡ refusal accepted.now (command.Register number name.now) }
+        ensures { result ≡ is_called accepted.now number name.now }
     {
-        if self.is_registered(accepted, number) {
-            return Some(Code::Already);
+        match self.name(accepted, number) {
+            Some(other) => name == other,
+            None => false,
         }
-        if self.names.contains(name.as_bytes()) {
-            return Some(Code::NameTaken);
-        }
-        None
     }
 
-    /// Notes a registration that will stand after the accepted commands.
-    fn add(
+    /// Whether another number has this name.
+    fn is_taken(&self, accepted: &[Command], number: u16, name: &Name) -> bool
+        requires { AreCompetitors accepted.now self.now }
+        ensures { result ≡ is_taken accepted.now number name.now }
+    {
+        match self.holders.get(name.as_bytes()) {
+            Some(holder) => {
+                *holder != number && self.is_called(accepted, *holder, name.as_bytes())
+            }
+            None => false,
+        }
+    }
+
+    /// Notes that a number has a name, which the command after the accepted ones gives it. No other
+    /// number has it, so that nothing is looked up otherwise where only that is noted.
+    fn note(
         &mut self,
         alloc: Global,
         accepted: &[Command],
         number: u16,
         name: &Name,
     ) -> Result<(), NoMemory>
-        requires kept { AreCompetitors accepted.now self.old }
-        requires allowed { refusal accepted.now (command.Register number name.now) ≡ None }
-        ensures ok { OnOk result
-            (AreCompetitors (accepted.now ++ command.Register number name.now ∷ []) self.new) }
-        ensures err { OnErr result (AreCompetitors accepted.now self.new) }
+        ensures ok { OnOk result (Notes accepted.now number name.now self.old self.new) }
+        ensures err { OnErr result
+            (IsAsGood accepted.now number name.now self.old self.new) }
     {
         let copy = Vec::from_slice(alloc, name.as_bytes())?;
-        self.names.reserve(1)?;
+        self.holders.insert(copy, number)?;
         self.places.insert(number, accepted.len())?;
-        self.names.insert(copy).unwrap();
         Ok(())
     }
 
@@ -109,10 +122,36 @@ impl Competitors {
             (accepted.now ++ added code (command.Register number name.now)) self.new) }
         ensures err { OnErr result (AreCompetitors accepted.now self.new) }
     {
-        if let Some(code) = self.refusal(accepted, number, name) {
-            return Ok(Some(code));
+        if self.is_registered(accepted, number) {
+            return Ok(Some(Code::Already));
         }
-        self.add(alloc, accepted, number, name)?;
+        if self.is_taken(accepted, number, name) {
+            return Ok(Some(Code::NameTaken));
+        }
+        self.note(alloc, accepted, number, name)?;
+        Ok(None)
+    }
+
+    /// Gives a competitor who is registered another name, or says why not.
+    pub(crate) fn rename(
+        &mut self,
+        alloc: Global,
+        accepted: &[Command],
+        number: u16,
+        name: &Name,
+    ) -> Result<Option<Code>, NoMemory>
+        requires kept { AreCompetitors accepted.now self.old }
+        requires known { is_registered accepted.now number ≡ true }
+        ensures code { IfOk result
+            (λ code. code ≡ refusal accepted.now (command.Rename number name.now)) }
+        ensures kept { IfOk result (λ code. AreCompetitors
+            (accepted.now ++ added code (command.Rename number name.now)) self.new) }
+        ensures err { OnErr result (AreCompetitors accepted.now self.new) }
+    {
+        if self.is_taken(accepted, number, name) {
+            return Ok(Some(Code::NameTaken));
+        }
+        self.note(alloc, accepted, number, name)?;
         Ok(None)
     }
 }

@@ -1,10 +1,9 @@
 //! What is looked up of the accepted commands: the competitors and the rounds that they make.
 
-ghost use Rattle.std.specs.Prelude.{◌≡◌, ◌≤◌, IsTrue, ◌++◌, [], IfOk, OnErr};
+ghost use Rattle.std.specs.Prelude.{◌≡◌, ◌≤◌, ◌++◌, [], IfOk, OnErr};
 ghost use Rattle.std.specs.Option.{option_copied};
-ghost use Rattle.commands.specs.Accepted.{scramble_of, refusal, is_cutoff, is_limit, edition_in};
+ghost use Rattle.commands.specs.Accepted.{scramble_of, refusal, edition_in};
 ghost use Rattle.texts.specs.Spelling.{IsFit, IsFitCutoff};
-ghost use Rattle.rounds.specs.Tables.{IsCutoff};
 ghost use Rattle.commands.specs.History.{added};
 ghost use Rattle.commands.specs.model.Kept.{IsIndexOf, competitor_of, is_of_nobody, scramble_at};
 ghost use Rattle.commands.specs.model.Kept.{edition_refusal};
@@ -13,33 +12,11 @@ ghost use Rattle.texts.specs.declared.command.Command.TheVariants as command;
 use crate::competitors::Competitors;
 use crate::kept_rounds::{KeptRounds, is_same};
 use crate::openings::round_before;
-use crate::outcomes::is_multi;
-use attempts::{NoMemory, Unit};
+use crate::settings::settings_refusal;
+use attempts::NoMemory;
 use cube::Move;
-use formats::{Format, allowed, attempts_of, unit_of};
 use std::alloc::Global;
 use texts::{Code, Command, RoundId, Settings};
-
-/// Whether a cutoff counts fewer attempts than the format has. Multi-blind has none.
-fn is_cutoff(unit: Unit, format: Format, cutoff: Option<(u8, u32)>) -> bool
-    ensures value { result ≡ is_cutoff unit format cutoff }
-    ensures within { IsFitCutoff cutoff → IsTrue result → IsCutoff format cutoff }
-{
-    match cutoff {
-        None => true,
-        Some((attempts, _)) => !is_multi(unit) && attempts < attempts_of(format),
-    }
-}
-
-/// Whether a limit is there where the event is timed, and not where it isn't.
-fn is_limit(unit: Unit, limit: Option<u32>) -> bool
-    ensures { result ≡ is_limit unit limit }
-{
-    match unit {
-        Unit::Time => limit.is_some(),
-        Unit::Moves | Unit::Multi => limit.is_none(),
-    }
-}
 
 /// The scramble that the command at a place sets for an attempt.
 fn scramble_at(accepted: &[Command], id: RoundId, attempt: u8, place: usize) -> Option<&[Move]>
@@ -48,6 +25,11 @@ fn scramble_at(accepted: &[Command], id: RoundId, attempt: u8, place: usize) -> 
 {
     match accepted.get(place)? {
         Command::Scramble {
+            id: other,
+            attempt: which,
+            moves,
+        } if is_same(id, *other) && attempt == *which => Some(moves.as_slice()),
+        Command::Rescramble {
             id: other,
             attempt: which,
             moves,
@@ -65,12 +47,17 @@ fn competitor_of(command: &Command) -> Option<u16>
         Command::Attempt(entry) => Some(entry.number),
         Command::Correct(entry) => Some(entry.number),
         Command::Strike { number, .. } => Some(*number),
+        Command::Rename { number, .. } => Some(*number),
+        Command::Withdraw { number, .. } => Some(*number),
         Command::Register { .. }
         | Command::Open { .. }
         | Command::Scramble { .. }
         | Command::SetAdvance { .. }
         | Command::Close { .. }
-        | Command::SetEdition { .. } => None,
+        | Command::SetEdition { .. }
+        | Command::SetRound { .. }
+        | Command::Rescramble { .. }
+        | Command::Reopen { .. } => None,
     }
 }
 
@@ -138,14 +125,13 @@ impl Index {
         if id.round > 1 && !self.rounds.leads_on(round_before(id)) {
             return Ok(Some(Code::RoundUnknown));
         }
-        if !allowed(id.event, settings.format) {
-            return Ok(Some(Code::FormatNotAllowed));
-        }
-        if !is_cutoff(unit_of(id.event), settings.format, settings.cutoff) {
-            return Ok(Some(Code::CutoffNotAllowed));
-        }
-        if !is_limit(unit_of(id.event), settings.limit) {
-            return Ok(Some(Code::LimitNotAllowed));
+        if let Some(code) = settings_refusal(
+            id.event,
+            settings.format,
+            settings.cutoff,
+            settings.limit,
+        ) {
+            return Ok(Some(code));
         }
         self.rounds.add(alloc, id, settings)?;
         Ok(None)
@@ -203,16 +189,31 @@ impl Index {
             }
             Command::Attempt(entry) => {
                 let scramble = self.scramble_of(accepted, entry.id, entry.attempt);
-                Ok(self.rounds.put(entry, scramble))
+                self.rounds.put(entry, scramble)
             }
             Command::Correct(entry) => {
                 let scramble = self.scramble_of(accepted, entry.id, entry.attempt);
-                Ok(self.rounds.correct(entry, scramble))
+                self.rounds.correct(entry, scramble)
             }
             Command::Strike { id, number } => Ok(self.rounds.strike(*id, *number)),
             Command::SetAdvance { id, advance } => Ok(self.rounds.set_advance(*id, *advance)),
             Command::Close { id } => Ok(self.rounds.close(*id)),
             Command::SetEdition { edition } => Ok(edition_refusal(holds, *edition)),
+            Command::Rename { number, name } => {
+                self.competitors.rename(alloc, accepted, *number, name)
+            }
+            Command::SetRound {
+                id,
+                format,
+                cutoff,
+                limit,
+            } => Ok(self.rounds.set_round(*id, *format, *cutoff, *limit)),
+            Command::Rescramble { id, attempt, .. } => {
+                let there = self.scramble_of(accepted, *id, *attempt);
+                self.rounds.rescramble(*id, *attempt, there, accepted.len())
+            }
+            Command::Withdraw { id, number } => self.rounds.withdraw(*id, *number),
+            Command::Reopen { id } => Ok(self.rounds.reopen(*id)),
         }
     }
 }

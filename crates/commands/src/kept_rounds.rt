@@ -6,6 +6,7 @@ ghost use Rattle.std.specs.Option.{option_copied};
 ghost use Rattle.commands.specs.Accepted.{is_final, is_of, leads_on, competitors_of};
 ghost use Rattle.commands.specs.model.Kept.{is_round, kept_by, kept_scramble, IsKeptAt};
 
+use crate::solutions::Solutions;
 use advancement::Advance;
 use rounds::RoundTable;
 use std::alloc::Global;
@@ -19,6 +20,10 @@ pub(crate) struct KeptRound {
     pub(crate) table: RoundTable,
     /// Where the scramble of each attempt stands among the accepted commands.
     pub(crate) scrambles: [Option<usize>; 5],
+    /// For which attempts a solution was entered.
+    pub(crate) solutions: Solutions,
+    /// Those who wait for a place in the round, in order: who withdraws gives it to the first.
+    pub(crate) waiting: Vec<u16>,
 }
 
 /// The rounds that were opened: at most four of each event.

@@ -8,15 +8,23 @@ mod codes;
 mod competitors;
 mod index;
 mod kept_rounds;
+mod laws;
 mod meet;
+mod mending;
 mod openings;
 mod outcomes;
 mod rounds_rule;
+mod settings;
+mod solutions;
 
-pub use meet::{Meet, every_id_is_seen, first_edition_answers};
+pub use laws::{
+    closes_as_before, every_id_is_seen, first_edition_answers, renames_alone,
+    second_edition_answers,
+};
+pub use meet::Meet;
 pub use outcomes::{is_wrong, lacks_scramble, settled};
 pub use texts::{
     Advance, Answer, AttemptEntry, Code, Command, CommandFault, Entered, Name, RoundId, Settings,
-    edition_of, first_edition_reads, one_spelling, print, print_advance, print_cutoff, print_limit,
-    read,
+    first_edition_reads, is_spelled_in, one_spelling, print, print_advance, print_cutoff,
+    print_limit, read, second_edition_reads,
 };

@@ -3,9 +3,8 @@
 ghost use Rattle.std.specs.Prelude.{◌≡◌, ◌≤◌, ◌++◌, ◌∷◌, [], List, ℕ, true, Ok, IfOk, OnOk, OnErr};
 ghost use Rattle.std.specs.Prelude.{option_map};
 ghost use Rattle.commands.specs.History.{is_seen, answer_to, answer_of, added_read, read_refusal};
-ghost use Rattle.commands.specs.History.{after, nothing, StandsFor, SeesEachId};
+ghost use Rattle.commands.specs.History.{after, nothing, StandsFor};
 ghost use Rattle.texts.specs.Reading.{command_of};
-ghost use Rattle.commands.specs.EditionLaws.{AnswersAsBefore};
 ghost use Rattle.commands.specs.Accepted.{name_of, round_of, scramble_of, edition_in};
 
 use crate::accepted::AcceptedCommands;
@@ -97,15 +96,16 @@ impl Meet {
         Ok(answer)
     }
 
-    /// The edition of the commands that holds: 1, and 2 once `EDITION 2` is accepted. The spelling
-    /// of a later edition is no command.
+    /// The edition of the commands that holds: 1, then 2 or 3 once `EDITION 2` or `EDITION 3` is
+    /// accepted. What an edition has no spelling of is no command while it holds.
     pub fn edition(&self) -> u8
         ensures { result ≡ edition_in self.now.accepted }
     {
         self.accepted.edition()
     }
 
-    /// The name of a competitor, 1 to 80 bytes of UTF-8, where the number is registered.
+    /// The name of a competitor, 1 to 160 bytes of UTF-8, where the number is registered: the last
+    /// that it was given.
     pub fn name(&self, number: u16) -> Option<&[u8]>
         ensures { option_map (λ name. name.now) result ≡ name_of self.now.accepted number }
     {
@@ -127,8 +127,8 @@ impl Meet {
         self.accepted.settings(RoundId { event, round })
     }
 
-    /// The scramble of an attempt of a round, where one was set since the round was opened.
-    /// Attempts are counted from 1.
+    /// The scramble of an attempt of a round, where one was set since the round was opened: the
+    /// last one. Attempts are counted from 1.
     pub fn scramble(&self, event: Event, round: u8, attempt: u8) -> Option<&[Move]>
         requires { 1 ≤ attempt }
         ensures { option_map (λ moves. moves.now) result
@@ -137,15 +137,3 @@ impl Meet {
         self.accepted.scramble(RoundId { event, round }, attempt)
     }
 }
-
-/// A law: the ids that are seen after a list of entries are the ids of its entries, those of
-/// refused ones included.
-pub fn every_id_is_seen()
-    ensures { SeesEachId }
-{}
-
-/// A law: after entries without the text `EDITION 2` an entry without it is answered as edition 1
-/// answered it, by that edition's own definitions.
-pub fn first_edition_answers()
-    ensures { AnswersAsBefore }
-{}

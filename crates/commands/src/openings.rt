@@ -6,11 +6,12 @@ ghost use Rattle.formats.specs.Events.{unit_of};
 ghost use Rattle.formats.specs.Results.{IsFormatOf};
 ghost use Rattle.rounds.specs.Tables.{IsCutoff, enter_fault, with_entrant};
 ghost use Rattle.texts.specs.Fields.{round_id};
-ghost use Rattle.commands.specs.Accepted.{who_advance};
-ghost use Rattle.commands.specs.model.Kept.{kept_by, table_opened, Opens};
+ghost use Rattle.commands.specs.Accepted.{who_advance, who_wait};
+ghost use Rattle.commands.specs.model.Kept.{kept_by, table_opened, AreOthers, Opens};
 
 use crate::kept_rounds::{KeptRound, KeptRounds};
-use advancement::advancing;
+use crate::solutions::Solutions;
+use advancement::{advancing, waiting};
 use attempts::NoMemory;
 use formats::{Event, unit_of};
 use rounds::{EnterFault, RoundTable};
@@ -73,6 +74,21 @@ fn who_advance(alloc: Global, rounds: &KeptRounds, id: RoundId) -> Result<Vec<u1
     }
 }
 
+/// Those who did not advance from a round and wait for a place in the next, in order of its
+/// standings; nobody where it was not opened.
+fn who_wait(alloc: Global, rounds: &KeptRounds, id: RoundId) -> Result<Vec<u16>, NoMemory>
+    ensures order { IfOk result
+        (λ numbers. numbers.items ≡ who_wait (kept_by id rounds.now)) }
+    ensures each_once { IfOk result (λ numbers. IsDistinct nat_eq numbers.items) }
+    ensures apart { IfOk result
+        (λ numbers. AreOthers (who_advance (kept_by id rounds.now)) numbers.items) }
+{
+    match rounds.get(id) {
+        Some(kept) => waiting(alloc, &kept.table, kept.settings.advance),
+        None => Ok(Vec::new(alloc)),
+    }
+}
+
 impl KeptRounds {
     /// Adds a round, with those in it who advance from the one before.
     pub(crate) fn add(
@@ -88,12 +104,15 @@ impl KeptRounds {
         ensures err { OnErr result (self.new.opened.items ≡ self.old.opened.items) }
     {
         let numbers = who_advance(alloc, self, round_before(id))?;
+        let waiting = who_wait(alloc, self, round_before(id))?;
         let table = table_with(alloc, id.event, settings, &numbers)?;
         self.opened.push(KeptRound {
             id,
             settings,
             table,
             scrambles: [None; 5],
+            solutions: Solutions::new(alloc),
+            waiting,
         })?;
         Ok(())
     }

@@ -4,7 +4,7 @@ ghost use Rattle.std.specs.Prelude.{◌≡◌, false, option_map};
 ghost use Rattle.attempts.specs.Attempts.{IsOutcome, IsOutcomeOf};
 ghost use Rattle.attempts.specs.declared.Unit.{Unit as Measure};
 ghost use Rattle.commands.specs.Accepted.{outcome_of, is_time, is_wrong, is_moves, is_multi};
-ghost use Rattle.commands.specs.Accepted.{lacks_scramble, unfit_refusal, settled};
+ghost use Rattle.commands.specs.Accepted.{lacks_scramble, unfit_refusal, settled, is_solution};
 ghost use Rattle.texts.specs.Spelling.{IsEntered};
 
 use attempts::{Outcome, Unit, Value, settle};
@@ -77,6 +77,13 @@ pub(crate) fn refusal(event: Event, entered: &Entered, scramble: Option<&[Move]>
         return Some(Code::NoScramble);
     }
     None
+}
+
+/// Whether a solution was entered.
+pub(crate) fn is_solution(entered: &Entered) -> bool
+    ensures { result ≡ is_solution entered.now }
+{
+    matches!(entered, Entered::Solution { .. })
 }
 
 /// What was entered, a solution by its result under the scramble.

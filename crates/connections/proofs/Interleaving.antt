@@ -21,6 +21,7 @@ use Rattle.serving.specs.Serving.{Act}
 use Rattle.serving.specs.Turns.{Talk, BeginsNext, LeavesAt, OnlyReads, ReadsTo}
 use Rattle.serving.specs.Turns.{RunsOut, WantsRead, after_sent, broken_by, new_talk}
 use Rattle.serving.specs.TurnLaw.{Came, Began, IsQuiet, Place, Rested, Took, Turn, Turns, came_in}
+use Rattle.serving.specs.TurnLaw.{begun_at, begun_in}
 use Rattle.serving.specs.TurnLaw.{handed_out, received, taken_in}
 use Rattle.serving.proofs.Makings.{Makes-nil, Makes-trans}
 use Rattle.serving.proofs.Pieces.{keeps_fault, keeps_none}
@@ -553,20 +554,73 @@ taken_all k taken t ts = go (eqb t.number k)
     go true = append_assoc (taken k) (taken_in t.turn) (handed_out (turns_of k ts))
     go false = ap (λ z. z ++ handed_out (turns_of k ts)) (append-nil (taken k))
 
--- what holds after all turns
+-- what holds after all turns: the frames of each connection are those that its turns began
 abbrev pub HoldsAfter : {V : Type 0} → {way : Way V} → Home → Point way → (ℕ → List ℕ)
     → (ℕ → List ℕ) → (ℕ → List Served) → List TurnOf → Connections way → Type 0
 HoldsAfter home start came taken earlier ts b =
     (fs : List Served) × AreServedInTurn home start fs (point_of b)
     × ((k : ℕ) → HoldsSome home (came k ++ received (turns_of k ts))
     (taken k ++ handed_out (turns_of k ts)) (earlier k ++ served_of k fs) (b.talks k))
+    × ((k : ℕ) → begun_of (served_of k fs) ≡ begun_in (turns_of k ts))
+
+-- ---- the frames of a connection are those that its turns began
+
+pub begun_both : (xs ys : List Served) → begun_of (xs ++ ys) ≡ begun_of xs ++ begun_of ys
+begun_both [] ys = refl
+begun_both (x ∷ xs) ys = ap (λ z. x.one ∷ z) (begun_both xs ys)
+
+begun_if : Bool → Turn → List Begun
+begun_if true t = begun_at t
+begun_if false t = []
+
+turn_begins : (own : Bool) (n : ℕ) (t : Turn) (new : Talk)
+    → begun_of (served_if own (frames_in n t new)) ≡ begun_if own t
+unfolding frames_in frame_at served_if begun_if
+turn_begins true n (Came piece) new = refl
+turn_begins true n (Began one) new = refl
+turn_begins true n Rested new = refl
+turn_begins true n (Took bytes) new = refl
+turn_begins false n t new = refl
+
+-- with a turn more
+begun_next : (k : ℕ) (fs : List Served) (t : TurnOf) (new : Talk)
+    → begun_of (served_of k (fs ++ frames_in t.number t.turn new))
+    ≡ begun_of (served_of k fs) ++ begun_if (eqb t.number k) t.turn
+begun_next k fs t new =
+    let more = frames_in t.number t.turn new in
+    ap begun_of (served_then_more k fs more)
+    ∙ begun_both (served_of k fs) (served_of k more)
+    ∙ ap (λ z. begun_of (served_of k fs) ++ begun_of z) (served_in k t.number t.turn new)
+    ∙ ap (λ z. begun_of (served_of k fs) ++ z)
+    (turn_begins (eqb t.number k) t.number t.turn new)
+
+begun_all : (k : ℕ) (before : List Begun) (t : TurnOf) (ts : List TurnOf)
+    → (before ++ begun_if (eqb t.number k) t.turn) ++ begun_in (turns_of k ts)
+    ≡ before ++ begun_in (turns_of k (t ∷ ts))
+unfolding begun_if
+begun_all k before t ts = go (eqb t.number k)
+  where
+    go : (own : Bool) → (before ++ begun_if own t.turn) ++ begun_in (turns_of k ts)
+        ≡ before ++ begun_in (cond own (t.turn ∷ turns_of k ts) (turns_of k ts))
+    go true = append_assoc before (begun_at t.turn) (begun_in (turns_of k ts))
+    go false = ap (λ z. z ++ begun_in (turns_of k ts)) (append-nil before)
+
+-- what holds after all turns, of which the first frames had been begun before
+abbrev HoldsOn : {V : Type 0} → {way : Way V} → Home → Point way → (ℕ → List ℕ)
+    → (ℕ → List ℕ) → (ℕ → List Served) → List Served → List TurnOf → Connections way → Type 0
+HoldsOn home start came taken earlier first ts b =
+    (fs : List Served) × AreServedInTurn home start fs (point_of b)
+    × ((k : ℕ) → HoldsSome home (came k ++ received (turns_of k ts))
+    (taken k ++ handed_out (turns_of k ts)) (earlier k ++ served_of k fs) (b.talks k))
+    × ((k : ℕ) → begun_of (served_of k fs)
+    ≡ begun_of (served_of k first) ++ begun_in (turns_of k ts))
 
 all_hold : {V : Type 0} {way : Way V} (home : Home) (start : Point way) (came taken : ℕ → List ℕ)
     (earlier : ℕ → List Served) (fs : List Served) (ts : List TurnOf) (a b : Connections way)
     → HoldsAll home start came taken earlier fs a → FollowEach a ts b
-    → HoldsAfter home start came taken earlier ts b
+    → HoldsOn home start came taken earlier fs ts b
 all_hold {V} {way} home start came taken earlier fs [] a b h is =
-    subst (λ (z : Connections way). HoldsAfter home start came taken earlier [] z) is (
+    subst (λ (z : Connections way). HoldsOn home start came taken earlier fs [] z) is (
       fs,
       h.chain,
       λ k.
@@ -575,6 +629,7 @@ all_hold {V} {way} home start came taken earlier fs [] a b h is =
           (sym (append-nil (came k)))
           (subst (λ z. HoldsSome home (came k) z (earlier k ++ served_of k fs) (a.talks k))
           (sym (append-nil (taken k))) (h.each k)),
+      λ k. sym (append-nil (begun_of (served_of k fs))),
     )
 all_hold home start came taken earlier fs (t ∷ ts) a b h g =
     let more = frames_in t.number t.turn (g.0.talks t.number) in
@@ -589,14 +644,18 @@ all_hold home start came taken earlier fs (t ∷ ts) a b h g =
           (earlier k ++ served_of k rest.0) (b.talks k)) (came_all k came t ts)
           (subst (λ z. HoldsSome home (came_next came t k ++ received (turns_of k ts)) z
           (earlier k ++ served_of k rest.0) (b.talks k)) (taken_all k taken t ts) (rest.2 k)),
+      λ k.
+          rest.3 k
+          ∙ ap (λ z. z ++ begun_in (turns_of k ts)) (begun_next k fs t (g.0.talks t.number))
+          ∙ begun_all k (begun_of (served_of k fs)) t ts,
     )
 
--- turns, after whatever came and was taken and begun of each connection before them
-pub goes_on : {V : Type 0} {way : Way V} (home : Home) (came taken : ℕ → List ℕ)
+-- the same, and the frames are those that the turns began
+all_go_on : {V : Type 0} {way : Way V} (home : Home) (came taken : ℕ → List ℕ)
     (earlier : ℕ → List Served) (ts : List TurnOf) (a b : Connections way)
     → ((k : ℕ) → HoldsSome home (came k) (taken k) (earlier k) (a.talks k)) → FollowEach a ts b
-    → HoldsAfter home (point_of a) came taken earlier ts b
-goes_on home came taken earlier ts a b h g =
+    → HoldsOn home (point_of a) came taken earlier [] ts b
+all_go_on home came taken earlier ts a b h g =
     all_hold home (point_of a) came taken earlier [] ts a b
     (record {
       chain = refl;
@@ -606,13 +665,21 @@ goes_on home came taken earlier ts a b h g =
           (sym (append-nil (earlier k))) (h k);
     }) g
 
+-- turns, after whatever came and was taken and begun of each connection before them
+pub goes_on : {V : Type 0} {way : Way V} (home : Home) (came taken : ℕ → List ℕ)
+    (earlier : ℕ → List Served) (ts : List TurnOf) (a b : Connections way)
+    → ((k : ℕ) → HoldsSome home (came k) (taken k) (earlier k) (a.talks k)) → FollowEach a ts b
+    → HoldsAfter home (point_of a) came taken earlier ts b
+goes_on home came taken earlier ts a b h g =
+    let all = all_go_on home came taken earlier ts a b h g in (all.0, all.1, all.2, all.3)
+
 pub each_is_served : {V : Type 0} (d : DeskOf V) → EachIsServed d
 each_is_served d home wire turns a b new h =
     let all =
-    goes_on home (λ k. []) (λ k. []) (λ k. []) turns a b
+    all_go_on home (λ k. []) (λ k. []) (λ k. []) turns a b
     (λ k. at_first home wire (a.talks k) (new k)) h in (
       all.0,
       all.1,
       makes_all home (point_of a) (point_of b) all.0 all.1,
-      λ k. let one = all.2 k in (one.0, one.1.served),
+      λ k. let one = all.2 k in (one.0, one.1.served, all.3 k),
     )

@@ -14,7 +14,7 @@ use Rattle.serving.specs.Connection.{AreBegun, Begun, sides}
 use Rattle.serving.specs.Making.{Makes, Outside, Way, speaking}
 use Rattle.serving.specs.Serving.{Act}
 use Rattle.serving.specs.Turns.{LeavesAt, Talk, new_talk}
-use Rattle.serving.specs.TurnLaw.{Place, Turn, Turns, handed_out, received}
+use Rattle.serving.specs.TurnLaw.{Place, Turn, Turns, begun_in, handed_out, received}
 
 -- the connections of a desk by their numbers, what is seen of the node that serves them all, and
 -- what is there beside
@@ -149,7 +149,7 @@ MakesSome hall a b = (acts : List Act) × Makes hall a.outside b.outside acts
 
 -- Of every list of turns of a desk's connections, from their first turns on: the frames begun are
 -- served one after the other, whichever connections they are of. Each connection is answered what
--- its own frames come to, and nothing else.
+-- its own frames come to, and nothing else: they are those that its turns began, in order.
 abbrev pub EachIsServed : {V : Type 0} → DeskOf V → Type 0
 EachIsServed d =
     (home : Home) (wire : Version) (turns : List TurnOf)
@@ -160,7 +160,8 @@ EachIsServed d =
     × MakesSome home.hall (point_of a) (point_of b)
     × ((k : ℕ) → (rest : List ℕ)
     × IsServedOf home (received (turns_of k turns)) (handed_out (turns_of k turns))
-    (served_of k frames) rest (b.talks k))
+    (served_of k frames) rest (b.talks k)
+    × (begun_of (served_of k frames) ≡ begun_in (turns_of k turns)))
 
 -- the turns of the other connections
 abbrev pub without : ℕ → List TurnOf → List TurnOf

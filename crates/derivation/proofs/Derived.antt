@@ -19,7 +19,7 @@ use Rattle.texts.specs.declared.command.Settings.{Settings}
 use Rattle.texts.specs.Fields.{attempt_entry}
 use Rattle.texts.specs.Spelling.{IsFit, spelling}
 use Rattle.rounds.specs.Tables.{Entrant, Table, entrant}
-use Rattle.commands.specs.Accepted.{Opened, opened, round_at, who_advance, round_in, round_of}
+use Rattle.commands.specs.Accepted.{Opened, opened, round_at, round_in, round_of}
 use Rattle.commands.specs.Accepted.{is_wrong, lacks_scramble, round_by}
 use Rattle.commands.specs.Accepted.{scramble_of}
 use Rattle.commands.proofs.Sizes.{all_append}
@@ -166,12 +166,12 @@ has_settings cs e zero round is = absurd (cc)
 has_settings cs e (suc r) round is = step (opened e (suc r) [] cs) is
   where
     step : (o : Option Opened)
-        → option_map (λ x. round_at e (suc r) (who_advance (round_in e r x.before)) x) o
+        → option_map (λ x. round_at e (suc r) (round_in e r x.before) x) o
         ≡ Some round
         → HasSettings round
     step None h = absurd (cc)
     step (Some o) h =
-        let same : round_at e (suc r) (who_advance (round_in e r o.before)) o ≡ round = cc in
+        let same : round_at e (suc r) (round_in e r o.before) o ≡ round = cc in
         subst HasSettings same (record { format = refl; cutoff = refl })
 
 -- What is entered

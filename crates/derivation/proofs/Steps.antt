@@ -1,6 +1,6 @@
 -- What one strike, correction or attempt makes of an entrant's values, where nothing refuses it.
 use Rattle.std.proofs.Common.{◌≡◌, ℕ, ◌+◌, ◌==◌, ◌&&◌, Bool, true, false, cond}
-use Rattle.std.proofs.Common.{max, nat_le, nat_lt, List, [], ◌∷◌, ◌++◌, map, find, length, Option}
+use Rattle.std.proofs.Common.{max, nat_le, List, [], ◌∷◌, ◌++◌, map, find, length, Option}
 use Rattle.std.proofs.Common.{Some, None, option_map, is_some, refl, sym, ap, ◌∙◌}
 use Rattle.std.proofs.lemmas.Bool.{false≢true}
 use Rattle.attempts.specs.declared.Value.{Value}
@@ -21,11 +21,11 @@ use Rattle.texts.specs.Fields.{attempt_entry}
 use Rattle.rounds.specs.Tables.{Entrant, Table, allotted, entrant, has_number, is_done}
 use Rattle.rounds.specs.Tables.{corrected, loses_cutoff, replaced, struck, with_value, without_last}
 use Rattle.commands.specs.Accepted.{edition_after, edition_in, edition_set, is_registered, is_wrong}
-use Rattle.commands.specs.Accepted.{lacks_scramble, name_given, name_of, round_by, scramble_of}
-use Rattle.commands.specs.Accepted.{settled, unfit_refusal, scrambling}
+use Rattle.commands.specs.Accepted.{lacks_scramble, name_given, renaming, round_by, scramble_of}
+use Rattle.commands.specs.Accepted.{settled, unfit_refusal, scrambling, rescrambling}
 use Rattle.commands.specs.History.{spelled_refusal}
 use Rattle.commands.specs.model.Kept.{with_attempt, with_correction, with_strike}
-use Rattle.commands.proofs.Lookups.{first_push, or_none}
+use Rattle.commands.proofs.Lookups.{standing_kept}
 use Rattle.commands.proofs.OneMore.{scramble_kept}
 use Rattle.commands.proofs.EachCommand.{round_attempt, round_correct, round_strike}
 use Rattle.derivation.proofs.Tests.{is_eq, taken}
@@ -35,7 +35,7 @@ use Rattle.derivation.proofs.Tests.{is_eq, taken}
 pub record At (base : List Command) (id : RoundId) (n : ℕ) (settings : Settings)
     (cs : List Command) (vs : List Value) : Type 0 where
   pub known : is_registered cs n ≡ true
-  pub edition : nat_lt (edition_in cs) (event_edition id.event) ≡ false
+  pub edition : nat_le (event_edition id.event) (edition_in cs) ≡ true
   pub table : Table
   pub round : round_by cs id ≡ Some (settings, table)
   pub is_open : table.is_closed ≡ false
@@ -85,11 +85,11 @@ edition_push : (edition : ℕ) (cs : List Command) (c : Command) → edition_set
 edition_push edition [] c none = rw none refl
 edition_push edition (d ∷ ds) c none = edition_push _ ds c none
 
--- a command that gives nobody a name leaves those registered who are
+-- a command that gives nobody a name, the first or another one, leaves those registered who are
 known_push : (cs : List Command) (c : Command) (n : ℕ) → name_given n c ≡ None
-    → is_registered (cs ++ c ∷ []) n ≡ is_registered cs n
-known_push cs c n none =
-    ap is_some (first_push (name_given n) cs c ∙ rw none (or_none (name_of cs n)))
+    → renaming n c ≡ None → is_registered (cs ++ c ∷ []) n ≡ is_registered cs n
+known_push cs c n none same =
+    ap is_some (standing_kept (name_given n) (renaming n) cs c none same)
 
 -- the event of a round is of its edition, and what is entered in it of no later one
 event_first : (e : Event) → max (event_edition e) 1 ≡ event_edition e
@@ -166,13 +166,14 @@ module _ (base : List Command) (id : RoundId) (n : ℕ) (settings : Settings) (c
       rw (right, scrambled) refl
 
   in_edition : (x : Entered) → is_wrong (unit_of id.event) x ≡ false
-      → nat_lt (edition_in cs) (max (event_edition id.event) (entered_edition x)) ≡ false
+      → nat_le (max (event_edition id.event) (entered_edition x)) (edition_in cs) ≡ true
   in_edition x right = rw (entry_edition id.event x right) st.edition
 
   -- a change of the entrant's values in the round
   next : (c : Command) (table : Table) (change : List Value → List Value) (ws : List Value)
-      → name_given n c ≡ None → edition_set c ≡ None
+      → name_given n c ≡ None → renaming n c ≡ None → edition_set c ≡ None
       → ((k : ℕ) → scrambling id.event id.round k c ≡ None)
+      → ((k : ℕ) → rescrambling id.event id.round k c ≡ None)
       → round_by (cs ++ c ∷ []) id ≡ Some (settings, table)
       → table
       ≡ (let t : Table = record st.table {
@@ -183,8 +184,8 @@ module _ (base : List Command) (id : RoundId) (n : ℕ) (settings : Settings) (c
       t)
       → change vs ≡ ws
       → At base id n settings (cs ++ c ∷ []) ws
-  next c table change ws unnamed sets leaves round is gives = record {
-    known = known_push cs c n unnamed ∙ st.known;
+  next c table change ws unnamed same sets leaves keeps round is gives = record {
+    known = known_push cs c n unnamed same ∙ st.known;
     edition = rw (edition_push 1 cs c sets) st.edition;
     table = table;
     round = round;
@@ -196,7 +197,9 @@ module _ (base : List Command) (id : RoundId) (n : ℕ) (settings : Settings) (c
         ap (λ (t : Table). entrant t n) is
         ∙ found_changed n change st.table.entrants st.one st.found;
     values = ap change st.values ∙ gives;
-    scrambles = λ k. scramble_kept id.event id.round k cs c (leaves k) ∙ st.scrambles k;
+    scrambles =
+        λ k.
+        scramble_kept id.event id.round k cs c (leaves k) (keeps k) ∙ st.scrambles k;
   }
 
   changed : (change : Settings × Table → Settings × Table) (now : Option (Settings × Table))
@@ -218,8 +221,8 @@ module _ (base : List Command) (id : RoundId) (n : ℕ) (settings : Settings) (c
       record {
         accepted = rw (st.edition, st.known, st.round, st.is_open, st.found, many) refl;
         then =
-            next (Strike id n) (struck st.table n) without_last (without_last vs) refl refl
-            (λ k. refl)
+            next (Strike id n) (struck st.table n) without_last (without_last vs) refl refl refl
+            (λ k. refl) (λ k. refl)
             (changed (with_strike n) (round_by (cs ++ Strike id n ∷ []) id)
             (round_strike id.event id.event id.round id.round n cs))
             refl refl;
@@ -255,7 +258,7 @@ module _ (base : List Command) (id : RoundId) (n : ℕ) (settings : Settings) (c
             ) refl;
         then =
             next (Correct (attempt_entry id k n x)) (corrected st.table n k (value_now k x))
-            (replaced k (value_now k x)) ws refl refl (λ j. refl)
+            (replaced k (value_now k x)) ws refl refl refl (λ j. refl) (λ j. refl)
             (changed (with_correction n k (scramble_of cs id.event id.round k) x)
             (round_by (cs ++ Correct (attempt_entry id k n x) ∷ []) id)
             (round_correct id.event id.event id.round id.round k n x cs))
@@ -293,7 +296,7 @@ module _ (base : List Command) (id : RoundId) (n : ℕ) (settings : Settings) (c
             ) refl;
         then =
             next (Attempt (attempt_entry id k n x)) (with_value st.table n (value_now k x))
-            (λ us. us ++ value_now k x ∷ []) ws refl refl (λ j. refl)
+            (λ us. us ++ value_now k x ∷ []) ws refl refl refl (λ j. refl) (λ j. refl)
             (changed (with_attempt n (scramble_of cs id.event id.round k) x)
             (round_by (cs ++ Attempt (attempt_entry id k n x) ∷ []) id)
             (round_attempt id.event id.event id.round id.round k n x cs))

@@ -1,19 +1,18 @@
 -- The laws of the commands that are derived from a card.
 use Rattle.std.proofs.Common.{◌≡◌, ℕ, ◌+◌, ◌-◌, ◌<◌, ◌≤◌, Bool, true, false}
-use Rattle.std.proofs.Common.{nat_le, nat_lt, List, [], ◌∷◌, ◌++◌, map, filter, length}
+use Rattle.std.proofs.Common.{nat_le, List, [], ◌∷◌, ◌++◌, map, filter, length}
 use Rattle.std.proofs.Common.{take, Some, option_map, refl, sym, ap, ◌∙◌, subst, arith}
 use Rattle.std.proofs.Common.{append_assoc, append-nil}
 use Rattle.std.specs.Option.{option_and_then}
 use Rattle.std.proofs.Math.Seq.{take-length}
 use Rattle.std.proofs.lemmas.List.{length-take-le}
 use Rattle.attempts.specs.declared.Value.{Value}
-use Rattle.formats.specs.Events.{event_edition}
 use Rattle.texts.specs.declared.command.Command.{Command}
 use Rattle.texts.specs.declared.command.Entered.{Entered}
 use Rattle.texts.specs.declared.command.RoundId.{RoundId}
 use Rattle.texts.specs.declared.command.Settings.{Settings}
 use Rattle.rounds.specs.Tables.{Entrant, Table, allotted, loses_cutoff}
-use Rattle.commands.specs.Accepted.{edition_in, scramble_of, settled}
+use Rattle.commands.specs.Accepted.{scramble_of, settled}
 use Rattle.derivation.specs.declared.card.Card.{Card}
 use Rattle.derivation.specs.declared.field.Field.{Field}
 use Rattle.derivation.specs.Cards.{attempting, commands_for, correcting, fields_from}
@@ -30,7 +29,7 @@ use Rattle.derivation.proofs.Runs.{run_none, Runs, same_self, strikes_run, value
 use Rattle.derivation.proofs.Runs.{length-news}
 use Rattle.derivation.proofs.Sent.{all_done}
 use Rattle.derivation.proofs.Steps.{At}
-use Rattle.derivation.proofs.Tests.{both_true, le_of, le_of_not, lt_of_not, not_lt}
+use Rattle.derivation.proofs.Tests.{both_true, le_of, le_of_not, lt_of_not}
 
 module _ (base : List Command) (id : RoundId) (n : ℕ) (settings : Settings) where
   -- all commands, one after the other, where so many values of the entrant count
@@ -184,12 +183,9 @@ starts cs card commands d =
     let known = both_true _ _ d.known in
     let named = both_true _ _ d.named in
     let has = has_settings cs card.round.event card.round.round (d.settings, d.table) d.round in
-    let edition : nat_lt (edition_in cs) (event_edition card.round.event) ≡ false =
-    not_lt (edition_in cs) (event_edition card.round.event)
-    (le_of (event_edition card.round.event) (edition_in cs) named.1) in
     record {
       known = known.1;
-      edition = edition;
+      edition = named.1;
       table = d.table;
       round = d.round;
       is_open = d.is_open;

@@ -3,7 +3,7 @@
 ghost use Rattle.std.specs.Prelude.{◌≤◌, None};
 
 use node::Node;
-use serving::{Peers, Served, serve_connection};
+use serving::{Peers, Permission, Served, serve_connection};
 use std::alloc::{AllocError, Global};
 use std::io;
 use std::io::{Error, ErrorKind, Read, Write};
@@ -140,6 +140,7 @@ impl Side {
             &mut self.node,
             &mut self.pushed,
             wire,
+            Permission::All,
         )
     }
 

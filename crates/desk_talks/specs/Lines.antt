@@ -1,5 +1,5 @@
 -- A connection to one desk that is kept up. Times are milliseconds.
-use Rattle.std.specs.Prelude.{ℕ, ◌≡◌, ◌-◌, List, [], Option, None, Some, Bool, true, false}
+use Rattle.std.specs.Prelude.{ℕ, ◌≡◌, ◌+◌, ◌-◌, List, [], Option, None, Some, Bool, true, false}
 use Rattle.std.specs.Prelude.{nat_le, if◌then◌else◌, option_map}
 use Rattle.wire.specs.declared.frame.Frame.{Frame}
 use Rattle.wire.specs.Stream.{holding}
@@ -11,17 +11,24 @@ use Rattle.desk_talks.specs.declared.line.Stage.TheVariants as stage
 use Rattle.desk_talks.specs.declared.talk.Heard.{Heard}
 use Rattle.desk_talks.specs.declared.talk.Heard.TheVariants as heard
 
--- the pace, what the connection has come to, and the talk over it, if it is open
+-- the pace, what the connection has come to, the talk over it, if it is open, and how many
+-- questions were asked over it, of which no more than 64 are counted
 pub record LineOf : Type 0 where
   pub pace : ℕ
   pub stage : Stage
   pub talking : Option TalkOf
+  pub asked : ℕ
 
-abbrev pub line : ℕ → Stage → Option TalkOf → LineOf
-line pace stage talking = record { pace = pace; stage = stage; talking = talking }
+abbrev pub line : ℕ → Stage → Option TalkOf → ℕ → LineOf
+line pace stage talking asked =
+    record { pace = pace; stage = stage; talking = talking; asked = asked }
 
 abbrev pub new_line : ℕ → LineOf
-new_line pace = line pace (stage.Closed None) None
+new_line pace = line pace (stage.Closed None) None 0
+
+-- a desk answers 64 questions over one connection, and then ends it
+abbrev pub is_used_up : ℕ → Bool
+is_used_up asked = nat_le 64 asked
 
 -- ---- time
 
@@ -44,26 +51,33 @@ pace_left (Some last) pace now = left_of now last pace
 
 -- ---- what is due
 
-abbrev pub due_at : Stage → ℕ → ℕ → Due
-due_at (stage.Closed last) pace now = if is_free last pace now then due.Open else due.Rest
-due_at (stage.Opening since) pace now = if is_over now since 2000 then due.Close else due.Rest
-due_at (stage.Opened since) pace now = due.Ask
-due_at (stage.Asked since) pace now = if is_over now since 2000 then due.Close else due.Rest
-due_at (stage.Answered last) pace now = if is_free last pace now then due.Ask else due.Rest
+-- once the desk has answered all that it answers over one connection, the next one is to be opened
+abbrev pub due_at : Stage → Bool → ℕ → ℕ → Due
+due_at (stage.Closed last) used_up pace now =
+    if is_free last pace now then due.Open else due.Rest
+due_at (stage.Opening since) used_up pace now =
+    if is_over now since 2000 then due.Close else due.Rest
+due_at (stage.Opened since) used_up pace now = due.Ask
+due_at (stage.Asked since) used_up pace now =
+    if is_over now since 2000 then due.Close else due.Rest
+due_at (stage.Answered last) true pace now = due.Renew
+due_at (stage.Answered last) false pace now =
+    if is_free last pace now then due.Ask else due.Rest
 
 abbrev pub due_of : LineOf → ℕ → Due
-due_of l now = due_at l.stage l.pace now
+due_of l now = due_at l.stage (is_used_up l.asked) l.pace now
 
-abbrev pub wait_at : Stage → ℕ → ℕ → ℕ
-wait_at (stage.Closed last) pace now = pace_left last pace now
-wait_at (stage.Opening since) pace now = left_of now since 2000
-wait_at (stage.Opened since) pace now = 0
-wait_at (stage.Asked since) pace now = left_of now since 2000
-wait_at (stage.Answered last) pace now = pace_left last pace now
+abbrev pub wait_at : Stage → Bool → ℕ → ℕ → ℕ
+wait_at (stage.Closed last) used_up pace now = pace_left last pace now
+wait_at (stage.Opening since) used_up pace now = left_of now since 2000
+wait_at (stage.Opened since) used_up pace now = 0
+wait_at (stage.Asked since) used_up pace now = left_of now since 2000
+wait_at (stage.Answered last) true pace now = 0
+wait_at (stage.Answered last) false pace now = pace_left last pace now
 
 -- how long it is until something is due, if nothing comes
 abbrev pub wait_of : LineOf → ℕ → ℕ
-wait_of l now = wait_at l.stage l.pace now
+wait_of l now = wait_at l.stage (is_used_up l.asked) l.pace now
 
 abbrev pub is_opening : Stage → Bool
 is_opening (stage.Closed last) = false
@@ -84,10 +98,10 @@ last_of (stage.Asked since) = Some since
 last_of (stage.Answered last) = last
 
 abbrev pub closed : LineOf → LineOf
-closed l = line l.pace (stage.Closed (last_of l.stage)) None
+closed l = line l.pace (stage.Closed (last_of l.stage)) None 0
 
 abbrev pub opening : LineOf → ℕ → LineOf
-opening l now = line l.pace (stage.Opening now) None
+opening l now = line l.pace (stage.Opening now) None 0
 
 abbrev pub opened_stage : Stage → Stage
 opened_stage (stage.Closed last) = stage.Closed last
@@ -99,16 +113,19 @@ opened_stage (stage.Answered last) = stage.Answered last
 -- the connection is open and nothing was said over it; where memory is refused, it is closed
 abbrev pub Opens : Bool → LineOf → LineOf → Type 0
 Opens true old new =
-    new ≡ line old.pace (opened_stage old.stage) (Some (talk (holding []) None []))
+    new ≡ line old.pace (opened_stage old.stage) (Some (talk (holding []) None [])) 0
 Opens false old new = new ≡ closed old
 
 -- ---- what is said over it
+
+abbrev pub asked_once_more : ℕ → ℕ
+asked_once_more asked = if nat_le 64 asked then asked else asked + 1
 
 -- the question is asked; where there is no connection, or memory is refused, it is closed
 abbrev pub AsksOver : Bool → ℕ → Frame → LineOf → LineOf → Type 0
 AsksOver true now question old new =
     (t : TalkOf) × (old.talking ≡ Some t)
-    × (new ≡ line old.pace (stage.Asked now) (Some (asking t question)))
+    × (new ≡ line old.pace (stage.Asked now) (Some (asking t question)) (asked_once_more old.asked))
 AsksOver false now question old new = new ≡ closed old
 
 abbrev pub hurried_stage : Stage → Stage
@@ -119,7 +136,7 @@ hurried_stage (stage.Asked since) = stage.Asked since
 hurried_stage (stage.Answered last) = stage.Answered None
 
 abbrev pub hurried : LineOf → LineOf
-hurried l = line l.pace (hurried_stage l.stage) l.talking
+hurried l = line l.pace (hurried_stage l.stage) l.talking l.asked
 
 -- what is to be written
 abbrev pub unsent_by : Option TalkOf → List ℕ
@@ -127,7 +144,7 @@ unsent_by None = []
 unsent_by (Some t) = t.unsent
 
 abbrev pub sent_by : LineOf → ℕ → LineOf
-sent_by l count = line l.pace l.stage (option_map (λ t. sending t count) l.talking)
+sent_by l count = line l.pace l.stage (option_map (λ t. sending t count) l.talking) l.asked
 
 abbrev pub answered_stage : Stage → Stage
 answered_stage (stage.Closed last) = stage.Closed last
@@ -138,9 +155,9 @@ answered_stage (stage.Answered last) = stage.Answered last
 
 -- what the bytes come to closes the connection, or it goes on
 abbrev pub after_heard : Heard → LineOf → TalkOf → LineOf
-after_heard heard.Waits l t = line l.pace l.stage (Some t)
-after_heard (heard.Answer what) l t = line l.pace (answered_stage l.stage) (Some t)
-after_heard (heard.Refused refusal) l t = line l.pace (answered_stage l.stage) (Some t)
+after_heard heard.Waits l t = line l.pace l.stage (Some t) l.asked
+after_heard (heard.Answer what) l t = line l.pace (answered_stage l.stage) (Some t) l.asked
+after_heard (heard.Refused refusal) l t = line l.pace (answered_stage l.stage) (Some t) l.asked
 after_heard heard.NoAnswer l t = closed l
 
 -- without a connection nothing comes

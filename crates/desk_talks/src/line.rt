@@ -6,6 +6,7 @@ ghost use Rattle.desk_talks.specs.Lines.{AsksOver, HearsOver, Opens, answered_st
 ghost use Rattle.desk_talks.specs.Lines.{due_at, due_of, hurried, is_free, is_opening, is_over};
 ghost use Rattle.desk_talks.specs.Lines.{last_of, left_of, new_line, opened_stage, opening};
 ghost use Rattle.desk_talks.specs.Lines.{pace_left, sent_by, unsent_by, wait_at, wait_of};
+ghost use Rattle.desk_talks.specs.Lines.{asked_once_more, is_used_up};
 
 use crate::talk::{Heard, Talk};
 use std::alloc::Global;
@@ -14,6 +15,9 @@ use wire::Frame;
 
 /// How long a desk may be silent, in milliseconds.
 const PATIENCE: u64 = 2000;
+
+/// How many questions a desk answers over one connection, before it ends it.
+const MOST_QUESTIONS: u32 = 64;
 
 /// What a connection to a desk has come to. Times are milliseconds.
 #[derive(Clone, Copy, PartialEq, Eq, Debug)]
@@ -44,22 +48,28 @@ pub enum Due {
     /// It is to be closed, since the desk is silent for two seconds: no connection could be opened,
     /// or no answer came.
     Close,
+    /// It is to be closed, and then opened again: the desk has answered as many questions over it
+    /// as a desk answers over one connection.
+    Renew,
 }
 
 /// A connection to one desk that is kept up: it is opened, the desk is asked one question after the
-/// other over it, and where it is lost, or the desk is silent for two seconds, it is opened again.
+/// other over it, and where it is lost, the desk is silent for two seconds, or 64 questions were
+/// answered over it, which is all that a desk answers over one connection, it is opened again.
 /// From one question to the next there is at least the pace, and so there is from a question, or
 /// from an opening, to the next opening. Over a new connection the desk may be asked at once.
 ///
-/// A contract sees the pace in milliseconds, what the connection has come to, and the talk over it,
-/// if it is open. Times are milliseconds of a clock that doesn't go back; where it does, more time
-/// passes between questions.
+/// A contract sees the pace in milliseconds, what the connection has come to, the talk over it, if
+/// it is open, and how many questions were asked over it, of which no more than 64 are counted.
+/// Times are milliseconds of a clock that doesn't go back; where it does, more time passes between
+/// questions.
 #[derive(Drop)]
 pub struct Line {
     alloc: Global,
     pace: u64,
     stage: Stage,
     talk: Option<Talk>,
+    asked: u32,
 }
 
 impl Model for Line {
@@ -67,7 +77,7 @@ impl Model for Line {
 
     ghost Value = { LineOf };
 
-    ghost view = { λ l. line l.pace l.stage l.talk };
+    ghost view = { λ l. line l.pace l.stage l.talk l.asked };
 }
 
 /// Whether so many milliseconds have gone since then.
@@ -106,9 +116,27 @@ fn pace_left(last: Option<u64>, pace: u64, now: u64) -> u64
     }
 }
 
-/// What is due in this stage.
-fn due_at(stage: Stage, pace: u64, now: u64) -> Due
-    ensures { result ≡ due_at stage pace now }
+/// Whether so many questions are all that a desk answers over one connection.
+fn is_used_up(asked: u32) -> bool
+    ensures { result ≡ is_used_up asked }
+{
+    asked >= MOST_QUESTIONS
+}
+
+/// How many questions were asked with one more, of which no more than 64 are counted.
+fn asked_once_more(asked: u32) -> u32
+    ensures { result ≡ asked_once_more asked }
+{
+    if asked >= MOST_QUESTIONS {
+        asked
+    } else {
+        asked + 1
+    }
+}
+
+/// What is due in this stage, of a connection that is used up or not.
+fn due_at(stage: Stage, used_up: bool, pace: u64, now: u64) -> Due
+    ensures { result ≡ due_at stage used_up pace now }
 {
     match stage {
         Stage::Closed { last } if is_free(last, pace, now) => Due::Open,
@@ -116,17 +144,19 @@ fn due_at(stage: Stage, pace: u64, now: u64) -> Due
             Due::Close
         }
         Stage::Opened { .. } => Due::Ask,
+        Stage::Answered { .. } if used_up => Due::Renew,
         Stage::Answered { last } if is_free(last, pace, now) => Due::Ask,
         _ => Due::Rest,
     }
 }
 
-/// How long it is until something is due in this stage.
-fn wait_at(stage: Stage, pace: u64, now: u64) -> u64
-    ensures wait { result ≡ wait_at stage pace now }
+/// How long it is until something is due in this stage, of a connection that is used up or not.
+fn wait_at(stage: Stage, used_up: bool, pace: u64, now: u64) -> u64
+    ensures wait { result ≡ wait_at stage used_up pace now }
     ensures most { result ≤ max pace 2000 }
 {
     match stage {
+        Stage::Answered { .. } if used_up => 0,
         Stage::Closed { last } | Stage::Answered { last } => pace_left(last, pace, now),
         Stage::Opening { since } | Stage::Asked { since } => left_of(now, since, PATIENCE),
         Stage::Opened { .. } => 0,
@@ -173,6 +203,7 @@ impl Line {
             pace,
             stage: Stage::Closed { last: None },
             talk: None,
+            asked: 0,
         }
     }
 
@@ -187,7 +218,7 @@ impl Line {
     pub fn due(&self, now: u64) -> Due
         ensures { result ≡ due_of self.now now }
     {
-        due_at(self.stage, self.pace, now)
+        due_at(self.stage, is_used_up(self.asked), self.pace, now)
     }
 
     /// In how many milliseconds something is due, if no other call is made: 0 where something is
@@ -196,7 +227,7 @@ impl Line {
         ensures wait { result ≡ wait_of self.now now }
         ensures most { result ≤ max self.now.pace 2000 }
     {
-        wait_at(self.stage, self.pace, now)
+        wait_at(self.stage, is_used_up(self.asked), self.pace, now)
     }
 
     /// Whether a connection is being opened.
@@ -211,6 +242,7 @@ impl Line {
         ensures { self.new ≡ opening self.old now }
     {
         self.talk = None;
+        self.asked = 0;
         self.stage = Stage::Opening { since: now };
     }
 
@@ -224,6 +256,7 @@ impl Line {
             return false;
         };
         self.talk = Some(talk);
+        self.asked = 0;
         self.stage = opened_stage(self.stage);
         true
     }
@@ -233,6 +266,7 @@ impl Line {
         ensures { self.new ≡ closed self.old }
     {
         self.talk = None;
+        self.asked = 0;
         self.stage = Stage::Closed {
             last: last_of(self.stage),
         };
@@ -251,6 +285,7 @@ impl Line {
         };
         if asked {
             self.stage = Stage::Asked { since: now };
+            self.asked = asked_once_more(self.asked);
         } else {
             self.close();
         }

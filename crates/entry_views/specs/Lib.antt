@@ -1,5 +1,6 @@
 pub mod Notes
 pub mod Fields
+pub mod Leaving
 pub mod Card
 pub mod Beside
 pub mod Origin

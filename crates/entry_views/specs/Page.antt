@@ -14,15 +14,18 @@ use Rattle.entry_views.specs.declared.draft.Draft.{Draft}
 use Rattle.entry_views.specs.declared.origin.Origin.{Origin}
 use Rattle.entry_views.specs.Beside.{IsBeside}
 use Rattle.entry_views.specs.Card.{card_head, card_fields, form_start, form_end, spare}
+use Rattle.entry_views.specs.Leaving.{leaving_line}
 use Rattle.entry_views.specs.Origin.{origin_line}
 
 -- the section of the card: the round and its rules, and the form, which carries the token, the
--- first id and the others as spare ones, and says where what stands comes from
+-- first id and the others as spare ones, says where what stands comes from, and links to where
+-- somebody without an attempt is withdrawn
 unfoldable pub card_section : Around → RoundId → Settings × Table → Draft → Option Origin → List ℕ
 card_section around id round draft origin =
     card_head id round.0
     ++ form_start around.token.now (get_or around.ids.now 0 0)
     (flat_map spare (drop 1 around.ids.now)) id round.0 ++ origin_line origin
+    ++ leaving_line round.1 draft
     ++ card_fields (accepted_in around.mirror.now) id round.0 round.1 draft ++ form_end
 
 -- what stands before the round

@@ -34,7 +34,7 @@ pub(crate) fn notes_of<'a>(draft: Draft<'a>) -> &'a [Note]
 }
 
 /// The number of the competitor whose card it is, where it is one.
-fn competitor_of(draft: Draft<'_>) -> Option<u16>
+pub(crate) fn competitor_of(draft: Draft<'_>) -> Option<u16>
     ensures { result ≡ competitor_of draft.entry }
 {
     match draft {

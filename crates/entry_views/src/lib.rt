@@ -5,6 +5,7 @@ mod beside;
 mod card;
 mod draft;
 mod fields;
+mod leaving;
 mod notes;
 mod origin;
 mod page;

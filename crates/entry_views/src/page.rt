@@ -10,6 +10,7 @@ ghost use Rattle.table_views.specs.Logs.{accepted_in};
 use crate::beside::push_round;
 use crate::card::{push_card_fields, push_form_end, push_form_start, push_head};
 use crate::draft::Draft;
+use crate::leaving::push_leaving;
 use crate::origin::{Origin, push_origin};
 use acceptor::NoMemory;
 use commands::Meet;
@@ -55,6 +56,7 @@ fn push_card(
     push_head(out, id, round.settings)?;
     push_form_start(out, around.token, around.ids, id, round.settings)?;
     push_origin(out, origin)?;
+    push_leaving(out, round.table, draft)?;
     push_card_fields(out, around.mirror.meet(), id, round, draft)?;
     push_form_end(out)?;
     Ok(())
@@ -108,8 +110,9 @@ fn page_of(
 /// The page of a card of a round; none where the round was not opened.
 ///
 /// It has the form of the card, filled in with the draft, which carries the token and the first of
-/// the ids, and says which entry of the log was the last on these attempts, where `origin` says so;
-/// the cards and commands of late; and the round, whose cells are the fields of its sheet.
+/// the ids, and says which entry of the log was the last on these attempts, where `origin` says so,
+/// with a link for a competitor who can withdraw; the cards and commands of late; and the round,
+/// whose cells are the fields of its sheet.
 pub fn card_page(
     alloc: Global,
     around: &Around<'_>,

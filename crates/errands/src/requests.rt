@@ -53,13 +53,14 @@ fn what_of(request: Request) -> What
     }
 }
 
-/// The first version of the wire that has a frame for a request.
+/// The first version of the wire that has a frame for a request and all that it may be answered.
 fn version_of(request: Request) -> Version
     ensures { result ≡ version_of request }
 {
     match request {
         Request::Sheet { event, .. } => sheet_version(event),
-        Request::Ask { .. } | Request::Tick | Request::Stop => Version::One,
+        Request::Ask { .. } => Version::Three,
+        Request::Tick | Request::Stop => Version::One,
     }
 }
 

@@ -9,7 +9,7 @@ use Rattle.following.specs.declared.stages.Action.{Action}
 use Rattle.following.specs.declared.stages.Action.TheVariants.{Rest, Open, Ask, Close, Stop}
 use Rattle.following.specs.Following.{Following, action_of, is_stopped, is_to_be_left, may_open}
 use Rattle.following.specs.Following.{may_ask, is_connected, is_free, last_of, opened_stage}
-use Rattle.following.specs.Following.{hurried_stage}
+use Rattle.following.specs.Following.{hurried_stage, left_stage}
 use Rattle.following.specs.Laws.{IsAfter}
 
 abbrev pub Chosen : Action → Bool → Bool → Bool → Bool → ℕ → ℕ → Type 0
@@ -50,6 +50,7 @@ chosen done s now is =
 -- the time of a question that waits for its answer
 abbrev pub asked_in : Stage → Option ℕ
 asked_in (stage.Closed last) = None
+asked_in (stage.Ended last) = None
 asked_in (stage.Opening since) = None
 asked_in (stage.Opened since) = None
 asked_in (stage.Asked since) = Some since
@@ -60,6 +61,7 @@ asked_in stage.Stopped = None
 -- the time since which a connection is being opened
 abbrev pub opening_in : Stage → Option ℕ
 opening_in (stage.Closed last) = None
+opening_in (stage.Ended last) = None
 opening_in (stage.Opening since) = Some since
 opening_in (stage.Opened since) = None
 opening_in (stage.Asked since) = None
@@ -70,6 +72,7 @@ opening_in stage.Stopped = None
 -- the time at which opening was begun, where nothing was asked yet
 abbrev pub fresh_in : Stage → Option ℕ
 fresh_in (stage.Closed last) = None
+fresh_in (stage.Ended last) = None
 fresh_in (stage.Opening since) = Some since
 fresh_in (stage.Opened since) = Some since
 fresh_in (stage.Asked since) = None
@@ -77,9 +80,10 @@ fresh_in (stage.Answered last) = None
 fresh_in (stage.Useless last) = None
 fresh_in stage.Stopped = None
 
--- the last question was answered with something of use, and the connection is open
+-- the last question was answered with something of use, and no connection was opened since
 abbrev pub answered_in : Stage → Bool
 answered_in (stage.Closed last) = false
+answered_in (stage.Ended last) = true
 answered_in (stage.Opening since) = false
 answered_in (stage.Opened since) = false
 answered_in (stage.Asked since) = false
@@ -100,6 +104,8 @@ pub record OpensFrom (st : Stage) (now : ℕ) : Type 0 where
 pub opens_from : (st : Stage) (now : ℕ) → may_open st now ≡ true → OpensFrom st now
 opens_from (stage.Closed last) now e =
     record { unasked = refl; apart = refl; free = free_after last now e }
+opens_from (stage.Ended last) now e =
+    record { unasked = refl; apart = refl; free = free_after last now e }
 opens_from (stage.Opening since) now e = cc
 opens_from (stage.Opened since) now e = cc
 opens_from (stage.Asked since) now e = cc
@@ -114,6 +120,7 @@ pub data AsksFrom (st : Stage) (now : ℕ) : Type 0 where
 
 pub asks_from : (st : Stage) (now : ℕ) → may_ask st now ≡ true → AsksFrom st now
 asks_from (stage.Closed last) now e = absurd (let bad : false ≡ true = e in cc)
+asks_from (stage.Ended last) now e = absurd (let bad : false ≡ true = e in cc)
 asks_from (stage.Opening since) now e = absurd (let bad : false ≡ true = e in cc)
 asks_from (stage.Opened since) now e = OnNew since refl refl
 asks_from (stage.Asked since) now e = absurd (let bad : false ≡ true = e in cc)
@@ -123,6 +130,7 @@ asks_from stage.Stopped now e = absurd (let bad : false ≡ true = e in cc)
 
 pub asks_connected : (st : Stage) (now : ℕ) → may_ask st now ≡ true → is_connected st ≡ true
 asks_connected (stage.Closed last) now e = e
+asks_connected (stage.Ended last) now e = e
 asks_connected (stage.Opening since) now e = refl
 asks_connected (stage.Opened since) now e = refl
 asks_connected (stage.Asked since) now e = refl
@@ -138,16 +146,100 @@ first_true false b e = e
 pub record IsApart (st : Stage) : Type 0 where
   pub unasked : asked_in st ≡ None
   pub unopened : opening_in st ≡ None
-  pub unanswered : answered_in st ≡ false
 
 pub apart_in : (st : Stage) → is_connected st ≡ false → IsApart st
-apart_in (stage.Closed last) e = record { unasked = refl; unopened = refl; unanswered = refl }
+apart_in (stage.Closed last) e = record { unasked = refl; unopened = refl }
+apart_in (stage.Ended last) e = record { unasked = refl; unopened = refl }
 apart_in (stage.Opening since) e = absurd (let bad : true ≡ false = e in cc)
 apart_in (stage.Opened since) e = absurd (let bad : true ≡ false = e in cc)
 apart_in (stage.Asked since) e = absurd (let bad : true ≡ false = e in cc)
 apart_in (stage.Answered last) e = absurd (let bad : true ≡ false = e in cc)
 apart_in (stage.Useless last) e = absurd (let bad : true ≡ false = e in cc)
-apart_in stage.Stopped e = record { unasked = refl; unopened = refl; unanswered = refl }
+apart_in stage.Stopped e = record { unasked = refl; unopened = refl }
+
+-- once a connection is closed or lost
+pub record IsEnded (old new : Stage) : Type 0 where
+  pub stopped : is_stopped new ≡ false
+  pub asked : asked_in new ≡ None
+  pub rests : answered_in new ≡ answered_in old
+  pub opening : opening_in new ≡ None
+  pub last : last_of new ≡ last_of old
+  pub apart : is_connected new ≡ false
+  pub fresh : fresh_in new ≡ None
+
+pub left_in : (st : Stage) → IsEnded st (left_stage st)
+left_in (stage.Closed last) = record {
+  stopped = refl;
+  asked = refl;
+  rests = refl;
+  opening = refl;
+  last = refl;
+  apart = refl;
+  fresh = refl;
+}
+left_in (stage.Ended last) = record {
+  stopped = refl;
+  asked = refl;
+  rests = refl;
+  opening = refl;
+  last = refl;
+  apart = refl;
+  fresh = refl;
+}
+left_in (stage.Opening since) = record {
+  stopped = refl;
+  asked = refl;
+  rests = refl;
+  opening = refl;
+  last = refl;
+  apart = refl;
+  fresh = refl;
+}
+left_in (stage.Opened since) = record {
+  stopped = refl;
+  asked = refl;
+  rests = refl;
+  opening = refl;
+  last = refl;
+  apart = refl;
+  fresh = refl;
+}
+left_in (stage.Asked since) = record {
+  stopped = refl;
+  asked = refl;
+  rests = refl;
+  opening = refl;
+  last = refl;
+  apart = refl;
+  fresh = refl;
+}
+left_in (stage.Answered last) = record {
+  stopped = refl;
+  asked = refl;
+  rests = refl;
+  opening = refl;
+  last = refl;
+  apart = refl;
+  fresh = refl;
+}
+left_in (stage.Useless last) = record {
+  stopped = refl;
+  asked = refl;
+  rests = refl;
+  opening = refl;
+  last = refl;
+  apart = refl;
+  fresh = refl;
+}
+left_in stage.Stopped = record {
+  stopped = refl;
+  asked = refl;
+  rests = refl;
+  opening = refl;
+  last = refl;
+  apart = refl;
+  fresh = refl;
+}
 
 -- once a connection is said to be open
 pub record IsOpened (old new : Stage) : Type 0 where
@@ -161,6 +253,15 @@ pub record IsOpened (old new : Stage) : Type 0 where
 
 pub opened_in : (st : Stage) → IsOpened st (opened_stage st)
 opened_in (stage.Closed last) = record {
+  stopped = refl;
+  asked = refl;
+  rests = refl;
+  unopened = refl;
+  last = refl;
+  connected = refl;
+  fresh = refl;
+}
+opened_in (stage.Ended last) = record {
   stopped = refl;
   asked = refl;
   rests = refl;
@@ -236,6 +337,15 @@ pub record IsHurried (old new : Stage) : Type 0 where
 
 pub hurried_in : (st : Stage) → IsHurried st (hurried_stage st)
 hurried_in (stage.Closed last) = record {
+  stopped = refl;
+  asked = refl;
+  rests = refl;
+  opening = refl;
+  last = refl;
+  connected = refl;
+  fresh = refl;
+}
+hurried_in (stage.Ended last) = record {
   stopped = refl;
   asked = refl;
   rests = refl;

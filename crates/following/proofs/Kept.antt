@@ -22,7 +22,7 @@ use Rattle.following.specs.Histories.{opening as opening_of}
 use Rattle.following.specs.Laws.{IsAfter}
 use Rattle.following.proofs.Choices.{chosen, answered_in, asked_in, opening_in, fresh_in}
 use Rattle.following.proofs.Choices.{asks_connected, first_true, apart_in, opened_in, hurried_in}
-use Rattle.following.proofs.Choices.{opens_from}
+use Rattle.following.proofs.Choices.{left_in, opens_from}
 use Rattle.following.proofs.Turns.{IsTurn, turn_opened, turn_left}
 use Rattle.following.proofs.Telling.{IsUpTo, Tells, up_to_after, after_up_to}
 
@@ -52,26 +52,30 @@ left : (desks first : ℕ) (h g : History) (s : Following) → Tells desks first
     → is_connected s.stage ≡ true → unanswered g ≡ None → opening_of g ≡ None
     → last_try g ≡ last_try h → last_question g ≡ last_question h
     → held_after first g ≡ held_after first h → longest g ≡ longest h → behind_since g ≡ None
-    → openings g ≡ openings h → rests g ≡ false → Tells desks first g (next_desk s)
-left desks first h g s t connected asked opening try question held most behind opened unrested =
+    → openings g ≡ openings h → rests g ≡ rests h → Tells desks first g (next_desk s)
+left desks first h g s t connected asked opening try question held most behind opened rested =
+    let l = left_in s.stage in
     record {
       number = t.number;
-      runs = refl;
-      asked = sym asked;
-      opening = sym opening;
-      last = t.last ∙ sym try;
-      rests = sym unrested;
+      runs = l.stopped;
+      asked = l.asked ∙ sym asked;
+      opening = l.opening ∙ sym opening;
+      last = l.last ∙ t.last ∙ sym try;
+      rests = l.rests ∙ t.rests ∙ sym rested;
       held = t.held ∙ sym held;
       most = t.most ∙ sym most;
       behind = sym behind;
       alone = λ e. refl;
       turn =
-          subst (λ z. IsTurn desks (next_place s.desks s.desk) false z) (sym opened)
+          subst (λ z. IsTurn desks (next_place s.desks s.desk) z (openings g)) (sym l.apart)
+          (subst (λ z. IsTurn desks (next_place s.desks s.desk) false z) (sym opened)
           (subst (λ z. IsTurn desks (next_place z s.desk) false (openings h)) (sym t.number)
           (turn_left desks s.desk (openings h)
-          (subst (λ z. IsTurn desks s.desk z (openings h)) connected t.turn)));
-      paced = subst (λ z. IsUpTo z (last_of s.stage)) (sym question) t.paced;
-      fresh = λ since e. absurd (let bad : None ≡ Some since = e in cc);
+          (subst (λ z. IsTurn desks s.desk z (openings h)) connected t.turn))));
+      paced =
+          subst (λ z. IsUpTo (last_question g) z) (sym l.last)
+          (subst (λ z. IsUpTo z (last_of s.stage)) (sym question) t.paced);
+      fresh = λ since e. absurd (let bad : None ≡ Some since = sym l.fresh ∙ e in cc);
     }
 
 lost_if : (connected : Bool) (desks first : ℕ) (h : History) (s : Following)
@@ -85,7 +89,7 @@ lost_if false desks first h s is t = record {
   asked = (apart_in s.stage is).unasked;
   opening = (apart_in s.stage is).unopened;
   last = t.last;
-  rests = (apart_in s.stage is).unanswered;
+  rests = t.rests;
   held = t.held;
   most = t.most;
   behind = t.alone is;
@@ -403,6 +407,8 @@ answered_at : (st : Stage) (desks first now : ℕ) (taken : Option Taken) (held 
     → Tells desks first (Then h (Answered now taken held length))
     (told_at st s now taken held length)
 answered_at (stage.Closed last) desks first now taken held length h s at same t =
+    unasked desks first now taken held length h s (ap asked_in at) t
+answered_at (stage.Ended last) desks first now taken held length h s at same t =
     unasked desks first now taken held length h s (ap asked_in at) t
 answered_at (stage.Opening since) desks first now taken held length h s at same t =
     unasked desks first now taken held length h s (ap asked_in at) t

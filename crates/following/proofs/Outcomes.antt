@@ -2,7 +2,7 @@
 use Rattle.std.proofs.Common.{◌≡◌, refl, sym, ap, subst, ◌∙◌, ℕ, ◌+◌, ◌-◌, ◌≤◌, ◌<◌, suc, ◌∷◌}
 use Rattle.std.proofs.Common.{arith}
 use Rattle.std.proofs.Common.{Bool, true, false, Option, None, Some, if◌then◌else◌, inl, inr, ◌⊎◌}
-use Rattle.std.specs.Prelude.{◌&&◌, ◌||◌, nat_lt, max}
+use Rattle.std.specs.Prelude.{◌&&◌, ◌||◌, nat_lt, max, not}
 use Rattle.std.proofs.lemmas.Bool.{le-leb, leb-true}
 use Rattle.mirror.specs.declared.mirror.Taken.{Taken}
 use Rattle.mirror.specs.declared.mirror.Taken.TheVariants.{Grew, Known, Gap, Differs}
@@ -17,10 +17,12 @@ use Rattle.following.specs.Following.{next_desk, told_at, after_answer, last_of}
 use Rattle.following.specs.Following.{opened_stage, hurried_stage}
 use Rattle.following.specs.Histories.{Call, Acted, Opened, Answered, Lost, Hurried, Calls}
 use Rattle.following.specs.Histories.{History, Start, Then, Leads, is_other, differed, latest}
-use Rattle.following.specs.Histories.{last_question, openings, longest}
+use Rattle.following.specs.Histories.{last_question, last_try, openings, longest, unanswered}
+use Rattle.following.specs.Histories.{is_full, is_useful, rests, rests_after, time_after}
+use Rattle.following.specs.Histories.{tried_after, tried_in_vain}
 use Rattle.following.specs.Laws.{IsAfter, IsPaced, QuestionsArePaced, FullAnswersGoOn}
 use Rattle.following.specs.Laws.{AsksWhereItEnds, IsLeft, SilentDesksAreLeft, BehindDesksAreLeft}
-use Rattle.following.specs.Laws.{NoneIsForgotten, StopsForGood, AreInTurn}
+use Rattle.following.specs.Laws.{NoneIsForgotten, StopsForGood, AreInTurn, HurriesNeedAnswers}
 use Rattle.following.proofs.Choices.{chosen, asked_in, opening_in, fresh_in, opens_from}
 use Rattle.following.proofs.Choices.{asks_from, OnNew}
 use Rattle.following.proofs.Choices.{OnKept}
@@ -143,14 +145,19 @@ asked_paced : (desks first : ℕ) (h : History) (s : Following) (now : ℕ) → 
 asked_paced desks first h s now t since last before fresh =
     after_later (last_question h) since now (t.fresh since fresh) before
 
+opening_paced : (desks first : ℕ) (h : History) (s : Following) (now d : ℕ)
+    → Leads desks first h s → Open d ≡ action_of s now → IsAfter (last_try h) now
+opening_paced desks first h s now d leads is =
+    let why = chosen (Open d) s now is in
+    let t = all_tell desks first h s leads (runs_at desks first h s now leads why.0) in
+    subst (λ z. IsAfter z now) t.last (opens_from s.stage now why.2).free
+
 paced : (done : Action) (desks first : ℕ) (h : History) (s : Following) (now : ℕ)
     → Leads desks first h s → IsTimedBy s (latest h) → latest h ≤ now → done ≡ action_of s now
     → IsPaced done h now
 paced Rest desks first h s now leads times later is = tt
 paced (Open d) desks first h s now leads times later is =
-    let why = chosen (Open d) s now is in
-    let t = all_tell desks first h s leads (runs_at desks first h s now leads why.0) in
-    subst (λ z. IsAfter z now) t.last (opens_from s.stage now why.2).free
+    opening_paced desks first h s now d leads is
 paced (Ask d p) desks first h s now leads times later is =
     let why = chosen (Ask d p) s now is in
     let t = all_tell desks first h s leads (runs_at desks first h s now leads why.0) in
@@ -168,10 +175,61 @@ questions_are_paced desks first h s now r =
     paced (action_of s now) desks first h s now r.leads (all_timed desks first h s r.leads r.timed)
     r.later refl
 
+-- ---- hurries
+
+-- where the last question or opening was in vain, a hurry does nothing
+abbrev IsInVain : Bool → Option ℕ → ℕ → Type 0
+IsInVain rested last since = (rested ≡ false) × (last ≡ Some since)
+
+known_in_vain : (more : Bool) (tried last : Option ℕ) (since : ℕ)
+    → (tried ≡ Some since → last ≡ Some since)
+    → (if not more then None else tried) ≡ Some since → IsInVain (not more) last since
+known_in_vain true tried last since k e = (refl, k e)
+known_in_vain false tried last since k e = absurd (let bad : None ≡ Some since = e in cc)
+
+answered_in_vain : (asked : Option ℕ) (taken : Option Taken) (held length : ℕ) (rested : Bool)
+    (tried last : Option ℕ) (since : ℕ) → (tried ≡ Some since → IsInVain rested last since)
+    → tried_after asked (is_useful taken held length) tried ≡ Some since
+    → IsInVain (rests_after asked (is_useful taken held length) rested)
+    (time_after asked (is_full taken held length) last) since
+answered_in_vain None taken held length rested tried last since k e = k e
+answered_in_vain (Some at) None held length rested tried last since k e =
+    absurd (let bad : None ≡ Some since = e in cc)
+answered_in_vain (Some at) (Some Grew) held length rested tried last since k e =
+    absurd (let bad : None ≡ Some since = e in cc)
+answered_in_vain (Some at) (Some Known) held length rested tried last since k e =
+    known_in_vain (nat_lt held length) tried last since (λ z. (k z).1) e
+answered_in_vain (Some at) (Some Gap) held length rested tried last since k e = (refl, (k e).1)
+answered_in_vain (Some at) (Some (Differs position)) held length rested tried last since k e =
+    (refl, (k e).1)
+
+in_vain : (h : History) (since : ℕ) → tried_in_vain h ≡ Some since
+    → IsInVain (rests h) (last_try h) since
+in_vain Start since e = absurd (let bad : None ≡ Some since = e in cc)
+in_vain (Then h (Acted now Rest)) since e = in_vain h since e
+in_vain (Then h (Acted now (Open d))) since e = (refl, e)
+in_vain (Then h (Acted now (Ask d p))) since e = (refl, e)
+in_vain (Then h (Acted now (Close d))) since e = in_vain h since e
+in_vain (Then h (Acted now Stop)) since e = in_vain h since e
+in_vain (Then h Opened) since e = in_vain h since e
+in_vain (Then h (Answered now taken held length)) since e =
+    answered_in_vain (unanswered h) taken held length (rests h) (tried_in_vain h) (last_try h) since
+    (in_vain h since) e
+in_vain (Then h Lost) since e = in_vain h since e
+in_vain (Then h Hurried) since e =
+    let k = in_vain h since e in
+    (k.0, ap (λ z. if z then None else last_try h) k.0 ∙ k.1)
+
+pub hurries_need_answers : HurriesNeedAnswers
+hurries_need_answers desks first h s now since desk leads vain is =
+    subst (λ z. IsAfter z now) (in_vain h since vain).1
+    (opening_paced desks first h s now desk leads (sym is))
+
 -- ---- desks that are left
 
 asked_stage : (st : Stage) (since : ℕ) → asked_in st ≡ Some since → st ≡ stage.Asked since
 asked_stage (stage.Closed last) since e = absurd (let bad : None ≡ Some since = e in cc)
+asked_stage (stage.Ended last) since e = absurd (let bad : None ≡ Some since = e in cc)
 asked_stage (stage.Opening at) since e = absurd (let bad : None ≡ Some since = e in cc)
 asked_stage (stage.Opened at) since e = absurd (let bad : None ≡ Some since = e in cc)
 asked_stage (stage.Asked at) since e = cc
@@ -181,6 +239,7 @@ asked_stage stage.Stopped since e = absurd (let bad : None ≡ Some since = e in
 
 opening_stage : (st : Stage) (since : ℕ) → opening_in st ≡ Some since → st ≡ stage.Opening since
 opening_stage (stage.Closed last) since e = absurd (let bad : None ≡ Some since = e in cc)
+opening_stage (stage.Ended last) since e = absurd (let bad : None ≡ Some since = e in cc)
 opening_stage (stage.Opening at) since e = cc
 opening_stage (stage.Opened at) since e = absurd (let bad : None ≡ Some since = e in cc)
 opening_stage (stage.Asked at) since e = absurd (let bad : None ≡ Some since = e in cc)

@@ -14,11 +14,11 @@ use Rattle.following.specs.Following.{Following, last_of, begun}
 use Rattle.following.specs.Following.{after_answer, told_at, answered_stage, behind_from}
 use Rattle.following.specs.Following.{behind_after, is_behind, is_connected, next_desk, action_of}
 use Rattle.following.specs.Following.{is_over, left_of, is_free, pace_left, is_behind_for}
-use Rattle.following.specs.Following.{behind_wait, stage_wait, hurried_stage}
+use Rattle.following.specs.Following.{behind_wait, stage_wait, hurried_stage, left_stage}
 use Rattle.following.specs.Histories.{Call, Acted, Opened, Answered, Lost, Hurried, Calls}
 use Rattle.following.specs.Histories.{History, Start, Then, Leads, IsTimed, latest}
 use Rattle.following.specs.Laws.{Wakes}
-use Rattle.following.proofs.Choices.{opened_in}
+use Rattle.following.proofs.Choices.{left_in, opened_in}
 
 -- there is no such time, or it isn't after this one
 abbrev pub IsBy : Option ℕ → ℕ → Type 0
@@ -28,6 +28,9 @@ IsBy (Some time) now = time ≤ now
 by_later : (time : Option ℕ) (now moment : ℕ) → now ≤ moment → IsBy time now → IsBy time moment
 by_later None now moment later h = tt
 by_later (Some time) now moment later h = omega (arith, later, h)
+
+left_timed : (st : Stage) (now : ℕ) → IsBy (last_of st) now → IsBy (last_of (left_stage st)) now
+left_timed st now h = subst (λ z. IsBy z now) (sym (left_in st).last) h
 
 -- no time that a follower counts from is after this one
 pub record IsTimedBy (s : Following) (now : ℕ) : Type 0 where
@@ -45,7 +48,7 @@ begun_timed : (done : Action) (s : Following) (now : ℕ) → IsTimedBy s now
 begun_timed Rest s now t = t
 begun_timed (Open d) s now t = record { last = omega arith; behind = t.behind }
 begun_timed (Ask d p) s now t = record { last = omega arith; behind = t.behind }
-begun_timed (Close d) s now t = record { last = t.last; behind = tt }
+begun_timed (Close d) s now t = record { last = left_timed s.stage now t.last; behind = tt }
 begun_timed Stop s now t = t
 
 if_timed : (more : Bool) (one other : Stage) (now : ℕ) → IsBy (last_of one) now
@@ -76,6 +79,7 @@ behind_timed false behind now h = tt
 told_timed : (st : Stage) (s : Following) (taken : Option Taken) (held length now : ℕ)
     → s.stage ≡ st → IsTimedBy s now → IsTimedBy (told_at st s now taken held length) now
 told_timed (stage.Closed last) s taken held length now at t = t
+told_timed (stage.Ended last) s taken held length now at t = t
 told_timed (stage.Opening since) s taken held length now at t = t
 told_timed (stage.Opened since) s taken held length now at t = t
 told_timed (stage.Asked since) s taken held length now at t = record {
@@ -101,12 +105,13 @@ answered_timed (Some (Differs position)) s held length now t =
 
 lost_timed : (connected : Bool) (s : Following) (now : ℕ) → IsTimedBy s now
     → IsTimedBy (if connected then next_desk s else s) now
-lost_timed true s now t = record { last = t.last; behind = tt }
+lost_timed true s now t = record { last = left_timed s.stage now t.last; behind = tt }
 lost_timed false s now t = t
 
 hurried_timed : (st : Stage) (now : ℕ) → IsBy (last_of st) now
     → IsBy (last_of (hurried_stage st)) now
 hurried_timed (stage.Closed last) now t = t
+hurried_timed (stage.Ended last) now t = tt
 hurried_timed (stage.Opening since) now t = t
 hurried_timed (stage.Opened since) now t = t
 hurried_timed (stage.Asked since) now t = t
@@ -256,6 +261,9 @@ wakes_at : (st : Stage) (desk held : ℕ) (behind : Option ℕ) (now moment : �
     ↔ (now + (if is_connected st then min (stage_wait st now) (behind_wait behind now)
     else stage_wait st now) ≤ moment)
 wakes_at (stage.Closed last) desk held behind now moment begun since later =
+    both_ways (acts_when (is_free last moment) (Open desk) (open_no_rest desk))
+    (free_when last now moment begun later)
+wakes_at (stage.Ended last) desk held behind now moment begun since later =
     both_ways (acts_when (is_free last moment) (Open desk) (open_no_rest desk))
     (free_when last now moment begun later)
 wakes_at (stage.Opening since) desk held behind now moment begun long later =

@@ -4,8 +4,8 @@ use Rattle.std.specs.Prelude.{◌==◌, ◌&&◌, ◌||◌, nat_lt, nat_le, if�
 use Rattle.mirror.specs.declared.mirror.Taken.{Taken}
 use Rattle.mirror.specs.declared.mirror.Taken.TheVariants.{Grew, Known, Gap, Differs}
 use Rattle.following.specs.declared.stages.Stage.{Stage}
-use Rattle.following.specs.declared.stages.Stage.TheVariants.{Closed, Opening, Opened, Asked}
-use Rattle.following.specs.declared.stages.Stage.TheVariants.{Answered, Useless, Stopped}
+use Rattle.following.specs.declared.stages.Stage.TheVariants.{Closed, Ended, Opening, Opened}
+use Rattle.following.specs.declared.stages.Stage.TheVariants.{Asked, Answered, Useless, Stopped}
 use Rattle.following.specs.declared.stages.Action.{Action}
 use Rattle.following.specs.declared.stages.Action.TheVariants as action
 
@@ -73,6 +73,7 @@ pace_left (Some last) now = left_of now last 250
 
 abbrev pub is_stopped : Stage → Bool
 is_stopped (Closed last) = false
+is_stopped (Ended last) = false
 is_stopped (Opening since) = false
 is_stopped (Opened since) = false
 is_stopped (Asked since) = false
@@ -83,6 +84,7 @@ is_stopped Stopped = true
 -- there is a connection, or one is being opened
 abbrev pub is_connected : Stage → Bool
 is_connected (Closed last) = false
+is_connected (Ended last) = false
 is_connected (Opening since) = true
 is_connected (Opened since) = true
 is_connected (Asked since) = true
@@ -93,6 +95,7 @@ is_connected Stopped = false
 -- for two seconds no connection could be opened, or no answer came
 abbrev pub is_silent : Stage → ℕ → Bool
 is_silent (Closed last) now = false
+is_silent (Ended last) now = false
 is_silent (Opening since) now = is_over now since 2000
 is_silent (Opened since) now = false
 is_silent (Asked since) now = is_over now since 2000
@@ -103,6 +106,7 @@ is_silent Stopped now = false
 -- what came brings nothing
 abbrev pub is_useless : Stage → Bool
 is_useless (Closed last) = false
+is_useless (Ended last) = false
 is_useless (Opening since) = false
 is_useless (Opened since) = false
 is_useless (Asked since) = false
@@ -125,6 +129,7 @@ is_to_be_left s now =
 -- where the next may come at once
 abbrev pub last_of : Stage → Option ℕ
 last_of (Closed last) = last
+last_of (Ended last) = last
 last_of (Opening since) = Some since
 last_of (Opened since) = Some since
 last_of (Asked since) = Some since
@@ -136,12 +141,24 @@ last_of Stopped = None
 abbrev pub next_place : ℕ → ℕ → ℕ
 next_place desks desk = if desk == desks then 1 else desk + 1
 
+-- The stage once a connection is closed or lost. Where the last question was answered with
+-- something of use, that is remembered: then a hurry lets the next connection be opened at once.
+abbrev pub left_stage : Stage → Stage
+left_stage (Closed last) = Closed last
+left_stage (Ended last) = Ended last
+left_stage (Opening since) = Closed (Some since)
+left_stage (Opened since) = Closed (Some since)
+left_stage (Asked since) = Closed (Some since)
+left_stage (Answered last) = Ended last
+left_stage (Useless last) = Closed (Some last)
+left_stage Stopped = Closed None
+
 -- the next desk is followed
 abbrev pub next_desk : Following → Following
 next_desk s = record {
   desks = s.desks;
   desk = next_place s.desks s.desk;
-  stage = Closed (last_of s.stage);
+  stage = left_stage s.stage;
   held = s.held;
   most = s.most;
   behind = None;
@@ -152,6 +169,7 @@ next_desk s = record {
 -- a connection is opened a quarter of a second after the last question or opening
 abbrev pub may_open : Stage → ℕ → Bool
 may_open (Closed last) now = is_free last now
+may_open (Ended last) now = is_free last now
 may_open (Opening since) now = false
 may_open (Opened since) now = false
 may_open (Asked since) now = false
@@ -162,6 +180,7 @@ may_open Stopped now = false
 -- a desk is asked at once over a new connection, and a quarter of a second after the last question
 abbrev pub may_ask : Stage → ℕ → Bool
 may_ask (Closed last) now = false
+may_ask (Ended last) now = false
 may_ask (Opening since) now = false
 may_ask (Opened since) now = true
 may_ask (Asked since) now = false
@@ -193,6 +212,7 @@ after_action s now = begun (action_of s now) s now
 -- how long it is until something is to be done, if nothing comes
 abbrev pub stage_wait : Stage → ℕ → ℕ
 stage_wait (Closed last) now = pace_left last now
+stage_wait (Ended last) now = pace_left last now
 stage_wait (Opening since) now = left_of now since 2000
 stage_wait (Opened since) now = 0
 stage_wait (Asked since) now = left_of now since 2000
@@ -213,6 +233,7 @@ wait_of s now =
 
 abbrev pub opened_stage : Stage → Stage
 opened_stage (Closed last) = Closed last
+opened_stage (Ended last) = Ended last
 opened_stage (Opening since) = Opened since
 opened_stage (Opened since) = Opened since
 opened_stage (Asked since) = Asked since
@@ -266,6 +287,7 @@ told s since now taken held length = record {
 -- where no question was asked, nothing was told
 abbrev pub told_at : Stage → Following → ℕ → Option Taken → ℕ → ℕ → Following
 told_at (Closed last) s now taken held length = s
+told_at (Ended last) s now taken held length = s
 told_at (Opening since) s now taken held length = s
 told_at (Opened since) s now taken held length = s
 told_at (Asked since) s now taken held length = told s since now taken held length
@@ -283,9 +305,11 @@ after_answer s now (Some (Differs position)) held length = with_stage s Stopped
 
 -- ---- in a hurry
 
--- where the desk has answered the last question, the next one may come at once
+-- where the last question was answered with something of use, the next one may come at once, over
+-- the connection or, where it was closed or lost since, over a new one
 abbrev pub hurried_stage : Stage → Stage
 hurried_stage (Closed last) = Closed last
+hurried_stage (Ended last) = Ended None
 hurried_stage (Opening since) = Opening since
 hurried_stage (Opened since) = Opened since
 hurried_stage (Asked since) = Asked since

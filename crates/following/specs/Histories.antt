@@ -137,18 +137,19 @@ abbrev pub rests_after : Option ℕ → Bool → Bool → Bool
 rests_after None useful rests = rests
 rests_after (Some since) useful rests = useful
 
--- the last question was answered with something of use, over a connection that is open still
+-- the last question was answered with something of use, and no connection was opened since: the one
+-- over which it was answered is open still, or was closed or lost after it
 abbrev pub rests : History → Bool
 rests Start = false
 rests (Then h (Acted now Rest)) = rests h
 rests (Then h (Acted now (Open desk))) = false
 rests (Then h (Acted now (Ask desk position))) = false
-rests (Then h (Acted now (Close desk))) = false
+rests (Then h (Acted now (Close desk))) = rests h
 rests (Then h (Acted now Stop)) = rests h
 rests (Then h Opened) = rests h
 rests (Then h (Answered now taken held length)) =
     rests_after (unanswered h) (is_useful taken held length) (rests h)
-rests (Then h Lost) = false
+rests (Then h Lost) = rests h
 rests (Then h Hurried) = rests h
 
 abbrev pub time_after : Option ℕ → Bool → Option ℕ → Option ℕ
@@ -183,6 +184,25 @@ last_try (Then h (Answered now taken held length)) =
     time_after (unanswered h) (is_full taken held length) (last_try h)
 last_try (Then h Lost) = last_try h
 last_try (Then h Hurried) = if rests h then None else last_try h
+
+abbrev pub tried_after : Option ℕ → Bool → Option ℕ → Option ℕ
+tried_after None useful tried = tried
+tried_after (Some since) useful tried = if useful then None else tried
+
+-- the time of the last question or opening, where nothing of use was answered since, whether or not
+-- the caller was in a hurry
+abbrev pub tried_in_vain : History → Option ℕ
+tried_in_vain Start = None
+tried_in_vain (Then h (Acted now Rest)) = tried_in_vain h
+tried_in_vain (Then h (Acted now (Open desk))) = Some now
+tried_in_vain (Then h (Acted now (Ask desk position))) = Some now
+tried_in_vain (Then h (Acted now (Close desk))) = tried_in_vain h
+tried_in_vain (Then h (Acted now Stop)) = tried_in_vain h
+tried_in_vain (Then h Opened) = tried_in_vain h
+tried_in_vain (Then h (Answered now taken held length)) =
+    tried_after (unanswered h) (is_useful taken held length) (tried_in_vain h)
+tried_in_vain (Then h Lost) = tried_in_vain h
+tried_in_vain (Then h Hurried) = tried_in_vain h
 
 abbrev pub count_after : Option ℕ → ℕ → ℕ → ℕ
 count_after None new old = old

@@ -8,7 +8,7 @@ use Rattle.following.specs.Following.{IsPlace, Following, action_of, after_actio
 use Rattle.following.specs.Following.{wait_of, next_place}
 use Rattle.following.specs.Histories.{History, Leads, latest, IsTimed, differed, unanswered}
 use Rattle.following.specs.Histories.{opening, openings, last_question, last_try, held_after}
-use Rattle.following.specs.Histories.{longest, behind_since}
+use Rattle.following.specs.Histories.{longest, behind_since, tried_in_vain}
 
 -- a follower after a history, and a time that isn't before it
 pub record IsReached (desks first : ℕ) (h : History) (s : Following) (now : ℕ) : Type 0 where
@@ -31,12 +31,19 @@ IsPaced (Close desk) h now = Unit {0}
 IsPaced Stop h now = Unit {0}
 
 -- A question is asked a quarter of a second after the one before, whichever desks they go to, if no
--- full answer came since, and nobody said, once it was answered, that the next may come at once; and
--- so is a connection opened after the last question or opening.
+-- full answer came since, and nobody said, once it was answered with something of use, that the
+-- next may come at once; and so is a connection opened after the last question or opening.
 abbrev pub QuestionsArePaced : Type 0
 QuestionsArePaced =
     (desks first : ℕ) (h : History) (s : Following) (now : ℕ) → IsReached desks first h s now
     → IsPaced (action_of s now) h now
+
+-- However often the caller is in a hurry: where nothing of use was answered since the last question
+-- or opening, a connection is opened a quarter of a second after it.
+abbrev pub HurriesNeedAnswers : Type 0
+HurriesNeedAnswers =
+    (desks first : ℕ) (h : History) (s : Following) (now since desk : ℕ) → Leads desks first h s
+    → tried_in_vain h ≡ Some since → action_of s now ≡ Open desk → since + 250 ≤ now
 
 -- an answer that brings new entries and leaves some of the log, of a desk that isn't behind, lets
 -- the next question come at any time

@@ -6,6 +6,7 @@ ghost use Rattle.following.specs.Following.{after_opened, after_answer, after_lo
 ghost use Rattle.following.specs.Following.{is_over, left_of, is_free, pace_left, is_silent};
 ghost use Rattle.following.specs.Following.{is_useless, is_connected, is_stopped, may_open};
 ghost use Rattle.following.specs.Following.{may_ask, last_of, stage_wait, answered_stage};
+ghost use Rattle.following.specs.Following.{left_stage, hurried_stage};
 ghost use Rattle.following.specs.Following.{is_behind_for, behind_from, behind_wait, next_desk};
 ghost use Rattle.following.specs.Following.{is_to_be_left};
 
@@ -85,7 +86,10 @@ fn is_stopped(stage: Stage) -> bool
 fn is_connected(stage: Stage) -> bool
     ensures { result ≡ is_connected stage }
 {
-    !matches!(stage, Stage::Closed { .. } | Stage::Stopped)
+    !matches!(
+        stage,
+        Stage::Closed { .. } | Stage::Ended { .. } | Stage::Stopped
+    )
 }
 
 /// Whether a connection may be opened now.
@@ -93,7 +97,7 @@ fn may_open(stage: Stage, now: u64) -> bool
     ensures { result ≡ may_open stage now }
 {
     match stage {
-        Stage::Closed { last } => is_free(last, now),
+        Stage::Closed { last } | Stage::Ended { last } => is_free(last, now),
         _ => false,
     }
 }
@@ -114,10 +118,34 @@ fn last_of(stage: Stage) -> Option<u64>
     ensures { result ≡ last_of stage }
 {
     match stage {
-        Stage::Closed { last } | Stage::Answered { last } => last,
+        Stage::Closed { last } | Stage::Ended { last } | Stage::Answered { last } => last,
         Stage::Opening { since } | Stage::Opened { since } | Stage::Asked { since } => Some(since),
         Stage::Useless { last } => Some(last),
         Stage::Stopped => None,
+    }
+}
+
+/// What has come of the connection once it is closed or lost.
+fn left_stage(stage: Stage) -> Stage
+    ensures { result ≡ left_stage stage }
+{
+    match stage {
+        Stage::Answered { last } | Stage::Ended { last } => Stage::Ended { last },
+        other => Stage::Closed {
+            last: last_of(other),
+        },
+    }
+}
+
+/// What the connection has come to where the next question may come at once, if the last one was
+/// answered with something of use.
+fn hurried_stage(stage: Stage) -> Stage
+    ensures { result ≡ hurried_stage stage }
+{
+    match stage {
+        Stage::Answered { .. } => Stage::Answered { last: None },
+        Stage::Ended { .. } => Stage::Ended { last: None },
+        other => other,
     }
 }
 
@@ -127,7 +155,9 @@ fn stage_wait(stage: Stage, now: u64) -> u64
     ensures soon { result ≤ 2000 }
 {
     match stage {
-        Stage::Closed { last } | Stage::Answered { last } => pace_left(last, now),
+        Stage::Closed { last } | Stage::Ended { last } | Stage::Answered { last } => {
+            pace_left(last, now)
+        }
         Stage::Opening { since } | Stage::Asked { since } => left_of(now, since, PATIENCE),
         Stage::Opened { .. } | Stage::Useless { .. } | Stage::Stopped => 0,
     }
@@ -178,7 +208,9 @@ fn answered_stage(taken: Option<Taken>, since: u64, held: u32, length: u32) -> S
 /// a connection isn't opened in two seconds, a question isn't answered in two seconds, the desk has
 /// told for five seconds logs that are shorter than one that was told or than what is held, an
 /// answer brings nothing though the log goes on, or the connection is lost. Connections, too, are
-/// opened a quarter of a second after the last question or opening.
+/// opened a quarter of a second after the last question or opening. Whoever is in a hurry (`hurry`)
+/// has the next question asked at once, where the last one was answered with something of use: over
+/// a new connection, where the last one was closed or lost after that answer.
 ///
 /// A contract sees the number of desks and the number of the one that is followed, what the
 /// connection has come to, how many entries are held, how long the longest log is that was told,
@@ -283,9 +315,7 @@ impl Follower {
         } else {
             self.desk + 1
         };
-        self.stage = Stage::Closed {
-            last: last_of(self.stage),
-        };
+        self.stage = left_stage(self.stage);
         self.behind = None;
     }
 
@@ -335,13 +365,13 @@ impl Follower {
         }
     }
 
-    /// Lets the next question come at once, where the desk has answered the last one.
+    /// Lets the next question come at once, where the last one was answered with something of use:
+    /// over the connection or, where that was closed or lost since, over a new one to the next
+    /// desk. Otherwise nothing changes.
     pub fn hurry(&mut self)
         ensures { self.new ≡ after_hurry self.old }
     {
-        if let Stage::Answered { .. } = self.stage {
-            self.stage = Stage::Answered { last: None };
-        }
+        self.stage = hurried_stage(self.stage);
     }
 
     /// In how many milliseconds something is due, if no other call is made: at most 2,000, and 0

@@ -4,15 +4,22 @@
 
 ghost use Rattle.following.specs.Laws.{QuestionsArePaced, FullAnswersGoOn, AsksWhereItEnds};
 ghost use Rattle.following.specs.Laws.{SilentDesksAreLeft, BehindDesksAreLeft, NoneIsForgotten};
-ghost use Rattle.following.specs.Laws.{StopsForGood, Wakes};
+ghost use Rattle.following.specs.Laws.{HurriesNeedAnswers, StopsForGood, Wakes};
 
 /// Between two questions, whichever desks they go to, there is a quarter of a second, unless an
 /// answer came in between that brought new entries and left some of the log, or the caller said in
-/// between, once the first was answered, that the next may come at once. So without a hurry a desk
-/// that has nothing new is asked four times a second at most. A connection is opened a quarter of a
-/// second after the last question or opening, with the same exceptions.
+/// between, once the first was answered with something of use, that the next may come at once. So
+/// without a hurry a desk that has nothing new is asked four times a second at most. A connection
+/// is opened a quarter of a second after the last question or opening, with the same exceptions.
 pub fn questions_are_paced()
     ensures { QuestionsArePaced }
+{}
+
+/// However often the caller is in a hurry: where nothing of use was answered since the last
+/// question or opening, a connection is opened a quarter of a second after it. So desks that end
+/// connections and answer nothing are tried four times a second at most.
+pub fn hurries_need_answers()
+    ensures { HurriesNeedAnswers }
 {}
 
 /// After an answer that brought new entries and left some of the log, of a desk that isn't behind,

@@ -5,6 +5,9 @@
 pub enum Stage {
     /// There is none. One is opened a quarter of a second after this time, or at once.
     Closed { last: Option<u64> },
+    /// There is none: the last one was closed or lost once the last question was answered with
+    /// something of use. One is opened a quarter of a second after this time, or at once.
+    Ended { last: Option<u64> },
     /// It is being opened since this time.
     Opening { since: u64 },
     /// It is open, nothing was asked on it, and its opening was begun at this time.

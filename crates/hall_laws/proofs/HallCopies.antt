@@ -1,5 +1,5 @@
 -- Entries that desks of a hall answer are entries of their logs.
-use Rattle.std.proofs.Common.{◌≡◌, ◌⊎◌, inl, inr, refl, sym, subst, ◌∙◌, ℕ, zero, suc, ◌≤◌}
+use Rattle.std.proofs.Common.{◌≡◌, ◌⊎◌, inl, inr, refl, sym, ap, subst, ◌∙◌, ℕ, zero, suc, ◌≤◌}
 use Rattle.std.proofs.Common.{List, [], ◌∷◌, ◌++◌, length, take, drop, Some, slice_get, arith}
 use Rattle.std.proofs.Common.{take-append-drop}
 use Rattle.std.proofs.lemmas.List.{append-nil}
@@ -15,8 +15,9 @@ use Rattle.learner.specs.Worlds.{World, new_world, run}
 use Rattle.learner.specs.declared.event.WorldEvent.{WorldEvent}
 use Rattle.serving.specs.Answering.{copied, entries_from}
 use Rattle.serving.specs.Asking.{request}
-use Rattle.serving.specs.Connection.{serve_frame}
+use Rattle.serving.specs.Connection.{asked, serve_frame}
 use Rattle.serving.specs.Nodes.{Fate, Goes, Starves, Breaks}
+use Rattle.serving.specs.Permissions.{reads}
 use Rattle.serving.specs.Serving.{answer, first_fate}
 use Rattle.store.specs.declared.home.Home.{Home}
 use Rattle.store.specs.declared.keeper.Keeper.{Ghosts}
@@ -28,6 +29,7 @@ use Rattle.hall_laws.specs.Copying.{HallCopiesBeginItsLog, HallCopiesAgree}
 use Rattle.hall_laws.specs.HallRuns.{Hall, HallStep, Station, IsHallRun, IsWorld, AreHappenings}
 use Rattle.hall_laws.specs.HallRuns.{hall_after, hall_log, home_at, seen_of, HallLogsAgree}
 use Rattle.hall_laws.specs.Stops.{Happening, Follows, goes_on, real_run, group, CallsAreHappenings}
+use Rattle.hall_laws.proofs.Allowed.{reads_as_asked}
 use Rattle.hall_laws.proofs.HallRuns.{hall_comes}
 use Rattle.hall_laws.proofs.HallSheets.{framed_is}
 use Rattle.hall_laws.proofs.Running.{inside}
@@ -62,10 +64,10 @@ hall_copies {K} k h ss at d copy is =
     (λ r.
     answer home (seen_of x.node) is.one.fates r
     ≡ Some (what.Entries copy.position copy.length copy.entries))
-    is.asked
+    (reads_as_asked is.one.may (request home is.one.frame) (ap reads is.asked) ∙ is.asked)
     (framed_is is.one.frame.version home
-    (answer home (seen_of x.node) is.one.fates (request home is.one.frame))
-    (what.Entries copy.position copy.length copy.entries) is.answered)))
+    (answer home (seen_of x.node) is.one.fates (asked home is.one))
+    (what.Entries copy.position copy.length copy.entries) tt is.answered)))
   where
     x : Station K
     x = (hall_after h (take at ss)).desks d

@@ -10,7 +10,7 @@ use Rattle.learner.specs.declared.event.DeskEvent.{DeskEvent}
 use Rattle.learner.specs.declared.event.DeskEvent.TheVariants.{Submit, Start, Tick, Deliver}
 use Rattle.roles.specs.declared.fault.NodeFault.{NodeFault}
 use Rattle.serving.specs.Asking.{request, is_ours, ours, strange}
-use Rattle.serving.specs.Connection.{Begun, serve_frame}
+use Rattle.serving.specs.Connection.{asked, Begun, serve_frame}
 use Rattle.serving.specs.Making.{Call, calls_of}
 use Rattle.serving.specs.Nodes.{Fate}
 use Rattle.serving.specs.Serving.{Act, Called, Pushed, Answered, Service, reply_to, call, from_own}
@@ -22,11 +22,13 @@ use Rattle.serving.specs.declared.request.Request.{Request}
 use Rattle.serving.specs.declared.request.Request.TheVariants.{Heard, Lagging, Learned, Entered}
 use Rattle.serving.specs.declared.request.Request.TheVariants.{Asked, Printed, Ticked, Stopped}
 use Rattle.serving.specs.declared.request.Request.TheVariants.{Inspected, Copied, Strange, Ignored}
+use Rattle.serving.specs.declared.request.Request.TheVariants.{Denied}
 use Rattle.serving.specs.declared.request.Run.{Run}
 use Rattle.store.specs.declared.home.Home.{Home}
 use Rattle.wire.specs.declared.frame.What.{What}
 use Rattle.wire.specs.declared.frame.What.TheVariants as what
 use Rattle.hall_laws.specs.HallRuns.{IsTakenIn}
+use Rattle.hall_laws.proofs.Allowed.{entered_as_asked}
 use Rattle.hall_laws.proofs.OwnMessages.{calls_both, no_calls, calls_of_pushes}
 
 -- what is taken in these calls is asked for
@@ -192,6 +194,7 @@ entered_only home x fates Inspected = λ e none. absurd none
 entered_only home x fates (Copied position) = λ e none. absurd none
 entered_only home x fates Strange = λ e none. absurd none
 entered_only home x fates Ignored = λ e none. absurd none
+entered_only home x fates Denied = λ e none. absurd none
 
 -- a frame that enters an entry is a Submit of it
 ours_enter : (from to : ℕ) (w : What) (e : Entry) → ours from to w ≡ Entered e → w ≡ what.Submit e
@@ -216,21 +219,22 @@ pub frame_enters : (home : Home) (x : Seen) (one : Begun) (acts rest : List Act)
 unfolding serve_frame
 frame_enters home x one acts rest e parts has =
     enters_by (is_ours home one.frame) one.frame.from one.frame.to one.frame.what e
-    (entered_only home x one.fates (request home one.frame) e
+    (entered_as_asked one.may (request home one.frame) e
+    (entered_only home x one.fates (asked home one) e
     (subst (λ z. IsTakenIn e (calls_of z)) (sym parts)
     (subst (λ z. IsTakenIn e z) (sym (calls_both acts rest))
-    (taken_front e (calls_of acts) (calls_of rest) has))))
+    (taken_front e (calls_of acts) (calls_of rest) has)))))
 
 -- nothing is taken in a Tick, or in a front part of one
 pub tick_takes_none : (home : Home) (x : Seen) (one : Begun) (acts rest : List Act) (e : Entry)
-    → request home one.frame ≡ Ticked → (serve_frame home x one).acts ≡ acts ++ rest
+    → asked home one ≡ Ticked → (serve_frame home x one).acts ≡ acts ++ rest
     → IsTakenIn e (calls_of acts) → ⊥
 unfolding serve_frame
-tick_takes_none home x one acts rest e asked parts has =
-    let enters : request home one.frame ≡ Entered e =
-    entered_only home x one.fates (request home one.frame) e
+tick_takes_none home x one acts rest e is parts has =
+    let enters : asked home one ≡ Entered e =
+    entered_only home x one.fates (asked home one) e
     (subst (λ z. IsTakenIn e (calls_of z)) (sym parts)
     (subst (λ z. IsTakenIn e z) (sym (calls_both acts rest))
     (taken_front e (calls_of acts) (calls_of rest) has))) in
-    let two : Ticked ≡ Entered e = sym asked ∙ enters in
+    let two : Ticked ≡ Entered e = sym is ∙ enters in
     absurd (let z = two in cc)

@@ -14,6 +14,7 @@ use Rattle.replica.specs.Handles.{Handles, Takes, FitInFrames}
 use Rattle.replica.specs.Lengths.{nothing_told, told_by}
 use Rattle.replica.specs.Nodes.{NodeValue}
 use Rattle.replica.specs.Stores.{HoldsDesk}
+use Rattle.serving.specs.declared.permission.Permission.TheVariants.{All}
 use Rattle.serving.specs.Connection.{serve_frame, close_of, answer_bytes, Begun}
 use Rattle.serving.specs.Making.{outside_of, speaking}
 use Rattle.serving.specs.Serving.{Act, Called, call, settle_by, start_if_grown, take, tell}
@@ -91,7 +92,7 @@ place_in k keeper talk = record {
 }
 
 abbrev as_begun : Frame → Begun
-as_begun f = record { frame = f; fates = [] }
+as_begun f = record { frame = f; may = All; fates = [] }
 
 -- what the frame is answered
 abbrev answer_to : Home → Frame → List ℕ

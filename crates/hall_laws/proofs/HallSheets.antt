@@ -5,12 +5,13 @@ use Rattle.acceptor.specs.declared.entry.Entry.{Entry}
 use Rattle.answers.specs.Answers.{sheet_at}
 use Rattle.formats.specs.declared.events.Event.{Event}
 use Rattle.learner.specs.Laws.{IsPrefix}
-use Rattle.serving.specs.Answering.{style_of}
+use Rattle.serving.specs.Answering.{said_in, style_of}
 use Rattle.serving.specs.Asking.{request}
+use Rattle.serving.specs.Permissions.{reads}
 use Rattle.std.specs.Io.KnownBytes.{Appends}
 use Rattle.replica.specs.Handles.{Handles}
-use Rattle.serving.specs.Connection.{Begun, Sides, answer_bytes, answer_frame, framed_answer}
-use Rattle.serving.specs.Connection.{serve_frame}
+use Rattle.serving.specs.Connection.{asked, Begun, Sides, answer_bytes, answer_frame}
+use Rattle.serving.specs.Connection.{framed_answer, serve_frame}
 use Rattle.serving.specs.Making.{Way, speaking}
 use Rattle.serving.specs.Turns.{LeavesAt}
 use Rattle.serving.specs.TurnLaw.{Began, sides_in}
@@ -24,13 +25,14 @@ use Rattle.wire.specs.declared.frame.Frame.{Frame}
 use Rattle.wire.specs.declared.frame.What.{What}
 use Rattle.wire.specs.declared.frame.What.TheVariants as what
 use Rattle.wire.specs.declared.values.SheetStyle.{SheetStyle as Style}
-use Rattle.wire.specs.declared.values.SheetStyle.TheVariants as asked
+use Rattle.wire.specs.declared.values.SheetStyle.TheVariants as layout
 use Rattle.wire.specs.declared.values.Version.{Version}
 use Rattle.hall_laws.specs.HallRuns.{Station, hall_after, hall_log, home_at, seen_of}
 use Rattle.hall_laws.specs.HallRuns.{HallSheetsAreOfLogs}
 use Rattle.hall_laws.specs.HallRuns.{HallSheetsAgree, HallLogsAgree, HallAnswersWait, HallEvent}
 use Rattle.hall_laws.specs.HallRuns.{HallGoes, TakesTurn, connections}
 use Rattle.hall_laws.specs.Stops.{CallsAreHappenings}
+use Rattle.hall_laws.proofs.Allowed.{reads_as_asked}
 use Rattle.hall_laws.proofs.HallRuns.{hall_comes}
 use Rattle.hall_laws.specs.Served.{SheetsAreOfTheLog}
 
@@ -72,22 +74,32 @@ hall_answers_wait {K} k law n h ss at d number one step is serves =
     (λ z. z ++ answer_bytes (serve_frame a.talk.home (seen_of x.node) one).answers)
     turn.turn.turn.0.free.taken)
 
-pub framed_is : (version : Version) (home : Home) (o : Option What) (w : What)
+-- every version tells it alike
+abbrev pub IsPlain : What → Type 0
+IsPlain (what.Told id s) = ⊥
+IsPlain _ = Unit {0}
+
+plain_said : (version : Version) (u w : What) → IsPlain w → said_in version u ≡ w → u ≡ w
+plain_said version (what.Told id s) w plain h = absurd (subst IsPlain (sym h) plain)
+plain_said version u w plain h = h
+
+pub framed_is : (version : Version) (home : Home) (o : Option What) (w : What) → IsPlain w
     → framed_answer version home o ≡ answer_frame version home w ∷ [] → o ≡ Some w
-framed_is version home None w h =
+framed_is version home None w plain h =
     absurd (let none : [] ≡ answer_frame version home w ∷ [] = h in cc)
-framed_is version home (Some u) w h =
-    let same : answer_frame version home u ≡ answer_frame version home w = cc in
-    ap (λ (f : Frame). Some f.what) same
+framed_is version home (Some u) w plain h =
+    let same : answer_frame version home (said_in version u) ≡ answer_frame version home w = cc in
+    ap Some (plain_said version u w plain (ap (λ (f : Frame). f.what) same))
 
 pub hall_sheets : {K : Type 0} (k : Ghosts K) → SheetsAreOfTheLog → HallSheetsAreOfLogs k
 unfolding serve_frame
 hall_sheets {K} k law h ss at d sheet text is =
     law home (seen_of x.node) is.one.fates sheet.event sheet.round sheet.position sheet.style text
-    (subst (λ r. answer home (seen_of x.node) is.one.fates r ≡ Some (what.SheetText text)) is.asked
+    (subst (λ r. answer home (seen_of x.node) is.one.fates r ≡ Some (what.SheetText text))
+    (reads_as_asked is.one.may (request home is.one.frame) (ap reads is.asked) ∙ is.asked)
     (framed_is is.one.frame.version home
-    (answer home (seen_of x.node) is.one.fates (request home is.one.frame)) (what.SheetText text)
-    is.answered))
+    (answer home (seen_of x.node) is.one.fates (asked home is.one)) (what.SheetText text)
+    tt is.answered))
   where
     x : Station K
     x = (hall_after h (take at ss)).desks d
@@ -108,8 +120,8 @@ same_front xs ys p (inr h) low high = sym (sym (take_front ys h.0 p high) ∙ ap
 same_sheet : (xs ys : List Entry) (p : ℕ) (style : Style) (event : Event) (round : ℕ)
     → take p xs ≡ take p ys
     → sheet_at (style_of style) xs p event round ≡ sheet_at (style_of style) ys p event round
-same_sheet xs ys p asked.Text event round h = rw h refl
-same_sheet xs ys p asked.Table event round h = rw h refl
+same_sheet xs ys p layout.Text event round h = rw h refl
+same_sheet xs ys p layout.Table event round h = rw h refl
 
 pub hall_sheets_agree : {K : Type 0} (k : Ghosts K) → HallSheetsAreOfLogs k → HallLogsAgree k
     → HallSheetsAgree k

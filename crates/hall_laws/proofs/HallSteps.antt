@@ -12,8 +12,7 @@ use Rattle.learner.specs.Worlds.{World, put}
 use Rattle.replica.specs.Handles.{Handles}
 use Rattle.replica.specs.Nodes.{NodeValue}
 use Rattle.replica.specs.Stores.{HoldsStep}
-use Rattle.serving.specs.Asking.{request}
-use Rattle.serving.specs.Connection.{Begun, serve_frame}
+use Rattle.serving.specs.Connection.{asked, Begun, serve_frame}
 use Rattle.serving.specs.Making.{Call, Lead, calls_of, speaking}
 use Rattle.serving.specs.Serving.{Act}
 use Rattle.serving.specs.TurnLaw.{Place, Began}
@@ -239,7 +238,7 @@ tick_comes {K} k law n d one acts h g w m step =
     lead : Lead (Handles k) x.node (calls_of acts) y.node
     lead = step.made.calls
 
-    brings : WereSentTo (home_at k x).desk w.sent (delivers (request (home_at k x) one.frame))
+    brings : WereSentTo (home_at k x).desk w.sent (delivers (asked (home_at k x) one))
     brings =
         subst (λ r. WereSentTo (home_at k x).desk w.sent (delivers r)) (sym step.asked) tt
 

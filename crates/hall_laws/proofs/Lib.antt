@@ -1,3 +1,4 @@
+pub mod Allowed
 pub mod Arrivals
 pub mod Calls
 pub mod OwnMessages

@@ -15,8 +15,7 @@ use Rattle.store.specs.declared.keeper.Keeper.{Ghosts}
 use Rattle.roles.specs.declared.fault.NodeFault.{NodeFault}
 use Rattle.roles.specs.declared.fault.NodeFault.TheVariants as fault
 use Rattle.answers.specs.Seen.{Seen}
-use Rattle.serving.specs.Asking.{request}
-use Rattle.serving.specs.Connection.{Begun, serve_frame, serve_frames}
+use Rattle.serving.specs.Connection.{asked, Begun, serve_frame, serve_frames}
 use Rattle.serving.specs.Making.{Call, calls_of}
 use Rattle.serving.specs.Nodes.{Fate}
 use Rattle.serving.specs.Serving.{Act, Called, Pushed, Answered, Service, waiting_after, reply_to}
@@ -29,6 +28,7 @@ use Rattle.serving.specs.declared.request.Request.{Request}
 use Rattle.serving.specs.declared.request.Request.TheVariants.{Heard, Lagging, Learned, Entered}
 use Rattle.serving.specs.declared.request.Request.TheVariants.{Asked, Printed, Ticked, Stopped}
 use Rattle.serving.specs.declared.request.Request.TheVariants.{Inspected, Copied, Strange, Ignored}
+use Rattle.serving.specs.declared.request.Request.TheVariants.{Denied}
 use Rattle.serving.specs.declared.request.Run.{Run}
 use Rattle.hall_laws.specs.Arriving.{decided_each, delivers}
 use Rattle.hall_laws.specs.OwnMessages.{WereSentTo, OwnMessagesWereSent, sent_after}
@@ -352,6 +352,7 @@ keeps_served home x fates Inspected sent is = keeps_begun home.desk sent x fates
 keeps_served home x fates (Copied position) sent is = keeps_begun home.desk sent x fates
 keeps_served home x fates Strange sent is = keeps_begun home.desk sent x fates
 keeps_served home x fates Ignored sent is = keeps_begun home.desk sent x fates
+keeps_served home x fates Denied sent is = keeps_begun home.desk sent x fates
 
 pub own_messages : OwnMessagesWereSent
 own_messages home x fates r sent is = (keeps_served home x fates r sent is).calls
@@ -359,10 +360,10 @@ own_messages home x fates r sent is = (keeps_served home x fates r sent is).call
 -- ---- frames, one after the other
 
 pub one_frame : (home : Home) (x : Seen) (sent : List Message) (b : Begun)
-    → WereSentTo home.desk sent (delivers (request home b.frame))
+    → WereSentTo home.desk sent (delivers (asked home b))
     → AreSentTo home.desk sent (calls_of (serve_frame home x b).acts)
 unfolding serve_frame
-one_frame home x sent b is = own_messages home x b.fates (request home b.frame) sent is
+one_frame home x sent b is = own_messages home x b.fates (asked home b) sent is
 
 pub frames_sent : FramesWereSent
 frames_sent home x sent [] is = tt

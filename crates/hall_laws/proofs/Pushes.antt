@@ -18,6 +18,7 @@ use Rattle.serving.specs.declared.request.Request.{Request}
 use Rattle.serving.specs.declared.request.Request.TheVariants.{Heard, Lagging, Learned, Entered}
 use Rattle.serving.specs.declared.request.Request.TheVariants.{Asked, Printed, Ticked, Stopped}
 use Rattle.serving.specs.declared.request.Request.TheVariants.{Inspected, Copied, Strange, Ignored}
+use Rattle.serving.specs.declared.request.Request.TheVariants.{Denied}
 use Rattle.store.specs.declared.home.Home.{Home}
 use Rattle.hall_laws.specs.Arriving.{decided_each}
 use Rattle.hall_laws.specs.Pushing.{handed, pushed_messages, left_out, due, ArePushed, as_list}
@@ -82,6 +83,8 @@ messages_pushed home x fates Strange =
     are_pushed home Strange _ [] (begun_settled home x fates)
 messages_pushed home x fates Ignored =
     are_pushed home Ignored _ [] (begun_settled home x fates)
+messages_pushed home x fates Denied =
+    are_pushed home Denied _ [] (begun_settled home x fates)
 
 -- ---- runs
 
@@ -127,6 +130,7 @@ runs_are_due home x fates Inspected = refl
 runs_are_due home x fates (Copied position) = refl
 runs_are_due home x fates Strange = refl
 runs_are_due home x fates Ignored = refl
+runs_are_due home x fates Denied = refl
 
 -- ---- events
 
@@ -153,6 +157,7 @@ events_first home x fates (Copied position) =
     record { dropped = []; first = refl; while_up = λ up. refl }
 events_first home x fates Strange = record { dropped = []; first = refl; while_up = λ up. refl }
 events_first home x fates Ignored = record { dropped = []; first = refl; while_up = λ up. refl }
+events_first home x fates Denied = record { dropped = []; first = refl; while_up = λ up. refl }
 
 none_asked : (from to pos : ℕ) (es : List Entry) → decided_each from to pos es ≡ [] → es ≡ []
 none_asked from to pos [] h = refl
@@ -172,3 +177,4 @@ others_do_nothing home x fates Inspected none = refl
 others_do_nothing home x fates (Copied position) none = refl
 others_do_nothing home x fates Strange none = refl
 others_do_nothing home x fates Ignored none = refl
+others_do_nothing home x fates Denied none = refl

@@ -9,6 +9,7 @@ use Rattle.learner.specs.Worlds.{World}
 use Rattle.answers.specs.Seen.{Seen}
 use Rattle.learner.specs.declared.event.DeskEvent.{DeskEvent}
 use Rattle.learner.specs.declared.event.DeskEvent.TheVariants.{Deliver, Start}
+use Rattle.serving.specs.declared.permission.Permission.TheVariants.{All}
 use Rattle.serving.specs.Asking.{request}
 use Rattle.serving.specs.Connection.{Begun, close_of}
 use Rattle.serving.specs.Making.{Call, Makes, calls_of}
@@ -38,7 +39,7 @@ use Rattle.hall_laws.specs.Stops.{with_desk}
 
 -- a frame that is begun, each of whose calls is taken as the protocol has it
 abbrev pub as_it_goes : Frame → Begun
-as_it_goes f = record { frame = f; fates = [] }
+as_it_goes f = record { frame = f; may = All; fates = [] }
 
 -- what a desk does for a request so: its calls and pushes, in order
 abbrev pub acts_for : {K : Type 0} → Ghosts K → Station K → Request → List Act

@@ -21,7 +21,7 @@ use Rattle.replica.specs.Stores.{HoldsDesk, HoldsStep}
 use Rattle.serving.specs.Adding.{Push}
 use Rattle.serving.specs.Answering.{style_of}
 use Rattle.serving.specs.Asking.{request}
-use Rattle.serving.specs.Connection.{Begun, Sides, DoesFront, answer_bytes, answer_frame}
+use Rattle.serving.specs.Connection.{asked, Begun, Sides, DoesFront, answer_bytes, answer_frame}
 use Rattle.serving.specs.Connection.{serve_frame}
 use Rattle.serving.specs.Making.{Call, Lead, Makes, Outside, Way, calls_of, outside_of, speaking}
 use Rattle.serving.specs.Serving.{Act}
@@ -126,7 +126,7 @@ AreDone (Took bytes) a b acts = acts ≡ []
 -- each message that a frame brings is for this desk, and a call of a desk of the hall has handed it
 -- out before
 abbrev pub FrameWasSent : Home → List Message → Begun → Type 0
-FrameWasSent home sent one = WereSentTo home.desk sent (delivers (request home one.frame))
+FrameWasSent home sent one = WereSentTo home.desk sent (delivers (asked home one))
 
 abbrev pub TurnWasSent : Home → List Message → Turn → Type 0
 TurnWasSent home sent (Came piece) = Unit {0}
@@ -153,7 +153,7 @@ pub record TakesTurn {K : Type 0} (k : Ghosts K) (n d : ℕ) (t : TurnOf) (acts 
 
 -- the frame asks the desk for a Tick, as a client does
 abbrev pub IsTick : Home → Begun → Type 0
-IsTick home one = request home one.frame ≡ Ticked
+IsTick home one = asked home one ≡ Ticked
 
 -- what there is beside what is seen of a desk that serves
 abbrev pub beside : {K : Type 0} → (k : Ghosts K) → (version : Version) → Station K

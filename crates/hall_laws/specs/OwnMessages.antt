@@ -10,8 +10,7 @@ use Rattle.replica.specs.Nodes.{NodeValue}
 use Rattle.store.specs.declared.home.Home.{Home}
 use Rattle.store.specs.declared.keeper.Keeper.{Ghosts}
 use Rattle.answers.specs.Seen.{Seen}
-use Rattle.serving.specs.Asking.{request}
-use Rattle.serving.specs.Connection.{Begun, serve_frame, serve_frames}
+use Rattle.serving.specs.Connection.{asked, Begun, serve_frame, serve_frames}
 use Rattle.serving.specs.Making.{Lead, calls_of}
 use Rattle.serving.specs.Nodes.{Fate}
 use Rattle.serving.specs.Serving.{Act, served}
@@ -43,7 +42,7 @@ sent_after sent acts = sent ++ all_handed_out (calls_of acts)
 abbrev pub BringWhatWasSent : Home → Seen → List Message → List Begun → Type 0
 BringWhatWasSent home x sent [] = Unit {0}
 BringWhatWasSent home x sent (b ∷ bs) =
-    WereSentTo home.desk sent (delivers (request home b.frame))
+    WereSentTo home.desk sent (delivers (asked home b))
     × BringWhatWasSent home (serve_frame home x b).seen
     (sent_after sent (serve_frame home x b).acts) bs
 

@@ -19,6 +19,7 @@ use Rattle.serving.specs.declared.request.Request.{Request}
 use Rattle.serving.specs.declared.request.Request.TheVariants.{Heard, Lagging, Learned, Entered}
 use Rattle.serving.specs.declared.request.Request.TheVariants.{Asked, Printed, Ticked, Stopped}
 use Rattle.serving.specs.declared.request.Request.TheVariants.{Inspected, Copied, Strange, Ignored}
+use Rattle.serving.specs.declared.request.Request.TheVariants.{Denied}
 use Rattle.serving.specs.declared.request.Run.{Run}
 use Rattle.store.specs.declared.home.Home.{Home}
 
@@ -80,6 +81,7 @@ left_out Inspected = 0
 left_out (Copied position) = 0
 left_out Strange = 0
 left_out Ignored = 0
+left_out Denied = 0
 
 -- what is to be pushed: all that the calls hand out for other desks, in order, but for what is left
 -- out
@@ -123,6 +125,7 @@ runs_due home Inspected acts = []
 runs_due home (Copied position) acts = []
 runs_due home Strange acts = []
 runs_due home Ignored acts = []
+runs_due home Denied acts = []
 
 -- these runs are pushed, and no others; all else is pushed message by message
 abbrev pub RunsAreDue : Type 0
@@ -146,6 +149,7 @@ asks_for Inspected = []
 asks_for (Copied position) = []
 asks_for Strange = []
 asks_for Ignored = []
+asks_for Denied = []
 
 -- The first acts are calls with the events that the request asks for, one each, in order; where the
 -- desk goes down, the events that are left are dropped. So what is left out for a frame of several

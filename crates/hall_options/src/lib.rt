@@ -7,5 +7,5 @@ mod mistakes;
 mod options;
 
 pub use finding::{FoundHall, address_at, hall_of, number_at};
-pub use mistakes::{Mistake, tell, tell_mistake, tell_parse_error, tell_system};
+pub use mistakes::{Mistake, tell, tell_mistake, tell_no_arguments, tell_parse_error, tell_system};
 pub use options::{option, with_desks};

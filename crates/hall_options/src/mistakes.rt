@@ -6,7 +6,7 @@ ghost use Rattle.std.specs.Prelude.{◌≡◌, ◌⊎◌};
 ghost use Rattle.hall_options.specs.Mistakes.{status_of};
 
 use clap::Error;
-use command_line::{PrintFault, print_parser_text};
+use command_line::{NOT_TEXT, PrintFault, print_parser_text};
 use hall_file::OpenFault;
 use std::alloc::Global;
 use std::io;
@@ -44,6 +44,18 @@ pub fn tell_system<F: Write>(faults: &mut F, program: &str, error: &io::Error, w
         return tell(faults, program, "no memory", 5);
     }
     tell(faults, program, why, 4)
+}
+
+/// Says why a program has no arguments, and returns the status: 5 where memory was refused, and else
+/// 2, since they are not text.
+pub fn tell_no_arguments<F: Write>(faults: &mut F, program: &str, error: &io::Error) -> u8
+    ensures { (result ≡ 5) ⊎ (result ≡ 2) }
+{
+    if error.kind() == ErrorKind::OutOfMemory {
+        return tell(faults, program, "no memory", 5);
+    }
+    let _ = faults.write_all(NOT_TEXT);
+    2
 }
 
 /// Says what is wrong with arguments, and returns the status.

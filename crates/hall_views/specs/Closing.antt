@@ -1,6 +1,6 @@
 -- The forms of a round that is open.
-use Rattle.std.specs.Prelude.{ℕ, if◌then◌else◌, nat_le, List, [], ◌∷◌, ◌++◌, codes, decimal}
-use Rattle.std.specs.Prelude.{flat_map, get_or, length}
+use Rattle.std.specs.Prelude.{ℕ, Bool, true, false, if◌then◌else◌, nat_le, List, [], ◌∷◌, ◌++◌}
+use Rattle.std.specs.Prelude.{codes, decimal, flat_map, get_or, length}
 use Rattle.advancement.specs.Advancing.{advancing, quota}
 use Rattle.board_page.specs.Escaped.{escaped}
 use Rattle.formats.specs.declared.advance.Advance.{Advance}
@@ -15,6 +15,8 @@ use Rattle.markup.specs.Pieces.{joined}
 use Rattle.table_views.specs.declared.around.Around.{Around}
 use Rattle.table_views.specs.Logs.{accepted_in}
 use Rattle.hall_views.specs.Absent.{never_came}
+use Rattle.hall_views.specs.Changing.{changing}
+use Rattle.hall_views.specs.Editions.{mends}
 use Rattle.hall_views.specs.Entrants.{entrant_line, unfinished}
 use Rattle.hall_views.specs.Forms.{button, form_start, path_of, round_value, unseen}
 use Rattle.hall_views.specs.Opening.{advance_fields}
@@ -59,22 +61,33 @@ change token form id advance back =
     codes "<h2>Change who goes on</h2>\n" ++ form_start token form (codes "ADV") back
     ++ round_value id ++ advance_fields advance ++ button (codes "Change who goes on")
 
--- the command is sent as it is shown
-abbrev pub closing_told : List ℕ → List ℕ
-closing_told text =
-    unseen (codes "text") text
-    ++ joined (codes "<p>Nothing in it changes afterwards. This is sent: <code>" ∷ escaped text
-    ∷ codes "</code></p>\n" ∷ [])
+-- in edition 3 a closed round can be opened again
+abbrev pub closing_words : Bool → List ℕ
+closing_words true =
+    codes "Nothing in it changes afterwards, unless it is opened again before the next round is "
+    ++ codes "opened."
+closing_words false = codes "Nothing in it changes afterwards."
 
-unfoldable pub close : List ℕ → ℕ → RoundId → List ℕ → List ℕ
-close token form id back =
+abbrev pub closing_line : Bool → List ℕ → List ℕ
+closing_line mends text = joined (
+    codes "<p>" ∷ closing_words mends ∷ codes " This is sent: <code>" ∷ escaped text
+    ∷ codes "</code></p>\n" ∷ []
+    )
+
+-- the command is sent as it is shown
+abbrev pub closing_told : Bool → List ℕ → List ℕ
+closing_told mends text = unseen (codes "text") text ++ closing_line mends text
+
+unfoldable pub close : Bool → List ℕ → ℕ → RoundId → List ℕ → List ℕ
+close mends token form id back =
     codes "<h2>Close the round</h2>\n" ++ form_start token form (codes "CLOSE") back
-    ++ round_value id ++ closing_told (close_text id) ++ button (codes "Close the round")
+    ++ round_value id ++ closing_told mends (close_text id) ++ button (codes "Close the round")
 
 -- who is unfinished, with a form for those who never came; who goes on; and the other forms
 unfoldable pub open_round : Around → RoundId → Settings × Table → List ℕ
 open_round around id round =
     unfinished (accepted_in around.mirror.now) id round ++ never_came around id round
-    ++ through (accepted_in around.mirror.now) id round
+    ++ through (accepted_in around.mirror.now) id round ++ changing around id round
     ++ change around.token.now (get_or around.ids.now 1 0) id round.0.advance (path_of id)
-    ++ close around.token.now (get_or around.ids.now 0 0) id (path_of id)
+    ++ close (mends (accepted_in around.mirror.now)) around.token.now (get_or around.ids.now 0 0) id
+    (path_of id)

@@ -1,5 +1,5 @@
 -- Forms that send commands.
-use Rattle.std.specs.Prelude.{ℕ, List, [], ◌∷◌, ◌++◌, codes}
+use Rattle.std.specs.Prelude.{ℕ, List, [], ◌∷◌, ◌++◌, codes, decimal}
 use Rattle.board_page.specs.Escaped.{escaped}
 use Rattle.round_words.specs.Words.{round_name}
 use Rattle.texts.specs.declared.command.RoundId.{RoundId}
@@ -42,3 +42,7 @@ choice value words = joined (
 -- the path of the page of a round's forms
 abbrev pub path_of : RoundId → List ℕ
 path_of id = codes "/rounds?round=" ++ round_name id
+
+-- the path of the page of a competitor
+abbrev pub person_path : ℕ → List ℕ
+person_path number = joined (codes "/person/" ∷ decimal number ∷ [])

@@ -1,4 +1,5 @@
 pub mod Forms
+pub mod Editions
 pub mod Overview
 pub mod Refused
 pub mod Entrants
@@ -6,8 +7,11 @@ pub mod Lines
 pub mod Absent
 pub mod Proposal
 pub mod Opening
+pub mod Changing
 pub mod Closing
 pub mod People
+pub mod Reopening
+pub mod Person
 pub mod Scrambles
 pub mod Rounds
 pub mod Importing

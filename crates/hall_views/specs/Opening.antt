@@ -1,7 +1,7 @@
 -- The form that opens a round.
-use Rattle.std.specs.Prelude.{ℕ, Bool, true, false, if◌then◌else◌, List, [], ◌∷◌, ◌++◌, codes}
+use Rattle.std.specs.Prelude.{ℕ, Bool, true, false, ◌==◌, if◌then◌else◌, List, [], ◌∷◌, ◌++◌, codes}
 use Rattle.std.specs.Prelude.{decimal, flat_map, take, Option, None, Some}
-use Rattle.attempts.specs.Texts.{time_text}
+use Rattle.attempts.specs.Texts.{number_text, time_text}
 use Rattle.attempts.specs.declared.Unit.{Unit as Measure}
 use Rattle.attempts.specs.declared.Unit.TheVariants.{Time, Moves, Multi}
 use Rattle.formats.specs.declared.advance.Advance.{Advance}
@@ -45,8 +45,22 @@ format_choice event proposed format =
     )
     else []
 
-abbrev pub cutoff_choice : ℕ → List ℕ
-cutoff_choice attempts = joined (codes "<option>" ∷ decimal attempts ∷ codes "</option>\n" ∷ [])
+-- how the option goes on of a number of attempts, which is chosen beforehand if the cutoff that
+-- stands is after so many
+abbrev pub after_mark : Option (ℕ × ℕ) → ℕ → List ℕ
+after_mark None attempts = codes ">"
+after_mark (Some cutoff) attempts =
+    if cutoff.0 == attempts then codes " selected>" else codes ">"
+
+abbrev pub cutoff_choice : Option (ℕ × ℕ) → ℕ → List ℕ
+cutoff_choice cutoff attempts = joined (
+    codes "<option" ∷ after_mark cutoff attempts ∷ decimal attempts ∷ codes "</option>\n" ∷ []
+    )
+
+-- what one of the attempts has to be below, in the event's unit
+abbrev pub border_text : Measure → Option (ℕ × ℕ) → List ℕ
+border_text unit None = []
+border_text unit (Some cutoff) = number_text unit cutoff.1
 
 abbrev pub formats : List Format
 formats = Ao5 ∷ Mo3 ∷ Bo1 ∷ Bo2 ∷ Bo3 ∷ []
@@ -55,21 +69,21 @@ formats = Ao5 ∷ Mo3 ∷ Bo1 ∷ Bo2 ∷ Bo3 ∷ []
 abbrev pub most_attempts : Event → ℕ
 most_attempts event = if is_allowed event Ao5 then 4 else 2
 
-unfoldable pub cutoff_select : ℕ → List ℕ
-cutoff_select most =
+unfoldable pub cutoff_select : ℕ → Measure → Option (ℕ × ℕ) → List ℕ
+cutoff_select most unit cutoff =
     codes "<label>Cutoff after <select name=\"after\">\n<option value=\"\">none</option>\n"
-    ++ flat_map cutoff_choice (take most (1 ∷ 2 ∷ 3 ∷ 4 ∷ []))
+    ++ flat_map (cutoff_choice cutoff) (take most (1 ∷ 2 ∷ 3 ∷ 4 ∷ []))
     ++ codes "</select> attempts</label>\n"
-    ++ text_field (codes "cutoff") (codes "one of them below (as 15.00)") (codes "")
+    ++ text_field (codes "cutoff") (codes "one of them below (as 15.00)") (border_text unit cutoff)
 
-abbrev pub cutoff_for : Measure → ℕ → List ℕ
-cutoff_for Multi most = []
-cutoff_for Time most = cutoff_select most
-cutoff_for Moves most = cutoff_select most
+abbrev pub cutoff_for : Measure → ℕ → Option (ℕ × ℕ) → List ℕ
+cutoff_for Multi most cutoff = []
+cutoff_for Time most cutoff = cutoff_select most Time cutoff
+cutoff_for Moves most cutoff = cutoff_select most Moves cutoff
 
--- the fields of a cutoff, which multi-blind has not
-abbrev pub cutoff_fields : Event → List ℕ
-cutoff_fields event = cutoff_for (unit_of event) (most_attempts event)
+-- the fields of a cutoff, which multi-blind has not; what stands of it is filled in
+abbrev pub cutoff_fields : Event → Option (ℕ × ℕ) → List ℕ
+cutoff_fields event cutoff = cutoff_for (unit_of event) (most_attempts event) cutoff
 
 -- ten minutes, or the limit of the round before
 abbrev pub proposed_limit : Option ℕ → List ℕ
@@ -110,13 +124,17 @@ advance_fields advance =
     ++ codes "</select></label>\n"
     ++ text_field (codes "amount") (codes "how many") (amount_of advance)
 
--- what the event allows can be chosen, and what is proposed is chosen beforehand
+-- what the event allows can be chosen, and this is chosen beforehand
+unfoldable pub rule_fields : Event → Option Format → Option (ℕ × ℕ) → Option ℕ → List ℕ
+rule_fields event format cutoff limit =
+    codes "<label>Format <select name=\"format\">\n"
+    ++ flat_map (format_choice event format) formats ++ codes "</select></label>\n"
+    ++ cutoff_fields event cutoff ++ limit_field (unit_of event) limit
+
+-- what is proposed is chosen beforehand; no cutoff is
 unfoldable pub opening_fields : Event → Proposal → List ℕ
 opening_fields event proposal =
-    codes "<label>Format <select name=\"format\">\n"
-    ++ flat_map (format_choice event proposal.format) formats ++ codes "</select></label>\n"
-    ++ cutoff_fields event ++ limit_field (unit_of event) proposal.limit
-    ++ advance_fields proposal.advance
+    rule_fields event proposal.format None proposal.limit ++ advance_fields proposal.advance
 
 -- that it is proposed, and how many come
 abbrev pub opening_head : Option ℕ → List ℕ

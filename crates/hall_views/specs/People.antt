@@ -36,10 +36,11 @@ entered_in accepted number event = entered_if number event (table_of accepted ev
 
 -- ---- competitors
 
+-- the name is a link to the page of the competitor
 abbrev pub competitor_start : ℕ → List ℕ → List ℕ
 competitor_start number name = joined (
-    codes "<tr><td>" ∷ decimal number ∷ codes "</td><td dir=\"auto\">" ∷ escaped name
-    ∷ codes "</td><td>" ∷ []
+    codes "<tr><td>" ∷ decimal number ∷ codes "</td><td dir=\"auto\"><a href=\"/person/"
+    ∷ decimal number ∷ codes "\">" ∷ escaped name ∷ codes "</a></td><td>" ∷ []
     )
 
 abbrev pub competitor_line : List Command → ℕ → List ℕ → List ℕ

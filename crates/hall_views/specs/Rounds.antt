@@ -20,15 +20,13 @@ use Rattle.table_views.specs.Recent.{recent_section}
 use Rattle.hall_views.specs.declared.round_forms.State.{State}
 use Rattle.hall_views.specs.declared.round_forms.State.TheVariants.{Closed, Open, ToOpen}
 use Rattle.hall_views.specs.Closing.{open_round, through}
-use Rattle.hall_views.specs.Forms.{button, form_start, unseen}
+use Rattle.hall_views.specs.Editions.{edition_form, mends}
 use Rattle.hall_views.specs.Opening.{opening}
 use Rattle.hall_views.specs.Proposal.{proposed}
+use Rattle.hall_views.specs.Reopening.{again, round_numbered}
 use Rattle.hall_views.specs.Scrambles.{scrambles}
 
 -- ---- which rounds have forms
-
-abbrev pub round_numbered : Event → ℕ → RoundId
-round_numbered event round = record { event = event; round = round }
 
 -- a round can be opened, as far as those before it go: it is the first, or the one before it is
 -- closed and no final
@@ -87,19 +85,12 @@ event_row accepted event =
     if nat_lt (edition_in accepted) (event_edition event) then []
     else row_of accepted event
 
-unfoldable pub edition_form : List ℕ → ℕ → List ℕ
-edition_form token form =
-    codes "<h2>Edition 2</h2>\n<p>With it the commands have 3x3x3 Multi-Blind. "
-    ++ codes "It can't be taken back. This is sent: <code>EDITION 2</code></p>\n"
-    ++ form_start token form (codes "EDITION") (codes "/rounds")
-    ++ unseen (codes "text") (codes "EDITION 2") ++ button (codes "Go on to edition 2")
-
--- the button of edition 2, until it holds
+-- the form that moves to edition 3, until it holds
 abbrev pub edition_section : Around → List ℕ
 edition_section around =
-    if nat_le 2 (edition_in (accepted_in around.mirror.now))
-    then codes "<p>Edition 2 of the commands holds.</p>\n"
-    else edition_form around.token.now (get_or around.ids.now 0 0)
+    if mends (accepted_in around.mirror.now)
+    then codes "<p>Edition 3 of the commands holds.</p>\n"
+    else edition_form around.token.now (get_or around.ids.now 0 0) (codes "/rounds")
 
 unfoldable pub all_section : Around → List ℕ
 all_section around =
@@ -125,18 +116,18 @@ next_link id Final = []
 next_link id (Top number) = link_after id
 next_link id (Percent percent) = link_after id
 
-unfoldable pub closed_forms : List Command → RoundId → Settings × Table → List ℕ
-closed_forms accepted id round =
-    codes "<p>The round is closed.</p>\n" ++ through accepted id round
-    ++ next_link id round.0.advance
+-- who goes on, a link to the next round, and the form that opens this one again
+unfoldable pub closed_forms : Around → RoundId → Settings × Table → List ℕ
+closed_forms around id round =
+    codes "<p>The round is closed.</p>\n" ++ through (accepted_in around.mirror.now) id round
+    ++ next_link id round.0.advance ++ again around id
 
 unfoldable pub running_forms : Around → RoundId → Settings × Table → List ℕ
 running_forms around id round =
     scrambles id.event around id (attempts_of round.0.format) ++ open_round around id round
 
 abbrev pub closed_or_open_forms : Bool → Around → RoundId → Settings × Table → List ℕ
-closed_or_open_forms true around id round =
-    closed_forms (accepted_in around.mirror.now) id round
+closed_or_open_forms true around id round = closed_forms around id round
 closed_or_open_forms false around id round = running_forms around id round
 
 unfoldable pub opened_forms : Around → RoundId → Settings × Table → List ℕ

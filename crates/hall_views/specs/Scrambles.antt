@@ -1,6 +1,6 @@
 -- The scrambles of fewest moves.
-use Rattle.std.specs.Prelude.{ℕ, if◌then◌else◌, nat_le, List, [], ◌∷◌, ◌++◌, codes, decimal, get_or}
-use Rattle.std.specs.Prelude.{Option, None, Some}
+use Rattle.std.specs.Prelude.{ℕ, Bool, true, false, if◌then◌else◌, nat_le, List, [], ◌∷◌, ◌++◌}
+use Rattle.std.specs.Prelude.{codes, decimal, get_or, Option, None, Some}
 use Rattle.board_page.specs.Escaped.{escaped}
 use Rattle.commands.specs.Accepted.{scramble_of}
 use Rattle.cube.specs.declared.moves.Move.{Move}
@@ -12,29 +12,49 @@ use Rattle.texts.specs.declared.command.RoundId.{RoundId}
 use Rattle.markup.specs.Pieces.{joined}
 use Rattle.table_views.specs.declared.around.Around.{Around}
 use Rattle.table_views.specs.Logs.{accepted_in}
+use Rattle.hall_views.specs.Editions.{mends}
 use Rattle.hall_views.specs.Forms.{button, form_start, path_of, round_value, text_field}
 
-abbrev pub scramble_shown : ℕ → List Move → List ℕ
-scramble_shown attempt moves = joined (
-    codes "<p>Scramble " ∷ decimal attempt ∷ codes ": <code>" ∷ escaped (spelling moves)
+abbrev pub scramble_shown : ℕ → List ℕ → List ℕ
+scramble_shown attempt text = joined (
+    codes "<p>Scramble " ∷ decimal attempt ∷ codes ": <code>" ∷ escaped text
     ∷ codes "</code></p>\n" ∷ []
     )
 
--- the form that sets the scramble of an attempt
-unfoldable pub scramble_form : List ℕ → ℕ → RoundId → ℕ → List ℕ
-scramble_form token form id attempt =
-    form_start token form (codes "SCR") (path_of id) ++ round_value id
+-- a form with the scramble of an attempt: the word of its command, what its field is filled in
+-- with, and what its button says
+unfoldable pub scramble_form : List ℕ → List ℕ → List ℕ → List ℕ → ℕ → RoundId → ℕ → List ℕ
+scramble_form command moves words token form id attempt =
+    form_start token form command (path_of id) ++ round_value id
     ++ text_field (codes "attempt") (codes "Scramble of attempt") (decimal attempt)
-    ++ text_field (codes "moves") (codes "moves") (codes "") ++ button (codes "Set the scramble")
+    ++ text_field (codes "moves") (codes "moves") moves ++ button words
 
-abbrev pub scramble_or_form : Option (List Move) → List ℕ → ℕ → RoundId → ℕ → List ℕ
-scramble_or_form (Some moves) token form id attempt = scramble_shown attempt moves
-scramble_or_form None token form id attempt = scramble_form token form id attempt
+-- the form that sets the scramble of an attempt
+abbrev pub setting : List ℕ → ℕ → RoundId → ℕ → List ℕ
+setting token form id attempt =
+    scramble_form (codes "SCR") [] (codes "Set the scramble") token form id attempt
 
--- the scramble that an attempt has, or the form that sets it
+-- the form that changes it, in edition 3
+abbrev pub rescrambling : Bool → List ℕ → List ℕ → ℕ → RoundId → ℕ → List ℕ
+rescrambling true moves token form id attempt =
+    scramble_form (codes "RSC") moves (codes "Change the scramble") token form id attempt
+rescrambling false moves token form id attempt = []
+
+unfoldable pub standing_scramble : Bool → List Move → List ℕ → ℕ → RoundId → ℕ → List ℕ
+standing_scramble mends moves token form id attempt =
+    scramble_shown attempt (spelling moves)
+    ++ rescrambling mends (spelling moves) token form id attempt
+
+abbrev pub scramble_or_form : Bool → Option (List Move) → List ℕ → ℕ → RoundId → ℕ → List ℕ
+scramble_or_form mends (Some moves) token form id attempt =
+    standing_scramble mends moves token form id attempt
+scramble_or_form mends None token form id attempt = setting token form id attempt
+
+-- the scramble that an attempt has, with the form that changes it, or the form that sets it
 abbrev pub scramble_at : List Command → List ℕ → ℕ → RoundId → ℕ → List ℕ
 scramble_at accepted token form id attempt =
-    scramble_or_form (scramble_of accepted id.event id.round attempt) token form id attempt
+    scramble_or_form (mends accepted) (scramble_of accepted id.event id.round attempt) token form id
+    attempt
 
 abbrev pub scramble_if : Around → ℕ → RoundId → ℕ → ℕ → List ℕ
 scramble_if around form id count attempt =

@@ -3,11 +3,13 @@
 ghost use Rattle.std.specs.Prelude.{◌≡◌, ◌++◌, IfOk, OnOk};
 ghost use Rattle.advancement.specs.Advancing.{advancing, quota};
 ghost use Rattle.rounds.specs.Tables.{started};
-ghost use Rattle.hall_views.specs.Closing.{change, close, closing_told, close_text, list_through};
-ghost use Rattle.hall_views.specs.Closing.{open_round};
+ghost use Rattle.hall_views.specs.Closing.{change, close, close_text, closing_line, closing_told};
+ghost use Rattle.hall_views.specs.Closing.{closing_words, list_through, open_round};
 ghost use Rattle.hall_views.specs.Closing.{these_go_on, through, tie};
 
 use crate::absent::push_never_came;
+use crate::changing::push_changing;
+use crate::editions::mends;
 use crate::forms::{id_at, path_of, push_button, push_form, push_round_value, push_unseen};
 use crate::opening::push_advance;
 use crate::unfinished::{push_entrants, push_unfinished};
@@ -132,36 +134,59 @@ fn push_change(
     push_button(out, b"Change who goes on")
 }
 
-/// Adds the command that closes the round, which is sent as it is shown.
-fn push_told(out: &mut Vec<u8>, text: &[u8]) -> Result<(), NoMemory>
-    ensures { OnOk result (out.new.items ≡ out.old.items ++ closing_told text.now) }
+/// What becomes of a round that is closed: in edition 3 it can be opened again.
+fn closing_words(mends: bool) -> &'static [u8]
+    ensures { result.now ≡ closing_words mends }
 {
-    push_unseen(out, b"text", text)?;
+    if mends {
+        b"Nothing in it changes afterwards, unless it is opened again before the next round is \
+opened."
+    } else {
+        b"Nothing in it changes afterwards."
+    }
+}
+
+/// Adds what becomes of the round, and the command that is sent.
+fn push_closing_line(out: &mut Vec<u8>, mends: bool, text: &[u8]) -> Result<(), NoMemory>
+    ensures { OnOk result (out.new.items ≡ out.old.items ++ closing_line mends text.now) }
+{
     push_pieces(
         out,
         &[
-            Piece::Html(b"<p>Nothing in it changes afterwards. This is sent: <code>"),
+            Piece::Html(b"<p>"),
+            Piece::Html(closing_words(mends)),
+            Piece::Html(b" This is sent: <code>"),
             Piece::Text(text),
             Piece::Html(b"</code></p>\n"),
         ],
     )
 }
 
+/// Adds the command that closes the round, which is sent as it is shown.
+fn push_told(out: &mut Vec<u8>, mends: bool, text: &[u8]) -> Result<(), NoMemory>
+    ensures { OnOk result (out.new.items ≡ out.old.items ++ closing_told mends text.now) }
+{
+    push_unseen(out, b"text", text)?;
+    push_closing_line(out, mends, text)
+}
+
 /// Adds the form that closes the round.
 fn push_close(
     out: &mut Vec<u8>,
+    mends: bool,
     token: &[u8],
     form: FormId,
     id: RoundId,
     back: &[u8],
 ) -> Result<(), NoMemory>
-    ensures { OnOk result (out.new.items ≡ out.old.items ++ close token.now form id back.now) }
+    ensures { OnOk result (out.new.items
+        ≡ out.old.items ++ close mends token.now form id back.now) }
 {
     let text = close_text(*out.allocator(), id)?;
     out.extend_from_slice(b"<h2>Close the round</h2>\n")?;
     push_form(out, token, form, b"CLOSE", back)?;
     push_round_value(out, id)?;
-    push_told(out, &text)?;
+    push_told(out, mends, &text)?;
     push_button(out, b"Close the round")
 }
 
@@ -180,6 +205,7 @@ pub(crate) fn push_open_round(
     push_unfinished(out, meet, id, round)?;
     push_never_came(out, around, id, round)?;
     push_through(out, meet, id, round)?;
+    push_changing(out, around, id, round)?;
     push_change(
         out,
         around.token,
@@ -188,5 +214,12 @@ pub(crate) fn push_open_round(
         round.settings.advance,
         &back,
     )?;
-    push_close(out, around.token, id_at(around.ids, 0), id, &back)
+    push_close(
+        out,
+        mends(meet),
+        around.token,
+        id_at(around.ids, 0),
+        id,
+        &back,
+    )
 }

@@ -1,8 +1,8 @@
 //! Forms that send commands.
 
 ghost use Rattle.std.specs.Prelude.{◌≡◌, ◌++◌, ◌<◌, IfOk, OnOk, decimal, get_or};
-ghost use Rattle.hall_views.specs.Forms.{button, choice, form_start, path_of, round_value};
-ghost use Rattle.hall_views.specs.Forms.{text_field, unseen};
+ghost use Rattle.hall_views.specs.Forms.{button, choice, form_start, path_of, person_path};
+ghost use Rattle.hall_views.specs.Forms.{round_value, text_field, unseen};
 
 use acceptor::NoMemory;
 use attempts::push_decimal;
@@ -141,6 +141,24 @@ pub(crate) fn path_of(alloc: Global, id: RoundId) -> Result<Vec<u8>, NoMemory>
 {
     let mut path = Vec::new(alloc);
     push_path(&mut path, id)?;
+    Ok(path)
+}
+
+fn push_person_path(out: &mut Vec<u8>, number: u16) -> Result<(), NoMemory>
+    ensures { OnOk result (out.new.items ≡ out.old.items ++ person_path number) }
+{
+    push_pieces(
+        out,
+        &[Piece::Html(b"/person/"), Piece::Number(number as u64)],
+    )
+}
+
+/// The path of the page of a competitor.
+pub(crate) fn person_path(alloc: Global, number: u16) -> Result<Vec<u8>, NoMemory>
+    ensures { IfOk result (λ path. path.items ≡ person_path number) }
+{
+    let mut path = Vec::new(alloc);
+    push_person_path(&mut path, number)?;
     Ok(path)
 }
 

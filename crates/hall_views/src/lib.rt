@@ -3,15 +3,19 @@
 
 mod absent;
 mod all_rounds;
+mod changing;
 mod closing;
+mod editions;
 mod forms;
 mod importing;
 mod lines;
 mod opening;
 mod people;
+mod person;
 mod preview;
 mod proposal;
 mod refused;
+mod reopening;
 mod round_forms;
 mod scrambles;
 mod unfinished;
@@ -19,6 +23,7 @@ mod unfinished;
 pub use all_rounds::overview;
 pub use importing::import_page;
 pub use people::people_page;
+pub use person::person_page;
 pub use preview::{Tried, preview_page};
 pub use refused::{faults_page, refused_page};
 pub use round_forms::rounds_page;

@@ -3,7 +3,8 @@
 ghost use Rattle.std.specs.Prelude.{◌≡◌, ◌++◌, IfOk, OnOk, Some, flat_map};
 ghost use Rattle.formats.specs.Events.{unit_of};
 ghost use Rattle.hall_views.specs.Opening.{advance_choices, advance_fields, advance_options};
-ghost use Rattle.hall_views.specs.Opening.{amount_of, cutoff_choice, cutoff_fields};
+ghost use Rattle.hall_views.specs.Opening.{after_mark, amount_of, border_text, cutoff_choice};
+ghost use Rattle.hall_views.specs.Opening.{cutoff_fields, rule_fields};
 ghost use Rattle.hall_views.specs.Opening.{cutoff_select, format_choice, format_mark, limit_field};
 ghost use Rattle.hall_views.specs.Opening.{most_attempts, opening, opening_fields, opening_head};
 ghost use Rattle.hall_views.specs.Opening.{proposed_limit};
@@ -79,25 +80,40 @@ fn push_formats(
     Ok(())
 }
 
-fn push_after(out: &mut Vec<u8>, attempts: u8) -> Result<(), NoMemory>
-    ensures { OnOk result (out.new.items ≡ out.old.items ++ cutoff_choice attempts) }
+/// How the option of a number of attempts goes on.
+fn after_mark(cutoff: Option<(u8, u32)>, attempts: u8) -> &'static [u8]
+    ensures { result.now ≡ after_mark cutoff attempts }
+{
+    match cutoff {
+        Some((after, _)) if after == attempts => b" selected>",
+        _ => b">",
+    }
+}
+
+fn push_after(out: &mut Vec<u8>, cutoff: Option<(u8, u32)>, attempts: u8) -> Result<(), NoMemory>
+    ensures { OnOk result (out.new.items ≡ out.old.items ++ cutoff_choice cutoff attempts) }
 {
     push_pieces(
         out,
         &[
-            Piece::Html(b"<option>"),
+            Piece::Html(b"<option"),
+            Piece::Html(after_mark(cutoff, attempts)),
             Piece::Number(attempts as u64),
             Piece::Html(b"</option>\n"),
         ],
     )
 }
 
-fn push_each_after(out: &mut Vec<u8>, attempts: &[u8]) -> Result<(), NoMemory>
+fn push_each_after(
+    out: &mut Vec<u8>,
+    cutoff: Option<(u8, u32)>,
+    attempts: &[u8],
+) -> Result<(), NoMemory>
     ensures { OnOk result (out.new.items
-        ≡ out.old.items ++ flat_map cutoff_choice attempts.now) }
+        ≡ out.old.items ++ flat_map (cutoff_choice cutoff) attempts.now) }
 {
     for number in attempts {
-        push_after(out, *number)?;
+        push_after(out, cutoff, *number)?;
     }
     Ok(())
 }
@@ -109,25 +125,42 @@ fn most_attempts(event: Event) -> usize
     if allowed(event, Format::Ao5) { 4 } else { 2 }
 }
 
-/// Adds the fields of a cutoff.
-fn push_cutoff_select(out: &mut Vec<u8>, event: Event) -> Result<(), NoMemory>
-    ensures { OnOk result (out.new.items
-        ≡ out.old.items ++ cutoff_select (most_attempts event)) }
+/// What one of the attempts has to be below, and nothing without a cutoff.
+fn border_text(alloc: Global, unit: Unit, cutoff: Option<(u8, u32)>) -> Result<Vec<u8>, NoMemory>
+    ensures { IfOk result (λ text. text.items ≡ border_text unit cutoff) }
 {
+    match cutoff {
+        Some((_, border)) => print_value(alloc, Value::Number(border), unit),
+        None => Ok(Vec::new(alloc)),
+    }
+}
+
+/// Adds the fields of a cutoff, in this unit.
+fn push_cutoff_select(
+    out: &mut Vec<u8>,
+    event: Event,
+    unit: Unit,
+    cutoff: Option<(u8, u32)>,
+) -> Result<(), NoMemory>
+    ensures { OnOk result (out.new.items
+        ≡ out.old.items ++ cutoff_select (most_attempts event) unit cutoff) }
+{
+    let border = border_text(*out.allocator(), unit, cutoff)?;
     out.extend_from_slice(
         b"<label>Cutoff after <select name=\"after\">\n<option value=\"\">none</option>\n",
     )?;
-    push_each_after(out, &AFTER[..most_attempts(event)])?;
+    push_each_after(out, cutoff, &AFTER[..most_attempts(event)])?;
     out.extend_from_slice(b"</select> attempts</label>\n")?;
-    push_text_field(out, b"cutoff", b"one of them below (as 15.00)", b"")
+    push_text_field(out, b"cutoff", b"one of them below (as 15.00)", &border)
 }
 
-/// Adds the fields of a cutoff, which multi-blind has not.
-fn push_cutoff(out: &mut Vec<u8>, event: Event) -> Result<(), NoMemory>
-    ensures { OnOk result (out.new.items ≡ out.old.items ++ cutoff_fields event) }
+/// Adds the fields of a cutoff, which multi-blind has not. What stands of it is filled in.
+fn push_cutoff(out: &mut Vec<u8>, event: Event, cutoff: Option<(u8, u32)>) -> Result<(), NoMemory>
+    ensures { OnOk result (out.new.items ≡ out.old.items ++ cutoff_fields event cutoff) }
 {
     match unit_of(event) {
-        Unit::Time | Unit::Moves => push_cutoff_select(out, event),
+        Unit::Time => push_cutoff_select(out, event, Unit::Time, cutoff),
+        Unit::Moves => push_cutoff_select(out, event, Unit::Moves, cutoff),
         Unit::Multi => Ok(()),
     }
 }
@@ -211,15 +244,30 @@ pub(crate) fn push_advance(out: &mut Vec<u8>, advance: Advance) -> Result<(), No
     push_text_field(out, b"amount", b"how many", &amount)
 }
 
-/// Adds the fields of the form: what the event allows can be chosen.
+/// Adds the fields of format, cutoff and limit, with these chosen beforehand: what the event allows
+/// can be chosen.
+pub(crate) fn push_rule_fields(
+    out: &mut Vec<u8>,
+    event: Event,
+    format: Option<Format>,
+    cutoff: Option<(u8, u32)>,
+    limit: Option<u32>,
+) -> Result<(), NoMemory>
+    ensures { OnOk result (out.new.items
+        ≡ out.old.items ++ rule_fields event format cutoff limit) }
+{
+    out.extend_from_slice(b"<label>Format <select name=\"format\">\n")?;
+    push_formats(out, event, format, &Format::ALL)?;
+    out.extend_from_slice(b"</select></label>\n")?;
+    push_cutoff(out, event, cutoff)?;
+    push_limit(out, event, limit)
+}
+
+/// Adds the fields of the form that opens a round.
 fn push_fields(out: &mut Vec<u8>, event: Event, proposal: Proposal) -> Result<(), NoMemory>
     ensures { OnOk result (out.new.items ≡ out.old.items ++ opening_fields event proposal) }
 {
-    out.extend_from_slice(b"<label>Format <select name=\"format\">\n")?;
-    push_formats(out, event, proposal.format, &Format::ALL)?;
-    out.extend_from_slice(b"</select></label>\n")?;
-    push_cutoff(out, event)?;
-    push_limit(out, event, proposal.limit)?;
+    push_rule_fields(out, event, proposal.format, None, proposal.limit)?;
     push_advance(out, proposal.advance)
 }
 

@@ -74,7 +74,7 @@ fn push_entered_in(
 }
 
 /// Adds the events in whose first round a competitor is.
-fn push_entered(
+pub(crate) fn push_entered(
     out: &mut Vec<u8>,
     meet: &Meet,
     number: u16,
@@ -98,9 +98,11 @@ fn push_competitor_start<'a>(out: &mut Vec<u8>, number: u16, name: &'a [u8]) -> 
         &[
             Piece::Html(b"<tr><td>"),
             Piece::Number(number as u64),
-            Piece::Html(b"</td><td dir=\"auto\">"),
+            Piece::Html(b"</td><td dir=\"auto\"><a href=\"/person/"),
+            Piece::Number(number as u64),
+            Piece::Html(b"\">"),
             Piece::Text(name),
-            Piece::Html(b"</td><td>"),
+            Piece::Html(b"</a></td><td>"),
         ],
     )
 }
@@ -229,7 +231,7 @@ fn push_section(out: &mut Vec<u8>, around: &Around<'_>) -> Result<(), NoMemory>
 }
 
 /// The page of competitors: forms that register one, and enter one in an event, and all who are
-/// registered, each with the events in whose first round they are.
+/// registered, each with a link to their page and the events in whose first round they are.
 pub fn people_page(alloc: Global, around: &Around<'_>) -> Result<Vec<u8>, NoMemory>
     ensures { IfOk result (λ page. IsPeoplePage around.entry.now page.items) }
 {

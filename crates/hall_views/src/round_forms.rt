@@ -9,17 +9,18 @@ ghost use Rattle.hall_views.specs.Rounds.{all_section, closed_forms, edition_sec
 ghost use Rattle.hall_views.specs.Rounds.{event_row, forms_if, inside, is_next, link_if, link_rest};
 ghost use Rattle.hall_views.specs.Rounds.{next_link, opened_forms, round_head, round_link};
 ghost use Rattle.hall_views.specs.Rounds.{round_section, rounds_page, state_of, state_words};
-ghost use Rattle.hall_views.specs.Rounds.{called, closed_or_open_forms, edition_form, link};
+ghost use Rattle.hall_views.specs.Rounds.{called, closed_or_open_forms, link};
 ghost use Rattle.hall_views.specs.Rounds.{link_after, link_in, link_to_next, numbered, row_of};
 ghost use Rattle.hall_views.specs.Rounds.{running_forms, unopened_forms};
 
 use crate::closing::{push_open_round, push_through};
-use crate::forms::{id_at, push_button, push_form, push_unseen};
+use crate::editions::{mends, push_edition_form};
+use crate::forms::id_at;
 use crate::opening::push_opening;
 use crate::proposal::proposed;
+use crate::reopening::push_again;
 use crate::scrambles::push_scrambles;
 use acceptor::NoMemory;
-use card_forms::FormId;
 use commands::Meet;
 use formats::{Advance, Event, LAST_ROUND};
 use markup::{Piece, push_pieces};
@@ -30,7 +31,7 @@ use table_views::{Around, push_bottom, push_recent, push_top};
 use texts::RoundId;
 
 /// The rounds that an event can have.
-const ROUNDS: [u8; 4] = [1, 2, 3, 4];
+pub(crate) const ROUNDS: [u8; 4] = [1, 2, 3, 4];
 
 /// How far a round is that has forms.
 #[derive(Clone, Copy, Debug, PartialEq, Eq)]
@@ -203,27 +204,14 @@ fn push_events(out: &mut Vec<u8>, meet: &Meet, events: &[Event]) -> Result<(), N
     Ok(())
 }
 
-/// Adds the button of edition 2.
-fn push_edition_form(out: &mut Vec<u8>, token: &[u8], form: FormId) -> Result<(), NoMemory>
-    ensures { OnOk result (out.new.items ≡ out.old.items ++ edition_form token.now form) }
-{
-    out.extend_from_slice(
-        b"<h2>Edition 2</h2>\n<p>With it the commands have 3x3x3 Multi-Blind. \
-It can't be taken back. This is sent: <code>EDITION 2</code></p>\n",
-    )?;
-    push_form(out, token, form, b"EDITION", b"/rounds")?;
-    push_unseen(out, b"text", b"EDITION 2")?;
-    push_button(out, b"Go on to edition 2")
-}
-
-/// Adds the button of edition 2, until it holds.
+/// Adds the form that moves to edition 3, until it holds.
 fn push_edition(out: &mut Vec<u8>, around: &Around<'_>) -> Result<(), NoMemory>
     ensures { OnOk result (out.new.items ≡ out.old.items ++ edition_section around.entry.now) }
 {
-    if around.mirror.meet().edition() >= 2 {
-        out.extend_from_slice(b"<p>Edition 2 of the commands holds.</p>\n")
+    if mends(around.mirror.meet()) {
+        out.extend_from_slice(b"<p>Edition 3 of the commands holds.</p>\n")
     } else {
-        push_edition_form(out, around.token, id_at(around.ids, 0))
+        push_edition_form(out, around.token, id_at(around.ids, 0), b"/rounds")
     }
 }
 
@@ -273,19 +261,20 @@ fn push_next(out: &mut Vec<u8>, id: RoundId, advance: Advance) -> Result<(), NoM
     }
 }
 
-/// Adds who goes on from a round that is closed.
+/// Adds who goes on from a round that is closed, and the form that opens it again.
 fn push_closed(
     out: &mut Vec<u8>,
-    meet: &Meet,
+    around: &Around<'_>,
     id: RoundId,
     round: Opened<'_>,
 ) -> Result<(), NoMemory>
-    ensures { OnOk result (out.new.items ≡ out.old.items ++ closed_forms meet.now.accepted id
+    ensures { OnOk result (out.new.items ≡ out.old.items ++ closed_forms around.entry.now id
         (round.entry.settings, round.entry.table.now)) }
 {
     out.extend_from_slice(b"<p>The round is closed.</p>\n")?;
-    push_through(out, meet, id, round)?;
-    push_next(out, id, round.settings.advance)
+    push_through(out, around.mirror.meet(), id, round)?;
+    push_next(out, id, round.settings.advance)?;
+    push_again(out, around, id)
 }
 
 /// Adds the forms of a round that is open.
@@ -314,7 +303,7 @@ fn push_closed_or_open(
         (round.entry.settings, round.entry.table.now)) }
 {
     if round.table.is_closed() {
-        push_closed(out, around.mirror.meet(), id, round)
+        push_closed(out, around, id, round)
     } else {
         push_running(out, around, id, round)
     }

@@ -3,8 +3,10 @@
 ghost use Rattle.std.specs.Prelude.{◌≡◌, ◌++◌, ◌≤◌, OnOk};
 ghost use Rattle.formats.specs.Events.{attempts_of};
 ghost use Rattle.hall_views.specs.Scrambles.{scramble_at, scramble_form, scramble_if};
-ghost use Rattle.hall_views.specs.Scrambles.{all_scrambles, scramble_shown, scrambles};
+ghost use Rattle.hall_views.specs.Scrambles.{all_scrambles, rescrambling, scramble_shown};
+ghost use Rattle.hall_views.specs.Scrambles.{scrambles, setting, standing_scramble};
 
+use crate::editions::mends;
 use crate::forms::{
     digits_of, id_at, path_of, push_button, push_form, push_round_value, push_text_field,
 };
@@ -18,40 +20,112 @@ use table_views::Around;
 use texts::RoundId;
 
 /// Adds the scramble that an attempt has.
-fn push_shown(out: &mut Vec<u8>, attempt: u8, moves: &[Move]) -> Result<(), NoMemory>
-    ensures { OnOk result (out.new.items ≡ out.old.items ++ scramble_shown attempt moves.now) }
+fn push_shown(out: &mut Vec<u8>, attempt: u8, text: &[u8]) -> Result<(), NoMemory>
+    ensures { OnOk result (out.new.items ≡ out.old.items ++ scramble_shown attempt text.now) }
 {
-    let text = notation::print(*out.allocator(), moves)?;
     push_pieces(
         out,
         &[
             Piece::Html(b"<p>Scramble "),
             Piece::Number(attempt as u64),
             Piece::Html(b": <code>"),
-            Piece::Text(&text),
+            Piece::Text(text),
             Piece::Html(b"</code></p>\n"),
         ],
     )
 }
 
-/// Adds the form that sets the scramble of an attempt.
+/// What a form with a scramble says.
+#[derive(Clone, Copy)]
+pub(crate) struct Wording<'a> {
+    /// The word of its command.
+    pub command: &'a [u8],
+    /// What the field of the moves is filled in with.
+    pub moves: &'a [u8],
+    /// What its button says.
+    pub button: &'a [u8],
+}
+
+/// Adds a form with the scramble of an attempt.
 fn push_scramble_form(
+    out: &mut Vec<u8>,
+    wording: Wording<'_>,
+    token: &[u8],
+    form: FormId,
+    id: RoundId,
+    attempt: u8,
+) -> Result<(), NoMemory>
+    ensures { OnOk result (out.new.items ≡ out.old.items
+        ++ scramble_form wording.entry.command.now wording.entry.moves.now
+        wording.entry.button.now token.now form id attempt) }
+{
+    let digits = digits_of(*out.allocator(), attempt as u32)?;
+    let back = path_of(*out.allocator(), id)?;
+    push_form(out, token, form, wording.command, &back)?;
+    push_round_value(out, id)?;
+    push_text_field(out, b"attempt", b"Scramble of attempt", &digits)?;
+    push_text_field(out, b"moves", b"moves", wording.moves)?;
+    push_button(out, wording.button)
+}
+
+/// Adds the form that sets the scramble of an attempt.
+fn push_setting(
     out: &mut Vec<u8>,
     token: &[u8],
     form: FormId,
     id: RoundId,
     attempt: u8,
 ) -> Result<(), NoMemory>
-    ensures { OnOk result (out.new.items
-        ≡ out.old.items ++ scramble_form token.now form id attempt) }
+    ensures { OnOk result (out.new.items ≡ out.old.items ++ setting token.now form id attempt) }
 {
-    let digits = digits_of(*out.allocator(), attempt as u32)?;
-    let back = path_of(*out.allocator(), id)?;
-    push_form(out, token, form, b"SCR", &back)?;
-    push_round_value(out, id)?;
-    push_text_field(out, b"attempt", b"Scramble of attempt", &digits)?;
-    push_text_field(out, b"moves", b"moves", b"")?;
-    push_button(out, b"Set the scramble")
+    let wording = Wording {
+        command: b"SCR",
+        moves: b"",
+        button: b"Set the scramble",
+    };
+    push_scramble_form(out, wording, token, form, id, attempt)
+}
+
+/// Adds the form that changes the scramble of an attempt from these moves, in edition 3.
+fn push_rescrambling(
+    out: &mut Vec<u8>,
+    mends: bool,
+    moves: &[u8],
+    token: &[u8],
+    form: FormId,
+    id: RoundId,
+    attempt: u8,
+) -> Result<(), NoMemory>
+    ensures { OnOk result (out.new.items
+        ≡ out.old.items ++ rescrambling mends moves.now token.now form id attempt) }
+{
+    if !mends {
+        return Ok(());
+    }
+    let wording = Wording {
+        command: b"RSC",
+        moves,
+        button: b"Change the scramble",
+    };
+    push_scramble_form(out, wording, token, form, id, attempt)
+}
+
+/// Adds the scramble that an attempt has, and the form that changes it.
+fn push_standing(
+    out: &mut Vec<u8>,
+    mends: bool,
+    moves: &[Move],
+    token: &[u8],
+    form: FormId,
+    id: RoundId,
+    attempt: u8,
+) -> Result<(), NoMemory>
+    ensures { OnOk result (out.new.items
+        ≡ out.old.items ++ standing_scramble mends moves.now token.now form id attempt) }
+{
+    let text = notation::print(*out.allocator(), moves)?;
+    push_shown(out, attempt, &text)?;
+    push_rescrambling(out, mends, &text, token, form, id, attempt)
 }
 
 /// Adds the scramble of an attempt, or the form that sets it.
@@ -68,8 +142,8 @@ fn push_scramble(
         ≡ out.old.items ++ scramble_at meet.now.accepted token.now form id attempt) }
 {
     match meet.scramble(id.event, id.round, attempt) {
-        Some(moves) => push_shown(out, attempt, moves),
-        None => push_scramble_form(out, token, form, id, attempt),
+        Some(moves) => push_standing(out, mends(meet), moves, token, form, id, attempt),
+        None => push_setting(out, token, form, id, attempt),
     }
 }
 

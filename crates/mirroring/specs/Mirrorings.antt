@@ -155,7 +155,8 @@ HearsDesk c now piece old new = HearsAt old.talking c now piece old new
 
 -- ---- in a hurry
 
--- the next question may come at once, where the last one was answered
+-- the next question may come at once, where the last one was answered with something of use: over
+-- the connection or, where it was closed or lost since, over a new one
 abbrev pub hurried : MirroringOf → MirroringOf
 hurried m =
     mirroring m.hall (with_stage m.follower (hurried_stage m.follower.stage)) m.entries m.talking

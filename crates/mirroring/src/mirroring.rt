@@ -245,8 +245,10 @@ impl Mirroring {
         }
     }
 
-    /// Lets the next question come at once where the desk has answered the last one: whoever knows
-    /// that something new is to be told needn't wait for a quarter of a second.
+    /// Lets the next question come at once where the last one was answered with something of use:
+    /// over the connection or, where that was closed or lost since, over a new one to the next
+    /// desk. So whoever knows that something new is to be told needn't wait for a quarter of a
+    /// second, also where the desk ended the connection after that answer.
     pub fn hurry(&mut self)
         ensures { self.new ≡ hurried self.old }
     {

@@ -8,17 +8,20 @@ use Rattle.answers.specs.declared.desk.Desk.{Ghosts as DeskOf}
 use Rattle.answers.specs.Seen.{Seen}
 use Rattle.store.specs.declared.home.Home.{Home}
 use Rattle.wire.specs.declared.values.Version.{Version}
-use Rattle.serving.specs.Connection.{serve_frame}
+use Rattle.serving.specs.declared.permission.Permission.TheVariants.{All}
+use Rattle.serving.specs.Connection.{AreUnder, serve_frame}
 use Rattle.serving.specs.Making.{Outside, Way}
 use Rattle.serving.specs.OwnTicks.{tick_begun}
 use Rattle.serving.specs.Turns.{Talk, new_talk}
 use Rattle.serving.specs.TurnLaw.{Came as CameIn, Began, Follow, Place, Rested, Took as TookOf}
-use Rattle.serving.specs.TurnLaw.{Turn, Turns, came_in, handed_out, received, taken_in}
+use Rattle.serving.specs.TurnLaw.{Turn, Turns, begun_in, came_in, handed_out, received, taken_in}
+use Rattle.serving.proofs.Connecting.{under_both}
 use Rattle.serving.proofs.Makings.{Makes-nil, Makes-trans}
 use Rattle.connections.specs.Connections.{AreServedInTurn, Connections, FollowEach, TurnOf}
 use Rattle.connections.specs.Connections.{place_of}
-use Rattle.connections.specs.Connections.{IsServedOf, MakesSome, Point, Served, served_of, turns_of}
-use Rattle.connections.proofs.Interleaving.{HoldsSome, at_first, goes_on, makes_all}
+use Rattle.connections.specs.Connections.{IsServedOf, MakesSome, Point, Served, begun_of}
+use Rattle.connections.specs.Connections.{served_of, turns_of}
+use Rattle.connections.proofs.Interleaving.{HoldsSome, at_first, begun_both, goes_on, makes_all}
 use Rattle.multiplex.specs.EachClient.{AreDoneInTurn, Deed, EachClientIsServed, Frame, OwnTick}
 use Rattle.multiplex.specs.EachClient.{frames_in, gave, own_ticks, point_in, sides_at, ticks_of}
 use Rattle.multiplex.specs.EachClient.{took}
@@ -53,6 +56,34 @@ turns_in (Visit k turns fate) = numbered k turns
 abbrev all_turns : List Step → List TurnOf
 all_turns [] = []
 all_turns (s ∷ ss) = turns_in s ++ all_turns ss
+
+-- each frame that these turns of a connection began was asked as one that may ask everything
+abbrev AskAll : List TurnOf → ℕ → Type 0
+AskAll turns k = AreUnder All (begun_in (turns_of k turns))
+
+-- with one turn more of this connection, or of another one
+ask_more : (own : Bool) (t : Turn) (ts : List Turn) (mine : List Turn)
+    → AreUnder All (begun_in (t ∷ ts)) → AreUnder All (begun_in mine)
+    → AreUnder All (begun_in (cond own (t ∷ mine) mine))
+ask_more true (CameIn piece) ts mine all later = later
+ask_more true (Began one) ts mine all later = (all.0, later)
+ask_more true Rested ts mine all later = later
+ask_more true (TookOf bytes) ts mine all later = later
+ask_more false t ts mine all later = later
+
+ask_less : (t : Turn) (ts : List Turn) → AreUnder All (begun_in (t ∷ ts))
+    → AreUnder All (begun_in ts)
+ask_less (CameIn piece) ts all = all
+ask_less (Began one) ts all = all.1
+ask_less Rested ts all = all
+ask_less (TookOf bytes) ts all = all
+
+ask_each : (j : ℕ) (turns : List Turn) → AreUnder All (begun_in turns)
+    → (k : ℕ) → AskAll (numbered j turns) k
+ask_each j [] all k = tt
+ask_each j (t ∷ ts) all k =
+    ask_more (eqb j k) t ts (turns_of k (numbered j ts)) all
+    (ask_each j ts (ask_less t ts all) k)
 
 FollowEach-trans : {V : Type 0} {way : Way V} (a m b : Connections way) (ts us : List TurnOf)
     → FollowEach a ts m → FollowEach m us b → FollowEach a (ts ++ us) b
@@ -225,6 +256,7 @@ conns_in a talks = conns talks a.seen a.outside
 record Leads {V : Type 0} {way : Way V} (home : Home) (wire : Version) (talks : ℕ → Talk)
     (a b : Room way) (turns : List TurnOf) (new : ℕ → Talk) : Type 0 where
   follow : FollowEach (conns_in a talks) turns (conns_in b new)
+  allowed : (k : ℕ) → AskAll turns k
   stands : StandsIn home wire new b.lobby
 
 abbrev LeadsSome : {V : Type 0} → {way : Way V} → Home → Version → (ℕ → Talk) → Room way
@@ -250,6 +282,7 @@ after_visit home wire talks k turns fate a b before after old new s h =
       moved.0,
       record {
         follow = moved.1.follow;
+        allowed = ask_each k turns h.allowed;
         stands = subst (λ l. StandsIn home wire moved.0 l) (sym h.left) (left fate moved.0 kept);
       },
     )
@@ -299,6 +332,7 @@ record Led {V : Type 0} {way : Way V} (home : Home) (wire : Version) (p : Past) 
     : Type 0 where
   done : AreDoneInTurn home (point_in a) deeds (point_in b)
   own : own_ticks deeds ≡ ticks
+  allowed : (k : ℕ) → AreUnder All (begun_of (served_of k (frames_in deeds)))
   stands : StandsIn home wire new b.lobby
   each : HoldsOfEach home (later p turns deeds) new
 
@@ -322,6 +356,7 @@ stays_so home wire p talks a b seen outside stands each = (
   record {
     done = point_same a b seen outside;
     own = refl;
+    allowed = λ k. tt;
     stands = stands;
     each = unmoved home p talks [] refl each;
   },
@@ -338,6 +373,7 @@ ticked home wire p talks now starved a b stands h each = (
   record {
     done = (point_in b, h.tick, refl);
     own = refl;
+    allowed = λ k. tt;
     stands = subst (λ l. StandsIn home wire talks l) (sym h.left) stands;
     each = unmoved home p talks (OwnTick starved ∷ []) refl each;
   },
@@ -375,6 +411,11 @@ visited home wire p talks a b turns h each =
       record {
         done = done_frames home (point_in a) (point_in b) after.0 after.1;
         own = no_own_ticks after.0;
+        allowed =
+            λ k.
+            subst (λ z. AreUnder All z)
+            (sym (ap (λ z. begun_of (served_of k z)) (frames_of_deeds after.0) ∙ after.3 k))
+            (h.1.allowed k);
         stands = h.1.stands;
         each =
             λ k.
@@ -509,6 +550,17 @@ after_steps home t p talks (x ∷ ss) a b s h each =
         own =
             own_both first.0 more.0 ∙ ap (λ z. z ++ own_ticks more.0) first.2.own
             ∙ ap (λ z. ticks_of (x ∷ []) ++ z) more.2.own ∙ ticks_first x ss;
+        allowed =
+            λ k.
+            let xs = served_of k (frames_in first.0) in
+            let ys = served_of k (frames_in more.0) in
+            let parts : begun_of (served_of k (frames_in (first.0 ++ more.0)))
+            ≡ begun_of xs ++ begun_of ys
+            = ap (λ z. begun_of (served_of k z)) (frames_both first.0 more.0)
+            ∙ ap begun_of (served_both k (frames_in first.0) (frames_in more.0))
+            ∙ begun_both xs ys in
+            subst (λ z. AreUnder All z) (sym parts)
+            (under_both All (begun_of xs) (begun_of ys) (first.2.allowed k) (more.2.allowed k));
         stands = more.2.stands;
         each =
             later_both home p more.1 (turns_in x) (all_turns ss) first.0 more.0 more.2.each;
@@ -676,5 +728,6 @@ each_client d result home t period a b before after steps h =
                 (subst
                 (λ z. IsServedOf home (received (turns_of k (all_turns steps))) z all one.0
                 (led.1 k)) (sym (same_bytes k steps).1) one.1.served),
+            led.2.allowed k,
           ),
     )

@@ -117,6 +117,7 @@ visiting d p happened home t k fate table old new before after left a m found nu
               (λ w. Follow (place_at d p w (at_guest a old)) goes.0
               (place_at d p w (at_guest m new))) wire goes.1.follow;
           once = goes.1.few;
+          allowed = goes.1.allowed;
           same = h.0.number ∙ number;
           ready = h.0.ready;
           stands = h.1.1;

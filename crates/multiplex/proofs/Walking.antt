@@ -5,12 +5,15 @@ use Rattle.std.proofs.Common.{false, List, [], ◌∷◌, ◌++◌, append-nil, 
 use Rattle.std.proofs.Common.{None, Some}
 use Rattle.answers.specs.declared.desk.Desk.{Ghosts as DeskOf}
 use Rattle.serving.specs.declared.peers.Peers.{Ghosts as PeersOf}
+use Rattle.serving.specs.declared.permission.Permission.{Permission}
+use Rattle.serving.specs.Connection.{AreUnder}
+use Rattle.serving.proofs.Connecting.{under_both}
 use Rattle.serving.specs.Making.{Way}
 use Rattle.serving.specs.Sessions.{outside}
 use Rattle.serving.specs.Turns.{Advances, Receives, Rests, Talk, WantsRead}
 use Rattle.serving.specs.Turns.{after_sent, broken_by, ended, moment}
 use Rattle.serving.specs.TurnLaw.{Came as CameIn, Began, Follow, Place, Rested, Took as TookOf}
-use Rattle.serving.specs.TurnLaw.{Turn}
+use Rattle.serving.specs.TurnLaw.{Turn, begun_at, begun_in}
 use Rattle.wire.specs.declared.fault.WireFault.{WireFault}
 use Rattle.multiplex.specs.Happenings.{Happened, Tells, Gave, Took}
 use Rattle.multiplex.specs.Passing.{IsDone, IsFate, Settled, pieces, told_turns, told_why}
@@ -40,15 +43,25 @@ pieces_both (Began one ∷ ts) us = pieces_both ts us
 pieces_both (Rested ∷ ts) us = pieces_both ts us
 pieces_both (TookOf bytes ∷ ts) us = pieces_both ts us
 
+begun_then : (ts us : List Turn) → begun_in (ts ++ us) ≡ begun_in ts ++ begun_in us
+begun_then [] us = refl
+begun_then (t ∷ ts) us =
+    ap (λ z. begun_at t ++ z) (begun_then ts us)
+    ∙ sym (append_assoc (begun_at t) (begun_in ts) (begun_in us))
+
 pub goes_both : {V U C : Type 0} (d : DeskOf V) (p : PeersOf U)
-    (happened : C → Option (List Happened)) (k : ℕ) (cause : Option Why) (n q : ℕ)
+    (happened : C → Option (List Happened)) (k : ℕ) (may : Permission) (cause : Option Why)
+    (n q : ℕ)
     (a m b : Spot V U C)
-    → Goes d p happened k None n a m → Goes d p happened k cause q m b
-    → Goes d p happened k cause (n + q) a b
-goes_both d p happened k cause n q a m b h g = (
+    → Goes d p happened k may None n a m → Goes d p happened k may cause q m b
+    → Goes d p happened k may cause (n + q) a b
+goes_both d p happened k may cause n q a m b h g = (
   h.0 ++ g.0,
   record {
     few = omega (arith, pieces_both h.0 g.0, h.1.few, g.1.few);
+    allowed =
+        subst (λ z. AreUnder may z) (sym (begun_then h.0 g.0))
+        (under_both may (begun_in h.0) (begun_in g.0) h.1.allowed g.1.allowed);
     follow =
         Follow-trans (place_at d p a.talk.wire a) (place_at d p a.talk.wire m)
         (place_at d p a.talk.wire b) h.0 g.0 h.1.follow
@@ -65,12 +78,13 @@ goes_both d p happened k cause n q a m b h g = (
 
 -- that all is done is not told
 pub goes_done : {V U C : Type 0} (d : DeskOf V) (p : PeersOf U)
-    (happened : C → Option (List Happened)) (k most : ℕ) (a b : Spot V U C)
-    → Goes d p happened k None most a b → Goes d p happened k (Some why.Done) most a b
-goes_done d p happened k most a b h = (
+    (happened : C → Option (List Happened)) (k : ℕ) (may : Permission) (most : ℕ) (a b : Spot V U C)
+    → Goes d p happened k may None most a b → Goes d p happened k may (Some why.Done) most a b
+goes_done d p happened k may most a b h = (
   h.0,
   record {
     few = h.1.few;
+    allowed = h.1.allowed;
     follow = h.1.follow;
     told = h.1.told;
     home = h.1.home;
@@ -80,27 +94,38 @@ goes_done d p happened k most a b h = (
 
 -- no turn was taken, since this failed, or nothing did
 pub no_turn : {V U C : Type 0} (d : DeskOf V) (p : PeersOf U)
-    (happened : C → Option (List Happened)) (k : ℕ) (cause : Option Why) (most : ℕ) (node : V)
+    (happened : C → Option (List Happened)) (k : ℕ) (may : Permission) (cause : Option Why)
+    (most : ℕ) (node : V)
     (peers : U) (c later : C) (old new : Talk)
     → new ≡ old → Tells (happened c) (happened later) (told_why k cause)
-    → Goes d p happened k cause most (spot node peers c old) (spot node peers later new)
-no_turn d p happened k cause most node peers c later old new is told =
-    subst (λ t. Goes d p happened k cause most (spot node peers c old) (spot node peers later t))
+    → Goes d p happened k may cause most (spot node peers c old) (spot node peers later new)
+no_turn d p happened k may cause most node peers c later old new is told =
+    subst
+    (λ t. Goes d p happened k may cause most (spot node peers c old) (spot node peers later t))
     (sym is) (
       [],
-      record { few = omega arith; follow = refl; told = told; home = refl; wire = refl },
+      record {
+        few = omega arith;
+        allowed = tt;
+        follow = refl;
+        told = told;
+        home = refl;
+        wire = refl;
+      },
     )
 
 pub took : {V U C : Type 0} (d : DeskOf V) (p : PeersOf U)
-    (happened : C → Option (List Happened)) (k most : ℕ) (node : V) (peers : U) (c later : C)
+    (happened : C → Option (List Happened)) (k : ℕ) (may : Permission) (most : ℕ) (node : V)
+    (peers : U) (c later : C)
     (old new : Talk) (bytes : List ℕ)
     → old.pending ≡ bytes ++ new.pending → new ≡ after_sent old (length bytes)
     → Tells (happened c) (happened later) (Took k bytes ∷ [])
-    → Goes d p happened k None most (spot node peers c old) (spot node peers later new)
-took d p happened k most node peers c later old new bytes parts is told = (
+    → Goes d p happened k may None most (spot node peers c old) (spot node peers later new)
+took d p happened k may most node peers c later old new bytes parts is told = (
   TookOf bytes ∷ [],
   record {
     few = omega arith;
+    allowed = tt;
     follow =
         (_, (parts, is, record { seen = refl; outside = refl }), refl);
     told = told;
@@ -110,15 +135,17 @@ took d p happened k most node peers c later old new bytes parts is told = (
 )
 
 pub came : {V U C : Type 0} (d : DeskOf V) (p : PeersOf U)
-    (happened : C → Option (List Happened)) (k : ℕ) (node : V) (peers : U) (c later : C)
+    (happened : C → Option (List Happened)) (k : ℕ) (may : Permission) (node : V) (peers : U)
+    (c later : C)
     (old new : Talk) (piece : List ℕ)
     → WantsRead old → Receives piece old new
     → Tells (happened c) (happened later) (Gave k piece ∷ [])
-    → Goes d p happened k None 1 (spot node peers c old) (spot node peers later new)
-came d p happened k node peers c later old new piece wants reads told = (
+    → Goes d p happened k may None 1 (spot node peers c old) (spot node peers later new)
+came d p happened k may node peers c later old new piece wants reads told = (
   CameIn piece ∷ [],
   record {
     few = omega arith;
+    allowed = tt;
     follow =
         (_, (wants, reads, record { seen = refl; outside = refl }), refl);
     told = told;
@@ -134,24 +161,27 @@ same_home old new (inr h) =
     (ap (λ (t : Talk). t.home) h.ends, ap (λ (t : Talk). t.wire) h.ends)
 
 pub advanced : {V U C : Type 0} (d : DeskOf V) (p : PeersOf U)
-    (happened : C → Option (List Happened)) (k most : ℕ) (went : Bool) (node next : V)
+    (happened : C → Option (List Happened)) (k : ℕ) (may : Permission) (most : ℕ) (went : Bool)
+    (node next : V)
     (peers more : U) (c : C) (old new : Talk)
-    → Advances d p went (moment node peers old) (moment next more new)
-    → Goes d p happened k None most (spot node peers c old) (spot next more c new)
-advanced d p happened k most true node next peers more c old new h = (
+    → Advances d p may went (moment node peers old) (moment next more new)
+    → Goes d p happened k may None most (spot node peers c old) (spot next more c new)
+advanced d p happened k may most true node next peers more c old new h = (
   Began h.0 ∷ [],
   record {
     few = omega arith;
+    allowed = (h.3, tt);
     follow = (_, (h.1, h.2), refl);
     told = Tells-nil (happened c);
     home = h.1.home;
     wire = h.1.wire;
   },
 )
-advanced d p happened k most false node next peers more c old new h = (
+advanced d p happened k may most false node next peers more c old new h = (
   Rested ∷ [],
   record {
     few = omega arith;
+    allowed = tt;
     follow = (
       _,
       (
@@ -203,39 +233,42 @@ at_rest old new (inr h) =
         some_not n = absurd cc
 
 pub after_send : {V U C : Type 0} (d : DeskOf V) (p : PeersOf U)
-    (happened : C → Option (List Happened)) (k most : ℕ) (ok : Bool) (node : V) (peers : U)
+    (happened : C → Option (List Happened)) (k : ℕ) (may : Permission) (most : ℕ) (ok : Bool)
+    (node : V) (peers : U)
     (c later : C) (old new : Talk)
     → Sends happened k ok c later old new
-    → Goes d p happened k (broken ok) most (spot node peers c old) (spot node peers later new)
-after_send d p happened k most true node peers c later old new (inl h) =
-    took d p happened k most node peers c later old new h.0 h.1 h.2 h.3
-after_send d p happened k most true node peers c later old new (inr h) =
-    no_turn d p happened k None most node peers c later old new h.0 h.1
-after_send d p happened k most false node peers c later old new h =
-    no_turn d p happened k (Some why.Broke) most node peers c later old new h.0 h.1
+    → Goes d p happened k may (broken ok) most (spot node peers c old) (spot node peers later new)
+after_send d p happened k may most true node peers c later old new (inl h) =
+    took d p happened k may most node peers c later old new h.0 h.1 h.2 h.3
+after_send d p happened k may most true node peers c later old new (inr h) =
+    no_turn d p happened k may None most node peers c later old new h.0 h.1
+after_send d p happened k may most false node peers c later old new h =
+    no_turn d p happened k may (Some why.Broke) most node peers c later old new h.0 h.1
 
 pub after_read : {V U C : Type 0} (d : DeskOf V) (p : PeersOf U)
-    (happened : C → Option (List Happened)) (k : ℕ) (cause : Option Why) (node : V) (peers : U)
+    (happened : C → Option (List Happened)) (k : ℕ) (may : Permission) (cause : Option Why)
+    (node : V) (peers : U)
     (c later : C) (old new : Talk)
     → WantsRead old → Reads happened k cause c later old new
-    → Goes d p happened k cause 1 (spot node peers c old) (spot node peers later new)
-after_read d p happened k None node peers c later old new wants (inl h) =
-    came d p happened k node peers c later old new h.0 wants h.1 h.2
-after_read d p happened k None node peers c later old new wants (inr h) =
-    no_turn d p happened k None 1 node peers c later old new h.0 h.1
-after_read d p happened k (Some w) node peers c later old new wants h =
-    no_turn d p happened k (Some w) 1 node peers c later old new h.0 h.1
+    → Goes d p happened k may cause 1 (spot node peers c old) (spot node peers later new)
+after_read d p happened k may None node peers c later old new wants (inl h) =
+    came d p happened k may node peers c later old new h.0 wants h.1 h.2
+after_read d p happened k may None node peers c later old new wants (inr h) =
+    no_turn d p happened k may None 1 node peers c later old new h.0 h.1
+after_read d p happened k may (Some w) node peers c later old new wants h =
+    no_turn d p happened k may (Some w) 1 node peers c later old new h.0 h.1
 
 pub after_move : {V U C : Type 0} (d : DeskOf V) (p : PeersOf U)
-    (happened : C → Option (List Happened)) (k : ℕ) (cause : Option Why) (node : V) (peers : U)
+    (happened : C → Option (List Happened)) (k : ℕ) (may : Permission) (cause : Option Why)
+    (node : V) (peers : U)
     (c later : C) (old new : Talk)
     → Moves happened k cause c later old new
-    → Goes d p happened k cause 1 (spot node peers c old) (spot node peers later new)
-after_move d p happened k cause node peers c later old new (inl h) =
-    subst (λ z. Goes d p happened k z 1 (spot node peers c old) (spot node peers later new))
-    (sym h.1) (after_send d p happened k 1 h.0 node peers c later old new h.2)
-after_move d p happened k cause node peers c later old new (inr h) =
-    after_read d p happened k cause node peers c later old new h.0 h.1
+    → Goes d p happened k may cause 1 (spot node peers c old) (spot node peers later new)
+after_move d p happened k may cause node peers c later old new (inl h) =
+    subst (λ z. Goes d p happened k may z 1 (spot node peers c old) (spot node peers later new))
+    (sym h.1) (after_send d p happened k may 1 h.0 node peers c later old new h.2)
+after_move d p happened k may cause node peers c later old new (inr h) =
+    after_read d p happened k may cause node peers c later old new h.0 h.1
 
 -- why it is ended, where a write or a read ends it
 pub move_ends : {C : Type 0} (happened : C → Option (List Happened)) (k : ℕ) (w : Why)

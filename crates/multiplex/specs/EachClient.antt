@@ -3,12 +3,13 @@ use Rattle.std.specs.Prelude.{◌≡◌, ℕ, ◌==◌, Bool, if◌then◌else�
 use Rattle.std.specs.Prelude.{Option, None}
 use Rattle.answers.specs.declared.desk.Desk.{Ghosts as DeskOf}
 use Rattle.store.specs.declared.home.Home.{Home}
-use Rattle.serving.specs.Connection.{Sides}
+use Rattle.serving.specs.declared.permission.Permission.TheVariants.{All}
+use Rattle.serving.specs.Connection.{AreUnder, Sides}
 use Rattle.serving.specs.Making.{Way, speaking}
 use Rattle.serving.specs.OwnTicks.{unanswered}
 use Rattle.serving.specs.Turns.{Talk}
 use Rattle.connections.specs.Connections.{AreServedInTurn, IsServedOf, MakesSome, Point, Served}
-use Rattle.connections.specs.Connections.{served_of}
+use Rattle.connections.specs.Connections.{begun_of, served_of}
 use Rattle.multiplex.specs.Happenings.{Happened, Round, Came, Full, Named, Gave, Took, Ended, Broke}
 use Rattle.multiplex.specs.Happenings.{Closed, Failed}
 use Rattle.multiplex.specs.Passing.{Changed, Clock, IsServedEach, Room, Step, Ticked, TicksBy}
@@ -91,7 +92,8 @@ AreDoneInTurn {V} {way} home a (OwnTick starved ∷ ds) b =
 -- are taken one after the other, whichever clients the frames are of, and the calls of all of them
 -- lead from the first node to the last. The bytes that a client gave are its own frames that were
 -- begun, those that wait, and a rest. Those that it took, and then what was still pending when its
--- connection was ended, are the answers to its own frames, in order, and nothing else.
+-- connection was ended, are the answers to its own frames, in order, and nothing else. Each frame is
+-- served as it asks, since every client may ask everything.
 abbrev pub EachClientIsServed : {V : Type 0} → DeskOf V → Type 0
 EachClientIsServed d =
     (result : ServedEach) (home : Home) (t : Terms) (period : Option ℕ)
@@ -104,7 +106,8 @@ EachClientIsServed d =
     × (own_ticks deeds ≡ ticks_of steps)
     × ((k : ℕ) → (rest : List ℕ) × (talk : Talk)
     × IsServedOf home (gave k (told_all steps)) (took k (told_all steps))
-    (served_of k (frames_in deeds)) rest talk)
+    (served_of k (frames_in deeds)) rest talk
+    × AreUnder All (begun_of (served_of k (frames_in deeds))))
 
 -- without a period the desk never gives itself a Tick
 abbrev pub TicksNeedAPeriod : {V : Type 0} → DeskOf V → Type 0

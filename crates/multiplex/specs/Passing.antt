@@ -7,12 +7,14 @@ use Rattle.answers.specs.Seen.{Seen}
 use Rattle.store.specs.declared.home.Home.{Home}
 use Rattle.serving.specs.declared.ends.End.{End}
 use Rattle.serving.specs.declared.ends.End.TheVariants as end
-use Rattle.serving.specs.Connection.{Sides}
+use Rattle.serving.specs.declared.permission.Permission.{Permission}
+use Rattle.serving.specs.declared.permission.Permission.TheVariants.{All}
+use Rattle.serving.specs.Connection.{AreUnder, Sides}
 use Rattle.serving.specs.Making.{Outside, Way}
 use Rattle.serving.specs.OwnTicks.{Ticks, TicksInPart, unanswered}
 use Rattle.serving.specs.Turns.{Talk, WantsRead, new_talk}
 use Rattle.serving.specs.TurnLaw.{Came as CameIn, Began, Follow, Place, Rested, Took as TookOf}
-use Rattle.serving.specs.TurnLaw.{Turn}
+use Rattle.serving.specs.TurnLaw.{Turn, begun_in}
 use Rattle.ticking.specs.Ticking.{Look, Ticking, after, is_due, look, new_ticker}
 use Rattle.multiplex.specs.Happenings.{Happened, Round, Came, Full, Named, Gave, Took, Ended, Broke}
 use Rattle.multiplex.specs.Happenings.{Closed, Failed, Tells}
@@ -204,6 +206,10 @@ abbrev pub staying : Option Why → Guest → List Guest
 staying None g = g ∷ []
 staying (Some w) g = []
 
+-- what a client may ask of the desk: everything, whichever it is
+abbrev pub may_ask : Guest → Permission
+may_ask g = All
+
 -- how many pieces came
 abbrev pub pieces : List Turn → ℕ
 pieces [] = 0
@@ -212,7 +218,8 @@ pieces (Began one ∷ ts) = pieces ts
 pieces (Rested ∷ ts) = pieces ts
 pieces (TookOf bytes ∷ ts) = pieces ts
 
--- A ready client's connection took these turns, in which one piece came at most.
+-- A ready client's connection took these turns, in which one piece came at most, and each frame was
+-- asked as the client may ask.
 pub record Visits {V : Type 0} {way : Way V} (k : ℕ) (turns : List Turn) (fate : Option Why)
     (a b : Room way) (before after : List Guest) (old new : Guest) : Type 0 where
   pub going : a.lobby.over ≡ None
@@ -220,6 +227,7 @@ pub record Visits {V : Type 0} {way : Way V} (k : ℕ) (turns : List Turn) (fate
   pub number : old.number ≡ k
   pub follow : Follow (with_node a old.talk) turns (with_node b new.talk)
   pub once : pieces turns ≤ 1
+  pub allowed : AreUnder (may_ask old) (begun_in turns)
   pub same : new.number ≡ k
   pub ready : new.ready ≡ a.lobby.time
   pub stands : IsFate fate new.talk

@@ -56,7 +56,8 @@ fn host<D: Desk, C: Clients, P: Peers>(
 {
     guest.ready = time;
     let number = guest.number;
-    if let Some(why) = talk_on(number, &mut guest.talk, clients, node, peers) {
+    let may = guest.may_ask();
+    if let Some(why) = talk_on(number, may, &mut guest.talk, clients, node, peers) {
         return Some(why);
     }
     if clients.watch(number, guest.talk.wants_write()) {

@@ -1,12 +1,12 @@
 //! The clients whose connections are open.
 
 ghost use Rattle.std.specs.Prelude.{◌≡◌, [], position, IfOk, IfSome, IfNone};
-ghost use Rattle.multiplex.specs.Passing.{first_ticks};
+ghost use Rattle.multiplex.specs.Passing.{first_ticks, may_ask};
 ghost use Rattle.multiplex.specs.model.Tables.{IsLongestAt, has_number, is_silent};
 
 use crate::own_ticks::OwnTicks;
 use answers::Desk;
-use serving::Connection;
+use serving::{Connection, Permission};
 use std::alloc::{AllocError, Global};
 use ticking::Period;
 use wire::Version;
@@ -33,6 +33,15 @@ pub(crate) struct Guest {
     pub(crate) talk: Connection,
     /// When it was last ready, in milliseconds after the first round.
     pub(crate) ready: u64,
+}
+
+impl Guest {
+    /// What the client may ask of the desk: everything, whichever it is.
+    pub(crate) fn may_ask(&self) -> Permission
+        ensures { result ≡ may_ask self.now }
+    {
+        Permission::All
+    }
 }
 
 /// The clients whose connections are open, in the order in which they came.

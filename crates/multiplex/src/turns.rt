@@ -10,7 +10,7 @@ ghost use Rattle.multiplex.specs.model.Visiting.{broken, spot};
 use crate::clients::{Clients, Given, Taken};
 use crate::ends::Why;
 use answers::Desk;
-use serving::{Connection, Peers};
+use serving::{Connection, Peers, Permission};
 
 /// Writes once what is to be sent. False: the write failed.
 fn send<C: Clients>(number: u64, talk: &mut Connection, clients: &mut C) -> bool
@@ -27,22 +27,24 @@ fn send<C: Clients>(number: u64, talk: &mut Connection, clients: &mut C) -> bool
     }
 }
 
-/// Serves the frames that wait, as long as their answers are taken at once. False: a write failed.
+/// Serves the frames that wait, of a client that may ask so much, as long as their answers are
+/// taken at once. False: a write failed.
 fn serve_waiting<D: Desk, C: Clients, P: Peers>(
     number: u64,
+    may: Permission,
     talk: &mut Connection,
     clients: &mut C,
     node: &mut D,
     peers: &mut P,
 ) -> bool
     requires home { D.home_of node.old ≡ talk.old.home }
-    ensures served { Goes D.Desk P.Peers C.happened number (broken result) 0
+    ensures served { Goes D.Desk P.Peers C.happened number may (broken result) 0
         (spot node.old peers.old clients.old talk.old)
         (spot node.new peers.new clients.new talk.new) }
     ensures settled { OnTrue result (SettledOrDone talk.new) }
     ensures node { D.home_of node.new ≡ D.home_of node.old }
 {
-    while talk.advance(node, peers) {
+    while talk.advance(node, peers, may) {
         if talk.wants_write() && !send(number, talk, clients) {
             return false;
         }
@@ -82,10 +84,11 @@ fn move_bytes<C: Clients>(number: u64, talk: &mut Connection, clients: &mut C) -
     read(number, talk, clients)
 }
 
-/// Writes or reads once, and serves what came, as long as answers are taken at once. Where the
-/// connection is to be ended now, it says why.
+/// Writes or reads once, and serves what came of a client that may ask so much, as long as answers
+/// are taken at once. Where the connection is to be ended now, it says why.
 pub(crate) fn talk_on<D: Desk, C: Clients, P: Peers>(
     number: u64,
+    may: Permission,
     talk: &mut Connection,
     clients: &mut C,
     node: &mut D,
@@ -93,7 +96,7 @@ pub(crate) fn talk_on<D: Desk, C: Clients, P: Peers>(
 ) -> Option<Why>
     requires home { D.home_of node.old ≡ talk.old.home }
     requires settled { Settled talk.old }
-    ensures talks { TalksOn D.Desk P.Peers C.happened number result
+    ensures talks { TalksOn D.Desk P.Peers C.happened number may result
         (spot node.old peers.old clients.old talk.old)
         (spot node.new peers.new clients.new talk.new) }
     ensures node { D.home_of node.new ≡ D.home_of node.old }
@@ -101,7 +104,7 @@ pub(crate) fn talk_on<D: Desk, C: Clients, P: Peers>(
     if let Some(why) = move_bytes(number, talk, clients) {
         return Some(why);
     }
-    if !serve_waiting(number, talk, clients, node, peers) {
+    if !serve_waiting(number, may, talk, clients, node, peers) {
         return Some(Why::Broke);
     }
     if talk.is_done() {

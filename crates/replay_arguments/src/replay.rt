@@ -31,6 +31,13 @@ Standard input has one command a line:
   ADV 333 1 top:8               changes who advances from round 1
   CLOSE 333 1                   closes round 1; the next round is then opened by OPEN
   EDITION 2                     from this line on 333mbf is an event
+  EDITION 3                     from this line on mistakes can be mended by the lines below
+  REN 1 Ann Lee                 gives competitor 1 another name
+  SET 333 1 bo3 - 60000         another format, cutoff and limit, while nobody has an attempt
+  RSC 333fm 1 2 R U' F          another scramble of an attempt, while it has no solution
+  WDR 333 1 1                   competitor 1, who has no attempt, leaves round 1; in a later round
+                                the next of the round before takes the place
+  REOPEN 333 1                  opens round 1 again, while round 2 is not open
 
 At most 65,536 lines, 10,000 bytes a line and 39,387,136 bytes in all are read.
 

@@ -21,13 +21,13 @@ use Rattle.attempts.specs.declared.Value.TheVariants.{Dns}
 use Rattle.formats.specs.declared.results.Averaged.TheVariants.{Missing}
 use Rattle.rounds.specs.declared.kept_entrant.KeptEntrant.{KeptEntrant}
 use Rattle.rounds.specs.Tables.{IsCutoff, allotted, meets, is_started_attempt}
-use Rattle.rounds.specs.model.PackedKeys.{HasPackedKey}
+use Rattle.rounds.specs.model.PackedKeys.{HasPackedKey, HasRoom, packed_key_of}
 use Rattle.rounds.specs.model.KeptEntrants.{kept_of, one_if, is_unfinished, place_among}
 use Rattle.rounds.specs.model.UpToDate.{no_result, IsMade, IsPlaced, IsAllotted, IsRanged}
-use Rattle.rounds.specs.model.UpToDate.{AreUpToDate}
+use Rattle.rounds.specs.model.UpToDate.{AreUpToDate, IsNewcomer}
 
 -- nobody without a result is better than anyone
-none_better : (k : RankKey) → is_better no_result k ≡ false
+pub none_better : (k : RankKey) → is_better no_result k ≡ false
 none_better k = step (is_same None k.main)
   where
     step : (b : Bool) → (b && false) ≡ false
@@ -41,7 +41,7 @@ some_attempts Bo1 = omega arith
 some_attempts Bo2 = omega arith
 some_attempts Bo3 = omega arith
 
-some_allotted : (format : Format) (cutoff : Option (ℕ × ℕ)) → IsCutoff format cutoff
+pub some_allotted : (format : Format) (cutoff : Option (ℕ × ℕ)) → IsCutoff format cutoff
     → 0 < allotted format cutoff []
 some_allotted format None is = some_attempts format
 some_allotted format (Some cutoff) is = step (meets cutoff [])
@@ -50,7 +50,7 @@ some_allotted format (Some cutoff) is = step (meets cutoff [])
     step true = some_attempts format
     step false = omega (arith, is.0)
 
-less_than : (m : ℕ) → 0 < m → nat_lt 0 m ≡ true
+pub less_than : (m : ℕ) → 0 < m → nat_lt 0 m ≡ true
 less_than m h = grind (arith, nat_tests)
 
 -- a count with one more
@@ -160,3 +160,25 @@ own_of_none rules vs place none =
     by Bo1 is = rw is refl
     by Bo2 is = rw is refl
     by Bo3 is = rw is refl
+
+-- no values have no key
+pub no_key : (rules : Rules) (place : ℕ) → (kept_of rules [] place).key ≡ no_result
+no_key rules place = ap (λ (k : Kept). k.key) (sym (own_of_none rules [] place refl))
+
+-- one without attempts more
+pub up_to_date_newcomer : (rules : Rules) (es : List (ℕ × KeptEntrant)) (n : ℕ) (s : KeptEntrant)
+    (started unfinished with_result : ℕ)
+    → AreUpToDate rules es started unfinished with_result → length es < 999
+    → IsNewcomer (with_result + 1) s
+    → AreUpToDate rules (es ++ (n, s) ∷ []) started (unfinished + 1) with_result
+up_to_date_newcomer rules es n s started unfinished with_result before room new =
+    let at : s.kept.place ≡ with_result + 1 = ap (λ (k : Kept). k.place) new.kept in
+    let key : s.kept.key ≡ no_result = ap (λ (k : Kept). k.key) new.kept in
+    up_to_date_entered rules es n s key started unfinished with_result before room new.row
+    (new.kept ∙ own_of_none rules s.row (with_result + 1) new.row
+    ∙ ap (kept_of rules s.row) (sym at))
+    at
+    (record {
+      packed_key = new.packed_key ∙ ap packed_key_of (sym key);
+      room = subst HasRoom (sym key) new.room;
+    })

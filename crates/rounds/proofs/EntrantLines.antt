@@ -1,6 +1,7 @@
 -- The lines of a table as its entrants.
 use Rattle.std.proofs.Common.{◌≡◌, ℕ, ◌+◌, ◌<◌, nat_eq, Bool, true, false, cond, ◌||◌, List, []}
-use Rattle.std.proofs.Common.{◌∷◌, map, length, find, Option, None, Some, slice_get, is_some}
+use Rattle.std.proofs.Common.{◌∷◌, map, filter, not, remove, length, find, Option, None, Some}
+use Rattle.std.proofs.Common.{slice_get, is_some}
 use Rattle.std.proofs.Common.{count_by, All, MatchOption, position, zero, suc, refl, sym, ap, ◌∙◌}
 use Rattle.std.proofs.Common.{arith, eqb-true, eq-eqb, subst}
 use Rattle.std.specs.List.{list_any, AllByRecursion, IsDistinct}
@@ -124,6 +125,49 @@ change_at n change (x ∷ es) (suc i) s apart at =
     ∙ ap (λ y. y ∷ map (with_change n change) (entrants_of es))
     (sym (change_or n change (entrant_of x) (has_number n (entrant_of x)) refl here))
 
+-- The others, once one of them has left
+
+keep_or : (n : ℕ) (e : Entrant) (rest : List Entrant) (b : Bool) → has_number n e ≡ b → b ≡ false
+    → cond (not (has_number n e)) (e ∷ rest) rest ≡ e ∷ rest
+keep_or n e rest true h is = absurd (false≢true (sym is))
+keep_or n e rest false h is = ap (λ b. cond (not b) (e ∷ rest) rest) h
+
+-- no line has the number: all stay
+keep_all : (n m : ℕ) (es : List (ℕ × KeptEntrant)) → m ≡ n
+    → AllByRecursion (λ k. nat_eq m k ≡ false) (keys_of es)
+    → filter (λ e. not (has_number n e)) (entrants_of es) ≡ entrants_of es
+keep_all n m [] same h = refl
+keep_all n m (e ∷ es) same h =
+    let apart : nat_eq n e.0 ≡ false = subst (λ k. nat_eq k e.0 ≡ false) same h.0 in
+    keep_or n (entrant_of e) (filter (λ e. not (has_number n e)) (entrants_of es))
+    (has_number n (entrant_of e)) refl apart
+    ∙ ap (λ xs. entrant_of e ∷ xs) (keep_all n m es same h.1)
+
+-- the one line of a number is taken out
+left_at : (n : ℕ) (es : List (ℕ × KeptEntrant)) (i : ℕ) (s : KeptEntrant)
+    → IsDistinct nat_eq (keys_of es) → slice_get es i ≡ Some (n, s)
+    → remove (entrants_of es) i ≡ filter (λ e. not (has_number n e)) (entrants_of es)
+unfolding IsDistinct
+left_at n [] i s apart at = cc
+left_at n (x ∷ es) zero s apart at =
+    let same : x ≡ (n, s) = cc in
+    let number : x.0 ≡ n = ap (λ (y : ℕ × KeptEntrant). y.0) same in
+    let here : nat_eq n x.0 ≡ true = eq-eqb n x.0 (sym number) in
+    sym
+    (ap
+    (λ b.
+    cond (not b) (entrant_of x ∷ filter (λ e. not (has_number n e)) (entrants_of es))
+    (filter (λ e. not (has_number n e)) (entrants_of es)))
+    here
+    ∙ keep_all n x.0 es number apart.0)
+left_at n (x ∷ es) (suc i) s apart at =
+    let other : nat_eq x.0 n ≡ false = key_at (λ k. nat_eq x.0 k ≡ false) es i n s apart.0 at in
+    let here : nat_eq n x.0 ≡ false = grind (arith, nat_tests) in
+    ap (λ xs. entrant_of x ∷ xs) (left_at n es i s apart.1 at)
+    ∙ sym
+    (keep_or n (entrant_of x) (filter (λ e. not (has_number n e)) (entrants_of es))
+    (has_number n (entrant_of x)) refl here)
+
 -- what is at an index within
 pub get_some : {X : Type 0} (xs : List X) (i : ℕ) → i < length xs
     → (x : X) × (slice_get xs i ≡ Some x)
@@ -170,6 +214,7 @@ index_says rules n es cutoff distinct few ranged = tell (position (nat_eq n) (ke
           few = at_index (IsAllotted rules) es i (n, got.0.1) few line;
           ranged = at_index (IsRanged rules) es i (n, got.0.1) ranged line;
           changed = λ change. change_at n change es i got.0.1 distinct line;
+          left = left_at n es i got.0.1 distinct line;
         }
 
 -- what is read at an index are the values of the entrant there

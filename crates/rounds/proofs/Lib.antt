@@ -6,6 +6,7 @@ pub mod EntrantLines
 pub mod Finished
 pub mod InOrder
 pub mod KeyOrder
+pub mod Leaving
 pub mod PackedKeys
 pub mod Passing
 pub mod Refusals

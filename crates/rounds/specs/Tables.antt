@@ -23,6 +23,12 @@ use Rattle.rounds.specs.declared.fault.StrikeFault.{StrikeFault}
 use Rattle.rounds.specs.declared.fault.StrikeFault.TheVariants as strike
 use Rattle.rounds.specs.declared.fault.CloseFault.{CloseFault}
 use Rattle.rounds.specs.declared.fault.CloseFault.TheVariants as close
+use Rattle.rounds.specs.declared.fault.WithdrawFault.{WithdrawFault}
+use Rattle.rounds.specs.declared.fault.WithdrawFault.TheVariants as withdraw
+use Rattle.rounds.specs.declared.fault.RulesFault.{RulesFault}
+use Rattle.rounds.specs.declared.fault.RulesFault.TheVariants as rules
+use Rattle.rounds.specs.declared.fault.ReopenFault.{ReopenFault}
+use Rattle.rounds.specs.declared.fault.ReopenFault.TheVariants as reopen
 
 -- a competitor's number, and the values of the attempts in order
 pub record Entrant : Type 0 where
@@ -170,6 +176,51 @@ less_last n e = if has_number n e then record e { values = without_last e.values
 abbrev pub struck : Table → ℕ → Table
 struck t n = record t { entrants = map (less_last n) t.entrants }
 
+-- What changes while nobody has done an attempt
+
+-- an entrant has done attempt k; attempts are counted from 1
+abbrev pub has_done : ℕ → Entrant → Bool
+has_done k e = nat_le k (length e.values)
+
+-- somebody has done attempt k
+abbrev pub is_attempted : Table → ℕ → Bool
+is_attempted t k = list_any (has_done k) t.entrants
+
+-- the first cause why an entrant does not leave
+abbrev pub leave_fault : Option Entrant → Option WithdrawFault
+leave_fault None = Some withdraw.NotEntered
+leave_fault (Some e) = if has_done 1 e then Some withdraw.HasAttempts else None
+
+abbrev pub withdraw_fault : Table → ℕ → Option WithdrawFault
+withdraw_fault t n = if t.is_closed then Some withdraw.Closed else leave_fault (entrant t n)
+
+-- a withdrawal is refused for this cause, or for want of memory where there is no other
+abbrev pub RefusesToLeave : WithdrawFault → Option WithdrawFault → Type 0
+RefusesToLeave withdraw.Closed cause = cause ≡ Some withdraw.Closed
+RefusesToLeave withdraw.NotEntered cause = cause ≡ Some withdraw.NotEntered
+RefusesToLeave withdraw.HasAttempts cause = cause ≡ Some withdraw.HasAttempts
+RefusesToLeave withdraw.NoMemory cause = cause ≡ None
+
+-- a round that an entrant has left
+abbrev pub without_entrant : Table → ℕ → Table
+without_entrant t n = record t { entrants = filter (λ e. not (has_number n e)) t.entrants }
+
+-- a round that an entrant has left; who takes the place, if anybody, is the last entrant
+abbrev pub withdrawn : Table → ℕ → Option ℕ → Table
+withdrawn t n None = without_entrant t n
+withdrawn t n (Some next) = with_entrant (without_entrant t n) next
+
+-- the first cause why a round is not run by other rules
+abbrev pub rules_fault : Table → Option RulesFault
+rules_fault t =
+    if t.is_closed then Some rules.Closed
+    else if is_attempted t 1 then Some rules.HasAttempts
+    else None
+
+-- a round that is run in another format, with another cutoff
+abbrev pub with_rules : Table → Format → Option (ℕ × ℕ) → Table
+with_rules t format cutoff = record t { format = format; cutoff = cutoff }
+
 -- Places
 
 abbrev pub key : Table → Entrant → RankKey
@@ -232,3 +283,10 @@ close_fault t =
 
 abbrev pub closed : Table → Table
 closed t = record t { is_closed = true }
+
+-- the cause why a round is not open again
+abbrev pub reopen_fault : Table → Option ReopenFault
+reopen_fault t = if t.is_closed then None else Some reopen.NotClosed
+
+abbrev pub reopened : Table → Table
+reopened t = record t { is_closed = false }

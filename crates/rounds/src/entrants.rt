@@ -2,19 +2,22 @@
 
 ghost use Rattle.std.specs.Prelude.{◌≡◌, ◌<◌, ◌≤◌, [], None, Some, All, IfOk, IfSome};
 ghost use Rattle.std.specs.Prelude.{OnOk, OnErr, MatchOption, false, find, length, map};
-ghost use Rattle.std.specs.Prelude.{nat_eq, slice_get};
+ghost use Rattle.std.specs.Prelude.{nat_eq, nat_le, slice_get};
 ghost use Rattle.std.specs.List.{list_any, IsDistinct};
 ghost use Rattle.std.specs.List.Sorted.{IsPermutation};
+ghost use Rattle.indexmap.specs.IndexMap.{values};
 ghost use Rattle.attempts.specs.Attempts.{IsInRangeOf};
 ghost use Rattle.formats.specs.Results.{IsFormatOf};
 ghost use Rattle.rounds.specs.Tables.{Entrant, IsCutoff, KeepsAllotted, allotted, has_number};
-ghost use Rattle.rounds.specs.Tables.{has_started, is_finished, number_of_entrant};
+ghost use Rattle.rounds.specs.Tables.{has_started, is_finished, number_of_entrant, has_done};
 ghost use Rattle.rounds.specs.Tables.{standings, started};
 ghost use Rattle.rounds.specs.CutoffLaw.{MetIsBetterIn};
 ghost use Rattle.rounds.specs.Positions.{place_at};
 ghost use Rattle.rounds.specs.model.Field.{as_table, with_newcomer, with_values_at, IsEntrantAt};
-ghost use Rattle.rounds.specs.model.Field.{IsKeptEntrantOf};
+ghost use Rattle.rounds.specs.model.Field.{IsKeptEntrantOf, IsWithoutAttempts, without_at};
+ghost use Rattle.rounds.specs.model.Field.{with_field_rules};
 ghost use Rattle.rounds.specs.model.KeptEntrants.{is_unfinished};
+ghost use Rattle.rounds.specs.model.UpToDate.{IsNewcomer};
 
 use crate::cutoff::{allotted, has_started};
 use crate::kept::Kept;
@@ -25,7 +28,7 @@ use crate::rules::Rules;
 use crate::standings::{order_of, place_at};
 use crate::value_row::ValueRow;
 use attempts::{NoMemory, Value};
-use formats::{Averaged, MOST_ENTRANTS, RankKey, better};
+use formats::{Averaged, Format, MOST_ENTRANTS, RankKey, better};
 use indexmap::IndexMap;
 use std::alloc::Global;
 use std::marker::Model;
@@ -35,6 +38,22 @@ const NO_RESULT: RankKey = RankKey {
     main: None,
     tie: None,
 };
+
+/// One without attempts, at a place.
+fn newcomer(place: u16) -> KeptEntrant
+    ensures { IsNewcomer place result }
+{
+    KeptEntrant {
+        row: ValueRow::new(),
+        kept: Kept {
+            best: Value::Dns,
+            average: Averaged::Missing,
+            key: NO_RESULT,
+            place,
+        },
+        packed_key: packed_key_of(NO_RESULT),
+    }
+}
 
 /// The entrants by number, in order of entry. The counts are of those who have started, of those
 /// who have not done all allotted attempts, and of those who have a result.
@@ -119,19 +138,55 @@ impl Entrants {
         ensures entered { OnOk result (self.new ≡ with_newcomer self.old number) }
         ensures unchanged { OnErr result (self.new ≡ self.old) }
     {
-        let newcomer = KeptEntrant {
-            row: ValueRow::new(),
-            kept: Kept {
-                best: Value::Dns,
-                average: Averaged::Missing,
-                key: NO_RESULT,
-                place: self.with_result + 1,
-            },
-            packed_key: packed_key_of(NO_RESULT),
-        };
-        self.by_number.insert(number, newcomer)?;
+        self.by_number
+            .insert(number, newcomer(self.with_result + 1))?;
         self.unfinished += 1;
         Ok(())
+    }
+
+    /// Takes out the entrant at an index, who has done no attempt. Nobody's place changes, since
+    /// nobody is worse.
+    pub(crate) fn leave(&mut self, index: usize)
+        requires there { IsWithoutAttempts self.old index }
+        ensures { self.new ≡ without_at self.old index }
+    {
+        self.by_number.shift_remove_index(index);
+        self.unfinished -= 1;
+    }
+
+    /// Takes out the entrant at an index, who has done no attempt, and adds another one as the
+    /// last.
+    pub(crate) fn exchange(&mut self, index: usize, next: u16) -> Result<(), NoMemory>
+        requires there { IsWithoutAttempts self.old index }
+        requires absent { list_any (has_number next) self.old.entrants ≡ false }
+        ensures exchanged { OnOk result
+            (self.new ≡ with_newcomer (without_at self.old index) next) }
+        ensures unchanged { OnErr result (self.new ≡ self.old) }
+    {
+        self.by_number.insert(next, newcomer(self.with_result + 1))?;
+        self.by_number.shift_remove_index(index);
+        Ok(())
+    }
+
+    /// Whether somebody has done an attempt; attempts are counted from 1.
+    pub(crate) fn has_attempt(&self, attempt: u8) -> bool
+        ensures { result ≡ list_any (has_done attempt) self.now.entrants }
+    {
+        is_attempted(&self.by_number, attempt)
+    }
+
+    /// Ranks and cuts off by another format and cutoff, while nobody has done an attempt.
+    pub(crate) fn set_rules(&mut self, format: Format, cutoff: Option<(u8, u32)>)
+        requires cutoff { IsCutoff format cutoff }
+        requires format { IsFormatOf self.old.rules.unit format }
+        requires none { list_any (has_done 1) self.old.entrants ≡ false }
+        ensures { self.new ≡ with_field_rules self.old format cutoff }
+    {
+        self.rules = Rules {
+            format,
+            unit: self.rules.unit,
+            cutoff,
+        };
     }
 
     /// Gives the entrant at an index other values. Every other entrant's key is compared once with
@@ -225,4 +280,11 @@ fn is_unfinished(rules: Rules, values: &[Value]) -> bool
     ensures { result ≡ is_unfinished rules values.now }
 {
     values.len() < usize::from(allotted(rules.format, rules.cutoff, values))
+}
+
+/// Whether one of these has done an attempt.
+fn is_attempted(entrants: &IndexMap<u16, KeptEntrant>, attempt: u8) -> bool
+    ensures { result ≡ list_any (λ s. nat_le attempt (length s.row)) (values entrants.now) }
+{
+    entrants.values().any(|entrant| usize::from(attempt) <= entrant.row.values().len())
 }

@@ -58,3 +58,32 @@ pub enum CloseFault {
     /// An entrant has not done all allotted attempts.
     Unfinished,
 }
+
+/// Why an entrant did not leave the round.
+#[derive(Clone, Copy, Debug, PartialEq, Eq)]
+pub enum WithdrawFault {
+    /// The round is closed.
+    Closed,
+    /// The competitor is not entered.
+    NotEntered,
+    /// The entrant has done an attempt.
+    HasAttempts,
+    /// There is no memory for the one who takes the place.
+    NoMemory,
+}
+
+/// Why the format and the cutoff of a round stay.
+#[derive(Clone, Copy, Debug, PartialEq, Eq)]
+pub enum RulesFault {
+    /// The round is closed.
+    Closed,
+    /// An entrant has done an attempt.
+    HasAttempts,
+}
+
+/// Why a round was not opened again.
+#[derive(Clone, Copy, Debug, PartialEq, Eq)]
+pub enum ReopenFault {
+    /// The round is not closed.
+    NotClosed,
+}

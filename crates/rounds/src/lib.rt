@@ -15,7 +15,10 @@ mod standings;
 mod table;
 mod value_row;
 
-pub use fault::{CloseFault, CorrectFault, EnterFault, PutFault, StrikeFault};
+pub use fault::{
+    CloseFault, CorrectFault, EnterFault, PutFault, ReopenFault, RulesFault, StrikeFault,
+    WithdrawFault,
+};
 pub use kept::Kept;
 pub use laws::who_met_the_cutoff_is_better;
 pub use table::{RoundTable, Row};

@@ -3,7 +3,7 @@
 use attempts::Unit;
 use formats::Format;
 
-/// What a round was opened with; it never changes.
+/// How a round is run. The unit never changes, the others may while nobody has done an attempt.
 #[derive(Clone, Copy)]
 pub(crate) struct Rules {
     pub format: Format,

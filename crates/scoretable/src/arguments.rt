@@ -5,18 +5,18 @@ use crate::serving::{End, MOST_BROWSERS, Order, serve};
 use card_queue::JournalFault;
 use clap::builder::ValueParser;
 use clap::{Arg, ArgAction, ArgMatches, Command, Error};
-use command_line::{NOT_TEXT, borrowed};
+use command_line::borrowed;
 use hall_options::{
     FoundHall, Mistake, address_at, hall_of, option, tell, tell_mistake, tell_parse_error,
     tell_system, with_desks,
 };
 use page_sockets::BrowserSockets;
 use std::alloc::{AllocError, Global};
-use std::io;
-use std::io::{ErrorKind, Write};
+use std::io::Write;
 use std::net::SocketAddr;
 
-const PROGRAM: &str = "scoretable";
+/// The name of the program.
+pub const PROGRAM: &str = "scoretable";
 
 const ABOUT: &str = "Takes scorecards in a browser, and enters them at the desks of a hall.";
 
@@ -235,14 +235,4 @@ pub fn run_given<W: Write, F: Write>(
         Ok(texts) => run_arguments(rt, &texts, writer, faults),
         Err(_) => tell(faults, PROGRAM, "no memory", 5),
     }
-}
-
-/// Says why the program has no arguments, and returns the status: memory ran out, or they are not
-/// text.
-pub fn tell_no_arguments<F: Write>(error: &io::Error, faults: &mut F) -> u8 {
-    if error.kind() == ErrorKind::OutOfMemory {
-        return tell(faults, PROGRAM, "no memory", 5);
-    }
-    let _ = faults.write_all(NOT_TEXT);
-    2
 }

@@ -20,7 +20,7 @@ use Rattle.serving.specs.declared.calls.Answer.{Answer}
 use Rattle.serving.specs.declared.request.Request.{Request}
 use Rattle.serving.specs.declared.request.Request.TheVariants.{Heard, Ticked, Asked, Printed}
 use Rattle.serving.specs.declared.request.Request.TheVariants.{Inspected, Copied, Stopped, Strange}
-use Rattle.serving.specs.declared.request.Request.TheVariants.{Ignored}
+use Rattle.serving.specs.declared.request.Request.TheVariants.{Ignored, Denied}
 use Rattle.wire.specs.declared.values.ClientRefusal.TheVariants as refusal
 use Rattle.formats.specs.declared.events.Event.{Event as EventOf}
 use Rattle.wire.specs.declared.values.SheetStyle.{SheetStyle as Style}
@@ -212,6 +212,14 @@ pub estranges : {V : Type 0} {way : Way V} (home : Home) (r : Request) (x : Seen
     → r ≡ Strange → AnswersSome home x x r (Some (what.Refused refusal.Foreign)) a a
 estranges home r x a is =
     subst (λ z. AnswersSome home x x z (Some (what.Refused refusal.Foreign)) a a) (sym is) (
+      [],
+      record { answer_is = refl; made = Makes-nil home.hall a; node = refl; calls = refl },
+    )
+
+pub denies : {V : Type 0} {way : Way V} (home : Home) (r : Request) (x : Seen) (a : Outside way)
+    → r ≡ Denied → AnswersSome home x x r (Some (what.Refused refusal.NotAllowed)) a a
+denies home r x a is =
+    subst (λ z. AnswersSome home x x z (Some (what.Refused refusal.NotAllowed)) a a) (sym is) (
       [],
       record { answer_is = refl; made = Makes-nil home.hall a; node = refl; calls = refl },
     )

@@ -15,10 +15,12 @@ use Rattle.serving.specs.declared.ends.End.TheVariants as end
 use Rattle.serving.specs.declared.ends.FrameFault.{FrameFault}
 use Rattle.serving.specs.declared.ends.FrameFault.TheVariants as fault
 use Rattle.answers.specs.Seen.{Seen}
+use Rattle.serving.specs.declared.permission.Permission.{Permission}
 use Rattle.serving.specs.Nodes.{Fate}
 use Rattle.serving.specs.Serving.{Act}
 use Rattle.serving.specs.Connection.{Begun, frames_of, Outcome, serve_frame, serve_frames, close_of}
-use Rattle.serving.specs.Connection.{then_others, StaysOpen, answer_bytes, Sides, FailsIn, IsServed}
+use Rattle.serving.specs.Connection.{then_others, StaysOpen, AreUnder, answer_bytes, Sides}
+use Rattle.serving.specs.Connection.{FailsIn, IsServed}
 use Rattle.serving.specs.Connection.{ServesOne, Serves, Closes, Fails}
 use Rattle.serving.specs.model.Pieces.{EndsInFrames}
 use Rattle.serving.proofs.Makings.{Makes-nil, Makes-trans}
@@ -229,14 +231,22 @@ ends_then (end.Fault e) home a m b bs cs count h k = absurd k
 ends_then end.Read home a m b bs cs count h k = absurd k
 
 -- one frame more was begun
-pub begun_more : (all rest after : List Frame) (f : Frame) (fates : List Fate) (begun : List Begun)
+pub begun_more : (all rest after : List Frame) (f : Frame) (may : Permission) (fates : List Fate)
+    (begun : List Begun)
     → all ≡ frames_of begun ++ rest → rest ≡ f ∷ after
-    → all ≡ frames_of (begun ++ record { frame = f; fates = fates } ∷ []) ++ after
-begun_more all rest after f fates begun parts first =
+    → all ≡ frames_of (begun ++ record { frame = f; may = may; fates = fates } ∷ []) ++ after
+begun_more all rest after f may fates begun parts first =
     parts
     ∙ ap (λ z. frames_of begun ++ z) first
     ∙ sym (append_assoc (frames_of begun) (f ∷ []) after)
-    ∙ ap (λ z. z ++ after) (sym (frames_of_both begun (record { frame = f; fates = fates } ∷ [])))
+    ∙ ap (λ z. z ++ after) (sym (frames_of_both begun
+    (record { frame = f; may = may; fates = fates } ∷ [])))
+
+-- under one permission, and so is what comes after
+pub under_both : (may : Permission) (xs ys : List Begun) → AreUnder may xs → AreUnder may ys
+    → AreUnder may (xs ++ ys)
+under_both may [] ys h k = k
+under_both may (x ∷ xs) ys h k = (h.0, under_both may xs ys h.1 k)
 
 pub counts_more : (before count : ℕ) (begun : List Begun) (one : Begun)
     → count ≡ before + length begun → count + 1 ≡ before + length (begun ++ one ∷ [])

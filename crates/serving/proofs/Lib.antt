@@ -19,6 +19,7 @@ pub mod Delivered
 pub mod Told
 pub mod OneFrame
 pub mod OwnTicks
+pub mod Outside
 pub mod Sheets
 pub mod Prefixes
 pub mod Standings

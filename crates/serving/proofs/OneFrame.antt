@@ -10,8 +10,10 @@ use Rattle.wire.specs.declared.values.Version.{Version}
 use Rattle.wire.specs.declared.frame.Frame.{Frame}
 use Rattle.wire.specs.declared.frame.What.{What}
 use Rattle.serving.specs.Making.{Way, Outside}
-use Rattle.serving.specs.Answering.{IsAnswer, IsAnswerIn}
+use Rattle.serving.specs.Answering.{said_in, IsAnswer, IsAnswerIn}
 use Rattle.serving.specs.Asking.{request, ending, close_by}
+use Rattle.serving.specs.Permissions.{permitted}
+use Rattle.serving.specs.declared.permission.Permission.{Permission}
 use Rattle.lines.specs.Bytes.{AppendsPart}
 use Rattle.serving.specs.model.Writing.{WriteEnds}
 use Rattle.serving.specs.Connection.{FailsIn, serve_frame, close_of, answer_frame, framed_answer}
@@ -32,12 +34,12 @@ some_is v is h = subst (λ z. IfSome z (IsAnswerIn v)) is h
 
 -- an answer in each version is one in this version
 pub in_version : (v : Version) {w : What} → IsAnswer w → IsAnswerIn v w
-in_version v h = record { body = h.body v; way = h.way }
+in_version v h = record { body = h.body v; way = h.way v }
 
 -- an answer of a desk in a version is a frame of it
 pub answer_is_frame : (v : Version) (home : Home) (w : What) → home.hall < 2 ^ 32
     → IsDesk home.desks home.desk → home.desks ≤ 5 → IsAnswerIn v w
-    → IsFrame (answer_frame v home w)
+    → IsFrame (answer_frame v home (said_in v w))
 answer_is_frame v home w small ours few h = record {
   hall = small;
   goes = subst (λ (z : Direction). Goes z home.desk 0) (sym h.way)
@@ -46,22 +48,25 @@ answer_is_frame v home w small ours few h = record {
 }
 
 -- the frame was served whole
-pub serves : {V : Type 0} {way : Way V} (home : Home) (f : Frame) (r : Request) (x y : Seen)
+pub serves : {V : Type 0} {way : Way V} (home : Home) (f : Frame) (may : Permission)
+    (r : Request) (x y : Seen)
     (w : Option What)
     (close : Option Close) (o n : Option (List ℕ)) (a b : Outside way)
-    → r ≡ request home f → AnswersSome home x y r w a b
+    → r ≡ permitted may (request home f) → AnswersSome home x y r w a b
     → Appends o n (answer_bytes (framed_answer f.version home w)) → close ≡ close_by
     (ending r) y.is_down
     → (fates : List Fate)
-    × ServesOne home (sides x o a) (sides y n b) (record { frame = f; fates = fates }) close
+    × ServesOne home (sides x o a) (sides y n b) (record { frame = f; may = may; fates = fates })
+    close
 unfolding serve_frame close_of
-serves home f r x y w close o n a b is h written c =
+serves home f may r x y w close o n a b is h written c =
     let g = subst (λ z. Answers home x y h.0 z w a b) is h.1 in (
       h.0,
       record {
         close =
             c ∙ ap (λ z. close_by (ending z) y.is_down) is
-            ∙ ap (λ (z : Seen). close_by (ending (request home f)) z.is_down) g.node;
+            ∙ ap (λ (z : Seen). close_by (ending (permitted may (request home f))) z.is_down)
+            g.node;
         answered =
             subst (λ z. Appends o n (answer_bytes (framed_answer f.version home z))) g.answer_is
             written;
@@ -76,20 +81,21 @@ answer_is_due v home None some none = some refl
 answer_is_due v home (Some w) some none = absurd cc
 
 -- the answer could not be written whole
-pub answer_fails : {V : Type 0} {way : Way V} (home : Home) (f : Frame) (r : Request) (x y : Seen)
+pub answer_fails : {V : Type 0} {way : Way V} (home : Home) (f : Frame) (may : Permission)
+    (r : Request) (x y : Seen)
     (w : Option What)
     (why : FrameFault) (o n : Option (List ℕ)) (a b : Outside way)
-    → r ≡ request home f → AnswersSome home x y r w a b → w ≢ None
+    → r ≡ permitted may (request home f) → AnswersSome home x y r w a b → w ≢ None
     → WriteEnds why o n (answer_bytes (framed_answer f.version home w))
     → (fates : List Fate)
-    × FailsIn why home (sides x o a) (sides y n b) (record { frame = f; fates = fates })
+    × FailsIn why home (sides x o a) (sides y n b) (record { frame = f; may = may; fates = fates })
 unfolding serve_frame
-answer_fails home f r x y w fault.Write o n a b is h some part =
+answer_fails home f may r x y w fault.Write o n a b is h some part =
     let g = subst (λ z. Answers home x y h.0 z w a b) is h.1 in (
       h.0,
       record {
         due =
-            answer_is_due f.version home (answer home x h.0 (request home f))
+            answer_is_due f.version home (answer home x h.0 (permitted may (request home f)))
             (λ none. some (g.answer_is ∙ none));
         answered =
             subst (λ z. AppendsPart o n (answer_bytes (framed_answer f.version home z))) g.answer_is
@@ -98,14 +104,14 @@ answer_fails home f r x y w fault.Write o n a b is h some part =
         node = g.node;
       },
     )
-answer_fails home f r x y w fault.NoMemory o n a b is h some none =
+answer_fails home f may r x y w fault.NoMemory o n a b is h some none =
     let g = subst (λ z. Answers home x y h.0 z w a b) is h.1 in (
       h.0,
       (
-        (served home x h.0 (request home f)).done,
+        (served home x h.0 (permitted may (request home f))).done,
         [],
         record {
-          parts = sym (append-nil (served home x h.0 (request home f)).done);
+          parts = sym (append-nil (served home x h.0 (permitted may (request home f))).done);
           silent = none;
           made = g.made;
           node = g.calls;
@@ -114,13 +120,15 @@ answer_fails home f r x y w fault.NoMemory o n a b is h some none =
     )
 
 -- memory was refused in its calls and pushes
-pub request_fails : {V : Type 0} {way : Way V} (home : Home) (f : Frame) (r : Request) (x y : Seen)
+pub request_fails : {V : Type 0} {way : Way V} (home : Home) (f : Frame) (may : Permission)
+    (r : Request) (x y : Seen)
     (o n : Option (List ℕ))
     (a b : Outside way)
-    → r ≡ request home f → FailsToAnswer home x y r a b → Appends o n []
+    → r ≡ permitted may (request home f) → FailsToAnswer home x y r a b → Appends o n []
     → (fates : List Fate)
-    × FailsIn fault.NoMemory home (sides x o a) (sides y n b) (record { frame = f; fates = fates })
+    × FailsIn fault.NoMemory home (sides x o a) (sides y n b)
+    (record { frame = f; may = may; fates = fates })
 unfolding serve_frame
-request_fails home f r x y o n a b is h none =
+request_fails home f may r x y o n a b is h none =
     let g = subst (λ z. AnswersPart home x y h.0 z h.1 h.2 a b) is h.3 in
     (h.0, (h.1, h.2, record { parts = g.parts; silent = none; made = g.made; node = g.node }))

@@ -8,6 +8,7 @@ use Rattle.wire.specs.declared.values.Version.{Version}
 use Rattle.serving.specs.Asking.{close_by, ending, is_ours, request}
 use Rattle.serving.specs.Making.{Outside, Way}
 use Rattle.serving.specs.OwnTicks.{Ticks, TicksInPart, tick_frame, unanswered}
+use Rattle.serving.specs.declared.permission.Permission.TheVariants as permission
 use Rattle.serving.specs.declared.request.Request.TheVariants.{Strange, Ticked}
 use Rattle.serving.specs.model.Requests.{AnswersSome, FailsToAnswer}
 use Rattle.serving.proofs.OneFrame.{request_fails, serves}
@@ -26,11 +27,13 @@ pub ticks : {V : Type 0} {way : Way V} (home : Home) (x y : Seen) (w : Option Wh
     → AnswersSome home x y Ticked w a b → Ticks home (unanswered x a) (unanswered y b)
 ticks {V} {way} home x y w a b h =
     let one =
-    serves home (tick_frame way.wire home) Ticked x y w (close_by (ending Ticked) y.is_down) None
+    serves home (tick_frame way.wire home) permission.All Ticked x y w
+    (close_by (ending Ticked) y.is_down) None
     None a b (asks way.wire home) h tt refl in
     (one.0, close_by (ending Ticked) y.is_down, one.1)
 
 pub ticks_in_part : {V : Type 0} {way : Way V} (home : Home) (x y : Seen) (a b : Outside way)
     → FailsToAnswer home x y Ticked a b → TicksInPart home (unanswered x a) (unanswered y b)
 ticks_in_part {V} {way} home x y a b h =
-    request_fails home (tick_frame way.wire home) Ticked x y None None a b (asks way.wire home) h tt
+    request_fails home (tick_frame way.wire home) permission.All Ticked x y None None a b
+    (asks way.wire home) h tt

@@ -13,13 +13,15 @@ use Rattle.wire.specs.Stream.{Front, Waits, Begins, Breaks, front, keeps, IsBegu
 use Rattle.wire.specs.Stream.{Feeds, IsKept}
 use Rattle.store.specs.declared.home.Home.{Home}
 use Rattle.serving.specs.Making.{Way}
+use Rattle.serving.specs.declared.permission.Permission.{Permission}
 use Rattle.serving.specs.declared.ends.End.{End}
 use Rattle.serving.specs.declared.ends.End.TheVariants as end
-use Rattle.serving.specs.Connection.{Begun, frames_of, AreBegun, Sides, Serves, IsOpen, EndsAt}
+use Rattle.serving.specs.Connection.{Begun, frames_of, AreBegun, AreUnder, Sides, Serves}
+use Rattle.serving.specs.Connection.{IsOpen, EndsAt}
 use Rattle.serving.specs.Connection.{IsConnection, Reads, failed_at}
 use Rattle.serving.specs.model.Pieces.{EndsInFrames, EndsBatch, IsBatch, EndsPiece, IsPiece}
 use Rattle.serving.proofs.Connecting.{bytes_then, serves_none, serves_then, ends_then}
-use Rattle.serving.proofs.Connecting.{frames_of_both}
+use Rattle.serving.proofs.Connecting.{frames_of_both, under_both}
 
 -- what a reader that gave frames keeps
 pub keeps_fault : (at : Front) (rest : List ℕ) (reader : Reader) (e : WireFault) → (IsBegun at → ⊥)
@@ -72,16 +74,19 @@ ends_piece (end.Fault e) home a b begun rest count new h = absurd h
 ends_piece end.Read home a b begun rest count new h = absurd h
 
 -- a frame of the piece ended the connection
-pub piece_ends : {V : Type 0} {way : Way V} (how : Option End) (e : End) (home : Home)
+pub piece_ends : {V : Type 0} {way : Way V} {may : Permission} (how : Option End) (e : End)
+    (home : Home)
     (a b : Sides way) (stream : List ℕ)
     (given left : List Frame) (begun : List Begun) (before count : ℕ) (reader : Reader)
-    → how ≡ Some e → Feeds stream given reader → IsBatch how home a b given begun left before count
+    → how ≡ Some e → Feeds stream given reader → IsBatch may how home a b given begun left before
+    count
     → (begun : List Begun) × (rest : List ℕ)
-    × IsPiece (Some e) home a b stream begun rest before count reader
+    × IsPiece may (Some e) home a b stream begun rest before count reader
 piece_ends how e home a b stream given left begun before count reader is r h = (
   begun,
   flat_map spelling left ++ r.rest,
   record {
+    allowed = h.allowed;
     begins = begins_batch stream given left begun reader r h.parts;
     counted = h.counted;
     few = h.few;
@@ -92,14 +97,14 @@ piece_ends how e home a b stream given left begun before count reader is r h = (
 )
 
 -- all frames of the piece were served, and a fault stands behind them
-pub piece_breaks : {V : Type 0} {way : Way V} (how : Option End) (e : WireFault)
+pub piece_breaks : {V : Type 0} {way : Way V} {may : Permission} (how : Option End) (e : WireFault)
     (fault : Option WireFault) (home : Home)
     (a b : Sides way) (stream : List ℕ) (given left : List Frame) (begun : List Begun)
     (before count : ℕ) (reader : Reader)
     → how ≡ None → fault ≡ Some e → fault ≡ reader.fault → IsKept fault → Feeds stream given reader
-    → IsBatch how home a b given begun left before count
+    → IsBatch may how home a b given begun left before count
     → (begun : List Begun) × (rest : List ℕ)
-    × IsPiece (Some (end.Fault e)) home a b stream begun rest before count reader
+    × IsPiece may (Some (end.Fault e)) home a b stream begun rest before count reader
 piece_breaks how e fault home a b stream given left begun before count reader is some found kept r
     h =
     let ends : EndsBatch None home a b begun left count =
@@ -107,6 +112,7 @@ piece_breaks how e fault home a b stream given left begun before count reader is
       begun,
       r.rest,
       record {
+        allowed = h.allowed;
         begins =
             subst (λ z. AreBegun stream begun (flat_map spelling z ++ r.rest)) ends.1
             (begins_batch stream given left begun reader r h.parts);
@@ -122,14 +128,15 @@ piece_breaks how e fault home a b stream given left begun before count reader is
     )
 
 -- all frames of the piece were served, and what is left waits for more
-pub piece_waits : {V : Type 0} {way : Way V} (how : Option End) (fault : Option WireFault)
+pub piece_waits : {V : Type 0} {way : Way V} {may : Permission} (how : Option End)
+    (fault : Option WireFault)
     (home : Home) (a b : Sides way)
     (stream : List ℕ) (given left : List Frame) (begun : List Begun) (before count : ℕ)
     (reader : Reader)
     → how ≡ None → fault ≡ None → fault ≡ reader.fault → Feeds stream given reader
-    → IsBatch how home a b given begun left before count
+    → IsBatch may how home a b given begun left before count
     → (begun : List Begun) × (rest : List ℕ)
-    × IsPiece None home a b stream begun rest before count reader
+    × IsPiece may None home a b stream begun rest before count reader
 piece_waits how fault home a b stream given left begun before count reader is none found r h =
     let ends : EndsBatch None home a b begun left count =
     subst (λ z. EndsBatch z home a b begun left count) is h.ends in
@@ -137,6 +144,7 @@ piece_waits how fault home a b stream given left begun before count reader is no
       begun,
       r.rest,
       record {
+        allowed = h.allowed;
         begins =
             subst (λ z. AreBegun stream begun (flat_map spelling z ++ r.rest)) ends.1
             (begins_batch stream given left begun reader r h.parts);
@@ -152,11 +160,13 @@ nothing_begun stream = record { whole = refl; each = tt }
 -- ---- the connection
 
 -- all frames of the bytes read so far are served, and the reader holds the rest
-pub record SoFar {V : Type 0} {way : Way V} (home : Home) (a b : Sides way) (bytes : List ℕ)
+pub record SoFar {V : Type 0} {way : Way V} (may : Permission) (home : Home) (a b : Sides way)
+    (bytes : List ℕ)
     (begun : List Begun) (rest : List ℕ)
     (read left : Option (List ℕ)) (count : ℕ) (reader : Reader) : Type 0 where
   pub consumed : Consumes read left bytes
   pub begins : AreBegun bytes begun rest
+  pub allowed : AreUnder may begun
   pub counted : count ≡ length begun
   pub serves : Serves home a b begun
   pub few : count < 64
@@ -167,12 +177,14 @@ pub front_none : front [] ≡ Waits
 unfolding front
 front_none = refl
 
-pub nothing_yet : {V : Type 0} {way : Way V} (home : Home) (a : Sides way) (read : Option (List ℕ))
+pub nothing_yet : {V : Type 0} {way : Way V} {may : Permission} (home : Home) (a : Sides way)
+    (read : Option (List ℕ))
     (reader : Reader)
-    → reader ≡ holding [] → SoFar home a a [] [] [] read read 0 reader
+    → reader ≡ holding [] → SoFar may home a a [] [] [] read read 0 reader
 nothing_yet home a read reader h = record {
   consumed = Consumes-nil read;
   begins = nothing_begun [];
+  allowed = tt;
   counted = refl;
   serves = serves_none home a;
   few = omega arith;
@@ -212,18 +224,19 @@ fed_rest : (reader : Reader) (rest piece stream : List ℕ) → reader ≡ holdi
 fed_rest reader rest piece stream h is = is ∙ ap (λ (z : Reader). z.held ++ piece) h
 
 -- a piece more is served
-pub so_far_more : {V : Type 0} {way : Way V} (home : Home) (a m b : Sides way)
+pub so_far_more : {V : Type 0} {way : Way V} {may : Permission} (home : Home) (a m b : Sides way)
     (bytes piece rest last : List ℕ)
     (bs cs : List Begun) (read left later : Option (List ℕ)) (before count : ℕ) (old new : Reader)
-    → SoFar home a m bytes bs rest read left before old → Consumes left later piece
-    → IsPiece None home m b (old.held ++ piece) cs last before count new
-    → SoFar home a b (bytes ++ piece) (bs ++ cs) last read later count new
+    → SoFar may home a m bytes bs rest read left before old → Consumes left later piece
+    → IsPiece may None home m b (old.held ++ piece) cs last before count new
+    → SoFar may home a b (bytes ++ piece) (bs ++ cs) last read later count new
 so_far_more home a m b bytes piece rest last bs cs read left later before count old new h more k =
     let begins =
     subst (λ z. AreBegun z cs last) (fed_rest old rest piece _ h.holds refl) k.begins in
     record {
       consumed = Consumes-trans read left later bytes piece h.consumed more;
       begins = begins_then bytes piece rest last bs cs h.begins begins;
+      allowed = under_both _ bs cs h.allowed k.allowed;
       counted = counted_then bs cs before count h.counted k.counted;
       serves = serves_then home a m b bs cs h.serves k.ends.0;
       few = k.ends.1;
@@ -232,14 +245,16 @@ so_far_more home a m b bytes piece rest last bs cs read left later before count 
     }
 
 -- a read that failed changes nothing
-pub so_far_kept : {V : Type 0} {way : Way V} (home : Home) (a b : Sides way) (bytes rest : List ℕ)
+pub so_far_kept : {V : Type 0} {way : Way V} {may : Permission} (home : Home) (a b : Sides way)
+    (bytes rest : List ℕ)
     (bs : List Begun)
     (read left later : Option (List ℕ)) (count : ℕ) (reader : Reader)
-    → SoFar home a b bytes bs rest read left count reader → Keeps left later
-    → SoFar home a b bytes bs rest read later count reader
+    → SoFar may home a b bytes bs rest read left count reader → Keeps left later
+    → SoFar may home a b bytes bs rest read later count reader
 so_far_kept home a b bytes rest bs read left later count reader h k = record {
   consumed = Consumes-kept read left later bytes h.consumed k;
   begins = h.begins;
+  allowed = h.allowed;
   counted = h.counted;
   serves = h.serves;
   few = h.few;
@@ -248,17 +263,18 @@ so_far_kept home a b bytes rest bs read left later count reader h k = record {
 }
 
 -- so does one of no bytes
-pub so_far_still : {V : Type 0} {way : Way V} (home : Home) (a b : Sides way)
+pub so_far_still : {V : Type 0} {way : Way V} {may : Permission} (home : Home) (a b : Sides way)
     (bytes rest none : List ℕ) (bs : List Begun)
     (read left later : Option (List ℕ)) (count : ℕ) (reader : Reader)
     → none ≡ []
-    → SoFar home a b bytes bs rest read left count reader → Consumes left later none
-    → SoFar home a b bytes bs rest read later count reader
+    → SoFar may home a b bytes bs rest read left count reader → Consumes left later none
+    → SoFar may home a b bytes bs rest read later count reader
 so_far_still home a b bytes rest none bs read left later count reader is h k = record {
   consumed =
       subst (Consumes read later) (ap (λ z. bytes ++ z) is ∙ append-nil bytes)
       (Consumes-trans read left later bytes none h.consumed k);
   begins = h.begins;
+  allowed = h.allowed;
   counted = h.counted;
   serves = h.serves;
   few = h.few;
@@ -270,21 +286,24 @@ few_of : (begun : List Begun) (count : ℕ) → count ≡ length begun → count
 few_of begun count h few = omega (arith, h, few)
 
 -- with all frames served the connection is open
-pub is_open : {V : Type 0} {way : Way V} (home : Home) (a b : Sides way) (bytes rest : List ℕ)
+pub is_open : {V : Type 0} {way : Way V} {may : Permission} (home : Home) (a b : Sides way)
+    (bytes rest : List ℕ)
     (bs : List Begun)
     (read left : Option (List ℕ)) (count : ℕ) (reader : Reader)
-    → SoFar home a b bytes bs rest read left count reader → IsOpen home a b bs
+    → SoFar may home a b bytes bs rest read left count reader → IsOpen home a b bs
 is_open home a b bytes rest bs read left count reader h =
     record { serves = h.serves; few = few_of bs count h.counted h.few }
 
 -- a connection that ends where all frames read are served
-pub stops_so_far : {V : Type 0} {way : Way V} (e : End) (home : Home) (a b : Sides way)
+pub stops_so_far : {V : Type 0} {way : Way V} {may : Permission} (e : End) (home : Home)
+    (a b : Sides way)
     (bytes rest : List ℕ) (bs : List Begun)
     (read left : Option (List ℕ)) (count : ℕ) (reads : Reads) (reader : Reader)
-    → SoFar home a b bytes bs rest read left count reader → reads.count ≤ 19200256
+    → SoFar may home a b bytes bs rest read left count reader → reads.count ≤ 19200256
     → reads.failed ≡ failed_at e → EndsAt e home a b bs rest left reads.count
     → (bytes : List ℕ) × (begun : List Begun) × (rest : List ℕ)
-    × IsConnection (record { frames = count; end = e }) home a b bytes begun rest read left reads
+    × IsConnection may (record { frames = count; end = e }) home a b bytes begun rest read left
+    reads
 stops_so_far e home a b bytes rest bs read left count reads reader h bounded failed ends = (
   bytes,
   bs,
@@ -292,6 +311,7 @@ stops_so_far e home a b bytes rest bs read left count reads reader h bounded fai
   record {
     consumed = h.consumed;
     begins = h.begins;
+    allowed = h.allowed;
     counted = h.counted;
     few = omega (arith, h.counted, h.few);
     bounded = bounded;
@@ -353,15 +373,18 @@ few_then : (bs cs : List Begun) (before count : ℕ) → before ≡ length bs �
 few_then bs cs before count h k few = omega (arith, h, k, few, length-append bs cs)
 
 -- a connection that a piece ends
-pub stops_at_piece : {V : Type 0} {way : Way V} (e : End) (how : Option End) (home : Home)
+pub stops_at_piece : {V : Type 0} {way : Way V} {may : Permission} (e : End) (how : Option End)
+    (home : Home)
     (a m b : Sides way)
     (bytes piece rest last : List ℕ) (bs cs : List Begun) (read left later : Option (List ℕ))
     (before count : ℕ) (reads : Reads) (old new : Reader)
-    → how ≡ Some e → SoFar home a m bytes bs rest read left before old → Consumes left later piece
-    → IsPiece how home m b (old.held ++ piece) cs last before count new
+    → how ≡ Some e → SoFar may home a m bytes bs rest read left before old → Consumes left later
+    piece
+    → IsPiece may how home m b (old.held ++ piece) cs last before count new
     → reads.count ≤ 19200256 → reads.failed ≡ 0
     → (bytes : List ℕ) × (begun : List Begun) × (rest : List ℕ)
-    × IsConnection (record { frames = count; end = e }) home a b bytes begun rest read later reads
+    × IsConnection may (record { frames = count; end = e }) home a b bytes begun rest read later
+    reads
 stops_at_piece e how home a m b bytes piece rest last bs cs read left later before count reads old
     new is h more k bounded whole =
     let begins =
@@ -374,6 +397,7 @@ stops_at_piece e how home a m b bytes piece rest last bs cs read left later befo
       record {
         consumed = Consumes-trans read left later bytes piece h.consumed more;
         begins = begins_then bytes piece rest last bs cs h.begins begins;
+        allowed = under_both _ bs cs h.allowed k.allowed;
         counted = counted;
         few = few_then bs cs before count h.counted k.counted k.few;
         bounded = bounded;

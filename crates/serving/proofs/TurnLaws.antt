@@ -18,7 +18,8 @@ use Rattle.serving.specs.Making.{Way, Outside}
 use Rattle.serving.specs.Turns.{Talk, BeginsNext, LeavesAt, OnlyReads, ReadsTo}
 use Rattle.serving.specs.Turns.{RunsOut, WantsRead, after_sent, broken_by, new_talk}
 use Rattle.serving.specs.TurnLaw.{AreServed, Came, Began, Follow, IsQuiet, Place, Rested, Stands}
-use Rattle.serving.specs.TurnLaw.{Took, Turn, Turns, TurnsServe, came_in, handed_out, received}
+use Rattle.serving.specs.TurnLaw.{Took, Turn, Turns, TurnsServe, begun_at, begun_in}
+use Rattle.serving.specs.TurnLaw.{came_in, handed_out, received}
 use Rattle.serving.specs.TurnLaw.{sides_in, taken_in}
 use Rattle.serving.specs.model.Turning.{Leaves}
 use Rattle.serving.proofs.Connecting.{frames_of_both, bytes_then, serves_none}
@@ -35,9 +36,9 @@ record Holds {V : Type 0} {way : Way V} (home : Home) (a b : Place way) (bytes t
   served : AreServed home a b bytes taken begun rest
 
 abbrev HoldsSome : {V : Type 0} → {way : Way V} → Home → Place way → Place way → List ℕ → List ℕ
-    → Type 0
-HoldsSome home a b bytes taken =
-    (begun : List Begun) × (rest : List ℕ) × Holds home a b bytes taken begun rest
+    → List Begun → Type 0
+HoldsSome home a b bytes taken begun =
+    (rest : List ℕ) × Holds home a b bytes taken begun rest
 
 pub some_end : {e : End} → Some e ≡ None → ⊥
 some_end h = cc
@@ -107,10 +108,9 @@ broke_off : {V : Type 0} {way : Way V} (e : End) (home : Home) (start a b : Plac
     → IsQuiet a b → b.talk.end ≡ Some e → b.talk.waiting ≡ []
     → Stands (Some e) home (sides_in start []) (sides_in a (taken ++ a.talk.pending)) begun
     (rest ++ piece) a.talk.frames
-    → HoldsSome home start b (bytes ++ piece) taken
+    → HoldsSome home start b (bytes ++ piece) taken begun
 broke_off e home start a b bytes taken piece rest begun h wants only quiet is none stands =
     let begins = more_came bytes piece rest begun a.talk.waiting wants.served h.served.begins in (
-      begun,
       rest ++ piece,
       record {
         place = only.home ∙ h.place;
@@ -137,13 +137,12 @@ came_to : {V : Type 0} {way : Way V} (e : Option End) (home : Home) (start a b :
     (bytes taken piece rest : List ℕ) (begun : List Begun)
     → Holds home start a bytes taken begun rest → WantsRead a.talk → OnlyReads a.talk b.talk
     → IsQuiet a b → a.talk.stream ≡ holding rest → b.talk.end ≡ e → ReadsTo e piece a.talk b.talk
-    → HoldsSome home start b (bytes ++ piece) taken
+    → HoldsSome home start b (bytes ++ piece) taken begun
 came_to None home start a b bytes taken piece rest begun h wants only quiet holds is r =
     let serves = serves_of a.talk.end home _ _ begun rest _ wants.free.unended h.served.stands in
     let fed = subst (λ (z : Reader). z.held ++ piece ≡ rest ++ piece) (sym holds) refl in
     let whole = sym fed ∙ r.whole in
     let begins = more_came bytes piece rest begun a.talk.waiting wants.served h.served.begins in (
-      begun,
       r.rest,
       record {
         place = only.home ∙ h.place;
@@ -234,7 +233,7 @@ began_to : {V : Type 0} {way : Way V} (home : Home) (start a b : Place way)
     → Holds home start a bytes taken begun rest → BeginsNext a.talk b.talk one.frame
     → LeavesAt b.talk.end a.talk.home (sides_in a a.talk.pending) (sides_in b b.talk.pending) one
     b.talk.frames
-    → HoldsSome home start b bytes taken
+    → HoldsSome home start b bytes taken (begun ++ one ∷ [])
 began_to home start a b bytes taken rest begun one h next turn =
     let none = next.free.taken in
     let serves = serves_of a.talk.end home _ _ begun rest _ next.free.unended h.served.stands in
@@ -248,7 +247,6 @@ began_to home start a b bytes taken rest begun one h next turn =
     leaves_more b.talk.end home (sides_in start []) a.seen b.seen a.talk.pending b.talk.pending
     (Some (taken ++ a.talk.pending)) (Some (taken ++ b.talk.pending)) a.outside b.outside begun one
     b.talk.frames none serves.0 here grown in (
-      begun ++ one ∷ [],
       rest,
       record {
         place = next.home ∙ h.place;
@@ -389,47 +387,60 @@ waits_for home start a bytes taken rest begun h wants =
     let holds = h.stream wants.free.unended in
     (keeps_none (front rest) rest a.talk.stream holds.1 holds.0 wants.unbroken).0
 
+-- nothing came, was taken or was begun
+still : {V : Type 0} {way : Way V} (home : Home) (start b : Place way) (bytes taken : List ℕ)
+    (begun : List Begun) → HoldsSome home start b bytes taken begun
+    → HoldsSome home start b (bytes ++ []) (taken ++ []) (begun ++ [])
+still home start b bytes taken begun h =
+    subst (λ z. HoldsSome home start b (bytes ++ []) (taken ++ []) z) (sym (append-nil begun))
+    (subst (λ z. HoldsSome home start b z (taken ++ []) begun) (sym (append-nil bytes))
+    (subst (λ z. HoldsSome home start b bytes z begun) (sym (append-nil taken)) h))
+
 turn_holds : {V : Type 0} {way : Way V} (home : Home) (start a b : Place way) (t : Turn)
-    (bytes taken : List ℕ)
-    → HoldsSome home start a bytes taken → Turns t a b
-    → HoldsSome home start b (bytes ++ came_in t) (taken ++ taken_in t)
-turn_holds home start a b (Came piece) bytes taken h k =
-    subst (λ z. HoldsSome home start b (bytes ++ piece) z) (sym (append-nil taken))
-    (came_to b.talk.end home start a b bytes taken piece h.1 h.0 h.2 k.0 k.1.0 k.2
-    (waits_for home start a bytes taken h.1 h.0 h.2 k.0) refl k.1.1)
-turn_holds home start a b (Began one) bytes taken h k =
-    subst (λ z. HoldsSome home start b z (taken ++ [])) (sym (append-nil bytes))
-    (subst (λ z. HoldsSome home start b bytes z) (sym (append-nil taken))
-    (began_to home start a b bytes taken h.1 h.0 one h.2 k.0 k.1))
-turn_holds home start a b Rested bytes taken h (inl r, quiet) =
-    subst (λ z. HoldsSome home start b z (taken ++ [])) (sym (append-nil bytes))
-    (subst (λ z. HoldsSome home start b bytes z) (sym (append-nil taken))
-    (h.0, h.1, same_talk home start a b bytes taken h.1 h.0 h.2 r.1 quiet))
-turn_holds home start a b Rested bytes taken h (inr r, quiet) =
-    subst (λ z. HoldsSome home start b z (taken ++ [])) (sym (append-nil bytes))
-    (subst (λ z. HoldsSome home start b bytes z) (sym (append-nil taken))
-    (h.0, h.1, ran_out home start a b bytes taken h.1 h.0 h.2 r quiet))
-turn_holds home start a b (Took more) bytes taken h k =
-    subst (λ z. HoldsSome home start b z (taken ++ more)) (sym (append-nil bytes))
-    (h.0, h.1, took home start a b bytes taken more h.1 h.0 h.2 k.0 k.1 k.2)
+    (bytes taken : List ℕ) (begun : List Begun)
+    → HoldsSome home start a bytes taken begun → Turns t a b
+    → HoldsSome home start b (bytes ++ came_in t) (taken ++ taken_in t) (begun ++ begun_at t)
+turn_holds home start a b (Came piece) bytes taken begun h k =
+    subst (λ z. HoldsSome home start b (bytes ++ piece) (taken ++ []) z) (sym (append-nil begun))
+    (subst (λ z. HoldsSome home start b (bytes ++ piece) z begun) (sym (append-nil taken))
+    (came_to b.talk.end home start a b bytes taken piece h.0 begun h.1 k.0 k.1.0 k.2
+    (waits_for home start a bytes taken h.0 begun h.1 k.0) refl k.1.1))
+turn_holds home start a b (Began one) bytes taken begun h k =
+    subst (λ z. HoldsSome home start b z (taken ++ []) (begun ++ one ∷ [])) (sym (append-nil bytes))
+    (subst (λ z. HoldsSome home start b bytes z (begun ++ one ∷ [])) (sym (append-nil taken))
+    (began_to home start a b bytes taken h.0 begun one h.1 k.0 k.1))
+turn_holds home start a b Rested bytes taken begun h (inl r, quiet) =
+    still home start b bytes taken begun
+    (h.0, same_talk home start a b bytes taken h.0 begun h.1 r.1 quiet)
+turn_holds home start a b Rested bytes taken begun h (inr r, quiet) =
+    still home start b bytes taken begun
+    (h.0, ran_out home start a b bytes taken h.0 begun h.1 r quiet)
+turn_holds home start a b (Took more) bytes taken begun h k =
+    subst (λ z. HoldsSome home start b (bytes ++ []) (taken ++ more) z) (sym (append-nil begun))
+    (subst (λ z. HoldsSome home start b z (taken ++ more) begun) (sym (append-nil bytes))
+    (h.0, took home start a b bytes taken more h.0 begun h.1 k.0 k.1 k.2))
 
 turns_hold : {V : Type 0} {way : Way V} (home : Home) (start a b : Place way) (turns : List Turn)
-    (bytes taken : List ℕ)
-    → HoldsSome home start a bytes taken → Follow a turns b
+    (bytes taken : List ℕ) (begun : List Begun)
+    → HoldsSome home start a bytes taken begun → Follow a turns b
     → HoldsSome home start b (bytes ++ received turns) (taken ++ handed_out turns)
-turns_hold home start a b [] bytes taken h is =
-    subst (λ z. HoldsSome home start b z (taken ++ [])) (sym (append-nil bytes))
-    (subst (λ z. HoldsSome home start b bytes z) (sym (append-nil taken))
-    (subst (λ z. HoldsSome home start z bytes taken) is h))
-turns_hold home start a b (t ∷ ts) bytes taken h k =
-    subst (λ z. HoldsSome home start b z (taken ++ (taken_in t ++ handed_out ts)))
+    (begun ++ begun_in turns)
+turns_hold home start a b [] bytes taken begun h is =
+    still home start b bytes taken begun
+    (subst (λ z. HoldsSome home start z bytes taken begun) is h)
+turns_hold home start a b (t ∷ ts) bytes taken begun h k =
+    subst (λ z. HoldsSome home start b (bytes ++ (came_in t ++ received ts))
+    (taken ++ (taken_in t ++ handed_out ts)) z) (append_assoc begun (begun_at t) (begun_in ts))
+    (subst (λ z. HoldsSome home start b z (taken ++ (taken_in t ++ handed_out ts))
+    ((begun ++ begun_at t) ++ begun_in ts))
     (append_assoc bytes (came_in t) (received ts))
-    (subst (λ z. HoldsSome home start b ((bytes ++ came_in t) ++ received ts) z)
+    (subst (λ z. HoldsSome home start b ((bytes ++ came_in t) ++ received ts) z
+    ((begun ++ begun_at t) ++ begun_in ts))
     (append_assoc taken (taken_in t) (handed_out ts))
     (turns_hold home start k.0 b ts (bytes ++ came_in t) (taken ++ taken_in t)
-    (turn_holds home start a k.0 t bytes taken h k.1) k.2))
+    (begun ++ begun_at t) (turn_holds home start a k.0 t bytes taken begun h k.1) k.2)))
 
 pub turns_serve : {V : Type 0} (d : DeskOf V) → TurnsServe d
 turns_serve d home wire turns a b is h =
-    let all = turns_hold home a a b turns [] [] ([], [], at_first home a is) h in
-    (all.0, all.1, all.2.served)
+    let all = turns_hold home a a b turns [] [] [] ([], at_first home a is) h in
+    (begun_in turns, all.0, all.1.served, refl)

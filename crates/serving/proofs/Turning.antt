@@ -19,6 +19,7 @@ use Rattle.serving.specs.declared.ends.FrameFault.TheVariants as fault
 use Rattle.serving.specs.Connection.{Begun, Sides, sides, ServesOne, Serves, BreaksOff}
 use Rattle.serving.specs.Connection.{FailsIn, Fails, serve_frame, answer_bytes}
 use Rattle.serving.specs.Making.{Way, Outside}
+use Rattle.serving.specs.declared.permission.Permission.{Permission}
 use Rattle.serving.specs.declared.peers.Peers.{Ghosts as PeersOf}
 use Rattle.serving.specs.Turns.{Talk, Advances, LeavesAt, ReadsTo, moment}
 use Rattle.serving.specs.model.Pieces.{IsBatch, IsPiece}
@@ -55,11 +56,11 @@ left_at {V} {way} home x y p q o n one c e count none is few h =
 
 -- the same turn, of the connection that is seen so
 pub advances_as : {V U : Type 0} (d : DeskOf V) (p : PeersOf U) (node next : V) (peers later : U)
-    (view old new : Talk)
-    → view ≡ old → Advances d p true (moment node peers view) (moment next later new)
-    → Advances d p true (moment node peers old) (moment next later new)
-advances_as d p node next peers later view old new is h =
-    subst (λ z. Advances d p true (moment node peers z) (moment next later new)) is h
+    (may : Permission) (view old new : Talk)
+    → view ≡ old → Advances d p may true (moment node peers view) (moment next later new)
+    → Advances d p may true (moment node peers old) (moment next later new)
+advances_as d p node next peers later may view old new is h =
+    subst (λ z. Advances d p may true (moment node peers z) (moment next later new)) is h
 
 -- ---- an answer is written at once
 
@@ -180,41 +181,46 @@ open_serves (Some e) home a b begun count none h = absurd cc
 -- ---- a piece
 
 -- the frames of the piece came to an end, or a fault stands after them, or more is waited for
-pub piece_of : {V : Type 0} {way : Way V} (how result : Option End) (fault : Option WireFault)
+pub piece_of : {V : Type 0} {way : Way V} {may : Permission} (how result : Option End)
+    (fault : Option WireFault)
     (home : Home) (a b : Sides way) (stream : List ℕ) (given left : List Frame)
     (begun : List Begun) (before count : ℕ) (reader : Reader)
     → result ≡ or_broken how fault → (how ≡ None → IsKept fault) → fault ≡ reader.fault
-    → Feeds stream given reader → IsBatch how home a b given begun left before count
+    → Feeds stream given reader → IsBatch may how home a b given begun left before count
     → (begun : List Begun) × (rest : List ℕ)
-    × IsPiece result home a b stream begun rest before count reader
-piece_of {V} {way} (Some e) result fault home a b stream given left begun before count reader is
+    × IsPiece may result home a b stream begun rest before count reader
+piece_of {V} {way} {may} (Some e) result fault home a b stream given left begun before count reader
+    is
     kept found r h =
     subst (λ z. (begun : List Begun) × (rest : List ℕ)
-    × IsPiece z home a b stream begun rest before count reader) (sym is)
+    × IsPiece may z home a b stream begun rest before count reader) (sym is)
     (piece_ends (Some e) e home a b stream given left begun before count reader refl r h)
-piece_of {V} {way} None result (Some f) home a b stream given left begun before count reader is
+piece_of {V} {way} {may} None result (Some f) home a b stream given left begun before count reader
+    is
     kept found r h =
     subst (λ z. (begun : List Begun) × (rest : List ℕ)
-    × IsPiece z home a b stream begun rest before count reader) (sym is)
+    × IsPiece may z home a b stream begun rest before count reader) (sym is)
     (piece_breaks None f (Some f) home a b stream given left begun before count reader refl refl
     found (kept refl) r h)
-piece_of {V} {way} None result None home a b stream given left begun before count reader is
+piece_of {V} {way} {may} None result None home a b stream given left begun before count reader is
     kept found r h =
     subst (λ z. (begun : List Begun) × (rest : List ℕ)
-    × IsPiece z home a b stream begun rest before count reader) (sym is)
+    × IsPiece may z home a b stream begun rest before count reader) (sym is)
     (piece_waits None None home a b stream given left begun before count reader refl refl found r h)
 
 -- the piece itself ended the connection
-pub piece_stops : {V : Type 0} {way : Way V} (e : End) (home : Home) (a : Sides way)
+pub piece_stops : {V : Type 0} {way : Way V} {may : Permission} (e : End) (home : Home)
+    (a : Sides way)
     (piece : List ℕ) (old new : Talk) (before : ℕ)
     → ReadsTo (Some e) piece old new → before < 64
     → (begun : List Begun) × (rest : List ℕ)
-    × IsPiece (Some e) home a a (old.stream.held ++ piece) begun rest before before new.stream
+    × IsPiece may (Some e) home a a (old.stream.held ++ piece) begun rest before before new.stream
 piece_stops (end.Fault e) home a piece old new before h few = (
   [],
   old.stream.held ++ piece,
   record {
     begins = nothing_begun (old.stream.held ++ piece);
+    allowed = tt;
     counted = omega arith;
     few = omega (arith, few);
     ends = (serves_none home a, few, h.0, h.1);
@@ -225,6 +231,7 @@ piece_stops end.NoMemory home a piece old new before h few = (
   old.stream.held ++ piece,
   record {
     begins = nothing_begun (old.stream.held ++ piece);
+    allowed = tt;
     counted = omega arith;
     few = omega (arith, few);
     ends = inl (serves_none home a, few);

@@ -16,6 +16,7 @@ use Rattle.roles.specs.declared.fault.NodeFault.{NodeFault}
 use Rattle.roles.specs.declared.fault.NodeFault.TheVariants as fault
 use Rattle.sheets.specs.declared.Style.{Style as SheetStyle}
 use Rattle.sheets.specs.declared.Style.TheVariants as layout
+use Rattle.wire.specs.Numbers.{state_in}
 use Rattle.wire.specs.Ranges.{IsBody, ToClient, way_of}
 use Rattle.wire.specs.declared.values.ClientRefusal.{ClientRefusal as Refusal}
 use Rattle.wire.specs.declared.values.ClientRefusal.TheVariants as refusal
@@ -122,14 +123,21 @@ copied x Goes position =
 copied x Starves position = what.Refused refusal.NoMemory
 copied x Breaks position = what.Refused refusal.NoMemory
 
+-- ---- versions
+
+-- what a version tells of an answer: of a command's code that it does not have, that it is Unread
+abbrev pub said_in : Version → What → What
+said_in version (what.Told id s) = what.Told id (state_in version s)
+said_in version w = w
+
 -- ---- ranges
 
--- a frame of this kind and with these fields is one for a client, in each version
+-- what is said of it in each version is a frame for a client
 pub record IsAnswer (w : What) : Type 0 where
-  pub body : (version : Version) → IsBody version w
-  pub way : way_of w ≡ ToClient
+  pub body : (version : Version) → IsBody version (said_in version w)
+  pub way : (version : Version) → way_of (said_in version w) ≡ ToClient
 
 -- and in this version
 pub record IsAnswerIn (version : Version) (w : What) : Type 0 where
-  pub body : IsBody version w
-  pub way : way_of w ≡ ToClient
+  pub body : IsBody version (said_in version w)
+  pub way : way_of (said_in version w) ≡ ToClient

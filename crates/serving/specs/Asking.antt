@@ -17,6 +17,7 @@ use Rattle.serving.specs.declared.request.Request.{Request}
 use Rattle.serving.specs.declared.request.Request.TheVariants.{Heard, Lagging, Learned, Entered}
 use Rattle.serving.specs.declared.request.Request.TheVariants.{Asked, Printed, Ticked, Stopped}
 use Rattle.serving.specs.declared.request.Request.TheVariants.{Inspected, Copied, Strange, Ignored}
+use Rattle.serving.specs.declared.request.Request.TheVariants.{Denied}
 use Rattle.answers.specs.Seen.{Seen}
 use Rattle.store.specs.declared.home.Home.{Home}
 
@@ -118,6 +119,7 @@ AsksInRange Ticked = Unit {0}
 AsksInRange Stopped = Unit {0}
 AsksInRange Strange = Unit {0}
 AsksInRange Ignored = Unit {0}
+AsksInRange Denied = Unit {0}
 
 -- what can be asked in a version: how the desk stands, and entries of its log, in version 3 alone
 abbrev pub IsAskedIn : Version → Request → Type 0
@@ -133,6 +135,7 @@ IsAskedIn version Ticked = Unit {0}
 IsAskedIn version Stopped = Unit {0}
 IsAskedIn version Strange = Unit {0}
 IsAskedIn version Ignored = Unit {0}
+IsAskedIn version Denied = Unit {0}
 
 -- how a request ends the connection of itself: where the desk is down after it, or at a Stop
 abbrev pub ending : Request → Ending
@@ -148,6 +151,7 @@ ending Inspected = ends.Never
 ending (Copied position) = ends.Never
 ending Strange = ends.Never
 ending Ignored = ends.Never
+ending Denied = ends.Never
 
 abbrev pub close_by : Ending → Bool → Option Close
 close_by ends.Never is_down = None

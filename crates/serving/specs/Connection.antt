@@ -21,18 +21,26 @@ use Rattle.lines.specs.Bytes.{AppendsPart}
 use Rattle.serving.specs.Making.{Way, Outside, Makes}
 use Rattle.answers.specs.Seen.{Seen}
 use Rattle.serving.specs.Nodes.{Fate}
+use Rattle.serving.specs.Answering.{said_in}
 use Rattle.serving.specs.Asking.{request, closes}
+use Rattle.serving.specs.Permissions.{permitted}
+use Rattle.serving.specs.declared.permission.Permission.{Permission}
 use Rattle.serving.specs.declared.request.Request.{Request}
 use Rattle.serving.specs.Serving.{Act, served, answer, seen_after}
 
--- a frame that was begun, with the fates of its calls
+-- a frame that was begun, with what its connection may ask, and the fates of its calls
 pub record Begun : Type 0 where
   pub frame : Frame
+  pub may : Permission
   pub fates : List Fate
 
 abbrev pub frames_of : List Begun → List Frame
 frames_of [] = []
 frames_of (b ∷ bs) = b.frame ∷ frames_of bs
+
+-- each of these frames came on a connection that may ask so much
+abbrev pub AreUnder : Permission → List Begun → Type 0
+AreUnder may begun = AllByRecursion (λ (b : Begun). b.may ≡ may) begun
 
 -- what frames come to: calls and pushes, answers, and what is seen of the node afterwards
 pub record Outcome : Type 0 where
@@ -47,7 +55,7 @@ answer_frame version home w =
 
 abbrev pub framed_answer : Version → Home → Option What → List Frame
 framed_answer version home None = []
-framed_answer version home (Some w) = answer_frame version home w ∷ []
+framed_answer version home (Some w) = answer_frame version home (said_in version w) ∷ []
 
 abbrev pub serve_request : Version → Home → Seen → List Fate → Request → Outcome
 serve_request version home x fates r =
@@ -57,12 +65,16 @@ serve_request version home x fates r =
       seen = (served home x fates r).seen;
     }
 
+-- what it asks of the desk, as far as its connection may
+abbrev pub asked : Home → Begun → Request
+asked home b = permitted b.may (request home b.frame)
+
 unfoldable pub serve_frame : Home → Seen → Begun → Outcome
-serve_frame home x b = serve_request b.frame.version home x b.fates (request home b.frame)
+serve_frame home x b = serve_request b.frame.version home x b.fates (asked home b)
 
 -- how the frame ends the connection of itself, if it does
 unfoldable pub close_of : Home → Seen → Begun → Option Close
-close_of home x b = closes (serve_frame home x b).seen (request home b.frame)
+close_of home x b = closes (serve_frame home x b).seen (asked home b)
 
 -- the first frame, and then the others
 abbrev pub then_others : Outcome → Outcome → Outcome
@@ -226,13 +238,16 @@ failed_at end.Write = 0
 failed_at end.Down = 0
 failed_at end.NoMemory = 0
 
--- a connection: the bytes read are the frames begun and a rest, and the end came by its cause
-pub record IsConnection {V : Type 0} {way : Way V} (result : Served) (home : Home) (a b : Sides way)
-    (bytes : List ℕ)
+-- a connection that may ask so much: the bytes read are the frames begun and a rest, and the end
+-- came by its cause
+pub record IsConnection {V : Type 0} {way : Way V} (may : Permission) (result : Served)
+    (home : Home)
+    (a b : Sides way) (bytes : List ℕ)
     (begun : List Begun) (rest : List ℕ) (read left : Option (List ℕ))
     (reads : Reads) : Type 0 where
   pub consumed : Consumes read left bytes
   pub begins : AreBegun bytes begun rest
+  pub allowed : AreUnder may begun
   pub counted : result.frames ≡ length begun
   pub few : length begun ≤ 64
   pub bounded : reads.count ≤ 19200256

@@ -2,6 +2,7 @@ pub mod Adding
 pub mod Nodes
 pub mod Answering
 pub mod Asking
+pub mod Permissions
 pub mod Telling
 pub mod Serving
 pub mod Making
@@ -9,5 +10,6 @@ pub mod Connection
 pub mod Sessions
 pub mod Turns
 pub mod TurnLaw
+pub mod OutsideLaw
 pub mod OwnTicks
 pub mod model

@@ -9,6 +9,7 @@ use Rattle.wire.specs.declared.frame.What.TheVariants as what
 use Rattle.wire.specs.declared.values.Version.{Version}
 use Rattle.serving.specs.declared.ends.Close.{Close}
 use Rattle.serving.specs.declared.ends.FrameFault.TheVariants as fault
+use Rattle.serving.specs.declared.permission.Permission.TheVariants as permission
 use Rattle.serving.specs.declared.peers.Peers.{Ghosts as PeersOf}
 use Rattle.serving.specs.Connection.{Begun, FailsIn, ServesOne, Sides, sides}
 use Rattle.serving.specs.Making.{Outside, Way, speaking}
@@ -20,9 +21,10 @@ abbrev pub tick_frame : Version → Home → Frame
 tick_frame version home =
     record { version = version; hall = home.hall; from = 0; to = home.desk; what = what.Tick }
 
--- the same, begun, with these fates of its calls
+-- the same, begun as one that is allowed, with these fates of its calls
 abbrev pub tick_begun : Version → Home → List Fate → Begun
-tick_begun version home fates = record { frame = tick_frame version home; fates = fates }
+tick_begun version home fates =
+    record { frame = tick_frame version home; may = permission.All; fates = fates }
 
 -- what serving changes, where no answer is written
 abbrev pub unanswered : {V : Type 0} → {way : Way V} → Seen → Outside way → Sides way

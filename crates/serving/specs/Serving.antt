@@ -27,6 +27,7 @@ use Rattle.serving.specs.declared.request.Request.{Request}
 use Rattle.serving.specs.declared.request.Request.TheVariants.{Heard, Lagging, Learned, Entered}
 use Rattle.serving.specs.declared.request.Request.TheVariants.{Asked, Printed, Ticked, Stopped}
 use Rattle.serving.specs.declared.request.Request.TheVariants.{Inspected, Copied, Strange, Ignored}
+use Rattle.serving.specs.declared.request.Request.TheVariants.{Denied}
 
 -- ---- messages as frames
 
@@ -271,3 +272,4 @@ answer home x fates Ticked =
 answer home x fates Stopped = Some what.Fine
 answer home x fates Strange = Some (what.Refused refusal.Foreign)
 answer home x fates Ignored = None
+answer home x fates Denied = Some (what.Refused refusal.NotAllowed)

@@ -4,6 +4,7 @@ use Rattle.std.specs.declared.io.Write.{Ghosts as WriteOf}
 use Rattle.answers.specs.declared.desk.Desk.{Ghosts as DeskOf}
 use Rattle.wire.specs.declared.values.Version.{Version}
 use Rattle.serving.specs.declared.ends.Served.{Served}
+use Rattle.serving.specs.declared.permission.Permission.{Permission}
 use Rattle.serving.specs.declared.peers.Peers.{Ghosts as PeersOf}
 use Rattle.serving.specs.declared.source.Source.{Ghosts as SourceOf}
 use Rattle.serving.specs.Connection.{Begun, IsConnection, Reads, Sides, sides}
@@ -35,17 +36,19 @@ reads_of s source = record { count = s.reads source; failed = s.failed source }
 
 -- a connection was served over a source
 abbrev pub ServesSource : {V U X S : Type 0} → DeskOf V → PeersOf U → WriteOf X → SourceOf S
-    → Version → Served → Line V U X → Line V U X → S → S → Type 0
-ServesSource d p w s version result a b source left =
+    → Version → Permission → Served → Line V U X → Line V U X → S → S → Type 0
+ServesSource d p w s version may result a b source left =
     (bytes : List ℕ) × (begun : List Begun) × (rest : List ℕ)
-    × IsConnection result (d.home_of a.node) (sides_of d p w version a) (sides_of d p w version b)
+    × IsConnection may result (d.home_of a.node) (sides_of d p w version a)
+    (sides_of d p w version b)
     bytes begun rest (s.remaining source) (s.remaining left) (reads_of s left)
 
 -- a connection was served over a reader that had these bytes to give
-abbrev pub ServesReader : {V U X : Type 0} → DeskOf V → PeersOf U → WriteOf X → Version → Served
-    → Line V U X → Line V U X → Option (List ℕ) → Type 0
-ServesReader d p w version result a b given =
+abbrev pub ServesReader : {V U X : Type 0} → DeskOf V → PeersOf U → WriteOf X → Version
+    → Permission → Served → Line V U X → Line V U X → Option (List ℕ) → Type 0
+ServesReader d p w version may result a b given =
     (left : Option (List ℕ)) × (reads : Reads) × (bytes : List ℕ) × (begun : List Begun)
     × (rest : List ℕ)
-    × IsConnection result (d.home_of a.node) (sides_of d p w version a) (sides_of d p w version b)
+    × IsConnection may result (d.home_of a.node) (sides_of d p w version a)
+    (sides_of d p w version b)
     bytes begun rest given left reads

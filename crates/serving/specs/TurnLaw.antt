@@ -77,6 +77,17 @@ abbrev pub handed_out : List Turn → List ℕ
 handed_out [] = []
 handed_out (t ∷ ts) = taken_in t ++ handed_out ts
 
+-- the frames begun, in order
+abbrev pub begun_at : Turn → List Begun
+begun_at (Came piece) = []
+begun_at (Began one) = one ∷ []
+begun_at Rested = []
+begun_at (Took bytes) = []
+
+abbrev pub begun_in : List Turn → List Begun
+begun_in [] = []
+begun_in (t ∷ ts) = begun_at t ++ begun_in ts
+
 -- How the frames begun leave a connection, with this after the frames: open, or ended by its cause.
 -- Of the ends of a connection these come by turns.
 abbrev pub Stands : {V : Type 0} → {way : Way V} → Option End → Home → Sides way → Sides way
@@ -106,10 +117,11 @@ pub record AreServed {V : Type 0} {way : Way V} (home : Home) (a b : Place way)
       Stands b.talk.end home (sides_in a []) (sides_in b (taken ++ b.talk.pending)) begun rest
       b.talk.frames
 
--- of every list of turns of a connection with a desk of a kind, from its first turn on
+-- of every list of turns of a connection with a desk of a kind, from its first turn on: the frames
+-- that these turns began are served
 abbrev pub TurnsServe : {V : Type 0} → DeskOf V → Type 0
 TurnsServe d =
     (home : Home) (wire : Version) (turns : List Turn) (a b : Place (speaking d.handles wire))
     → a.talk ≡ new_talk home wire → Follow a turns b
     → (begun : List Begun) × (rest : List ℕ)
-    × AreServed home a b (received turns) (handed_out turns) begun rest
+    × AreServed home a b (received turns) (handed_out turns) begun rest × (begun ≡ begun_in turns)

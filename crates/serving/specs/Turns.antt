@@ -11,6 +11,7 @@ use Rattle.serving.specs.declared.ends.Close.TheVariants as close
 use Rattle.serving.specs.declared.ends.End.{End}
 use Rattle.serving.specs.declared.ends.End.TheVariants as end
 use Rattle.serving.specs.declared.ends.FrameFault.TheVariants as fault
+use Rattle.serving.specs.declared.permission.Permission.{Permission}
 use Rattle.serving.specs.declared.peers.Peers.{Ghosts as PeersOf}
 use Rattle.serving.specs.Connection.{Begun, Sides, sides, ServesOne, FailsIn}
 use Rattle.serving.specs.Making.{Way, speaking}
@@ -154,14 +155,14 @@ pub record RunsOut (old new : Talk) : Type 0 where
 abbrev pub Rests : Talk → Talk → Type 0
 Rests old new = ((IsFree old → ⊥) × (new ≡ old)) ⊎ RunsOut old new
 
--- a turn, in which a frame is begun or none is
-abbrev pub Advances : {V U : Type 0} → DeskOf V → PeersOf U → Bool → Moment V U → Moment V U
-    → Type 0
-Advances d p true a b =
+-- a turn of a connection that may ask so much, in which a frame is begun or none is
+abbrev pub Advances : {V U : Type 0} → DeskOf V → PeersOf U → Permission → Bool → Moment V U
+    → Moment V U → Type 0
+Advances d p may true a b =
     (one : Begun) × BeginsNext a.talk b.talk one.frame
     × LeavesAt b.talk.end a.talk.home (sides_at d p a.talk.wire a) (sides_at d p a.talk.wire b) one
-    b.talk.frames
-Advances d p false a b = (b.node ≡ a.node) × (b.peers ≡ a.peers) × Rests a.talk b.talk
+    b.talk.frames × (one.may ≡ may)
+Advances d p may false a b = (b.node ≡ a.node) × (b.peers ≡ a.peers) × Rests a.talk b.talk
 
 -- ---- answers are taken
 

@@ -9,6 +9,7 @@ ghost use Rattle.serving.specs.model.Turning.{end_after};
 
 use crate::ends::{Close, End, Served};
 use crate::peers::Peers;
+use crate::permission::Permission;
 use crate::session::Session;
 use acceptor::NoMemory;
 use answers::Desk;
@@ -17,6 +18,7 @@ use std::alloc::Global;
 use std::collections::VecDeque;
 use std::io::Write;
 use std::marker::Model;
+use std::mem;
 use wire::{Frame, FrameReader, Version, WireFault};
 
 /// The most frames of a connection.
@@ -141,12 +143,18 @@ impl Connection {
 
     /// Serves the next frame, if one waits, the connection is open, and nothing of an answer is
     /// still to be taken, and returns whether it did: its calls and pushes are made, and its answer
-    /// is to be sent. Once all that came is served, a fault that stands after it ends the
-    /// connection. Call it after each piece, and each time that an answer was taken whole, until it
-    /// returns false.
-    pub fn advance<D: Desk, P: Peers>(&mut self, node: &mut D, peers: &mut P) -> bool
+    /// is to be sent. A frame that asks for more than `may` makes no call and no push: a message of
+    /// a desk is dropped, and a client is refused. Once all that came is served, a fault that
+    /// stands after it ends the connection. Call it after each piece, and each time that an answer
+    /// was taken whole, until it returns false.
+    pub fn advance<D: Desk, P: Peers>(
+        &mut self,
+        node: &mut D,
+        peers: &mut P,
+        may: Permission,
+    ) -> bool
         requires home { D.home_of node.old ≡ self.old.home }
-        ensures turn { Advances D.Desk P.Peers result
+        ensures turn { Advances D.Desk P.Peers may result
             (moment node.old peers.old self.old) (moment node.new peers.new self.new) }
         ensures home { D.home_of node.new ≡ D.home_of node.old }
     {
@@ -160,7 +168,7 @@ impl Connection {
             return false;
         };
         self.frames += 1;
-        match self.session.serve_frame(node, peers, frame) {
+        match self.session.serve_frame(node, peers, may, frame) {
             Ok(reply) => {
                 self.answer = reply.bytes;
                 self.taken = 0;
@@ -176,6 +184,18 @@ impl Connection {
         ensures { result.now ≡ self.now.pending }
     {
         &self.answer[self.taken..]
+    }
+
+    /// Takes all of the output at once, and moves it where nothing of it was taken before.
+    pub fn take_output(&mut self) -> Vec<u8>
+        ensures output { result.items ≡ self.old.pending }
+        ensures after { self.new ≡ after_sent self.old (length self.old.pending) }
+    {
+        let none = Vec::new(self.session.alloc);
+        let mut output = mem::replace(&mut self.answer, none);
+        output.drain(..self.taken);
+        self.taken = 0;
+        output
     }
 
     /// Whether something is to be sent.

@@ -7,6 +7,7 @@ ghost use Rattle.serving.specs.model.Sessions.{FailsFrame, ServesFrame, desks};
 
 use crate::ends::Close;
 use crate::peers::Peers;
+use crate::permission::Permission;
 use crate::request::{Ending, request_of};
 use crate::session::Session;
 use acceptor::NoMemory;
@@ -39,23 +40,26 @@ fn close_by<D: Desk>(ending: Ending, node: &D) -> Option<Close>
 }
 
 impl Session {
-    /// Makes the calls and pushes of a frame, and gives what comes of it.
+    /// Makes the calls and pushes of a frame of a connection that may ask so much, and gives what
+    /// comes of it.
     pub fn serve_frame<D: Desk, P: Peers>(
         self,
         node: &mut D,
         peers: &mut P,
+        may: Permission,
         frame: Frame,
     ) -> Result<Reply, NoMemory>
         requires home { D.home_of node.old ≡ self.home }
         requires spelled { IsFrame frame }
-        ensures ok { IfOk result (λ r. ServesFrame D.Desk P.Peers self frame
+        ensures ok { IfOk result (λ r. ServesFrame D.Desk P.Peers self may frame
             (desks node.old peers.old) (desks node.new peers.new) r.bytes.items r.close) }
-        ensures err { OnErr result (FailsFrame D.Desk P.Peers self frame
+        ensures err { OnErr result (FailsFrame D.Desk P.Peers self may frame
             (desks node.old peers.old) (desks node.new peers.new)) }
         ensures home { D.home_of node.new ≡ D.home_of node.old }
     {
         let version = frame.version;
-        let request = request_of(self.home, frame);
+        let asked = request_of(self.home, frame);
+        let request = asked.permitted(may);
         let ending = request.ending();
         let answer = self.serve_request(node, peers, request)?;
         let bytes = self.spell_answer(version, answer)?;

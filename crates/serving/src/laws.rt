@@ -1,5 +1,6 @@
 //! What follows of a connection's turns, whoever takes them.
 
+ghost use Rattle.serving.specs.OutsideLaw.{OutsideCallsNothing};
 ghost use Rattle.serving.specs.TurnLaw.{TurnsServe};
 
 use answers::Desk;
@@ -13,4 +14,11 @@ use answers::Desk;
 /// last.
 pub fn turns_serve<D: Desk>()
     ensures { TurnsServe D.Desk }
+{}
+
+/// A frame that asks for more than its connection may makes no call of the node and no push, and
+/// the node is as it was. A message of a desk is dropped, and a client is answered Refused
+/// NotAllowed.
+pub fn outside_calls_nothing()
+    ensures { OutsideCallsNothing }
 {}

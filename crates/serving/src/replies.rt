@@ -4,7 +4,7 @@ ghost use Rattle.std.specs.Option.{ForSome};
 ghost use Rattle.std.specs.Prelude.{◌≡◌, ◌<◌, ◌≢◌, None, Some, OnErr, IfOk};
 ghost use Rattle.wire.specs.Ranges.{IsId};
 ghost use Rattle.serving.specs.Answering.{IsAnswer, IsAnswerIn, answer_first, refusal_of, state_of};
-ghost use Rattle.serving.specs.Answering.{state, told_what, style_of, printed};
+ghost use Rattle.serving.specs.Answering.{state, told_what, style_of, printed, said_in};
 ghost use Rattle.serving.specs.Connection.{answer_bytes, framed_answer};
 ghost use Rattle.serving.specs.Nodes.{Fate};
 
@@ -110,6 +110,19 @@ pub fn printed<D: Desk>(node: &D, event: Event, round: u8, position: u32, style:
     What::Refused { refusal }
 }
 
+/// What a version tells of an answer.
+fn said_in(version: Version, what: What) -> What
+    ensures { result ≡ said_in version what }
+{
+    match what {
+        What::Told { id, state } => What::Told {
+            id,
+            state: state.in_version(version),
+        },
+        other => other,
+    }
+}
+
 impl Session {
     /// The bytes of an answer of the desk to its client.
     fn spell_what(self, version: Version, what: What) -> Result<Vec<u8>, NoMemory>
@@ -122,7 +135,7 @@ impl Session {
             hall: self.home.hall,
             from: self.home.desk,
             to: 0,
-            what,
+            what: said_in(version, what),
         };
         let bytes = encode(self.alloc, &answer)?;
         Ok(bytes)

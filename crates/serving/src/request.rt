@@ -4,7 +4,9 @@ ghost use Rattle.std.specs.Prelude.{◌≡◌};
 ghost use Rattle.wire.specs.Ranges.{IsFrame, IsBody};
 ghost use Rattle.wire.specs.declared.values.Version.{Version};
 ghost use Rattle.serving.specs.Asking.{AsksInRange, IsAskedIn, ending, ours, request, strange};
+ghost use Rattle.serving.specs.Permissions.{enters, permitted, reads, turned_away};
 
+use crate::permission::Permission;
 use acceptor::entry::Entry;
 use acceptor::message::{Body, Message};
 use formats::Event;
@@ -67,6 +69,8 @@ pub enum Request {
     Strange,
     /// Any other frame that is not for this desk, or a frame for a client.
     Ignored,
+    /// A client asks for what its connection may not.
+    Denied,
 }
 
 /// How a frame ends the connection of itself.
@@ -97,7 +101,88 @@ impl Request {
             | Request::Inspected
             | Request::Copied { .. }
             | Request::Strange
-            | Request::Ignored => Ending::Never,
+            | Request::Ignored
+            | Request::Denied => Ending::Never,
+        }
+    }
+
+    /// Whether it changes nothing of the desk: it is asked what its log says or how it stands, or
+    /// nothing.
+    pub fn reads(&self) -> bool
+        ensures { result ≡ reads self.now }
+    {
+        match self {
+            Request::Asked { .. }
+            | Request::Printed { .. }
+            | Request::Inspected
+            | Request::Copied { .. }
+            | Request::Strange
+            | Request::Ignored
+            | Request::Denied => true,
+            Request::Heard { .. }
+            | Request::Lagging { .. }
+            | Request::Learned { .. }
+            | Request::Entered { .. }
+            | Request::Ticked
+            | Request::Stopped => false,
+        }
+    }
+
+    /// Whether a client enters a command, or gives a Tick.
+    pub fn enters(&self) -> bool
+        ensures { result ≡ enters self.now }
+    {
+        match self {
+            Request::Entered { .. } | Request::Ticked => true,
+            Request::Asked { .. }
+            | Request::Printed { .. }
+            | Request::Inspected
+            | Request::Copied { .. }
+            | Request::Strange
+            | Request::Ignored
+            | Request::Denied
+            | Request::Heard { .. }
+            | Request::Lagging { .. }
+            | Request::Learned { .. }
+            | Request::Stopped => false,
+        }
+    }
+
+    /// What becomes of a request that its connection may not make: what a desk says is dropped, and
+    /// a client is told.
+    fn turned_away(&self) -> Request
+        ensures turned_away { result ≡ turned_away self.now }
+        ensures in_range { AsksInRange result }
+        ensures asked { (version : Version) → IsAskedIn version result }
+    {
+        match self {
+            Request::Heard { .. } | Request::Lagging { .. } | Request::Learned { .. } => {
+                Request::Ignored
+            }
+            Request::Entered { .. }
+            | Request::Asked { .. }
+            | Request::Printed { .. }
+            | Request::Inspected
+            | Request::Copied { .. }
+            | Request::Ticked
+            | Request::Stopped
+            | Request::Strange
+            | Request::Ignored
+            | Request::Denied => Request::Denied,
+        }
+    }
+
+    /// What is served of the request on a connection that may ask so much.
+    pub fn permitted(self, may: Permission) -> Request
+        requires { AsksInRange self }
+        ensures permitted { result ≡ permitted may self }
+        ensures in_range { AsksInRange result }
+        ensures asked { (version : Version) → IsAskedIn version self → IsAskedIn version result }
+    {
+        if may.admits(&self) {
+            self
+        } else {
+            self.turned_away()
         }
     }
 }

@@ -154,6 +154,9 @@ impl Session {
                 refusal: Refusal::Foreign,
             })),
             Request::Ignored => Ok(None),
+            Request::Denied => Ok(Some(What::Refused {
+                refusal: Refusal::NotAllowed,
+            })),
         }
     }
 }

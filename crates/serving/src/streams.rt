@@ -11,6 +11,7 @@ ghost use Rattle.serving.specs.model.Turning.{GoesOn};
 use crate::connection::Connection;
 use crate::ends::{End, Served};
 use crate::peers::Peers;
+use crate::permission::Permission;
 use crate::source::{Counted, MOST_READS, Source};
 use answers::Desk;
 use std::alloc::Global;
@@ -24,15 +25,16 @@ fn serve_waiting<D: Desk, W: Write, P: Peers>(
     node: &mut D,
     peers: &mut P,
     writer: &mut W,
+    may: Permission,
 ) -> Option<End>
     requires home { D.home_of node.old ≡ connection.old.home }
     requires free { IsFree connection.old }
     requires open { connection.old.frames < 64 }
-    ensures waiting { ServesWaiting D.Desk P.Peers W.Write result connection.old connection.new
+    ensures waiting { ServesWaiting D.Desk P.Peers W.Write may result connection.old connection.new
         (line node.old peers.old writer.old) (line node.new peers.new writer.new) }
     ensures home { D.home_of node.new ≡ D.home_of node.old }
 {
-    while connection.advance(node, peers) {
+    while connection.advance(node, peers, may) {
         if connection.write_out(writer).is_err() {
             return Some(End::Write);
         }
@@ -47,20 +49,22 @@ fn serve_piece<D: Desk, W: Write, P: Peers>(
     node: &mut D,
     peers: &mut P,
     writer: &mut W,
+    may: Permission,
     piece: &[u8],
 ) -> Option<End>
     requires home { D.home_of node.old ≡ connection.old.home }
     requires read { WantsRead connection.old }
     requires open { connection.old.frames < 64 }
-    ensures piece { ServesPiece D.Desk P.Peers W.Write result piece.now connection.old
-        connection.new (line node.old peers.old writer.old) (line node.new peers.new writer.new) }
+    ensures piece { ServesPiece D.Desk P.Peers W.Write may result piece.now
+        connection.old connection.new (line node.old peers.old writer.old)
+        (line node.new peers.new writer.new) }
     ensures goes_on { GoesOn result connection.old connection.new }
     ensures home { D.home_of node.new ≡ D.home_of node.old }
 {
     connection.receive(piece);
     match connection.end() {
         Some(end) => Some(end),
-        None => serve_waiting(connection, node, peers, writer),
+        None => serve_waiting(connection, node, peers, writer, may),
     }
 }
 
@@ -72,10 +76,11 @@ pub fn serve_source<D: Desk, S: Source, W: Write, P: Peers>(
     node: &mut D,
     peers: &mut P,
     wire: Version,
+    may: Permission,
 ) -> Served
     requires fresh { S.reads source.old ≡ 0 }
     requires whole { S.failed source.old ≡ 0 }
-    ensures served { ServesSource D.Desk P.Peers W.Write S.Source wire result
+    ensures served { ServesSource D.Desk P.Peers W.Write S.Source wire may result
         (line node.old peers.old writer.old) (line node.new peers.new writer.new)
         source.old source.new }
     ensures home { D.home_of node.new ≡ D.home_of node.old }
@@ -94,7 +99,7 @@ pub fn serve_source<D: Desk, S: Source, W: Write, P: Peers>(
             Ok(0) => return connection.served(End::End),
             Ok(count) => {
                 let piece = &buffer[..count];
-                if let Some(end) = serve_piece(&mut connection, node, peers, writer, piece) {
+                if let Some(end) = serve_piece(&mut connection, node, peers, writer, may, piece) {
                     return connection.served(end);
                 }
             }
@@ -123,7 +128,7 @@ fn spoken(wire: u8) -> Version
 /// 64 frames, 19,200,256 reads, a fault of the stream, a read or a write that fails, a store that
 /// fails, or want of memory. Each frame's answer is written before the next frame is begun, in the
 /// version of that frame. What is said to other desks is pushed in the version `wire`, 1 to 3; all
-/// are read.
+/// are read. No frame is served beyond what the connection `may` ask.
 pub fn serve_connection<D: Desk, R: Read + Drop, W: Write, P: Peers>(
     alloc: Global,
     reader: R,
@@ -131,13 +136,14 @@ pub fn serve_connection<D: Desk, R: Read + Drop, W: Write, P: Peers>(
     node: &mut D,
     peers: &mut P,
     wire: u8,
+    may: Permission,
 ) -> Served
     requires version { IsVersion wire }
-    ensures served { ServesReader D.Desk P.Peers W.Write (spoken wire) result
+    ensures served { ServesReader D.Desk P.Peers W.Write (spoken wire) may result
         (line node.old peers.old writer.old) (line node.new peers.new writer.new)
         (R.remaining reader) }
     ensures home { D.home_of node.new ≡ D.home_of node.old }
 {
     let mut source = Counted::new(reader);
-    serve_source(alloc, &mut source, writer, node, peers, spoken(wire))
+    serve_source(alloc, &mut source, writer, node, peers, spoken(wire), may)
 }

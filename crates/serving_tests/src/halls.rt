@@ -6,7 +6,7 @@ ghost use Rattle.std.specs.Prelude.{None};
 use crate::frames::expect;
 use crate::stores::{Stores, open};
 use node::Node;
-use serving::{End, Peers, serve_connection};
+use serving::{End, Peers, Permission, serve_connection};
 use sqlite::{Alter, Connection, Error, File, FileStore};
 use std::alloc::Global;
 use std::test::Fail;
@@ -108,6 +108,7 @@ fn serve_waiting<K: Keeper + Drop>(
             &mut place.node,
             hall,
             wire,
+            Permission::All,
         );
         if served.end != End::End {
             return Err(Fail::from("a connection did not end well"));

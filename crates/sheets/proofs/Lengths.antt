@@ -11,7 +11,7 @@ use Rattle.formats.specs.declared.events.Format.{Format}
 use Rattle.formats.specs.declared.events.Format.TheVariants.{Ao5, Mo3, Bo1, Bo2, Bo3}
 use Rattle.formats.specs.Events.{attempts_of}
 use Rattle.rounds.specs.Tables.{Entrant, Table, has_number, entrant, key, place}
-use Rattle.commands.proofs.Sizes.{IsSmallEntrant}
+use Rattle.commands.proofs.Sizes.{IsSmallEntrant, IsSmallName}
 use Rattle.sheets.specs.Sheet.{right}
 
 -- Lists
@@ -71,10 +71,15 @@ place_small t few e = let less =
     count_by-le-length (λ other. is_better (key t other) (key t e)) t.entrants in
     omega (arith, less, few)
 
-pub name_given_short : (name : Option (List ℕ)) → IfSome name (λ bytes. length bytes ≤ 80)
-    → length (unwrap_or name []) ≤ 80
-name_given_short None h = omega arith
-name_given_short (Some name) h = h
+-- a name has at most 160 bytes, each double quote in it counted twice
+pub name_given_small : (name : Option (List ℕ)) → IfSome name IsSmallName
+    → IsSmallName (unwrap_or name [])
+name_given_small None h = omega arith
+name_given_small (Some name) h = h
+
+pub name_given_short : (name : Option (List ℕ)) → IfSome name IsSmallName
+    → length (unwrap_or name []) ≤ 160
+name_given_short name h = let small = name_given_small name h in omega (arith, small)
 
 pub at_most_five : (format : Format) → attempts_of format ≤ 5
 at_most_five Ao5 = omega arith

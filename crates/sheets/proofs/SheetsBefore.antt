@@ -1,26 +1,31 @@
--- Without `EDITION 2` every sheet is as edition 1 had it.
+-- Without `EDITION 2` every sheet of edition 2 is as edition 1 had it.
 use Rattle.std.proofs.Common.{◌≡◌, ℕ, true, false, List, [], ◌∷◌, ◌++◌, flat_map, Option, Some}
-use Rattle.std.proofs.Common.{None, option_map, unwrap_or, refl, sym, ap, ◌∙◌}
+use Rattle.std.proofs.Common.{None, Bool, zero, suc, ◌==◌, option_map, unwrap_or, refl, sym, ap}
+use Rattle.std.proofs.Common.{◌∙◌, subst, eqb-true}
 use Rattle.std.proofs.lemmas.Bool.{false≢true}
 use Rattle.csv.specs.Writing.{row_text, default_writer}
 use Rattle.attempts.specs.declared.Unit.{Unit as Measure}
 use Rattle.attempts.specs.declared.Unit.TheVariants.{Time, Moves, Multi}
 use Rattle.formats.specs.declared.events.Event.{Event}
-use Rattle.formats.specs.Events.{unit_of, attempts_of}
+use Rattle.formats.specs.declared.events.Event.TheVariants.{Cube3, Cube2, Cube4, Cube5, Cube6}
+use Rattle.formats.specs.declared.events.Event.TheVariants.{Cube7, Blind3, FewestMoves, OneHanded}
+use Rattle.formats.specs.declared.events.Event.TheVariants.{Clock, Megaminx, Pyraminx, Skewb}
+use Rattle.formats.specs.declared.events.Event.TheVariants.{Square1, Blind4, Blind5, MultiBlind}
+use Rattle.formats.specs.Events.{unit_of, attempts_of, event_edition}
 use Rattle.texts.specs.declared.command.Command.{Command}
 use Rattle.texts.specs.declared.command.Settings.{Settings}
 use Rattle.rounds.specs.Tables.{Entrant, Table, entrant, standings}
-use Rattle.commands.specs.Accepted.{round_of, is_multi}
+use Rattle.commands.specs.SecondEdition.{opened, round_in, round_of, is_multi, history}
 use Rattle.commands.specs.FirstEdition as commands
-use Rattle.commands.specs.History.{history}
 use Rattle.commands.proofs.Before.{IsFirstEvent, first_event, AreFirst, round_alike, history_alike}
-use Rattle.commands.proofs.Before.{history_first}
+use Rattle.commands.proofs.Before.{history_first, not_multi}
 use Rattle.sheets.specs.declared.Style.{Style}
 use Rattle.sheets.specs.declared.Style.TheVariants as style
-use Rattle.sheets.specs.EditionLaw.{PrintsAsBefore}
+use Rattle.sheets.specs.EditionLaw.{PrintsAsFirst}
 use Rattle.sheets.specs.FirstEdition as first
-use Rattle.sheets.specs.Sheet.{name_text, header, first_line, second_line, entrant_line, line_of}
-use Rattle.sheets.specs.Sheet.{text_of_round, entrant_record, record_of, table_of_round, sheet}
+use Rattle.sheets.proofs.SheetsSecond.{prints_as_second}
+use Rattle.sheets.specs.SecondEdition.{name_text, header, first_line, second_line, entrant_line, line_of}
+use Rattle.sheets.specs.SecondEdition.{text_of_round, entrant_record, record_of, table_of_round, sheet}
 
 flat_alike : (f g : ℕ → List ℕ) → ((n : ℕ) → f n ≡ g n) → (ns : List ℕ)
     → flat_map f ns ≡ flat_map g ns
@@ -110,9 +115,65 @@ sheet_alike style.Table cs e round position event are =
     round_printed (first.table_of_round cs e) (table_of_round cs e) (table_alike cs e event)
     (commands.round_of cs e round) (round_of cs e round) (round_alike e round cs event are)
 
-pub prints_as_before : PrintsAsBefore
-prints_as_before entries style e round position others known =
-    sym
-    (ap (λ h. first.sheet style h.accepted e round position) (history_alike entries others)
-    ∙ sheet_alike style (history entries).accepted e round position (first_event e known)
-    (history_first entries others))
+-- without `EDITION 2` no round of multi-blind is opened
+none_opened : (r : ℕ) (earlier cs : List Command) → AreFirst cs
+    → opened MultiBlind r earlier cs ≡ None
+none_opened r earlier [] h = refl
+none_opened r earlier (c ∷ cs) h =
+    rw (not_multi r c h.0, none_opened r (earlier ++ c ∷ []) cs h.1) refl
+
+none_there : (r : ℕ) (cs : List Command) → AreFirst cs
+    → (commands.round_of cs MultiBlind r ≡ None) × (round_of cs MultiBlind r ≡ None)
+unfolding round_in commands.round_in
+none_there zero cs h = (refl, refl)
+none_there (suc r) cs h =
+    let none = none_opened (suc r) [] cs h in (rw none refl, rw none refl)
+
+-- of each event
+each_event : (style : Style) (cs : List Command) (e : Event) (round position : ℕ) → AreFirst cs
+    → first.sheet style cs e round position ≡ sheet style cs e round position
+each_event shape cs e round position are = step (event_edition e == 1) refl
+  where
+    multi : (f : Event) → (event_edition f == 1) ≡ false → f ≡ MultiBlind
+    multi MultiBlind h = refl
+    multi Cube3 h = absurd (false≢true (sym h))
+    multi Cube2 h = absurd (false≢true (sym h))
+    multi Cube4 h = absurd (false≢true (sym h))
+    multi Cube5 h = absurd (false≢true (sym h))
+    multi Cube6 h = absurd (false≢true (sym h))
+    multi Cube7 h = absurd (false≢true (sym h))
+    multi Blind3 h = absurd (false≢true (sym h))
+    multi FewestMoves h = absurd (false≢true (sym h))
+    multi OneHanded h = absurd (false≢true (sym h))
+    multi Clock h = absurd (false≢true (sym h))
+    multi Megaminx h = absurd (false≢true (sym h))
+    multi Pyraminx h = absurd (false≢true (sym h))
+    multi Skewb h = absurd (false≢true (sym h))
+    multi Square1 h = absurd (false≢true (sym h))
+    multi Blind4 h = absurd (false≢true (sym h))
+    multi Blind5 h = absurd (false≢true (sym h))
+
+    none : (kind : Style)
+        → first.sheet kind cs MultiBlind round position ≡ sheet kind cs MultiBlind round position
+    none style.Text =
+        rw ((none_there round cs are).0, (none_there round cs are).1) refl
+    none style.Table =
+        rw ((none_there round cs are).0, (none_there round cs are).1) refl
+
+    step : (b : Bool) → (event_edition e == 1) ≡ b
+        → first.sheet shape cs e round position ≡ sheet shape cs e round position
+    step true is =
+        sheet_alike shape cs e round position (first_event e (eqb-true (event_edition e) 1 is)) are
+    step false is =
+        subst
+        (λ (f : Event). first.sheet shape cs f round position ≡ sheet shape cs f round position)
+        (sym (multi e is)) (none shape)
+
+pub prints_as_first : PrintsAsFirst
+prints_as_first entries style e round position seconds thirds =
+    prints_as_second entries style e round position thirds
+    ∙ sym
+    (ap (λ h. first.sheet style h.accepted e round position)
+    (history_alike entries seconds thirds)
+    ∙ each_event style (history entries).accepted e round position
+    (history_first entries seconds thirds))

@@ -1,9 +1,11 @@
 -- How long a sheet is as a table.
 use Rattle.std.proofs.Common.{◌≡◌, ℕ, zero, suc, ◌+◌, ◌*◌, ◌≤◌, Bool, true, false, ◌==◌, cond, List}
 use Rattle.std.proofs.Common.{[], ◌∷◌, ◌++◌, length, map, flat_map, codes, decimal, Option, Some}
-use Rattle.std.proofs.Common.{None, IfSome, option_map, unwrap_or, refl, arith, length-append}
+use Rattle.std.proofs.Common.{None, IfSome, count_by, option_map, unwrap_or, refl, arith}
+use Rattle.std.proofs.Common.{length-append}
 use Rattle.std.specs.List.{AllByRecursion, range_with_len}
 use Rattle.std.proofs.lemmas.List.FromFn.{length-range_with_len}
+use Rattle.std.proofs.lemmas.List.Sums.{sum_by-cons}
 use Rattle.csv.specs.Writing.{default_writer, needs_quotes, escaped, quoted, field_text}
 use Rattle.csv.specs.Writing.{fields_text, is_blank, row_text}
 use Rattle.attempts.specs.declared.Unit.{Unit as Measure}
@@ -16,13 +18,14 @@ use Rattle.rounds.specs.Tables.{Entrant, Table, entrant, place, standings}
 use Rattle.texts.specs.declared.command.Command.{Command}
 use Rattle.texts.specs.declared.command.Settings.{Settings}
 use Rattle.commands.specs.Accepted.{name_of}
-use Rattle.commands.proofs.Sizes.{IsSmall, IsSmallRound, IsSmallEntrant, standings_few}
+use Rattle.commands.proofs.Sizes.{IsSmall, IsSmallName, IsSmallRound, IsSmallEntrant}
+use Rattle.commands.proofs.Sizes.{standings_few}
 use Rattle.sheets.specs.Sheet.{attempt_text, best_text, is_marked, name_text, yes_or_no, header}
 use Rattle.sheets.specs.Sheet.{entrant_fields, entrant_record, record_of, table_of_round}
 use Rattle.sheets.proofs.ShortTexts.{IsPlain, IsBare, IsSmallValue, plain_decimal, plain_attempt}
 use Rattle.sheets.proofs.ShortTexts.{plain_best, plain_average}
 use Rattle.sheets.proofs.Lengths.{append_short, each_short, IsShown, shown, place_small}
-use Rattle.sheets.proofs.Lengths.{name_given_short, at_most_five}
+use Rattle.sheets.proofs.Lengths.{name_given_small, at_most_five}
 
 -- Fields
 
@@ -53,6 +56,33 @@ field_short text short = step (needs_quotes default_writer text)
     step true = let long = length-append (escaped default_writer text) (34 ∷ []) in let twice =
         escaped_short text in omega (arith, long, twice, short)
     step false = omega (arith, short)
+
+-- of each quote mark there is one more
+escaped_more : (text : List ℕ)
+    → length (escaped default_writer text) ≤ length text + count_by (λ b. b == 34) text
+unfolding escaped
+escaped_more [] = omega arith
+escaped_more (b ∷ bytes) =
+    let count = sum_by-cons (λ x. cond (x == 34) 1 0) b bytes in
+    step (b == 34) (escaped_more bytes) count
+  where
+    step : (t : Bool)
+        → length (escaped default_writer bytes) ≤ length bytes + count_by (λ x. x == 34) bytes
+        → count_by (λ x. x == 34) (b ∷ bytes) ≡ cond t 1 0 + count_by (λ x. x == 34) bytes
+        → length (cond t (34 ∷ b ∷ escaped default_writer bytes) (b ∷ escaped default_writer bytes))
+        ≤ length (b ∷ bytes) + count_by (λ x. x == 34) (b ∷ bytes)
+    step true rest count = omega (arith, rest, count)
+    step false rest count = omega (arith, rest, count)
+
+name_short : (name : List ℕ) → IsSmallName name → length (field_text default_writer name) ≤ 162
+name_short name small = step (needs_quotes default_writer name)
+  where
+    step : (b : Bool) → length (cond b (quoted default_writer name) name) ≤ 162
+    step true =
+        let long = length-append (escaped default_writer name) (34 ∷ []) in
+        let more = escaped_more name in
+        omega (arith, long, more, small)
+    step false = omega (arith, small)
 
 -- one more field, behind a comma
 fields_short : (a b : ℕ) (field : List ℕ) (rest : List (List ℕ))
@@ -121,7 +151,7 @@ numbered_columns a (suc n) few = (
 )
 
 fields_of_short : (unit : Measure) (n at number : ℕ) (name : List ℕ) (average : Averaged)
-    (vs : List Value) (marked : Bool) → n ≤ 5 → at ≤ 1000 → number ≤ 9999 → length name ≤ 80
+    (vs : List Value) (marked : Bool) → n ≤ 5 → at ≤ 1000 → number ≤ 9999 → IsSmallName name
     → IsPlain 15 (average_text unit average) → AllByRecursion IsSmallValue vs
     → length (row_text default_writer (entrant_fields unit n at number name average vs marked))
     ≤ 291
@@ -137,14 +167,14 @@ fields_of_short unit n at number name average vs marked columns low small short 
     (omega arith) (omega arith)))
     (fields_short 4 279 (decimal number) _ (field_plain 4 (decimal number)
     (plain_decimal 4 number (omega arith) (omega arith) (omega arith)))
-    (fields_short 162 116 name _ (field_short name short)
+    (fields_short 162 116 name _ (name_short name short)
     (fields_short 15 100 (average_text unit average) _
     (field_plain 15 (average_text unit average) is)
     (fields_short 15 84 (best_text unit vs) _ (field_plain 15 (best_text unit vs)
     (plain_best unit vs are)) last))))
 
 record_short : (unit : Measure) (settings : Settings) (t : Table) (number : ℕ) (name : List ℕ)
-    (e : Entrant) → length t.entrants ≤ 999 → length name ≤ 80 → IsShown number e
+    (e : Entrant) → length t.entrants ≤ 999 → IsSmallName name → IsShown number e
     → length (entrant_record unit settings t number name e) ≤ 291
 unfolding entrant_record
 record_short unit settings t number name e few short is =
@@ -163,7 +193,7 @@ record_of_short unit cs settings t small few are n = step (entrant t n) (shown t
         ≤ 291
     step None is = omega arith
     step (Some e) is =
-        record_short unit settings t n (name_text cs n) e few (name_given_short (name_of cs n)
+        record_short unit settings t n (name_text cs n) e few (name_given_small (name_of cs n)
         (small.names n)) is
 
 header_short : (n : ℕ) → n ≤ 5 → length (row_text default_writer (header n)) ≤ 1060

@@ -112,10 +112,10 @@ attempts_short unit format vs are =
     let few = at_most_five format in
     omega (arith, all, count, few)
 
-person_short : (number : ℕ) (marked : Bool) (name : List ℕ) → number ≤ 9999 → length name ≤ 80
-    → length (person number marked name) ≤ 89
+person_short : (number : ℕ) (marked : Bool) (name : List ℕ) → number ≤ 9999 → length name ≤ 160
+    → length (person number marked name) ≤ 169
 person_short number marked name low short =
-    append_short 7 82 (codes " " ++ right 4 (decimal number) ++ codes " " ++ mark marked) (codes " "
+    append_short 7 162 (codes " " ++ right 4 (decimal number) ++ codes " " ++ mark marked) (codes " "
     ++ name ++ codes "\n")
     (append_short 6 1 (codes " " ++ right 4 (decimal number) ++ codes " ") (mark marked)
     (append_short 5 1 (codes " " ++ right 4 (decimal number)) (codes " ")
@@ -124,15 +124,15 @@ person_short number marked name low short =
     (omega arith) (omega arith))))
     (omega arith))
     (mark_short marked))
-    (append_short 81 1 (codes " " ++ name) (codes "\n") (append_short 1 80 (codes " ") name
+    (append_short 161 1 (codes " " ++ name) (codes "\n") (append_short 1 160 (codes " ") name
     (omega arith) short) (omega arith))
 
 entrant_line_short : (unit : Measure) (settings : Settings) (t : Table) (number : ℕ) (name : List ℕ)
-    (e : Entrant) → length t.entrants ≤ 999 → length name ≤ 80 → IsShown number e
-    → length (entrant_line unit settings t number name e) ≤ 205
+    (e : Entrant) → length t.entrants ≤ 999 → length name ≤ 160 → IsShown number e
+    → length (entrant_line unit settings t number name e) ≤ 285
 unfolding entrant_line
 entrant_line_short unit settings t number name e few short is =
-    append_short 116 89 (results unit (place t e) (average_of t.format t.unit e.values) e.values
+    append_short 116 169 (results unit (place t e) (average_of t.format t.unit e.values) e.values
     ++ attempts unit (attempts_of settings.format) e.values)
     (person number (is_marked settings t number) name)
     (append_short 36 80 (results unit (place t e) (average_of t.format t.unit e.values) e.values)
@@ -145,12 +145,12 @@ entrant_line_short unit settings t number name e few short is =
 
 line_short : (unit : Measure) (cs : List Command) (settings : Settings) (t : Table) → IsSmall cs
     → length t.entrants ≤ 999 → AllByRecursion IsSmallEntrant t.entrants → (n : ℕ)
-    → length (line_of unit cs settings t n) ≤ 205
+    → length (line_of unit cs settings t n) ≤ 285
 line_short unit cs settings t small few are n = step (entrant t n) (shown t are n)
   where
     step : (o : Option Entrant) → IfSome o (IsShown n)
         → length (unwrap_or (option_map (entrant_line unit settings t n (name_text cs n)) o) [])
-        ≤ 205
+        ≤ 285
     step None is = omega arith
     step (Some e) is =
         entrant_line_short unit settings t n (name_text cs n) e few (name_given_short (name_of cs n)
@@ -162,7 +162,7 @@ pub text_short : (cs : List Command) (event : Event) (round position : ℕ) (r :
     → length (text_of_round cs event round position r) ≤ 299992
 text_short cs event round position r small is fits =
     let lines =
-    each_short 205 (line_of (unit_of event) cs r.0 r.1)
+    each_short 285 (line_of (unit_of event) cs r.0 r.1)
     (line_short (unit_of event) cs r.0 r.1 small is.few is.entrants) (standings r.1) in
     let count = standings_few r.1 in
     let few = is.few in
@@ -172,7 +172,7 @@ text_short cs event round position r small is fits =
     (title_short event round r.0.format is.last) (standing_short r.1.is_closed position fits))
     (second_short r.0 is.settings) in
     let whole =
-    append_short 461 204795 (first_line event round r.0 r.1.is_closed position
+    append_short 461 284715 (first_line event round r.0 r.1.is_closed position
     ++ second_line r.0) (flat_map (line_of (unit_of event) cs r.0 r.1) (standings r.1)) top
     (omega (arith, lines, count, few)) in
     omega (arith, whole)

@@ -1,6 +1,6 @@
 -- What edition 1 printed of its accepted commands, as it stands since before there was another.
--- What it does not share with `Sheet` is kept here in its own words; the law of editions compares
--- the two.
+-- What it does not share with edition 2, which changes no more either, is kept here in its own
+-- words; the law of editions compares it with `Sheet`.
 use Rattle.std.specs.Prelude.{ℕ, Bool, List, [], ◌∷◌, ◌++◌, map, flat_map, slice_get, unwrap_or}
 use Rattle.std.specs.Prelude.{codes, decimal, Option}
 use Rattle.std.specs.List.{range_with_len}
@@ -20,8 +20,8 @@ use Rattle.texts.specs.declared.command.Command.{Command}
 use Rattle.texts.specs.declared.command.Settings.{Settings}
 use Rattle.rounds.specs.Tables.{Entrant, Table, entrant, place, standings}
 use Rattle.commands.specs.FirstEdition.{unit_of, round_of}
-use Rattle.sheets.specs.Sheet.{name_text, is_marked, right, first_line, second_line, person}
-use Rattle.sheets.specs.Sheet.{yes_or_no, header}
+use Rattle.sheets.specs.SecondEdition.{name_text, is_marked, right, first_line, second_line, person}
+use Rattle.sheets.specs.SecondEdition.{yes_or_no, header}
 use Rattle.sheets.specs.declared.Style.{Style}
 use Rattle.sheets.specs.declared.Style.TheVariants as style
 

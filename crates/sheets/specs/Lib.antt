@@ -4,4 +4,5 @@ pub mod Sheet
 pub mod Faults
 pub mod FrameLaw
 pub mod ReadingBack
+pub mod SecondEdition
 pub mod model

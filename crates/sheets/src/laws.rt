@@ -1,6 +1,6 @@
 //! What holds of every sheet.
 
-ghost use Rattle.sheets.specs.EditionLaw.{PrintsAsBefore};
+ghost use Rattle.sheets.specs.EditionLaw.{PrintsAsFirst, PrintsAsSecond};
 ghost use Rattle.sheets.specs.FrameLaw.{FitsInAFrame};
 
 /// A law: a sheet has at most 299,992 bytes, so that it fits into a frame of desks. It holds for
@@ -10,8 +10,16 @@ pub fn fits_in_a_frame()
     ensures { FitsInAFrame }
 {}
 
-/// A law: behind entries without the text `EDITION 2` the sheet of an event of edition 1 is the one
-/// that edition 1 printed, by that edition's own definitions, at every position and in both forms.
+/// A law: after entries without the texts `EDITION 2` and `EDITION 3` a sheet is the one that
+/// edition 1 printed, by that edition's own definitions, of every event, at every position and in
+/// both forms; or both have none.
 pub fn first_edition_sheets()
-    ensures { PrintsAsBefore }
+    ensures { PrintsAsFirst }
+{}
+
+/// A law: after entries without the text `EDITION 3` a sheet is the one that edition 2 printed, by
+/// that edition's own definitions, of every event, at every position and in both forms; or both
+/// have none.
+pub fn second_edition_sheets()
+    ensures { PrintsAsSecond }
 {}

@@ -118,6 +118,8 @@ after_due hall desks entries due.Ask false w now old new of (is, e) =
     as_it_was hall desks entries old new of e
 after_due hall desks entries due.Close left w now old new of (is, e) =
     after_lost hall desks entries old new of e
+after_due hall desks entries due.Renew left w now old new of (is, e) =
+    after_lost hall desks entries old new of e
 
 after_act : (hall : ℕ) (desks : List ℕ) (entries : List Entry) (stays : Bool) (w : Wish) (now : ℕ)
     (old new : SubmissionOf) → IsOf hall desks entries old → ActsAt stays w now old new

@@ -138,6 +138,7 @@ ActsBy due.Open false w now old new = Rests w old new
 ActsBy due.Ask true w now old new = Asks w now old new
 ActsBy due.Ask false w now old new = Rests w old new
 ActsBy due.Close left w now old new = (w ≡ wish.Close) × (new ≡ lost old)
+ActsBy due.Renew left w now old new = (w ≡ wish.Close) × (new ≡ lost old)
 
 -- a desk that isn't aimed at any more is left first
 abbrev pub ActsAt : Bool → Wish → ℕ → SubmissionOf → SubmissionOf → Type 0

@@ -208,7 +208,7 @@ impl Submission {
             return Wish::Close;
         }
         match self.line.due(now) {
-            Due::Close => {
+            Due::Close | Due::Renew => {
                 self.lost();
                 Wish::Close
             }

@@ -71,6 +71,8 @@ after_act hall desk due.Open w now old new of (is, e) =
     subst (IsOf hall desk) (sym e) (over hall desk old _ of tt)
 after_act hall desk due.Ask w now old new of asks = after_ask hall desk w now old new of asks
 after_act hall desk due.Close w now old new of (is, e) = after_lost hall desk old new of e
+after_act hall desk due.Renew w now old new of (is, e) =
+    subst (IsOf hall desk) (sym e) (over hall desk old _ of tt)
 
 after_opened : (hall desk : ℕ) (opened : Bool) (old new : SurveyOf) → IsOf hall desk old
     → Opens opened old new → IsOf hall desk new

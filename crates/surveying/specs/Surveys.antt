@@ -57,12 +57,14 @@ Asks wish.Rest now old new = ⊥
 Asks (wish.Open desk) now old new = ⊥
 Asks wish.Stop now old new = ⊥
 
+-- a connection over which the desk answers no more is closed, and the desk is not silent for that
 abbrev pub ActsBy : Due → Wish → ℕ → SurveyOf → SurveyOf → Type 0
 ActsBy due.Rest w now old new = (w ≡ wish.Rest) × (new ≡ old)
 ActsBy due.Open w now old new =
     (w ≡ wish.Open old.desk) × (new ≡ with_line old (opening old.line now))
 ActsBy due.Ask w now old new = Asks w now old new
 ActsBy due.Close w now old new = (w ≡ wish.Close) × (new ≡ lost old)
+ActsBy due.Renew w now old new = (w ≡ wish.Close) × (new ≡ with_line old (closed old.line))
 
 abbrev pub Acts : Wish → ℕ → SurveyOf → SurveyOf → Type 0
 Acts w now old new = ActsBy (due_of old.line now) w now old new

@@ -124,6 +124,10 @@ impl Survey {
                 self.lost();
                 Wish::Close
             }
+            Due::Renew => {
+                self.line.close();
+                Wish::Close
+            }
         }
     }
 

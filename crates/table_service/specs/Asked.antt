@@ -6,11 +6,12 @@ use Rattle.card_forms.specs.Pairs.{pairs_of, value_of}
 use Rattle.card_forms.specs.Readings.{number_of}
 use Rattle.card_forms.specs.declared.faults.NumberFault.{NumberFault}
 use Rattle.texts.specs.declared.command.RoundId.{RoundId}
+use Rattle.texts.specs.Fields.{number_between}
 use Rattle.table_service.specs.declared.reading.Asked.{Asked}
 use Rattle.table_service.specs.declared.reading.Asked.TheVariants.{Page, Style, Script}
 use Rattle.table_service.specs.declared.reading.View.TheVariants.{Overview, Card, Wall}
 use Rattle.table_service.specs.declared.reading.View.TheVariants.{Scorecards, People, Import}
-use Rattle.table_service.specs.declared.reading.View.TheVariants.{Rounds}
+use Rattle.table_service.specs.declared.reading.View.TheVariants.{Person, Rounds}
 
 -- the round of a path below a folder
 abbrev pub round_below : List ℕ → List ℕ → Option RoundId
@@ -18,7 +19,13 @@ round_below folder path =
     if bytes_eq (take (length folder) path) folder then round_of (drop (length folder) path)
     else None
 
--- what stands at a path that names no round, and has no query
+-- the competitor's number of a path below a folder
+abbrev pub number_below : List ℕ → List ℕ → Option ℕ
+number_below folder path =
+    if bytes_eq (take (length folder) path) folder
+    then number_between 1 9999 (drop (length folder) path) else None
+
+-- what stands at a path that names no round and no competitor, and has no query
 abbrev pub fixed : List ℕ → Option Asked
 fixed path =
     if bytes_eq path (codes "/") then Some (Page Overview)
@@ -39,17 +46,20 @@ abbrev pub card_asked : List ℕ → RoundId → Asked
 card_asked query round =
     Page (Card round (number_if (number_of (value_of (codes "number") (pairs_of query)))))
 
--- by the round of the path of a card, of a sheet for the wall, and of blank cards
-abbrev pub by_folder : List ℕ → Option RoundId → Option RoundId → Option RoundId → Option Asked
-by_folder query (Some round) wall scorecards = Some (card_asked query round)
-by_folder query None (Some round) scorecards = Some (Page (Wall round))
-by_folder query None None (Some round) = Some (Page (Scorecards round))
-by_folder query None None None = None
+-- by the round of the path of a card, of a sheet for the wall, and of blank cards, and by the
+-- number of the path of a competitor
+abbrev pub by_folder : List ℕ → Option RoundId → Option RoundId → Option RoundId → Option ℕ
+    → Option Asked
+by_folder query (Some round) wall scorecards person = Some (card_asked query round)
+by_folder query None (Some round) scorecards person = Some (Page (Wall round))
+by_folder query None None (Some round) person = Some (Page (Scorecards round))
+by_folder query None None None (Some number) = Some (Page (Person number))
+by_folder query None None None None = None
 
 abbrev pub in_folder : List ℕ → List ℕ → Option Asked
 in_folder path query =
     by_folder query (round_below (codes "/card/") path) (round_below (codes "/wall/") path)
-    (round_below (codes "/scorecards/") path)
+    (round_below (codes "/scorecards/") path) (number_below (codes "/person/") path)
 
 abbrev pub asked_by : Option Asked → Bool → List ℕ → List ℕ → Option Asked
 asked_by (Some asked) rounds path query = Some asked

@@ -11,6 +11,7 @@ use Rattle.entry_views.specs.Page.{IsCardPage}
 use Rattle.hall_views.specs.Importing.{import_page}
 use Rattle.hall_views.specs.Overview.{overview}
 use Rattle.hall_views.specs.People.{IsPeoplePage}
+use Rattle.hall_views.specs.Person.{person_page}
 use Rattle.hall_views.specs.Rounds.{rounds_page}
 use Rattle.origins.specs.Changes.{IsLastChange}
 use Rattle.paper_views.specs.Scorecards.{IsScorecards}
@@ -70,10 +71,12 @@ abbrev pub IsPeople : Around → Option (List ℕ) → Type 0
 IsPeople around None = ⊥
 IsPeople around (Some page) = IsPeoplePage around page
 
--- this is the page, under the title of the hall; none where its round was not opened
+-- this is the page, under the title of the hall; none where its round was not opened, or where
+-- nobody has its number
 abbrev pub IsPage : QueueOf → Around → List ℕ → View → Option (List ℕ) → Type 0
 IsPage q around title view.Overview page = page ≡ Some (overview around)
 IsPage q around title view.People page = IsPeople around page
+IsPage q around title (view.Person number) page = page ≡ person_page around number
 IsPage q around title view.Import page = page ≡ Some (import_page around)
 IsPage q around title (view.Rounds round) page = page ≡ Some (rounds_page around round)
 IsPage q around title (view.Card round number) page = IsCard q around round (draft_of number) page

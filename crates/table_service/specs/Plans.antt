@@ -32,7 +32,7 @@ use Rattle.table_service.specs.declared.plan.Shown.{Shown}
 use Rattle.table_service.specs.declared.plan.Shown.TheVariants as shown
 use Rattle.table_service.specs.declared.reading.Asked.{Asked}
 use Rattle.table_service.specs.declared.reading.Asked.TheVariants as asked
-use Rattle.table_service.specs.Asked.{asked_at, round_below}
+use Rattle.table_service.specs.Asked.{asked_at, number_below, round_below}
 use Rattle.table_service.specs.Checks.{Checks}
 use Rattle.table_service.specs.Pages.{IsCard, IsPage}
 use Rattle.table_service.specs.Requests.{path_of, query_of}
@@ -151,6 +151,7 @@ has_forms path =
     bytes_eq path (codes "/people") || bytes_eq path (codes "/rounds")
     || bytes_eq path (codes "/import")
     || is_some (round_below (codes "/rounds?round=") path)
+    || is_some (number_below (codes "/person/") path)
 
 -- the page to go on with: the form's `back`, where it is one of the pages that have forms
 abbrev pub page_after : List Pair → List ℕ

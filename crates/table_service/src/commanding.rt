@@ -6,7 +6,7 @@ ghost use Rattle.table_service.specs.Plans.{IsWrong, PlansCommand, PlansText, Re
 ghost use Rattle.table_service.specs.Plans.{has_forms, page_after};
 
 use crate::plan::{Effect, Plan, Problem, Shown};
-use crate::reading::round_below;
+use crate::reading::{number_below, round_below};
 use card_forms::{CommandForm, CommandFormFault, CommandTexts, Item, Pairs, command_form};
 use card_queue::CardQueue;
 use hall_views::refused_page;
@@ -21,6 +21,7 @@ fn has_forms(path: &[u8]) -> bool
         || path == b"/rounds".as_slice()
         || path == b"/import".as_slice()
         || round_below(path, b"/rounds?round=").is_some()
+        || number_below(path, b"/person/").is_some()
 }
 
 /// The page to go on with: the form's `back`, where it is one of the pages that have forms.

@@ -1,12 +1,15 @@
 //! The pages that stand at paths.
 
 ghost use Rattle.std.specs.Prelude.{◌≡◌, IfOk};
-ghost use Rattle.table_service.specs.Asked.{asked_at, card_asked, fixed, in_folder, round_below};
-ghost use Rattle.table_service.specs.Asked.{rounds_asked};
+ghost use Rattle.table_service.specs.Asked.{asked_at, card_asked, fixed, in_folder, number_below};
+ghost use Rattle.table_service.specs.Asked.{round_below, rounds_asked};
 
 use card_forms::{Pairs, number_of, round_of};
 use std::alloc::{AllocError, Global};
-use texts::RoundId;
+use texts::{RoundId, number_between};
+
+/// The greatest number of a competitor.
+const LAST_NUMBER: u64 = 9_999;
 
 /// A page that is made of the mirror.
 #[derive(Clone, Copy)]
@@ -21,6 +24,8 @@ pub(crate) enum View {
     Scorecards(RoundId),
     /// `/people`.
     People,
+    /// `/person/17`: a competitor.
+    Person(u16),
     /// `/import`: a competition's file, or lines of commands.
     Import,
     /// `/rounds`, of one round where `?round=333-1` names one.
@@ -47,7 +52,17 @@ pub(crate) fn round_below(path: &[u8], folder: &[u8]) -> Option<RoundId>
     }
 }
 
-/// What stands at a path that names no round, and has no query.
+/// The competitor's number of a path below a folder.
+pub(crate) fn number_below(path: &[u8], folder: &[u8]) -> Option<u16>
+    ensures { result ≡ number_below folder.now path.now }
+{
+    match path.strip_prefix(folder) {
+        Some(digits) => Some(number_between(1, LAST_NUMBER, digits)? as u16),
+        None => None,
+    }
+}
+
+/// What stands at a path that names no round and no competitor, and has no query.
 fn fixed(path: &[u8]) -> Option<Asked>
     ensures { result ≡ fixed path.now }
 {
@@ -86,7 +101,7 @@ fn card_asked(alloc: Global, query: &[u8], round: RoundId) -> Result<Asked, Allo
     Ok(Asked::Page(View::Card { round, number }))
 }
 
-/// What stands at the path of a round.
+/// What stands at the path of a round or of a competitor.
 fn in_folder(alloc: Global, path: &[u8], query: &[u8]) -> Result<Option<Asked>, AllocError>
     ensures { IfOk result (λ asked. asked ≡ in_folder path.now query.now) }
 {
@@ -97,8 +112,11 @@ fn in_folder(alloc: Global, path: &[u8], query: &[u8]) -> Result<Option<Asked>, 
     if let Some(round) = round_below(path, b"/wall/") {
         return Ok(Some(Asked::Page(View::Wall(round))));
     }
-    match round_below(path, b"/scorecards/") {
-        Some(round) => Ok(Some(Asked::Page(View::Scorecards(round)))),
+    if let Some(round) = round_below(path, b"/scorecards/") {
+        return Ok(Some(Asked::Page(View::Scorecards(round))));
+    }
+    match number_below(path, b"/person/") {
+        Some(number) => Ok(Some(Asked::Page(View::Person(number)))),
         None => Ok(None),
     }
 }

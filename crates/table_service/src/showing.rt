@@ -12,7 +12,7 @@ use crate::reading::{Asked, View, asked_at};
 use bytes::Bytes;
 use card_queue::CardQueue;
 use entry_views::Draft;
-use hall_views::{import_page, overview, people_page, rounds_page};
+use hall_views::{import_page, overview, people_page, person_page, rounds_page};
 use http::Request;
 use paper_views::{scorecards, wall_sheet};
 use std::alloc::{AllocError, Global};
@@ -28,7 +28,7 @@ fn draft_of<'a>(number: Option<u16>) -> Draft<'a>
     }
 }
 
-/// A page. None where its round was not opened.
+/// A page. None where its round was not opened, or where nobody has its number.
 fn page_of(
     alloc: Global,
     queue: &CardQueue,
@@ -42,6 +42,7 @@ fn page_of(
     match view {
         View::Overview => Ok(Some(overview(alloc, around)?)),
         View::People => Ok(Some(people_page(alloc, around)?)),
+        View::Person(number) => person_page(alloc, around, number),
         View::Import => Ok(Some(import_page(alloc, around)?)),
         View::Rounds(round) => Ok(Some(rounds_page(alloc, around, round)?)),
         View::Card { round, number } => card(alloc, queue, around, round, draft_of(number)),

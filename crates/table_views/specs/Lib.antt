@@ -1,5 +1,6 @@
 pub mod Desks
 pub mod Hidden
+pub mod Leaving
 pub mod Bar
 pub mod Frame
 pub mod People

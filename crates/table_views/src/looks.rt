@@ -232,14 +232,14 @@ function empty() {
 function open(row, typed) {
   const standing = $('blind').checked ? [] : fields.map((field, place) => cell(row, 5 + place));
   show(cell(row, 1), cell(row, 2), standing, typed);
-  if (standing.some((text) => text !== '-')) tell(row);
+  tell(row);
   enter(fields.find((field) => !field.disabled && field.value === '') || fields[0]);
 }
-// Says by which entry of the log a card stands so.
+// Says by which entry of the log a card stands so, and where one without attempts is withdrawn.
 async function tell(row) {
   const answer = await fetch(location.pathname + '?number=' + cell(row, 1)).catch(() => null);
-  const origin = answer && pageOf(await answer.text()).querySelector('.origin');
-  if (origin && $('number').value === cell(row, 1) && !$('blind').checked) form.prepend(origin);
+  const said = answer ? all('.origin', pageOf(await answer.text())) : [];
+  if ($('number').value === cell(row, 1) && !$('blind').checked) form.prepend(...said);
 }
 // Those of whose name one part begins so.
 function candidates() {

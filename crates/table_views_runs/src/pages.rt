@@ -6,7 +6,8 @@ use card_forms::{FormId, NumberFault, Recent, round_of};
 use derivation::CardFault;
 use entry_views::{Draft, Note, Origin, card_page};
 use hall_views::{
-    Tried, faults_page, import_page, overview, people_page, preview_page, refused_page, rounds_page,
+    Tried, faults_page, import_page, overview, people_page, person_page, preview_page,
+    refused_page, rounds_page,
 };
 use paper_views::{scorecards, wall_sheet};
 use std::alloc::{AllocError, Global};
@@ -98,6 +99,10 @@ fn page_at(
     }
     if let Some(rest) = path.strip_prefix(b"/rounds?round=".as_slice()) {
         return Ok(Some(rounds_page(alloc, around, round_of(rest))?));
+    }
+    if let Some(rest) = path.strip_prefix(b"/person/".as_slice()) {
+        let number = number(rest).unwrap_or(0).min(9_999) as u16;
+        return person_page(alloc, around, number);
     }
     if let Some(rest) = path.strip_prefix(b"/wall/".as_slice()) {
         return match round_of(rest) {

@@ -1,6 +1,8 @@
 -- When a text is too long, and when it is no command: no field is at fault then.
 use Rattle.std.proofs.Common.{◌≡◌, ℕ, ◌<◌, ◌≤◌, ◌⊎◌, inl, inr, Bool, true, false, ◌||◌, cond}
-use Rattle.std.proofs.Common.{nat_lt, List, length, codes, bytes_eq, Option, Some, None, Result, Ok}
+use Rattle.std.specs.List.{list_any}
+use Rattle.std.proofs.Common.{nat_lt, List, [], ◌∷◌, length, codes, bytes_eq, Option, Some, None}
+use Rattle.std.proofs.Common.{Result, Ok}
 use Rattle.std.proofs.Common.{Err, refl, sym, ◌∙◌, subst, arith, ◌↔◌}
 use Rattle.std.specs.Option.{ok_or}
 use Rattle.std.proofs.lemmas.Bool.{false≢true}
@@ -11,7 +13,9 @@ use Rattle.texts.specs.declared.reading.CommandFault.TheVariants as fault
 use Rattle.texts.specs.Fields.{cut}
 use Rattle.texts.specs.Reading.{◌>>=◌, field, last_field, no_field, register_of, round_of, open_of}
 use Rattle.texts.specs.Reading.{enter_of, scramble_of, entry_of, attempt_of, correct_of, strike_of}
-use Rattle.texts.specs.Reading.{set_advance_of, close_of, set_edition_of, is_word, by_word}
+use Rattle.texts.specs.Reading.{set_advance_of, close_of, set_edition_of, rename_of, set_round_of}
+use Rattle.texts.specs.Reading.{rescramble_of, withdraw_of, reopen_of, is_word, by_new_word}
+use Rattle.texts.specs.Reading.{by_word}
 use Rattle.texts.specs.Reading.{command_of, TakesMemory, Gives}
 
 -- what is read of fields: a value, or a field at fault
@@ -116,6 +120,34 @@ unfolding set_edition_of
 set_edition left =
     then _ _ (field-IsOfFields _ _ left) (λ e. then _ _ (none-IsOfFields _ e.1) (λ u. tt))
 
+rename : (left : Option (List ℕ)) → IsOfFields (rename_of left)
+unfolding rename_of
+rename left =
+    then _ _ (field-IsOfFields _ _ left) (λ n. then _ _ (last-IsOfFields _ _ n.1) (λ name. tt))
+
+set_round : (left : Option (List ℕ)) → IsOfFields (set_round_of left)
+unfolding set_round_of
+set_round left =
+    then _ _ (round left)
+    (λ id. then _ _ (field-IsOfFields _ _ id.1) (λ f. then _ _ (field-IsOfFields _ _ f.1)
+    (λ c. then _ _ (field-IsOfFields _ _ c.1) (λ l. then _ _ (none-IsOfFields _ l.1) (λ u. tt)))))
+
+rescramble : (left : Option (List ℕ)) → IsOfFields (rescramble_of left)
+unfolding rescramble_of
+rescramble left =
+    then _ _ (round left)
+    (λ id. then _ _ (field-IsOfFields _ _ id.1) (λ k. then _ _ (last-IsOfFields _ _ k.1) (λ m. tt)))
+
+withdraw : (left : Option (List ℕ)) → IsOfFields (withdraw_of left)
+unfolding withdraw_of
+withdraw left =
+    then _ _ (round left)
+    (λ id. then _ _ (field-IsOfFields _ _ id.1) (λ n. then _ _ (none-IsOfFields _ n.1) (λ u. tt)))
+
+reopen : (left : Option (List ℕ)) → IsOfFields (reopen_of left)
+unfolding reopen_of
+reopen left = then _ _ (round left) (λ id. then _ _ (none-IsOfFields _ id.1) (λ u. tt))
+
 -- What is said where no word stands is said of no word.
 
 word-short : (b : Bool) (read others : Result Command CommandFault) → IsOfFields read
@@ -123,6 +155,15 @@ word-short : (b : Bool) (read others : Result Command CommandFault) → IsOfFiel
 word-short false read others h other e = other e
 word-short true read others h other e =
     subst (λ (r : Result Command CommandFault). IsOfFields r) e h
+
+by_new_word-short : (text : List ℕ × Option (List ℕ)) → by_new_word text ≡ Err fault.TooLong → ⊥
+by_new_word-short text =
+    word-short (bytes_eq text.0 (codes "REN")) (rename_of text.1) _ (rename text.1)
+    (word-short (bytes_eq text.0 (codes "SET")) (set_round_of text.1) _ (set_round text.1)
+    (word-short (bytes_eq text.0 (codes "RSC")) (rescramble_of text.1) _ (rescramble text.1)
+    (word-short (bytes_eq text.0 (codes "WDR")) (withdraw_of text.1) _ (withdraw text.1)
+    (word-short (bytes_eq text.0 (codes "REOPEN")) (reopen_of text.1) (Err fault.NotACommand)
+    (reopen text.1) (λ e. let bad : Err fault.NotACommand ≡ Err fault.TooLong = e in cc)))))
 
 by_word-short : (text : List ℕ × Option (List ℕ)) → by_word text ≡ Err fault.TooLong → ⊥
 by_word-short text =
@@ -135,9 +176,8 @@ by_word-short text =
     (word-short (bytes_eq text.0 (codes "STR")) (strike_of text.1) _ (strike text.1)
     (word-short (bytes_eq text.0 (codes "ADV")) (set_advance_of text.1) _ (set_advance text.1)
     (word-short (bytes_eq text.0 (codes "CLOSE")) (close_of text.1) _ (close text.1)
-    (word-short (bytes_eq text.0 (codes "EDITION")) (set_edition_of text.1) (Err fault.NotACommand)
-    (set_edition text.1)
-    (λ e. let bad : Err fault.NotACommand ≡ Err fault.TooLong = e in cc))))))))))
+    (word-short (bytes_eq text.0 (codes "EDITION")) (set_edition_of text.1) (by_new_word text)
+    (set_edition text.1) (by_new_word-short text))))))))))
 
 word-none : (b rest : Bool) (read others : Result Command CommandFault) → IsOfFields read
     → (others ≡ Err fault.NotACommand) ↔ (rest ≡ false)
@@ -148,6 +188,21 @@ word-none true rest read others h other = (
   λ e.
       absurd (false≢true (sym e)),
 )
+
+abbrev is_new_word : List ℕ → Bool
+is_new_word bytes =
+    list_any (λ word. bytes_eq bytes word)
+    (codes "REN" ∷ codes "SET" ∷ codes "RSC" ∷ codes "WDR" ∷ codes "REOPEN" ∷ [])
+
+by_new_word-none : (text : List ℕ × Option (List ℕ))
+    → (by_new_word text ≡ Err fault.NotACommand) ↔ (is_new_word text.0 ≡ false)
+by_new_word-none text =
+    word-none (bytes_eq text.0 (codes "REN")) _ (rename_of text.1) _ (rename text.1)
+    (word-none (bytes_eq text.0 (codes "SET")) _ (set_round_of text.1) _ (set_round text.1)
+    (word-none (bytes_eq text.0 (codes "RSC")) _ (rescramble_of text.1) _ (rescramble text.1)
+    (word-none (bytes_eq text.0 (codes "WDR")) _ (withdraw_of text.1) _ (withdraw text.1)
+    (word-none (bytes_eq text.0 (codes "REOPEN")) false (reopen_of text.1) (Err fault.NotACommand)
+    (reopen text.1) (λ e. refl, λ e. refl)))))
 
 by_word-none : (text : List ℕ × Option (List ℕ))
     → (by_word text ≡ Err fault.NotACommand) ↔ (is_word text.0 ≡ false)
@@ -161,8 +216,8 @@ by_word-none text =
     (word-none (bytes_eq text.0 (codes "STR")) _ (strike_of text.1) _ (strike text.1)
     (word-none (bytes_eq text.0 (codes "ADV")) _ (set_advance_of text.1) _ (set_advance text.1)
     (word-none (bytes_eq text.0 (codes "CLOSE")) _ (close_of text.1) _ (close text.1)
-    (word-none (bytes_eq text.0 (codes "EDITION")) false (set_edition_of text.1)
-    (Err fault.NotACommand) (set_edition text.1) (λ e. refl, λ e. refl))))))))))
+    (word-none (bytes_eq text.0 (codes "EDITION")) _ (set_edition_of text.1) (by_new_word text)
+    (set_edition text.1) (by_new_word-none text))))))))))
 
 -- What `read` answers.
 

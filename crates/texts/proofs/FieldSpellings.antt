@@ -1,6 +1,6 @@
 -- A field is read from its one spelling.
-use Rattle.std.proofs.Common.{◌≡◌, ◌↔◌, ℕ, ◌+◌, ◌<◌, ◌≤◌, Bool, true, false, ◌&&◌, ◌==◌, not, cond}
-use Rattle.std.proofs.Common.{nat_le, IsTrue, List, [], ◌∷◌, ◌++◌, length, take, drop, codes}
+use Rattle.std.proofs.Common.{◌≡◌, ◌↔◌, ℕ, ◌+◌, ◌<◌, ◌≤◌, Bool, true, false, ◌&&◌, ◌||◌, ◌==◌, not}
+use Rattle.std.proofs.Common.{cond, nat_le, IsTrue, List, [], ◌∷◌, ◌++◌, length, take, drop, codes}
 use Rattle.std.proofs.Common.{decimal, bytes_eq, Option, Some, None, refl, sym, ap, ◌∙◌, subst}
 use Rattle.std.proofs.Common.{arith, append_assoc, eqb-true, take-append-drop, length-append}
 use Rattle.std.specs.Char.{is_ascii_digit}
@@ -21,10 +21,12 @@ use Rattle.formats.specs.Events.{format_named}
 use Rattle.formats.specs.declared.advance.Advance.{Advance}
 use Rattle.formats.specs.declared.advance.Advance.TheVariants.{Final, Top, Percent}
 use Rattle.texts.specs.Numerals.{digits_value, within}
-use Rattle.texts.specs.Spelling.{is_name, IsWithin, IsFitCutoff, IsFitLimit, IsFitAdvance}
+use Rattle.texts.specs.Names.{has_single_spaces, is_name_byte, is_early_name, is_clear_name}
+use Rattle.texts.specs.Names.{is_name_in, is_name}
+use Rattle.texts.specs.Spelling.{IsWithin, IsFitCutoff, IsFitLimit, IsFitAdvance}
 use Rattle.texts.specs.Spelling.{cutoff_text, limit_text, advance_text}
-use Rattle.texts.specs.Fields.{number_between, name_of, cutoff_of, limit_of, advance_of, cut}
-use Rattle.texts.specs.Fields.{pair_with, second_number, two_numbers}
+use Rattle.texts.specs.Fields.{number_between, name_of, new_name_of, cutoff_of, limit_of}
+use Rattle.texts.specs.Fields.{advance_of, cut, pair_with, second_number, two_numbers}
 use Rattle.texts.proofs.Numerals.{own, number_between-decimal}
 use Rattle.texts.proofs.Cuts.{and-true, lacks, behind, cut_spelled, cut-behind}
 use Rattle.texts.proofs.Spelled.{IsSpelled, chosen, bytes_eq-equal, find-only}
@@ -107,8 +109,52 @@ name_spelled = record {
   found = λ bytes fits. rw fits refl;
 }
 
-pub name_short : (bytes : List ℕ) → IsTrue (is_name bytes) → length bytes ≤ 80
-name_short bytes fits = grind (arith, nat_tests)
+pub new_name_spelled
+    : IsSpelled new_name_of (λ bytes. bytes) (λ bytes. IsTrue (is_name_in 3 bytes))
+unfolding new_name_of
+new_name_spelled = record {
+  only = λ bytes x h.
+      let yes = chosen (is_name_in 3 bytes) (Some bytes) None x h refl in
+      let same : bytes ≡ x = let e = yes.1 in cc in
+      (subst (λ (y : List ℕ). is_name_in 3 y ≡ true) same yes.0, same);
+  found = λ bytes fits. rw fits refl;
+}
+
+-- how long a name is in editions 1 and 2, in edition 3, and in some edition
+pub early_name_short : (bytes : List ℕ) → IsTrue (is_early_name bytes) → length bytes ≤ 80
+early_name_short bytes fits = grind (arith, nat_tests)
+
+pub new_name_short : (bytes : List ℕ) → IsTrue (is_name_in 3 bytes) → length bytes ≤ 160
+unfolding is_clear_name
+new_name_short bytes fits = grind (arith, nat_tests)
+
+pub name_short : (bytes : List ℕ) → IsTrue (is_name bytes) → length bytes ≤ 160
+name_short bytes fits = step (is_early_name bytes) refl fits
+  where
+    step : (b : Bool) → is_early_name bytes ≡ b → (b || is_clear_name bytes) ≡ true
+        → length bytes ≤ 160
+    step true is h = let few = early_name_short bytes is in omega arith
+    step false is h = new_name_short bytes h
+
+-- no byte of a name is a control character of ASCII
+early_name_bytes : (bytes : List ℕ) → IsTrue (is_early_name bytes)
+    → list_all is_name_byte bytes ≡ true
+early_name_bytes bytes fits =
+    (and-true _ (list_all is_name_byte bytes) (and-true _ (has_single_spaces bytes) fits).0).1
+
+pub new_name_bytes : (bytes : List ℕ) → IsTrue (is_name_in 3 bytes)
+    → list_all is_name_byte bytes ≡ true
+unfolding is_clear_name
+new_name_bytes bytes fits =
+    (and-true _ (list_all is_name_byte bytes) (and-true _ (has_single_spaces bytes) fits).0).1
+
+pub name_bytes : (bytes : List ℕ) → IsTrue (is_name bytes) → list_all is_name_byte bytes ≡ true
+name_bytes bytes fits = step (is_early_name bytes) refl fits
+  where
+    step : (b : Bool) → is_early_name bytes ≡ b → (b || is_clear_name bytes) ≡ true
+        → list_all is_name_byte bytes ≡ true
+    step true is h = early_name_bytes bytes is
+    step false is h = new_name_bytes bytes h
 
 -- Events and formats.
 

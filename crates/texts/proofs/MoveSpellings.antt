@@ -19,7 +19,8 @@ use Rattle.notation.specs.declared.reading.ReadFault.{ReadFault}
 use Rattle.notation.specs.declared.reading.ReadFault.TheVariants.{NoMemory}
 use Rattle.notation.specs.Tokens.{token}
 use Rattle.notation.specs.Notation.{Spells, IsUnlessNoMemory, spelling as moves_text}
-use Rattle.texts.specs.Spelling.{has_single_spaces, AreMoves}
+use Rattle.texts.specs.Names.{has_single_spaces}
+use Rattle.texts.specs.Spelling.{AreMoves}
 use Rattle.texts.specs.Fields.{every_move, move_by, move_of, all_of, at_most_400, moves_of}
 use Rattle.texts.proofs.Cuts.{and-true, lacks}
 use Rattle.texts.proofs.Spelled.{IsSpelled, chosen, find-only}

@@ -1,13 +1,11 @@
--- What edition 1 reads is what both read, but for what edition 2 adds.
+-- What edition 1 read is what is read now, but for what later editions add.
 use Rattle.std.proofs.Common.{◌≡◌, ◌↔◌, ◌⊎◌, inl, inr, ℕ, Bool, true, false, ◌==◌, cond, nat_lt}
 use Rattle.std.proofs.Common.{List, [], ◌∷◌, ◌++◌, length, take, drop, find, codes, bytes_eq}
 use Rattle.std.proofs.Common.{Option, Some, None, Result, Ok, Err, refl, sym, ap, ◌∙◌, subst, arith}
 use Rattle.std.specs.Prelude.{max, nat_le}
 use Rattle.std.specs.List.{list_all}
-use Rattle.std.specs.Fmt.{digits}
 use Rattle.std.specs.Option.{option_map, option_and_then, ok_or}
 use Rattle.std.proofs.Math.Nat.{le-max_left}
-use Rattle.std.proofs.lemmas.List.{append-nil}
 use Rattle.std.proofs.lemmas.Bool.Decides.{nat_tests}
 use Rattle.cube.specs.declared.moves.Move.{Move}
 use Rattle.formats.specs.declared.events.Event.{Event}
@@ -15,7 +13,7 @@ use Rattle.formats.specs.declared.events.Event.TheVariants.{MultiBlind}
 use Rattle.formats.specs.Events.{events, event_name, event_named, event_of_name, event_edition}
 use Rattle.formats.specs.Events.{format_named}
 use Rattle.texts.specs.declared.command.Command.{Command}
-use Rattle.texts.specs.declared.command.Command.TheVariants.{Attempt, Correct, SetEdition}
+use Rattle.texts.specs.declared.command.Command.TheVariants.{Attempt, Correct}
 use Rattle.texts.specs.declared.command.RoundId.{RoundId}
 use Rattle.texts.specs.declared.command.AttemptEntry.{AttemptEntry}
 use Rattle.texts.specs.declared.command.Entered.{Entered}
@@ -23,58 +21,25 @@ use Rattle.texts.specs.declared.command.Entered.TheVariants.{Solution, Multi, Dn
 use Rattle.texts.specs.declared.reading.CommandFault.{CommandFault}
 use Rattle.texts.specs.declared.reading.CommandFault.TheVariants as fault
 use Rattle.formats.specs.Events.{last_round}
-use Rattle.texts.specs.Editions.{edition_of, entered_edition}
-use Rattle.texts.specs.EditionLaws.{ReadsAsBefore}
-use Rattle.texts.specs.Fields.{cut, number_between, name_of, cutoff_of, limit_of, advance_of}
+use Rattle.texts.specs.Editions.{entered_edition, is_spelled_in}
+use Rattle.texts.specs.EditionLaws.{ReadsAsFirst}
+use Rattle.texts.specs.Fields.{cut, number_between, cutoff_of, limit_of, advance_of}
 use Rattle.texts.specs.Fields.{two_numbers, moves_of, time_with, time_of, multi_with, attempted_of}
 use Rattle.texts.specs.Fields.{multi_of, entered_of, round_id, attempt_entry}
-use Rattle.texts.specs.Reading.{◌>>=◌, field, last_field, no_field, register_of, round_of, open_of}
+use Rattle.texts.specs.Reading.{◌>>=◌, field, last_field, no_field, round_of, open_of}
 use Rattle.texts.specs.Reading.{enter_of, scramble_of, entry_of, attempt_of, correct_of, strike_of}
-use Rattle.texts.specs.Reading.{set_advance_of, close_of, set_edition_of, by_word, command_of}
+use Rattle.texts.specs.Reading.{set_advance_of, close_of, set_edition_of, by_new_word, by_word}
+use Rattle.texts.specs.Reading.{command_of}
 use Rattle.texts.specs.FirstEdition as first
 use Rattle.texts.proofs.Cuts.{behind, cut_spelled, and-true}
 use Rattle.texts.proofs.Spelled.{bytes_eq-equal}
 use Rattle.texts.proofs.Flat.{round_flat, entry_flat}
-use Rattle.texts.proofs.TakenFields.{field_only, none_only, ok_equal}
-use Rattle.texts.proofs.Words.{edition, spelled_only}
-
--- what edition 1 reads and what both read are the same but for commands of edition 2
-abbrev Alike : Result Command CommandFault → Result Command CommandFault → Type 0
-Alike before now = (c : Command) → (before ≡ Ok c) ↔ ((now ≡ Ok c) × (edition_of c ≡ 1))
-
-no_command : {A : Type 0} (e : CommandFault) (c : Command)
-    → (let r : Result Command CommandFault = Err e in r) ≡ Ok c → A
-no_command e c h = absurd (let bad : Err e ≡ Ok c = h in cc)
-
--- where nothing is read before, and nothing of edition 1 now
-none_before : (e : CommandFault) (now : Result Command CommandFault)
-    → ((c : Command) → now ≡ Ok c → edition_of c ≡ 1 → ⊥) → Alike (Err e) now
-none_before e now none c = (λ h. no_command e c h, λ h. absurd (none c h.0 h.1))
-
-both_none : (e f : CommandFault) → Alike (Err e) (Err f)
-both_none e f = none_before e (Err f) (λ c h one. no_command f c h)
-
--- what is read of one edition, in both
-abbrev IsOfEdition : ℕ → Result Command CommandFault → Type 0
-IsOfEdition edition r = (c : Command) → r ≡ Ok c → edition_of c ≡ edition
-
-same_alike : (r : Result Command CommandFault) → IsOfEdition 1 r → Alike r r
-same_alike r one c = (λ h. (h, one c h), λ h. h.0)
-
-then_edition : {A : Type 0} (n : ℕ) (r : Result A CommandFault)
-    (f : A → Result Command CommandFault)
-    → ((x : A) → IsOfEdition n (f x)) → IsOfEdition n (r >>= f)
-then_edition n (Ok x) f each c h = each x c h
-then_edition n (Err e) f each c h = no_command e c h
-
-ok_edition : (n : ℕ) (c : Command) → edition_of c ≡ n
-    → (let r : Result Command CommandFault = Ok c in IsOfEdition n r)
-ok_edition n c is d h = ap edition_of (sym (ok_equal c d h)) ∙ is
-
-then_alike : {A : Type 0} (r : Result A CommandFault) (f g : A → Result Command CommandFault)
-    → ((x : A) → Alike (f x) (g x)) → Alike (r >>= f) (r >>= g)
-then_alike (Ok x) f g each = each x
-then_alike (Err e) f g each = both_none e e
+use Rattle.texts.proofs.TakenFields.{ok_equal}
+use Rattle.texts.proofs.EachRead.{Each, then_each, ok_each, IsOfEdition, Alike, none_before}
+use Rattle.texts.proofs.EachRead.{both_none, same_alike, then_alike, word_alike, and_true}
+use Rattle.texts.proofs.NewReads.{register_alike, no_edition, new_word_alike}
+use Rattle.texts.specs.Names.{is_early_name}
+use Rattle.std.proofs.lemmas.Bool.{false≢true}
 
 -- Events.
 
@@ -109,10 +74,11 @@ named text = named_in (λ e. bytes_eq (event_name e) text) events refl
 
 -- an event's field, and what is read after it: of the event's edition or a later one
 event_field : (left : Option (List ℕ)) (f g : Event × Option (List ℕ) → Result Command CommandFault)
-    → ((x : Event × Option (List ℕ)) → event_edition x.0 ≡ 1 → Alike (f x) (g x))
-    → ((rest : Option (List ℕ)) (c : Command) → g (MultiBlind, rest) ≡ Ok c → edition_of c ≡ 1 → ⊥)
-    → Alike (field 1 event_named left >>= f) (field 1 event_of_name left >>= g)
-event_field None f g alike later = both_none (fault.BadField 1) (fault.BadField 1)
+    → ((x : Event × Option (List ℕ)) → event_edition x.0 ≡ 1 → Alike 1 (f x) (g x))
+    → ((rest : Option (List ℕ)) (c : Command) → g (MultiBlind, rest) ≡ Ok c
+    → is_spelled_in 1 c ≡ true → ⊥)
+    → Alike 1 (field 1 event_named left >>= f) (field 1 event_of_name left >>= g)
+event_field None f g alike later = both_none 1 (fault.BadField 1) (fault.BadField 1)
 event_field (Some bytes) f g alike later =
     step (event_named text) (event_of_name text) (named text)
   where
@@ -126,25 +92,25 @@ event_field (Some bytes) f g alike later =
     read o = ok_or o (fault.BadField 1) >>= (λ e. Ok (e, rest))
 
     step : (before now : Option Event) → Named before now
-        → Alike (read before >>= f) (read now >>= g)
+        → Alike 1 (read before >>= f) (read now >>= g)
     step (Some e) now h =
-        subst (λ (o : Option Event). Alike (f (e, rest)) (read o >>= g)) (sym h.0)
+        subst (λ (o : Option Event). Alike 1 (f (e, rest)) (read o >>= g)) (sym h.0)
         (alike (e, rest) h.1)
     step None now (inl h) =
-        subst (λ (o : Option Event). Alike (Err (fault.BadField 1)) (read o >>= g)) (sym h)
-        (both_none (fault.BadField 1) (fault.BadField 1))
+        subst (λ (o : Option Event). Alike 1 (Err (fault.BadField 1)) (read o >>= g)) (sym h)
+        (both_none 1 (fault.BadField 1) (fault.BadField 1))
     step None now (inr h) =
-        subst (λ (o : Option Event). Alike (Err (fault.BadField 1)) (read o >>= g)) (sym h)
-        (none_before (fault.BadField 1) (g (MultiBlind, rest)) (λ c. later rest c))
+        subst (λ (o : Option Event). Alike 1 (Err (fault.BadField 1)) (read o >>= g)) (sym h)
+        (none_before 1 (fault.BadField 1) (g (MultiBlind, rest)) (λ c. later rest c))
 
 -- a word whose edition is its event's
 by_event : (left : Option (List ℕ)) (f : Event × Option (List ℕ) → Result Command CommandFault)
-    → ((x : Event × Option (List ℕ)) → IsOfEdition (event_edition x.0) (f x))
-    → Alike (field 1 event_named left >>= f) (field 1 event_of_name left >>= f)
+    → ((x : Event × Option (List ℕ)) → IsOfEdition 1 (event_edition x.0) (f x))
+    → Alike 1 (field 1 event_named left >>= f) (field 1 event_of_name left >>= f)
 by_event left f each =
     event_field left f f
-    (λ x one. same_alike (f x) (subst (λ (n : ℕ). IsOfEdition n (f x)) one (each x)))
-    (λ rest c h one. let two = each (MultiBlind, rest) c h in absurd (omega (arith, one, two)))
+    (λ x one. same_alike 1 (f x) (subst (λ (n : ℕ). IsOfEdition 1 n (f x)) one (each x)))
+    (λ rest c h spelled. absurd (false≢true (sym ((each (MultiBlind, rest)).of c h) ∙ spelled)))
 
 -- Outcomes.
 
@@ -218,206 +184,179 @@ entering bytes =
 
 -- the last field, an outcome, of a command that is of the first edition but for it
 outcome_field : (index : ℕ) (left : Option (List ℕ)) (make : Entered → Command)
-    → ((x : Entered) → edition_of (make x) ≡ max 1 (entered_edition x))
-    → Alike (last_field index first.entered_of left >>= (λ x. Ok (make x)))
+    → ((x : Entered) → is_spelled_in 1 (make x) ≡ nat_le (max 1 (entered_edition x)) 1)
+    → Alike 1 (last_field index first.entered_of left >>= (λ x. Ok (make x)))
     (last_field index entered_of left >>= (λ x. Ok (make x)))
-outcome_field index None make of = both_none (fault.BadField index) (fault.BadField index)
+outcome_field index None make of = both_none 1 (fault.BadField index) (fault.BadField index)
 outcome_field index (Some bytes) make of =
     step (first.entered_of bytes) (entered_of bytes) (entering bytes)
   where
     read : Option Entered → Result Command CommandFault
     read o = ok_or o (fault.BadField index) >>= (λ x. Ok (make x))
 
-    later : (o : Option Entered) → IsOfOutcomes 2 o → Alike (Err (fault.BadField index)) (read o)
-    later None two = both_none (fault.BadField index) (fault.BadField index)
+    later : (o : Option Entered) → IsOfOutcomes 2 o → Alike 1 (Err (fault.BadField index)) (read o)
+    later None two = both_none 1 (fault.BadField index) (fault.BadField index)
     later (Some x) two =
-        none_before (fault.BadField index) (Ok (make x)) (λ c h one.
+        none_before 1 (fault.BadField index) (Ok (make x)) (λ c h one.
         let same : make x ≡ c = ok_equal (make x) c h in
-        let here : edition_of (make x) ≡ 2 = of x ∙ ap (max 1) (two x refl) in
-        absurd (let bad : 1 ≡ 2 = sym one ∙ ap edition_of (sym same) ∙ here in omega (arith, bad)))
+        let here : is_spelled_in 1 (make x) ≡ false =
+        of x ∙ ap (λ (n : ℕ). nat_le (max 1 n) 1) (two x refl) in
+        absurd (false≢true (sym here ∙ ap (is_spelled_in 1) same ∙ one)))
 
-    step : (before now : Option Entered) → Entering before now → Alike (read before) (read now)
+    step : (before now : Option Entered) → Entering before now → Alike 1 (read before) (read now)
     step (Some x) now h =
-        subst (λ (o : Option Entered). Alike (Ok (make x)) (read o)) (sym h.0)
-        (same_alike (Ok (make x)) (ok_edition 1 (make x) (of x ∙ ap (max 1) h.1)))
+        subst (λ (o : Option Entered). Alike 1 (Ok (make x)) (read o)) (sym h.0)
+        (same_alike 1 (Ok (make x))
+        (ok_each _ (make x) (of x ∙ ap (λ (n : ℕ). nat_le (max 1 n) 1) h.1)))
     step None now h = later now h
 
 -- Words.
 
 -- a word with a round in front, whose edition is that of the round's event
 by_round : (left : Option (List ℕ)) (f : RoundId × Option (List ℕ) → Result Command CommandFault)
-    → ((id : RoundId × Option (List ℕ)) → IsOfEdition (event_edition id.0.event) (f id))
-    → Alike
+    → ((id : RoundId × Option (List ℕ)) → IsOfEdition 1 (event_edition id.0.event) (f id))
+    → Alike 1
     (field 1 event_named left >>= (λ e. field 2 (number_between 1 last_round) e.1
     >>= (λ r. f (round_id e.0 r.0, r.1))))
     (round_of left >>= f)
 by_round left f each =
-    subst (Alike _) (sym (round_flat left f))
+    subst (Alike 1 _) (sym (round_flat left f))
     (by_event left _
-    (λ e. then_edition _ (field 2 (number_between 1 last_round) e.1) _
+    (λ e. then_each _ (field 2 (number_between 1 last_round) e.1) _
     (λ r. each (round_id e.0 r.0, r.1))))
 
-opening : (left : Option (List ℕ)) → Alike (first.open_of left) (open_of left)
+opening : (left : Option (List ℕ)) → Alike 1 (first.open_of left) (open_of left)
 unfolding open_of first.open_of
 opening left =
     by_round left _
-    (λ id. then_edition _ (field 3 format_named id.1) _
-    (λ f. then_edition _ (field 4 cutoff_of f.1) _
-    (λ k. then_edition _ (field 5 limit_of k.1) _
-    (λ l. then_edition _ (field 6 advance_of l.1) _
-    (λ a. then_edition _ (no_field 7 a.1) _ (λ end. ok_edition _ _ refl))))))
+    (λ id. then_each _ (field 3 format_named id.1) _
+    (λ f. then_each _ (field 4 cutoff_of f.1) _
+    (λ k. then_each _ (field 5 limit_of k.1) _
+    (λ l. then_each _ (field 6 advance_of l.1) _
+    (λ a. then_each _ (no_field 7 a.1) _ (λ end. ok_each _ _ refl))))))
 
-enter : (left : Option (List ℕ)) → Alike (first.enter_of left) (enter_of left)
+enter : (left : Option (List ℕ)) → Alike 1 (first.enter_of left) (enter_of left)
 unfolding enter_of first.enter_of
 enter left =
     by_event left _
-    (λ e. then_edition _ (field 2 (number_between 1 9999) e.1) _
-    (λ n. then_edition _ (no_field 3 n.1) _ (λ end. ok_edition _ _ refl)))
+    (λ e. then_each _ (field 2 (number_between 1 9999) e.1) _
+    (λ n. then_each _ (no_field 3 n.1) _ (λ end. ok_each _ _ refl)))
 
-scramble : (left : Option (List ℕ)) → Alike (first.scramble_of left) (scramble_of left)
+scramble : (left : Option (List ℕ)) → Alike 1 (first.scramble_of left) (scramble_of left)
 unfolding scramble_of first.scramble_of
 scramble left =
     by_round left _
-    (λ id. then_edition _ (field 3 (number_between 1 5) id.1) _
-    (λ k. then_edition _ (last_field 4 moves_of k.1) _ (λ moves. ok_edition _ _ refl)))
+    (λ id. then_each _ (field 3 (number_between 1 5) id.1) _
+    (λ k. then_each _ (last_field 4 moves_of k.1) _ (λ moves. ok_each _ _ refl)))
 
-strike : (left : Option (List ℕ)) → Alike (first.strike_of left) (strike_of left)
+strike : (left : Option (List ℕ)) → Alike 1 (first.strike_of left) (strike_of left)
 unfolding strike_of first.strike_of
 strike left =
     by_round left _
-    (λ id. then_edition _ (field 3 (number_between 1 9999) id.1) _
-    (λ n. then_edition _ (no_field 4 n.1) _ (λ end. ok_edition _ _ refl)))
+    (λ id. then_each _ (field 3 (number_between 1 9999) id.1) _
+    (λ n. then_each _ (no_field 4 n.1) _ (λ end. ok_each _ _ refl)))
 
-set_advance : (left : Option (List ℕ)) → Alike (first.set_advance_of left) (set_advance_of left)
+set_advance : (left : Option (List ℕ)) → Alike 1 (first.set_advance_of left) (set_advance_of left)
 unfolding set_advance_of first.set_advance_of
 set_advance left =
     by_round left _
-    (λ id. then_edition _ (field 3 advance_of id.1) _
-    (λ a. then_edition _ (no_field 4 a.1) _ (λ end. ok_edition _ _ refl)))
+    (λ id. then_each _ (field 3 advance_of id.1) _
+    (λ a. then_each _ (no_field 4 a.1) _ (λ end. ok_each _ _ refl)))
 
-close : (left : Option (List ℕ)) → Alike (first.close_of left) (close_of left)
+close : (left : Option (List ℕ)) → Alike 1 (first.close_of left) (close_of left)
 unfolding close_of first.close_of
 close left =
-    by_round left _ (λ id. then_edition _ (no_field 3 id.1) _ (λ end. ok_edition _ _ refl))
-
-two_or_more : (n : ℕ) → max 2 n ≡ 1 → ⊥
-two_or_more n h = let least = le-max_left 2 n in omega (arith, least, h)
+    by_round left _ (λ id. then_each _ (no_field 3 id.1) _ (λ end. ok_each _ _ refl))
 
 -- nothing of edition 1 is read
 abbrev IsLater : Result Command CommandFault → Type 0
-IsLater r = (c : Command) → r ≡ Ok c → edition_of c ≡ 1 → ⊥
+IsLater r = Each (λ c. is_spelled_in 1 c ≡ false) r
 
-then_later : {A : Type 0} (r : Result A CommandFault) (f : A → Result Command CommandFault)
-    → ((x : A) → IsLater (f x)) → IsLater (r >>= f)
-then_later (Ok x) f each c h one = each x c h one
-then_later (Err e) f each c h one = no_command e c h
-
-ok_later : (c : Command) (n : ℕ) → edition_of c ≡ max 2 n
-    → (let r : Result Command CommandFault = Ok c in IsLater r)
-ok_later c n is d h one = two_or_more n (sym is ∙ ap edition_of (ok_equal c d h) ∙ one)
+two_or_more : (n : ℕ) → nat_le (max 2 n) 1 ≡ false
+two_or_more n = let least = le-max_left 2 n in grind (arith, nat_tests)
 
 -- a word with the fields of an attempt, whose edition is that of its event or of its outcome
 by_entry : (make : AttemptEntry → Command)
     → ((entry : AttemptEntry)
-    → edition_of (make entry)
-    ≡ max (event_edition entry.id.event) (entered_edition entry.outcome))
+    → is_spelled_in 1 (make entry)
+    ≡ nat_le (max (event_edition entry.id.event) (entered_edition entry.outcome)) 1)
     → (left : Option (List ℕ))
-    → Alike
+    → Alike 1
     (field 1 event_named left >>= (λ e. field 2 (number_between 1 last_round) e.1
     >>= (λ r. field 3 (number_between 1 5) r.1 >>= (λ k. field 4 (number_between 1 9999) k.1
     >>= (λ n. last_field 5 first.entered_of n.1
     >>= (λ x. Ok (make (attempt_entry (round_id e.0 r.0) k.0 n.0 x))))))))
     (entry_of left >>= (λ entry. Ok (make entry)))
 by_entry make of left =
-    subst (Alike _) (sym (entry_flat left _ ∙ round_flat left _))
+    subst (Alike 1 _) (sym (entry_flat left _ ∙ round_flat left _))
     (event_field left _ _
-    (λ e one. then_alike (field 2 (number_between 1 last_round) e.1) _ _
-    (λ r. then_alike (field 3 (number_between 1 5) r.1) _ _
-    (λ k. then_alike (field 4 (number_between 1 9999) k.1) _ _
+    (λ e one. then_alike 1 (field 2 (number_between 1 last_round) e.1) _ _
+    (λ r. then_alike 1 (field 3 (number_between 1 5) r.1) _ _
+    (λ k. then_alike 1 (field 4 (number_between 1 9999) k.1) _ _
     (λ n.
     let entry = attempt_entry (round_id e.0 r.0) k.0 n.0 in
     outcome_field 5 n.1 (λ x. make (entry x))
-    (λ x. of (entry x) ∙ ap (λ (m : ℕ). max m (entered_edition x)) one)))))
-    (λ rest. then_later (field 2 (number_between 1 last_round) rest) _
-    (λ r. then_later (field 3 (number_between 1 5) r.1) _
-    (λ k. then_later (field 4 (number_between 1 9999) k.1) _
-    (λ n. then_later (last_field 5 entered_of n.1) _
-    (λ x.
-    let entry = attempt_entry (round_id MultiBlind r.0) k.0 n.0 x in
-    ok_later (make entry) (entered_edition x) (of entry)))))))
+    (λ x. of (entry x) ∙ ap (λ (m : ℕ). nat_le (max m (entered_edition x)) 1) one)))))
+    (λ rest c h one. absurd (false≢true (sym ((later rest).of c h) ∙ one))))
+  where
+    later : (rest : Option (List ℕ))
+        → IsLater (field 2 (number_between 1 last_round) rest
+        >>= (λ r. field 3 (number_between 1 5) r.1 >>= (λ k. field 4 (number_between 1 9999) k.1
+        >>= (λ n. last_field 5 entered_of n.1
+        >>= (λ x. Ok (make (attempt_entry (round_id MultiBlind r.0) k.0 n.0 x)))))))
+    later rest =
+        then_each _ (field 2 (number_between 1 last_round) rest) _
+        (λ r. then_each _ (field 3 (number_between 1 5) r.1) _
+        (λ k. then_each _ (field 4 (number_between 1 9999) k.1) _
+        (λ n. then_each _ (last_field 5 entered_of n.1) _
+        (λ x.
+        let entry = attempt_entry (round_id MultiBlind r.0) k.0 n.0 x in
+        ok_each _ (make entry) (of entry ∙ two_or_more (entered_edition x))))))
 
-attempt : (left : Option (List ℕ)) → Alike (first.attempt_of left) (attempt_of left)
+attempt : (left : Option (List ℕ)) → Alike 1 (first.attempt_of left) (attempt_of left)
 unfolding attempt_of first.attempt_of
 attempt left = by_entry Attempt (λ entry. refl) left
 
-correct : (left : Option (List ℕ)) → Alike (first.correct_of left) (correct_of left)
+correct : (left : Option (List ℕ)) → Alike 1 (first.correct_of left) (correct_of left)
 unfolding correct_of first.correct_of
 correct left = by_entry Correct (λ entry. refl) left
 
-register : (left : Option (List ℕ)) → Alike (register_of left) (register_of left)
-unfolding register_of
-register left =
-    same_alike _
-    (then_edition _ (field 1 (number_between 1 9999) left) _
-    (λ n. then_edition _ (last_field 2 name_of n.1) _ (λ name. ok_edition _ _ refl)))
-
--- the one text that edition 1 reads now and did not read
-edition_text : (left : Option (List ℕ)) (c : Command) → set_edition_of left ≡ Ok c
-    → codes "EDITION" ++ behind 32 left ≡ codes "EDITION 2"
-unfolding set_edition_of digits
-edition_text left c h =
-    let e = field_only edition 1 left _ c h in
-    let end = none_only 2 e.left' _ c e.next in
-    let two : e.value ≡ 2 = omega (arith, e.fits.0, e.fits.1) in
-    rw (e.spelled, end.0, append-nil, two) refl
-
--- a text that sets an edition is `EDITION 2`
-pub edition_spelled : (bytes : List ℕ) (e : ℕ) → command_of bytes ≡ Ok (SetEdition e)
-    → bytes ≡ codes "EDITION 2"
-unfolding digits
-edition_spelled bytes e h =
-    let spelled = spelled_only bytes (SetEdition e) h in
-    let two : e ≡ 2 = omega (arith, spelled.0.0, spelled.0.1) in
-    spelled.1 ∙ rw two refl
-
 -- Texts.
-
-word : (b : Bool) (f g before now : Result Command CommandFault) → Alike f g → Alike before now
-    → Alike (cond b f before) (cond b g now)
-word true f g before now this rest = this
-word false f g before now this rest = rest
 
 by_word_alike : (text : List ℕ × Option (List ℕ))
     → ¬ (text.0 ++ behind 32 text.1 ≡ codes "EDITION 2")
-    → Alike (first.by_word text) (by_word text)
-by_word_alike text other =
-    word (bytes_eq text.0 (codes "REG")) _ _ _ _ (register text.1)
-    (word (bytes_eq text.0 (codes "OPEN")) _ _ _ _ (opening text.1)
-    (word (bytes_eq text.0 (codes "ENT")) _ _ _ _ (enter text.1)
-    (word (bytes_eq text.0 (codes "SCR")) _ _ _ _ (scramble text.1)
-    (word (bytes_eq text.0 (codes "ATT")) _ _ _ _ (attempt text.1)
-    (word (bytes_eq text.0 (codes "COR")) _ _ _ _ (correct text.1)
-    (word (bytes_eq text.0 (codes "STR")) _ _ _ _ (strike text.1)
-    (word (bytes_eq text.0 (codes "ADV")) _ _ _ _ (set_advance text.1)
-    (word (bytes_eq text.0 (codes "CLOSE")) _ _ _ _ (close text.1)
+    → ¬ (text.0 ++ behind 32 text.1 ≡ codes "EDITION 3")
+    → Alike 1 (first.by_word text) (by_word text)
+by_word_alike text two three =
+    word_alike 1 (bytes_eq text.0 (codes "REG")) _ _ _ _
+    (register_alike 1 (λ k name. and_true (is_early_name name)) text.1)
+    (word_alike 1 (bytes_eq text.0 (codes "OPEN")) _ _ _ _ (opening text.1)
+    (word_alike 1 (bytes_eq text.0 (codes "ENT")) _ _ _ _ (enter text.1)
+    (word_alike 1 (bytes_eq text.0 (codes "SCR")) _ _ _ _ (scramble text.1)
+    (word_alike 1 (bytes_eq text.0 (codes "ATT")) _ _ _ _ (attempt text.1)
+    (word_alike 1 (bytes_eq text.0 (codes "COR")) _ _ _ _ (correct text.1)
+    (word_alike 1 (bytes_eq text.0 (codes "STR")) _ _ _ _ (strike text.1)
+    (word_alike 1 (bytes_eq text.0 (codes "ADV")) _ _ _ _ (set_advance text.1)
+    (word_alike 1 (bytes_eq text.0 (codes "CLOSE")) _ _ _ _ (close text.1)
     (last (bytes_eq text.0 (codes "EDITION")) refl)))))))))
   where
     last : (b : Bool) → bytes_eq text.0 (codes "EDITION") ≡ b
-        → Alike (Err fault.NotACommand) (cond b (set_edition_of text.1) (Err fault.NotACommand))
+        → Alike 1 (Err fault.NotACommand) (cond b (set_edition_of text.1) (by_new_word text))
     last true is =
-        none_before fault.NotACommand (set_edition_of text.1) (λ c h one.
-        other (ap (λ (x : List ℕ). x ++ behind 32 text.1)
-        (bytes_eq-equal text.0 (codes "EDITION") is) ∙ edition_text text.1 c h))
-    last false is = both_none fault.NotACommand fault.NotACommand
+        none_before 1 fault.NotACommand (set_edition_of text.1) (λ c h one.
+        no_edition text c (bytes_eq-equal text.0 (codes "EDITION") is) h two three)
+    last false is = new_word_alike 1 refl text
 
-pub reads_as_before : ReadsAsBefore
+pub reads_as_first : ReadsAsFirst
 unfolding command_of first.command_of
-reads_as_before bytes c other =
+reads_as_first bytes c two three =
     step (nat_lt 600 (length bytes))
-    (by_word_alike (cut 32 bytes) (λ h. other (cut_spelled 32 bytes ∙ h)))
+    (by_word_alike (cut 32 bytes)
+    (λ h. two (cut_spelled 32 bytes ∙ h)) (λ h. three (cut_spelled 32 bytes ∙ h)))
   where
-    step : (b : Bool) → Alike (first.by_word (cut 32 bytes)) (by_word (cut 32 bytes))
+    step : (b : Bool) → Alike 1 (first.by_word (cut 32 bytes)) (by_word (cut 32 bytes))
         → (cond b (Err fault.TooLong) (first.by_word (cut 32 bytes)) ≡ Ok c)
-        ↔ ((cond b (Err fault.TooLong) (by_word (cut 32 bytes)) ≡ Ok c) × (edition_of c ≡ 1))
-    step true h = both_none fault.TooLong fault.TooLong c
+        ↔ ((cond b (Err fault.TooLong) (by_word (cut 32 bytes)) ≡ Ok c)
+        × (is_spelled_in 1 c ≡ true))
+    step true h = both_none 1 fault.TooLong fault.TooLong c
     step false h = h c

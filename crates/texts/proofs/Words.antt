@@ -1,88 +1,52 @@
 -- A text is read as a command exactly where it is the spelling of the command.
-use Rattle.std.proofs.Common.{◌≡◌, ℕ, ◌+◌, ◌*◌, ◌≤◌, Bool, true, false, cond, nat_lt, List, [], ◌∷◌}
-use Rattle.std.proofs.Common.{◌++◌, length, codes, decimal, bytes_eq, Option, Some, Result, Ok, Err}
-use Rattle.std.proofs.Common.{refl, sym, ap, ◌∙◌, subst, arith, length-append}
+use Rattle.std.proofs.Common.{◌≡◌, ℕ, ◌≤◌, Bool, true, false, cond, nat_lt, List, [], ◌∷◌}
+use Rattle.std.proofs.Common.{◌++◌, length, codes, decimal, Option, Some, Result, Ok, Err}
+use Rattle.std.proofs.Common.{refl, sym, ap, ◌∙◌, subst, arith}
 use Rattle.std.specs.List.{join_with_byte}
 use Rattle.std.specs.Result.{IfOk}
 use Rattle.std.proofs.lemmas.Bool.Decides.{nat_tests}
 use Rattle.std.proofs.lemmas.List.{append-nil}
 use Rattle.formats.specs.declared.events.Event.{Event}
-use Rattle.formats.specs.Events.{event_name, event_of_name, format_name}
+use Rattle.formats.specs.Events.{event_name, format_name}
 use Rattle.formats.specs.declared.advance.Advance.{Advance}
 use Rattle.cube.specs.declared.moves.Move.{Move}
 use Rattle.notation.specs.Notation.{spelling as moves_text}
 use Rattle.texts.specs.declared.command.Command.{Command}
 use Rattle.texts.specs.declared.command.Command.TheVariants.{Register, Open, Enter, Scramble}
 use Rattle.texts.specs.declared.command.Command.TheVariants.{Attempt, Correct, Strike, SetAdvance}
-use Rattle.texts.specs.declared.command.Command.TheVariants.{Close, SetEdition}
-use Rattle.texts.specs.declared.command.RoundId.{RoundId}
+use Rattle.texts.specs.declared.command.Command.TheVariants.{Close, SetEdition, Rename, SetRound}
+use Rattle.texts.specs.declared.command.Command.TheVariants.{Rescramble, Withdraw, Reopen}
 use Rattle.texts.specs.declared.command.AttemptEntry.{AttemptEntry}
 use Rattle.texts.specs.declared.command.Settings.{Settings}
 use Rattle.texts.specs.declared.reading.CommandFault.{CommandFault}
 use Rattle.texts.specs.declared.reading.CommandFault.TheVariants as fault
 use Rattle.texts.specs.Spelling.{entry_words, spelling, IsFit, IsWithin, IsEntered}
 use Rattle.formats.specs.Events.{last_round}
-use Rattle.texts.specs.Spelling.{last_edition, cutoff_text, limit_text, advance_text, entered_text}
-use Rattle.texts.specs.Fields.{cut, number_between, round_id, attempt_entry}
-use Rattle.texts.specs.Reading.{◌>>=◌, field, register_of, round_of, open_of, enter_of, scramble_of}
+use Rattle.texts.specs.Spelling.{cutoff_text, limit_text, advance_text, entered_text}
+use Rattle.texts.specs.Fields.{cut, round_id, attempt_entry}
+use Rattle.texts.specs.Reading.{◌>>=◌, register_of, round_of, open_of, enter_of, scramble_of}
 use Rattle.texts.specs.Reading.{entry_of, attempt_of, correct_of, strike_of, set_advance_of}
-use Rattle.texts.specs.Reading.{close_of, set_edition_of, moves_field, by_word, command_of, Gives}
+use Rattle.texts.specs.Reading.{close_of, set_edition_of, moves_field, by_new_word, by_word}
+use Rattle.texts.specs.Reading.{command_of, Gives}
 use Rattle.texts.specs.Reading.{ReadsAs}
 use Rattle.texts.proofs.Cuts.{behind, cut_spelled, cut-behind, lacks}
-use Rattle.texts.proofs.Spelled.{IsSpelled, bytes_eq-equal}
 use Rattle.texts.proofs.MoveSpellings.{moves_spelled}
-use Rattle.texts.proofs.FieldSpellings.{number_spelled, number_short, decimal_no_space}
+use Rattle.texts.proofs.FieldSpellings.{number_short, decimal_no_space}
 use Rattle.texts.proofs.FieldSpellings.{name_spelled, name_short, event_spelled, event_short}
 use Rattle.texts.proofs.FieldSpellings.{event_no_space, format_spelled, format_short}
 use Rattle.texts.proofs.FieldSpellings.{format_no_space, cutoff_spelled, cutoff_short}
 use Rattle.texts.proofs.FieldSpellings.{cutoff_no_space, limit_spelled, limit_short, limit_no_space}
 use Rattle.texts.proofs.FieldSpellings.{advance_spelled, advance_short, advance_no_space}
 use Rattle.texts.proofs.OutcomeSpellings.{entered_spelled}
-use Rattle.texts.proofs.Flat.{round_flat, entry_flat}
+use Rattle.texts.proofs.Flat.{entry_flat}
 use Rattle.texts.proofs.TakenFields.{field_only, last_only, none_only, field_then, field_last}
 use Rattle.texts.proofs.TakenFields.{ok_equal}
-
--- What the words take.
-
-abbrev pub Spells : List ℕ → Command → Type 0
-Spells bytes c = IsFit c × (bytes ≡ spelling c)
-
-number : IsSpelled (number_between 1 9999) decimal (IsWithin 1 9999)
-number = number_spelled 1 9999 (omega arith)
-
-round : IsSpelled (number_between 1 last_round) decimal (IsWithin 1 last_round)
-round = number_spelled 1 last_round (omega arith)
-
-attempt : IsSpelled (number_between 1 5) decimal (IsWithin 1 5)
-attempt = number_spelled 1 5 (omega arith)
-
-pub edition : IsSpelled (number_between 2 last_edition) decimal (IsWithin 2 last_edition)
-edition = number_spelled 2 last_edition (omega arith)
-
--- a round, the first two fields of what is left
-record TakesRound (left : Option (List ℕ))
-    (f : RoundId × Option (List ℕ) → Result Command CommandFault) (c : Command) : Type 0 where
-  pub id : RoundId
-  pub left' : Option (List ℕ)
-  pub fits : IsWithin 1 last_round id.round
-  pub spelled : behind 32 left
-      ≡ 32 ∷ (event_name id.event ++ 32 ∷ (decimal id.round ++ behind 32 left'))
-  pub next : f (id, left') ≡ Ok c
-
-round_only : (left : Option (List ℕ))
-    (f : RoundId × Option (List ℕ) → Result Command CommandFault) (c : Command)
-    → (round_of left >>= f) ≡ Ok c → TakesRound left f c
-round_only left f c h =
-    let event = field_only event_spelled 1 left _ c (sym (round_flat left f) ∙ h) in
-    let r = field_only round 2 event.left' _ c event.next in
-    record {
-      id = round_id event.value r.value;
-      left' = r.left';
-      fits = r.fits;
-      spelled =
-          event.spelled ∙ ap (λ (x : List ℕ). 32 ∷ (event_name event.value ++ x)) r.spelled;
-      next = r.next;
-    }
+use Rattle.texts.proofs.WordFields.{Spells, number, round, attempt, edition, round_only, IsOnly}
+use Rattle.texts.proofs.WordFields.{word_only, join_short, number_no_space, event_then, round_then}
+use Rattle.texts.proofs.WordFields.{named_short}
+use Rattle.texts.proofs.NewWords.{by_new_word_only, rename_short, set_round_short, withdraw_short}
+use Rattle.texts.proofs.NewWords.{reopen_short, rename_found, set_round_found, rescramble_found}
+use Rattle.texts.proofs.NewWords.{withdraw_found, reopen_found}
 
 -- the fields of an attempt, all that is left
 abbrev entry_text : AttemptEntry → List ℕ
@@ -251,23 +215,6 @@ set_edition_only left c h =
     subst (Spells (codes "EDITION" ++ behind 32 left)) same
     (e.fits, rw (e.spelled, end.0, append-nil) refl)
 
--- a word, where it is the first of those that may stand there
-abbrev IsOnly : List ℕ × Option (List ℕ) → Result Command CommandFault → Command → Type 0
-IsOnly text read c = read ≡ Ok c → Spells (text.0 ++ behind 32 text.1) c
-
-word_only : (word : List ℕ) (of : Option (List ℕ) → Result Command CommandFault)
-    (others : Result Command CommandFault) (text : List ℕ × Option (List ℕ)) (c : Command)
-    (b : Bool)
-    → bytes_eq text.0 word ≡ b → length (text.0 ++ behind 32 text.1) ≤ 600
-    → ((left : Option (List ℕ)) → length (word ++ behind 32 left) ≤ 600 → of left ≡ Ok c
-    → Spells (word ++ behind 32 left) c)
-    → IsOnly text others c → IsOnly text (cond b (of text.1) others) c
-word_only word of others text c false is short this other h = other h
-word_only word of others text c true is short this other h =
-    let same = bytes_eq-equal text.0 word is in
-    rw same
-    (this text.1 (subst (λ (x : List ℕ). length (x ++ behind 32 text.1) ≤ 600) same short) h)
-
 by_word_only : (text : List ℕ × Option (List ℕ)) (c : Command)
     → length (text.0 ++ behind 32 text.1) ≤ 600 → IsOnly text (by_word text) c
 by_word_only text c short =
@@ -281,9 +228,8 @@ by_word_only text c short =
     (word_only (codes "ADV") set_advance_of _ text c _ refl short
     (λ left s. set_advance_only left c)
     (word_only (codes "CLOSE") close_of _ text c _ refl short (λ left s. close_only left c)
-    (word_only (codes "EDITION") set_edition_of (Err fault.NotACommand) text c _ refl short
-    (λ left s. set_edition_only left c)
-    (λ e. absurd (let bad : Err fault.NotACommand ≡ Ok c = e in cc)))))))))))
+    (word_only (codes "EDITION") set_edition_of (by_new_word text) text c _ refl short
+    (λ left s. set_edition_only left c) (by_new_word_only text c short))))))))))
 
 pub spelled_only : (bytes : List ℕ) (c : Command) → command_of bytes ≡ Ok c → Spells bytes c
 unfolding command_of
@@ -300,25 +246,9 @@ spelled_only bytes c h = step (nat_lt 600 (length bytes)) refl h
 
 -- What is spelled is short.
 
-abbrev AllShort : List (List ℕ) → Type 0
-AllShort [] = Unit {0}
-AllShort (word ∷ words) = (length word ≤ 80) × AllShort words
-
-join_short : (word : List ℕ) (words : List (List ℕ)) → AllShort (word ∷ words)
-    → length (join_with_byte 32 (word ∷ words)) + 1 ≤ 81 * (length words + 1)
-join_short word [] short = let h = short.0 in omega arith
-join_short word (other ∷ words) short =
-    let h = short.0 in
-    let rest = join_short other words short.1 in
-    let total = length-append word (32 ∷ join_with_byte 32 (other ∷ words)) in
-    omega arith
-
 pub spelling_short : (c : Command) → IsFit c → length (spelling c) ≤ 600
-spelling_short (Register n name) fits =
-    let whole =
-    join_short (codes "REG") (decimal n ∷ name ∷ [])
-    (omega arith, (number_short n (omega arith), (name_short name fits.1, tt))) in
-    omega arith
+spelling_short (Register n name) fits = named_short (codes "REG") n name (omega arith) fits.0
+    (name_short name fits.1)
 spelling_short (Open id s) fits =
     let whole =
     join_short (codes "OPEN")
@@ -378,11 +308,13 @@ spelling_short (SetEdition e) fits =
     join_short (codes "EDITION") (decimal e ∷ [])
     (omega arith, (number_short e (omega arith), tt)) in
     omega arith
+spelling_short (Rename n name) fits = rename_short n name fits
+spelling_short (SetRound id form cutoff limit) fits = set_round_short id form cutoff limit fits
+spelling_short (Rescramble id k moves) fits = fits.3
+spelling_short (Withdraw id n) fits = withdraw_short id n fits
+spelling_short (Reopen id) fits = reopen_short id fits
 
 -- What is spelled is read.
-
-number_no_space : (n : ℕ) → n ≤ 9999 → lacks 32 (decimal n) ≡ true
-number_no_space n small = decimal_no_space n (omega arith)
 
 register_found : (n : ℕ) (name : List ℕ) → IsFit (Register n name)
     → register_of (Some (decimal n ++ 32 ∷ name)) ≡ Ok (Register n name)
@@ -403,20 +335,6 @@ enter_found e n fits =
       field_last number 2 n fits (number_no_space n (omega arith)),
     )
     refl
-
--- the first field, an event
-event_then : (e : Event) (left : List ℕ)
-    → field 1 event_of_name (Some (event_name e ++ 32 ∷ left)) ≡ Ok (e, Some left)
-event_then e left = field_then event_spelled 1 e (Some left) tt (event_no_space e)
-
--- the first two, a round, with more after them
-round_then : (e : Event) (r : ℕ) (left : List ℕ) → IsWithin 1 last_round r
-    → round_of (Some (event_name e ++ 32 ∷ (decimal r ++ 32 ∷ left)))
-    ≡ Ok (round_id e r, Some left)
-unfolding round_of
-round_then e r left fits =
-    rw (event_then e (decimal r ++ 32 ∷ left))
-    (rw (field_then round 2 r (Some left) fits (decimal_no_space r (omega arith))) refl)
 
 open_found : (e : Event) (r : ℕ) (s : Settings) → IsFit (Open (round_id e r) s)
     → open_of
@@ -548,6 +466,20 @@ spelled_found (Close id) fits =
 spelled_found (SetEdition e) fits =
     word_found (codes "EDITION") _ refl (spelling_short (SetEdition e) fits)
     ∙ set_edition_found e fits
+spelled_found (Rename n name) fits =
+    word_found (codes "REN") _ refl (spelling_short (Rename n name) fits) ∙ rename_found n name fits
+spelled_found (SetRound id form cutoff limit) fits =
+    word_found (codes "SET") _ refl (spelling_short (SetRound id form cutoff limit) fits)
+    ∙ set_round_found id.event id.round form cutoff limit fits
+spelled_found (Rescramble id k moves) fits =
+    word_found (codes "RSC") _ refl (spelling_short (Rescramble id k moves) fits)
+    ∙ rescramble_found id.event id.round k moves fits
+spelled_found (Withdraw id n) fits =
+    word_found (codes "WDR") _ refl (spelling_short (Withdraw id n) fits)
+    ∙ withdraw_found id.event id.round n fits
+spelled_found (Reopen id) fits =
+    word_found (codes "REOPEN") _ refl (spelling_short (Reopen id) fits)
+    ∙ reopen_found id.event id.round fits
 
 pub spelled_once : (c d : Command) → IsFit c → IsFit d → spelling c ≡ spelling d → c ≡ d
 spelled_once c d fits fits' same =

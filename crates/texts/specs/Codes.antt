@@ -8,7 +8,8 @@ use Rattle.texts.specs.declared.answer.Code.TheVariants.{CutoffNotAllowed, Limit
 use Rattle.texts.specs.declared.answer.Code.TheVariants.{NoScramble, ScrambleThere, WrongOutcome}
 use Rattle.texts.specs.declared.answer.Code.TheVariants.{Closed, Already, Full, NotEntered}
 use Rattle.texts.specs.declared.answer.Code.TheVariants.{OutOfOrder, NoMoreAttempts, NoSuchAttempt}
-use Rattle.texts.specs.declared.answer.Code.TheVariants.{CutoffLost, Unfinished}
+use Rattle.texts.specs.declared.answer.Code.TheVariants.{CutoffLost, Unfinished, HasAttempts}
+use Rattle.texts.specs.declared.answer.Code.TheVariants.{NotClosed}
 
 abbrev pub code_number : Code → ℕ
 code_number Unread = 1
@@ -33,6 +34,8 @@ code_number NoMoreAttempts = 19
 code_number NoSuchAttempt = 20
 code_number CutoffLost = 21
 code_number Unfinished = 22
+code_number HasAttempts = 23
+code_number NotClosed = 24
 
 -- all codes, in the order of their numbers
 abbrev pub every_code : List Code
@@ -40,7 +43,7 @@ every_code =
     Unread ∷ Repeat ∷ UnknownCompetitor ∷ NameTaken ∷ RoundUnknown ∷ RoundOpen ∷ RoundsRule ∷
     FormatNotAllowed ∷ CutoffNotAllowed ∷ LimitNotAllowed ∷ NoScramble ∷ ScrambleThere ∷
     WrongOutcome ∷ Closed ∷ Already ∷ Full ∷ NotEntered ∷ OutOfOrder ∷ NoMoreAttempts ∷
-    NoSuchAttempt ∷ CutoffLost ∷ Unfinished ∷ []
+    NoSuchAttempt ∷ CutoffLost ∷ Unfinished ∷ HasAttempts ∷ NotClosed ∷ []
 
 -- the code of a number
 unfoldable pub code_numbered : ℕ → Option Code
@@ -69,3 +72,5 @@ code_name NoMoreAttempts = codes "NoMoreAttempts"
 code_name NoSuchAttempt = codes "NoSuchAttempt"
 code_name CutoffLost = codes "CutoffLost"
 code_name Unfinished = codes "Unfinished"
+code_name HasAttempts = codes "HasAttempts"
+code_name NotClosed = codes "NotClosed"

@@ -20,7 +20,7 @@ use Rattle.texts.specs.declared.command.AttemptEntry.{AttemptEntry}
 use Rattle.texts.specs.declared.command.Entered.{Entered}
 use Rattle.texts.specs.declared.command.Entered.TheVariants as entered
 use Rattle.texts.specs.Numerals.{digits_value, within}
-use Rattle.texts.specs.Spelling.{is_name}
+use Rattle.texts.specs.Names.{is_name, is_name_in}
 
 -- What stands before the first of a byte, and what stands after it, where it is there.
 abbrev pub cut_at : List ℕ → Option ℕ → List ℕ × Option (List ℕ)
@@ -36,8 +36,13 @@ number_between low high bytes =
     if bytes_eq bytes (decimal (digits_value bytes)) then within low high (digits_value bytes)
     else None
 
+-- a name that some edition spells
 unfoldable pub name_of : List ℕ → Option (List ℕ)
 name_of bytes = if is_name bytes then Some bytes else None
+
+-- a name that edition 3 spells
+unfoldable pub new_name_of : List ℕ → Option (List ℕ)
+new_name_of bytes = if is_name_in 3 bytes then Some bytes else None
 
 -- two numbers, each read in its way
 abbrev pub pair_with : ℕ → ℕ → ℕ × ℕ

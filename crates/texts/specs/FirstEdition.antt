@@ -1,19 +1,22 @@
 -- What edition 1 read, as it stands since before there was another: nine words, sixteen events, and
 -- times, solutions, DNF and DNS as outcomes. The laws of editions compare it with `Reading`.
-use Rattle.std.specs.Prelude.{ℕ, nat_lt, if◌then◌else◌, List, take, drop, length, bytes_eq, codes}
-use Rattle.std.specs.Prelude.{Option, Some, None, Result, Ok, Err}
+use Rattle.std.specs.Prelude.{ℕ, Bool, ◌==◌, ◌&&◌, not, nat_lt, nat_le, if◌then◌else◌, List, take}
+use Rattle.std.specs.Prelude.{drop, length, bytes_eq, codes, Option, Some, None, Result, Ok, Err}
+use Rattle.std.specs.List.{list_all, slice_split}
+use Rattle.std.specs.Str.{is_utf8}
 use Rattle.std.specs.Option.{option_map}
 use Rattle.formats.specs.Events.{event_named, format_named, last_round}
 use Rattle.texts.specs.declared.command.Command.{Command}
-use Rattle.texts.specs.declared.command.Command.TheVariants.{Open, Enter, Scramble, Attempt}
-use Rattle.texts.specs.declared.command.Command.TheVariants.{Correct, Strike, SetAdvance, Close}
+use Rattle.texts.specs.declared.command.Command.TheVariants.{Register, Open, Enter, Scramble}
+use Rattle.texts.specs.declared.command.Command.TheVariants.{Attempt, Correct, Strike, SetAdvance}
+use Rattle.texts.specs.declared.command.Command.TheVariants.{Close}
 use Rattle.texts.specs.declared.command.Entered.{Entered}
 use Rattle.texts.specs.declared.command.Entered.TheVariants as entered
 use Rattle.texts.specs.declared.reading.CommandFault.{CommandFault}
 use Rattle.texts.specs.declared.reading.CommandFault.TheVariants as fault
 use Rattle.texts.specs.Fields.{cut, number_between, cutoff_of, limit_of, advance_of, moves_of}
 use Rattle.texts.specs.Fields.{time_of, round_id, attempt_entry}
-use Rattle.texts.specs.Reading.{◌>>=◌, field, last_field, no_field, register_of}
+use Rattle.texts.specs.Reading.{◌>>=◌, field, last_field, no_field}
 
 unfoldable pub entered_of : List ℕ → Option Entered
 entered_of bytes =
@@ -23,6 +26,22 @@ entered_of bytes =
     else if bytes_eq (take 2 bytes) (codes "S:")
     then option_map entered.Solution (moves_of (drop 2 bytes))
     else None
+
+-- a name: 1 to 80 bytes of UTF-8, none below 32 and none 127, no space at an end, no two in a row
+abbrev pub is_name : List ℕ → Bool
+is_name bytes =
+    nat_le 1 (length bytes) && nat_le (length bytes) 80 && is_utf8 bytes
+    && list_all (λ b. nat_le 32 b && not (b == 127)) bytes
+    && list_all (λ part. nat_lt 0 (length part)) (slice_split (λ b. b == 32) bytes)
+
+unfoldable pub name_of : List ℕ → Option (List ℕ)
+name_of bytes = if is_name bytes then Some bytes else None
+
+unfoldable pub register_of : Option (List ℕ) → Result Command CommandFault
+register_of left = do
+  number ← field 1 (number_between 1 9999) left
+  name ← last_field 2 name_of number.1
+  Ok (Register number.0 name)
 
 unfoldable pub open_of : Option (List ℕ) → Result Command CommandFault
 open_of left = do

@@ -6,15 +6,17 @@ use Rattle.std.specs.Option.{ok_or}
 use Rattle.texts.specs.declared.command.Command.{Command}
 use Rattle.texts.specs.declared.command.Command.TheVariants.{Register, Open, Enter, Scramble}
 use Rattle.texts.specs.declared.command.Command.TheVariants.{Attempt, Correct, Strike, SetAdvance}
-use Rattle.texts.specs.declared.command.Command.TheVariants.{Close, SetEdition}
+use Rattle.texts.specs.declared.command.Command.TheVariants.{Close, SetEdition, Rename, SetRound}
+use Rattle.texts.specs.declared.command.Command.TheVariants.{Rescramble, Withdraw, Reopen}
 use Rattle.texts.specs.declared.command.RoundId.{RoundId}
 use Rattle.texts.specs.declared.command.AttemptEntry.{AttemptEntry}
 use Rattle.texts.specs.declared.reading.CommandFault.{CommandFault}
 use Rattle.texts.specs.declared.reading.CommandFault.TheVariants as fault
 use Rattle.texts.specs.Spelling.{last_edition, IsFit, spelling}
 use Rattle.formats.specs.Events.{event_of_name, format_named, last_round}
-use Rattle.texts.specs.Fields.{cut, number_between, name_of, cutoff_of, limit_of, advance_of}
-use Rattle.texts.specs.Fields.{moves_of, entered_of, round_id, attempt_entry, IsSolution}
+use Rattle.texts.specs.Fields.{cut, number_between, name_of, new_name_of, cutoff_of, limit_of}
+use Rattle.texts.specs.Fields.{advance_of, moves_of, entered_of, round_id, attempt_entry}
+use Rattle.texts.specs.Fields.{IsSolution}
 
 infixl 10 ◌>>=◌
 abbrev pub ◌>>=◌ : {A B : Type 0} → Result A CommandFault → (A → Result B CommandFault)
@@ -139,13 +141,63 @@ set_edition_of left = do
   end ← no_field 2 edition.1
   Ok (SetEdition edition.0)
 
+-- The words of edition 3.
+
+unfoldable pub rename_of : Option (List ℕ) → Result Command CommandFault
+rename_of left = do
+  number ← field 1 (number_between 1 9999) left
+  name ← last_field 2 new_name_of number.1
+  Ok (Rename number.0 name)
+
+unfoldable pub set_round_of : Option (List ℕ) → Result Command CommandFault
+set_round_of left = do
+  id ← round_of left
+  form ← field 3 format_named id.1
+  cutoff ← field 4 cutoff_of form.1
+  limit ← field 5 limit_of cutoff.1
+  end ← no_field 6 limit.1
+  Ok (SetRound id.0 form.0 cutoff.0 limit.0)
+
+unfoldable pub rescramble_of : Option (List ℕ) → Result Command CommandFault
+rescramble_of left = do
+  id ← round_of left
+  attempt ← field 3 (number_between 1 5) id.1
+  moves ← last_field 4 moves_of attempt.1
+  Ok (Rescramble id.0 attempt.0 moves)
+
+unfoldable pub withdraw_of : Option (List ℕ) → Result Command CommandFault
+withdraw_of left = do
+  id ← round_of left
+  number ← field 3 (number_between 1 9999) id.1
+  end ← no_field 4 number.1
+  Ok (Withdraw id.0 number.0)
+
+unfoldable pub reopen_of : Option (List ℕ) → Result Command CommandFault
+reopen_of left = do
+  id ← round_of left
+  end ← no_field 3 id.1
+  Ok (Reopen id.0)
+
+-- The words by their texts.
+
 abbrev pub words : List (List ℕ)
 words =
     codes "REG" ∷ codes "OPEN" ∷ codes "ENT" ∷ codes "SCR" ∷ codes "ATT" ∷ codes "COR"
-    ∷ codes "STR" ∷ codes "ADV" ∷ codes "CLOSE" ∷ codes "EDITION" ∷ []
+    ∷ codes "STR" ∷ codes "ADV" ∷ codes "CLOSE" ∷ codes "EDITION" ∷ codes "REN" ∷ codes "SET"
+    ∷ codes "RSC" ∷ codes "WDR" ∷ codes "REOPEN" ∷ []
 
 abbrev pub is_word : List ℕ → Bool
 is_word bytes = list_any (λ word. bytes_eq bytes word) words
+
+-- the words that came with edition 3
+abbrev pub by_new_word : List ℕ × Option (List ℕ) → Result Command CommandFault
+by_new_word text =
+    if bytes_eq text.0 (codes "REN") then rename_of text.1
+    else if bytes_eq text.0 (codes "SET") then set_round_of text.1
+    else if bytes_eq text.0 (codes "RSC") then rescramble_of text.1
+    else if bytes_eq text.0 (codes "WDR") then withdraw_of text.1
+    else if bytes_eq text.0 (codes "REOPEN") then reopen_of text.1
+    else Err fault.NotACommand
 
 abbrev pub by_word : List ℕ × Option (List ℕ) → Result Command CommandFault
 by_word text =
@@ -159,27 +211,32 @@ by_word text =
     else if bytes_eq text.0 (codes "ADV") then set_advance_of text.1
     else if bytes_eq text.0 (codes "CLOSE") then close_of text.1
     else if bytes_eq text.0 (codes "EDITION") then set_edition_of text.1
-    else Err fault.NotACommand
+    else by_new_word text
 
 -- the command that a text spells, or why it spells none
 unfoldable pub command_of : List ℕ → Result Command CommandFault
 command_of bytes = if nat_lt 600 (length bytes) then Err fault.TooLong else by_word (cut 32 bytes)
 
--- Memory is taken for a name and for moves. The moves' field is the 4th of SCR and the 5th of ATT
--- and COR; where they are misspelt, memory may run out first.
+-- Memory is taken for a name and for moves. The moves' field is the 4th of SCR and RSC and the 5th
+-- of ATT and COR; where they are misspelt, memory may run out first.
+
+abbrev pub new_moves_field : List ℕ → ℕ
+new_moves_field word = if bytes_eq word (codes "RSC") then 4 else 0
 
 abbrev pub moves_field : List ℕ → ℕ
 moves_field word =
     if bytes_eq word (codes "SCR") then 4
     else if bytes_eq word (codes "ATT") then 5
     else if bytes_eq word (codes "COR") then 5
-    else 0
+    else new_moves_field word
 
 abbrev pub TakesMemory : ℕ → Result Command CommandFault → Type 0
 TakesMemory moves (Ok (Register number name)) = Unit {0}
 TakesMemory moves (Ok (Scramble id attempt given)) = Unit {0}
 TakesMemory moves (Ok (Attempt entry)) = IsSolution entry.outcome
 TakesMemory moves (Ok (Correct entry)) = IsSolution entry.outcome
+TakesMemory moves (Ok (Rename number name)) = Unit {0}
+TakesMemory moves (Ok (Rescramble id attempt given)) = Unit {0}
 TakesMemory moves (Err (fault.BadField index)) = index ≡ moves
 TakesMemory _ _ = ⊥
 

@@ -1,9 +1,8 @@
 -- How a command is spelled: a word and its fields, parted by one space each. And the ranges of the
 -- fields. The list of commands and its ranges are this project's own.
-use Rattle.std.specs.Prelude.{◌≤◌, ℕ, Bool, ◌==◌, ◌&&◌, not, nat_lt, nat_le, IsTrue, List, [], ◌∷◌}
-use Rattle.std.specs.Prelude.{◌++◌, length, codes, decimal, Option, None, Some}
-use Rattle.std.specs.List.{list_all, slice_split, join_with_byte}
-use Rattle.std.specs.Str.{is_utf8}
+use Rattle.std.specs.Prelude.{◌≤◌, ℕ, IsTrue, List, [], ◌∷◌, ◌++◌, length, codes, decimal}
+use Rattle.std.specs.Prelude.{Option, None, Some}
+use Rattle.std.specs.List.{join_with_byte}
 use Rattle.formats.specs.Events.{event_name, format_name, last_round}
 use Rattle.cube.specs.declared.moves.Move.{Move}
 use Rattle.notation.specs.Notation.{spelling as moves_text}
@@ -12,11 +11,13 @@ use Rattle.formats.specs.declared.advance.Advance.TheVariants.{Final, Top, Perce
 use Rattle.texts.specs.declared.command.Command.{Command}
 use Rattle.texts.specs.declared.command.Command.TheVariants.{Register, Open, Enter, Scramble}
 use Rattle.texts.specs.declared.command.Command.TheVariants.{Attempt, Correct, Strike, SetAdvance}
-use Rattle.texts.specs.declared.command.Command.TheVariants.{Close, SetEdition}
+use Rattle.texts.specs.declared.command.Command.TheVariants.{Close, SetEdition, Rename, SetRound}
+use Rattle.texts.specs.declared.command.Command.TheVariants.{Rescramble, Withdraw, Reopen}
 use Rattle.texts.specs.declared.command.AttemptEntry.{AttemptEntry}
 use Rattle.texts.specs.declared.command.Entered.{Entered}
 use Rattle.texts.specs.declared.command.Entered.TheVariants as entered
 use Rattle.texts.specs.declared.command.Settings.{Settings}
+use Rattle.texts.specs.Names.{is_name, is_name_in}
 
 -- after k attempts, below c: `k:c`
 abbrev pub cutoff_text : Option (ℕ × ℕ) → List ℕ
@@ -76,6 +77,15 @@ words_of (SetAdvance id advance) =
     codes "ADV" ∷ event_name id.event ∷ decimal id.round ∷ advance_text advance ∷ []
 words_of (Close id) = codes "CLOSE" ∷ event_name id.event ∷ decimal id.round ∷ []
 words_of (SetEdition edition) = codes "EDITION" ∷ decimal edition ∷ []
+words_of (Rename number name) = codes "REN" ∷ decimal number ∷ name ∷ []
+words_of (SetRound id form cutoff limit) =
+    codes "SET" ∷ event_name id.event ∷ decimal id.round ∷ format_name form
+    ∷ cutoff_text cutoff ∷ limit_text limit ∷ []
+words_of (Rescramble id attempt moves) =
+    codes "RSC" ∷ event_name id.event ∷ decimal id.round ∷ decimal attempt ∷ moves_text moves ∷ []
+words_of (Withdraw id number) =
+    codes "WDR" ∷ event_name id.event ∷ decimal id.round ∷ decimal number ∷ []
+words_of (Reopen id) = codes "REOPEN" ∷ event_name id.event ∷ decimal id.round ∷ []
 
 -- the spelling of a command
 abbrev pub spelling : Command → List ℕ
@@ -87,21 +97,7 @@ abbrev pub IsWithin : ℕ → ℕ → ℕ → Type 0
 IsWithin low high n = (low ≤ n) × (n ≤ high)
 
 abbrev pub last_edition : ℕ
-last_edition = 2
-
-abbrev pub is_name_byte : ℕ → Bool
-is_name_byte b = nat_le 32 b && not (b == 127)
-
--- each part between spaces has a byte: no space is at an end, and no two are in a row
-abbrev pub has_single_spaces : List ℕ → Bool
-has_single_spaces bytes =
-    list_all (λ part. nat_lt 0 (length part)) (slice_split (λ b. b == 32) bytes)
-
--- a name: 1 to 80 bytes of UTF-8, none below 32 and none 127, no space at an end, no two in a row
-abbrev pub is_name : List ℕ → Bool
-is_name bytes =
-    nat_le 1 (length bytes) && nat_le (length bytes) 80 && is_utf8 bytes && list_all is_name_byte
-    bytes && has_single_spaces bytes
+last_edition = 3
 
 abbrev pub IsFitCutoff : Option (ℕ × ℕ) → Type 0
 IsFitCutoff None = Unit {0}
@@ -153,3 +149,11 @@ IsFit (Strike id number) = IsWithin 1 last_round id.round × IsWithin 1 9999 num
 IsFit (SetAdvance id advance) = IsWithin 1 last_round id.round × IsFitAdvance advance
 IsFit (Close id) = IsWithin 1 last_round id.round
 IsFit (SetEdition edition) = IsWithin 2 last_edition edition
+IsFit (Rename number name) = IsWithin 1 9999 number × IsTrue (is_name_in 3 name)
+IsFit (SetRound id form cutoff limit) =
+    IsWithin 1 last_round id.round × IsFitCutoff cutoff × IsFitLimit limit
+IsFit (Rescramble id attempt moves) =
+    IsWithin 1 last_round id.round × IsWithin 1 5 attempt × AreMoves moves
+    × IsShort (Rescramble id attempt moves)
+IsFit (Withdraw id number) = IsWithin 1 last_round id.round × IsWithin 1 9999 number
+IsFit (Reopen id) = IsWithin 1 last_round id.round

@@ -1,4 +1,4 @@
-//! What a command is answered: done, or one of the 22 codes.
+//! What a command is answered: done, or one of the 24 codes.
 
 ghost use Rattle.std.specs.Prelude.{◌≡◌};
 ghost use Rattle.texts.specs.Codes.{code_name, code_number, code_numbered};
@@ -50,6 +50,10 @@ pub enum Code {
     CutoffLost,
     /// An entrant has not done all attempts that are allotted.
     Unfinished,
+    /// The attempt, or the entrant, or the round has an attempt already.
+    HasAttempts,
+    /// The round is not closed.
+    NotClosed,
 }
 
 /// What a command was answered.
@@ -63,7 +67,7 @@ pub enum Answer {
 
 impl Code {
     /// All codes, in the order of their numbers.
-    pub const ALL: [Code; 22] = [
+    pub const ALL: [Code; 24] = [
         Code::Unread,
         Code::Repeat,
         Code::UnknownCompetitor,
@@ -86,6 +90,8 @@ impl Code {
         Code::NoSuchAttempt,
         Code::CutoffLost,
         Code::Unfinished,
+        Code::HasAttempts,
+        Code::NotClosed,
     ];
 
     /// The code of a number. None where no code has it.
@@ -99,7 +105,7 @@ impl Code {
             .find(|code| code.number() == number)
     }
 
-    /// The code's number, 1 to 22.
+    /// The code's number, 1 to 24.
     pub fn number(self) -> u8
         ensures { result ≡ code_number self }
     {
@@ -126,6 +132,8 @@ impl Code {
             Code::NoSuchAttempt => 20,
             Code::CutoffLost => 21,
             Code::Unfinished => 22,
+            Code::HasAttempts => 23,
+            Code::NotClosed => 24,
         }
     }
 
@@ -156,6 +164,8 @@ impl Code {
             Code::NoSuchAttempt => "NoSuchAttempt",
             Code::CutoffLost => "CutoffLost",
             Code::Unfinished => "Unfinished",
+            Code::HasAttempts => "HasAttempts",
+            Code::NotClosed => "NotClosed",
         }
     }
 }

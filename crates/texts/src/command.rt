@@ -148,8 +148,36 @@ pub enum Command {
     Close {
         id: RoundId,
     },
-    /// `EDITION`: the edition of the commands that holds from the next one on, which is 2.
+    /// `EDITION`: the edition of the commands that holds from the next one on, 2 or 3.
     SetEdition {
         edition: u8,
+    },
+    /// `REN`: gives a competitor another name.
+    Rename {
+        number: u16,
+        name: Name,
+    },
+    /// `SET`: sets how a round is run, in place of what was set when it was opened, but for who
+    /// advances. The ranges are those of `Settings`.
+    SetRound {
+        id: RoundId,
+        format: Format,
+        cutoff: Option<(u8, u32)>,
+        limit: Option<u32>,
+    },
+    /// `RSC`: sets the scramble of an attempt of a round, in place of the one that it has.
+    Rescramble {
+        id: RoundId,
+        attempt: u8,
+        moves: Moves,
+    },
+    /// `WDR`: takes a competitor out of a round.
+    Withdraw {
+        id: RoundId,
+        number: u16,
+    },
+    /// `REOPEN`: opens a round again that was closed.
+    Reopen {
+        id: RoundId,
     },
 }

@@ -1,10 +1,12 @@
 //! The editions of the commands.
 
 ghost use Rattle.std.specs.Prelude.{◌≡◌};
-ghost use Rattle.texts.specs.Editions.{edition_of, entered_edition};
-ghost use Rattle.texts.specs.EditionLaws.{ReadsAsBefore};
+ghost use Rattle.texts.specs.Editions.{edition_of, entered_edition, has_name_in, is_spelled_in};
+ghost use Rattle.texts.specs.EditionLaws.{ReadsAsFirst, ReadsAsSecond};
+ghost use Rattle.texts.specs.WorkedTexts.{ReadsWorkedTexts};
 
 use crate::command::{Command, Entered};
+use crate::names::is_name_in;
 
 /// The first edition that has an outcome.
 fn entered_edition(outcome: &Entered) -> u8
@@ -16,9 +18,8 @@ fn entered_edition(outcome: &Entered) -> u8
     }
 }
 
-/// The first edition that has the spelling of a command: 2 where its event is `333mbf` or its
-/// outcome an `M:`, and 1 for the others, `EDITION 2` among them.
-pub fn edition_of(command: &Command) -> u8
+/// The first edition that has the word of a command, its event and its outcome.
+fn edition_of(command: &Command) -> u8
     ensures { result ≡ edition_of command.now }
 {
     match command {
@@ -36,11 +37,51 @@ pub fn edition_of(command: &Command) -> u8
                 .edition()
                 .max(entered_edition(&entry.outcome))
         }
+        Command::Rename { .. }
+        | Command::SetRound { .. }
+        | Command::Rescramble { .. }
+        | Command::Withdraw { .. }
+        | Command::Reopen { .. } => 3,
     }
 }
 
+/// Whether an edition spells the name that a command gives, where it gives one.
+fn has_name_in(edition: u8, command: &Command) -> bool
+    ensures { result ≡ has_name_in edition command.now }
+{
+    match command {
+        Command::Register { name, .. } | Command::Rename { name, .. } => {
+            is_name_in(edition, name.as_bytes())
+        }
+        _ => true,
+    }
+}
+
+/// Whether an edition has a spelling of a command. The event `333mbf` and the outcome `M:` came
+/// with edition 2; `REN`, `SET`, `RSC`, `WDR` and `REOPEN` with edition 3. A name of more than 80
+/// bytes is spelled in edition 3 alone; one with a double quote, or with a character that is not
+/// seen, in editions 1 and 2 alone. `EDITION 2` and `EDITION 3` are spelled in each.
+pub fn is_spelled_in(edition: u8, command: &Command) -> bool
+    ensures { result ≡ is_spelled_in edition command.now }
+{
+    has_name_in(edition, command) && edition_of(command) <= edition
+}
+
 /// A law: edition 1, as it stands since before there was another, reads a text other than
-/// `EDITION 2` just where it spells a command that edition 1 has, and reads it as that command.
+/// `EDITION 2` and `EDITION 3` just where it spells a command that edition 1 has, and reads it as
+/// that command.
 pub fn first_edition_reads()
-    ensures { ReadsAsBefore }
+    ensures { ReadsAsFirst }
+{}
+
+/// A law: edition 2, as it stands since before there was a third, reads a text other than
+/// `EDITION 3` just where it spells a command that edition 2 has, and reads it as that command.
+pub fn second_edition_reads()
+    ensures { ReadsAsSecond }
+{}
+
+/// A law: worked texts of editions 1 and 2 are read as they were, field by field. They hold what
+/// the definitions of the editions have in common.
+pub fn worked_texts()
+    ensures { ReadsWorkedTexts }
 {}

@@ -2,31 +2,26 @@
 
 ghost use Rattle.std.specs.Prelude.{◌≡◌, ◌==◌, ◌<◌, length, option_map, IfOk, IfSome, OnErr};
 ghost use Rattle.std.specs.Prelude.{◌-◌, position};
-ghost use Rattle.std.specs.List.{list_all};
-ghost use Rattle.std.specs.Str.{is_utf8};
-ghost use Rattle.texts.specs.Spelling.{is_name, is_name_byte, has_single_spaces};
 ghost use Rattle.texts.specs.Fields.{cut, number_between, cutoff_of, two_numbers, limit_of};
 ghost use Rattle.texts.specs.Fields.{percent_of, advance_of, moves_of, time_of, multi_of, cubes_of};
 ghost use Rattle.texts.specs.Fields.{entered_of};
 ghost use Rattle.texts.specs.model.Returned.{MayBeSolution};
 
 use crate::command::Entered;
+use crate::names::has_single_spaces;
 use crate::numbers::{u8_between, u16_between, u32_between};
 use formats::{Advance, MOST_ENTRANTS};
 use notation::{Moves, NoMemory, ReadFault, printed_is_spelled};
 use std::alloc::Global;
 
 /// The last edition that commands name.
-pub const LAST_EDITION: u8 = 2;
+pub const LAST_EDITION: u8 = 3;
 
 /// The greatest number of a competitor.
 pub const LAST_NUMBER: u16 = 9999;
 
 /// The last attempt of a round, in the formats that have the most.
 pub const LAST_ATTEMPT: u8 = 5;
-
-/// The most bytes of a name.
-const MOST_NAME: usize = 80;
 
 /// The greatest border of a cutoff and the longest time limit: an hour in hundredths of a second.
 const MOST_LIMIT: u32 = 360_000;
@@ -66,41 +61,6 @@ pub fn cut(bytes: &[u8], by: u8) -> (&[u8], Option<&[u8]>)
         Some(place) => (&bytes[..place], Some(&bytes[place + 1..])),
         None => (bytes, None),
     }
-}
-
-/// Whether the bytes are UTF-8.
-fn is_text(bytes: &[u8]) -> bool
-    ensures { result ≡ is_utf8 bytes.now }
-{
-    str::from_utf8(bytes).is_ok()
-}
-
-/// Whether there is no control character.
-fn is_printable(bytes: &[u8]) -> bool
-    ensures { result ≡ list_all is_name_byte bytes.now }
-{
-    bytes.iter().all(|byte| b' ' <= *byte && *byte != 127)
-}
-
-/// Whether no space is at an end, and no two are in a row.
-fn has_single_spaces(bytes: &[u8]) -> bool
-    ensures { result ≡ has_single_spaces bytes.now }
-{
-    bytes
-        .split(|byte| *byte == b' ')
-        .all(|part| !part.is_empty())
-}
-
-/// Whether it is a name: 1 to 80 bytes of UTF-8 without control characters, whose words are parted
-/// by one space each.
-pub fn is_name(bytes: &[u8]) -> bool
-    ensures { result ≡ is_name bytes.now }
-{
-    !bytes.is_empty()
-        && bytes.len() <= MOST_NAME
-        && is_text(bytes)
-        && is_printable(bytes)
-        && has_single_spaces(bytes)
 }
 
 /// After how many attempts (1 to 4), and below what (1 to 360,000).

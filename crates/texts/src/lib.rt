@@ -5,13 +5,14 @@ mod answer;
 mod command;
 mod editions;
 mod fields;
+mod names;
 mod numbers;
 mod printing;
 mod reading;
 
 pub use answer::{Answer, Code};
 pub use command::{AttemptEntry, Command, Entered, Name, RoundId, Settings};
-pub use editions::{edition_of, first_edition_reads};
+pub use editions::{first_edition_reads, is_spelled_in, second_edition_reads, worked_texts};
 pub use fields::cut;
 pub use formats::Advance;
 pub use numbers::number_between;

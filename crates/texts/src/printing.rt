@@ -1,7 +1,7 @@
 //! Commands as texts.
 
-ghost use Rattle.std.specs.Prelude.{◌≡◌, ◌++◌, IfOk, OnOk, codes, decimal};
-ghost use Rattle.formats.specs.Events.{event_name};
+ghost use Rattle.std.specs.Prelude.{◌≡◌, ◌++◌, ◌∷◌, [], IfOk, OnOk, codes, decimal};
+ghost use Rattle.formats.specs.Events.{event_name, format_name};
 ghost use Rattle.notation.specs.Notation.{spelling as moves_text};
 ghost use Rattle.texts.specs.Spelling.{cutoff_text, limit_text, advance_text, entered_text};
 ghost use Rattle.texts.specs.Spelling.{entry_words, further, settings_words, spelling};
@@ -15,6 +15,11 @@ ghost use Rattle.texts.specs.declared.command.Command.TheVariants.{Strike as Str
 ghost use Rattle.texts.specs.declared.command.Command.TheVariants.{SetAdvance as SetAdvanceOf};
 ghost use Rattle.texts.specs.declared.command.Command.TheVariants.{Close as CloseOf};
 ghost use Rattle.texts.specs.declared.command.Command.TheVariants.{SetEdition as SetEditionOf};
+ghost use Rattle.texts.specs.declared.command.Command.TheVariants.{Rename as RenameOf};
+ghost use Rattle.texts.specs.declared.command.Command.TheVariants.{SetRound as SetRoundOf};
+ghost use Rattle.texts.specs.declared.command.Command.TheVariants.{Rescramble as RescrambleOf};
+ghost use Rattle.texts.specs.declared.command.Command.TheVariants.{Withdraw as WithdrawOf};
+ghost use Rattle.texts.specs.declared.command.Command.TheVariants.{Reopen as ReopenOf};
 ghost use Rattle.texts.specs.declared.command.Entered.TheVariants.{Time as TimeOf};
 ghost use Rattle.texts.specs.declared.command.Entered.TheVariants.{Solution as SolutionOf};
 ghost use Rattle.texts.specs.declared.command.Entered.TheVariants.{Multi as MultiOf};
@@ -22,7 +27,7 @@ ghost use Rattle.texts.specs.declared.command.Entered.TheVariants.{Multi as Mult
 use crate::command::{AttemptEntry, Command, Entered, RoundId, Settings};
 use attempts::{NoMemory, push_decimal};
 use cube::Move;
-use formats::{Advance, Event};
+use formats::{Advance, Event, Format};
 use std::alloc::Global;
 
 fn push_cutoff(out: &mut Vec<u8>, cutoff: Option<(u8, u32)>) -> Result<(), NoMemory>
@@ -277,6 +282,78 @@ fn push_set_edition(out: &mut Vec<u8>, edition: u8) -> Result<(), NoMemory>
     push_number(out, u32::from(edition))
 }
 
+fn push_rename(out: &mut Vec<u8>, number: u16, name: &[u8]) -> Result<(), NoMemory>
+    ensures { OnOk result (out.new.items ≡ out.old.items ++ spelling (RenameOf number name.now)) }
+{
+    out.extend_from_slice(b"REN")?;
+    push_number(out, u32::from(number))?;
+    push_field(out, name)
+}
+
+/// How a round is run, but for who advances.
+fn push_way(
+    out: &mut Vec<u8>,
+    format: Format,
+    cutoff: Option<(u8, u32)>,
+    limit: Option<u32>,
+) -> Result<(), NoMemory>
+    ensures { OnOk result (out.new.items ≡ out.old.items
+        ++ further (format_name format ∷ cutoff_text cutoff ∷ limit_text limit ∷ [])) }
+{
+    push_field(out, format.name().as_bytes())?;
+    out.extend_from_slice(b" ")?;
+    push_cutoff(out, cutoff)?;
+    out.extend_from_slice(b" ")?;
+    push_limit(out, limit)
+}
+
+fn push_set_round(
+    out: &mut Vec<u8>,
+    id: RoundId,
+    format: Format,
+    cutoff: Option<(u8, u32)>,
+    limit: Option<u32>,
+) -> Result<(), NoMemory>
+    ensures { OnOk result
+        (out.new.items ≡ out.old.items ++ spelling (SetRoundOf id format cutoff limit)) }
+{
+    out.extend_from_slice(b"SET")?;
+    push_round(out, id)?;
+    push_way(out, format, cutoff, limit)
+}
+
+fn push_rescramble(
+    alloc: Global,
+    out: &mut Vec<u8>,
+    id: RoundId,
+    attempt: u8,
+    moves: &[Move],
+) -> Result<(), NoMemory>
+    ensures { OnOk result
+        (out.new.items ≡ out.old.items ++ spelling (RescrambleOf id attempt moves.now)) }
+{
+    out.extend_from_slice(b"RSC")?;
+    push_round(out, id)?;
+    push_number(out, u32::from(attempt))?;
+    out.extend_from_slice(b" ")?;
+    push_moves(alloc, out, moves)
+}
+
+fn push_withdraw(out: &mut Vec<u8>, id: RoundId, number: u16) -> Result<(), NoMemory>
+    ensures { OnOk result (out.new.items ≡ out.old.items ++ spelling (WithdrawOf id number)) }
+{
+    out.extend_from_slice(b"WDR")?;
+    push_round(out, id)?;
+    push_number(out, u32::from(number))
+}
+
+fn push_reopen(out: &mut Vec<u8>, id: RoundId) -> Result<(), NoMemory>
+    ensures { OnOk result (out.new.items ≡ out.old.items ++ spelling (ReopenOf id)) }
+{
+    out.extend_from_slice(b"REOPEN")?;
+    push_round(out, id)
+}
+
 fn push_command(alloc: Global, out: &mut Vec<u8>, command: &Command) -> Result<(), NoMemory>
     ensures { OnOk result (out.new.items ≡ out.old.items ++ spelling command.now) }
 {
@@ -293,6 +370,18 @@ fn push_command(alloc: Global, out: &mut Vec<u8>, command: &Command) -> Result<(
         Command::SetAdvance { id, advance } => push_set_advance(out, *id, *advance),
         Command::Close { id } => push_close(out, *id),
         Command::SetEdition { edition } => push_set_edition(out, *edition),
+        Command::Rename { number, name } => push_rename(out, *number, name.as_bytes()),
+        Command::SetRound {
+            id,
+            format,
+            cutoff,
+            limit,
+        } => push_set_round(out, *id, *format, *cutoff, *limit),
+        Command::Rescramble { id, attempt, moves } => {
+            push_rescramble(alloc, out, *id, *attempt, moves.as_slice())
+        }
+        Command::Withdraw { id, number } => push_withdraw(out, *id, *number),
+        Command::Reopen { id } => push_reopen(out, *id),
     }
 }
 

@@ -6,10 +6,12 @@ ghost use Rattle.std.specs.Prelude.{Option, Some, None, IfOk};
 ghost use Rattle.texts.specs.Spelling.{IsFit, spelling};
 ghost use Rattle.formats.specs.Events.{event_of_name};
 ghost use Rattle.texts.specs.Fields.{advance_of, cut, number_between};
-ghost use Rattle.texts.specs.Reading.{Gives, moves_field, is_word, ReadsAs};
+ghost use Rattle.texts.specs.Reading.{Gives, moves_field, new_moves_field, is_word, ReadsAs};
 ghost use Rattle.texts.specs.Reading.{front, field, no_field, register_of, round_of, open_of};
 ghost use Rattle.texts.specs.Reading.{enter_of, scramble_of, entry_of, attempt_of, correct_of};
-ghost use Rattle.texts.specs.Reading.{strike_of, set_advance_of, close_of, set_edition_of, by_word};
+ghost use Rattle.texts.specs.Reading.{strike_of, set_advance_of, close_of, set_edition_of};
+ghost use Rattle.texts.specs.Reading.{rename_of, set_round_of, rescramble_of, withdraw_of};
+ghost use Rattle.texts.specs.Reading.{reopen_of, by_new_word, by_word};
 ghost use Rattle.texts.specs.Reading.{command_of, ReadsWhatIsSpelled, SpellsWhatIsRead};
 ghost use Rattle.texts.specs.Reading.{SpellsOneCommand, SpellsShort};
 ghost use Rattle.texts.specs.model.Returned.{Reads, ReadsFields, GivesEntry, with_rest};
@@ -18,9 +20,10 @@ ghost use Rattle.texts.specs.declared.reading.CommandFault.TheVariants.{BadField
 
 use crate::command::{AttemptEntry, Command, Name, RoundId, Settings};
 use crate::fields::{
-    LAST_ATTEMPT, LAST_EDITION, LAST_NUMBER, advance_of, cut, cutoff_of, entered_of, is_name,
-    limit_of, moves_of,
+    LAST_ATTEMPT, LAST_EDITION, LAST_NUMBER, advance_of, cut, cutoff_of, entered_of, limit_of,
+    moves_of,
 };
+use crate::names::{is_clear_name, is_name};
 use crate::numbers::{u8_between, u16_between};
 use formats::{Advance, Event, Format, LAST_ROUND};
 use std::alloc::{AllocError, Global};
@@ -278,6 +281,101 @@ fn set_edition_of(left: Option<&[u8]>) -> Result<Command, CommandFault>
     Ok(Command::SetEdition { edition })
 }
 
+/// `REN`: number, name.
+#[tactic(auto, unfolding(crate::specs::Reading::rename_of, crate::specs::Fields::new_name_of))]
+fn rename_of(alloc: Global, left: Option<&[u8]>) -> Result<Command, CommandFault>
+    ensures { Gives 0 result (rename_of (option_copied left.entry)) }
+{
+    let (number, left) = number_field(1, left)?;
+    let bytes = last_field(2, left)?;
+    if !is_clear_name(bytes) {
+        return Err(CommandFault::BadField { index: 2 });
+    }
+    let name = Vec::from_slice(alloc, bytes)?;
+    Ok(Command::Rename {
+        number,
+        name: Name::new(name),
+    })
+}
+
+/// `SET`: event, round, format, cutoff, limit.
+#[tactic(auto, unfolding(crate::specs::Reading::set_round_of))]
+fn set_round_of(left: Option<&[u8]>) -> Result<Command, CommandFault>
+    ensures { Gives 0 result (set_round_of (option_copied left.entry)) }
+{
+    let (id, left) = round_of(left)?;
+    let (bytes, left) = field(3, left)?;
+    let format = value_of(3, Format::from_name(bytes))?;
+    let (bytes, left) = field(4, left)?;
+    let cutoff = value_of(4, cutoff_of(bytes))?;
+    let (bytes, left) = field(5, left)?;
+    let limit = value_of(5, limit_of(bytes))?;
+    no_field(6, left)?;
+    Ok(Command::SetRound {
+        id,
+        format,
+        cutoff,
+        limit,
+    })
+}
+
+/// `RSC`: event, round, attempt, moves.
+#[tactic(auto, unfolding(crate::specs::Reading::rescramble_of))]
+fn rescramble_of(alloc: Global, left: Option<&[u8]>) -> Result<Command, CommandFault>
+    ensures { Gives 4 result (rescramble_of (option_copied left.entry)) }
+{
+    let (id, left) = round_of(left)?;
+    let (attempt, left) = attempt_field(3, left)?;
+    let bytes = last_field(4, left)?;
+    let moves = value_of(4, moves_of(alloc, bytes)?)?;
+    Ok(Command::Rescramble { id, attempt, moves })
+}
+
+/// `WDR`: event, round, number.
+#[tactic(auto, unfolding(crate::specs::Reading::withdraw_of))]
+fn withdraw_of(left: Option<&[u8]>) -> Result<Command, CommandFault>
+    ensures { Gives 0 result (withdraw_of (option_copied left.entry)) }
+{
+    let (id, left) = round_of(left)?;
+    let (number, left) = number_field(3, left)?;
+    no_field(4, left)?;
+    Ok(Command::Withdraw { id, number })
+}
+
+/// `REOPEN`: event, round.
+#[tactic(auto, unfolding(crate::specs::Reading::reopen_of))]
+fn reopen_of(left: Option<&[u8]>) -> Result<Command, CommandFault>
+    ensures { Gives 0 result (reopen_of (option_copied left.entry)) }
+{
+    let (id, left) = round_of(left)?;
+    no_field(3, left)?;
+    Ok(Command::Reopen { id })
+}
+
+/// The command of a word that came with edition 3, and what is left after it.
+fn command_of_new_word(
+    alloc: Global,
+    word: &[u8],
+    left: Option<&[u8]>,
+) -> Result<Command, CommandFault>
+    ensures { Gives (new_moves_field word.now) result
+        (by_new_word (word.now, option_copied left.entry)) }
+{
+    if word == b"REN".as_slice() {
+        rename_of(alloc, left)
+    } else if word == b"SET".as_slice() {
+        set_round_of(left)
+    } else if word == b"RSC".as_slice() {
+        rescramble_of(alloc, left)
+    } else if word == b"WDR".as_slice() {
+        withdraw_of(left)
+    } else if word == b"REOPEN".as_slice() {
+        reopen_of(left)
+    } else {
+        Err(CommandFault::NotACommand)
+    }
+}
+
 /// The command of a word and what is left after it.
 fn command_of_word(alloc: Global, word: &[u8], left: Option<&[u8]>) -> Result<Command, CommandFault>
     ensures { Gives (moves_field word.now) result
@@ -304,7 +402,7 @@ fn command_of_word(alloc: Global, word: &[u8], left: Option<&[u8]>) -> Result<Co
     } else if word == b"EDITION".as_slice() {
         set_edition_of(left)
     } else {
-        Err(CommandFault::NotACommand)
+        command_of_new_word(alloc, word, left)
     }
 }
 
@@ -316,9 +414,9 @@ fn is_too_long(text: &[u8]) -> bool
 }
 
 /// The command that a text spells: a word and its fields, parted by one space each, of at most 600
-/// bytes. The spellings are those of edition 2, and [`edition_of`](crate::edition_of) says which of
-/// them edition 1 has too. The faults stand in the order of `CommandFault`. Memory is taken for a
-/// name and for moves.
+/// bytes. The spellings are those of all editions, and [`is_spelled_in`](crate::is_spelled_in) says
+/// which edition has which of them. The faults stand in the order of `CommandFault`. Memory is
+/// taken for a name and for moves.
 pub fn read(alloc: Global, text: &[u8]) -> Result<Command, CommandFault>
     ensures value { Gives (moves_field (cut 32 text.now).0) result (command_of text.now) }
 

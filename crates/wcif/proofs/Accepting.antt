@@ -1,12 +1,11 @@
 -- Commands that a meet accepts one after the other, and what holds after them.
-use Rattle.std.proofs.Common.{◌≡◌, ◌≤◌, ◌+◌, ℕ, zero, suc, Bool, false, List, [], ◌∷◌, ◌++◌, None}
-use Rattle.std.proofs.Common.{sym, subst, ap, ◌∙◌, append_assoc, append-nil, add-one, arith, nat_lt}
-use Rattle.std.proofs.lemmas.Bool.Decides.{nat_tests}
+use Rattle.std.proofs.Common.{◌≡◌, ◌+◌, ℕ, zero, suc, Bool, true, false, List, [], ◌∷◌, ◌++◌, None}
+use Rattle.std.proofs.Common.{sym, subst, ap, ◌∙◌, append_assoc, append-nil, add-one}
 use Rattle.std.specs.Prelude.{flat_map}
 use Rattle.std.specs.List.{list_any}
 use Rattle.std.proofs.lemmas.Grind.{flat_map-append}
 use Rattle.texts.specs.declared.command.Command.{Command}
-use Rattle.texts.specs.Editions.{edition_of}
+use Rattle.texts.specs.Editions.{is_spelled_in}
 use Rattle.commands.specs.Accepted.{edition_in, refusal}
 use Rattle.commands.specs.History.{spelled_refusal}
 use Rattle.wcif.specs.Commands.{numbers_to}
@@ -95,8 +94,7 @@ reach_else before cs P Q so reached =
 
 -- the edition that holds has the spelling, and no check fails
 pub on_time : (before : List Command) (c : Command) (edition : ℕ) → edition_in before ≡ edition
-    → edition_of c ≤ edition → refusal before c ≡ None → spelled_refusal before c ≡ None
+    → is_spelled_in edition c ≡ true → refusal before c ≡ None → spelled_refusal before c ≡ None
 on_time before c edition held spelled accepted =
-    let late : nat_lt (edition_in before) (edition_of c) ≡ false =
-    rw held (grind (arith, nat_tests)) in
-    rw late accepted
+    let here : is_spelled_in (edition_in before) c ≡ true = rw held spelled in
+    rw here accepted

@@ -12,7 +12,7 @@ use Rattle.std.proofs.lemmas.List.Folds.{list_any-append}
 use Rattle.std.proofs.lemmas.Slice.Eq.{bytes_eq-Decides}
 use Rattle.serde_json.specs.Data.{Data}
 use Rattle.formats.specs.declared.events.Event.{Event}
-use Rattle.formats.specs.Events.{event_name, same_event, most_entrants}
+use Rattle.formats.specs.Events.{event_edition, event_name, same_event, most_entrants}
 use Rattle.formats.proofs.SameEvent.{same_event-equal}
 use Rattle.formats.proofs.Naming.{only_name-event}
 use Rattle.rounds.specs.Tables as tables
@@ -193,6 +193,9 @@ pub enters_by : (e : Event) (p : Data) (ids : List Data) → is_accepted p ≡ t
 unfolding enters
 enters_by e p ids accepted own = rw (accepted, own) refl
 
+in_time : (n edition : ℕ) → n ≤ edition → nat_le n edition ≡ true
+in_time n edition h = grind (arith, nat_tests)
+
 known : (b : Bool) → not b ≡ false → b ≡ true
 known true h = refl
 known false h = absurd (false≢true (sym h))
@@ -226,7 +229,8 @@ enter_one how persons events names edition n among p ids none early may earlier 
     subst (λ cs. Reaches now cs (AreIn how events names edition n among (earlier ++ x ∷ [])))
     (sym named)
     (reach_one now (Enter held.event n) (AreIn how events names edition n among (earlier ++ x ∷ []))
-    (on_time now (Enter held.event n) edition stands.held held.early
+    (on_time now (Enter held.event n) edition stands.held
+    (in_time (event_edition held.event) edition held.early)
     (enter_allowed now held.event n held.settings (among held.event) may.name
     (stands.people n ∙ may.registered) opened (may.absent held.event)
     (may.room held.event does held.few)))

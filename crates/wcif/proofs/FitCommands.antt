@@ -1,14 +1,16 @@
 -- The commands of an import are in the ranges of their fields.
 use Rattle.std.proofs.Common.{◌≡◌, ◌≤◌, ℕ, Bool, true, false, cond, List, [], ◌∷◌, ◌++◌, map, subst}
 use Rattle.std.proofs.Common.{Option, Some, None, refl, sym, arith}
-use Rattle.std.specs.Prelude.{find, flat_map, unwrap_or}
+use Rattle.std.specs.Prelude.{find, flat_map, unwrap_or, IsTrue}
 use Rattle.std.specs.List.{list_any, AllByRecursion}
 use Rattle.std.specs.Option.{option_map, option_to_list}
+use Rattle.std.proofs.lemmas.Bool.{or_left}
 use Rattle.std.proofs.lemmas.List.Elements.{All-from_recursion}
 use Rattle.serde_json.specs.Data.{Data}
 use Rattle.formats.specs.declared.events.Event.{Event}
 use Rattle.formats.specs.Events.{event_of_name}
 use Rattle.texts.specs.Fields.{round_id}
+use Rattle.texts.specs.Names.{is_early_name}
 use Rattle.texts.specs.Spelling.{IsFit}
 use Rattle.texts.specs.declared.command.Command.{Command}
 use Rattle.texts.specs.declared.command.Command.TheVariants.{Register, Open, Enter, SetEdition}
@@ -32,7 +34,8 @@ use Rattle.commands.proofs.Sizes.{all_append, all_flat_map}
 -- what is to be shown of each command of an import, given that its fields are in their ranges
 pub record HoldsOfEach (P : Command → Type 0) : Type 0 where
   pub edition : P (SetEdition 2)
-  pub registration : (n : ℕ) (name : List ℕ) → IsFit (Register n name) → P (Register n name)
+  pub registration : (n : ℕ) (name : List ℕ)
+      → ((1 ≤ n) × (n ≤ last_number)) × IsTrue (is_early_name name) → P (Register n name)
   pub opening : (e : Event) (s : Settings) → IsFit (Open (round_id e 1) s)
       → P (Open (round_id e 1) s)
   pub entry : (e : Event) (n : ℕ) → IsFit (Enter e n) → P (Enter e n)
@@ -114,7 +117,7 @@ fit options persons events none =
     (each_command IsFit
     (record {
       edition = (omega arith, omega arith);
-      registration = λ n name fits. fits;
+      registration = λ n name fits. (fits.0, or_left (is_early_name name) _ fits.1);
       opening = λ e s fits. fits;
       entry = λ e n fits. fits;
     })

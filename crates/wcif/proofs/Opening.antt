@@ -1,7 +1,7 @@
 -- A meet accepts the openings of an import, and then has the first rounds of the file.
-use Rattle.std.proofs.Common.{◌≡◌, ◌≤◌, ◌&&◌, ℕ, Bool, true, false, not, cond, List, []}
+use Rattle.std.proofs.Common.{◌≡◌, ◌&&◌, ℕ, Bool, true, false, not, cond, List, []}
 use Rattle.std.proofs.Common.{◌∷◌, ◌++◌, Option, Some, None, is_some, refl, ap, sym, ◌∙◌, subst}
-use Rattle.std.proofs.Common.{arith, nat_lt}
+use Rattle.std.proofs.Common.{arith, nat_le, nat_lt}
 use Rattle.std.specs.Prelude.{find, flat_map}
 use Rattle.std.specs.List.{list_any}
 use Rattle.std.specs.Option.{option_or, option_map, option_and_then, option_to_list}
@@ -186,7 +186,7 @@ open_one how persons names edition earlier d now none early stands =
     (rounds_open how (earlier ++ d ∷ [])) (λ n. refl) (more_open how persons earlier d held)
     (stands_open now names edition (rounds_open how earlier) held.event held.settings stands)))
   where
-    in_time : (n : ℕ) → nat_lt edition n ≡ false → n ≤ edition
+    in_time : (n : ℕ) → nat_lt edition n ≡ false → nat_le n edition ≡ true
     in_time n h = grind (arith, nat_tests)
 
 -- all events, after commands that open no round

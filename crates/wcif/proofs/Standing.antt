@@ -12,10 +12,10 @@ use Rattle.texts.specs.declared.command.Command.TheVariants.{Register, Open, Ent
 use Rattle.texts.specs.declared.command.Settings.{Settings}
 use Rattle.texts.specs.Fields.{round_id}
 use Rattle.rounds.specs.Tables.{Table}
-use Rattle.commands.specs.Accepted.{name_of, name_given, round_of, round_in, edition_in}
+use Rattle.commands.specs.Accepted.{name_of, name_given, renaming, round_of, round_in, edition_in}
 use Rattle.commands.specs.Accepted.{edition_set, edition_after}
 use Rattle.commands.specs.model.Kept.{with_entry}
-use Rattle.commands.proofs.Lookups.{first_push, or_none}
+use Rattle.commands.proofs.Lookups.{stands as or_given, standing_kept, standing_push}
 use Rattle.commands.proofs.EachCommand.{round_register, round_edition, round_enter, round_open}
 use Rattle.wcif.specs.Laws.{new_round}
 
@@ -74,7 +74,7 @@ pub stands_edition : (cs : List Command) (names : ℕ → Option (List ℕ)) (ol
     → Stands (cs ++ SetEdition new ∷ []) names new rounds
 stands_edition cs names old new rounds stands = record {
   people =
-      λ n. first_push (name_given n) cs (SetEdition new) ∙ or_none (name_of cs n)
+      λ n. standing_kept (name_given n) (renaming n) cs (SetEdition new) refl refl
       ∙ stands.people n;
   held = edition_push 1 cs (SetEdition new);
   first = λ e. round_edition e 1 new cs ∙ stands.first e;
@@ -91,12 +91,17 @@ pub stands_register : (cs : List Command) (names : ℕ → Option (List ℕ)) (e
     → Stands (cs ++ Register n name ∷ []) (with_name names n name) edition rounds
 stands_register cs names edition rounds n name stands = record {
   people =
-      λ m. first_push (name_given m) cs (Register n name)
-      ∙ ap (λ o. option_or o (name_given m (Register n name))) (stands.people m);
+      λ m. standing_push (name_given m) (renaming m) cs (Register n name)
+      ∙ ap (or_given (name_given m (Register n name)) None) (stands.people m)
+      ∙ kept_or (name_given m (Register n name)) (names m);
   held = edition_push 1 cs (Register n name) ∙ stands.held;
   first = λ e. round_register e 1 n name cs ∙ stands.first e;
   later = λ e r late. round_register e r n name cs ∙ stands.later e r late;
 }
+  where
+    kept_or : (given o : Option (List ℕ)) → or_given given None o ≡ option_or o given
+    kept_or given None = refl
+    kept_or given (Some x) = refl
 
 -- the first round of an event, beside those that are open
 abbrev pub with_round : (Event → Option (Settings × Table)) → Event → Settings → Event
@@ -111,8 +116,8 @@ pub stands_open : (cs : List Command) (names : ℕ → Option (List ℕ)) (editi
 unfolding round_in
 stands_open cs names edition rounds f settings stands = record {
   people =
-      λ n. first_push (name_given n) cs (Open (round_id f 1) settings)
-      ∙ or_none (name_of cs n) ∙ stands.people n;
+      λ n. standing_kept (name_given n) (renaming n) cs (Open (round_id f 1) settings) refl refl
+      ∙ stands.people n;
   held = edition_push 1 cs (Open (round_id f 1) settings) ∙ stands.held;
   first =
       λ e. round_open e f 1 1 settings cs (omega arith)
@@ -140,7 +145,7 @@ pub stands_enter : (cs : List Command) (names : ℕ → Option (List ℕ)) (edit
     → Stands (cs ++ Enter f n ∷ []) names edition (with_entrant_in rounds f n)
 stands_enter cs names edition rounds f n stands = record {
   people =
-      λ m. first_push (name_given m) cs (Enter f n) ∙ or_none (name_of cs m) ∙ stands.people m;
+      λ m. standing_kept (name_given m) (renaming m) cs (Enter f n) refl refl ∙ stands.people m;
   held = edition_push 1 cs (Enter f n) ∙ stands.held;
   first =
       λ e. round_enter e f 1 n cs

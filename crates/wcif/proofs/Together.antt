@@ -52,6 +52,7 @@ known : (options : Options) (persons events : List Data)
 known options persons events none = record {
   apart = names_apart options persons events none;
   ranged = λ n p found. (fit_registered options persons events none n p found).0;
+  named = λ n p found. (fit_registered options persons events none n p found).1;
 }
 
 -- The edition.
@@ -158,10 +159,6 @@ set_up options persons events none =
     free : told_from (event_faults options.limits persons) [] events ≡ []
     free = events_free options persons events none
 
-    least : (b : Bool) → 1 ≤ cond b 2 1
-    least true = omega arith
-    least false = omega arith
-
     registered_all : (b : Bool)
         → Reaches [] (cond b (SetEdition 2 ∷ []) []
         ++ flat_map (registered options.names persons) numbers)
@@ -169,11 +166,11 @@ set_up options persons events none =
     registered_all true =
         let first = stands_edition [] (λ n. None) 1 2 nowhere stands_nothing in
         let more = registers options.names persons 2 (known options persons events none)
-        (least true) (SetEdition 2 ∷ []) first (λ n name. refl) in
+        (omega arith, omega arith) (SetEdition 2 ∷ []) first in
         record { accepted = (refl, more.accepted); after = more.after }
     registered_all false =
-        registers options.names persons 1 (known options persons events none) (least false) []
-        stands_nothing (λ n name. refl)
+        registers options.names persons 1 (known options persons events none)
+        (omega arith, omega arith) [] stands_nothing
 
 pub accepts_all : AcceptsAll
 accepts_all options persons events none = (set_up options persons events none).accepted

@@ -19,8 +19,9 @@ use Rattle.formats.specs.declared.advance.Advance.{Advance}
 use Rattle.formats.specs.declared.advance.Advance.TheVariants.{Final, Top, Percent}
 use Rattle.formats.specs.Events.{event_name, format_name}
 use Rattle.texts.specs.Fields.{round_id}
-use Rattle.texts.specs.Spelling.{IsFitCutoff, IsFitLimit, IsFitAdvance, is_name}
-use Rattle.texts.specs.Spelling.{is_name_byte, has_single_spaces, spelling, words_of, cutoff_text}
+use Rattle.texts.specs.Names.{has_single_spaces, is_name_byte, is_early_name}
+use Rattle.texts.specs.Spelling.{IsFitCutoff, IsFitLimit, IsFitAdvance, spelling, words_of}
+use Rattle.texts.specs.Spelling.{cutoff_text}
 use Rattle.texts.specs.Spelling.{limit_text, advance_text}
 use Rattle.texts.specs.declared.command.Command.{Command}
 use Rattle.texts.specs.declared.command.Command.TheVariants.{Register, Open, Enter, SetEdition}
@@ -56,7 +57,7 @@ number_lacks n small =
 name_byte_other : (b : ℕ) → is_name_byte b ≡ true → not (b == 10) ≡ true
 name_byte_other b h = grind (arith, nat_tests)
 
-name_lacks : (name : List ℕ) → is_name name ≡ true → lacks 10 name ≡ true
+name_lacks : (name : List ℕ) → is_early_name name ≡ true → lacks 10 name ≡ true
 name_lacks name is =
     lacks_by is_name_byte name_byte_other name
     (and-true _ (list_all is_name_byte name)

@@ -3,7 +3,7 @@
 ghost use Rattle.std.specs.Prelude.{◌≡◌};
 ghost use Rattle.std.specs.List.{list_all};
 ghost use Rattle.std.specs.Str.{is_utf8};
-ghost use Rattle.texts.specs.Spelling.{is_name, is_name_byte, has_single_spaces};
+ghost use Rattle.texts.specs.Names.{has_single_spaces, is_early_name, is_name_byte};
 
 /// The most bytes of a name.
 const MOST_NAME: usize = 80;
@@ -31,10 +31,10 @@ fn has_single_spaces(bytes: &[u8]) -> bool
         .all(|part| !part.is_empty())
 }
 
-/// Whether it is a name: 1 to 80 bytes of UTF-8 without control characters, whose words are parted
-/// by one space each.
+/// Whether it is a name of editions 1 and 2: 1 to 80 bytes of UTF-8 without control characters,
+/// whose words are parted by one space each.
 pub(crate) fn is_name(bytes: &[u8]) -> bool
-    ensures { result ≡ is_name bytes.now }
+    ensures { result ≡ is_early_name bytes.now }
 {
     !bytes.is_empty()
         && bytes.len() <= MOST_NAME

@@ -28,11 +28,11 @@ use Rattle.wire.specs.declared.values.SheetStyle.TheVariants.{Text, Table}
 use Rattle.wire.specs.Fields.{byte_at, number_at, two, numbered}
 use Rattle.wire.specs.declared.values.Version.{Version}
 use Rattle.wire.specs.Numbers.{last_event, answers, answer_number, refusals, refusal_number, styles}
-use Rattle.wire.specs.Numbers.{style_number, roles, role_number}
+use Rattle.wire.specs.Numbers.{style_number, roles, role_number, last_code}
 use Rattle.wire.specs.Ranges.{IsBallot, IsPosition, IsId, IsEntry, IsReport, IsCommandState}
-use Rattle.wire.specs.Ranges.{IsEventOf, IsLogLength}
+use Rattle.wire.specs.Ranges.{IsAnswerOf, IsEventOf, IsLogLength}
 use Rattle.wire.specs.Reading.{ballot_at, limited_at, position_at, id_at, entry_at, report_at}
-use Rattle.wire.specs.Reading.{member_at, event_at, state_at, log_length_at}
+use Rattle.wire.specs.Reading.{member_at, event_at, answer_at, state_at, log_length_at}
 use Rattle.wire.specs.Spelling.{ballot_bytes, entry_bytes, report_bytes, state_bytes}
 use Rattle.wire.proofs.Taking.{IsBytes, IsBytes-rest, bind_some, passed, some_is, Takes, wide32}
 use Rattle.wire.proofs.Taking.{number_takes, number_again, byte_takes}
@@ -150,6 +150,7 @@ refusal_found refusal.Down = refl
 refusal_found refusal.NotThere = refl
 refusal_found refusal.NoSuchRound = refl
 refusal_found refusal.Foreign = refl
+refusal_found refusal.NotAllowed = refl
 
 pub refusal_field : IsField (λ (x : ClientRefusal). refusal_number x ∷ [])
     (λ (x : ClientRefusal). Unit {0}) (member_at refusal_number refusals)
@@ -179,6 +180,8 @@ answer_found (answer.Refused code.NoMoreAttempts) = refl
 answer_found (answer.Refused code.NoSuchAttempt) = refl
 answer_found (answer.Refused code.CutoffLost) = refl
 answer_found (answer.Refused code.Unfinished) = refl
+answer_found (answer.Refused code.HasAttempts) = refl
+answer_found (answer.Refused code.NotClosed) = refl
 
 -- a refusal has the number of its code
 pub coded : (cs : List Code) (n : ℕ) → find (λ (x : Answer). eqb (answer_number x) n)
@@ -195,25 +198,40 @@ coded (c ∷ cs) n = go (eqb (code_number c) n) (coded cs n) where
   go true rest = refl
   go false rest = rest
 
-pub answer_field : IsField (λ (x : Answer). answer_number x ∷ []) (λ (x : Answer). Unit {0})
+any_answer_field : IsField (λ (x : Answer). answer_number x ∷ []) (λ (x : Answer). Unit {0})
     (member_at answer_number answers)
-answer_field = member_field answer_number answers answer_found
+any_answer_field = member_field answer_number answers answer_found
+
+-- an answer that a version tells
+answer_field : (v : Version) → IsField (λ (x : Answer). answer_number x ∷ []) (IsAnswerOf v)
+    (answer_at v)
+unfolding answer_at
+answer_field v = record {
+  takes = λ bytes x fits e.
+      let a = bind_some (member_at answer_number answers bytes)
+      (λ n. cond (leb (answer_number n.0) (last_code v)) (Some n) None) x e in
+      let b = passed (leb (answer_number a.0.0) (last_code v)) a.0 x a.2 in
+      let t = any_answer_field.takes bytes a.0 fits a.1 in
+      subst (λ (y : Answer × List ℕ). Takes bytes (answer_number y.0 ∷ []) y.1 × IsAnswerOf v y.0)
+      b.1 (t.0, leb-true _ _ b.0);
+  again = λ x rest fits. rw (any_answer_field.again x rest tt, le-leb _ _ fits) refl;
+}
 
 -- ---- what became of a command
 
-abbrev done_field : IsField (λ (p : ℕ × Answer). u32 p.0 ++ answer_number p.1 ∷ [])
-    (λ (p : ℕ × Answer). IsPosition p.0 × Unit {0})
-    (two position_at (member_at answer_number answers))
-done_field = two_fields u32 IsPosition position_at (λ (x : Answer). answer_number x ∷ [])
-    (λ (x : Answer). Unit {0}) (member_at answer_number answers) position_field answer_field
+abbrev done_field : (v : Version) → IsField (λ (p : ℕ × Answer). u32 p.0 ++ answer_number p.1 ∷ [])
+    (λ (p : ℕ × Answer). IsPosition p.0 × IsAnswerOf v p.1)
+    (two position_at (answer_at v))
+done_field v = two_fields u32 IsPosition position_at (λ (x : Answer). answer_number x ∷ [])
+    (IsAnswerOf v) (answer_at v) position_field (answer_field v)
 
-state_takes : (bytes : List ℕ) (x : CommandState × List ℕ) → IsBytes bytes
-    → state_at bytes ≡ Some x → Takes bytes (state_bytes x.0) x.1 × IsCommandState x.0
+state_takes : (v : Version) (bytes : List ℕ) (x : CommandState × List ℕ) → IsBytes bytes
+    → state_at v bytes ≡ Some x → Takes bytes (state_bytes x.0) x.1 × IsCommandState v x.0
 unfolding state_at
-state_takes [] x fits e = absurd cc
-state_takes (zero ∷ rest) x fits e =
+state_takes v [] x fits e = absurd cc
+state_takes v (zero ∷ rest) x fits e =
     subst (λ (y : CommandState × List ℕ). Takes (0 ∷ rest) (state_bytes y.0) y.1
-    × IsCommandState y.0)
+    × IsCommandState v y.0)
     (some_is (Unknown, rest) x e) (
       record {
         parts = refl;
@@ -222,9 +240,9 @@ state_takes (zero ∷ rest) x fits e =
       },
       tt,
     )
-state_takes (suc zero ∷ rest) x fits e =
+state_takes v (suc zero ∷ rest) x fits e =
     subst (λ (y : CommandState × List ℕ). Takes (1 ∷ rest) (state_bytes y.0) y.1
-    × IsCommandState y.0)
+    × IsCommandState v y.0)
     (some_is (Pending, rest) x e) (
       record {
         parts = refl;
@@ -233,23 +251,23 @@ state_takes (suc zero ∷ rest) x fits e =
       },
       tt,
     )
-state_takes (suc (suc zero) ∷ rest) x fits e =
-    let a = bind_some (two position_at (member_at answer_number answers) rest)
+state_takes v (suc (suc zero) ∷ rest) x fits e =
+    let a = bind_some (two position_at (answer_at v) rest)
     (λ p. Some (Done p.0.0 p.0.1, p.1)) x e in
-    let t = done_field.takes rest a.0 (IsBytes-rest 2 rest fits) a.1 in
+    let t = (done_field v).takes rest a.0 (IsBytes-rest 2 rest fits) a.1 in
     let made : CommandState × List ℕ = (Done a.0.0.0 a.0.0.1, a.0.1) in
     subst (λ (y : CommandState × List ℕ). Takes (2 ∷ rest) (state_bytes y.0) y.1
-    × IsCommandState y.0)
+    × IsCommandState v y.0)
     (some_is made x a.2)
-    (record { parts = ap (λ (w : List ℕ). 2 ∷ w) t.0.parts; are_bytes = t.0.are_bytes }, t.1.0)
-state_takes (suc (suc (suc k)) ∷ rest) x fits e = absurd cc
+    (record { parts = ap (λ (w : List ℕ). 2 ∷ w) t.0.parts; are_bytes = t.0.are_bytes }, t.1)
+state_takes v (suc (suc (suc k)) ∷ rest) x fits e = absurd cc
 
-state_again : (x : CommandState) (rest : List ℕ) → IsCommandState x
-    → state_at (state_bytes x ++ rest) ≡ Some (x, rest)
+state_again : (v : Version) (x : CommandState) (rest : List ℕ) → IsCommandState v x
+    → state_at v (state_bytes x ++ rest) ≡ Some (x, rest)
 unfolding state_at
-state_again Unknown rest fits = refl
-state_again Pending rest fits = refl
-state_again (Done pos a) rest fits = rw (done_field.again (pos, a) rest (fits, tt)) refl
+state_again v Unknown rest fits = refl
+state_again v Pending rest fits = refl
+state_again v (Done pos a) rest fits = rw ((done_field v).again (pos, a) rest fits) refl
 
-pub standing_field : IsField state_bytes IsCommandState state_at
-standing_field = record { takes = state_takes; again = state_again }
+pub standing_field : (v : Version) → IsField state_bytes (IsCommandState v) (state_at v)
+standing_field v = record { takes = state_takes v; again = state_again v }

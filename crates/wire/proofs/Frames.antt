@@ -88,9 +88,10 @@ bpb_field = two_fields ballot_bytes IsBallot ballot_at
     (λ (p : ℕ × Ballot). u32 p.0 ++ ballot_bytes p.1) (λ (p : ℕ × Ballot). IsPosition p.0
     × IsBallot p.1) (two position_at ballot_at) ballot_field pb_field
 
-is_field : IsField (λ (p : ℕ × CommandState). u64 p.0 ++ state_bytes p.1)
-    (λ (p : ℕ × CommandState). IsId p.0 × IsCommandState p.1) (two id_at state_at)
-is_field = two_fields u64 IsId id_at state_bytes IsCommandState state_at id_field standing_field
+is_field : (v : Version) → IsField (λ (p : ℕ × CommandState). u64 p.0 ++ state_bytes p.1)
+    (λ (p : ℕ × CommandState). IsId p.0 × IsCommandState v p.1) (two id_at (state_at v))
+is_field v = two_fields u64 IsId id_at state_bytes (IsCommandState v) (state_at v) id_field
+    (standing_field v)
 
 ps_field : IsField (λ (p : ℕ × SheetStyle). u32 p.0 ++ style_number p.1 ∷ [])
     (λ (p : ℕ × SheetStyle). (p.0 < 2 ^ 32) × Unit {0})
@@ -218,10 +219,10 @@ taken_takes v bytes w fits e =
     (record { number = refl; spelled = t.0; fits = t.1 })
 
 pub told_takes : (v : Version) (bytes : List ℕ) (w : What) → IsBytes bytes
-    → told_of bytes ≡ Some w → IsWhat v 33 bytes w
+    → told_of v bytes ≡ Some w → IsWhat v 33 bytes w
 told_takes v bytes w fits e =
-    let a = bind_some (all_of (two id_at state_at) bytes) (λ x. Some (Told x.0 x.1)) w e in
-    let t = all_takes _ _ _ is_field bytes a.0 fits a.1 in
+    let a = bind_some (all_of (two id_at (state_at v)) bytes) (λ x. Some (Told x.0 x.1)) w e in
+    let t = all_takes _ _ _ (is_field v) bytes a.0 fits a.1 in
     subst (λ (y : What). IsWhat v 33 bytes y) (some_is (Told a.0.0 a.0.1) w a.2)
     (record { number = refl; spelled = t.0; fits = t.1 })
 
@@ -295,7 +296,7 @@ what_again v (Sheet event round position style) fits =
 what_again v Tick fits = refl
 what_again v Stop fits = refl
 what_again v (Taken id) fits = rw (all_again _ _ _ id_field id fits) refl
-what_again v (Told id s) fits = rw (all_again _ _ _ is_field (id, s) fits) refl
+what_again v (Told id s) fits = rw (all_again _ _ _ (is_field v) (id, s) fits) refl
 what_again v (SheetText bytes) fits = refl
 what_again v (Refused refusal) fits = rw (all_again _ _ _ refusal_field refusal tt) refl
 what_again v Fine fits = refl

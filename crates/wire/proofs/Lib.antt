@@ -7,6 +7,7 @@ pub mod Runs
 pub mod LogRuns
 pub mod Standings
 pub mod Frames
+pub mod Told
 pub mod Whole
 pub mod WhatKind
 pub mod Finishing

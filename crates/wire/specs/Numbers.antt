@@ -1,10 +1,13 @@
 -- The numbers that versions, answers, refusals and roles have on the wire.
-use Rattle.std.specs.Prelude.{ℕ, List, [], ◌∷◌, map}
+use Rattle.std.specs.Prelude.{ℕ, nat_le, if◌then◌else◌, List, [], ◌∷◌, map}
 use Rattle.texts.specs.declared.answer.Answer.{Answer}
 use Rattle.texts.specs.declared.answer.Answer.TheVariants.{Done, Refused}
+use Rattle.texts.specs.declared.answer.Code.TheVariants.{Unread}
 use Rattle.texts.specs.Codes.{every_code, code_number}
 use Rattle.wire.specs.declared.values.ClientRefusal.{ClientRefusal}
 use Rattle.wire.specs.declared.values.ClientRefusal.TheVariants as refusal
+use Rattle.wire.specs.declared.values.CommandState.{CommandState}
+use Rattle.wire.specs.declared.values.CommandState.TheVariants as state
 use Rattle.wire.specs.declared.values.DeskRole.{DeskRole}
 use Rattle.wire.specs.declared.values.DeskRole.TheVariants.{Idle, Gathering, Proposing, Leading}
 use Rattle.wire.specs.declared.values.SheetStyle.{SheetStyle}
@@ -35,6 +38,7 @@ refusal_number refusal.Down = 5
 refusal_number refusal.NotThere = 6
 refusal_number refusal.NoSuchRound = 7
 refusal_number refusal.Foreign = 8
+refusal_number refusal.NotAllowed = 9
 
 abbrev pub style_number : SheetStyle → ℕ
 style_number Text = 0
@@ -45,13 +49,29 @@ abbrev pub answer_number : Answer → ℕ
 answer_number Done = 0
 answer_number (Refused c) = code_number c
 
+-- the last code that a version tells: versions 1 and 2 were there before the codes of edition 3
+abbrev pub last_code : Version → ℕ
+last_code One = 22
+last_code Two = 22
+last_code Three = 24
+
+-- what a version tells of an answer: of a code that it does not have, that it is no command
+abbrev pub answer_in : Version → Answer → Answer
+answer_in version answer =
+    if nat_le (answer_number answer) (last_code version) then answer else Refused Unread
+
+abbrev pub state_in : Version → CommandState → CommandState
+state_in version (state.Done pos answer) = state.Done pos (answer_in version answer)
+state_in version state.Pending = state.Pending
+state_in version state.Unknown = state.Unknown
+
 abbrev pub answers : List Answer
 answers = Done ∷ map (λ c. Refused c) every_code
 
 abbrev pub refusals : List ClientRefusal
 refusals =
     refusal.Busy ∷ refusal.LogFull ∷ refusal.BallotsSpent ∷ refusal.NoMemory ∷ refusal.Down ∷
-    refusal.NotThere ∷ refusal.NoSuchRound ∷ refusal.Foreign ∷ []
+    refusal.NotThere ∷ refusal.NoSuchRound ∷ refusal.Foreign ∷ refusal.NotAllowed ∷ []
 
 abbrev pub styles : List SheetStyle
 styles = Text ∷ Table ∷ []

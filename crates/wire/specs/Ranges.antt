@@ -22,7 +22,8 @@ use Rattle.formats.specs.Events.{event_number}
 use Rattle.wire.specs.declared.values.Version.{Version}
 use Rattle.wire.specs.declared.values.Version.TheVariants.{One, Two, Three}
 pub use Rattle.wire.specs.Entries.{IsId, IsEntry}
-use Rattle.wire.specs.Numbers.{last_event}
+use Rattle.texts.specs.declared.answer.Answer.{Answer}
+use Rattle.wire.specs.Numbers.{answer_number, last_code, last_event}
 use Rattle.wire.specs.Spelling.{kind_of}
 
 -- a desk of a hall
@@ -43,10 +44,14 @@ abbrev pub IsReport : Option Report → Type 0
 IsReport None = Unit {0}
 IsReport (Some r) = IsBallot r.ballot × IsEntry r.entry
 
-abbrev pub IsCommandState : CommandState → Type 0
-IsCommandState Unknown = Unit {0}
-IsCommandState Pending = Unit {0}
-IsCommandState (Done pos answer) = IsPosition pos
+-- an answer that a version tells
+abbrev pub IsAnswerOf : Version → Answer → Type 0
+IsAnswerOf version answer = answer_number answer ≤ last_code version
+
+abbrev pub IsCommandState : Version → CommandState → Type 0
+IsCommandState version Unknown = Unit {0}
+IsCommandState version Pending = Unit {0}
+IsCommandState version (Done pos answer) = IsPosition pos × IsAnswerOf version answer
 
 -- how many entries a Decided has in a version
 abbrev pub IsCount : Version → ℕ → Type 0
@@ -111,7 +116,7 @@ IsBody v Stop = Unit {0}
 IsBody v Status = v ≡ Three
 IsBody v (Log position) = (v ≡ Three) × IsLogLength position
 IsBody v (Taken id) = IsId id
-IsBody v (Told id s) = IsId id × IsCommandState s
+IsBody v (Told id s) = IsId id × IsCommandState v s
 IsBody v (SheetText bytes) = length bytes ≤ 299992
 IsBody v (Refused refusal) = Unit {0}
 IsBody v Fine = Unit {0}

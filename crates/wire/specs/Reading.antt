@@ -26,8 +26,10 @@ use Rattle.wire.specs.Fields.{Read, ◌>>=◌, number_at, byte_at, two, many, al
 use Rattle.wire.specs.Ranges.{Way, Between, FromClient, ToClient, way_of}
 use Rattle.wire.specs.declared.values.Version.{Version}
 use Rattle.wire.specs.declared.values.Version.TheVariants.{One, Two, Three}
-use Rattle.wire.specs.Numbers.{versions, version_number, last_event, answers, answer_number}
-use Rattle.wire.specs.Numbers.{refusals, refusal_number, styles, style_number, roles, role_number}
+use Rattle.texts.specs.declared.answer.Answer.{Answer}
+use Rattle.wire.specs.Numbers.{versions, version_number, last_code, last_event, answers}
+use Rattle.wire.specs.Numbers.{answer_number, refusals, refusal_number, styles, style_number, roles}
+use Rattle.wire.specs.Numbers.{role_number}
 
 abbrev pub between : ℕ → ℕ → ℕ → Bool
 between low high n = nat_le low n && nat_le n high
@@ -85,14 +87,20 @@ member_at number_of members bytes = do
   member ← numbered number_of members n.0
   Some (member, n.1)
 
-unfoldable pub state_at : List ℕ → Read CommandState
-state_at [] = None
-state_at (zero ∷ rest) = Some (Unknown, rest)
-state_at (suc zero ∷ rest) = Some (Pending, rest)
-state_at (suc (suc zero) ∷ rest) = do
-  done ← two position_at (member_at answer_number answers) rest
+-- an answer that a version tells
+unfoldable pub answer_at : Version → List ℕ → Read Answer
+answer_at version bytes = do
+  answer ← member_at answer_number answers bytes
+  if nat_le (answer_number answer.0) (last_code version) then Some answer else None
+
+unfoldable pub state_at : Version → List ℕ → Read CommandState
+state_at version [] = None
+state_at version (zero ∷ rest) = Some (Unknown, rest)
+state_at version (suc zero ∷ rest) = Some (Pending, rest)
+state_at version (suc (suc zero) ∷ rest) = do
+  done ← two position_at (answer_at version) rest
   Some (Done done.0.0 done.0.1, done.1)
-state_at (suc (suc (suc b)) ∷ rest) = None
+state_at version (suc (suc (suc b)) ∷ rest) = None
 
 -- a byte that says how many entries follow
 abbrev pub told_count_at : List ℕ → Read ℕ
@@ -201,8 +209,8 @@ sheet_of version bytes =
 abbrev pub taken_of : List ℕ → Option What
 taken_of bytes = all_of id_at bytes >>= λ x. Some (Taken x)
 
-abbrev pub told_of : List ℕ → Option What
-told_of bytes = all_of (two id_at state_at) bytes >>= λ x. Some (Told x.0 x.1)
+abbrev pub told_of : Version → List ℕ → Option What
+told_of version bytes = all_of (two id_at (state_at version)) bytes >>= λ x. Some (Told x.0 x.1)
 
 abbrev pub refused_of : List ℕ → Option What
 refused_of bytes = all_of (member_at refusal_number refusals) bytes >>= λ x. Some (Refused x)
@@ -269,7 +277,7 @@ what_of version kind bytes =
     else if kind == 21 then empty_of Status bytes
     else if kind == 22 then log_of bytes
     else if kind == 32 then taken_of bytes
-    else if kind == 33 then told_of bytes
+    else if kind == 33 then told_of version bytes
     else if kind == 34 then Some (SheetText bytes)
     else if kind == 35 then refused_of bytes
     else if kind == 36 then empty_of Fine bytes

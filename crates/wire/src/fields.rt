@@ -9,15 +9,15 @@ ghost use Rattle.wire.specs.Fields.{number_at, byte_at, many, numbered, ended};
 ghost use Rattle.wire.specs.Numbers.{answers, answer_number, refusals, refusal_number, styles};
 ghost use Rattle.wire.specs.Numbers.{style_number, roles, role_number};
 ghost use Rattle.wire.specs.Reading.{ballot_at, limited_at, position_at, id_at, text_at, entry_at};
-ghost use Rattle.wire.specs.Reading.{report_at, member_at, event_at, state_at, log_length_at};
-ghost use Rattle.wire.specs.Reading.{promised_at, lengths_at};
+ghost use Rattle.wire.specs.Reading.{report_at, member_at, event_at, answer_at, state_at};
+ghost use Rattle.wire.specs.Reading.{log_length_at, promised_at, lengths_at};
 ghost use Rattle.wire.specs.declared.fault.WireFault.TheVariants.{NoMemory};
 ghost use Rattle.wire.specs.model.Gives.{GivesField};
 ghost use Rattle.wire.specs.model.Parts.{part_entry, part_report, IsPart};
 
 use crate::fault::WireFault;
 use crate::standing::Lengths;
-use crate::values::{ClientRefusal, CommandState, DeskRole, SheetStyle, Version};
+use crate::values::{ClientRefusal, CommandState, DeskRole, SheetStyle, Version, number_of};
 use acceptor::MOST_ENTRIES;
 use acceptor::ballot::Ballot;
 use acceptor::entry::{Entry, EntryFault};
@@ -354,7 +354,7 @@ fn answer_numbered(number: u8) -> Option<Answer>
 }
 
 #[tactic(auto, unfolding(crate::specs::Reading::member_at))]
-fn answer_of(bytes: &[u8]) -> Result<(Answer, &[u8]), WireFault>
+fn any_answer_of(bytes: &[u8]) -> Result<(Answer, &[u8]), WireFault>
     ensures { GivesField (λ x. (x.0, x.1.now)) result (member_at answer_number answers bytes.now) }
 {
     let (number, rest) = byte_of(bytes)?;
@@ -362,16 +362,29 @@ fn answer_of(bytes: &[u8]) -> Result<(Answer, &[u8]), WireFault>
     Ok((answer, rest))
 }
 
+/// An answer that this version tells.
+#[tactic(auto, unfolding(crate::specs::Reading::answer_at))]
+fn answer_of(version: Version, bytes: &[u8]) -> Result<(Answer, &[u8]), WireFault>
+    ensures { GivesField (λ x. (x.0, x.1.now)) result (answer_at version bytes.now) }
+{
+    let (answer, rest) = any_answer_of(bytes)?;
+    if number_of(answer) <= version.last_code() {
+        Ok((answer, rest))
+    } else {
+        Err(WireFault::BadBody)
+    }
+}
+
 #[tactic(auto, unfolding(crate::specs::Reading::state_at))]
-pub(crate) fn state_of(bytes: &[u8]) -> Result<(CommandState, &[u8]), WireFault>
-    ensures { GivesField (λ x. (x.0, x.1.now)) result (state_at bytes.now) }
+pub(crate) fn state_of(version: Version, bytes: &[u8]) -> Result<(CommandState, &[u8]), WireFault>
+    ensures { GivesField (λ x. (x.0, x.1.now)) result (state_at version bytes.now) }
 {
     match bytes {
         [0, rest @ ..] => Ok((CommandState::Unknown, rest)),
         [1, rest @ ..] => Ok((CommandState::Pending, rest)),
         [2, rest @ ..] => {
             let (pos, rest) = position_of(rest)?;
-            let (answer, rest) = answer_of(rest)?;
+            let (answer, rest) = answer_of(version, rest)?;
             Ok((CommandState::Done { pos, answer }, rest))
         }
         _ => Err(WireFault::BadBody),

@@ -130,11 +130,11 @@ fn taken_of(bytes: &[u8]) -> Result<What, WireFault>
     Ok(What::Taken { id })
 }
 
-fn told_of(bytes: &[u8]) -> Result<What, WireFault>
-    ensures { GivesBody result (told_of bytes.now) }
+fn told_of(version: Version, bytes: &[u8]) -> Result<What, WireFault>
+    ensures { GivesBody result (told_of version bytes.now) }
 {
     let (id, rest) = id_of(bytes)?;
-    let (state, rest) = state_of(rest)?;
+    let (state, rest) = state_of(version, rest)?;
     end(rest)?;
     Ok(What::Told { id, state })
 }
@@ -211,7 +211,7 @@ fn what_of(alloc: Global, version: Version, kind: u8, bytes: &[u8]) -> Result<Wh
         21 => empty_of(What::Status, bytes),
         22 => log_of(bytes),
         32 => taken_of(bytes),
-        33 => told_of(bytes),
+        33 => told_of(version, bytes),
         34 => sheet_text_of(alloc, bytes),
         35 => refused_of(bytes),
         36 => empty_of(What::Fine, bytes),

@@ -2,9 +2,10 @@
 //! refusals, what a desk does for a ballot.
 
 ghost use Rattle.std.specs.Prelude.{◌≡◌};
+ghost use Rattle.wire.specs.Numbers.{answer_number};
 
 use formats::Event;
-use texts::Answer;
+use texts::{Answer, Code};
 
 /// The last event whose sheets can be asked for in version 1.
 const LAST_OF_ONE: Event = Event::Blind5;
@@ -15,11 +16,13 @@ const LAST_OF_TWO: Event = Event::MultiBlind;
 /// The version of the wire in which a frame is spelled.
 #[derive(Clone, Copy, Debug, PartialEq, Eq)]
 pub enum Version {
-    /// A Decided has one entry, and sheets are those of the events 1 to 16.
+    /// A Decided has one entry, sheets are those of the events 1 to 16, and a Told has the codes 1
+    /// to 22.
     One,
-    /// A Decided has 1 to 16 entries, and sheets are those of the events 1 to 17.
+    /// A Decided has 1 to 16 entries, sheets are those of the events 1 to 17, and a Told has the
+    /// codes 1 to 22.
     Two,
-    /// Version 2 and four kinds more: Status, Log, Standing and Entries.
+    /// Version 2, four kinds more (Status, Log, Standing and Entries), and the codes 23 and 24.
     Three,
 }
 
@@ -43,6 +46,34 @@ pub enum CommandState {
     Done { pos: u32, answer: Answer },
 }
 
+/// The number of an answer in a frame: 0, or that of the code.
+pub(crate) fn number_of(answer: Answer) -> u8
+    ensures { result ≡ answer_number answer }
+{
+    match answer {
+        Answer::Done => 0,
+        Answer::Refused(code) => code.number(),
+    }
+}
+
+impl CommandState {
+    ghost use Rattle.wire.specs.Numbers.{state_in};
+
+    /// What a version tells of what became of a command.
+    pub fn in_version(self, version: Version) -> CommandState
+        ensures { result ≡ state_in version self }
+    {
+        match self {
+            CommandState::Done { pos, answer } => CommandState::Done {
+                pos,
+                answer: version.answer(answer),
+            },
+            CommandState::Pending => CommandState::Pending,
+            CommandState::Unknown => CommandState::Unknown,
+        }
+    }
+}
+
 /// Why a desk refuses a client.
 #[derive(Clone, Copy, Debug, PartialEq, Eq)]
 pub enum ClientRefusal {
@@ -62,6 +93,8 @@ pub enum ClientRefusal {
     NoSuchRound,
     /// The frame was for another hall, or for another desk.
     Foreign,
+    /// The connection may not ask for that: it is under no key, or under another than the hall's.
+    NotAllowed,
 }
 
 /// What a desk does for a ballot of its own.
@@ -79,7 +112,8 @@ pub enum DeskRole {
 
 impl Version {
     ghost use Rattle.wire.specs.Fields.{numbered};
-    ghost use Rattle.wire.specs.Numbers.{versions, version_number, last_event};
+    ghost use Rattle.wire.specs.Numbers.{versions, version_number, last_event, last_code};
+    ghost use Rattle.wire.specs.Numbers.{answer_in};
 
     /// All versions.
     pub const ALL: [Version; 3] = [Version::One, Version::Two, Version::Three];
@@ -112,6 +146,29 @@ impl Version {
         match self {
             Version::One => LAST_OF_ONE.number(),
             Version::Two | Version::Three => LAST_OF_TWO.number(),
+        }
+    }
+
+    /// The number of the last code that this version tells: versions 1 and 2 were there before the
+    /// codes of edition 3.
+    pub fn last_code(self) -> u8
+        ensures { result ≡ last_code self }
+    {
+        match self {
+            Version::One | Version::Two => Code::Unfinished.number(),
+            Version::Three => Code::NotClosed.number(),
+        }
+    }
+
+    /// What this version tells of an answer. A code that it does not have is told as `Unread`,
+    /// which a client without edition 3 takes for what it is: a command that it does not know.
+    pub fn answer(self, answer: Answer) -> Answer
+        ensures { result ≡ answer_in self answer }
+    {
+        if number_of(answer) <= self.last_code() {
+            answer
+        } else {
+            Answer::Refused(Code::Unread)
         }
     }
 }
@@ -149,7 +206,7 @@ impl ClientRefusal {
     ghost use Rattle.wire.specs.Numbers.{refusals, refusal_number};
 
     /// All refusals, in the order of their numbers.
-    pub const ALL: [ClientRefusal; 8] = [
+    pub const ALL: [ClientRefusal; 9] = [
         ClientRefusal::Busy,
         ClientRefusal::LogFull,
         ClientRefusal::BallotsSpent,
@@ -158,6 +215,7 @@ impl ClientRefusal {
         ClientRefusal::NotThere,
         ClientRefusal::NoSuchRound,
         ClientRefusal::Foreign,
+        ClientRefusal::NotAllowed,
     ];
 
     /// The refusal's number in a frame.
@@ -173,6 +231,7 @@ impl ClientRefusal {
             ClientRefusal::NotThere => 6,
             ClientRefusal::NoSuchRound => 7,
             ClientRefusal::Foreign => 8,
+            ClientRefusal::NotAllowed => 9,
         }
     }
 

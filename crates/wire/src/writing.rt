@@ -2,7 +2,6 @@
 
 ghost use Rattle.std.specs.Prelude.{◌≡◌, ◌≤◌, ◌<◌, ◌++◌, IfOk, OnOk, length};
 ghost use Rattle.std.specs.Int.{w16, w32, w64, to_be_bytes};
-ghost use Rattle.wire.specs.Numbers.{answer_number};
 ghost use Rattle.wire.specs.Ranges.{IsFrame, IsBody};
 ghost use Rattle.std.specs.List.{flat_map};
 ghost use Rattle.wire.specs.Spelling.{ballot_bytes, text_bytes, entry_bytes, count_bytes};
@@ -13,7 +12,7 @@ ghost use Rattle.wire.specs.Spelling.{spelling};
 use crate::NoMemory;
 use crate::frame::{Frame, What};
 use crate::standing::{Lengths, Standing};
-use crate::values::{CommandState, Version};
+use crate::values::{CommandState, Version, number_of};
 use acceptor::ballot::Ballot;
 use acceptor::entry::Entry;
 use acceptor::message::Report;
@@ -77,15 +76,6 @@ fn put_report(out: &mut Vec<u8>, vote: &Option<Report>) -> Result<(), NoMemory>
             put_ballot(out, report.ballot)?;
             put_entry(out, &report.entry)
         }
-    }
-}
-
-fn number_of(answer: Answer) -> u8
-    ensures { result ≡ answer_number answer }
-{
-    match answer {
-        Answer::Done => 0,
-        Answer::Refused(code) => code.number(),
     }
 }
 

@@ -11,7 +11,7 @@ use Rattle.texts.specs.declared.command.Settings.{Settings}
 use Rattle.commands.specs.declared.kept_rounds.KeptRounds.{KeptRounds}
 use Rattle.commands.specs.Accepted.{settled, unfit_refusal, entered_refusal, put_refusal}
 use Rattle.commands.specs.Accepted.{correct_refusal}
-use Rattle.commands.specs.model.Kept.{kept_by, IsKeptAt, Changes, with_attempt, with_correction}
+use Rattle.commands.specs.model.Kept.{kept_by, IsKeptAt, Enters, with_attempt, with_correction}
 
 -- the round of an entry is at this place, what was entered fits it, and this is its value there
 pub record IsSettled (entry : AttemptEntry) (scramble : Option (List Move)) (kept : KeptRounds)
@@ -45,9 +45,9 @@ correction_refusal entry scramble kept =
 -- the round of an entry has the attempt, and nothing else is changed
 abbrev pub AddsAttempt : AttemptEntry → Option (List Move) → KeptRounds → KeptRounds → Type 0
 AddsAttempt entry scramble old new =
-    Changes entry.id (with_attempt entry.number scramble entry.outcome) old new
+    Enters entry (with_attempt entry.number scramble entry.outcome) old new
 
 -- the round of an entry has the other value for the attempt, and nothing else is changed
 abbrev pub Corrects : AttemptEntry → Option (List Move) → KeptRounds → KeptRounds → Type 0
 Corrects entry scramble old new =
-    Changes entry.id (with_correction entry.number entry.attempt scramble entry.outcome) old new
+    Enters entry (with_correction entry.number entry.attempt scramble entry.outcome) old new

@@ -8,7 +8,7 @@ use Rattle.store.specs.declared.home.Home.{Home}
 use Rattle.wire.specs.declared.values.Version.{Version}
 use Rattle.multiplex.specs.Happenings.{Happened, Tells, Closed, Named, Round}
 use Rattle.multiplex.specs.Passing.{Change, Changes, Lobby, Pass, Room, Step, Takes, guest, lobby}
-use Rattle.multiplex.specs.Passing.{over_by, told, told_all, told_change}
+use Rattle.multiplex.specs.Passing.{may_ask, over_by, told, told_all, told_change}
 use Rattle.multiplex.specs.declared.ends.Over.{Over}
 use Rattle.multiplex.specs.declared.ends.Why.{Why}
 use Rattle.multiplex.specs.declared.table.Guest.{Guest}
@@ -97,7 +97,8 @@ at_guest s g = spot s.node s.peers s.clients g.talk
 abbrev pub Hosts : {V U C : Type 0} → DeskOf V → PeersOf U → (C → Option (List Happened)) → ℕ
     → Option Why → Guest → Guest → Scene V U C → Scene V U C → Type 0
 Hosts d p happened time fate old new a b =
-    IsHosted time old new × TalksOn d p happened old.number fate (at_guest a old) (at_guest b new)
+    IsHosted time old new
+    × TalksOn d p happened old.number (may_ask old) fate (at_guest a old) (at_guest b new)
 
 -- the step that a client is which was named as ready; all but its name is told
 abbrev pub Answers : {V U C : Type 0} → DeskOf V → PeersOf U → (C → Option (List Happened)) → Home

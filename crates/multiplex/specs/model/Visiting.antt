@@ -3,10 +3,12 @@ use Rattle.std.specs.Prelude.{◌≡◌, ◌⊎◌, ◌≤◌, ℕ, Bool, true, 
 use Rattle.std.specs.Prelude.{Option, None, Some}
 use Rattle.answers.specs.declared.desk.Desk.{Ghosts as DeskOf}
 use Rattle.serving.specs.declared.peers.Peers.{Ghosts as PeersOf}
+use Rattle.serving.specs.declared.permission.Permission.{Permission}
+use Rattle.serving.specs.Connection.{AreUnder}
 use Rattle.serving.specs.Making.{speaking}
 use Rattle.serving.specs.Sessions.{outside}
 use Rattle.serving.specs.Turns.{Receives, Talk, WantsRead, after_sent}
-use Rattle.serving.specs.TurnLaw.{Follow, Place, Turn}
+use Rattle.serving.specs.TurnLaw.{Follow, Place, Turn, begun_in}
 use Rattle.wire.specs.declared.values.Version.{Version}
 use Rattle.multiplex.specs.Happenings.{Happened, Tells, Gave, Took, Broke}
 use Rattle.multiplex.specs.Passing.{IsDone, IsFate, Settled, pieces, told_why, told_turns}
@@ -33,11 +35,12 @@ place_at d p version s = record {
   outside = outside d p version s.node s.peers;
 }
 
--- these turns were taken, in which so many pieces came at most
+-- these turns were taken of a client that may ask so much, in which so many pieces came at most
 pub record Takes {V U C : Type 0} (d : DeskOf V) (p : PeersOf U)
-    (happened : C → Option (List Happened)) (k : ℕ) (cause : Option Why) (most : ℕ)
-    (a b : Spot V U C) (turns : List Turn) : Type 0 where
+    (happened : C → Option (List Happened)) (k : ℕ) (may : Permission) (cause : Option Why)
+    (most : ℕ) (a b : Spot V U C) (turns : List Turn) : Type 0 where
   pub few : pieces turns ≤ most
+  pub allowed : AreUnder may (begun_in turns)
   pub follow : Follow (place_at d p a.talk.wire a) turns (place_at d p a.talk.wire b)
   pub told : Tells (happened a.clients) (happened b.clients)
       (told_turns k turns ++ told_why k cause)
@@ -45,14 +48,14 @@ pub record Takes {V U C : Type 0} (d : DeskOf V) (p : PeersOf U)
   pub wire : b.talk.wire ≡ a.talk.wire
 
 abbrev pub Goes : {V U C : Type 0} → DeskOf V → PeersOf U → (C → Option (List Happened)) → ℕ
-    → Option Why → ℕ → Spot V U C → Spot V U C → Type 0
-Goes d p happened k cause most a b =
-    (turns : List Turn) × Takes d p happened k cause most a b turns
+    → Permission → Option Why → ℕ → Spot V U C → Spot V U C → Type 0
+Goes d p happened k may cause most a b =
+    (turns : List Turn) × Takes d p happened k may cause most a b turns
 
 -- and the connection goes on, or is to be ended
 abbrev pub TalksOn : {V U C : Type 0} → DeskOf V → PeersOf U → (C → Option (List Happened)) → ℕ
-    → Option Why → Spot V U C → Spot V U C → Type 0
-TalksOn d p happened k fate a b = Goes d p happened k fate 1 a b × IsFate fate b.talk
+    → Permission → Option Why → Spot V U C → Spot V U C → Type 0
+TalksOn d p happened k may fate a b = Goes d p happened k may fate 1 a b × IsFate fate b.talk
 
 -- true where nothing failed
 abbrev pub broken : Bool → Option Why

@@ -1,8 +1,10 @@
 -- The entrants of a round as the table sees them.
 use Rattle.std.specs.Prelude.{◌≡◌, ◌<◌, ◌≤◌, ℕ, zero, suc, Bool, false, if◌then◌else◌, List, []}
-use Rattle.std.specs.Prelude.{◌∷◌, ◌++◌, Some, find, length, map, slice_get, All}
+use Rattle.std.specs.Prelude.{◌∷◌, ◌++◌, Option, Some, find, filter, length, map, not, slice_get}
+use Rattle.std.specs.Prelude.{remove, All}
 use Rattle.attempts.specs.declared.Value.{Value}
 use Rattle.attempts.specs.Attempts.{IsInRangeOf}
+use Rattle.formats.specs.declared.events.Format.{Format}
 use Rattle.rounds.specs.declared.rules.Rules.{Rules}
 use Rattle.rounds.specs.declared.kept_entrant.KeptEntrant.{KeptEntrant}
 use Rattle.rounds.specs.Tables.{Entrant, Table, IsCutoff, allotted, has_number, place}
@@ -51,9 +53,27 @@ pub record IsEntrantAt (n : ℕ) (f : Field) (i : ℕ) : Type 0 where
   pub ranged : All (IsInRangeOf f.rules.unit) entrant.values
   pub changed : (change : List Value → List Value)
       → set_values_at f.entrants i (change entrant.values) ≡ map (with_change n change) f.entrants
+  pub left : remove f.entrants i ≡ filter (λ e. not (has_number n e)) f.entrants
 
 -- what is kept of the entrant with a number
 pub record IsKeptEntrantOf (f : Field) (n : ℕ) (e : Entrant) (s : KeptEntrant) : Type 0 where
   pub found : find (has_number n) f.entrants ≡ Some e
   pub row : s.row ≡ e.values
   pub kept : s.kept ≡ kept_of f.rules e.values (place (as_table false f) e)
+
+-- the entrant at an index has done no attempt
+pub record IsWithoutAttempts (f : Field) (i : ℕ) : Type 0 where
+  pub entrant : Entrant
+  pub there : slice_get f.entrants i ≡ Some entrant
+  pub none : entrant.values ≡ []
+
+-- the entrant at an index is taken out
+abbrev pub without_at : Field → ℕ → Field
+without_at f i = record f { entrants = remove f.entrants i }
+
+-- the entrants are ranked and cut off otherwise
+abbrev pub with_field_rules : Field → Format → Option (ℕ × ℕ) → Field
+with_field_rules f format cutoff =
+    record f {
+      rules = record { format = format; unit = f.rules.unit; cutoff = cutoff };
+    }

@@ -1,5 +1,5 @@
 -- What is kept of a round's entrants is up to date: places and counts are those of the values.
-use Rattle.std.specs.Prelude.{◌≡◌, ◌≤◌, ℕ, List, None, All, count_by, length, map}
+use Rattle.std.specs.Prelude.{◌≡◌, ◌≤◌, ℕ, List, [], None, All, count_by, length, map}
 use Rattle.std.specs.List.{list_any}
 use Rattle.std.specs.Map.{values_of}
 use Rattle.formats.specs.declared.results.RankKey.{RankKey}
@@ -9,9 +9,11 @@ use Rattle.rounds.specs.declared.entrants.Entrants.TheInside.{Inside}
 use Rattle.rounds.specs.declared.rules.Rules.{Rules}
 use Rattle.rounds.specs.declared.kept_entrant.KeptEntrant.{KeptEntrant}
 use Rattle.attempts.specs.Attempts.{IsInRangeOf}
+use Rattle.attempts.specs.declared.Value.TheVariants.{Dns}
+use Rattle.formats.specs.declared.results.Averaged.TheVariants.{Missing}
 use Rattle.rounds.specs.Tables.{Entrant, IsCutoff, allotted, is_started_attempt}
 use Rattle.rounds.specs.model.Field.{Field}
-use Rattle.rounds.specs.model.PackedKeys.{HasPackedKey}
+use Rattle.rounds.specs.model.PackedKeys.{HasPackedKey, HasRoom, packed_key_of}
 use Rattle.rounds.specs.model.KeptEntrants.{kept_of, is_unfinished, place_among}
 
 abbrev pub entrant_of : ℕ × KeptEntrant → Entrant
@@ -26,6 +28,13 @@ field_of a = record { rules = a.rules; entrants = entrants_of a.by_number.entrie
 -- what an entrant without a result is ranked by
 abbrev pub no_result : RankKey
 no_result = record { main = None; tie = None }
+
+-- one without attempts, at a place
+pub record IsNewcomer (place : ℕ) (s : KeptEntrant) : Type 0 where
+  pub row : s.row ≡ []
+  pub kept : s.kept ≡ record { best = Dns; average = Missing; key = no_result; place = place }
+  pub packed_key : s.packed_key ≡ packed_key_of no_result
+  pub room : HasRoom no_result
 
 -- best, average and key are those of the values
 abbrev pub IsMade : Rules → ℕ × KeptEntrant → Type 0

@@ -4,11 +4,13 @@ use Rattle.std.specs.Prelude.{Some}
 use Rattle.wire.specs.declared.frame.Frame.{Frame}
 use Rattle.wire.specs.Stream.{Waits, Breaks, front, IsOfStream, Reader, holding}
 use Rattle.store.specs.declared.home.Home.{Home}
+use Rattle.serving.specs.declared.permission.Permission.{Permission}
 use Rattle.serving.specs.declared.ends.Close.TheVariants as close
 use Rattle.serving.specs.declared.ends.End.{End}
 use Rattle.serving.specs.declared.ends.End.TheVariants as end
 use Rattle.serving.specs.declared.ends.FrameFault.TheVariants as fault
-use Rattle.serving.specs.Connection.{Begun, frames_of, AreBegun, Sides, Serves, Closes, Fails}
+use Rattle.serving.specs.Connection.{Begun, frames_of, AreBegun, AreUnder, Sides}
+use Rattle.serving.specs.Connection.{Serves, Closes, Fails}
 use Rattle.serving.specs.Making.{Way}
 
 -- how frames end the connection of themselves, and how many were begun by then
@@ -30,10 +32,11 @@ abbrev pub EndsBatch : {V : Type 0} → {way : Way V} → Option End → Home �
 EndsBatch None home a b begun left count = Serves home a b begun × (left ≡ []) × (count < 64)
 EndsBatch (Some e) home a b begun left count = EndsInFrames e home a b begun count
 
-pub record IsBatch {V : Type 0} {way : Way V} (how : Option End) (home : Home) (a b : Sides way)
-    (given : List Frame)
+pub record IsBatch {V : Type 0} {way : Way V} (may : Permission) (how : Option End) (home : Home)
+    (a b : Sides way) (given : List Frame)
     (begun : List Begun) (left : List Frame) (before count : ℕ) : Type 0 where
   pub parts : given ≡ frames_of begun ++ left
+  pub allowed : AreUnder may begun
   pub counted : count ≡ before + length begun
   pub few : count ≤ 64
   pub ends : EndsBatch how home a b begun left count
@@ -60,10 +63,11 @@ EndsPiece (Some end.End) home a b begun rest count new = ⊥
 EndsPiece (Some end.Reads) home a b begun rest count new = ⊥
 EndsPiece (Some end.Read) home a b begun rest count new = ⊥
 
-pub record IsPiece {V : Type 0} {way : Way V} (how : Option End) (home : Home) (a b : Sides way)
-    (stream : List ℕ)
+pub record IsPiece {V : Type 0} {way : Way V} (may : Permission) (how : Option End) (home : Home)
+    (a b : Sides way) (stream : List ℕ)
     (begun : List Begun) (rest : List ℕ) (before count : ℕ) (new : Reader) : Type 0 where
   pub begins : AreBegun stream begun rest
+  pub allowed : AreUnder may begun
   pub counted : count ≡ before + length begun
   pub few : count ≤ 64
   pub ends : EndsPiece how home a b begun rest count new

@@ -15,6 +15,7 @@ use Rattle.serving.specs.declared.calls.Answer.{Answer}
 use Rattle.serving.specs.declared.ends.Close.{Close}
 use Rattle.serving.specs.declared.ends.End.{End}
 use Rattle.serving.specs.declared.ends.FrameFault.TheVariants as fault
+use Rattle.serving.specs.declared.permission.Permission.{Permission}
 use Rattle.serving.specs.declared.peers.Peers.{Ghosts as PeersOf}
 use Rattle.serving.specs.declared.request.Request.{Request}
 use Rattle.serving.specs.declared.request.Request.TheVariants.{Heard, Lagging, Learned, Entered}
@@ -263,34 +264,35 @@ sides_with d p version a written =
     sides (d.seen a.node) (Some written) (outside d p version a.node a.peers)
 
 -- a frame was served: the bytes of its answer, and how it ends the connection
-abbrev pub ServesFrame : {V U : Type 0} → DeskOf V → PeersOf U → Session → Frame → Desks V U
-    → Desks V U → List ℕ → Option Close → Type 0
-ServesFrame d p s frame a b answer close =
+abbrev pub ServesFrame : {V U : Type 0} → DeskOf V → PeersOf U → Session → Permission → Frame
+    → Desks V U → Desks V U → List ℕ → Option Close → Type 0
+ServesFrame d p s may frame a b answer close =
     (fates : List Fate)
     × ServesOne s.home (sides_with d p s.wire a []) (sides_with d p s.wire b answer)
-    (record { frame = frame; fates = fates }) close
+    (record { frame = frame; may = may; fates = fates }) close
 
 -- a frame was not served whole, for want of memory
-abbrev pub FailsFrame : {V U : Type 0} → DeskOf V → PeersOf U → Session → Frame → Desks V U
-    → Desks V U → Type 0
-FailsFrame d p s frame a b =
+abbrev pub FailsFrame : {V U : Type 0} → DeskOf V → PeersOf U → Session → Permission → Frame
+    → Desks V U → Desks V U → Type 0
+FailsFrame d p s may frame a b =
     (fates : List Fate)
     × FailsIn fault.NoMemory s.home (sides_with d p s.wire a []) (sides_with d p s.wire b [])
-    (record { frame = frame; fates = fates })
+    (record { frame = frame; may = may; fates = fates })
 
 -- the frames that waited in a connection
-abbrev pub ServesWaiting : {V U X : Type 0} → DeskOf V → PeersOf U → WriteOf X → Option End → Talk
-    → Talk → Line V U X → Line V U X → Type 0
-ServesWaiting d p w result old new a b =
+abbrev pub ServesWaiting : {V U X : Type 0} → DeskOf V → PeersOf U → WriteOf X → Permission
+    → Option End → Talk → Talk → Line V U X → Line V U X → Type 0
+ServesWaiting d p w may result old new a b =
     (how : Option End) × (begun : List Begun) × (left : List Frame)
-    × IsBatch how old.home (sides_of d p w old.wire a) (sides_of d p w old.wire b) old.waiting begun
+    × IsBatch may how old.home (sides_of d p w old.wire a) (sides_of d p w old.wire b) old.waiting
+    begun
     left old.frames new.frames
     × EndsBy how result old new
 
 -- a piece of the stream, after what a connection held of the stream before
-abbrev pub ServesPiece : {V U X : Type 0} → DeskOf V → PeersOf U → WriteOf X → Option End → List ℕ
-    → Talk → Talk → Line V U X → Line V U X → Type 0
-ServesPiece d p w result piece old new a b =
+abbrev pub ServesPiece : {V U X : Type 0} → DeskOf V → PeersOf U → WriteOf X → Permission
+    → Option End → List ℕ → Talk → Talk → Line V U X → Line V U X → Type 0
+ServesPiece d p w may result piece old new a b =
     (begun : List Begun) × (rest : List ℕ)
-    × IsPiece result old.home (sides_of d p w old.wire a) (sides_of d p w old.wire b)
+    × IsPiece may result old.home (sides_of d p w old.wire a) (sides_of d p w old.wire b)
     (old.stream.held ++ piece) begun rest old.frames new.frames new.stream

@@ -9,14 +9,16 @@ pub returns : goal.returns
 unfolding scramble_form
 returns c =
     let out = c.args.out.now.items in
+    let token = c.args.token.now in
+    let command = c.args.wording.command.now in
     on_ok_weaker c.push_button.result
-    (five_parts out (form_start c.args.token.now c.args.form (codes "SCR") (path_of c.args.id))
+    (five_parts out (form_start token c.args.form command (path_of c.args.id))
     (round_value c.args.id)
     (text_field (codes "attempt") (codes "Scramble of attempt") (decimal c.args.attempt))
-    (text_field (codes "moves") (codes "moves") (codes "")) (button (codes "Set the scramble")) _ _
-    _ _ _
+    (text_field (codes "moves") (codes "moves") c.args.wording.moves.now)
+    (button c.args.wording.button.now) _ _ _ _ _
     (c.in_ok-push_form.ensures
-    ∙ ap (λ (back : List ℕ). out ++ form_start c.args.token.now c.args.form (codes "SCR") back)
+    ∙ ap (λ (back : List ℕ). out ++ form_start token c.args.form command back)
     (c.deref.ensures.value ∙ c.in_ok-back.ensures)) c.in_ok-push_round_value.ensures
     (c.in_ok-push_text_field.ensures
     ∙ ap

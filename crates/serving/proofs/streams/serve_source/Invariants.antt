@@ -16,7 +16,7 @@ invariant-loop-reads g l = record {
   counted : g.S.Source.reads l.source ≡ l.reads;
   whole : g.S.Source.failed l.source ≡ 0;
   so_far : (bytes : List ℕ) × (begun : List Begun) × (rest : List ℕ)
-      × SoFar (g.D.Desk.home_of l.initial.node)
+      × SoFar l.fn.may (g.D.Desk.home_of l.initial.node)
       (sides_of g.D.Desk g.P.Peers g.W.Write l.fn.wire
       (line l.initial.node l.initial.peers l.initial.writer))
       (sides_of g.D.Desk g.P.Peers g.W.Write l.fn.wire (line l.node l.peers l.writer))

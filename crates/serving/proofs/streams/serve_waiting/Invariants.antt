@@ -5,16 +5,16 @@ use Rattle.serving.proofs.Waiting.{HasServed}
 use Rattle.serving.proofs.streams.serve_waiting.Given as goal
 
 -- the frames so far are served, and their answers are written
-abbrev pub invariant-loop-connection : goal.invariant-loop-connection
-invariant-loop-connection g l = record {
+abbrev pub invariant-loop-may : goal.invariant-loop-may
+invariant-loop-may g l = record {
   home : g.D.Desk.home_of l.node ≡ l.connection.home;
   begun : List Begun;
-  served : HasServed l.initial.connection.home
+  served : HasServed l.fn.may l.initial.connection.home
       (sides_of g.D.Desk g.P.Peers g.W.Write l.initial.connection.wire
       (line l.initial.node l.initial.peers l.initial.writer))
       (sides_of g.D.Desk g.P.Peers g.W.Write l.initial.connection.wire
       (line l.node l.peers l.writer)) l.initial.connection l.connection begun;
 }
 
-abbrev pub decreases-loop-connection : goal.decreases-loop-connection
-decreases-loop-connection g l = length l.connection.waiting
+abbrev pub decreases-loop-may : goal.decreases-loop-may
+decreases-loop-may g l = length l.connection.waiting

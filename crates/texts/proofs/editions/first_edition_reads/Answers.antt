@@ -1,5 +1,5 @@
-use Rattle.texts.proofs.ReadBefore.{reads_as_before}
+use Rattle.texts.proofs.ReadBefore.{reads_as_first}
 use Rattle.texts.proofs.editions.first_edition_reads.Goals as goal
 
 pub returns : goal.returns
-returns c = reads_as_before
+returns c = reads_as_first

@@ -1,8 +1,14 @@
 use Rattle.std.proofs.Common.{refl, sym, ◌∙◌}
-use Rattle.commands.proofs.Arms.{unknown, entry_answered, scrambles, attempts, corrects, strikes}
-use Rattle.commands.proofs.Arms.{advances, closes}
+use Rattle.commands.specs.model.Kept.{IsIndexOf, IsAsBefore}
+use Rattle.commands.proofs.Lookups.{on_err_then}
+use Rattle.commands.proofs.Arms.{unknown, entry_answered, scrambles, attempt_answered}
+use Rattle.commands.proofs.Arms.{correction_answered, again_answered, strikes}
+use Rattle.commands.proofs.Arms.{advances, closes, sets, exit_answered, reopens}
+use Rattle.commands.proofs.Arms.{known_number}
 use Rattle.commands.proofs.Indexed.{registered, entered, scrambled, attempted, corrected, stricken}
-use Rattle.commands.proofs.Indexed.{advanced, ended, edition_noted, nothing_added}
+use Rattle.commands.proofs.Indexed.{advanced, ended, edition_noted, nothing_added, renamed}
+use Rattle.commands.proofs.Indexed.{settings_changed, rescrambled, rescramble_alike, withdrew}
+use Rattle.commands.proofs.Indexed.{reopened_or, kept_as_before}
 use Rattle.commands.proofs.index.Index.apply.Goals as goal
 
 pub returns-then-is_of_nobody-clause-code : goal.returns-then-is_of_nobody-clause-code
@@ -47,18 +53,20 @@ returns-in-Scramble-clause-index c =
     rw c.in-Scramble.is
     (scrambled c.args.accepted.now id.event id.round c.in-Scramble.attempt c.in-Scramble.moves
     c.add_scramble.result c.args.self.now _ c.requires.index
-    (rw c.in-Scramble.is at c.requires.command).1.0
     (rw
     (c.scramble_of-there.ensures, c.requires.index.rounds.rounds id.event id.round) at
     c.add_scramble.ensures.code)
     refl c.add_scramble.ensures.done c.add_scramble.ensures.refused)
 
+pub put-requires-clause-attempt : goal.put-requires-clause-attempt
+put-requires-clause-attempt c = (rw c.in-Attempt.is at c.requires.command).1
+
 pub returns-in-Attempt-clause-code : goal.returns-in-Attempt-clause-code
 returns-in-Attempt-clause-code c =
     rw c.in-Attempt.is
-    (attempts c.args.accepted.now c.args.self.now c.requires.index c.put.result
-    c.in-Attempt.entry (rw c.in-Attempt.is at (sym c.is_of_nobody.ensures
-    ∙ c.if-is_of_nobody.false))
+    (attempt_answered c.args.accepted.now c.args.self.now c.requires.index c.in-Attempt.entry
+    c.put.result
+    (rw c.in-Attempt.is at (sym c.is_of_nobody.ensures ∙ c.if-is_of_nobody.false))
     (rw c.scramble_of-scramble.ensures at c.put.ensures.code))
 
 pub returns-in-Attempt-clause-index : goal.returns-in-Attempt-clause-index
@@ -69,12 +77,26 @@ returns-in-Attempt-clause-index c =
     entry.outcome c.put.result c.args.self.now _ c.requires.index refl
     (rw c.scramble_of-scramble.ensures at c.put.ensures.done) c.put.ensures.refused)
 
+pub returns-in-Attempt-clause-err : goal.returns-in-Attempt-clause-err
+returns-in-Attempt-clause-err c =
+    on_err_then {P = IsAsBefore c.args.self.now.rounds c.put.new.self}
+    {Q = IsIndexOf c.args.accepted.now
+    (record { competitors = c.args.self.now.competitors; rounds = c.put.new.self })}
+    c.put.result
+    (kept_as_before c.args.accepted.now c.args.self.now
+    (record { competitors = c.args.self.now.competitors; rounds = c.put.new.self })
+    c.requires.index refl)
+    c.put.ensures.err
+
+pub correct-requires-clause-attempt : goal.correct-requires-clause-attempt
+correct-requires-clause-attempt c = (rw c.in-Correct.is at c.requires.command).1
+
 pub returns-in-Correct-clause-code : goal.returns-in-Correct-clause-code
 returns-in-Correct-clause-code c =
     rw c.in-Correct.is
-    (corrects c.args.accepted.now c.args.self.now c.requires.index c.correct.result
-    c.in-Correct.entry (rw c.in-Correct.is at (sym c.is_of_nobody.ensures
-    ∙ c.if-is_of_nobody.false))
+    (correction_answered c.args.accepted.now c.args.self.now c.requires.index
+    c.in-Correct.entry c.correct.result
+    (rw c.in-Correct.is at (sym c.is_of_nobody.ensures ∙ c.if-is_of_nobody.false))
     (rw c.scramble_of-scramble-in-Correct.ensures at c.correct.ensures.code))
 
 pub returns-in-Correct-clause-index : goal.returns-in-Correct-clause-index
@@ -85,6 +107,17 @@ returns-in-Correct-clause-index c =
     entry.outcome c.correct.result c.args.self.now _ c.requires.index refl
     (rw c.scramble_of-scramble-in-Correct.ensures at c.correct.ensures.done)
     c.correct.ensures.refused)
+
+pub returns-in-Correct-clause-err : goal.returns-in-Correct-clause-err
+returns-in-Correct-clause-err c =
+    on_err_then {P = IsAsBefore c.args.self.now.rounds c.correct.new.self}
+    {Q = IsIndexOf c.args.accepted.now
+    (record { competitors = c.args.self.now.competitors; rounds = c.correct.new.self })}
+    c.correct.result
+    (kept_as_before c.args.accepted.now c.args.self.now
+    (record { competitors = c.args.self.now.competitors; rounds = c.correct.new.self })
+    c.requires.index refl)
+    c.correct.ensures.err
 
 pub returns-in-Strike-clause-code : goal.returns-in-Strike-clause-code
 returns-in-Strike-clause-code c =
@@ -125,6 +158,82 @@ returns-in-Close-clause-index c =
     rw c.in-Close.is
     (ended c.args.accepted.now c.in-Close.id.event c.in-Close.id.round c.close.result
     c.args.self.now _ c.requires.index refl c.close.ensures.done c.close.ensures.refused)
+
+pub rename-requires-clause-known : goal.rename-requires-clause-known
+rename-requires-clause-known c =
+    known_number c.args.accepted.now c.in-Rename.number c.in-Rename.name
+    (rw c.in-Rename.is at (sym c.is_of_nobody.ensures ∙ c.if-is_of_nobody.false))
+
+pub returns-in-Rename-clause-index : goal.returns-in-Rename-clause-index
+returns-in-Rename-clause-index c =
+    rw c.in-Rename.is
+    (renamed c.args.accepted.now c.in-Rename.number c.in-Rename.name c.rename.result
+    c.args.self.now _ c.requires.index c.rename.ensures.kept refl)
+
+pub returns-in-SetRound-clause-code : goal.returns-in-SetRound-clause-code
+returns-in-SetRound-clause-code c =
+    rw c.in-SetRound.is
+    (sets c.args.accepted.now c.args.self.now c.requires.index c.set_round.result c.in-SetRound.id
+    c.in-SetRound.format c.in-SetRound.cutoff c.in-SetRound.limit c.set_round.ensures.code)
+
+pub returns-in-SetRound-clause-index : goal.returns-in-SetRound-clause-index
+returns-in-SetRound-clause-index c =
+    rw c.in-SetRound.is
+    (settings_changed c.args.accepted.now c.in-SetRound.id.event c.in-SetRound.id.round
+    c.in-SetRound.format c.in-SetRound.cutoff c.in-SetRound.limit c.set_round.result
+    c.args.self.now _ c.requires.index refl c.set_round.ensures.done c.set_round.ensures.refused)
+
+pub returns-in-Rescramble-clause-code : goal.returns-in-Rescramble-clause-code
+returns-in-Rescramble-clause-code c =
+    rw c.in-Rescramble.is
+    (again_answered c.args.accepted.now c.args.self.now c.requires.index c.in-Rescramble.id
+    c.in-Rescramble.attempt c.in-Rescramble.moves c.rescramble.result
+    (rw c.in-Rescramble.is at c.requires.command).1.0
+    (rw c.scramble_of-there-in-Rescramble.ensures at c.rescramble.ensures.code))
+
+pub returns-in-Rescramble-clause-index : goal.returns-in-Rescramble-clause-index
+returns-in-Rescramble-clause-index c =
+    let id = c.in-Rescramble.id in
+    rw c.in-Rescramble.is
+    (rescrambled c.args.accepted.now id.event id.round c.in-Rescramble.attempt
+    c.in-Rescramble.moves c.rescramble.result c.args.self.now _ c.requires.index
+    (rw
+    (rescramble_alike c.args.accepted.now c.args.self.now.rounds.opened.items id.event id.round
+    c.in-Rescramble.attempt (rw c.in-Rescramble.is at c.requires.command).1.0
+    c.requires.index.rounds) at
+    (rw c.scramble_of-there-in-Rescramble.ensures at c.rescramble.ensures.code))
+    refl c.rescramble.ensures.done c.rescramble.ensures.refused)
+
+pub withdraw-requires : goal.withdraw-requires
+withdraw-requires c =
+    c.requires.index.rounds.apart c.in-Withdraw.id.event c.in-Withdraw.id.round
+
+pub returns-in-Withdraw-clause-code : goal.returns-in-Withdraw-clause-code
+returns-in-Withdraw-clause-code c =
+    rw c.in-Withdraw.is
+    (exit_answered c.args.accepted.now c.args.self.now c.requires.index c.in-Withdraw.id
+    c.in-Withdraw.number c.withdraw.result
+    (rw c.in-Withdraw.is at (sym c.is_of_nobody.ensures ∙ c.if-is_of_nobody.false))
+    c.withdraw.ensures.code)
+
+pub returns-in-Withdraw-clause-index : goal.returns-in-Withdraw-clause-index
+returns-in-Withdraw-clause-index c =
+    rw c.in-Withdraw.is
+    (withdrew c.args.accepted.now c.in-Withdraw.id.event c.in-Withdraw.id.round
+    c.in-Withdraw.number c.withdraw.result c.args.self.now _ c.requires.index refl
+    c.withdraw.ensures.done c.withdraw.ensures.refused)
+
+pub returns-in-Reopen-clause-code : goal.returns-in-Reopen-clause-code
+returns-in-Reopen-clause-code c =
+    rw c.in-Reopen.is
+    (reopens c.args.accepted.now c.args.self.now c.requires.index c.reopen.result c.in-Reopen.id
+    c.reopen.ensures.code)
+
+pub returns-in-Reopen-clause-index : goal.returns-in-Reopen-clause-index
+returns-in-Reopen-clause-index c =
+    rw c.in-Reopen.is
+    (reopened_or c.args.accepted.now c.in-Reopen.id.event c.in-Reopen.id.round c.reopen.result
+    c.args.self.now _ c.requires.index refl c.reopen.ensures.done c.reopen.ensures.refused)
 
 pub returns-in-SetEdition-clause-index : goal.returns-in-SetEdition-clause-index
 returns-in-SetEdition-clause-index c =

@@ -1,16 +1,29 @@
-use Rattle.std.proofs.Common.{refl}
+use Rattle.std.proofs.Common.{refl, subst}
+use Rattle.std.proofs.Common.{nat_eq}
+use Rattle.std.specs.List.{IsDistinct}
+use Rattle.commands.specs.Accepted.{who_advance}
+use Rattle.commands.specs.model.Kept.{before_in, AreOthers}
 use Rattle.commands.proofs.KeptLemmas.{round_pushed, all_free}
 use Rattle.commands.proofs.kept_rounds.KeptRounds.add.Goals as goal
 
 pub returns-clause-ok : goal.returns-clause-ok
 returns-clause-ok c =
-    rw c.in_ok-push.ensures.items
-    (round_pushed c.args.self.now.opened.items _ c.args.id.event c.args.id.round _ refl refl
-    (rw (
-      c.in_ok-table.ensures,
-      c.deref.ensures.value,
-      c.in_ok-numbers.ensures.order,
-      c.round_before.ensures,
-    )
-    refl)
-    all_free)
+    let before = before_in c.args.id c.args.self.now in
+    let waits = rw c.round_before-2.ensures at c.in_ok-waiting.ensures.order in
+    record {
+      adds =
+          rw c.in_ok-push.ensures.items
+          (round_pushed c.args.self.now.opened.items _ c.args.id.event c.args.id.round _ _ refl refl
+          (rw (
+            c.in_ok-table.ensures,
+            c.deref.ensures.value,
+            c.in_ok-numbers.ensures.order,
+            c.round_before.ensures,
+          )
+          refl)
+          waits all_free c.new.ensures);
+      once = subst (IsDistinct nat_eq) waits c.in_ok-waiting.ensures.each_once;
+      others =
+          subst (AreOthers (who_advance before)) waits
+          (rw c.round_before-2.ensures at c.in_ok-waiting.ensures.apart);
+    }

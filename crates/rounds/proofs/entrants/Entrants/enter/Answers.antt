@@ -1,33 +1,20 @@
-use Rattle.std.proofs.Common.{◌≡◌, ◌+◌, ℕ, List, [], ◌∷◌, ◌++◌, false, length, nat_eq, ap, sym}
-use Rattle.std.proofs.Common.{refl, subst, ◌∙◌, arith}
+use Rattle.std.proofs.Common.{◌≡◌, ◌+◌, List, [], ◌∷◌, ◌++◌, false, length, nat_eq, ap, sym, subst}
+use Rattle.std.proofs.Common.{◌∙◌, arith}
 use Rattle.std.specs.List.{list_any}
 use Rattle.std.proofs.lemmas.List.{map-append, length-map}
 use Rattle.indexmap.proofs.CallerLemmas.{insert_entry-new}
 use Rattle.attempts.specs.declared.Value.{Value}
-use Rattle.attempts.specs.declared.Value.TheVariants.{Dns}
-use Rattle.formats.specs.declared.results.Averaged.TheVariants.{Missing}
-use Rattle.rounds.specs.declared.kept_entrant.KeptEntrant.{KeptEntrant}
 use Rattle.rounds.specs.Tables.{Entrant, has_number}
 use Rattle.rounds.specs.model.Field.{Field}
-use Rattle.rounds.specs.model.UpToDate.{field_of, entrant_of, entrants_of, no_result, AreUpToDate}
+use Rattle.rounds.specs.model.UpToDate.{field_of, entrant_of, entrants_of, AreUpToDate}
 use Rattle.rounds.proofs.EntrantLines.{is_some_lookup, none_from}
-use Rattle.rounds.proofs.Entering.{up_to_date_entered, own_of_none}
+use Rattle.rounds.proofs.Entering.{up_to_date_newcomer}
 use Rattle.rounds.proofs.entrants.Entrants.enter.Goals as goal
 use Rattle.rounds.proofs.entrants.Entrants.enter.Goals.{In_ok-insert}
 
-abbrev newcomer : List Value → ℕ → ℕ → KeptEntrant
-newcomer row with_result packed_key =
-    record {
-      row = row;
-      kept = record { best = Dns; average = Missing; key = no_result; place = with_result + 1 };
-      packed_key = packed_key;
-    }
-
 pushed : (c : In_ok-insert)
     → c.insert.new.self.entries
-    ≡ c.self.inside.by_number.entries
-    ++ (c.args.number, newcomer c.new.result c.self.inside.with_result c.packed_key_of.result)
-    ∷ []
+    ≡ c.self.inside.by_number.entries ++ (c.args.number, c.newcomer.result) ∷ []
 pushed c =
     let absent : list_any (has_number c.args.number) (entrants_of c.self.inside.by_number.entries)
     ≡ false = ap (λ (f : Field). list_any (has_number c.args.number) f.entrants) c.self.view_is
@@ -54,13 +41,9 @@ invariant_of-self-2 c =
     AreUpToDate c.self.inside.rules xs c.self.inside.started (c.self.inside.unfinished + 1)
     c.self.inside.with_result)
     (sym (pushed (goal.at.invariant_of-self-2 c).In_ok-insert))
-    (up_to_date_entered c.self.inside.rules es c.args.number
-    (newcomer c.new.result c.self.inside.with_result c.packed_key_of.result)
-    refl c.self.inside.started c.self.inside.unfinished c.self.inside.with_result c.self.invariant
-    (omega (arith, same, c.requires.room, length-map es entrant_of)) c.new.ensures
-    (own_of_none c.self.inside.rules c.new.result (c.self.inside.with_result + 1) c.new.ensures)
-    refl
-    (record { packed_key = c.packed_key_of.ensures.value; room = c.packed_key_of.ensures.room }))
+    (up_to_date_newcomer c.self.inside.rules es c.args.number c.newcomer.result
+    c.self.inside.started c.self.inside.unfinished c.self.inside.with_result c.self.invariant
+    (omega (arith, same, c.requires.room, length-map es entrant_of)) c.newcomer.ensures)
 
 pub returns-clause-entered : goal.returns-clause-entered
 returns-clause-entered c =
@@ -72,4 +55,4 @@ returns-clause-entered c =
     ∙ ap
     (λ (vs : List Value). let e : Entrant = record { number = c.args.number; values = vs } in
     entrants_of c.self.inside.by_number.entries ++ e ∷ [])
-    c.new.ensures))
+    c.newcomer.ensures.row))

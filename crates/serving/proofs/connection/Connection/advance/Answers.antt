@@ -9,8 +9,8 @@ returns-in-Ok-clause-turn g c =
     let free = subst IsFree (sym c.self.view_is) is_free in
     let few = c.self.invariant.3 free.unended in
     let ok = c.in-Ok.ensures.ok in
-    advances_as g.D.Desk g.P.Peers _ _ _ _ _ _ _ c.self.view_is (
-      record { frame = c.in-Some.frame; fates = ok.0 },
+    advances_as g.D.Desk g.P.Peers _ _ _ _ c.args.may _ _ _ c.self.view_is (
+      record { frame = c.in-Some.frame; may = c.args.may; fates = ok.0 },
       record {
         free = free;
         next = c.in-Some.ensures.items;
@@ -22,4 +22,5 @@ returns-in-Ok-clause-turn g c =
       },
       left_at c.self.inside.session.home _ _ _ _ _ _ _ c.in-Ok.reply.close _ _ free.taken
           c.end_after-self-inside.ensures (omega (arith, few)) ok.1,
+      refl,
     )

@@ -2,7 +2,8 @@ use Rattle.std.proofs.Common.{ap, ◌∙◌}
 use Rattle.wire.specs.declared.frame.What.TheVariants as what
 use Rattle.serving.specs.Answering.{standing}
 use Rattle.serving.proofs.OneFrame.{in_version}
-use Rattle.serving.proofs.Answered.{asks, prints, inspects, copies, stops, estranges, ignores}
+use Rattle.serving.proofs.Answered.{asks, prints, inspects, copies, stops, estranges, denies}
+use Rattle.serving.proofs.Answered.{ignores}
 use Rattle.serving.proofs.session.Session.serve_request.Goals as goal
 
 pub returns-in-Asked-clause-ok : goal.returns-in-Asked-clause-ok
@@ -31,6 +32,9 @@ returns-in-Stopped-clause-ok g c = stops c.args.self.home c.args.request _ _ c.i
 
 pub returns-in-Strange-clause-ok : goal.returns-in-Strange-clause-ok
 returns-in-Strange-clause-ok g c = estranges c.args.self.home c.args.request _ _ c.in-Strange.is
+
+pub returns-in-Denied-clause-ok : goal.returns-in-Denied-clause-ok
+returns-in-Denied-clause-ok g c = denies c.args.self.home c.args.request _ _ c.in-Denied.is
 
 pub returns-in-Ignored-clause-ok : goal.returns-in-Ignored-clause-ok
 returns-in-Ignored-clause-ok g c = ignores c.args.self.home c.args.request _ _ c.in-Ignored.is

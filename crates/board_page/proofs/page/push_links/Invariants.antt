@@ -1,9 +1,0 @@
-use Rattle.std.proofs.Common.{◌≡◌, ◌++◌, drop, flat_map}
-use Rattle.board_page.specs.Page.{link}
-use Rattle.board_page.proofs.page.push_links.Given as goal
-
--- what was written, and what is written for the sheets that are left, is the whole
-abbrev pub invariant-loop-sheet : goal.invariant-loop-sheet
-invariant-loop-sheet l =
-    l.out.items ++ flat_map link (drop l.sheet-index l.sheets)
-    ≡ l.initial.out.items ++ flat_map link l.sheets

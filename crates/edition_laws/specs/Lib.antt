@@ -1,0 +1,4 @@
+pub mod NextInTurn
+pub mod SheetsAsBefore
+pub mod WorkedDays
+pub mod WorkedSheets

@@ -1,0 +1,146 @@
+-- What is delivered stands in records that fit under the hall's key.
+use Rattle.std.proofs.Common.{◌≡◌, refl, sym, ap, subst, ◌∙◌, ℕ, List, [], ◌∷◌, ◌++◌, Option, None}
+use Rattle.std.proofs.Common.{Some}
+use Rattle.std.specs.Prelude.{IsTrue}
+use Rattle.std.proofs.lemmas.List.{append-nil}
+use Rattle.answers.specs.declared.desk.Desk.{Ghosts as DeskOf}
+use Rattle.seal.specs.Records.{preface_of}
+use Rattle.sealed.specs.declared.callers.Caller.{Caller}
+use Rattle.sealed.specs.declared.callers.Caller.TheVariants.{Anyone, Passer}
+use Rattle.sealed.specs.declared.callers.Caller.TheVariants as caller
+use Rattle.sealed.specs.declared.callers.Doors.{Doors}
+use Rattle.sealed.specs.declared.callers.Doors.TheVariants.{Open, Locked}
+use Rattle.sealed.specs.declared.callers.Holder.TheVariants.{Hall, Entry}
+use Rattle.sealed.specs.declared.callers.Locks.{Locks}
+use Rattle.sealed.specs.Admitting.{Admits, IsSealed}
+use Rattle.sealed.specs.Calls.{CalledOf, caller_of}
+use Rattle.sealed.proofs.Admitted.{admits}
+use Rattle.serving.specs.Connection.{Begun}
+use Rattle.serving.specs.Asking.{request}
+use Rattle.serving.specs.Making.{speaking}
+use Rattle.serving.specs.declared.permission.Permission.{Permission}
+use Rattle.serving.specs.declared.permission.Permission.TheVariants as permission
+use Rattle.serving.specs.declared.request.Request.{Request}
+use Rattle.serving.specs.declared.request.Request.TheVariants.{Heard, Lagging, Learned, Entered}
+use Rattle.serving.specs.declared.request.Request.TheVariants.{Asked, Printed, Ticked, Stopped}
+use Rattle.serving.specs.declared.request.Request.TheVariants.{Inspected, Copied, Strange, Ignored}
+use Rattle.serving.specs.declared.request.Request.TheVariants.{Denied}
+use Rattle.serving.specs.Permissions.{permitted}
+use Rattle.serving.specs.TurnLaw.{Began, Turn, begun_in, received}
+use Rattle.wire.specs.declared.values.Version.{Version}
+use Rattle.guarded.specs.Guarding.{Guarding}
+use Rattle.guarded.specs.GuardTurns.{Follow, Place, with_talk, within}
+use Rattle.guarded.specs.GuardTurns as GuardTurns
+use Rattle.guarded.specs.GuardLaw.{DeliversUnderHall, IsUnderHall, delivers}
+use Rattle.guarded.specs.Permitting.{permission_of}
+use Rattle.guarded.proofs.Holding.{BeginsAt, begins_at, holds_first, turns_hold}
+
+-- ---- what may be asked without the hall's key delivers nothing
+
+no_sheets : (r : Request) → IsTrue (delivers (permitted permission.Sheets r)) → ⊥
+no_sheets (Heard m) h = absurd cc
+no_sheets (Lagging m) h = absurd cc
+no_sheets (Learned run) h = absurd cc
+no_sheets (Entered e) h = absurd cc
+no_sheets (Asked id) h = absurd cc
+no_sheets (Printed event round position style) h = absurd cc
+no_sheets Inspected h = absurd cc
+no_sheets (Copied position) h = absurd cc
+no_sheets Ticked h = absurd cc
+no_sheets Stopped h = absurd cc
+no_sheets Strange h = absurd cc
+no_sheets Ignored h = absurd cc
+no_sheets Denied h = absurd cc
+
+no_entries : (r : Request) → IsTrue (delivers (permitted permission.Entries r)) → ⊥
+no_entries (Heard m) h = absurd cc
+no_entries (Lagging m) h = absurd cc
+no_entries (Learned run) h = absurd cc
+no_entries (Entered e) h = absurd cc
+no_entries (Asked id) h = absurd cc
+no_entries (Printed event round position style) h = absurd cc
+no_entries Inspected h = absurd cc
+no_entries (Copied position) h = absurd cc
+no_entries Ticked h = absurd cc
+no_entries Stopped h = absurd cc
+no_entries Strange h = absurd cc
+no_entries Ignored h = absurd cc
+no_entries Denied h = absurd cc
+
+-- ---- what is let in under the hall's key
+
+under_hall : (who : Option Caller) (locks : Locks) (server front handed : List ℕ)
+    (earlier : List Begun) (one : Begun) (r : Request)
+    → IsTrue (delivers (permitted (permission_of who) r))
+    → Admits (Locked locks) server front handed who → BeginsAt handed earlier one
+    → IsUnderHall locks server front earlier one
+under_hall None locks server front handed earlier one r may h at = absurd (no_sheets r may)
+under_hall (Some Anyone) locks server front handed earlier one r may h at =
+    let bad : Locked locks ≡ Open = h.0 in absurd cc
+under_hall (Some Passer) locks server front handed earlier one r may h at =
+    absurd (no_sheets r may)
+under_hall (Some (caller.Holder Entry)) locks server front handed earlier one r may h at =
+    absurd (no_entries r may)
+under_hall (Some (caller.Holder Hall)) locks server front handed earlier one r may h at =
+    let two : Locked locks ≡ Locked h.0 = h.1 in
+    let same : h.0 ≡ locks = cc in
+    let sealed =
+    subst (λ (l : Locks). IsSealed l server front handed (Some Hall)) same h.2 in
+    let hands = sealed.hands.1.1 in
+    record {
+      client = sealed.client;
+      bodies = hands.0;
+      rest = hands.1.rest;
+      more = at.more;
+      sixteen = sealed.prefaced.sixteen;
+      whole =
+          sealed.prefaced.whole
+          ∙ ap (λ (s : List ℕ). preface_of sealed.client ++ s) hands.1.whole;
+      each = hands.1.each;
+      inside = sym hands.2 ∙ at.whole;
+    }
+
+-- ---- the turns up to a frame
+
+follow_parts : {V : Type 0} (d : DeskOf V) (wire : Version)
+    (a b : Place (speaking d.handles wire)) (earlier later : List Turn) (t : Turn)
+    → Follow a (earlier ++ t ∷ later) b
+    → (m : Place (speaking d.handles wire)) × (n : Place (speaking d.handles wire))
+    × Follow a earlier m × GuardTurns.Turns t m n
+follow_parts d wire a b [] later t h = (a, h.0, refl, h.1)
+follow_parts d wire a b (e ∷ earlier) later t h =
+    let p = follow_parts d wire h.0 b earlier later t h.2 in
+    (p.0, p.1, (h.0, h.1, p.2), p.3)
+
+pub delivers_under_hall : {V : Type 0} (d : DeskOf V) → DeliversUnderHall d
+delivers_under_hall d home wire locks server earlier later one a b is follow may =
+    let doors : Doors = Locked locks in
+    let p = follow_parts d wire a b earlier later (Began one) follow in
+    let m = p.0 in
+    let turn = p.3 in
+    let h =
+    turns_hold doors server a a m earlier [] [] [] (holds_first home wire doors server a is) p.2 in
+    let k = h.keeps in
+    let now = k.whole turn.0.fed in
+    let c = k.side in
+    let who = caller_of c in
+    let handed = received h.inner in
+    let front : k.front ≡ received earlier =
+    sym (k.parts ∙ ap (λ (s : List ℕ). k.front ++ s) now.1 ∙ append-nil k.front) in
+    let at =
+    begins_at d home wire (within a) (within m) (with_talk p.1 turn.1) h.inner one
+    (ap (λ (g : Guarding). g.talk) is) h.follow turn.2 in
+    let who_may : one.may ≡ permission_of who =
+    turn.3 ∙ ap (λ (e : CalledOf). permission_of (caller_of e)) now.0 in
+    let allowed =
+    subst (λ (q : Permission). IsTrue (delivers (permitted q (request home one.frame)))) who_may may
+    in
+    let admitted =
+    subst (λ (o : Doors). Admits o server k.front handed who) k.doors_are
+    (subst (λ (s : List ℕ). Admits c.doors s k.front handed who) k.server_is
+    (admits c k.front handed k.stands)) in
+    let under =
+    under_hall who locks server k.front handed (begun_in h.inner) one (request home one.frame)
+    allowed admitted at in
+    subst (λ (s : List ℕ). IsUnderHall locks server s (begun_in earlier) one) front
+    (subst (λ (bs : List Begun). IsUnderHall locks server k.front bs one) h.begins under)

@@ -1,0 +1,71 @@
+-- The turns of a guarded connection serve what the doors admit.
+use Rattle.std.proofs.Common.{◌≡◌, sym, ap, subst, ◌∙◌, ℕ, List, []}
+use Rattle.answers.specs.declared.desk.Desk.{Ghosts as DeskOf}
+use Rattle.sealed.specs.declared.callers.Doors.{Doors}
+use Rattle.sealed.specs.Admitting.{Admits}
+use Rattle.sealed.specs.Calls.{CalledOf, caller_of}
+use Rattle.sealed.specs.Sent.{IsSent}
+use Rattle.sealed.proofs.Admitted.{admits}
+use Rattle.sealed.proofs.Sending.{sends_what_is_given}
+use Rattle.serving.specs.Connection.{Begun}
+use Rattle.serving.specs.Making.{speaking}
+use Rattle.serving.specs.TurnLaw.{AreServed, begun_in, handed_out, received}
+use Rattle.serving.proofs.TurnLaws.{turns_serve}
+use Rattle.store.specs.declared.home.Home.{Home}
+use Rattle.wire.specs.declared.values.Version.{Version}
+use Rattle.guarded.specs.Guarding.{Guarding, fresh_guard}
+use Rattle.guarded.specs.GuardTurns.{Place, within}
+use Rattle.guarded.specs.GuardLaw.{GuardsServe, IsGreeting, IsGuarded}
+use Rattle.guarded.proofs.Greeting.{greeting_is, opening_of}
+use Rattle.guarded.proofs.Holding.{Holds, holds_first, turns_hold}
+
+guarded_of : {V : Type 0} (d : DeskOf V) (home : Home) (wire : Version) (doors : Doors)
+    (server : List ℕ) (a b : Place (speaking d.handles wire)) (came sent : List ℕ)
+    (begun : List Begun) → a.guard ≡ fresh_guard doors server home wire
+    → Holds doors server a b came sent begun → IsGuarded home doors server a b came sent begun
+guarded_of d home wire doors server a b came sent begun is h =
+    let k = h.keeps in
+    let c = k.side in
+    let who = caller_of c in
+    let handed = received h.inner in
+    let answers = handed_out h.inner in
+    let all =
+    turns_serve d home wire h.inner (within a) (within b) (ap (λ (g : Guarding). g.talk) is)
+    h.follow in
+    record {
+      who = who;
+      front = k.front;
+      handed = handed;
+      answers = answers;
+      rest = all.1;
+      first = opening_of c;
+      body = k.body;
+      read = record {
+        later = k.later;
+        parts = k.parts;
+        whole = λ fed.
+            let w = k.whole fed in (w.1, ap (λ (e : CalledOf). caller_of e) (sym w.0));
+      };
+      admits =
+          subst (λ (o : Doors). Admits o server k.front handed who) k.doors_are
+          (subst (λ (s : List ℕ). Admits c.doors s k.front handed who) k.server_is
+          (admits c k.front handed k.stands));
+      served =
+          subst
+          (λ (bs : List Begun). AreServed home (within a) (within b) handed answers bs all.1)
+          (all.3 ∙ h.begins) all.2;
+      parts = k.sends;
+      greets =
+          subst (λ (s : List ℕ). IsGreeting s k.front who (opening_of c)) k.server_is
+          (greeting_is c k.front handed k.stands);
+      sends =
+          subst (λ (o : Doors). IsSent o server k.front who answers k.body) k.doors_are
+          (subst (λ (s : List ℕ). IsSent c.doors s k.front who answers k.body) k.server_is
+          (sends_what_is_given c k.front handed answers k.body k.stands k.given));
+    }
+
+pub guards_serve : {V : Type 0} (d : DeskOf V) → GuardsServe d
+guards_serve d home wire doors server turns a b is follow =
+    guarded_of d home wire doors server a b (received turns) (handed_out turns) (begun_in turns) is
+    (turns_hold doors server a a b turns [] [] []
+    (holds_first home wire doors server a is) follow)

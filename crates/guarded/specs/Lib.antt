@@ -1,0 +1,4 @@
+pub mod Permitting
+pub mod Guarding
+pub mod GuardTurns
+pub mod GuardLaw

@@ -1,0 +1,20 @@
+//! What follows of the turns of a guarded connection, whoever takes them.
+
+ghost use Rattle.guarded.specs.GuardLaw.{DeliversUnderHall, GuardsServe};
+
+use answers::Desk;
+
+/// However the pieces of a stream were cut and what is sent was taken, the frames begun are served
+/// as `serving::laws::turns_serve` says, and they stand first in what the doors admit of what came:
+/// all of it where the desk has no key, or the bodies of records that fit under a key. To whoever
+/// is let in without a key the answers are sent as they are: a law.
+pub fn guards_serve<D: Desk>()
+    ensures { GuardsServe D.Desk }
+{}
+
+/// At a desk with a key, each frame that delivers a message stands in records that fit under the
+/// hall's key, of what came before it was begun: a law. So a delivered message was sent by somebody
+/// who has the hall's key, as far as nobody makes tags without it.
+pub fn delivers_under_hall<D: Desk>()
+    ensures { DeliversUnderHall D.Desk }
+{}

@@ -1,0 +1,15 @@
+//! A connection behind its door: what comes over it is let in as the desk's keys have it, what is
+//! let in is served as far as whoever calls may ask, and the answers are sealed for a holder of a
+//! key.
+//!
+//! `sealed` knows no frames, and `serving` knows no keys: here they meet. A guarded connection has
+//! the calls of a `serving::Connection`, over the bytes of the stream itself.
+#![tactic(auto)]
+
+mod guard;
+pub mod laws;
+mod permitting;
+
+pub use guard::Guard;
+pub use permitting::permission_of;
+pub use sealed::{Caller, Doors, Holder, Locks, NoMemory};

@@ -1,0 +1,43 @@
+-- What a connection may ask, of requests that read and of those that enter.
+use Rattle.std.proofs.Common.{◌≡◌, refl, ap, Bool, true, false, cond, ◌||◌}
+use Rattle.acceptor.specs.declared.entry.Entry.{Entry}
+use Rattle.serving.specs.Permissions.{admits, enters, permitted, reads, turned_away}
+use Rattle.serving.specs.declared.permission.Permission.{Permission}
+use Rattle.serving.specs.declared.permission.Permission.TheVariants as permission
+use Rattle.serving.specs.declared.request.Request.{Request}
+use Rattle.serving.specs.declared.request.Request.TheVariants.{Heard, Lagging, Learned, Entered}
+use Rattle.serving.specs.declared.request.Request.TheVariants.{Asked, Printed, Ticked, Stopped}
+use Rattle.serving.specs.declared.request.Request.TheVariants.{Inspected, Copied, Strange, Ignored}
+use Rattle.serving.specs.declared.request.Request.TheVariants.{Denied}
+
+-- what only reads is asked as it came on every connection
+pub reads_as_asked : (may : Permission) (r : Request) → reads r ≡ true → permitted may r ≡ r
+reads_as_asked permission.All r is = refl
+reads_as_asked permission.Entries r is = ap (λ z. cond (z || enters r) r (turned_away r)) is
+reads_as_asked permission.Sheets r is = ap (λ z. cond z r (turned_away r)) is
+
+-- what is turned away enters nothing
+never_enters : (r : Request) (e : Entry) → turned_away r ≡ Entered e → ⊥
+never_enters (Heard m) e is = let two : Ignored ≡ Entered e = is in absurd cc
+never_enters (Lagging m) e is = let two : Ignored ≡ Entered e = is in absurd cc
+never_enters (Learned run) e is = let two : Ignored ≡ Entered e = is in absurd cc
+never_enters (Entered f) e is = let two : Denied ≡ Entered e = is in absurd cc
+never_enters (Asked id) e is = let two : Denied ≡ Entered e = is in absurd cc
+never_enters (Printed event round position style) e is =
+    let two : Denied ≡ Entered e = is in absurd cc
+never_enters Ticked e is = let two : Denied ≡ Entered e = is in absurd cc
+never_enters Stopped e is = let two : Denied ≡ Entered e = is in absurd cc
+never_enters Inspected e is = let two : Denied ≡ Entered e = is in absurd cc
+never_enters (Copied position) e is = let two : Denied ≡ Entered e = is in absurd cc
+never_enters Strange e is = let two : Denied ≡ Entered e = is in absurd cc
+never_enters Ignored e is = let two : Denied ≡ Entered e = is in absurd cc
+never_enters Denied e is = let two : Denied ≡ Entered e = is in absurd cc
+
+-- what a connection enters, its frame asked to enter
+pub entered_as_asked : (may : Permission) (r : Request) (e : Entry)
+    → permitted may r ≡ Entered e → r ≡ Entered e
+entered_as_asked may r e is = by (admits may r) is
+  where
+    by : (b : Bool) → cond b r (turned_away r) ≡ Entered e → r ≡ Entered e
+    by true is = is
+    by false is = absurd (never_enters r e is)

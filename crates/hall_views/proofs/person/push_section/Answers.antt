@@ -1,0 +1,28 @@
+use Rattle.std.proofs.Common.{ap, codes, flat_map, ◌++◌, ◌∙◌}
+use Rattle.std.proofs.lemmas.Result.{on_ok_weaker}
+use Rattle.board_page.proofs.Steps.{five_parts, when_ok}
+use Rattle.commands.specs.History.{History}
+use Rattle.formats.specs.Events.{all_events}
+use Rattle.table_views.specs.Logs.{accepted_in}
+use Rattle.hall_views.specs.People.{entered_in}
+use Rattle.hall_views.specs.Person.{mending_or_edition, person_head, person_section}
+use Rattle.hall_views.proofs.person.push_section.Goals as goal
+
+pub returns : goal.returns
+unfolding person_section
+returns c =
+    let out = c.args.out.now.items in
+    let around = c.args.around.now in
+    let accepted = accepted_in around.mirror.now in
+    let number = c.args.number in
+    let name = c.args.name.now in
+    on_ok_weaker c.extend_from_slice-2.result
+    (five_parts out (person_head number name) (flat_map (entered_in accepted number) all_events)
+    (codes "</p>\n") (mending_or_edition around number name) (codes "</section>\n") _ _ _ _ _
+    c.in_ok-push_head.ensures
+    (c.in_ok-push_entered.ensures
+    ∙ ap
+    (λ (h : History). c.push_head.new.out.items
+    ++ flat_map (entered_in h.accepted number) all_events) c.meet.ensures)
+    c.in_ok-extend_from_slice.ensures.items c.in_ok-push_mending_or_edition.ensures)
+    (when_ok _ _ _ _ c.extend_from_slice-2.ensures.items)

@@ -1,0 +1,117 @@
+-- The page of a competitor.
+use Rattle.std.specs.Prelude.{ℕ, if◌then◌else◌, List, [], ◌∷◌, ◌++◌, codes, decimal, flat_map}
+use Rattle.std.specs.Prelude.{get_or, length, Option, None, Some, option_map}
+use Rattle.board_page.specs.Escaped.{escaped}
+use Rattle.commands.specs.Accepted.{name_of, round_by}
+use Rattle.formats.specs.declared.advance.Advance.{Advance}
+use Rattle.formats.specs.declared.events.Event.{Event}
+use Rattle.formats.specs.Events.{all_events}
+use Rattle.rounds.specs.Tables.{Table}
+use Rattle.round_words.specs.Words.{round_name, round_words}
+use Rattle.texts.specs.declared.command.Command.{Command}
+use Rattle.texts.specs.declared.command.RoundId.{RoundId}
+use Rattle.texts.specs.declared.command.Settings.{Settings}
+use Rattle.markup.specs.Pieces.{joined}
+use Rattle.table_views.specs.declared.around.Around.{Around}
+use Rattle.table_views.specs.Frame.{top, bottom}
+use Rattle.table_views.specs.Leaving.{may_leave}
+use Rattle.table_views.specs.Logs.{accepted_in}
+use Rattle.table_views.specs.Recent.{recent_section}
+use Rattle.hall_views.specs.Editions.{edition_form, mends}
+use Rattle.hall_views.specs.Forms.{button, form_start, person_path, text_field, unseen}
+use Rattle.hall_views.specs.People.{entered_in}
+use Rattle.hall_views.specs.Reopening.{round_numbered}
+
+-- the beginning of a form for a competitor, whose number it carries unseen
+unfoldable pub person_form : List ℕ → ℕ → List ℕ → ℕ → List ℕ
+person_form token form command number =
+    form_start token form command (person_path number)
+    ++ unseen (codes "number") (decimal number)
+
+-- the present name is filled in
+unfoldable pub renaming : List ℕ → ℕ → ℕ → List ℕ → List ℕ
+renaming token form number name =
+    codes "<h2>Change the name</h2>\n" ++ person_form token form (codes "REN") number
+    ++ text_field (codes "name") (codes "Name") name ++ button (codes "Change the name")
+
+-- ---- withdrawing
+
+-- a button sends its round
+unfoldable pub leave_button : RoundId → Advance → List ℕ
+leave_button id advance =
+    codes "<button name=\"round\" value=\"" ++ round_name id ++ codes "\">Withdraw from "
+    ++ round_words id advance ++ codes "</button>\n"
+
+abbrev pub leave_if : ℕ → RoundId → Option (Settings × Table) → List ℕ
+leave_if number id None = []
+leave_if number id (Some round) =
+    if may_leave round.1 number then leave_button id round.0.advance else []
+
+-- a button for a round from which the competitor can withdraw
+abbrev pub leave_round : List Command → ℕ → RoundId → List ℕ
+leave_round accepted number id = leave_if number id (round_by accepted id)
+
+abbrev pub leave_in : List Command → ℕ → Event → ℕ → List ℕ
+leave_in accepted number event round = leave_round accepted number (round_numbered event round)
+
+-- the rounds of an event
+abbrev pub leave_event : List Command → ℕ → Event → List ℕ
+leave_event accepted number event =
+    flat_map (leave_in accepted number event) (1 ∷ 2 ∷ 3 ∷ 4 ∷ [])
+
+-- the rounds of all events
+abbrev pub leave_buttons : List Command → ℕ → List ℕ
+leave_buttons accepted number = flat_map (leave_event accepted number) all_events
+
+-- a form with these buttons, and the rule of who takes the place
+unfoldable pub withdrawing : List ℕ → ℕ → ℕ → List ℕ → List ℕ
+withdrawing token form number buttons =
+    codes "<h2>Withdraw</h2>\n<p>From a round that is open, before the first attempt in it. From a "
+    ++ codes "later round it can't be taken back: the best of the round before who has a result, "
+    ++ codes "did not go on and has not taken a place yet takes the place.</p>\n"
+    ++ person_form token form (codes "WDR") number ++ buttons ++ codes "</form>\n"
+
+-- no form where there is no button
+abbrev pub withdrawing_if : List ℕ → ℕ → ℕ → List ℕ → List ℕ
+withdrawing_if token form number [] = []
+withdrawing_if token form number (byte ∷ bytes) = withdrawing token form number (byte ∷ bytes)
+
+-- ---- the page
+
+-- the forms of edition 3
+unfoldable pub mending : Around → ℕ → List ℕ → List ℕ
+mending around number name =
+    renaming around.token.now (get_or around.ids.now 0 0) number name
+    ++ withdrawing_if around.token.now (get_or around.ids.now 1 0) number
+    (leave_buttons (accepted_in around.mirror.now) number)
+
+-- or the form that moves to it
+abbrev pub mending_or_edition : Around → ℕ → List ℕ → List ℕ
+mending_or_edition around number name =
+    if mends (accepted_in around.mirror.now) then mending around number name
+    else edition_form around.token.now (get_or around.ids.now 0 0) (person_path number)
+
+abbrev pub person_head : ℕ → List ℕ → List ℕ
+person_head number name = joined (
+    codes "<section><h1 dir=\"auto\">" ∷ escaped name ∷ codes "</h1>\n<p>Number "
+    ∷ decimal number ∷ codes ", events:" ∷ []
+    )
+
+-- name, number, the events in whose first round the competitor is, and the forms
+unfoldable pub person_section : Around → ℕ → List ℕ → List ℕ
+person_section around number name =
+    person_head number name
+    ++ flat_map (entered_in (accepted_in around.mirror.now) number) all_events ++ codes "</p>\n"
+    ++ mending_or_edition around number name ++ codes "</section>\n"
+
+unfoldable pub page_of : Around → ℕ → List ℕ → List ℕ
+page_of around number name =
+    top (codes "hall") (codes "Competitor") around.desks.now (length around.mirror.now)
+    ++ person_section around number name
+    ++ recent_section (accepted_in around.mirror.now) around.desks.now around.now around.recent.now
+    ++ bottom
+
+-- where somebody has the number
+abbrev pub person_page : Around → ℕ → Option (List ℕ)
+person_page around number =
+    option_map (page_of around number) (name_of (accepted_in around.mirror.now) number)

@@ -1,0 +1,96 @@
+//! The form that changes how a round is run.
+
+ghost use Rattle.std.specs.Prelude.{◌≡◌, ◌++◌, OnOk};
+ghost use Rattle.hall_views.specs.Changing.{changing, early_words, settings_form};
+ghost use Rattle.hall_views.specs.Changing.{settings_form_if};
+
+use crate::editions::mends;
+use crate::forms::{id_at, path_of, push_button, push_form, push_round_value};
+use crate::opening::push_rule_fields;
+use acceptor::NoMemory;
+use card_forms::FormId;
+use formats::Event;
+use round_counts::Opened;
+use table_views::Around;
+use texts::{RoundId, Settings};
+
+/// Adds the form that changes format, cutoff and limit, with what stands chosen beforehand.
+fn push_settings_form(
+    out: &mut Vec<u8>,
+    token: &[u8],
+    form: FormId,
+    id: RoundId,
+    settings: Settings,
+) -> Result<(), NoMemory>
+    ensures { OnOk result (out.new.items
+        ≡ out.old.items ++ settings_form token.now form id settings) }
+{
+    let back = path_of(*out.allocator(), id)?;
+    out.extend_from_slice(b"<h2>Change format, cutoff and limit</h2>\n")?;
+    push_form(out, token, form, b"SET", &back)?;
+    push_round_value(out, id)?;
+    push_rule_fields(
+        out,
+        id.event,
+        Some(settings.format),
+        settings.cutoff,
+        settings.limit,
+    )?;
+    push_button(out, b"Change format, cutoff and limit")
+}
+
+/// Adds that form, unless somebody has an attempt.
+fn push_settings_form_if(
+    out: &mut Vec<u8>,
+    attempted: bool,
+    token: &[u8],
+    form: FormId,
+    id: RoundId,
+    settings: Settings,
+) -> Result<(), NoMemory>
+    ensures { OnOk result (out.new.items
+        ≡ out.old.items ++ settings_form_if attempted token.now form id settings) }
+{
+    if attempted {
+        Ok(())
+    } else {
+        push_settings_form(out, token, form, id, settings)
+    }
+}
+
+/// What edition 3 would allow in an open round.
+fn early_words(event: Event, attempted: bool) -> &'static [u8]
+    ensures { result.now ≡ early_words event attempted }
+{
+    match event {
+        Event::FewestMoves => {
+            b"<p>With <a href=\"/rounds\">edition 3</a> a scramble could be changed, and before \
+the first attempt format and cutoff.</p>\n"
+        }
+        _ if attempted => b"",
+        _ => {
+            b"<p>With <a href=\"/rounds\">edition 3</a> format, cutoff and limit could be changed \
+before the first attempt.</p>\n"
+        }
+    }
+}
+
+/// Adds the form that changes how an open round is run, in edition 3 and while nobody has an
+/// attempt; before edition 3, what it would allow.
+pub(crate) fn push_changing(
+    out: &mut Vec<u8>,
+    around: &Around<'_>,
+    id: RoundId,
+    round: Opened<'_>,
+) -> Result<(), NoMemory>
+    ensures { OnOk result (out.new.items ≡ out.old.items ++ changing around.entry.now id
+        (round.entry.settings, round.entry.table.now)) }
+{
+    let attempted = round.table.is_attempted(1);
+    if mends(around.mirror.meet()) {
+        let form = id_at(around.ids, 5);
+        push_settings_form_if(out, attempted, around.token, form, id, round.settings)
+    } else {
+        out.extend_from_slice(early_words(id.event, attempted))
+    }
+}

@@ -1,0 +1,72 @@
+//! The form that opens a closed round again.
+
+ghost use Rattle.std.specs.Prelude.{◌≡◌, ◌++◌, OnOk};
+ghost use Rattle.hall_views.specs.Reopening.{again, again_form, again_or_told, is_followed};
+
+use crate::editions::mends;
+use crate::forms::{id_at, path_of, push_button, push_form, push_round_value};
+use acceptor::NoMemory;
+use card_forms::FormId;
+use commands::Meet;
+use formats::LAST_ROUND;
+use round_counts::round_opened;
+use table_views::Around;
+use texts::RoundId;
+
+/// Whether the next round is opened.
+fn is_followed(meet: &Meet, id: RoundId) -> bool
+    ensures { result ≡ is_followed meet.now.accepted id }
+{
+    if id.round >= LAST_ROUND {
+        return false;
+    }
+    let next = RoundId {
+        event: id.event,
+        round: id.round + 1,
+    };
+    round_opened(meet, next).is_some()
+}
+
+/// Adds the form that opens a closed round again.
+fn push_again_form(
+    out: &mut Vec<u8>,
+    token: &[u8],
+    form: FormId,
+    id: RoundId,
+) -> Result<(), NoMemory>
+    ensures { OnOk result (out.new.items ≡ out.old.items ++ again_form token.now form id) }
+{
+    let back = path_of(*out.allocator(), id)?;
+    out.extend_from_slice(b"<p>It can be opened again until the next round is opened.</p>\n")?;
+    push_form(out, token, form, b"REOPEN", &back)?;
+    push_round_value(out, id)?;
+    push_button(out, b"Open it again")
+}
+
+/// Adds the form in edition 3; before it, what edition 3 would allow.
+fn push_again_or_told(out: &mut Vec<u8>, around: &Around<'_>, id: RoundId) -> Result<(), NoMemory>
+    ensures { OnOk result (out.new.items ≡ out.old.items ++ again_or_told around.entry.now id) }
+{
+    if mends(around.mirror.meet()) {
+        push_again_form(out, around.token, id_at(around.ids, 0), id)
+    } else {
+        out.extend_from_slice(
+            b"<p>With <a href=\"/rounds\">edition 3</a> it could be opened again.</p>\n",
+        )
+    }
+}
+
+/// Adds the form that opens a closed round again, unless the next one is opened.
+pub(crate) fn push_again(
+    out: &mut Vec<u8>,
+    around: &Around<'_>,
+    id: RoundId,
+) -> Result<(), NoMemory>
+    ensures { OnOk result (out.new.items ≡ out.old.items ++ again around.entry.now id) }
+{
+    if is_followed(around.mirror.meet(), id) {
+        Ok(())
+    } else {
+        push_again_or_told(out, around, id)
+    }
+}

@@ -1,0 +1,9 @@
+pub mod Fronting
+pub mod Trying
+pub mod Fresh
+pub mod Standing
+pub mod Reaching
+pub mod Admitted
+pub mod Lawful
+pub mod Sealings
+pub mod Sending

@@ -1,0 +1,126 @@
+-- The side of whoever calls a desk, as more of the stream comes.
+use Rattle.std.proofs.Common.{◌≡◌, ℕ, List, [], ◌++◌, length, drop, true, false, Bool}
+use Rattle.std.proofs.Common.{Option, Some, None, refl, sym, ap, subst, ◌∙◌}
+use Rattle.std.proofs.lemmas.List.{append-nil}
+use Rattle.seal.specs.declared.channel.Direction.TheVariants.{ToClient}
+use Rattle.seal.specs.Records.{key_of, preface_of}
+use Rattle.seal.specs.Streams.{Fed}
+use Rattle.sealed.specs.Callings.{CallingOf, Receives, Stands, StandsBy, StandsClosed}
+use Rattle.sealed.specs.Fronts.{IsShort, IsUnsealed}
+use Rattle.sealed.specs.Trials.{ReadsAll}
+use Rattle.sealed.specs.Tunnels.{TunnelOf, channel_of}
+use Rattle.sealed.specs.model.Opening.{OpensTo}
+use Rattle.sealed.specs.model.Steps.{IsHeld}
+use Rattle.sealed.proofs.Fronting.{all_held, held_and_rest, prefaced_first, prefaced_more}
+use Rattle.sealed.proofs.Fronting.{unsealed_more}
+use Rattle.sealed.proofs.Trying.{fed_all, fed_same}
+
+is_closed : (b : Bool) (c : CallingOf) (came handed : List ℕ) → c.tunnel ≡ None → c.unsealed ≡ b
+    → Stands c came handed → StandsClosed b c came handed
+is_closed b c came handed none is h =
+    subst (λ (u : Bool). StandsClosed u c came handed) is
+    (subst (λ (t : Option TunnelOf). StandsBy t c came handed) none h)
+
+closed_is : (b : Bool) (c : CallingOf) (came handed : List ℕ) → c.tunnel ≡ None → c.unsealed ≡ b
+    → StandsClosed b c came handed → Stands c came handed
+closed_is b c came handed none is h =
+    subst (λ (t : Option TunnelOf). StandsBy t c came handed) (sym none)
+    (subst (λ (u : Bool). StandsClosed u c came handed) (sym is) h)
+
+-- it isn't known yet what the stream is
+pub receives_short : (old new : CallingOf) (piece : List ℕ) (added : ℕ) → old.tunnel ≡ None
+    → old.unsealed ≡ false → new.tunnel ≡ None → new.unsealed ≡ false → new.key ≡ old.key
+    → new.random ≡ old.random → IsHeld piece old.held new.held added → IsShort new.held
+    → Receives piece old new []
+receives_short old new piece added o1 o2 n1 n2 key random held short = record {
+  key = key;
+  random = random;
+  stands = λ came handed h.
+      let q = is_closed false old came handed o1 o2 h in
+      let all = all_held came piece old.held new.held added held q.1 short in
+      closed_is false new (came ++ piece) (handed ++ []) n1 n2
+      (subst (λ (s : List ℕ). IsShort s) all short, all, append-nil handed ∙ q.2);
+}
+
+-- the stream is not sealed
+pub receives_unsealed : (old mid new : CallingOf) (piece : List ℕ) (added : ℕ) → old.tunnel ≡ None
+    → old.unsealed ≡ false → new.tunnel ≡ None → new.unsealed ≡ true → new.key ≡ old.key
+    → new.random ≡ old.random → IsHeld piece old.held mid.held added → IsUnsealed mid.held
+    → Receives piece old new []
+receives_unsealed old mid new piece added o1 o2 n1 n2 key random held unsealed = record {
+  key = key;
+  random = random;
+  stands = λ came handed h.
+      let q = is_closed false old came handed o1 o2 h in
+      let whole = held_and_rest came piece old.held mid.held added held q.1 in
+      let is = unsealed_more mid.held (drop added piece) unsealed in
+      closed_is true new (came ++ piece) (handed ++ []) n1 n2
+      (subst (λ (s : List ℕ). IsUnsealed s) (sym whole) is, append-nil handed ∙ q.2);
+}
+
+-- nothing is handed on of a stream that is not sealed
+pub receives_more_unsealed : (c : CallingOf) (piece : List ℕ) → c.tunnel ≡ None
+    → c.unsealed ≡ true → Receives piece c c []
+receives_more_unsealed c piece none is = record {
+  key = refl;
+  random = refl;
+  stands = λ came handed h.
+      let q = is_closed true c came handed none is h in
+      closed_is true c (came ++ piece) (handed ++ []) none is
+      (unsealed_more came piece q.0, append-nil handed ∙ q.1);
+}
+
+-- the first piece of a sealed stream
+pub receives_first : (old mid new : CallingOf) (piece server more : List ℕ) (added : ℕ)
+    → old.tunnel ≡ None → old.unsealed ≡ false → mid.key ≡ old.key → mid.random ≡ old.random
+    → IsHeld piece old.held mid.held added → length server ≡ 16 → mid.held ≡ preface_of server
+    → OpensTo server (drop added piece) mid new more → Receives piece old new more
+receives_first old mid new piece server more added o1 o2 key random held sixteen is opens =
+    let new_key : new.key ≡ mid.key = ap (λ (c : CallingOf). c.key) opens.1 in
+    let new_random : new.random ≡ mid.random = ap (λ (c : CallingOf). c.random) opens.1 in
+    let tunnel : new.tunnel ≡ Some opens.0 = ap (λ (c : CallingOf). c.tunnel) opens.1 in
+    let same : channel_of (key_of mid.key mid.random server) ToClient
+    ≡ channel_of (key_of new.key new.random server) ToClient =
+    ap (λ (k : List ℕ). channel_of (key_of k mid.random server) ToClient) (sym new_key)
+    ∙ ap (λ (r : List ℕ). channel_of (key_of new.key r server) ToClient) (sym new_random) in
+    record {
+      key = new_key ∙ key;
+      random = new_random ∙ random;
+      stands = λ came handed h.
+          let q = is_closed false old came handed o1 o2 h in
+          let prefaced =
+          prefaced_first came piece old.held mid.held server added held q.1 sixteen is in
+          let all : handed ++ more ≡ more = ap (λ (s : List ℕ). s ++ more) q.2 in
+          subst (λ (t : Option TunnelOf). StandsBy t new (came ++ piece) (handed ++ more))
+          (sym tunnel)
+          (record {
+            server = server;
+            stream = drop added piece;
+            prefaced = prefaced;
+            key = opens.2 ∙ same;
+            reads = subst (λ (s : List ℕ). ReadsAll opens.0 (drop added piece) s) (sym all) opens.3;
+          });
+    }
+
+-- one more piece of it
+pub receives_more : (old new : CallingOf) (t u : TunnelOf) (piece more : List ℕ)
+    → old.tunnel ≡ Some t → new.tunnel ≡ Some u → new.key ≡ old.key → new.random ≡ old.random
+    → Fed piece t.opener u.opener more → Receives piece old new more
+receives_more old new t u piece more o1 n1 key random fed = record {
+  key = key;
+  random = random;
+  stands = λ came handed h.
+      let q = subst (λ (o : Option TunnelOf). StandsBy o old came handed) o1 h in
+      let same : channel_of (key_of old.key old.random q.server) ToClient
+      ≡ channel_of (key_of new.key new.random q.server) ToClient =
+      ap (λ (k : List ℕ). channel_of (key_of k old.random q.server) ToClient) (sym key)
+      ∙ ap (λ (r : List ℕ). channel_of (key_of new.key r q.server) ToClient) (sym random) in
+      subst (λ (o : Option TunnelOf). StandsBy o new (came ++ piece) (handed ++ more)) (sym n1)
+      (record {
+        server = q.server;
+        stream = q.stream ++ piece;
+        prefaced = prefaced_more came q.server q.stream piece q.prefaced;
+        key = fed_same piece more t.opener u.opener fed ∙ q.key ∙ same;
+        reads = fed_all t u q.stream handed piece more q.reads fed;
+      });
+}

@@ -1,0 +1,19 @@
+use Rattle.std.proofs.Common.{Some, refl}
+use Rattle.sealed.specs.Callings.{CallingOf}
+use Rattle.sealed.proofs.Reaching.{receives_more}
+use Rattle.sealed.proofs.calling.Calling.receive.Goals as goal
+
+pub returns-in-Some : goal.returns-in-Some
+returns-in-Some c =
+    let was = c.self.inside in
+    let old : CallingOf = record {
+      key = was.key;
+      random = was.random;
+      held = was.front.items;
+      tunnel = was.tunnel;
+      unsealed = was.unsealed;
+    } in
+    let new : CallingOf = record old { tunnel = Some c.feed.new.self } in
+    rw (← c.self.view_is)
+    (receives_more old new c.in-Some.tunnel c.feed.new.self c.args.piece.now
+    c.in_ok-handed.handed.items c.in-Some.is refl refl refl c.in_ok-handed.ensures.fed)

@@ -1,0 +1,15 @@
+use Rattle.std.proofs.Common.{◌≡◌, ◌-◌, ◌≤◌, length, take}
+use Rattle.sealed.specs.Tunnels.{SealsAll}
+use Rattle.sealed.proofs.tunnel.Tunnel.seal.Given as goal
+
+-- what stands in front was sealed
+abbrev pub invariant-loop-start : goal.invariant-loop-start
+invariant-loop-start l = record {
+  within : l.start ≤ length l.bytes;
+  sealed : SealsAll (take l.start l.bytes) l.initial.self-inside.sealer l.self-inside.sealer
+      l.sent.items;
+  opener : l.self-inside.opener ≡ l.initial.self-inside.opener;
+}
+
+abbrev pub decreases-loop-start : goal.decreases-loop-start
+decreases-loop-start l = length l.bytes - l.start

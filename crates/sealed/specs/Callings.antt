@@ -1,0 +1,90 @@
+-- The side of whoever calls a desk: what it keeps, and what it has read.
+use Rattle.std.specs.Prelude.{◌≡◌, ℕ, Bool, true, false, List, [], ◌++◌, Option, None, Some}
+use Rattle.seal.specs.declared.channel.Direction.TheVariants.{ToClient}
+use Rattle.seal.specs.declared.fault.OpenFault.{OpenFault}
+use Rattle.seal.specs.Records.{key_of}
+use Rattle.sealed.specs.declared.calling.Trouble.{Trouble}
+use Rattle.sealed.specs.declared.calling.Trouble.TheVariants.{NoKey, OtherKey}
+use Rattle.sealed.specs.Fronts.{IsPrefaced, IsShort, IsUnsealed}
+use Rattle.sealed.specs.Trials.{Hands, ReadsAll, SealsOver, comes_by}
+use Rattle.sealed.specs.Tunnels.{TunnelOf, channel_of}
+
+-- ---- what is handed on of what came, by its bytes alone
+
+-- a sealed stream came, and these bytes are handed on of it
+pub record IsOpened (key client came handed : List ℕ) : Type 0 where
+  pub server : List ℕ
+  pub stream : List ℕ
+  pub prefaced : IsPrefaced came server stream
+  pub hands : Hands (channel_of (key_of key client server) ToClient) stream handed
+
+-- ---- the side
+
+-- the key, the random bytes, the bytes that are held until it is known what the stream is, the
+-- connection under its key, once the desk's preface came, and whether the stream is not sealed
+pub record CallingOf : Type 0 where
+  pub key : List ℕ
+  pub random : List ℕ
+  pub held : List ℕ
+  pub tunnel : Option TunnelOf
+  pub unsealed : Bool
+
+abbrev pub fresh_calling : List ℕ → List ℕ → CallingOf
+fresh_calling key random =
+    record { key = key; random = random; held = []; tunnel = None; unsealed = false }
+
+abbrev pub fault_trouble : Option OpenFault → Option Trouble
+fault_trouble None = None
+fault_trouble (Some e) = Some OtherKey
+
+abbrev pub unsealed_trouble : Bool → Option Trouble
+unsealed_trouble true = Some NoKey
+unsealed_trouble false = None
+
+abbrev pub trouble_by : Option TunnelOf → Bool → Option Trouble
+trouble_by (Some t) unsealed = fault_trouble t.opener.fault
+trouble_by None unsealed = unsealed_trouble unsealed
+
+abbrev pub trouble_of : CallingOf → Option Trouble
+trouble_of c = trouble_by c.tunnel c.unsealed
+
+-- ---- what was read
+
+-- it is known that the stream is sealed
+pub record StandsOpen (c : CallingOf) (t : TunnelOf) (came handed : List ℕ) : Type 0 where
+  pub server : List ℕ
+  pub stream : List ℕ
+  pub prefaced : IsPrefaced came server stream
+  pub key : comes_by t ≡ channel_of (key_of c.key c.random server) ToClient
+  pub reads : ReadsAll t stream handed
+
+-- or that it is not, or neither
+abbrev pub StandsClosed : Bool → CallingOf → List ℕ → List ℕ → Type 0
+StandsClosed true c came handed = IsUnsealed came × (handed ≡ [])
+StandsClosed false c came handed = IsShort came × (c.held ≡ came) × (handed ≡ [])
+
+abbrev pub StandsBy : Option TunnelOf → CallingOf → List ℕ → List ℕ → Type 0
+StandsBy (Some t) c came handed = StandsOpen c t came handed
+StandsBy None c came handed = StandsClosed c.unsealed c came handed
+
+-- these bytes came so far, and those were handed on
+abbrev pub Stands : CallingOf → List ℕ → List ℕ → Type 0
+Stands c came handed = StandsBy c.tunnel c came handed
+
+-- the key and the random bytes are the same; and whatever came and was handed on before, with this
+-- piece these bytes more are
+pub record Receives (piece : List ℕ) (old new : CallingOf) (more : List ℕ) : Type 0 where
+  pub key : new.key ≡ old.key
+  pub random : new.random ≡ old.random
+  pub stands : (came handed : List ℕ) → Stands old came handed
+      → Stands new (came ++ piece) (handed ++ more)
+
+-- ---- what is sent
+
+abbrev pub SendsBy : Option TunnelOf → List ℕ → CallingOf → CallingOf → List ℕ → Type 0
+SendsBy None bytes old new sent = (sent ≡ []) × (new ≡ old)
+SendsBy (Some t) bytes old new sent =
+    (u : TunnelOf) × SealsOver bytes t u sent × (new ≡ record old { tunnel = Some u })
+
+abbrev pub SendsTo : List ℕ → CallingOf → CallingOf → List ℕ → Type 0
+SendsTo bytes old new sent = SendsBy old.tunnel bytes old new sent

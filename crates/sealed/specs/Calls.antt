@@ -1,0 +1,152 @@
+-- A desk's side of a connection: what it keeps, and what it has read.
+use Rattle.std.specs.Prelude.{◌≡◌, ℕ, Bool, true, false, List, [], ◌++◌, Option, None, Some}
+use Rattle.std.specs.Prelude.{option_map}
+use Rattle.sealed.specs.declared.callers.Caller.{Caller}
+use Rattle.sealed.specs.declared.callers.Caller.TheVariants.{Anyone, Passer}
+use Rattle.sealed.specs.declared.callers.Caller.TheVariants as caller
+use Rattle.sealed.specs.declared.callers.Doors.{Doors}
+use Rattle.sealed.specs.declared.callers.Doors.TheVariants.{Open, Locked}
+use Rattle.sealed.specs.declared.callers.Holder.{Holder}
+use Rattle.sealed.specs.declared.callers.Locks.{Locks}
+use Rattle.sealed.specs.declared.callers.Refusal.{Refusal}
+use Rattle.sealed.specs.declared.callers.Refusal.TheVariants.{Unsealed, NoMemory}
+use Rattle.sealed.specs.Admitting.{comes_under, goes_under}
+use Rattle.sealed.specs.Fronts.{IsPrefaced, IsShort, IsUnsealed}
+use Rattle.sealed.specs.Trials.{SealsFor, TrialOf, Tries, comes_by, entry_by, goes_by, over}
+
+-- what the desk asks for, its random bytes, the bytes that are held until it is known what the
+-- stream is, who is let pass without a key, the keys that a sealed stream is tried with, and why
+-- nothing more is read
+pub record CalledOf : Type 0 where
+  pub doors : Doors
+  pub random : List ℕ
+  pub held : List ℕ
+  pub passing : Option Caller
+  pub trial : Option TrialOf
+  pub refusal : Option Refusal
+
+-- who calls, as far as it is known
+abbrev pub held_by : Holder → Caller
+held_by key = caller.Holder key
+
+abbrev pub caller_by : Option TrialOf → Option Caller → Option Caller
+caller_by None passing = passing
+caller_by (Some t) passing = option_map held_by t.holder
+
+abbrev pub caller_of : CalledOf → Option Caller
+caller_of c = caller_by c.trial c.passing
+
+-- whether nothing more is handed on: the stream was refused, or a record of it does not fit
+abbrev pub trial_over : Option TrialOf → Bool
+trial_over None = false
+trial_over (Some t) = over t
+
+abbrev pub over_by : Option Refusal → Option TrialOf → Bool
+over_by None trial = trial_over trial
+over_by (Some why) trial = true
+
+abbrev pub is_over : CalledOf → Bool
+is_over c = over_by c.refusal c.trial
+
+-- whether the client's preface came whole, so that its stream is tried with the desk's keys
+abbrev pub is_tried : Option TrialOf → Bool
+is_tried None = false
+is_tried (Some t) = true
+
+abbrev pub is_sealed : CalledOf → Bool
+is_sealed c = is_tried c.trial
+
+-- where nobody is waited for
+abbrev pub first_passing : Doors → Option Caller
+first_passing Open = Some Anyone
+first_passing (Locked locks) = None
+
+-- before the first byte
+abbrev pub fresh_called : Doors → List ℕ → CalledOf
+fresh_called doors random = record {
+  doors = doors;
+  random = random;
+  held = [];
+  passing = first_passing doors;
+  trial = None;
+  refusal = None;
+}
+
+-- ---- what was read
+
+-- the trial is of the desk's keys
+pub record IsOfLocks (locks : Locks) (client server : List ℕ) (t : TrialOf) : Type 0 where
+  pub hall : comes_by t.hall ≡ comes_under client server locks.hall
+  pub entry : entry_by t ≡ option_map (comes_under client server) locks.entry
+  pub hall_sends : goes_by t.hall ≡ goes_under client server locks.hall
+  pub entry_sends : option_map goes_by t.entry
+      ≡ option_map (goes_under client server) locks.entry
+
+-- it is known that the stream is sealed
+pub record StandsTrying (c : CalledOf) (t : TrialOf) (came handed : List ℕ) : Type 0 where
+  pub locks : Locks
+  pub client : List ℕ
+  pub stream : List ℕ
+  pub doors : c.doors ≡ Locked locks
+  pub prefaced : IsPrefaced came client stream
+  pub keys : IsOfLocks locks client c.random t
+  pub tries : Tries stream handed t
+
+-- or that it is not
+abbrev pub StandsPassing : CalledOf → Option Caller → List ℕ → List ℕ → Type 0
+StandsPassing c (Some Anyone) came handed = (c.doors ≡ Open) × (handed ≡ came)
+StandsPassing c (Some Passer) came handed =
+    (locks : Locks) × (c.doors ≡ Locked locks) × (locks.sheets ≡ true) × IsUnsealed came
+    × (handed ≡ came)
+StandsPassing c (Some (caller.Holder key)) came handed = ⊥
+StandsPassing c None came handed =
+    (locks : Locks) × (c.doors ≡ Locked locks) × IsShort came × (c.held ≡ came) × (handed ≡ [])
+
+abbrev pub StandsReading : CalledOf → Option TrialOf → List ℕ → List ℕ → Type 0
+StandsReading c (Some t) came handed = StandsTrying c t came handed
+StandsReading c None came handed = StandsPassing c c.passing came handed
+
+-- an unsealed stream was refused
+pub record StandsRefused (c : CalledOf) (came handed : List ℕ) : Type 0 where
+  pub locks : Locks
+  pub doors : c.doors ≡ Locked locks
+  pub shut : locks.sheets ≡ false
+  pub unsealed : IsUnsealed came
+  pub nothing : handed ≡ []
+  pub nobody : caller_of c ≡ None
+
+-- These bytes came so far, and these were handed on. After memory was refused nothing is said of
+-- them: nothing more is handed on.
+abbrev pub StandsAt : Option Refusal → CalledOf → List ℕ → List ℕ → Type 0
+StandsAt None c came handed = StandsReading c c.trial came handed
+StandsAt (Some Unsealed) c came handed = StandsRefused c came handed
+StandsAt (Some NoMemory) c came handed = ⊥
+
+abbrev pub Stands : CalledOf → List ℕ → List ℕ → Type 0
+Stands c came handed = StandsAt c.refusal c came handed
+
+-- the desk is the same
+pub record IsSameDesk (old new : CalledOf) : Type 0 where
+  pub doors : new.doors ≡ old.doors
+  pub random : new.random ≡ old.random
+
+-- whatever came and was handed on before: with this piece these bytes more are
+abbrev pub Receives : List ℕ → CalledOf → CalledOf → List ℕ → Type 0
+Receives piece old new more =
+    (came handed : List ℕ) → Stands old came handed → Stands new (came ++ piece) (handed ++ more)
+
+-- ---- what is sent
+
+-- the bytes themselves to whoever is let pass, and nothing to nobody
+abbrev pub SendsPlain : Option Caller → List ℕ → CalledOf → CalledOf → List ℕ → Type 0
+SendsPlain None bytes old new sent = (sent ≡ []) × (new ≡ old)
+SendsPlain (Some c) bytes old new sent = (sent ≡ bytes) × (new ≡ old)
+
+-- and records of them to a holder of a key
+abbrev pub SendsBy : Option TrialOf → List ℕ → CalledOf → CalledOf → List ℕ → Type 0
+SendsBy None bytes old new sent = SendsPlain old.passing bytes old new sent
+SendsBy (Some t) bytes old new sent =
+    (u : TrialOf) × SealsFor bytes t u sent × (new ≡ record old { trial = Some u })
+
+abbrev pub Sends : List ℕ → CalledOf → CalledOf → List ℕ → Type 0
+Sends bytes old new sent = SendsBy old.trial bytes old new sent

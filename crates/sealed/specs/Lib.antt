@@ -1,0 +1,9 @@
+pub mod Fronts
+pub mod Tunnels
+pub mod Trials
+pub mod Admitting
+pub mod Calls
+pub mod Sent
+pub mod Callings
+pub mod Laws
+pub mod model

@@ -1,0 +1,37 @@
+-- A sealed connection under one key.
+use Rattle.std.specs.Prelude.{◌≡◌, ℕ, ◌+◌, List, [], length, None}
+use Rattle.seal.specs.declared.channel.Channel.{Channel}
+use Rattle.seal.specs.declared.channel.Direction.{Direction}
+use Rattle.seal.specs.declared.channel.Direction.TheVariants.{ToServer, ToClient}
+use Rattle.seal.specs.Records.{AreBodies, records}
+use Rattle.seal.specs.Sealing.{Sealing}
+use Rattle.seal.specs.Streams.{Opening, joined}
+
+-- the other direction
+abbrev pub opposite : Direction → Direction
+opposite ToServer = ToClient
+opposite ToClient = ToServer
+
+-- one direction of a connection that has this key
+abbrev pub channel_of : List ℕ → Direction → Channel
+channel_of key direction = record { key = key; direction = direction }
+
+-- one of its sides: what opens the records that come, and what seals those that go
+pub record TunnelOf : Type 0 where
+  pub opener : Opening
+  pub sealer : Sealing
+
+-- before the first record, where what comes goes in this direction
+abbrev pub fresh_tunnel : List ℕ → Direction → TunnelOf
+fresh_tunnel key comes = record {
+  opener = record { channel = channel_of key comes; number = 0; held = []; fault = None };
+  sealer = record { channel = channel_of key (opposite comes); number = 0 };
+}
+
+-- what is sent are the next records, and the bytes of their bodies are these
+pub record SealsAll (bytes : List ℕ) (old new : Sealing) (sent : List ℕ) : Type 0 where
+  pub bodies : List (List ℕ)
+  pub each : AreBodies old.number bodies
+  pub gives : joined bodies ≡ bytes
+  pub sealed : sent ≡ records old.channel old.number bodies
+  pub counted : new ≡ record old { number = old.number + length bodies }

@@ -1,0 +1,43 @@
+//! Laws of the two sides of a connection, for all bytes and keys.
+
+ghost use Rattle.sealed.specs.Laws.{HolderIsAdmitted, SealsOn, StandsAdmits, StandsOpens};
+ghost use Rattle.sealed.specs.Sent.{SealingGoesOn, SealingReads, SendsWhatIsGiven};
+
+/// Of whatever came to a desk's side in pieces, what was handed on, and who calls, are as the
+/// desk's keys have it: a law. So where the caller is a holder of the hall's key, all that was
+/// handed on stands in records that fit under this key.
+pub fn stands_admits()
+    ensures { StandsAdmits }
+{}
+
+/// Of whatever came to the side of whoever calls, what was handed on stands in records that fit
+/// under its key: a law.
+pub fn stands_opens()
+    ensures { StandsOpens }
+{}
+
+/// Whoever has the hall's key, and seals with it, is let in with all that was sealed: a law.
+pub fn holder_is_admitted()
+    ensures { HolderIsAdmitted }
+{}
+
+/// Bytes that are sealed one after the other are sealed as the whole of them: a law.
+pub fn seals_on()
+    ensures { SealsOn }
+{}
+
+/// What a desk's side has read and handed on is not changed by what it sends: a law.
+pub fn sealing_reads()
+    ensures { SealingReads }
+{}
+
+/// What a desk's side sends goes on with what it sent before, where somebody is let in: a law.
+pub fn sealing_goes_on()
+    ensures { SealingGoesOn }
+{}
+
+/// A desk's side sends nothing but what it is given: the bytes themselves to whoever is let in
+/// without a key, and to a holder of one records of them under its key, numbered from 0: a law.
+pub fn sends_what_is_given()
+    ensures { SendsWhatIsGiven }
+{}

@@ -1,0 +1,48 @@
+-- What is done for a frame that its connection may not send.
+use Rattle.std.specs.Prelude.{◌≡◌, false, List, [], ◌∷◌}
+use Rattle.answers.specs.Seen.{Seen}
+use Rattle.store.specs.declared.home.Home.{Home}
+use Rattle.wire.specs.declared.frame.Frame.{Frame}
+use Rattle.wire.specs.declared.frame.What.TheVariants as what
+use Rattle.wire.specs.declared.values.ClientRefusal.TheVariants as refusal
+use Rattle.serving.specs.declared.request.Request.{Request}
+use Rattle.serving.specs.declared.request.Request.TheVariants.{Heard, Lagging, Learned, Entered}
+use Rattle.serving.specs.declared.request.Request.TheVariants.{Asked, Printed, Ticked, Stopped}
+use Rattle.serving.specs.declared.request.Request.TheVariants.{Inspected, Copied, Strange, Ignored}
+use Rattle.serving.specs.declared.request.Request.TheVariants.{Denied}
+use Rattle.serving.specs.Asking.{request}
+use Rattle.serving.specs.Connection.{Begun, answer_frame, serve_frame}
+use Rattle.serving.specs.Permissions.{admits}
+
+-- a client is told that its connection may not ask for that
+abbrev pub not_allowed : Home → Begun → List Frame
+not_allowed home b =
+    answer_frame b.frame.version home (what.Refused refusal.NotAllowed) ∷ []
+
+-- the answer: none to what a desk says, and to a client that it may not
+abbrev pub turned_away_by : Home → Begun → Request → List Frame
+turned_away_by home b (Heard m) = []
+turned_away_by home b (Lagging m) = []
+turned_away_by home b (Learned run) = []
+turned_away_by home b (Entered e) = not_allowed home b
+turned_away_by home b (Asked id) = not_allowed home b
+turned_away_by home b (Printed event round position style) = not_allowed home b
+turned_away_by home b Inspected = not_allowed home b
+turned_away_by home b (Copied position) = not_allowed home b
+turned_away_by home b Ticked = not_allowed home b
+turned_away_by home b Stopped = not_allowed home b
+turned_away_by home b Strange = not_allowed home b
+turned_away_by home b Ignored = not_allowed home b
+turned_away_by home b Denied = not_allowed home b
+
+-- The node is not called, nothing is pushed, and the node is as it was.
+pub record TurnsAway (home : Home) (x : Seen) (b : Begun) : Type 0 where
+  pub calls_nothing : (serve_frame home x b).acts ≡ []
+  pub unchanged : (serve_frame home x b).seen ≡ x
+  pub answered : (serve_frame home x b).answers ≡ turned_away_by home b (request home b.frame)
+
+-- of each frame that asks for more than its connection may
+abbrev pub OutsideCallsNothing : Type 0
+OutsideCallsNothing =
+    (home : Home) (x : Seen) (b : Begun) → admits b.may (request home b.frame) ≡ false
+    → TurnsAway home x b

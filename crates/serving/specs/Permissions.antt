@@ -1,0 +1,65 @@
+-- What a connection may ask of a desk, and what becomes of what it may not.
+use Rattle.std.specs.Prelude.{Bool, true, false, ◌||◌, if◌then◌else◌}
+use Rattle.serving.specs.declared.permission.Permission.{Permission}
+use Rattle.serving.specs.declared.permission.Permission.TheVariants as permission
+use Rattle.serving.specs.declared.request.Request.{Request}
+use Rattle.serving.specs.declared.request.Request.TheVariants.{Heard, Lagging, Learned, Entered}
+use Rattle.serving.specs.declared.request.Request.TheVariants.{Asked, Printed, Ticked, Stopped}
+use Rattle.serving.specs.declared.request.Request.TheVariants.{Inspected, Copied, Strange, Ignored}
+use Rattle.serving.specs.declared.request.Request.TheVariants.{Denied}
+
+-- nothing of the desk is changed: it tells what its log says or how it stands, or is asked nothing
+abbrev pub reads : Request → Bool
+reads (Asked id) = true
+reads (Printed event round position style) = true
+reads Inspected = true
+reads (Copied position) = true
+reads Strange = true
+reads Ignored = true
+reads Denied = true
+reads (Heard m) = false
+reads (Lagging m) = false
+reads (Learned run) = false
+reads (Entered e) = false
+reads Ticked = false
+reads Stopped = false
+
+-- a client enters a command, or gives a Tick
+abbrev pub enters : Request → Bool
+enters (Entered e) = true
+enters Ticked = true
+enters (Asked id) = false
+enters (Printed event round position style) = false
+enters Inspected = false
+enters (Copied position) = false
+enters Strange = false
+enters Ignored = false
+enters Denied = false
+enters (Heard m) = false
+enters (Lagging m) = false
+enters (Learned run) = false
+enters Stopped = false
+
+abbrev pub admits : Permission → Request → Bool
+admits permission.All r = true
+admits permission.Entries r = reads r || enters r
+admits permission.Sheets r = reads r
+
+-- what a desk says is dropped as a foreign frame is, and a client is told
+abbrev pub turned_away : Request → Request
+turned_away (Heard m) = Ignored
+turned_away (Lagging m) = Ignored
+turned_away (Learned run) = Ignored
+turned_away (Entered e) = Denied
+turned_away (Asked id) = Denied
+turned_away (Printed event round position style) = Denied
+turned_away Inspected = Denied
+turned_away (Copied position) = Denied
+turned_away Ticked = Denied
+turned_away Stopped = Denied
+turned_away Strange = Denied
+turned_away Ignored = Denied
+turned_away Denied = Denied
+
+abbrev pub permitted : Permission → Request → Request
+permitted may r = if admits may r then r else turned_away r

@@ -1,0 +1,11 @@
+use Rattle.std.proofs.Common.{◌==◌, nat_lt, length, rules, tests}
+use Rattle.std.proofs.lemmas.Iterator.Search.{all_from_yields_List}
+use Rattle.std.proofs.lemmas.Iterator.Splits.{YieldsList-from_slice_split}
+use Rattle.texts.proofs.names.has_single_spaces.Goals as goal
+
+pub returns : goal.returns
+returns c =
+    all_from_yields_List (λ part. nat_lt 0 (length part)) _ _ _ c.all.ensures.ran
+    (YieldsList-from_slice_split _ (λ b. b == 32) c.args.bytes.now c.split.ensures.rest
+    c.split.ensures.done c.split.ensures.closure (λ x b q k. search (rules, tests)))
+    (λ x b q k. search (rules, tests))

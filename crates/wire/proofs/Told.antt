@@ -1,0 +1,36 @@
+-- What a version tells of an answer is one that it has.
+use Rattle.std.proofs.Common.{◌≡◌, ◌≤◌, Bool, true, false, cond, leb, refl, arith}
+use Rattle.std.proofs.lemmas.Bool.{leb-true}
+use Rattle.texts.specs.declared.answer.Answer.{Answer}
+use Rattle.texts.specs.declared.answer.Answer.TheVariants.{Refused}
+use Rattle.texts.specs.declared.answer.Code.TheVariants.{Unread}
+use Rattle.wire.specs.declared.values.CommandState.{CommandState}
+use Rattle.wire.specs.declared.values.CommandState.TheVariants.{Unknown, Pending, Done}
+use Rattle.wire.specs.declared.values.Version.{Version}
+use Rattle.wire.specs.declared.values.Version.TheVariants.{One, Two, Three}
+use Rattle.wire.specs.Numbers.{answer_number, answer_in, last_code, state_in}
+use Rattle.wire.specs.Ranges.{IsPosition, IsAnswerOf, IsCommandState}
+
+unread_told : (v : Version) → 1 ≤ last_code v
+unread_told One = omega arith
+unread_told Two = omega arith
+unread_told Three = omega arith
+
+pub answer_told : (v : Version) (a : Answer) → IsAnswerOf v (answer_in v a)
+answer_told v a = step (leb (answer_number a) (last_code v)) refl
+  where
+    step : (b : Bool) → leb (answer_number a) (last_code v) ≡ b
+        → IsAnswerOf v (cond b a (Refused Unread))
+    step true is = leb-true _ _ is
+    step false is = unread_told v
+
+-- at any position of a log
+abbrev pub HasPlace : CommandState → Type 0
+HasPlace Unknown = Unit {0}
+HasPlace Pending = Unit {0}
+HasPlace (Done pos answer) = IsPosition pos
+
+pub state_told : (v : Version) (s : CommandState) → HasPlace s → IsCommandState v (state_in v s)
+state_told v Unknown h = tt
+state_told v Pending h = tt
+state_told v (Done pos a) h = (h, answer_told v a)
