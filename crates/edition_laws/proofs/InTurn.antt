@@ -99,7 +99,9 @@ taken_are e r ns earlier (c ∷ cs) =
     step true =
         rw (add-one so_far) (one_more ns so_far behind
         ∙ ap (λ (k : ℕ). take k (drop so_far ns)) one_more_is)
-    step false = ap (λ (k : ℕ). take behind (drop k ns)) still ∙ ap (λ (k : ℕ). take k (drop so_far ns)) none_more
+    step false =
+        ap (λ (k : ℕ). take behind (drop k ns)) still
+        ∙ ap (λ (k : ℕ). take k (drop so_far ns)) none_more
 
 pub takes_who_is_next : TakesWhoIsNext
 takes_who_is_next e r id n ns since here once =

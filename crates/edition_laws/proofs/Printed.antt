@@ -56,7 +56,8 @@ table_alike cs ds e names r =
 named : (cs : List Command) (id : RoundId) → AreNamedAlike (cs ++ Reopen id ∷ Close id ∷ []) cs
 named cs id n =
     ap (λ (o : Option (List ℕ)). unwrap_or o [])
-    (ap (λ (ds : List Command). name_of ds n) (sym (append_assoc cs (Reopen id ∷ []) (Close id ∷ [])))
+    (ap (λ (ds : List Command). name_of ds n)
+    (sym (append_assoc cs (Reopen id ∷ []) (Close id ∷ [])))
     ∙ standing_kept (name_given n) (renaming n) (cs ++ Reopen id ∷ []) (Close id) refl refl
     ∙ standing_kept (name_given n) (renaming n) cs (Reopen id) refl refl)
 

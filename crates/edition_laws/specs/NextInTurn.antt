@@ -21,8 +21,8 @@ taken_in e r waiting earlier [] = []
 taken_in e r waiting earlier (c ∷ cs) =
     taken_by e r waiting earlier c ++ taken_in e r waiting (earlier ++ c ∷ []) cs
 
--- of those who wait, of whom none is named twice, the first takes the place whom no withdrawal since
--- the opening has taken in
+-- of those who wait, of whom none is named twice, the first takes the place whom no withdrawal
+-- since the opening has taken in
 abbrev pub TakesWhoIsNext : Type 0
 TakesWhoIsNext =
     (e : Event) (r : ℕ) (id : RoundId) (n : ℕ) (waiting : List ℕ) (since : List Command)

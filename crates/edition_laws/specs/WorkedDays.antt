@@ -51,7 +51,8 @@ leave n = Withdraw (round_id Cube3 2) n
 
 -- the numbers of those who are in a round, in order of entry
 abbrev pub those_in : ℕ → List Command → List ℕ
-those_in r cs = option_map_or (λ round. map number_of_entrant round.1.entrants) (round_of cs Cube3 r) []
+those_in r cs =
+    option_map_or (λ round. map number_of_entrant round.1.entrants) (round_of cs Cube3 r) []
 
 pub record MendsWorkedDays : Type 0 where
   pub nobody_left_yet : those_in 2 day ≡ 1 ∷ 2 ∷ []

@@ -49,8 +49,10 @@ abbrev pub open_text : List ℕ
 open_text =
     codes "333 round 1 ao5 open position 11\n"
     ++ codes "cutoff - limit 60000 advance final\n"
-    ++ codes "  1     12.00     10.00     10.00     12.00     11.00     13.00       DNF    1 - Ann Li\n"
-    ++ codes "  2         -     11.50     11.50         -         -         -         -    2 - Bo Ek\n"
+    ++ codes "  1     12.00     10.00     10.00     12.00     11.00     13.00       DNF"
+    ++ codes "    1 - Ann Li\n"
+    ++ codes "  2         -     11.50     11.50         -         -         -         -"
+    ++ codes "    2 - Bo Ek\n"
 
 abbrev pub open_table : List ℕ
 open_table =

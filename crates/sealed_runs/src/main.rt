@@ -3,15 +3,15 @@
 //! Bytes are written as tokens of hexadecimal digits with spaces between them, and `*N` after a
 //! token stands for N times its bytes. A line is one of these:
 //!
-//! - `called N DOORS HALL / ENTRY / RANDOM / STREAM`: what a desk hands on of a stream that comes in
-//!   pieces of N bytes, who calls, and why nothing more is read. DOORS is `open`, `shut` or
+//! - `called N DOORS HALL / ENTRY / RANDOM / STREAM`: what a desk hands on of a stream that comes
+//!   in pieces of N bytes, who calls, and why nothing more is read. DOORS is `open`, `shut` or
 //!   `sheets`; ENTRY is empty where there is no entry key; RANDOM are the desk's random bytes.
 //! - `calling N KEY / RANDOM / STREAM`: what whoever calls with this key hands on, whether it may
 //!   send, and what is wrong.
 //! - `answer DOORS HALL / ENTRY / RANDOM / STREAM / BYTES`: what the desk sends of these bytes once
 //!   the stream came.
-//! - `streams FIRST COUNT`: draws COUNT streams, of the seeds FIRST and on, and tells how often each
-//!   caller came, and one HMAC over all that was handed on.
+//! - `streams FIRST COUNT`: draws COUNT streams, of the seeds FIRST and on, and tells how often
+//!   each caller came, and one HMAC over all that was handed on.
 //!
 //! Any other line is printed as it is. The output that is wanted stands in `stdout`:
 //! `bench/callers.py` works it out.

@@ -10,7 +10,9 @@ use Rattle.sheets.specs.SecondEdition as second_sheets
 use Rattle.edition_laws.proofs.laws.worked_sheets.Goals as goal
 
 pub returns : goal.returns
-unfolding first.round_in second.round_in first_sheets.entrant_line first_sheets.entrant_record second_sheets.entrant_line second_sheets.entrant_record turned is_solved is_solution result_of digits escaped fields_text is_blank
+unfolding first.round_in second.round_in first_sheets.entrant_line first_sheets.entrant_record
+    second_sheets.entrant_line second_sheets.entrant_record turned is_solved is_solution result_of
+    digits escaped fields_text is_blank
 returns c =
     record {
       open_as_text = refl;
