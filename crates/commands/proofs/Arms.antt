@@ -1,5 +1,6 @@
 -- What each command is refused for, by the rounds and the competitors that are kept.
-use Rattle.std.proofs.Common.{◌≡◌, ℕ, ◌+◌, ◌≤◌, Bool, true, false, not, List, Option, Some, Result, Ok}
+use Rattle.std.proofs.Common.{◌≡◌, ℕ, ◌+◌, ◌≤◌, Bool, true, false, not, List, Option, Some, Result}
+use Rattle.std.proofs.Common.{Ok}
 use Rattle.std.proofs.Common.{Err, IfOk, refl, sym, ◌∙◌}
 use Rattle.std.specs.declared.alloc.AllocError.{AllocError}
 use Rattle.std.proofs.lemmas.Bool.{false≢true}

@@ -35,15 +35,19 @@ use Rattle.texts.specs.declared.reading.CommandFault.{CommandFault}
 use Rattle.texts.specs.SecondEdition.{command_of}
 use Rattle.texts.specs.FirstEdition.{command_of as first_command_of}
 use Rattle.rounds.specs.Tables.{Entrant, Table, replaced, correct_fault, close_fault}
-use Rattle.commands.specs.SecondEdition.{scramble_by, is_registered, Opened, opened, opening, scrambling}
+use Rattle.commands.specs.SecondEdition.{scramble_by, is_registered, Opened, opened, opening}
+use Rattle.commands.specs.SecondEdition.{scrambling}
 use Rattle.commands.specs.SecondEdition.{scramble_of, first_of, settled, one_value, values_after}
-use Rattle.commands.specs.SecondEdition.{entering, entrant_after, entrants_after, closing, settings_now}
+use Rattle.commands.specs.SecondEdition.{entering, entrant_after, entrants_after, closing}
+use Rattle.commands.specs.SecondEdition.{settings_now}
 use Rattle.commands.specs.SecondEdition.{table_of, round_at, who_advance, round_in, round_of}
-use Rattle.commands.specs.SecondEdition.{edition_set, edition_after, edition_in, enter_refusal, is_moves}
+use Rattle.commands.specs.SecondEdition.{edition_set, edition_after, edition_in, enter_refusal}
+use Rattle.commands.specs.SecondEdition.{is_moves}
 use Rattle.commands.specs.SecondEdition.{is_multi, is_wrong, lacks_scramble, scramble_refusal}
 use Rattle.commands.specs.SecondEdition.{unfit_refusal, entered_refusal, put_refusal, correct_code}
 use Rattle.commands.specs.SecondEdition.{correct_refusal, strike_refusal, advance_refusal, is_final}
-use Rattle.commands.specs.SecondEdition.{leads_on, has_too_few, end_refusal, close_refusal, is_cutoff}
+use Rattle.commands.specs.SecondEdition.{leads_on, has_too_few, end_refusal, close_refusal}
+use Rattle.commands.specs.SecondEdition.{is_cutoff}
 use Rattle.commands.specs.SecondEdition.{is_limit, refusal}
 use Rattle.commands.specs.Seen.{History, nothing, answer_of, is_seen, added}
 use Rattle.commands.specs.SecondEdition.{edition_of, entered_edition, spelled_refusal}

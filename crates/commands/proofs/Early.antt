@@ -18,7 +18,8 @@ use Rattle.texts.specs.declared.command.Command.TheVariants.{Close, SetEdition, 
 use Rattle.texts.specs.declared.command.Command.TheVariants.{Rescramble, Withdraw, Reopen}
 use Rattle.texts.specs.declared.command.Settings.{Settings}
 use Rattle.rounds.specs.Tables.{Entrant, Table, replaced}
-use Rattle.commands.specs.Accepted.{Opened, opened, opening, last_of, standing, name_given, renaming}
+use Rattle.commands.specs.Accepted.{Opened, opened, opening, last_of, standing, name_given}
+use Rattle.commands.specs.Accepted.{renaming}
 use Rattle.commands.specs.Accepted.{name_of}
 use Rattle.commands.specs.Accepted.{scrambling, rescrambling, scramble_in, scramble_since}
 use Rattle.commands.specs.Accepted.{scramble_of, settled, settings_by, settings_after}

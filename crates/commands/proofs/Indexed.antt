@@ -109,10 +109,11 @@ named_or cs c None old new is sets again opens stay unsolved one competitors rou
       rw rounds
       (same_rounds cs c old.rounds.opened.items sets again opens stay unsolved one is.rounds);
 }
-named_or cs c (Some code) old new is sets again opens stay unsolved one competitors rounds = record {
-  competitors = competitors;
-  rounds = rw (rounds, append-nil cs) is.rounds;
-}
+named_or cs c (Some code) old new is sets again opens stay unsolved one competitors rounds =
+    record {
+      competitors = competitors;
+      rounds = rw (rounds, append-nil cs) is.rounds;
+    }
 
 -- a change of one round leaves those who wait for a place in it outside
 abbrev pub KeepsApart : List Command → Event → ℕ → (Settings × Table → Settings × Table) → Type 0
@@ -271,7 +272,8 @@ changed_or cs c e r change (Some code) old new is only one keeps same done uncha
     }
 
 -- the same are entered after a change
-same_entered : (cs : List Command) (e : Event) (r : ℕ) (change : Settings × Table → Settings × Table)
+same_entered : (cs : List Command) (e : Event) (r : ℕ)
+    (change : Settings × Table → Settings × Table)
     → ((x : Settings × Table) (n : ℕ) → is_entered (change x).1 n ≡ is_entered x.1 n)
     → KeepsApart cs e r change
 same_entered cs e r change same f s x ns here waits a =
@@ -319,7 +321,8 @@ attempted_or cs e r k n x None old new is same done unchanged = record {
       (λ m. refl) (λ m. refl) is.competitors);
   rounds =
       enters cs (Attempt (attempt_entry (round_id e r) k n x)) e r k n x
-      (with_attempt n (scramble_of cs e r k) x) old.rounds.opened.items new.rounds.opened.items is.rounds
+      (with_attempt n (scramble_of cs e r k) x) old.rounds.opened.items new.rounds.opened.items
+      is.rounds
       done (λ f s j. refl) (λ f s j. refl) (λ f s. refl) (λ f s. refl) (λ f s j m. refl)
       (λ f s. round_attempt f e s r k n x cs)
       (same_entered cs e r (with_attempt n (scramble_of cs e r k) x)
@@ -391,7 +394,8 @@ corrected_or cs e r k n x None old new is same done unchanged = record {
       (λ m. refl) (λ m. refl) is.competitors);
   rounds =
       enters cs (Correct (attempt_entry (round_id e r) k n x)) e r k n x
-      (with_correction n k (scramble_of cs e r k) x) old.rounds.opened.items new.rounds.opened.items is.rounds
+      (with_correction n k (scramble_of cs e r k) x) old.rounds.opened.items
+      new.rounds.opened.items is.rounds
       done (λ f s j. refl) (λ f s j. refl) (λ f s. refl) (λ f s. refl) (λ f s j m. refl)
       (λ f s. round_correct f e s r k n x cs)
       (same_entered cs e r (with_correction n k (scramble_of cs e r k) x)
@@ -473,7 +477,8 @@ advanced cs e r advance refused old new is same done unchanged =
     same done unchanged
 
 -- other settings, which the rounds note
-pub settings_changed : (cs : List Command) (e : Event) (r : ℕ) (format : Format) (cutoff : Option (ℕ × ℕ)) (limit : Option ℕ) (refused : Option Code)
+pub settings_changed : (cs : List Command) (e : Event) (r : ℕ) (format : Format)
+    (cutoff : Option (ℕ × ℕ)) (limit : Option ℕ) (refused : Option Code)
     (old new : Index)
     → IsIndexOf cs old
     → new.competitors ≡ old.competitors

@@ -1,5 +1,6 @@
 -- What the texts of editions 1 and 2 read as.
-use Rattle.std.proofs.Common.{◌≡◌, ℕ, zero, suc, ◌≤◌, Bool, true, false, not, ◌&&◌, nat_lt, nat_le, List}
+use Rattle.std.proofs.Common.{◌≡◌, ℕ, zero, suc, ◌≤◌, Bool, true, false, not, ◌&&◌, nat_lt, nat_le}
+use Rattle.std.proofs.Common.{List}
 use Rattle.std.specs.Fmt.{digits}
 use Rattle.std.proofs.Common.{codes, None, unwrap_or, Ok, refl, sym, ap, ◌∙◌}
 use Rattle.std.proofs.Common.{arith, ◌⊎◌, inl, inr}

@@ -24,8 +24,10 @@ use Rattle.sheets.specs.declared.Style.TheVariants as style
 use Rattle.sheets.specs.EditionLaw.{PrintsAsFirst}
 use Rattle.sheets.specs.FirstEdition as first
 use Rattle.sheets.proofs.SheetsSecond.{prints_as_second}
-use Rattle.sheets.specs.SecondEdition.{name_text, header, first_line, second_line, entrant_line, line_of}
-use Rattle.sheets.specs.SecondEdition.{text_of_round, entrant_record, record_of, table_of_round, sheet}
+use Rattle.sheets.specs.SecondEdition.{name_text, header, first_line, second_line, entrant_line}
+use Rattle.sheets.specs.SecondEdition.{line_of}
+use Rattle.sheets.specs.SecondEdition.{text_of_round, entrant_record, record_of, table_of_round}
+use Rattle.sheets.specs.SecondEdition.{sheet}
 
 flat_alike : (f g : ℕ → List ℕ) → ((n : ℕ) → f n ≡ g n) → (ns : List ℕ)
     → flat_map f ns ≡ flat_map g ns
