@@ -19,6 +19,7 @@ TOP = Path(__file__).resolve().parent.parent
 sys.dont_write_bytecode = True
 sys.path += [str(TOP / "scripts"), str(TOP / "examples")]
 import running
+import sealing
 from client import (ASK, CODES, FINE, REFUSALS, REFUSED, SHEET, SHEET_TEXT, STOP, SUBMIT, TAKEN,
                     TICK, TOLD)
 
@@ -96,14 +97,16 @@ class Client:
     """A client of one desk. It keeps a connection for so many frames. Only the program that serves
     its connections side by side can be asked so: with an earlier one it has to be one frame."""
 
-    def __init__(self, address, desk, frames=FRAMES, patience=PATIENCE):
+    def __init__(self, address, desk, frames=FRAMES, patience=PATIENCE, key=None):
         host, _, port = address.rpartition(":")
-        self.place, self.desk, self.patience = (host, int(port)), desk, patience
+        self.place, self.desk, self.patience, self.key = (host, int(port)), desk, patience, key
         self.frames, self.stream, self.used, self.asked = frames, None, 0, 0
 
     def connect(self):
         self.stream = socket.create_connection(self.place, self.patience)
         self.stream.setsockopt(socket.IPPROTO_TCP, socket.TCP_NODELAY, 1)
+        if self.key:
+            self.stream = sealing.Sealed(self.stream, self.key)
         self.used = 0
 
     def close(self):
@@ -232,10 +235,12 @@ def processor_seconds(pid):
 
 class Hall:
     """Three or five desks, each a program with a file of its own in a folder. All are given the
-    same options; `front` are words before the program's own, for each desk."""
+    same options; `front` are words before the program's own, for each desk; `key` is the path of
+    their key's file, where they have one."""
 
-    def __init__(self, folder, programs, options=(), addresses=None, front=lambda desk: []):
-        self.folder, self.front, self.options = Path(folder), front, options
+    def __init__(self, folder, programs, options=(), addresses=None, front=lambda desk: [],
+                 key=None):
+        self.folder, self.front, self.options, self.key = Path(folder), front, options, key
         self.programs = dict(enumerate(programs, 1))
         self.addresses = addresses or [f"127.0.0.1:{port}" for port in free_ports(len(programs))]
         self.running = {}
@@ -250,6 +255,7 @@ class Hall:
         words = [*self.front(desk), program.path, "serve", "--hall", str(HALL), "--desk", str(desk)]
         words += ["--store", str(self.store(desk))]
         words += program.options(self.options if options is None else options)
+        words += self.key_words()
         with open(self.folder / f"desk-{desk}.said", "ab") as said:
             # a session of its own, so that it ends with whatever stands in front of it
             self.running[desk] = subprocess.Popen([*words, *self.addresses], stderr=said,
@@ -259,6 +265,10 @@ class Hall:
             raise Fault(f"desk {desk} did not start: {line!r} {self.said(desk)}")
         return int(line.split()[-1])
 
+    def key_words(self):
+        """The arguments that say which key."""
+        return ["--key", str(self.key)] if self.key else []
+
     def start_all(self):
         return [self.start(desk) for desk in self.programs]
 
@@ -267,7 +277,9 @@ class Hall:
         return (self.folder / f"desk-{desk}.said").read_text().splitlines()
 
     def client(self, desk, **more):
-        return Client(self.addresses[desk - 1], desk, frames=self.programs[desk].frames(), **more)
+        more = {"frames": self.programs[desk].frames(), **more}
+        key = self.key and sealing.key_in(self.key)
+        return Client(self.addresses[desk - 1], desk, key=key, **more)
 
     def connect(self, desk):
         """A bare connection to a desk."""

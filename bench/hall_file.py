@@ -7,6 +7,7 @@ Reads the cases of crates/hall_file_runs, whose src/main.rt says how they are wr
 what the program has to print for them. TOML is read by Python's tomllib.
 """
 
+import os.path
 import re
 import sys
 import tomllib
@@ -88,7 +89,8 @@ def read(data):
         raise Fault(f"line {1 + data[:error.start].count(10)}: not UTF-8")
     except tomllib.TOMLDecodeError as error:
         raise Fault("line %s: not TOML" % re.search("line ([0-9]+)", str(error)).group(1))
-    others = sorted((name.encode(), name) for name in members if name not in ("hall", "desks"))
+    known = ("hall", "desks", "key")
+    others = sorted((name.encode(), name) for name in members if name not in known)
     if others:
         name = others[0][1]
         raise Fault(f"line {line_of(data, name)}: unknown member {shown(name)}")
@@ -105,31 +107,43 @@ def read(data):
             fault = "not 0 to 4294967295"
         if fault:
             raise Fault(f"line {line_of(data, name)}: {name}: {fault}")
-    return members["hall"], members["desks"]
+    key = members.get("key")
+    if key is not None and (type(key) is not str or key == ""):
+        fault = "empty" if key == "" else "not a text"
+        raise Fault(f"line {line_of(data, 'key')}: key: {fault}")
+    return members["hall"], members["desks"], key
 
 
-def hall_lines(hall, desks):
+def hall_lines(hall, desks, key):
     yield f"hall {hall} of {len(desks)}"
     for desk in range(7):
         yield f"{desk} {desks[desk - 1] if 1 <= desk <= len(desks) else '-'}"
+    if key is not None:
+        yield f"key {key}"
 
 
-def printed(hall, desks):
+def quoted(text):
+    plain = '"' not in text and "\\" not in text
+    return f'"{text}"' if plain else f"'{text}'"
+
+
+def printed(hall, desks, key):
     yield "desks = ["
     for text in desks:
-        plain = '"' not in text and "\\" not in text
-        yield f'    "{text}",' if plain else f"    '{text}',"
+        yield f"    {quoted(text)},"
     yield "]"
     yield f"hall = {hall}"
+    if key is not None:
+        yield f"key = {quoted(key)}"
     yield "is read back"
 
 
 def told(data):
     try:
-        hall, desks = read(data)
+        said = read(data)
     except Fault as fault:
         return [str(fault)]
-    return [*hall_lines(hall, desks), *printed(hall, desks)]
+    return [*hall_lines(*said), *printed(*said)]
 
 
 def told_path(path):
@@ -159,6 +173,9 @@ def main():
             word, _, rest = text.partition(" ")
             if word == "path":
                 out += told_path(rest)
+            elif word == "key":
+                file, _, key = rest.partition(" ")
+                out.append(os.path.join(os.path.dirname(file), key))
             elif word == "pad":
                 out += told(PADDED.ljust(int(rest), b"#"))
             inside, data = word == "case", b""

@@ -5,6 +5,7 @@ does not stand there is a fault.
 """
 
 import http.client
+import itertools
 import json
 import os
 import re
@@ -200,8 +201,19 @@ class Runbook:
         self.told(block, "")
         (self.folders[1] / "competition.json").write_text(json.dumps(COMPETITION))
         (self.folders[1] / "results.txt").write_text(RESULTS)
-        for desk in (2, 3):
-            shutil.copy(self.folders[1] / "hall.toml", self.folders[desk] / "hall.toml")
+        self.copy("hall.toml")
+
+    def copy(self, *names):
+        """Copies files of the first machine to the others, with the rights that they have there."""
+        for desk, name in itertools.product((2, 3), names):
+            shutil.copy2(self.folders[1] / name, self.folders[desk] / name)
+            if os.geteuid() == 0:
+                os.chown(self.folders[desk] / name, NOBODY, NOBODY)
+
+    def make_keys(self, block):
+        """The hall's key and an entry key, which all desks of the second hall get."""
+        self.told(block, "")
+        self.copy("hall.toml", "hall.key", "entry.key")
 
     def serve(self, block, desk):
         """Starts a desk on its machine, by the runbook's words with its own number."""
@@ -221,6 +233,14 @@ class Runbook:
     def start_desks(self, block):
         for desk in (1, 2, 3):
             self.of_desks[desk] = self.serve(block, desk)
+
+    def start_again(self, block):
+        """The same desks with an entry key, too."""
+        for desk in (1, 2, 3):
+            os.killpg(self.of_desks[desk].pid, signal.SIGINT)
+            self.of_desks[desk].wait(LONGEST)
+            (self.folders[desk] / "said.txt").unlink()
+        self.start_desks(block)
 
     def imported(self, block):
         self.told(block, "")
@@ -320,9 +340,12 @@ class Runbook:
         "./desk log --store desk-1.db > log-1.txt": replayed,
         "./desk hall-file --hall 7 10.0.0.1:7001 10.0.0.2:7001 10.0.0.3:7001 > hall.toml":
             a_new_hall,
+        "./desk key --file hall.key": make_keys,
         "./desk serve --config hall.toml --desk 1 --store desk-1.db --new": make_stores,
         "./desk import --wcif competition.json > setup.txt": imported,
         "./desk serve --config hall.toml --desk 1 --store desk-1.db": start_desks,
+        "./desk serve --config hall.toml --desk 1 --store desk-1.db --entry-key entry.key "
+        "--open-sheets": start_again,
         "desk 1 of 3  idle  1010 commands  0 waiting  10.0.0.1:7001": shown,
         "desk 3 at 10.0.0.3:7001: connection refused": shown,
         "./scoretable --listen 127.0.0.1:8081": table,

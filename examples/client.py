@@ -9,12 +9,16 @@ not understood it says so in one line:
     examples/client.py log    --hall 7 --desk 1 --to 127.0.0.1:7001 --from 5
     examples/client.py status --hall 7 --to 127.0.0.1:7001 127.0.0.1:7002 127.0.0.1:7003
 
-`sheet` without a position gives the newest sheet. Files of halls it does not read, and `enter` does
-not wait.
+`sheet` without a position gives the newest sheet. `--key FILE` is the hall's key, or its entry key,
+where the desks have keys. Files of halls it does not read, and `enter` does not wait.
 """
 
 import argparse
+import hashlib
+import hmac
+import os
 import re
+import secrets
 import socket
 import struct
 import sys
@@ -34,6 +38,12 @@ TAKEN, TOLD, SHEET_TEXT, REFUSED, FINE, STANDING, ENTRIES = 32, 33, 34, 35, 36, 
 FIRST, SECOND, THIRD, CLIENT = 1, 2, 3, 0  # versions of the wire; a client's number
 LEAST, MOST = 8, 300_000  # the values of a frame's length
 NO_ANSWER = "no answer", 4
+MARK = b"DSK1"  # what a sealed stream begins with, in both directions
+LABEL = b"DSK1 connection key"
+TO_DESK, FROM_DESK = 1, 2  # the directions of records
+LONGEST, TAG = 16_384, 32  # bytes of a record's longest body, and of its tag
+HAS_KEY, NO_KEY = ("the desk has a key", 3), ("the desk has no key", 3)
+OTHER_KEY = "the desk has another key", 3
 NOT_UNDERSTOOD = 2  # the status, at wrong words and at `--help`
 
 
@@ -73,6 +83,97 @@ def read_exactly(stream, count, wait):
     return bytes_read
 
 
+def key_of(path):
+    """The key in a file: 64 hexadecimal digits, in a file that nobody else may read."""
+    try:
+        with open(path, "rb") as file:
+            if os.fstat(file.fileno()).st_mode & 0o077:
+                raise Fault("key file is open to others", 3)
+            text = file.read(66)
+    except FileNotFoundError:
+        raise Fault("no such key file", 3) from None
+    except OSError:
+        raise Fault("cannot read the key file", 3) from None
+    if not re.fullmatch(b"[0-9a-fA-F]{64}\n?", text):
+        raise Fault("the key file has no key", 3)
+    return bytes.fromhex(text.decode())
+
+
+class Plain:
+    """A connection without a key."""
+
+    def __init__(self, stream, wait):
+        self.stream, self.wait, self.has_read = stream, wait, False
+
+    def write(self, data):
+        self.stream.sendall(data)
+
+    def read(self, count):
+        data = read_exactly(self.stream, count, self.wait)
+        if not self.has_read and data == MARK:  # no frame's length is this number
+            raise Fault(*HAS_KEY)
+        self.has_read = True
+        return data
+
+
+class Sealed:
+    """A connection under a key: a preface in each direction, and then records, each with its
+    tag."""
+
+    def __init__(self, stream, wait, key):
+        self.stream, self.wait = stream, wait
+        self.sent, self.came, self.left = 0, 0, b""
+        random = secrets.token_bytes(16)
+        stream.sendall(MARK + random)
+        preface = self.expected(len(MARK), NO_KEY)
+        if preface != MARK:
+            raise Fault(*NO_KEY)
+        self.key = mac(key, LABEL + random + self.expected(len(random), NO_KEY))
+
+    def expected(self, count, fault):
+        """The next bytes. Where the connection ends before they came, that is the fault."""
+        try:
+            return read_exactly(self.stream, count, self.wait)
+        except Fault as why:
+            raise (Fault(*fault) if why.args == NO_ANSWER else why) from None
+
+    def tag(self, direction, number, body):
+        return mac(self.key, struct.pack(">BQH", direction, number, len(body)) + body)
+
+    def write(self, data):
+        for at in range(0, len(data), LONGEST):
+            body = data[at:at + LONGEST]
+            tag = self.tag(TO_DESK, self.sent, body)
+            self.stream.sendall(struct.pack(">H", len(body)) + body + tag)
+            self.sent += 1
+
+    def open_record(self):
+        fault = NO_ANSWER if self.came else OTHER_KEY
+        (length,) = struct.unpack(">H", self.expected(2, fault))
+        if not 1 <= length <= LONGEST:
+            raise Fault(*fault)
+        body, tag = self.expected(length, fault), self.expected(TAG, fault)
+        if not hmac.compare_digest(tag, self.tag(FROM_DESK, self.came, body)):
+            raise Fault(*fault)
+        self.came += 1
+        self.left += body
+
+    def read(self, count):
+        while len(self.left) < count:
+            self.open_record()
+        data, self.left = self.left[:count], self.left[count:]
+        return data
+
+
+def mac(key, text):
+    return hmac.new(key, text, hashlib.sha256).digest()
+
+
+def opened(stream, wait, key):
+    """A connection that has begun, with the key or without one."""
+    return Sealed(stream, wait, key) if key else Plain(stream, wait)
+
+
 def exchange(given, kind, body, wanted, spoken=FIRST):
     """Sends one frame to a desk, and returns the fields of the wanted answer."""
     hall, desk, wait = given.hall, given.desk, Wait(given)
@@ -84,18 +185,19 @@ def exchange(given, kind, body, wanted, spoken=FIRST):
     with stream:
         inside = struct.pack(">BIBBB", spoken, hall, CLIENT, desk, kind) + body
         try:
-            stream.sendall(struct.pack(">I", len(inside)) + inside)
+            wire = opened(stream, wait, given.key)
+            wire.write(struct.pack(">I", len(inside)) + inside)
         except OSError:
             raise Fault("cannot write", 4) from None
-        (length,) = struct.unpack(">I", read_exactly(stream, 4, wait))
+        (length,) = struct.unpack(">I", wire.read(4))
         if not LEAST <= length <= MOST:
             raise Fault(*NO_ANSWER)
-        inside = read_exactly(stream, length, wait)
+        inside = wire.read(length)
     version, of_hall, sender, to, got = struct.unpack(">BIBBB", inside[:8])
     if version not in (FIRST, SECOND, THIRD):
         raise Fault(*NO_ANSWER)
     fields = inside[8:]
-    if (to, got, len(fields)) == (CLIENT, REFUSED, 1) and 1 <= fields[0] <= 8:
+    if (to, got, len(fields)) == (CLIENT, REFUSED, 1) and 1 <= fields[0] <= len(REFUSALS):
         raise Fault("refused " + REFUSALS[fields[0] - 1], 3)
     if (of_hall, sender, to, got) != (hall, desk, CLIENT, wanted):
         raise Fault(*NO_ANSWER)
@@ -188,7 +290,8 @@ def met(given, number, address, question):
     Who is foreign may be another one of the hall."""
     said = "refused Foreign", None, None
     for desk in [number, *(it for it in range(1, 6) if it != number)]:
-        asked = Namespace(hall=given.hall, desk=desk, to=address, patience=given.patience, id=1)
+        asked = Namespace(hall=given.hall, desk=desk, to=address, patience=given.patience, id=1,
+                          key=given.key)
         try:
             answer = question(asked)
         except Fault as fault:
@@ -291,6 +394,7 @@ def words():
         if run is log:
             word.add_argument("--from", type=in_range(0, 65_536), default=0)
         word.add_argument("--patience", type=in_range(1, 3600), default=10, metavar="SECONDS")
+        word.add_argument("--key", metavar="FILE")
         if run in (enter, ask):
             word.add_argument("id", type=in_range(1, 2**63 - 1))
         if run is enter:
@@ -319,6 +423,7 @@ def main():
     try:
         if not 1 <= (given := words()).desk <= 5:
             raise Fault("bad desk number", 3)
+        given.key = key_of(given.key) if given.key is not None else None
         write(given.run(given))
     except Fault as fault:
         text, number = fault.args

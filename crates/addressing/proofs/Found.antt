@@ -1,6 +1,6 @@
 -- The desk of a hall's file that is found.
 use Rattle.std.proofs.Common.{◌≡◌, ◌++◌, ◌∙◌, ℕ, List, Option, None, Some, Result, IfErr, IfOk, ap}
-use Rattle.std.proofs.Common.{inr, string_bytes, subst, sym}
+use Rattle.std.proofs.Common.{inl, inr, string_bytes, subst, sym}
 use Rattle.std.proofs.KnownBytes.{Keeps-trans}
 use Rattle.std.proofs.lemmas.Result.{IfErr-weaker, IfOk-weaker}
 use Rattle.std.specs.Io.KnownBytes.{Appends, Keeps}
@@ -9,6 +9,7 @@ use Rattle.errands.specs.declared.fault.DeskFault.{DeskFault}
 use Rattle.hall_file.specs.Halls.{Says}
 use Rattle.hall_file.specs.declared.hall_file.HallFile.{HallFile}
 use Rattle.lines.specs.Bytes.{AppendsPart}
+use Rattle.addressing.specs.Keys.{FailsKey, IsKeyOf, Naming, key_file_of}
 use Rattle.addressing.specs.Resolving.{Chooses, FailsToChoose, FailsToFind, FindsDesk, IsDeskOf}
 use Rattle.addressing.specs.Resolving.{IsQuiet, IsTold, MissesDesk, Outside, asking_text}
 use Rattle.addressing.specs.declared.resolving.DeskAddress.{DeskAddress}
@@ -17,22 +18,32 @@ use Rattle.addressing.specs.declared.resolving.DeskAddress.{DeskAddress}
 abbrev pub IsOfBytes : HallFile → Type 0
 IsOfBytes file = (bytes : List ℕ) × Says bytes file
 
--- the desk of a number
-pub numbered : (asked : Option ℕ) (desk patience : ℕ) (file : HallFile) (o : Outside)
-    (r : Result DeskAddress DeskFault) → asked ≡ Some desk → IsOfBytes file → IsQuiet o
-    → IfOk r (λ a. IsDeskOf file desk a) → IfOk r (λ a. FindsDesk asked patience a o)
-numbered asked desk patience file o r is says quiet found =
-    subst (λ x. IfOk r (λ a. FindsDesk x patience a o)) (sym is)
-    (IfOk-weaker r (λ a. IsDeskOf file desk a) (λ a. FindsDesk (Some desk) patience a o)
-    (λ a of. (file, says.0, says.1, (of, quiet))) found)
+-- its key is not to be had
+pub keyless : (n : Naming) (asked : Option ℕ) (patience : ℕ) (file : HallFile) (o : Outside)
+    (f : DeskFault) → IsOfBytes file → IsQuiet o → FailsKey (key_file_of n file) f
+    → FailsToFind f n asked patience o
+keyless n None patience file o f says quiet none = inl (inr (quiet, (file, says.0, says.1, none)))
+keyless n (Some desk) patience file o f says quiet none =
+    inl (inr (quiet, (file, says.0, says.1, none)))
 
-pub not_numbered : (asked : Option ℕ) (desk patience : ℕ) (file : HallFile) (o : Outside)
-    (r : Result DeskAddress DeskFault) → asked ≡ Some desk → IsOfBytes file → IsQuiet o
-    → IfErr r (λ f. MissesDesk file desk f) → IfErr r (λ f. FailsToFind f asked patience o)
-not_numbered asked desk patience file o r is says quiet missed =
-    subst (λ x. IfErr r (λ f. FailsToFind f x patience o)) (sym is)
-    (IfErr-weaker r (λ f. MissesDesk file desk f) (λ f. FailsToFind f (Some desk) patience o)
-    (λ f of. inr (quiet, (file, says.0, says.1, of))) missed)
+-- the desk of a number
+pub numbered : (n : Naming) (asked : Option ℕ) (desk patience : ℕ) (file : HallFile)
+    (key : Option (List ℕ)) (o : Outside) (r : Result DeskAddress DeskFault)
+    → asked ≡ Some desk → IsOfBytes file → IsKeyOf (key_file_of n file) key → IsQuiet o
+    → IfOk r (λ a. IsDeskOf file key desk a) → IfOk r (λ a. FindsDesk n asked patience a o)
+numbered n asked desk patience file key o r is says under quiet found =
+    subst (λ x. IfOk r (λ a. FindsDesk n x patience a o)) (sym is)
+    (IfOk-weaker r (λ a. IsDeskOf file key desk a) (λ a. FindsDesk n (Some desk) patience a o)
+    (λ a of. (file, says.0, says.1, key, under, (of, quiet))) found)
+
+pub not_numbered : (n : Naming) (asked : Option ℕ) (desk patience : ℕ) (file : HallFile)
+    (key : Option (List ℕ)) (o : Outside) (r : Result DeskAddress DeskFault)
+    → asked ≡ Some desk → IsOfBytes file → IsKeyOf (key_file_of n file) key → IsQuiet o
+    → IfErr r (λ f. MissesDesk file desk f) → IfErr r (λ f. FailsToFind f n asked patience o)
+not_numbered n asked desk patience file key o r is says under quiet missed =
+    subst (λ x. IfErr r (λ f. FailsToFind f n x patience o)) (sym is)
+    (IfErr-weaker r (λ f. MissesDesk file desk f) (λ f. FailsToFind f n (Some desk) patience o)
+    (λ f of. inr (quiet, (file, says.0, says.1, key, under, of))) missed)
 
 -- what was told after nothing was
 later : (a b c : Option (List ℕ)) (bs : List ℕ) → Keeps a b → Appends b c bs → Appends a c bs
@@ -59,21 +70,21 @@ abbrev pub seen : (first last : Option (List Dialed)) (old new : Option (List �
 seen first last old new =
     record { dialed = first; dialed_then = last; told = old; told_then = new }
 
-chosen_later : (file : HallFile) (patience : ℕ) (a : DeskAddress)
+chosen_later : (file : HallFile) (key : Option (List ℕ)) (patience : ℕ) (a : DeskAddress)
     (first last : Option (List Dialed)) (old mid new : Option (List ℕ)) → Keeps old mid
-    → Chooses file patience a (seen first last mid new)
-    → Chooses file patience a (seen first last old new)
-chosen_later file patience a first last old mid new quiet chosen = record {
+    → Chooses file key patience a (seen first last mid new)
+    → Chooses file key patience a (seen first last old new)
+chosen_later file key patience a first last old mid new quiet chosen = record {
   seeks = chosen.seeks;
   desk = chosen.desk;
   told = told_later file a old mid new quiet chosen.told;
 }
 
-not_chosen_later : (f : DeskFault) (file : HallFile) (patience : ℕ)
+not_chosen_later : (f : DeskFault) (file : HallFile) (key : Option (List ℕ)) (patience : ℕ)
     (first last : Option (List Dialed)) (old mid new : Option (List ℕ)) → Keeps old mid
-    → FailsToChoose f file patience (seen first last mid new)
-    → FailsToChoose f file patience (seen first last old new)
-not_chosen_later f file patience first last old mid new quiet none = record {
+    → FailsToChoose f file key patience (seen first last mid new)
+    → FailsToChoose f file key patience (seen first last old new)
+not_chosen_later f file key patience first last old mid new quiet none = record {
   found = none.found;
   seeks = none.seeks;
   cause = none.cause;
@@ -81,34 +92,40 @@ not_chosen_later f file patience first last old mid new quiet none = record {
 }
 
 -- the last one that answers
-pub answering : (asked : Option ℕ) (patience : ℕ) (file : HallFile)
-    (first last : Option (List Dialed)) (old mid new : Option (List ℕ))
-    (r : Result DeskAddress DeskFault) → asked ≡ None → IsOfBytes file → Keeps old mid
-    → IfOk r (λ a. Chooses file patience a (seen first last mid new))
-    → IfOk r (λ a. FindsDesk asked patience a (seen first last old new))
-answering asked patience file first last old mid new r is says quiet found =
-    subst (λ x. IfOk r (λ a. FindsDesk x patience a (seen first last old new))) (sym is)
-    (IfOk-weaker r (λ a. Chooses file patience a (seen first last mid new))
-    (λ a. FindsDesk None patience a (seen first last old new))
+pub answering : (n : Naming) (asked : Option ℕ) (patience : ℕ) (file : HallFile)
+    (key : Option (List ℕ)) (first last : Option (List Dialed)) (old mid new : Option (List ℕ))
+    (r : Result DeskAddress DeskFault) → asked ≡ None → IsOfBytes file
+    → IsKeyOf (key_file_of n file) key → Keeps old mid
+    → IfOk r (λ a. Chooses file key patience a (seen first last mid new))
+    → IfOk r (λ a. FindsDesk n asked patience a (seen first last old new))
+answering n asked patience file key first last old mid new r is says under quiet found =
+    subst (λ x. IfOk r (λ a. FindsDesk n x patience a (seen first last old new))) (sym is)
+    (IfOk-weaker r (λ a. Chooses file key patience a (seen first last mid new))
+    (λ a. FindsDesk n None patience a (seen first last old new))
     (λ a of. (
       file,
       says.0,
       says.1,
-      chosen_later file patience a first last old mid new quiet of,
+      key,
+      under,
+      chosen_later file key patience a first last old mid new quiet of,
     )) found)
 
-pub not_answering : (asked : Option ℕ) (patience : ℕ) (file : HallFile)
-    (first last : Option (List Dialed)) (old mid new : Option (List ℕ))
-    (r : Result DeskAddress DeskFault) → asked ≡ None → IsOfBytes file → Keeps old mid
-    → IfErr r (λ f. FailsToChoose f file patience (seen first last mid new))
-    → IfErr r (λ f. FailsToFind f asked patience (seen first last old new))
-not_answering asked patience file first last old mid new r is says quiet missed =
-    subst (λ x. IfErr r (λ f. FailsToFind f x patience (seen first last old new))) (sym is)
-    (IfErr-weaker r (λ f. FailsToChoose f file patience (seen first last mid new))
-    (λ f. FailsToFind f None patience (seen first last old new))
+pub not_answering : (n : Naming) (asked : Option ℕ) (patience : ℕ) (file : HallFile)
+    (key : Option (List ℕ)) (first last : Option (List Dialed)) (old mid new : Option (List ℕ))
+    (r : Result DeskAddress DeskFault) → asked ≡ None → IsOfBytes file
+    → IsKeyOf (key_file_of n file) key → Keeps old mid
+    → IfErr r (λ f. FailsToChoose f file key patience (seen first last mid new))
+    → IfErr r (λ f. FailsToFind f n asked patience (seen first last old new))
+not_answering n asked patience file key first last old mid new r is says under quiet missed =
+    subst (λ x. IfErr r (λ f. FailsToFind f n x patience (seen first last old new))) (sym is)
+    (IfErr-weaker r (λ f. FailsToChoose f file key patience (seen first last mid new))
+    (λ f. FailsToFind f n None patience (seen first last old new))
     (λ f of. inr (
       file,
       says.0,
       says.1,
-      not_chosen_later f file patience first last old mid new quiet of,
+      key,
+      under,
+      not_chosen_later f file key patience first last old mid new quiet of,
     )) missed)

@@ -13,7 +13,8 @@ use Rattle.hall_file.specs.Halls.{address_at, texts_of}
 use Rattle.hall_file.specs.declared.hall_file.HallFile.{HallFile}
 use Rattle.wire.specs.declared.frame.Frame.{Frame}
 use Rattle.wire.specs.declared.frame.What.{What}
-use Rattle.addressing.specs.Seeking.{AsksDesk, Seeking, Seeks, no_memory, seeking, why_not}
+use Rattle.addressing.specs.Seeking.{AsksDesk, Seeking, Seeks, no_memory, place_in, seeking}
+use Rattle.addressing.specs.Seeking.{why_not}
 
 -- each desk up to the count of desks has an address
 has_one : (texts : List (List ℕ)) (desk : ℕ) → 1 ≤ desk → desk ≤ length texts
@@ -38,19 +39,20 @@ address_is file desk r a is found =
     sym is ∙ ap (option_map (λ (s : Bor (List ℕ)). s.now)) found
 
 -- a desk of the file was asked where the file says
-pub asks_desk : (file : HallFile) (patience desk : ℕ) (r : Option (Bor (List ℕ)))
-    (a : Bor (List ℕ)) (request : Frame) (answer : Result What BatchFault)
+pub asks_desk : (file : HallFile) (patience : ℕ) (key : Option (List ℕ)) (desk : ℕ)
+    (r : Option (Bor (List ℕ))) (a : Bor (List ℕ)) (request : Frame)
+    (answer : Result What BatchFault)
     (old new : Option (List Dialed))
     → option_map (λ s. s.now) r ≡ address_at (texts_of file) desk → r ≡ Some a
     → request ≡ status_request file.hall desk
-    → Adds (record { to = a.now; patience = patience }) old new (asked_so request answer ∷ [])
-    → AsksDesk (seeking file patience) desk answer old new
-asks_desk file patience desk r a request answer old new is found same told = record {
+    → Adds (place_in (seeking file patience key) a.now) old new (asked_so request answer ∷ [])
+    → AsksDesk (seeking file patience key) desk answer old new
+asks_desk file patience key desk r a request answer old new is found same told = record {
   address = a.now;
   listens = address_is file desk r a is found;
   asked =
       subst
-      (λ f. Adds (record { to = a.now; patience = patience }) old new (asked_so f answer ∷ []))
+      (λ f. Adds (place_in (seeking file patience key) a.now) old new (asked_so f answer ∷ []))
       same told;
 }
 

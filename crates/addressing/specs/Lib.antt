@@ -1,4 +1,5 @@
 pub mod Files
+pub mod Keys
 pub mod Printing
 pub mod Resolving
 pub mod Seeking

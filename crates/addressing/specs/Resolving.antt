@@ -1,6 +1,7 @@
 -- The desk that arguments ask for: of an address, or of a hall's file.
 use Rattle.std.specs.Prelude.{◌≡◌, ◌≢◌, ◌⊎◌, ◌++◌, ℕ, List, Option, None, Some, Result, Ok, Err}
-use Rattle.std.specs.Prelude.{codes, decimal, string_bytes, vec_len}
+use Rattle.std.specs.Prelude.{codes, decimal, option_map, string_bytes, vec_len}
+use Rattle.std.specs.Borrow.{Bor}
 use Rattle.std.specs.Io.KnownBytes.{Keeps}
 use Rattle.arguments.specs.declared.places.Place.{Place}
 use Rattle.arguments.specs.declared.places.Place.TheVariants as place
@@ -11,6 +12,7 @@ use Rattle.hall_file.specs.Halls.{Says, address_at, texts_of}
 use Rattle.hall_file.specs.declared.hall_file.HallFile.{HallFile}
 use Rattle.lines.specs.Bytes.{AppendsPart}
 use Rattle.addressing.specs.Files.{IsOfFile}
+use Rattle.addressing.specs.Keys.{FailsKey, IsKeyOf, Naming, key_file_of, naming}
 use Rattle.addressing.specs.Seeking.{Seeks, no_memory, seeking}
 use Rattle.addressing.specs.declared.resolving.DeskAddress.{DeskAddress}
 
@@ -36,11 +38,13 @@ pub record IsQuiet (o : Outside) : Type 0 where
   pub dialed : o.dialed ≡ o.dialed_then
   pub told : Keeps o.told o.told_then
 
--- the desk of this number of a hall's file, and the address that the file has for it
-pub record IsDeskOf (file : HallFile) (desk : ℕ) (a : DeskAddress) : Type 0 where
-  pub hall : a.hall ≡ file.hall
-  pub desk_is : a.desk ≡ desk
-  pub listens : address_at (texts_of file) desk ≡ Some (string_bytes a.address)
+-- the desk of this number of a hall's file, the address that the file has for it, and this key
+pub record IsDeskOf (file : HallFile) (key : Option (List ℕ)) (desk : ℕ) (a : DeskAddress) : Type 0
+  where
+    pub hall : a.hall ≡ file.hall
+    pub desk_is : a.desk ≡ desk
+    pub key_is : a.key ≡ key
+    pub listens : address_at (texts_of file) desk ≡ Some (string_bytes a.address)
 
 -- the hall has no desk of this number, or memory ran out
 abbrev pub MissesDesk : HallFile → ℕ → DeskFault → Type 0
@@ -60,50 +64,72 @@ pub record IsTold (file : HallFile) (a : DeskAddress) (old new : Option (List �
       a.desk ≢ vec_len file.desks
       → AppendsPart old new (asking_text a.desk (string_bytes a.address))
 
--- the desks of a hall's file were asked from the last one to the first, and this is what was found
-abbrev pub SeeksAll : HallFile → ℕ → Outside → Result ℕ DeskFault → Type 0
-SeeksAll file patience o found =
-    Seeks (seeking file patience) (vec_len file.desks) o.dialed o.dialed_then found
+-- the desks of a hall's file were asked under this key from the last one to the first, and this is
+-- what was found
+abbrev pub SeeksAll : HallFile → Option (List ℕ) → ℕ → Outside → Result ℕ DeskFault → Type 0
+SeeksAll file key patience o found =
+    Seeks (seeking file patience key) (vec_len file.desks) o.dialed o.dialed_then found
 
 -- the last desk of a hall's file that answers
-pub record Chooses (file : HallFile) (patience : ℕ) (a : DeskAddress) (o : Outside) : Type 0 where
-  pub seeks : SeeksAll file patience o (Ok a.desk)
-  pub desk : IsDeskOf file a.desk a
+pub record Chooses (file : HallFile) (key : Option (List ℕ)) (patience : ℕ) (a : DeskAddress)
+    (o : Outside) : Type 0 where
+  pub seeks : SeeksAll file key patience o (Ok a.desk)
+  pub desk : IsDeskOf file key a.desk a
   pub told : IsTold file a o.told o.told_then
 
 -- none answers, or memory ran out
-pub record FailsToChoose (f : DeskFault) (file : HallFile) (patience : ℕ) (o : Outside) : Type 0
-  where
-    pub found : Result ℕ DeskFault
-    pub seeks : SeeksAll file patience o found
-    pub cause : (found ≡ Err f) ⊎ (f ≡ no_memory)
-    pub quiet : Keeps o.told o.told_then
+pub record FailsToChoose (f : DeskFault) (file : HallFile) (key : Option (List ℕ)) (patience : ℕ)
+    (o : Outside) : Type 0 where
+  pub found : Result ℕ DeskFault
+  pub seeks : SeeksAll file key patience o found
+  pub cause : (found ≡ Err f) ⊎ (f ≡ no_memory)
+  pub quiet : Keeps o.told o.told_then
 
--- a file's bytes say a hall, of which this holds
-abbrev pub IsSaid : (HallFile → Type 0) → Type 0
-IsSaid Holds = (file : HallFile) × (bytes : List ℕ) × Says bytes file × Holds file
+-- a file's bytes say a hall, and its key is this one, where it has one, of which this holds
+abbrev pub IsSaid : Naming → (HallFile → Option (List ℕ) → Type 0) → Type 0
+IsSaid n Holds =
+    (file : HallFile) × (bytes : List ℕ) × Says bytes file
+    × (key : Option (List ℕ)) × IsKeyOf (key_file_of n file) key × Holds file key
+
+-- a file's bytes say a hall, and its key is not to be had
+abbrev pub IsKeyless : Naming → DeskFault → Type 0
+IsKeyless n f =
+    (file : HallFile) × (bytes : List ℕ) × Says bytes file × FailsKey (key_file_of n file) f
 
 -- the desk of a number in a hall's file, or the last one that answers
-abbrev pub FindsDesk : Option ℕ → ℕ → DeskAddress → Outside → Type 0
-FindsDesk (Some desk) patience a o = IsSaid (λ file. IsDeskOf file desk a × IsQuiet o)
-FindsDesk None patience a o = IsSaid (λ file. Chooses file patience a o)
+abbrev pub FindsDesk : Naming → Option ℕ → ℕ → DeskAddress → Outside → Type 0
+FindsDesk n (Some desk) patience a o =
+    IsSaid n (λ file key. IsDeskOf file key desk a × IsQuiet o)
+FindsDesk n None patience a o = IsSaid n (λ file key. Chooses file key patience a o)
 
--- the file gives no hall and no desk was asked, or its hall has no such desk, or none answers
-abbrev pub FailsToFind : DeskFault → Option ℕ → ℕ → Outside → Type 0
-FailsToFind f (Some desk) patience o =
-    (IsOfFile f × (o.dialed ≡ o.dialed_then))
-    ⊎ (IsQuiet o × IsSaid (λ file. MissesDesk file desk f))
-FailsToFind f None patience o =
-    (IsOfFile f × (o.dialed ≡ o.dialed_then))
-    ⊎ IsSaid (λ file. FailsToChoose f file patience o)
+-- no desk was asked: the file gives no hall, or its key is not to be had
+abbrev pub IsUnread : DeskFault → Naming → Outside → Type 0
+IsUnread f n o = (IsOfFile f × (o.dialed ≡ o.dialed_then)) ⊎ (IsQuiet o × IsKeyless n f)
+
+-- or its hall has no such desk, or none answers
+abbrev pub FailsToFind : DeskFault → Naming → Option ℕ → ℕ → Outside → Type 0
+FailsToFind f n (Some desk) patience o =
+    IsUnread f n o ⊎ (IsQuiet o × IsSaid n (λ file key. MissesDesk file desk f))
+FailsToFind f n None patience o =
+    IsUnread f n o ⊎ IsSaid n (λ file key. FailsToChoose f file key patience o)
+
+-- the desk of a hall at an address, and the key of a file, or none
+pub record IsAt (hall desk : ℕ) (address : List ℕ) (given : Option (Bor (List ℕ)))
+    (a : DeskAddress) : Type 0 where
+  pub hall_is : a.hall ≡ hall
+  pub desk_is : a.desk ≡ desk
+  pub listens : string_bytes a.address ≡ address
+  pub key : IsKeyOf (option_map (λ k. k.now) given) a.key
 
 -- the desk that is asked for
 abbrev pub Resolves : Place → ℕ → DeskAddress → Outside → Type 0
-Resolves (place.Desk hall desk address) patience a o =
-    (a.hall ≡ hall) × (a.desk ≡ desk) × (string_bytes a.address ≡ address.now) × IsQuiet o
-Resolves (place.File file desk) patience a o = FindsDesk desk patience a o
+Resolves (place.Desk hall desk address key) patience a o =
+    IsAt hall desk address.now key a × IsQuiet o
+Resolves (place.File file desk key) patience a o = FindsDesk (naming file key) desk patience a o
 
 -- there is none
 abbrev pub FailsToResolve : DeskFault → Place → ℕ → Outside → Type 0
-FailsToResolve f (place.Desk hall desk address) patience o = (f ≡ no_memory) × IsQuiet o
-FailsToResolve f (place.File file desk) patience o = FailsToFind f desk patience o
+FailsToResolve f (place.Desk hall desk address key) patience o =
+    FailsKey (option_map (λ k. k.now) key) f × IsQuiet o
+FailsToResolve f (place.File file desk key) patience o =
+    FailsToFind f (naming file key) desk patience o

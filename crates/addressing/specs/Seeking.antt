@@ -1,7 +1,7 @@
 -- Desks that are asked one after the other, from the last one to the first, until one answers.
 use Rattle.std.specs.Prelude.{◌≡◌, ◌≢◌, ◌⊎◌, ◌∷◌, [], ℕ, zero, suc, List, Option, None, Some}
 use Rattle.std.specs.Prelude.{Result, Ok, Err}
-use Rattle.batch.specs.Dialing.{Adds, Dialed, asked_so}
+use Rattle.batch.specs.Dialing.{Adds, Dialed, Place, asked_so}
 use Rattle.batch.specs.declared.fault.BatchFault.{BatchFault}
 use Rattle.client.specs.Standings.{status_request}
 use Rattle.errands.specs.Statuses.{fault_of_batch}
@@ -13,15 +13,21 @@ use Rattle.lines.specs.declared.fault.RunFault.TheVariants as run
 use Rattle.wire.specs.declared.frame.What.{What}
 use Rattle.wire.specs.declared.frame.What.TheVariants as what
 
--- the hall whose desks are asked, where they listen, and for how many seconds each is waited for
+-- the hall whose desks are asked, where they listen, for how many seconds each is waited for, and
+-- under which key they are asked
 pub record Seeking : Type 0 where
   pub hall : ℕ
   pub addresses : List (List ℕ)
   pub patience : ℕ
+  pub key : Option (List ℕ)
 
-abbrev pub seeking : HallFile → ℕ → Seeking
-seeking file patience =
-    record { hall = file.hall; addresses = texts_of file; patience = patience }
+abbrev pub seeking : HallFile → ℕ → Option (List ℕ) → Seeking
+seeking file patience key =
+    record { hall = file.hall; addresses = texts_of file; patience = patience; key = key }
+
+-- where a desk is asked that listens here
+abbrev pub place_in : Seeking → List ℕ → Place
+place_in s address = record { to = address; patience = s.patience; key = s.key }
 
 -- why the answer to a Status says nothing; none where it says how the desk stands
 abbrev pub why_not : Result What BatchFault → Option DeskFault
@@ -36,8 +42,7 @@ pub record AsksDesk (s : Seeking) (desk : ℕ) (answer : Result What BatchFault)
   pub address : List ℕ
   pub listens : address_at s.addresses desk ≡ Some address
   pub asked :
-      Adds (record { to = address; patience = s.patience }) old new
-      (asked_so (status_request s.hall desk) answer ∷ [])
+      Adds (place_in s address) old new (asked_so (status_request s.hall desk) answer ∷ [])
 
 abbrev pub no_memory : DeskFault
 no_memory = fault.Run run.NoMemory

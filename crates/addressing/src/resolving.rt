@@ -1,13 +1,16 @@
 //! The desk that the arguments ask for.
 
-ghost use Rattle.std.specs.Prelude.{◌≡◌, ◌++◌, decimal, IfErr, IfOk, OnErr, OnOk};
+ghost use Rattle.std.specs.Prelude.{◌≡◌, ◌++◌, decimal, option_map, IfErr, IfOk, OnErr, OnOk};
 ghost use Rattle.std.specs.Io.KnownBytes.{Keeps};
+ghost use Rattle.addressing.specs.Keys.{FailsKey, naming};
 ghost use Rattle.addressing.specs.Resolving.{Chooses, FailsToChoose, FailsToFind, FailsToResolve};
-ghost use Rattle.addressing.specs.Resolving.{FindsDesk, IsDeskOf, IsTold, MissesDesk, Resolves};
+ghost use Rattle.addressing.specs.Resolving.{FindsDesk, IsAt, IsDeskOf, IsTold, MissesDesk};
+ghost use Rattle.addressing.specs.Resolving.{Resolves};
 ghost use Rattle.addressing.specs.Resolving.{asking_text, outside};
 ghost use Rattle.addressing.specs.Seeking.{no_memory};
 
 use crate::files::hall_of_file;
+use crate::hall_keys::{key_at, key_of_hall};
 use crate::seeking::seek;
 use arguments::Place;
 use batch::Dial;
@@ -19,8 +22,8 @@ use std::alloc::{AllocError, Global};
 use std::io::Write;
 use std::rt::Files;
 
-/// A desk, and where it listens.
-#[derive(Debug, Drop)]
+/// A desk, where it listens, and under which key it is asked.
+#[derive(Drop)]
 pub struct DeskAddress {
     /// The number of its hall.
     pub hall: u32,
@@ -28,11 +31,18 @@ pub struct DeskAddress {
     pub desk: u8,
     /// An IP address or a host's name, a colon, and a port.
     pub address: String,
+    /// The key of its hall, where it has one.
+    pub key: Option<[u8; 32]>,
 }
 
-/// The desk of a hall's file with this number.
-fn desk_of(alloc: Global, file: &HallFile, desk: u8) -> Result<DeskAddress, DeskFault>
-    ensures ok { IfOk result (IsDeskOf file.now desk) }
+/// The desk of a hall's file with this number, under this key.
+fn desk_of(
+    alloc: Global,
+    file: &HallFile,
+    key: Option<[u8; 32]>,
+    desk: u8,
+) -> Result<DeskAddress, DeskFault>
+    ensures ok { IfOk result (IsDeskOf file.now key desk) }
     ensures err { IfErr result (MissesDesk file.now desk) }
 {
     let Some(text) = file.address_of(desk) else {
@@ -45,6 +55,7 @@ fn desk_of(alloc: Global, file: &HallFile, desk: u8) -> Result<DeskAddress, Desk
         hall: file.hall,
         desk,
         address,
+        key,
     })
 }
 
@@ -97,19 +108,20 @@ fn chosen<D: Dial, F: Write>(
     alloc: Global,
     dial: &mut D,
     file: &HallFile,
+    key: Option<[u8; 32]>,
     patience: u32,
     faults: &mut F,
 ) -> Result<DeskAddress, DeskFault>
-    ensures ok { IfOk result (λ a. Chooses file.now patience a
+    ensures ok { IfOk result (λ a. Chooses file.now key patience a
         (outside D.dialed F.contents dial.old dial.new faults.old faults.new)) }
-    ensures err { IfErr result (λ f. FailsToChoose f file.now patience
+    ensures err { IfErr result (λ f. FailsToChoose f file.now key patience
         (outside D.dialed F.contents dial.old dial.new faults.old faults.new)) }
 {
-    let desk = match seek(alloc, dial, file, patience, file.desk_count()) {
+    let desk = match seek(alloc, dial, file, patience, key, file.desk_count()) {
         Ok(desk) => desk,
         Err(fault) => return Err(fault),
     };
-    let found = match desk_of(alloc, file, desk) {
+    let found = match desk_of(alloc, file, key, desk) {
         Ok(found) => found,
         Err(fault) => return Err(fault),
     };
@@ -119,40 +131,75 @@ fn chosen<D: Dial, F: Write>(
     }
 }
 
-/// A desk of the hall that a file describes: the one of this number, or the last that answers.
+/// A desk of the hall that a file describes: the one of this number, or the last that answers. It
+/// is asked under the key that is given, or else the one of the hall's file.
 fn found<R: Files + AllocGlobal, D: Dial, F: Write>(
     rt: &R,
     dial: &mut D,
     path: &str,
+    given: Option<&str>,
     desk: Option<u8>,
     patience: u32,
     faults: &mut F,
 ) -> Result<DeskAddress, DeskFault>
-    ensures ok { IfOk result (λ a. FindsDesk desk patience a
+    ensures ok { IfOk result (λ a. FindsDesk (naming path.entry given.entry) desk patience a
         (outside D.dialed F.contents dial.old dial.new faults.old faults.new)) }
-    ensures err { IfErr result (λ f. FailsToFind f desk patience
+    ensures err { IfErr result (λ f. FailsToFind f (naming path.entry given.entry) desk patience
         (outside D.dialed F.contents dial.old dial.new faults.old faults.new)) }
 {
     let file = match hall_of_file(rt, path, faults) {
         Ok(file) => file,
         Err(fault) => return Err(fault),
     };
+    let key = match key_of_hall(rt, path, given, &file) {
+        Ok(key) => key,
+        Err(fault) => return Err(fault),
+    };
     match desk {
-        Some(desk) => desk_of(rt.alloc(), &file, desk),
-        None => chosen(rt.alloc(), dial, &file, patience, faults),
+        Some(desk) => desk_of(rt.alloc(), &file, key, desk),
+        None => chosen(rt.alloc(), dial, &file, key, patience, faults),
     }
 }
 
-/// The desk that is asked for: of which hall, with which number, and where it listens.
+/// The desk of a hall at an address, under the key of a file, or none.
+fn at_address<R: Files + AllocGlobal>(
+    rt: &R,
+    hall: u32,
+    desk: u8,
+    address: &str,
+    given: Option<&str>,
+) -> Result<DeskAddress, DeskFault>
+    ensures ok { IfOk result (IsAt hall desk address.now given.entry) }
+    ensures err { IfErr result (FailsKey (option_map (λ k. k.now) given.entry)) }
+{
+    let key = match key_at(rt, given) {
+        Ok(key) => key,
+        Err(fault) => return Err(fault),
+    };
+    let Ok(address) = String::from_str(rt.alloc(), address) else {
+        return Err(DeskFault::Run(RunFault::NoMemory));
+    };
+    Ok(DeskAddress {
+        hall,
+        desk,
+        address,
+        key,
+    })
+}
+
+/// The desk that is asked for: of which hall, with which number, where it listens, and under which
+/// key it is asked.
 ///
 /// For an address nothing is asked. Where a hall's file is named, the hall and the address are the
-/// file's. Without a desk's number its desks are asked for their status from the last one to the
-/// first, each over a connection of its own, and the first that says how it stands is taken; where
-/// that is not the last desk, a line on the fault stream says which one it is.
+/// file's, and so is the key where no file of one is given. Without a desk's number its desks are
+/// asked for their status from the last one to the first, each over a connection of its own, and
+/// the first that says how it stands is taken; where that is not the last desk, a line on the fault
+/// stream says which one it is.
 ///
 /// # Errors
 ///
 /// - `BadHallFile` where the file describes no hall or cannot be read: a line was told before.
+/// - `KeyFile` where the key's file gives none: no desk was asked.
 /// - `BadDesk` where its hall has no desk of the number.
 /// - Without a number the fault of desk 1, where no desk says how it stands.
 /// - `Run` with `NoMemory` where memory runs out.
@@ -173,14 +220,8 @@ pub fn addressed<R: Files + AllocGlobal, D: Dial, F: Write>(
             hall,
             desk,
             address,
-        } => match String::from_str(rt.alloc(), address) {
-            Ok(address) => Ok(DeskAddress {
-                hall,
-                desk,
-                address,
-            }),
-            Err(_) => Err(DeskFault::Run(RunFault::NoMemory)),
-        },
-        Place::File { file, desk } => found(rt, dial, file, desk, patience, faults),
+            key,
+        } => at_address(rt, hall, desk, address, key),
+        Place::File { file, desk, key } => found(rt, dial, file, key, desk, patience, faults),
     }
 }

@@ -33,8 +33,9 @@ fn is_last(desk: u8, fault: DeskFault) -> bool
     }
 }
 
-/// Asks the desk of this number for its status, and where it says nothing those of lower numbers,
-/// each over a connection of its own; gives the number of the first that answers.
+/// Asks the desk of this number for its status under this key, or without one, and where it says
+/// nothing those of lower numbers, each over a connection of its own; gives the number of the first
+/// that answers.
 ///
 /// # Errors
 ///
@@ -44,18 +45,23 @@ pub(crate) fn seek<D: Dial>(
     dial: &mut D,
     hall: &HallFile,
     patience: u32,
+    key: Option<[u8; 32]>,
     desk: u8,
 ) -> Result<u8, DeskFault>
     requires some { 1 ≤ desk }
     requires there { desk ≤ vec_len hall.now.desks }
-    ensures { Seeks (seeking hall.now patience) desk (D.dialed dial.old) (D.dialed dial.new)
+    ensures { Seeks (seeking hall.now patience key) desk (D.dialed dial.old) (D.dialed dial.new)
         result }
 {
     let Some(address) = hall.address_of(desk) else {
         // each number up to the count of desks has an address
         return Err(DeskFault::BadDesk);
     };
-    let contact = Contact { address, patience };
+    let contact = Contact {
+        address,
+        patience,
+        key,
+    };
     let request = status_request(hall.hall, desk);
     let answer = ask_over(alloc, dial, contact, &request);
     match why_not(answer) {
@@ -64,7 +70,7 @@ pub(crate) fn seek<D: Dial>(
             if is_last(desk, fault) {
                 return Err(fault);
             }
-            seek(alloc, dial, hall, patience, desk - 1)
+            seek(alloc, dial, hall, patience, key, desk - 1)
         }
     }
 }

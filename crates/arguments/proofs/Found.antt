@@ -71,6 +71,7 @@ found_ids found (task.Export file) h = tt
 found_ids found task.Results h = tt
 found_ids found (task.Hall desks) h = tt
 found_ids found (task.HallFile hall addresses) h = tt
+found_ids found (task.Key file) h = tt
 found_ids found (task.Carry place patience request) h = request_ids request h.0 h.1 h.3.0
 found_ids found (task.Newest place patience event round style) h = tt
 found_ids found (task.Enter place patience id text waits) h = entered_ids id text.now h.1 h.3.2

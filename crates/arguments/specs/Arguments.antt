@@ -1,5 +1,7 @@
 -- The arguments of subcommands, as the parser knows them, and what a number is.
-use Rattle.std.specs.Prelude.{◌≡◌, ◌⊎◌, true, false, ℕ, List, codes, decimal, Option, None, Some}
+use Rattle.std.specs.Borrow.{Bor}
+use Rattle.std.specs.Prelude.{◌≡◌, ◌⊎◌, true, false, ℕ, List, codes, decimal, option_map}
+use Rattle.std.specs.Prelude.{Option, None, Some}
 use Rattle.clap.specs.Words.{App, Row, Rule, Text, first_of, new_app, with_rule}
 use Rattle.clap.specs.declared.builder.ArgAction.TheVariants.{Append}
 use Rattle.clap.specs.declared.builder.value_parser.ValueParser.{ValueParser}
@@ -55,16 +57,21 @@ several low high r =
 abbrev pub wait_seconds_rule : Rule
 wait_seconds_rule = optional_rule (codes "patience") 1 3600
 
+-- the file with the hall's key
+abbrev pub key_rule : Rule
+key_rule = optional_value_rule (codes "key") any_text
+
 -- whether a second line says why a fault came
 abbrev pub explain_rule : Rule
 explain_rule = flag_rule (codes "explain")
 
--- the arguments that name a hall: its file, or its number
+-- the arguments that name a hall: its file, or its number; and its key
 abbrev pub located_arguments : Text → App
 located_arguments name =
-    with_rule (with_rule (new_app name)
+    with_rule (with_rule (with_rule (new_app name)
     (bound (optional_value_rule (codes "config") any_text)))
-    (bound (optional_rule (codes "hall") 0 4294967295))
+    (bound (optional_rule (codes "hall") 0 4294967295)))
+    key_rule
 
 -- the arguments that every subcommand has that asks a desk
 abbrev pub errand_arguments : Text → App
@@ -88,6 +95,10 @@ IsGiven id rows None = first_of id rows ≡ None
 abbrev pub IsNumberOr : Text → ℕ → List Row → ℕ → Type 0
 IsNumberOr id other rows n =
     IsNumberAt id rows n ⊎ ((first_of id rows ≡ None) × (n ≡ other))
+
+-- the text that is given, or that none is
+abbrev pub IsText : Text → List Row → Option (Bor Text) → Type 0
+IsText id rows text = option_map (λ t. t.now) text ≡ first_of id rows
 
 -- the text that is given, or this one where none is
 abbrev pub IsTextOr : Text → Text → List Row → Text → Type 0

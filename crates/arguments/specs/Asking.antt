@@ -15,7 +15,8 @@ use Rattle.wcif.specs.declared.options.CumulativeLimits.TheVariants as limits
 use Rattle.wcif.specs.declared.options.SameNames.{SameNames}
 use Rattle.wcif.specs.declared.options.SameNames.TheVariants as names
 use Rattle.wcif.specs.declared.options.Options.{Options}
-use Rattle.arguments.specs.Arguments.{IsFlag, IsGiven, IsNumberAt, IsNumberOr, IsOneOf, IsTextOr}
+use Rattle.arguments.specs.Arguments.{IsFlag, IsGiven, IsNumberAt, IsNumberOr, IsOneOf, IsText}
+use Rattle.arguments.specs.Arguments.{IsTextOr}
 use Rattle.arguments.specs.Arguments.{any_text, bound, csv_rule, errand_arguments, explain_rule}
 use Rattle.arguments.specs.Arguments.{flag_rule, last_value_rule, located_arguments, numbers}
 use Rattle.arguments.specs.Arguments.{option_rule, optional_rule, optional_value_rule}
@@ -47,10 +48,14 @@ hall_file_arguments =
     (option_rule (codes "hall") (numbers 0 4294967295)))
     (values_rule (codes "addr") any_text)
 
+abbrev pub key_arguments : App
+key_arguments =
+    with_rule (new_app (codes "key")) (optional_value_rule (codes "file") any_text)
+
 abbrev pub serve_arguments : App
 serve_arguments =
     with_rule (with_rule (with_rule (with_rule (with_rule (with_rule (with_rule (with_rule
-    (with_rule (with_rule (located_arguments (codes "serve"))
+    (with_rule (with_rule (with_rule (with_rule (located_arguments (codes "serve"))
     (option_rule (codes "desk") (numbers 0 255)))
     (option_rule (codes "store") any_text))
     (bound (flag_rule (codes "new"))))
@@ -59,6 +64,8 @@ serve_arguments =
     (optional_rule (codes "wire") 1 2))
     (optional_rule (codes "tick") 100 60000))
     (flag_rule (codes "quiet")))
+    (optional_value_rule (codes "entry-key") any_text))
+    (flag_rule (codes "open-sheets")))
     explain_rule)
     (bound (optional_values_rule (codes "addr") any_text))
 
@@ -143,13 +150,15 @@ abbrev pub desk_arguments : Parsers → App
 desk_arguments p =
     with_subcommand (with_subcommand (with_subcommand (with_subcommand (with_subcommand
     (with_subcommand (with_subcommand (with_subcommand (with_subcommand (with_subcommand
-    (with_subcommand (with_subcommand (with_subcommand (with_subcommand (with_subcommand named_app
+    (with_subcommand (with_subcommand (with_subcommand (with_subcommand (with_subcommand
+    (with_subcommand named_app
     (replay_arguments p.replay).top)
     (import_arguments p.imported).top)
     export_arguments.top)
     results_arguments.top)
     hall_arguments.top)
     hall_file_arguments.top)
+    key_arguments.top)
     serve_arguments.top)
     status_arguments.top)
     log_arguments.top)
@@ -193,13 +202,15 @@ pub record IsHall (hall : ℕ) (rows : List Row) : Type 0 where
   pub number : IsNumberAt (codes "hall") rows hall
   pub no_file : first_of (codes "config") rows ≡ None
 
--- which desk is asked, and where: that of a hall at an address, or one of a file's
+-- which desk is asked, where, and under which key's file: that of a hall at an address, or one of
+-- a file's
 abbrev pub IsPlace : Place → List Row → Type 0
-IsPlace (place.Desk hall desk address) rows =
+IsPlace (place.Desk hall desk address key) rows =
     IsHall hall rows × IsNumberAt (codes "desk") rows desk
-    × (first_of (codes "to") rows ≡ Some address.now)
-IsPlace (place.File file desk) rows =
+    × (first_of (codes "to") rows ≡ Some address.now) × IsText (codes "key") rows key
+IsPlace (place.File file desk key) rows =
     IsHallFile file.now (codes "to") rows × IsGiven (codes "desk") rows desk
+    × IsText (codes "key") rows key
 
 -- and for how many seconds it is waited for, 10 where none are given
 pub record IsPlaced (p : Place) (patience : ℕ) (rows : List Row) : Type 0 where
@@ -212,11 +223,14 @@ pub record AreFew (id : Text) (texts : List Text) (rows : List Row) : Type 0 whe
   pub some : 1 ≤ length texts
   pub few : length texts ≤ 5
 
--- which desks are asked, and where: those of a hall at these addresses, or a file's
+-- which desks are asked, where, and under which key's file: those of a hall at these addresses, or
+-- a file's
 abbrev pub AreDesks : Desks → List Row → Type 0
-AreDesks (desks.Addresses hall addresses) rows =
+AreDesks (desks.Addresses hall addresses key) rows =
     IsHall hall rows × AreFew (codes "to") (map (λ a. a.now) addresses.now) rows
-AreDesks (desks.File file) rows = IsHallFile file.now (codes "to") rows
+    × IsText (codes "key") rows key
+AreDesks (desks.File file key) rows =
+    IsHallFile file.now (codes "to") rows × IsText (codes "key") rows key
 
 -- a command's id and its text, or its text alone
 abbrev pub IsEntered : Option ℕ → Text → List Row → Type 0
@@ -245,8 +259,8 @@ wire_number version.Two = 2
 wire_number version.Three = 3
 
 -- a desk of this hall, its file, for how many seconds a client may be silent, how many connections
--- it serves, the version in which it pushes, whether it says nothing of other desks, and where the
--- desks listen
+-- it serves, the version in which it pushes, whether it says nothing of other desks, the files of
+-- its keys, whether sheets need none, and where the desks listen
 pub record IsService (s : Service) (rows : List Row) : Type 0 where
   pub hall : IsHall s.hall rows
   pub desk : IsNumberAt (codes "desk") rows s.desk
@@ -257,6 +271,9 @@ pub record IsService (s : Service) (rows : List Row) : Type 0 where
   pub wire : IsNumberOr (codes "wire") 1 rows (wire_number s.wire)
   pub tick : IsGiven (codes "tick") rows s.tick
   pub quiet : IsFlag (codes "quiet") rows s.quiet
+  pub key : IsText (codes "key") rows s.key
+  pub entry_key : IsText (codes "entry-key") rows s.entry_key
+  pub open_sheets : IsFlag (codes "open-sheets") rows s.open_sheets
   pub addresses : all_of (codes "addr") rows ≡ Some (map (λ a. a.now) s.addresses.now)
 
 -- of a desk of a file's hall the same, whether its store is made, and after how many milliseconds
@@ -270,6 +287,9 @@ pub record IsHallService (s : HallService) (rows : List Row) : Type 0 where
   pub wire : IsNumberOr (codes "wire") 1 rows (wire_number s.wire)
   pub tick : (n : ℕ) × (s.tick ≡ Some n) × IsNumberOr (codes "tick") 1000 rows n
   pub quiet : IsFlag (codes "quiet") rows s.quiet
+  pub key : IsText (codes "key") rows s.key
+  pub entry_key : IsText (codes "entry-key") rows s.entry_key
+  pub open_sheets : IsFlag (codes "open-sheets") rows s.open_sheets
 
 -- the file of a stopped desk; no desk that runs is named beside it
 pub record IsStored (store : Text) (rows : List Row) : Type 0 where
@@ -317,6 +337,7 @@ IsTask (task.Hall desks) name rows =
 IsTask (task.HallFile hall addresses) name rows =
     (name ≡ codes "hall-file") × IsNumberAt (codes "hall") rows hall
     × (all_of (codes "addr") rows ≡ Some (map (λ a. a.now) addresses.now))
+IsTask (task.Key file) name rows = (name ≡ codes "key") × IsText (codes "file") rows file
 IsTask (task.Carry place patience request) name rows =
     IsRequest request name rows × IsPlaced place patience rows
 IsTask (task.Newest place patience event round style) name rows =
@@ -354,6 +375,7 @@ HasIds (task.Export file) = Unit {0}
 HasIds task.Results = Unit {0}
 HasIds (task.Hall desks) = Unit {0}
 HasIds (task.HallFile hall addresses) = Unit {0}
+HasIds (task.Key file) = Unit {0}
 HasIds (task.Carry place patience request) = HasId request
 HasIds (task.Newest place patience event round style) = Unit {0}
 HasIds (task.Enter place patience id text waits) = IfSome id IsId

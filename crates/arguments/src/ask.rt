@@ -23,8 +23,8 @@ Prints one of these lines:
   done ID POSITION CODE  it is in the log at this position, and it was refused;
                          docs/FORMATS.md explains each CODE
 
-Exit status: 0 answered; 2 invalid arguments, or help; 3 bad desk number, bad hall
-file, or refused NAME; 4 cannot connect, cannot write, or no answer; 5 no memory.";
+Exit status: 0 answered; 2 invalid arguments, or help; 3 bad desk number, bad hall file, a key that
+is refused, or refused NAME; 4 cannot connect, cannot write, or no answer; 5 no memory.";
 
 /// The subcommand `ask`, as the parser knows it.
 pub fn ask_command<'a>(alloc: Global) -> Result<Command<'a>, AllocError>

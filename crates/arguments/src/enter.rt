@@ -23,8 +23,8 @@ A value alone is the command; it gets a random ID, which is printed. Each comman
 own: once the desks have agreed on a command, another one with the same ID is refused as a repeat.
 
 Exit status: 0 taken, or with --wait decided; 2 invalid arguments, or help; 3 bad desk number, bad
-hall file, text too long, still pending, command lost, another command's id, or refused NAME; 4
-cannot connect, cannot write, or no answer; 5 no memory.";
+hall file, a key that is refused, text too long, still pending, command lost, another command's id,
+or refused NAME; 4 cannot connect, cannot write, or no answer; 5 no memory.";
 
 /// The subcommand `enter`, as the parser knows it.
 pub fn enter_command<'a>(alloc: Global) -> Result<Command<'a>, AllocError>

@@ -27,9 +27,10 @@ Empty lines and lines that begin with # are left out. A line that is no command 
 error, and then nothing is sent. Without --first-id the ids that were taken are said there.
 
 Exit status: 0 all lines were entered; 2 invalid arguments, or help; 3 bad desk number, bad hall
-file, input too long, text too long, no more ids, still pending, command lost (the desk was started
-again before the command was decided), not a command, another command's id, stopped at a refusal, or
-refused NAME; 4 cannot read, cannot connect, cannot write, or no answer; 5 no memory.";
+file, a key that is refused, input too long, text too long, no more ids, still pending, command lost
+(the desk was started again before the command was decided), not a command, another command's id,
+stopped at a refusal, or refused NAME; 4 cannot read, cannot connect, cannot write, or no answer; 5
+no memory.";
 
 /// The subcommand `enter-lines`, as the parser knows it.
 pub fn enter_lines_command<'a>(alloc: Global) -> Result<Command<'a>, AllocError>

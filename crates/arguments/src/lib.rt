@@ -9,6 +9,7 @@ mod export;
 mod hall;
 mod hall_file;
 mod import;
+mod key;
 mod laws;
 mod log;
 mod parsing;

@@ -23,9 +23,9 @@ feed. So `desk replay` of these lines prints each sheet that the desk would prin
 log.
 
 Exit status: 0 the log was printed; 2 invalid arguments, or help; 3 bad desk number, bad hall file,
-damaged store (FILE is not a valid store of a desk), or refused NAME; 4 store device (FILE does not
-exist, cannot be opened, or another program has it open), cannot connect, no answer, or cannot
-write; 5 no memory.";
+a key that is refused, damaged store (FILE is not a valid store of a desk), or refused NAME; 4 store
+device (FILE does not exist, cannot be opened, or another program has it open), cannot connect, no
+answer, or cannot write; 5 no memory.";
 
 /// The option `--store`, which comes without a desk that runs.
 fn store_option<'a>(alloc: Global) -> Result<Arg<'a>, AllocError>
@@ -40,7 +40,7 @@ fn store_option<'a>(alloc: Global) -> Result<Arg<'a>, AllocError>
         "The file of a desk that is stopped",
         ValueParser::string(),
     );
-    let others = ["config", "hall", "desk", "to", "patience", "from"];
+    let others = ["config", "hall", "key", "desk", "to", "patience", "from"];
     excluding(store, &others)
 }
 

@@ -12,6 +12,7 @@ use crate::export::export_command;
 use crate::hall::hall_command;
 use crate::hall_file::hall_file_command;
 use crate::import::import_command;
+use crate::key::key_command;
 use crate::log::log_command;
 use crate::results::results_command;
 use crate::serve::serve_command;
@@ -34,6 +35,7 @@ fn command<'a>(alloc: Global) -> Result<Command<'a>, AllocError>
     let command = with_subcommand(command, results_command(alloc)?)?;
     let command = with_subcommand(command, hall_command(alloc)?)?;
     let command = with_subcommand(command, hall_file_command(alloc)?)?;
+    let command = with_subcommand(command, key_command(alloc)?)?;
     let command = with_subcommand(command, serve_command(alloc)?)?;
     let command = with_subcommand(command, status_command(alloc)?)?;
     let command = with_subcommand(command, log_command(alloc)?)?;

@@ -4,12 +4,13 @@ ghost use Rattle.std.specs.Prelude.{◌≡◌, false, codes, map, IfOk, IfSome};
 ghost use Rattle.clap.specs.Words.{found_of, rows_of, rule_of};
 ghost use Rattle.arguments.specs.Arguments.{IsCommand, IsNumberOr, any_text, bound};
 ghost use Rattle.arguments.specs.Arguments.{errand_arguments};
-ghost use Rattle.arguments.specs.Arguments.{explain_rule, located_arguments, optional_rule};
+ghost use Rattle.arguments.specs.Arguments.{explain_rule, key_rule, located_arguments};
+ghost use Rattle.arguments.specs.Arguments.{optional_rule};
 ghost use Rattle.arguments.specs.Arguments.{optional_value_rule, several, wait_seconds_rule};
 ghost use Rattle.arguments.specs.Asking.{AreDesks, AreFew, IsHall, IsHallFile, IsPlace, IsPlaced};
 
 use crate::values::{
-    byte_at, excluding, four_bytes_at, number_or, optional_byte_at, optional_number,
+    byte_at, excluding, four_bytes_at, given_text, number_or, optional_byte_at, optional_number,
     optional_value, requiring, text_or, without,
 };
 use clap::builder::ValueParser;
@@ -17,30 +18,40 @@ use clap::{Arg, ArgMatches, Command};
 use replay_arguments::{flag, plain_command, text_at, with_argument};
 use std::alloc::{AllocError, Global};
 
-/// Where a desk is asked for.
+/// Where a desk is asked for. `key` is the path of the file with the hall's key, or with the one
+/// for entries alone.
 #[derive(Clone, Copy)]
 pub enum Place<'a> {
-    /// The desk of a hall, at an address.
+    /// The desk of a hall, at an address. Without `key` it is asked without a key.
     Desk {
         hall: u32,
         desk: u8,
         address: &'a str,
+        key: Option<&'a str>,
     },
     /// A desk of the hall that a file describes: the one of this number, or, where none is given,
-    /// the last one that answers.
+    /// the last one that answers. Without `key` the hall's file says the key's, or none.
     File {
         file: &'a str,
         desk: Option<u8>,
+        key: Option<&'a str>,
     },
 }
 
-/// Where all desks of a hall are asked for.
+/// Where all desks of a hall are asked for. `key` is as that of [`Place`].
 #[derive(Clone, Copy)]
 pub enum Desks<'a> {
     /// At these addresses, one to five, desk 1 first.
-    Addresses { hall: u32, addresses: &'a [&'a str] },
+    Addresses {
+        hall: u32,
+        addresses: &'a [&'a str],
+        key: Option<&'a str>,
+    },
     /// Where the file of a hall says.
-    File { file: &'a str },
+    File {
+        file: &'a str,
+        key: Option<&'a str>,
+    },
 }
 
 /// For how many seconds a desk is waited for without the option `--patience`.
@@ -82,7 +93,22 @@ fn hall_option<'a>(alloc: Global, addresses: &'a str) -> Result<Arg<'a>, AllocEr
     requiring(hall, &[addresses])
 }
 
-/// A subcommand that names a hall: its file, or its number with addresses in another argument.
+/// The option `--key`.
+fn key_option<'a>(alloc: Global) -> Arg<'a>
+    ensures rule { rule_of result ≡ key_rule }
+    ensures local { result.global ≡ false }
+{
+    optional_value(
+        alloc,
+        "key",
+        "FILE",
+        "The file with the hall's key; without it that of the hall's file, if it names one",
+        ValueParser::string(),
+    )
+}
+
+/// A subcommand that names a hall: its file, or its number with addresses in another argument; and
+/// the hall's key.
 pub fn located_command<'a>(
     alloc: Global,
     name: &'a str,
@@ -94,7 +120,8 @@ pub fn located_command<'a>(
 {
     let command = plain_command(alloc, name, about, after);
     let command = with_argument(command, config_option(alloc, addresses)?)?;
-    with_argument(command, hall_option(alloc, addresses)?)
+    let command = with_argument(command, hall_option(alloc, addresses)?)?;
+    with_argument(command, key_option(alloc))
 }
 
 /// The option `--to` with the address of one desk.
@@ -207,10 +234,12 @@ fn desk_place_at<'a>(found: &ArgMatches<'a>) -> Option<Place<'a>>
     let hall = hall_at(found)?;
     let desk = byte_at(found, "desk")?;
     let address = text_at(found, "to")?;
+    let key = given_text(found, "key");
     Some(Place::Desk {
         hall,
         desk,
         address,
+        key,
     })
 }
 
@@ -220,7 +249,8 @@ fn file_place_at<'a>(found: &ArgMatches<'a>) -> Option<Place<'a>>
 {
     let file = hall_file_at(found, "to")?;
     let desk = optional_byte_at(found, "desk")?;
-    Some(Place::File { file, desk })
+    let key = given_text(found, "key");
+    Some(Place::File { file, desk, key })
 }
 
 /// Where a subcommand asks its desk.
@@ -268,7 +298,12 @@ fn addresses_at<'m, 'a: 'm>(found: &'m ArgMatches<'a>) -> Option<Desks<'m>>
 {
     let hall = hall_at(found)?;
     let addresses = few_at(found, "to")?;
-    Some(Desks::Addresses { hall, addresses })
+    let key = given_text(found, "key");
+    Some(Desks::Addresses {
+        hall,
+        addresses,
+        key,
+    })
 }
 
 /// Where a subcommand asks all desks of a hall.
@@ -279,6 +314,7 @@ pub fn desks_at<'m, 'a: 'm>(found: &'m ArgMatches<'a>) -> Option<Desks<'m>>
         Some(_) => addresses_at(found),
         None => Some(Desks::File {
             file: hall_file_at(found, "to")?,
+            key: given_text(found, "key"),
         }),
     }
 }

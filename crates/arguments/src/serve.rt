@@ -3,14 +3,15 @@
 ghost use Rattle.std.specs.Prelude.{◌≡◌, false, codes, IfOk, IfSome};
 ghost use Rattle.clap.specs.Words.{found_of, rows_of, rule_of};
 ghost use Rattle.arguments.specs.Arguments.{IsCommand, IsNumberOr, any_text, bound, flag_rule};
-ghost use Rattle.arguments.specs.Arguments.{optional_values_rule, option_rule, numbers};
-ghost use Rattle.arguments.specs.Arguments.{values_rule};
+ghost use Rattle.arguments.specs.Arguments.{optional_value_rule, optional_values_rule};
+ghost use Rattle.arguments.specs.Arguments.{option_rule, numbers, values_rule};
 ghost use Rattle.arguments.specs.Asking.{serve_arguments, wire_number, IsTask};
 
 use crate::places::{explain_flag, hall_at, hall_file_at, located_command};
 use crate::task::{HallService, Task};
 use crate::values::{
-    byte_at, excluding, number_or, option, optional_at, optional_number, requiring,
+    byte_at, excluding, given_text, number_or, option, optional_at, optional_number,
+    optional_value, requiring,
 };
 use clap::builder::ValueParser;
 use clap::{Arg, ArgAction, ArgMatches, Command};
@@ -39,15 +40,21 @@ desk gives itself a Tick each second, unless --tick says otherwise; with --hall 
 
 The desk serves all its clients side by side, at most 512 at once.
 
+With a key (--key, or the hall file's `key`) only whoever has that key is answered: the other desks,
+and clients that have it, which may do everything. Whoever has the key of --entry-key may enter
+commands, ask, and send ticks, but cannot stop the desk or speak as another one. With --open-sheets
+whoever has no key may ask for sheets, answers, the log and how the desk stands. Both come with a
+key alone. `desk key` makes a key. Nothing that is sent is secret.
+
 Prints `desk D of N len LENGTH` once clients can connect: N is the number of desks, and LENGTH is
 the length of the desk's log. At the end it prints `served CONNECTIONS`. On standard error it says
 when another desk cannot be reached, and when it is reached again; --quiet leaves that out.
 
 Exit status: 0 K connections were served, or a client asked the desk to stop; 2 invalid arguments,
 or help; 3 bad number of desks, bad desk number, bad hall file, two desks have one address, unknown
-host, no store, store there already, wrong desk, or damaged store; 4 store device (FILE cannot be
-opened, or another program has it open), store down (a write to it failed), cannot listen, or cannot
-write; 5 no memory.";
+host, a key's file that is refused, no store, store there already, wrong desk, or damaged store; 4
+store device (FILE cannot be opened, or another program has it open), store down (a write to it
+failed), cannot listen, or cannot write; 5 no memory.";
 
 /// The value ADDR, which may be given more than once.
 pub fn address_value<'a>(alloc: Global) -> Arg<'a>
@@ -98,6 +105,20 @@ fn store_option<'a>(alloc: Global) -> Arg<'a>
         "store",
         "FILE",
         "The desk's file",
+        ValueParser::string(),
+    )
+}
+
+/// The option `--entry-key`.
+fn entry_key_option<'a>(alloc: Global) -> Arg<'a>
+    ensures rule { rule_of result ≡ optional_value_rule (codes "entry-key") any_text }
+    ensures local { result.global ≡ false }
+{
+    optional_value(
+        alloc,
+        "entry-key",
+        "FILE",
+        "The file with a second key: whoever has it may enter and ask, and nothing else",
         ValueParser::string(),
     )
 }
@@ -166,6 +187,13 @@ pub fn serve_command<'a>(alloc: Global) -> Result<Command<'a>, AllocError>
         "Says nothing of desks that cannot be reached",
     );
     let command = with_argument(command, quiet)?;
+    let command = with_argument(command, entry_key_option(alloc))?;
+    let open_sheets = flag(
+        alloc,
+        "open-sheets",
+        "Lets whoever has no key ask for sheets, answers, the log and how the desk stands",
+    );
+    let command = with_argument(command, open_sheets)?;
     let command = with_argument(command, explain_flag(alloc))?;
     with_argument(command, addresses_value(alloc)?)
 }
@@ -195,6 +223,9 @@ fn service_of<'m, 'a: 'm>(found: &'m ArgMatches<'a>) -> Option<Task<'m>>
     let wire = wire_at(found)?;
     let tick = optional_at(found, "tick")?;
     let quiet = flag_at(found, "quiet");
+    let key = given_text(found, "key");
+    let entry_key = given_text(found, "entry-key");
+    let open_sheets = flag_at(found, "open-sheets");
     let addresses = found.get_strs("addr")?;
     let makes = flag_at(found, "new");
     if makes {
@@ -211,6 +242,9 @@ fn service_of<'m, 'a: 'm>(found: &'m ArgMatches<'a>) -> Option<Task<'m>>
             wire,
             tick,
             quiet,
+            key,
+            entry_key,
+            open_sheets,
             addresses,
         },
     })
@@ -230,6 +264,9 @@ fn hall_service_of<'a>(found: &ArgMatches<'a>) -> Option<Task<'a>>
     let wire = wire_at(found)?;
     let tick = number_or(found, "tick", TICK)?;
     let quiet = flag_at(found, "quiet");
+    let key = given_text(found, "key");
+    let entry_key = given_text(found, "entry-key");
+    let open_sheets = flag_at(found, "open-sheets");
     Some(Task::ServeHall {
         file,
         wanted: HallService {
@@ -241,6 +278,9 @@ fn hall_service_of<'a>(found: &ArgMatches<'a>) -> Option<Task<'a>>
             wire,
             tick: Some(tick),
             quiet,
+            key,
+            entry_key,
+            open_sheets,
         },
     })
 }

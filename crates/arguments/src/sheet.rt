@@ -25,8 +25,8 @@ Where `desk ask` prints `done ID 4 Done`, the sheet with that command has POSITI
 print the same bytes for the same POSITION.
 
 Exit status: 0 the sheet was printed; 2 invalid arguments, or help; 3 bad desk number, bad hall
-file, or refused NAME (NotThere: the desk's log is shorter; NoSuchRound: none of these commands
-opened the round); 4 cannot connect, cannot write, or no answer; 5 no memory.";
+file, a key that is refused, or refused NAME (NotThere: the desk's log is shorter; NoSuchRound: none
+of these commands opened the round); 4 cannot connect, cannot write, or no answer; 5 no memory.";
 
 /// The subcommand `sheet`, as the parser knows it.
 pub fn sheet_command<'a>(alloc: Global) -> Result<Command<'a>, AllocError>

@@ -12,8 +12,8 @@ const ABOUT: &str = "Asks a desk to stop.";
 const AFTER: &str = "\
 The desk answers and ends. Its file stays, and it can be started again. Prints `ok`.
 
-Exit status: 0 done; 2 invalid arguments, or help; 3 bad desk number, bad hall file, or
-refused NAME; 4 cannot connect, cannot write, or no answer; 5 no memory.";
+Exit status: 0 done; 2 invalid arguments, or help; 3 bad desk number, bad hall file, a key that is
+refused, or refused NAME; 4 cannot connect, cannot write, or no answer; 5 no memory.";
 
 /// The subcommand `stop`, as the parser knows it.
 pub fn stop_command<'a>(alloc: Global) -> Result<Command<'a>, AllocError>

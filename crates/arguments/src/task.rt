@@ -11,6 +11,7 @@ use crate::export::export_of;
 use crate::hall::hall_of;
 use crate::hall_file::hall_file_of;
 use crate::import::import_of;
+use crate::key::key_of;
 use crate::log::log_of;
 use crate::places::{Desks, Place, placed};
 use crate::results::results_of;
@@ -79,6 +80,12 @@ pub struct HallService<'a> {
     pub tick: Option<u32>,
     /// Whether no lines about other desks are written.
     pub quiet: bool,
+    /// The path of the file with the hall's key; without it, the hall's file says one or none.
+    pub key: Option<&'a str>,
+    /// The path of the file with the key for entries alone.
+    pub entry_key: Option<&'a str>,
+    /// Whether whoever has no key may ask for sheets.
+    pub open_sheets: bool,
 }
 
 /// What the arguments ask for.
@@ -110,6 +117,10 @@ pub enum Task<'a> {
     HallFile {
         hall: u32,
         addresses: &'a [&'a str],
+    },
+    /// A new key, in a file that is made, or on standard output.
+    Key {
+        file: Option<&'a str>,
     },
     /// To ask a desk.
     Carry {
@@ -245,6 +256,7 @@ fn task_named<'m, 'a: 'm>(name: &str, found: &'m ArgMatches<'a>) -> Option<Task<
         "results" => results_of(found),
         "hall" => hall_of(found),
         "hall-file" => hall_file_of(found),
+        "key" => key_of(found),
         "serve" => serve_of(found),
         "status" => status_of(found),
         "enter" => enter_of(found),

@@ -12,8 +12,8 @@ const ABOUT: &str = "Sends a desk a tick, as a clock would every few seconds.";
 const AFTER: &str = "\
 The desk tries again what it waits for, or asks the other desks for what it lacks. Prints `ok`.
 
-Exit status: 0 done; 2 invalid arguments, or help; 3 bad desk number, bad hall file, or
-refused NAME; 4 cannot connect, cannot write, or no answer; 5 no memory.";
+Exit status: 0 done; 2 invalid arguments, or help; 3 bad desk number, bad hall file, a key that is
+refused, or refused NAME; 4 cannot connect, cannot write, or no answer; 5 no memory.";
 
 /// The subcommand `tick`, as the parser knows it.
 pub fn tick_command<'a>(alloc: Global) -> Result<Command<'a>, AllocError>

@@ -2,7 +2,8 @@
 
 ghost use Rattle.std.specs.Prelude.{◌≡◌, ◌≤◌, false, codes, length, IfOk, IfSome, Some};
 ghost use Rattle.clap.specs.Words.{first_of, found_of, rows_of, rule_of};
-ghost use Rattle.arguments.specs.Arguments.{IsGiven, IsNumberAt, IsNumberOr, IsTextOr, bound};
+ghost use Rattle.arguments.specs.Arguments.{IsGiven, IsNumberAt, IsNumberOr, IsText, IsTextOr};
+ghost use Rattle.arguments.specs.Arguments.{bound};
 ghost use Rattle.arguments.specs.Arguments.{last_value_rule, numbers, option_rule, optional_rule};
 ghost use Rattle.arguments.specs.Arguments.{optional_value_rule, value_rule};
 ghost use Rattle.wire.specs.Ranges.{IsId};
@@ -184,6 +185,13 @@ pub fn text_or<'a>(found: &ArgMatches<'a>, id: &str, other: &'a str) -> &'a str
         Some(text) => text,
         None => other,
     }
+}
+
+/// The text that is given, or None where none is.
+pub fn given_text<'a>(found: &ArgMatches<'a>, id: &str) -> Option<&'a str>
+    ensures { IsText id.now (rows_of (found_of found.now)) result }
+{
+    found.get_str(id)
 }
 
 /// Some where an argument has no value.

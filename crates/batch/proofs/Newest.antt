@@ -1,5 +1,5 @@
 -- A request for how a desk stands, and one for a sheet after it.
-use Rattle.std.proofs.Common.{◌≡◌, ◌++◌, ◌∷◌, [], true, false, ap, inr, refl, subst, Result, Ok}
+use Rattle.std.proofs.Common.{◌≡◌, ◌∷◌, [], true, false, ap, inr, refl, subst, Result, Ok}
 use Rattle.std.proofs.Common.{Err, IfErr, IfOk, None, Some, ◌==◌, ◌∙◌}
 use Rattle.client.specs.Answers.{answers, fits, is_standing}
 use Rattle.wire.specs.declared.frame.Frame.{Frame}

@@ -16,6 +16,7 @@ pub use Rattle.batch.specs.Dialing.{Adds, Asked, Asks, Goes, Told, asked_so, tol
 use Rattle.batch.specs.declared.asking.Receiver.{Receiver}
 use Rattle.batch.specs.declared.fault.BatchFault.{BatchFault}
 use Rattle.batch.specs.declared.fault.BatchFault.TheVariants.{Asking, CannotConnect, Late, NoMemory}
+use Rattle.batch.specs.declared.fault.BatchFault.TheVariants.{NoKey, OtherKey, HasKey}
 
 -- what became of a command is asked in version 3, which alone tells each code; the others are of
 -- version 1
@@ -57,11 +58,14 @@ abbrev pub IsUnknown : What → Type 0
 IsUnknown answer = (id : ℕ) × (answer ≡ what.Told id Unknown)
 
 -- the faults of a request over a connection: nobody is reached, there is no answer, or none in
--- time, or the desk refuses, or there is no memory
+-- time, or the desk does not speak under this key, or refuses, or there is no memory
 abbrev pub IsOfAsking : BatchFault → Type 0
 IsOfAsking CannotConnect = Unit {0}
 IsOfAsking (Asking f) = Unit {0}
 IsOfAsking Late = Unit {0}
+IsOfAsking NoKey = Unit {0}
+IsOfAsking OtherKey = Unit {0}
+IsOfAsking HasKey = Unit {0}
 IsOfAsking NoMemory = Unit {0}
 IsOfAsking _ = ⊥
 

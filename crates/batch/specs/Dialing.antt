@@ -8,17 +8,19 @@ use Rattle.wire.specs.declared.frame.Frame.{Frame}
 use Rattle.wire.specs.declared.frame.What.{What}
 use Rattle.batch.specs.declared.dialing.Contact.{Contact}
 use Rattle.batch.specs.declared.dialing.Ending.{Ending}
-use Rattle.batch.specs.declared.dialing.Ending.TheVariants.{Late, Gone, Own}
+use Rattle.batch.specs.declared.dialing.Ending.TheVariants.{Late, Gone, NoKey, OtherKey, HasKey}
+use Rattle.batch.specs.declared.dialing.Ending.TheVariants.{Own}
 use Rattle.batch.specs.declared.fault.BatchFault.{BatchFault}
 use Rattle.batch.specs.declared.fault.BatchFault.TheVariants as fault
 
--- the address at which a desk is asked, and for how many seconds it is waited
+-- the address at which a desk is asked, for how many seconds it is waited, and under which key
 pub record Place : Type 0 where
   pub to : List ℕ
   pub patience : ℕ
+  pub key : Option (List ℕ)
 
 abbrev pub place_of : Contact → Place
-place_of c = record { to = c.address.now; patience = c.patience }
+place_of c = record { to = c.address.now; patience = c.patience; key = c.key }
 
 -- A connection was opened to this place: what comes over it, and what was written in front of the
 -- request. None could be opened to it. One more request is made over the connection that is open.
@@ -45,12 +47,20 @@ pub record Asked : Type 0 where
 abbrev pub asked_so : Frame → Result What BatchFault → Asked
 asked_so request answer = record { request = request; answer = answer }
 
--- why a request has no answer; it is late where none came as long as the desk was waited for
+-- why a request that was not answered, or not written, failed, by the end of its connection; it is
+-- late where no answer came as long as the desk was waited for
+abbrev pub fault_at : ClientFault → Ending → BatchFault
+fault_at e Late = fault.Late
+fault_at e NoKey = fault.NoKey
+fault_at e OtherKey = fault.OtherKey
+fault_at e HasKey = fault.HasKey
+fault_at e Gone = fault.Asking e
+fault_at e Own = fault.Asking e
+
+-- why a request has no answer
 abbrev pub fault_of : ClientFault → Ending → BatchFault
-fault_of client.NoAnswer Late = fault.Late
-fault_of client.NoAnswer Gone = fault.Asking client.NoAnswer
-fault_of client.NoAnswer Own = fault.Asking client.NoAnswer
-fault_of client.Write ending = fault.Asking client.Write
+fault_of client.NoAnswer ending = fault_at client.NoAnswer ending
+fault_of client.Write ending = fault_at client.Write ending
 fault_of (client.Refused refusal) ending = fault.Asking (client.Refused refusal)
 fault_of client.NoMemory ending = fault.NoMemory
 
@@ -98,6 +108,9 @@ abbrev pub IsHungUp : Result What ClientFault → Ending → Type 0
 IsHungUp (Err client.Write) ending = Unit {0}
 IsHungUp (Err client.NoAnswer) Gone = Unit {0}
 IsHungUp (Err client.NoAnswer) Late = ⊥
+IsHungUp (Err client.NoAnswer) NoKey = ⊥
+IsHungUp (Err client.NoAnswer) OtherKey = ⊥
+IsHungUp (Err client.NoAnswer) HasKey = ⊥
 IsHungUp (Err client.NoAnswer) Own = ⊥
 IsHungUp (Err (client.Refused refusal)) ending = ⊥
 IsHungUp (Err client.NoMemory) ending = ⊥

@@ -194,6 +194,9 @@ abbrev pub IsOther : BatchFault → Type 0
 IsOther fault.CannotConnect = ⊥
 IsOther (fault.Asking e) = ⊥
 IsOther fault.Late = ⊥
+IsOther fault.NoKey = ⊥
+IsOther fault.OtherKey = ⊥
+IsOther fault.HasKey = ⊥
 IsOther fault.StillPending = ⊥
 IsOther fault.Lost = ⊥
 IsOther fault.AnotherCommand = ⊥

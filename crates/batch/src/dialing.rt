@@ -6,14 +6,16 @@ ghost use Rattle.batch.specs.Dialing.{Again, Dialed, Dials, Ended, Failed, Opene
 use std::io;
 use std::io::{Read, Write};
 
-/// Where a desk is asked, and how long it is waited for.
-#[derive(Clone, Copy, Debug)]
+/// Where a desk is asked, how long it is waited for, and under which key.
+#[derive(Clone, Copy)]
 pub struct Contact<'a> {
     /// An IP address or a host's name, a colon, and a port.
     pub address: &'a str,
     /// Seconds from the beginning of a request to the last byte of its answer: of the first one
     /// over a connection, from before it is opened.
     pub patience: u32,
+    /// The key of its hall under which it is asked, or none for a desk that asks for no key.
+    pub key: Option<[u8; 32]>,
 }
 
 /// What is known of the end of a connection.
@@ -23,7 +25,13 @@ pub enum Ending {
     Late,
     /// The desk ended it, and no byte of the answer had come.
     Gone,
-    /// Neither.
+    /// It was asked under a key, and the desk asks for none.
+    NoKey,
+    /// The desk has another key than the one under which it was asked.
+    OtherKey,
+    /// It was asked without a key, and the desk asks for one.
+    HasKey,
+    /// None of these.
     Own,
 }
 
@@ -36,7 +44,9 @@ pub trait Dial {
     /// What became of the connections, in order, where that is told.
     ghost dialed: { Self → Option (List Dialed) };
 
-    /// Opens a connection for a request: what the desk says, and where requests go.
+    /// Opens a connection for a request, under the contact's key: what the desk says, and where
+    /// requests go. Where the desk doesn't speak under that key, nothing can be written, and the end
+    /// of the connection tells why.
     fn dial(&mut self, contact: Contact<'_>) -> io::Result<(Self::Reader, Self::Writer)>
         ensures opened { IfOk result (λ c. Dials (dialed self.old) (dialed self.new)
             (Opened (place_of contact.entry) (Self.Reader.remaining c.0)

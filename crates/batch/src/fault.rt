@@ -21,6 +21,15 @@ pub enum BatchFault {
     /// The desk was waited for as long as is wanted, and there is no answer.
     #[error("no answer in time")]
     Late,
+    /// The desk was asked under a key, and asks for none.
+    #[error("the desk has no key")]
+    NoKey,
+    /// The desk has another key than the one under which it was asked.
+    #[error("the desk has another key")]
+    OtherKey,
+    /// The desk was asked without a key, and asks for one.
+    #[error("the desk has a key")]
+    HasKey,
     /// The desk took the command and did not decide it.
     #[error("still pending")]
     StillPending,

@@ -37,18 +37,21 @@ fn no_connection(error: &io::Error) -> BatchFault
     BatchFault::CannotConnect
 }
 
-/// Why there is no answer.
+/// Why there is no answer, by the fault of the exchange and by the connection's end.
 fn no_answer(fault: ClientFault, ending: Ending) -> BatchFault
     ensures same { result ≡ fault_of fault ending }
     ensures cause { IsOfAsking result }
 {
     match fault {
         ClientFault::NoMemory => BatchFault::NoMemory,
-        ClientFault::NoAnswer => match ending {
+        ClientFault::Refused { .. } => BatchFault::Asking(fault),
+        ClientFault::NoAnswer | ClientFault::Write => match ending {
             Ending::Late => BatchFault::Late,
+            Ending::NoKey => BatchFault::NoKey,
+            Ending::OtherKey => BatchFault::OtherKey,
+            Ending::HasKey => BatchFault::HasKey,
             Ending::Gone | Ending::Own => BatchFault::Asking(fault),
         },
-        ClientFault::Refused { .. } | ClientFault::Write => BatchFault::Asking(fault),
     }
 }
 
@@ -233,6 +236,8 @@ pub(crate) fn ask<D: Dial>(
 /// - `CannotConnect` where no connection could be opened: nothing is asked.
 /// - `Asking` where the desk refuses, the request cannot be written, or there is no answer.
 /// - `Late` where there is no answer, and the desk was waited for as long as the contact says.
+/// - `NoKey`, `OtherKey` and `HasKey` where there is no answer, since the desk speaks without a key,
+///   under another one, or only under one: nothing was done.
 /// - `NoMemory` where memory runs out.
 pub fn ask_over<D: Dial>(
     alloc: Global,

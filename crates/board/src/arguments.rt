@@ -1,19 +1,17 @@
 //! The arguments of the program, and how it ends.
 
+use crate::program::PROGRAM;
 use crate::serving::{End, MOST_BROWSERS, Order, serve};
 use clap::builder::ValueParser;
 use clap::{Arg, ArgMatches, Command, Error};
 use command_line::borrowed;
 use hall_options::{
-    FoundHall, Mistake, address_at, hall_of, number_at, option, tell, tell_mistake,
-    tell_parse_error, tell_system, with_desks,
+    Mistake, address_at, hall_of, number_at, option, tell, tell_mistake, tell_parse_error,
+    tell_system, with_desks,
 };
 use page_sockets::BrowserSockets;
 use std::alloc::{AllocError, Global};
 use std::io::Write;
-
-/// The name of the program.
-pub const PROGRAM: &str = "board";
 
 const ABOUT: &str = "Keeps up with a hall's log, and serves its sheets as pages for browsers.";
 
@@ -38,10 +36,12 @@ desks stand at http://ADDR/status.json. ADDR is that of --listen. It prints `boa
 listens, and runs until it is stopped.
 
 The desks are those of --hall and --to, or without these all desks of the hall that FILE describes.
+Where they have a key, it is in the file of --key, or in the one that FILE names. Standard error
+gets a line where a desk has another key, has no key, or has a key and the board has none.
 
-Exit status: 2 invalid arguments, or help or the version; 3 FILE describes no hall; 4 an invalid
-address, cannot listen, cannot go on, or two desks told different entries; 5 no memory. Standard
-error gets a line that says why.";
+Exit status: 2 invalid arguments, or help or the version; 3 FILE describes no hall, or the key's
+file gives no key; 4 an invalid address, cannot listen, cannot go on, or two desks told different
+entries; 5 no memory. Standard error gets a line that says why.";
 
 /// The program without its options, as the parser knows it.
 fn plain_command<'a>(alloc: Global) -> Command<'a> {
@@ -97,12 +97,11 @@ fn patience_of<'a>(found: &ArgMatches<'_>) -> Result<u64, Mistake<'a>> {
 /// What the arguments ask for.
 fn order_of<'a>(rt: &HostRuntime, found: &ArgMatches<'a>) -> Result<Order, Mistake<'a>> {
     let patience = patience_of(found)?;
-    let FoundHall { hall, desks } = hall_of(rt, found)?;
+    let hall = hall_of(rt, found)?;
     let listen = address_at(rt, found, "listen")?;
     let title = title_of(rt.alloc(), found)?;
     Ok(Order {
         hall,
-        desks,
         title,
         listen,
         patience,

@@ -3,11 +3,13 @@
 #![tactic(auto)]
 
 mod arguments;
+mod program;
 mod serving;
 
-use arguments::{PROGRAM, run_given};
+use arguments::run_given;
 use command_line::given;
 use hall_options::tell_no_arguments;
+use program::PROGRAM;
 use std::process::ExitCode;
 
 fn main(rt: HostRuntime) -> ExitCode {

@@ -2,9 +2,11 @@
 
 ghost use Rattle.following.specs.Following.{IsPlace};
 
+use crate::program::PROGRAM;
 use board_service::BoardService;
 use desk_sockets::{DeskStream, Kept};
-use hall_standings::{AskedDesks, HallDesks, stream_to};
+use hall_options::FoundHall;
+use hall_standings::{AskedDesks, AskedStream, HallDesks, stream_to};
 use http_server::Config;
 use mio::Registry;
 use mirroring::Mirroring;
@@ -15,6 +17,7 @@ use std::hash::RandomState;
 use std::io;
 use std::io::Write;
 use std::net::SocketAddr;
+use std::rt::Stderr;
 
 /// The most browsers whose connections are open at once. With those that are ending, and with the
 /// desk's, a program has no more than 1,024 files open, which is the usual limit.
@@ -29,9 +32,8 @@ const LONGEST_REQUEST: usize = 8_192;
 /// What the board is to do.
 #[derive(Drop)]
 pub struct Order {
-    pub hall: u32,
-    /// The address of desk 1, of desk 2 and so on: one to five.
-    pub desks: Vec<Option<SocketAddr>>,
+    /// The hall, with one to five desks.
+    pub hall: FoundHall,
     pub title: String,
     pub listen: SocketAddr,
     /// How long a browser is waited for, in seconds.
@@ -78,15 +80,18 @@ struct Streams<'a> {
     /// To the desk that is asked for its log.
     followed: DeskStream<'a, HostRuntime>,
     /// To each of the desks that are asked how they stand.
-    asked: Vec<DeskStream<'a, HostRuntime>>,
+    asked: Vec<AskedStream<'a, HostRuntime>>,
+    /// Where it is said what is wrong with a desk's key.
+    faults: Stderr,
 }
 
 impl<'a> Streams<'a> {
     /// Does all for the service that can be done now. False: the hall is broken.
     fn keep(&mut self, service: &mut BoardService, now: u64) -> bool {
         for place in 0..self.asked.len() {
-            if let Some(stream) = self.asked.get_mut(place) {
-                service.keep_desk(place, stream, now);
+            if let Some(asked) = self.asked.get_mut(place) {
+                service.keep_desk(place, &mut asked.stream, now);
+                asked.tell(&mut self.faults, PROGRAM);
             }
         }
         service.keep(&mut self.followed, now) != Kept::Broken
@@ -159,15 +164,22 @@ fn serve_said<'a, 'b, W: Write>(
 fn streams_of<'a>(
     rt: &'a HostRuntime,
     registry: &Registry,
-    hall: u32,
-    addresses: &[Option<SocketAddr>],
+    hall: &FoundHall,
 ) -> io::Result<(HallDesks, Streams<'a>)> {
     let alloc = rt.alloc();
-    let AskedDesks { desks, streams } = AskedDesks::new(rt, alloc, registry, hall, addresses)?;
-    let followed = stream_to(rt, alloc, registry, 0, addresses)?;
+    let AskedDesks { desks, streams } = AskedDesks::new(
+        rt,
+        alloc,
+        registry,
+        hall.hall,
+        &hall.desks,
+        hall.key,
+    )?;
+    let followed = stream_to(rt, alloc, registry, 0, &hall.desks, hall.key)?;
     let streams = Streams {
         followed,
         asked: streams,
+        faults: rt.stderr(),
     };
     Ok((desks, streams))
 }
@@ -176,11 +188,10 @@ fn streams_of<'a>(
 fn streams_at<'a>(
     rt: &'a HostRuntime,
     sockets: &BrowserSockets<'a, HostRuntime>,
-    hall: u32,
-    addresses: &[Option<SocketAddr>],
+    hall: &FoundHall,
 ) -> io::Result<(HallDesks, Streams<'a>)> {
     let registry = sockets.registry()?;
-    streams_of(rt, &registry, hall, addresses)
+    streams_of(rt, &registry, hall)
 }
 
 /// Serves the browsers that come to these sockets.
@@ -197,18 +208,17 @@ fn serve_sockets<'a, 'b, W: Write>(
     serve_said(address, &mut browsers, service, streams, writer)
 }
 
-/// Serves the pages of a hall whose desks have these addresses.
+/// Serves the pages of a hall.
 fn serve_hall<'a, W: Write>(
     rt: &'a HostRuntime,
-    hall: u32,
-    addresses: &[Option<SocketAddr>],
+    hall: &FoundHall,
     title: String,
     patience: u64,
     sockets: BrowserSockets<'a, HostRuntime>,
     writer: &mut W,
 ) -> io::Result<End> {
-    let (desks, mut streams) = streams_at(rt, &sockets, hall, addresses)?;
-    let mut service = service_of(rt.alloc(), hall, addresses.len(), title, desks)?;
+    let (desks, mut streams) = streams_at(rt, &sockets, hall)?;
+    let mut service = service_of(rt.alloc(), hall.hall, hall.desks.len(), title, desks)?;
     serve_sockets(rt, patience, sockets, &mut service, &mut streams, writer)
 }
 
@@ -221,10 +231,9 @@ pub fn serve<'a, W: Write>(
 ) -> io::Result<End> {
     let Order {
         hall,
-        desks,
         title,
         patience,
         ..
     } = order;
-    serve_hall(rt, hall, &desks, title, patience, sockets, writer)
+    serve_hall(rt, &hall, title, patience, sockets, writer)
 }

@@ -19,6 +19,7 @@ use page_replies::{Page, is_read, reply};
 use std::alloc::{AllocError, Global};
 use std::marker::Model;
 use std::net::Net;
+use std::random::RandomSource;
 
 /// Whether a request asks how the desks stand.
 fn asks_status(request: &Request<Bytes>) -> bool
@@ -87,7 +88,7 @@ impl BoardService {
     /// Does all for the mirror that can be done now over a connection to a desk, as
     /// `DeskStream::keep` does it. Unless the mirror holds what it held, the pages that were made
     /// are given up.
-    pub fn keep<R: Net>(&mut self, stream: &mut DeskStream<'_, R>, now: u64) -> Kept
+    pub fn keep<R: Net + RandomSource>(&mut self, stream: &mut DeskStream<'_, R>, now: u64) -> Kept
         ensures title { self.new.title ≡ self.old.title }
         ensures desks { self.new.desks ≡ self.old.desks }
         ensures same { result ≡ Kept.Same
@@ -100,7 +101,12 @@ impl BoardService {
 
     /// Does all that can be done now for the survey of a desk over a connection to it, as
     /// `HallDesks::keep` does it.
-    pub fn keep_desk<R: Net>(&mut self, place: usize, stream: &mut DeskStream<'_, R>, now: u64)
+    pub fn keep_desk<R: Net + RandomSource>(
+        &mut self,
+        place: usize,
+        stream: &mut DeskStream<'_, R>,
+        now: u64,
+    )
         ensures title { self.new.title ≡ self.old.title }
         ensures mirroring { self.new.mirroring ≡ self.old.mirroring }
         ensures desks { IsKept place self.old.desks self.new.desks }

@@ -1,7 +1,7 @@
 -- How tasks end at a fault.
 use Rattle.std.proofs.Common.{◌≡◌, ◌∙◌, ℕ, List, Option, arith, sym}
 use Rattle.desk.specs.Statuses.{PrintsAtMost}
-use Rattle.errands.specs.Statuses.{status_of}
+use Rattle.errands.specs.Statuses.{key_status, status_of}
 use Rattle.errands.specs.declared.fault.DeskFault.{DeskFault}
 use Rattle.errands.specs.declared.fault.DeskFault.TheVariants as fault
 use Rattle.fault_lines.specs.Statuses.{status_of_run}
@@ -15,6 +15,8 @@ use Rattle.exports.specs.declared.logs.LogFault.TheVariants as log
 use Rattle.imports.specs.Printing.{status_of as status_of_import}
 use Rattle.imports.specs.declared.fault.ImportsFault.{ImportsFault}
 use Rattle.imports.specs.declared.fault.ImportsFault.TheVariants as imported
+use Rattle.key_file.specs.declared.fault.KeyFileFault.{KeyFileFault}
+use Rattle.key_file.specs.declared.fault.KeyFileFault.TheVariants as key
 use Rattle.lines.specs.declared.fault.RunFault.{RunFault}
 use Rattle.lines.specs.declared.fault.RunFault.TheVariants as run
 use Rattle.sqlite.specs.Recovery.{Image}
@@ -42,6 +44,13 @@ run_not_zero run.Read h = omega (arith, h)
 run_not_zero run.Write h = omega (arith, h)
 run_not_zero run.NoMemory h = omega (arith, h)
 
+key_not_zero : (e : KeyFileFault) → key_status e ≡ 0 → ⊥
+key_not_zero key.NotThere h = omega (arith, h)
+key_not_zero key.Unreadable h = omega (arith, h)
+key_not_zero key.Open h = omega (arith, h)
+key_not_zero key.NoKey h = omega (arith, h)
+key_not_zero key.NoMemory h = omega (arith, h)
+
 pub not_zero : (f : DeskFault) (status : ℕ) → status ≡ status_of f → status ≡ 0 → ⊥
 not_zero (fault.Run e) status is zero = run_not_zero e (sym is ∙ zero)
 not_zero fault.BadDesk status is zero = omega (arith, is, zero)
@@ -50,6 +59,13 @@ not_zero (fault.Refused refusal) status is zero = omega (arith, is, zero)
 not_zero fault.CannotConnect status is zero = omega (arith, is, zero)
 not_zero fault.NoAnswer status is zero = omega (arith, is, zero)
 not_zero fault.Late status is zero = omega (arith, is, zero)
+not_zero fault.NoKey status is zero = omega (arith, is, zero)
+not_zero fault.OtherKey status is zero = omega (arith, is, zero)
+not_zero fault.HasKey status is zero = omega (arith, is, zero)
+not_zero (fault.KeyFile e) status is zero = key_not_zero e (sym is ∙ zero)
+not_zero fault.KeyThere status is zero = omega (arith, is, zero)
+not_zero fault.SameKeys status is zero = omega (arith, is, zero)
+not_zero fault.NoHallKey status is zero = omega (arith, is, zero)
 not_zero fault.WrongDesk status is zero = omega (arith, is, zero)
 not_zero fault.DamagedStore status is zero = omega (arith, is, zero)
 not_zero fault.StoreDevice status is zero = omega (arith, is, zero)

@@ -15,14 +15,15 @@ found_few found (task.Export file) h = tt
 found_few found task.Results h = tt
 found_few found (task.Hall desks) h = tt
 found_few found (task.HallFile hall addresses) h = tt
+found_few found (task.Key file) h = tt
 found_few found (task.Carry place patience request) h = tt
 found_few found (task.Newest place patience event round style) h = tt
 found_few found (task.Enter place patience id text waits) h = tt
 found_few found (task.EnterLines place patience lines) h = tt
 found_few found (task.Log store) h = tt
 found_few found (task.CopyLog place patience start) h = tt
-found_few found (task.Status (desks.Addresses hall addresses) patience json watches) h =
+found_few found (task.Status (desks.Addresses hall addresses key) patience json watches) h =
     subst (λ n. n ≤ 5) (length-map addresses.now (λ a. a.now)) h.3.1.1.few
-found_few found (task.Status (desks.File file) patience json watches) h = tt
+found_few found (task.Status (desks.File file key) patience json watches) h = tt
 found_few found (task.Serve service) h = tt
 found_few found (task.ServeHall file wanted) h = tt

@@ -1,11 +1,14 @@
 -- What an exit status says of the run.
 use Rattle.std.specs.Prelude.{◌≡◌, ◌⊎◌, ℕ, Bool, true, false, List, Option, None, map}
+use Rattle.std.specs.Prelude.{option_map}
+use Rattle.std.specs.Borrow.{Bor}
 use Rattle.std.specs.Io.KnownBytes.{Keeps}
 use Rattle.clap.specs.Words.{Text}
 use Rattle.lines.specs.Bytes.{HasLeft, Sides}
 use Rattle.lines.specs.declared.fault.RunFault.{RunFault}
 use Rattle.lines.specs.declared.fault.RunFault.TheVariants as run
 use Rattle.addressing.specs.Files.{IsOfFile}
+use Rattle.addressing.specs.Keys.{key_file_of, naming}
 use Rattle.addressing.specs.Printing.{FailsToPrint, PrintsHall}
 use Rattle.hall.specs.Halls.{Run as HallRun, Runs, RunFails}
 use Rattle.hall.specs.Halls.{run_of as hall_run_of}
@@ -41,6 +44,7 @@ use Rattle.arguments.specs.declared.places.Place.{Place}
 use Rattle.arguments.specs.declared.task.HallService.{HallService}
 use Rattle.arguments.specs.declared.task.Task.{Task}
 use Rattle.arguments.specs.declared.task.Task.TheVariants as task
+use Rattle.desk.specs.Keys.{EndsKey}
 use Rattle.tasks.specs.Asking.{EndsCarry, EndsCopyLog, EndsNewest}
 use Rattle.tasks.specs.Entering.{EndsEnter, EndsLines}
 use Rattle.tasks.specs.Places.{NamesDesk, Reach}
@@ -52,6 +56,9 @@ abbrev pub fault_of_serve : ServeFault → DeskFault
 fault_of_serve serve.BadCount = fault.Run run.BadCount
 fault_of_serve serve.BadDesk = fault.BadDesk
 fault_of_serve serve.SameAddresses = fault.SameAddresses
+fault_of_serve serve.NoHallKey = fault.NoHallKey
+fault_of_serve (serve.KeyFile e) = fault.KeyFile e
+fault_of_serve serve.SameKeys = fault.SameKeys
 fault_of_serve serve.NoStore = fault.NoStore
 fault_of_serve serve.StoreThere = fault.StoreThere
 fault_of_serve (serve.UnknownHost desk) = fault.UnknownHost desk
@@ -137,11 +144,14 @@ EndsUnserved status old new =
     (f : DeskFault) × (status ≡ status_of f) × IsOfFile f × Keeps old new
 
 -- or the desk of its hall served, or ended by a fault
-abbrev pub EndsServeHall : ℕ → HallService → Option (List ℕ) → Option (List ℕ) → Type 0
-EndsServeHall status wanted old new =
+abbrev pub EndsServeHall : ℕ → Bor (List ℕ) → HallService → Option (List ℕ) → Option (List ℕ)
+    → Type 0
+EndsServeHall status file wanted old new =
     EndsUnserved status old new
     ⊎ ((hall : HallFile) × (bytes : List ℕ) × Says bytes hall
-    × (s : Service) × IsServiceOf s hall.hall wanted (texts_of hall) × EndsServe status s old new)
+    × (s : Service)
+    × IsServiceOf s hall.hall wanted (key_file_of (naming file wanted.key) hall) (texts_of hall)
+    × EndsServe status s old new)
 
 -- where all was done, nothing is told on the fault stream
 abbrev pub IsQuiet : ℕ → Told → Type 0
@@ -165,6 +175,7 @@ HasFew (task.Export file) = Unit {0}
 HasFew task.Results = Unit {0}
 HasFew (task.Hall desks) = Unit {0}
 HasFew (task.HallFile hall addresses) = Unit {0}
+HasFew (task.Key file) = Unit {0}
 HasFew (task.Carry place patience request) = Unit {0}
 HasFew (task.Newest place patience event round style) = Unit {0}
 HasFew (task.Enter place patience id text waits) = Unit {0}
@@ -189,6 +200,9 @@ Ends (task.Hall desks) status s c t =
     × EndsHall status (hall_run_of desks input s) × IsQuiet status t
 Ends (task.HallFile hall addresses) status s c t =
     Keeps s.had s.left × EndsHallFile status hall (map (λ a. a.now) addresses.now) s.old s.new
+    × IsQuiet status t
+Ends (task.Key file) status s c t =
+    Keeps s.had s.left × EndsKey (option_map (λ f. f.now) file) status s.old s.new
     × IsQuiet status t
 Ends (task.Carry place patience request) status s c t =
     Keeps s.had s.left × EndsCarry place patience request status (reach_of c t) s.old s.new
@@ -216,7 +230,7 @@ Ends (task.Status desks patience json watches) status s c t =
 Ends (task.Serve service) status s c t =
     Keeps s.had s.left × EndsServe status service s.old s.new × IsQuiet status t
 Ends (task.ServeHall file wanted) status s c t =
-    Keeps s.had s.left × EndsServeHall status wanted s.old s.new × IsQuiet status t
+    Keeps s.had s.left × EndsServeHall status file wanted s.old s.new × IsQuiet status t
 
 -- what a status says of the arguments, and of what was read, written and told
 abbrev pub Ran : List Text → ℕ → Sides → Calls → Told → Type 0

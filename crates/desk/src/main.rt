@@ -2,6 +2,7 @@
 #![tactic(auto)]
 
 mod exported;
+mod made_key;
 mod running;
 mod served;
 

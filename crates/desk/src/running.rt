@@ -9,6 +9,7 @@ ghost use Rattle.lines.specs.Bytes.{sides};
 ghost use Rattle.replay.specs.Apart.{told};
 
 use crate::exported::{run_export, run_results};
+use crate::made_key::run_key;
 use crate::served::{run_hall_service, run_service};
 use addressing::print_hall_file;
 use arguments::{Asked, Task, parse, task_of};
@@ -95,6 +96,7 @@ fn run_task<D: Dial, R: Read, W: Write, F: Write>(
                 Err(fault) => tell_missing(rt, faults, fault, false),
             }
         }
+        Task::Key { file } => run_key(rt, file, explains, writer, faults),
         Task::Carry {
             place,
             patience,

@@ -1,10 +1,10 @@
 //! A desk that serves, and how it ends.
 
-ghost use Rattle.std.specs.Prelude.{◌≡◌};
+ghost use Rattle.std.specs.Prelude.{◌≡◌, option_map, string_bytes};
 ghost use Rattle.std.specs.Io.KnownBytes.{Keeps};
 ghost use Rattle.desk.specs.Statuses.{EndsServe, EndsServeHall, fault_of_serve};
 
-use addressing::hall_of_file;
+use addressing::{hall_key_file, hall_of_file};
 use arguments::HallService;
 use errands::{DeskFault, tell};
 use lines::RunFault;
@@ -22,6 +22,9 @@ fn fault_of_serve(fault: ServeFault) -> DeskFault
         ServeFault::BadCount => DeskFault::Run(RunFault::BadCount),
         ServeFault::BadDesk => DeskFault::BadDesk,
         ServeFault::SameAddresses => DeskFault::SameAddresses,
+        ServeFault::NoHallKey => DeskFault::NoHallKey,
+        ServeFault::KeyFile(fault) => DeskFault::KeyFile(fault),
+        ServeFault::SameKeys => DeskFault::SameKeys,
         ServeFault::NoStore => DeskFault::NoStore,
         ServeFault::StoreThere => DeskFault::StoreThere,
         ServeFault::UnknownHost { desk } => DeskFault::UnknownHost { desk },
@@ -52,7 +55,18 @@ pub fn run_service<W: Write, F: Write>(
     }
 }
 
-/// Runs a desk of the hall that a file describes, and returns the exit status.
+/// The path of a key's file, where there is one.
+fn path_of(file: &Option<String>) -> Option<&str>
+    ensures { option_map (λ f. f.now) result ≡ option_map string_bytes file.now }
+{
+    match file {
+        Some(file) => Some(file.as_str()),
+        None => None,
+    }
+}
+
+/// Runs a desk of the hall that a file describes, and returns the exit status. Its key's file is
+/// the one that is wanted, or else the one that the hall's file names.
 pub fn run_hall_service<W: Write, F: Write>(
     rt: &HostRuntime,
     file: &str,
@@ -61,7 +75,7 @@ pub fn run_hall_service<W: Write, F: Write>(
     writer: &mut W,
     faults: &mut F,
 ) -> u8
-    ensures ends { EndsServeHall result wanted.entry (W.contents writer.old)
+    ensures ends { EndsServeHall result file.entry wanted.entry (W.contents writer.old)
         (W.contents writer.new) }
     ensures quiet { result ≡ 0 → Keeps (F.contents faults.old) (F.contents faults.new) }
 {
@@ -69,9 +83,13 @@ pub fn run_hall_service<W: Write, F: Write>(
         Ok(hall) => hall,
         Err(fault) => return tell_missing(rt, faults, fault, explains),
     };
+    let key = match hall_key_file(rt.alloc(), file, wanted.key, &hall) {
+        Ok(key) => key,
+        Err(fault) => return tell(faults, fault),
+    };
     let Ok(addresses) = addresses_of(rt.alloc(), &hall) else {
         return tell(faults, DeskFault::Run(RunFault::NoMemory));
     };
-    let service = service_of(hall.hall, wanted, &addresses);
+    let service = service_of(hall.hall, wanted, path_of(&key), &addresses);
     run_service(rt, service, explains, writer, faults)
 }

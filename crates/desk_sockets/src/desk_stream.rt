@@ -1,18 +1,21 @@
 //! One connection at a time to a desk of a hall.
 
-ghost use Rattle.std.specs.Prelude.{◌≡◌, false};
-ghost use Rattle.desk_talks.specs.Dialogues.{has_changed};
+ghost use Rattle.std.specs.Prelude.{◌≡◌, false, true, is_some, IfSome};
+ghost use Rattle.desk_sockets.specs.Connections.{Follows, is_keyed};
+ghost use Rattle.desk_sockets.specs.Streams.{fresh_stream};
+ghost use Rattle.desk_sockets.specs.Troubles.{fits};
 
-use desk_talks::{Came, Dialogue, Wish};
+use crate::connection::{After, Connection};
+use calls::{Call, CallTrouble};
+use desk_talks::{Dialogue, Wish};
 use mio::net::TcpStream;
 use mio::{Interest, Registry, Token};
+use std::alloc::Global;
 use std::io;
-use std::io::{ErrorKind, Read, Write};
+use std::io::ErrorKind;
+use std::marker::Model;
 use std::net::{Net, SocketAddr};
-
-/// How often the connection is read at once: more often than an answer needs, which has 300,004
-/// bytes at most.
-const MOST_READS: u32 = 128;
+use std::random::RandomSource;
 
 /// How many wishes of a dialogue are fulfilled at once, more than there are between two moments of
 /// rest.
@@ -29,176 +32,82 @@ pub enum Kept {
     Broken,
 }
 
-/// The connection of a dialogue to a desk of a hall, if there is one.
+/// The connection of a dialogue to a desk of a hall, if there is one. Where the hall has a key, all
+/// that goes over it is sealed under that key.
+///
+/// A contract sees the key, and what was wrong with the last connection.
 #[derive(Drop)]
 pub struct DeskStream<'a, R> {
-    net: &'a R,
+    source: &'a R,
+    alloc: Global,
     registry: Registry,
     token: Token,
     /// The address of desk 1, of desk 2 and so on, where it is known.
     addresses: Vec<Option<SocketAddr>>,
-    stream: Option<TcpStream>,
+    key: Option<[u8; 32]>,
+    connection: Option<Connection>,
+    trouble: Option<CallTrouble>,
 }
 
-/// Whether a call is to be made again once the socket is ready.
-fn is_waiting(error: &io::Error) -> bool {
-    matches!(error.kind(), ErrorKind::WouldBlock | ErrorKind::Interrupted)
+impl<'a, R> Model for DeskStream<'a, R> {
+    ghost use Rattle.std.specs.Prelude.{◌≡◌, is_some, true};
+    ghost use Rattle.std.specs.Option.{ForSome};
+    ghost use Rattle.desk_sockets.specs.Connections.{is_keyed};
+    ghost use Rattle.desk_sockets.specs.Streams.{StreamOf, stream};
+    ghost use Rattle.desk_sockets.specs.Troubles.{fits};
+
+    ghost Value = { StreamOf };
+
+    ghost view = { λ s. stream s.key s.trouble };
+
+    ghost invariant = { λ s. (fits (is_some s.key) s.trouble ≡ true)
+        × ForSome s.connection (λ c. is_keyed c.call ≡ is_some s.key) };
 }
 
-/// Whether a connection that was begun is open. None: it can't be opened.
-fn is_open(stream: &TcpStream) -> Option<bool> {
-    if !matches!(stream.take_error(), Ok(None)) {
-        return None;
-    }
-    match stream.peer_addr() {
-        Ok(_) => Some(true),
-        Err(error) if error.kind() == ErrorKind::NotConnected => Some(false),
-        Err(_) => None,
-    }
-}
-
-/// Writes what the dialogue has to send, as much as the connection takes. False: it failed.
-fn write_to<D: Dialogue>(mut stream: &TcpStream, dialogue: &mut D) -> bool
-    ensures { D.held dialogue.new ≡ D.held dialogue.old }
-{
-    for _write in 0..MOST_READS {
-        if dialogue.output().is_empty() {
-            return true;
-        }
-        match stream.write(dialogue.output()) {
-            Ok(0) => return true,
-            Ok(count) => dialogue.sent(count),
-            Err(error) => return is_waiting(&error),
-        }
-    }
-    true
-}
-
-/// The same of a connection that may be gone, over which nothing is written.
-fn write_over<D: Dialogue>(stream: &Option<TcpStream>, dialogue: &mut D) -> bool
-    ensures { D.held dialogue.new ≡ D.held dialogue.old }
-{
-    match stream {
-        Some(stream) => write_to(stream, dialogue),
-        None => false,
-    }
-}
-
-/// What came of reading a connection.
-#[derive(Clone, Copy)]
-struct Reading {
-    /// Whether what the dialogue holds has changed, or may have.
-    changed: bool,
-    /// Whether the connection is of use still.
-    goes_on: bool,
-    /// Whether more may be there to be read.
-    more: bool,
-}
-
-/// What the bytes of a read came to.
-fn reading_of(came: Came) -> Reading
-    ensures { result.changed ≡ has_changed came }
-{
-    match came {
-        Came::Nothing => Reading {
-            changed: false,
-            goes_on: true,
-            more: true,
-        },
-        Came::Answer { changed } => Reading {
-            changed,
-            goes_on: true,
-            more: true,
-        },
-        Came::NoAnswer => Reading {
-            changed: false,
-            goes_on: false,
-            more: false,
-        },
-    }
-}
-
-/// Says that the connection is lost.
-fn reading_lost<D: Dialogue>(dialogue: &mut D) -> Reading
-    ensures { D.held dialogue.new ≡ D.held dialogue.old }
-{
-    dialogue.lost();
-    Reading {
-        changed: false,
-        goes_on: false,
-        more: false,
-    }
-}
-
-/// Reads once what the desk sent.
-fn read_once<D: Dialogue>(mut stream: &TcpStream, dialogue: &mut D, now: u64) -> Reading
-    ensures { result.changed ≡ false → D.held dialogue.new ≡ D.held dialogue.old }
-{
-    let mut piece = [0; 4096];
-    match stream.read(&mut piece) {
-        Ok(0) => reading_lost(dialogue),
-        Ok(count) => reading_of(dialogue.hear(now, &piece[..count])),
-        Err(error) if is_waiting(&error) => Reading {
-            changed: false,
-            goes_on: true,
-            more: false,
-        },
-        Err(_) => reading_lost(dialogue),
-    }
-}
-
-/// Reads what the desk sent.
-fn read_from<D: Dialogue>(stream: &TcpStream, dialogue: &mut D, now: u64) -> Reading
-    ensures { result.changed ≡ false → D.held dialogue.new ≡ D.held dialogue.old }
-{
-    let mut changed = false;
-    for _read in 0..MOST_READS {
-        let reading = read_once(stream, dialogue, now);
-        changed = changed || reading.changed;
-        if !reading.more {
-            return Reading {
-                changed,
-                goes_on: reading.goes_on,
-                more: false,
-            };
-        }
-    }
-    Reading {
-        changed,
-        goes_on: true,
-        more: true,
-    }
-}
-
-/// Tells the dialogue whether the connection that is being opened is open. False: it is of no use.
-fn look_whether_open<D: Dialogue>(stream: &TcpStream, dialogue: &mut D) -> bool
-    ensures { D.held dialogue.new ≡ D.held dialogue.old }
-{
-    match is_open(stream) {
-        Some(true) => dialogue.opened(),
-        Some(false) => true,
-        None => {
-            dialogue.lost();
-            false
-        }
-    }
-}
-
-impl<'a, R: Net> DeskStream<'a, R> {
+impl<'a, R: Net + RandomSource> DeskStream<'a, R> {
     /// No connection yet. Its socket is told of under a token by the poll of this registry. The
-    /// addresses are those of desk 1, of desk 2 and so on.
+    /// addresses are those of desk 1, of desk 2 and so on. The key is that of the hall, or its
+    /// entry key; None where the hall has no key.
     pub fn new(
-        net: &'a R,
+        source: &'a R,
+        alloc: Global,
         registry: Registry,
         token: Token,
         addresses: Vec<Option<SocketAddr>>,
-    ) -> DeskStream<'a, R> {
+        key: Option<[u8; 32]>,
+    ) -> DeskStream<'a, R>
+        ensures { result ≡ fresh_stream key }
+    {
         DeskStream {
-            net,
+            source,
+            alloc,
             registry,
             token,
             addresses,
-            stream: None,
+            key,
+            connection: None,
+            trouble: None,
+        }
+    }
+
+    /// What was wrong with the last connection of which it is known. None once a desk answered. With
+    /// a key it is that the desk has none, or another one; without a key, that the desk has one.
+    pub fn trouble(&self) -> Option<CallTrouble>
+        ensures trouble { result ≡ self.now.trouble }
+        ensures fits { fits (is_some self.now.key) result ≡ true }
+    {
+        self.trouble
+    }
+
+    /// What goes over a new connection, with bytes that are drawn for it. None: the system gives no
+    /// random bytes, or no memory.
+    fn call(&self) -> Option<Call>
+        ensures { IfSome result (λ call. is_keyed call ≡ is_some self.now.key) }
+    {
+        let mut random = [0; 16];
+        match self.source.fill_bytes(&mut random) {
+            Ok(()) => Call::new(self.alloc, self.key, random).ok(),
+            Err(_) => None,
         }
     }
 
@@ -208,80 +117,140 @@ impl<'a, R: Net> DeskStream<'a, R> {
         let Some(Some(address)) = self.addresses.get(place) else {
             return Err(ErrorKind::NotFound.into());
         };
-        let mut stream = TcpStream::connect(self.net, *address)?;
+        let mut stream = TcpStream::connect(self.source, *address)?;
         let _ = stream.set_nodelay(true);
         let interest = Interest::READABLE | Interest::WRITABLE;
         self.registry.register(&mut stream, self.token, interest)?;
         Ok(stream)
     }
 
+    /// Begins to open a connection to a desk. None: it can't be opened.
+    fn connection_to(&self, desk: u8) -> Option<Connection>
+        ensures { IfSome result (λ c. is_keyed c.call ≡ is_some self.now.key) }
+    {
+        let call = self.call()?;
+        match self.connect(desk) {
+            Ok(stream) => Some(Connection::new(stream, call)),
+            Err(_) => None,
+        }
+    }
+
+    /// Goes on with a connection, unless it has ended; what was wrong is noted, if that is known.
+    fn go_on(&mut self, connection: Connection, after: After)
+        requires { Follows after (is_some self.old.key) connection.call }
+        ensures { self.new.key ≡ self.old.key }
+    {
+        match after {
+            After::More | After::Later => self.connection = Some(connection),
+            After::Ended { trouble: None } => {}
+            After::Ended { trouble } => self.trouble = trouble,
+        }
+    }
+
+    /// Tells the dialogue what came over the connection. Whether what it holds has changed.
+    fn read<D: Dialogue>(&mut self, dialogue: &mut D, now: u64) -> bool
+        ensures key { self.new.key ≡ self.old.key }
+        ensures held { result ≡ false → D.held dialogue.new ≡ D.held dialogue.old }
+    {
+        let Some(mut connection) = self.connection.take() else {
+            return false;
+        };
+        let reading = connection.read(dialogue, now);
+        if reading.answered {
+            self.trouble = None;
+        }
+        self.go_on(connection, reading.after);
+        reading.changed
+    }
+
+    /// Tells the dialogue whether the connection that is being opened is open.
+    fn look_whether_open<D: Dialogue>(&mut self, dialogue: &mut D)
+        ensures key { self.new.key ≡ self.old.key }
+        ensures held { D.held dialogue.new ≡ D.held dialogue.old }
+    {
+        let Some(connection) = &self.connection else {
+            return;
+        };
+        if !connection.look_whether_open(dialogue) {
+            self.connection = None;
+        }
+    }
+
     /// Tells the dialogue what has become of its connection, and what came over it. Whether what it
     /// holds has changed.
     fn look<D: Dialogue>(&mut self, dialogue: &mut D, now: u64) -> bool
-        ensures { result ≡ false → D.held dialogue.new ≡ D.held dialogue.old }
+        ensures key { self.new.key ≡ self.old.key }
+        ensures held { result ≡ false → D.held dialogue.new ≡ D.held dialogue.old }
     {
-        let Some(stream) = &self.stream else {
-            return false;
-        };
         if dialogue.is_opening() {
-            if !look_whether_open(stream, dialogue) {
-                self.stream = None;
-            }
+            self.look_whether_open(dialogue);
             return false;
         }
-        let reading = read_from(stream, dialogue, now);
-        if !reading.goes_on {
-            self.stream = None;
-        }
-        reading.changed
+        self.read(dialogue, now)
     }
 
     /// Writes what the dialogue has to send. A connection that fails counts as lost.
     fn write<D: Dialogue>(&mut self, dialogue: &mut D)
-        ensures { D.held dialogue.new ≡ D.held dialogue.old }
+        ensures key { self.new.key ≡ self.old.key }
+        ensures held { D.held dialogue.new ≡ D.held dialogue.old }
     {
-        if write_over(&self.stream, dialogue) {
+        let Some(mut connection) = self.connection.take() else {
+            dialogue.lost();
             return;
+        };
+        let after = connection.write(dialogue);
+        if matches!(after, After::Ended { .. }) {
+            dialogue.lost();
         }
-        self.stream = None;
-        dialogue.lost();
+        self.go_on(connection, after);
+    }
+
+    /// Whether something waits to be written over a connection.
+    fn is_left<D: Dialogue>(&self, dialogue: &D) -> bool {
+        match &self.connection {
+            Some(connection) => connection.is_waiting() || !dialogue.output().is_empty(),
+            None => false,
+        }
     }
 
     /// Writes what wasn't taken before.
     fn write_rest<D: Dialogue>(&mut self, dialogue: &mut D)
-        ensures { D.held dialogue.new ≡ D.held dialogue.old }
+        ensures key { self.new.key ≡ self.old.key }
+        ensures held { D.held dialogue.new ≡ D.held dialogue.old }
     {
-        if self.stream.is_none() || dialogue.output().is_empty() {
-            return;
+        if !dialogue.is_opening() && self.is_left(dialogue) {
+            self.write(dialogue);
         }
-        self.write(dialogue);
     }
 
     /// Begins to open a connection to a desk.
     fn open<D: Dialogue>(&mut self, dialogue: &mut D, desk: u8)
-        ensures { D.held dialogue.new ≡ D.held dialogue.old }
+        ensures key { self.new.key ≡ self.old.key }
+        ensures held { D.held dialogue.new ≡ D.held dialogue.old }
     {
-        match self.connect(desk) {
-            Ok(stream) => self.stream = Some(stream),
-            Err(_) => dialogue.lost(),
+        self.connection = self.connection_to(desk);
+        if self.connection.is_none() {
+            dialogue.lost();
         }
     }
 
     /// Fulfils a wish of the dialogue.
     fn fulfil<D: Dialogue>(&mut self, dialogue: &mut D, wish: Wish)
-        ensures { D.held dialogue.new ≡ D.held dialogue.old }
+        ensures key { self.new.key ≡ self.old.key }
+        ensures held { D.held dialogue.new ≡ D.held dialogue.old }
     {
         match wish {
             Wish::Rest => {}
             Wish::Open { desk } => self.open(dialogue, desk),
             Wish::Write => self.write(dialogue),
-            Wish::Close | Wish::Stop => self.stream = None,
+            Wish::Close | Wish::Stop => self.connection = None,
         }
     }
 
     /// Fulfils what is to be done now. False: the hall is broken.
     fn fulfil_all<D: Dialogue>(&mut self, dialogue: &mut D, now: u64) -> bool
-        ensures { D.held dialogue.new ≡ D.held dialogue.old }
+        ensures key { self.new.key ≡ self.old.key }
+        ensures held { D.held dialogue.new ≡ D.held dialogue.old }
     {
         for _wish in 0..MOST_WISHES {
             let wish = dialogue.act(now);
@@ -297,9 +266,11 @@ impl<'a, R: Net> DeskStream<'a, R> {
 
     /// Does all for a dialogue that can be done now, at so many milliseconds of a clock that doesn't
     /// go back, without waiting. It is to be called again once the socket is ready, or the time is
-    /// over that the dialogue's `wait` says.
+    /// over that the dialogue's `wait` says. A desk that has another key, or none, or has a key
+    /// where there is none here, counts as lost.
     pub fn keep<D: Dialogue>(&mut self, dialogue: &mut D, now: u64) -> Kept
-        ensures { result ≡ Kept.Same → D.held dialogue.new ≡ D.held dialogue.old }
+        ensures key { self.new.key ≡ self.old.key }
+        ensures held { result ≡ Kept.Same → D.held dialogue.new ≡ D.held dialogue.old }
     {
         let changed = self.look(dialogue, now);
         self.write_rest(dialogue);

@@ -67,19 +67,19 @@ asked_once p hall desk desks a b first is one some = (
   inr (some, refl, refl),
 )
 
-polls_next : (hall patience desk : ℕ) (first : Bor (List ℕ)) (rest : List (Bor (List ℕ)))
+polls_next : (q : Inquiry) (desk : ℕ) (first : Bor (List ℕ)) (rest : List (Bor (List ℕ)))
     (before mid after : List Polled) (one : Polled) (a b c : Option (List Dialed))
-    → AsksFor hall patience desk one first.now a b → mid ≡ before ++ one ∷ []
-    → PollsMore hall patience (desk + 1) rest mid after b c
-    → PollsMore hall patience desk (first ∷ rest) before after a c
-polls_next hall patience desk first rest before mid after one a b c asks is more = (
+    → AsksFor q desk one first.now a b → mid ≡ before ++ one ∷ []
+    → PollsMore q (desk + 1) rest mid after b c
+    → PollsMore q desk (first ∷ rest) before after a c
+polls_next q desk first rest before mid after one a b c asks is more = (
   one ∷ more.0,
   more.1 ∙ ap (λ l. l ++ more.0) is ∙ append_assoc before (one ∷ []) more.0,
   ap₂ (λ t ts. t ∷ ts) asks.0 more.2,
   (
     b,
     asks.1,
-    subst (λ t. IsPolled (place_at t patience) hall desk a b (Some one.reply)) (sym asks.0) asks.2,
+    subst (λ t. IsPolled (place_at q t) q.hall desk a b (Some one.reply)) (sym asks.0) asks.2,
     more.3,
   ),
 )
@@ -89,26 +89,26 @@ all_of_rest : (first : Bor (List ℕ)) (rest : List (Bor (List ℕ)))
 all_of_rest first rest = take_all (length (first ∷ rest) - 1) rest (omega arith)
 
 -- one more address was asked at
-pub polls_more : {A E : Type 0} (r : Result A E) (hall patience desk : ℕ) (other : Bor (List ℕ))
+pub polls_more : {A E : Type 0} (r : Result A E) (q : Inquiry) (desk : ℕ) (other : Bor (List ℕ))
     (addresses : List (Bor (List ℕ))) (before mid after : List Polled) (one : Polled)
     (a b c : Option (List Dialed)) → 1 ≤ length addresses
-    → AsksFor hall patience desk one (get_or addresses 0 other).now a b
+    → AsksFor q desk one (get_or addresses 0 other).now a b
     → mid ≡ before ++ one ∷ []
-    → OnOk r (PollsMore hall patience (desk + 1) (take (length addresses - 1) (drop 1 addresses))
+    → OnOk r (PollsMore q (desk + 1) (take (length addresses - 1) (drop 1 addresses))
     mid after b c)
-    → OnOk r (PollsMore hall patience desk addresses before after a c)
-polls_more r hall patience desk other [] before mid after one a b c some asks is more =
+    → OnOk r (PollsMore q desk addresses before after a c)
+polls_more r q desk other [] before mid after one a b c some asks is more =
     absurd (omega (arith, some))
-polls_more (Ok x) hall patience desk other (first ∷ rest) before mid after one a b c some asks is
+polls_more (Ok x) q desk other (first ∷ rest) before mid after one a b c some asks is
     more =
-    polls_next hall patience desk first rest before mid after one a b c asks is
-    (subst (λ l. PollsMore hall patience (desk + 1) l mid after b c) (all_of_rest first rest) more)
-polls_more (Err e) hall patience desk other (first ∷ rest) before mid after one a b c some asks is
+    polls_next q desk first rest before mid after one a b c asks is
+    (subst (λ l. PollsMore q (desk + 1) l mid after b c) (all_of_rest first rest) more)
+polls_more (Err e) q desk other (first ∷ rest) before mid after one a b c some asks is
     more = tt
 
 -- all were asked at
 pub polls_all : (q : Inquiry) (before polled : List Polled) (old new : Option (List Dialed))
-    → before ≡ [] → PollsMore q.hall q.patience 1 q.addresses.now before polled old new
+    → before ≡ [] → PollsMore q 1 q.addresses.now before polled old new
     → PollsAll q polled old new
 polls_all q before polled old new none h =
     let is : polled ≡ h.0 = h.1 ∙ ap (λ l. l ++ h.0) none in

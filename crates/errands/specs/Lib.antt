@@ -1,3 +1,4 @@
+pub mod Endings
 pub mod Entering
 pub mod Errands
 pub mod Logs

@@ -50,6 +50,9 @@ reply_to question desk (Ok (what.Standing standing)) = Some (reply.Stands desk s
 reply_to question desk (Ok _) = Some (other_reply question desk)
 reply_to question desk (Err batch.CannotConnect) = Some reply.CannotConnect
 reply_to question desk (Err batch.Late) = Some reply.Late
+reply_to question desk (Err batch.NoKey) = Some reply.NoKey
+reply_to question desk (Err batch.OtherKey) = Some reply.OtherKey
+reply_to question desk (Err batch.HasKey) = Some reply.HasKey
 reply_to question desk (Err (batch.Asking (client.Refused refusal))) = Some (reply.Refused refusal)
 reply_to question desk (Err batch.NoMemory) = None
 reply_to question desk (Err _) = Some reply.NoAnswer
@@ -84,40 +87,39 @@ IsPolled p hall desk old new said =
     × Tries p asking.Id hall (desk ∷ others desk) mid new said)
     ⊎ ((first ≢ Some reply.NoAnswer) × (mid ≡ new) × (said ≡ first)))
 
--- where a desk is asked, and for how many seconds it is waited for
-abbrev pub place_at : List ℕ → ℕ → Place
-place_at address patience = record { to = address; patience = patience }
+-- where a desk of an inquiry is asked, for how many seconds it is waited for, and under which key
+abbrev pub place_at : Inquiry → List ℕ → Place
+place_at q address = record { to = address; patience = q.patience; key = q.key }
 
 -- the desks were asked, one after the other, of which the first was asked for as the desk of this
 -- number, and each further one as the next
-abbrev pub Polls : (hall patience desk : ℕ) → List Polled → (old new : Option (List Dialed))
-    → Type 0
-Polls hall patience desk [] old new = old ≡ new
-Polls hall patience desk (p ∷ polled) old new =
+abbrev pub Polls : Inquiry → (desk : ℕ) → List Polled → (old new : Option (List Dialed)) → Type 0
+Polls q desk [] old new = old ≡ new
+Polls q desk (p ∷ polled) old new =
     (mid : Option (List Dialed)) × (p.asked ≡ desk)
-    × IsPolled (place_at p.address.now patience) hall desk old mid (Some p.reply)
-    × Polls hall patience (desk + 1) polled mid new
+    × IsPolled (place_at q p.address.now) q.hall desk old mid (Some p.reply)
+    × Polls q (desk + 1) polled mid new
 
 -- a desk was asked for at this address
-abbrev pub AsksFor : (hall patience desk : ℕ) → Polled → List ℕ
-    → (old new : Option (List Dialed)) → Type 0
-AsksFor hall patience desk p address old new =
+abbrev pub AsksFor : Inquiry → (desk : ℕ) → Polled → List ℕ → (old new : Option (List Dialed))
+    → Type 0
+AsksFor q desk p address old new =
     (p.address.now ≡ address) × (p.asked ≡ desk)
-    × IsPolled (place_at address patience) hall desk old new (Some p.reply)
+    × IsPolled (place_at q address) q.hall desk old new (Some p.reply)
 
 -- those at these addresses were asked, and what they answered comes after the others
-abbrev pub PollsMore : (hall patience desk : ℕ) → List (Bor (List ℕ)) → (before after : List Polled)
+abbrev pub PollsMore : Inquiry → (desk : ℕ) → List (Bor (List ℕ)) → (before after : List Polled)
     → (old new : Option (List Dialed)) → Type 0
-PollsMore hall patience desk addresses before after old new =
+PollsMore q desk addresses before after old new =
     (more : List Polled) × (after ≡ before ++ more)
     × (map (λ p. p.address.now) more ≡ map (λ a. a.now) addresses)
-    × Polls hall patience desk more old new
+    × Polls q desk more old new
 
 -- those of an inquiry were asked, the first as desk 1
 pub record PollsAll (q : Inquiry) (polled : List Polled) (old new : Option (List Dialed)) : Type 0
   where
     pub at : map (λ p. p.address.now) polled ≡ map (λ a. a.now) q.addresses.now
-    pub asked : Polls q.hall q.patience 1 polled old new
+    pub asked : Polls q 1 polled old new
 
 -- what became of connections, and what was written, before a call and afterwards
 pub record Outside : Type 0 where

@@ -3,12 +3,22 @@ use Rattle.std.specs.Prelude.{◌++◌, ℕ, List, codes, decimal}
 use Rattle.client.specs.declared.fault.ClientFault.{ClientFault}
 use Rattle.client.specs.declared.fault.ClientFault.TheVariants as client
 use Rattle.fault_lines.specs.Statuses.{status_of_run}
+use Rattle.key_file.specs.declared.fault.KeyFileFault.{KeyFileFault}
+use Rattle.key_file.specs.declared.fault.KeyFileFault.TheVariants as key
 use Rattle.lines.specs.declared.fault.RunFault.TheVariants as run
 use Rattle.batch.specs.declared.dialing.Contact.{Contact}
 use Rattle.batch.specs.declared.fault.BatchFault.{BatchFault}
 use Rattle.batch.specs.declared.fault.BatchFault.TheVariants as batch
 use Rattle.errands.specs.declared.fault.DeskFault.{DeskFault}
 use Rattle.errands.specs.declared.fault.DeskFault.TheVariants as fault
+
+-- a key's file gives none, or memory ran out
+abbrev pub key_status : KeyFileFault → ℕ
+key_status key.NotThere = 3
+key_status key.Unreadable = 3
+key_status key.Open = 3
+key_status key.NoKey = 3
+key_status key.NoMemory = 5
 
 abbrev pub status_of : DeskFault → ℕ
 status_of (fault.Run e) = status_of_run e
@@ -18,6 +28,13 @@ status_of (fault.Refused refusal) = 3
 status_of fault.CannotConnect = 4
 status_of fault.NoAnswer = 4
 status_of fault.Late = 4
+status_of fault.NoKey = 3
+status_of fault.OtherKey = 3
+status_of fault.HasKey = 3
+status_of (fault.KeyFile e) = key_status e
+status_of fault.KeyThere = 3
+status_of fault.SameKeys = 3
+status_of fault.NoHallKey = 3
 status_of fault.WrongDesk = 3
 status_of fault.DamagedStore = 3
 status_of fault.StoreDevice = 4
@@ -73,6 +90,9 @@ fault_of_batch batch.NoMoreIds = fault.NoMoreIds
 fault_of_batch batch.CannotConnect = fault.CannotConnect
 fault_of_batch (batch.Asking e) = fault_of_client e
 fault_of_batch batch.Late = fault.Late
+fault_of_batch batch.NoKey = fault.NoKey
+fault_of_batch batch.OtherKey = fault.OtherKey
+fault_of_batch batch.HasKey = fault.HasKey
 fault_of_batch batch.StillPending = fault.StillPending
 fault_of_batch batch.Lost = fault.Lost
 fault_of_batch batch.AnotherCommand = fault.AnotherCommand

@@ -1,4 +1,4 @@
-//! Ids that nobody gave.
+//! What nobody gave: ids, and the random bytes of a connection.
 
 ghost use Rattle.std.specs.Prelude.{◌≤◌, IfErr, IfOk, ◌≡◌};
 ghost use Rattle.errands.specs.Entering.{HasRoom};
@@ -7,6 +7,7 @@ ghost use Rattle.lines.specs.declared.fault.RunFault.TheVariants as run_fault;
 
 use crate::fault::DeskFault;
 use lines::RunFault;
+use std::io;
 use std::random::RandomSource;
 
 /// So many ids there are: 1 to 2^63 - 1.
@@ -27,4 +28,11 @@ pub(crate) fn drawn_id<T: RandomSource>(source: &T, count: u32) -> Result<u64, D
         return Err(DeskFault::Run(RunFault::Read));
     }
     Ok(u64::from_le_bytes(bytes) % (IDS - u64::from(count)) + 1)
+}
+
+/// Draws the random bytes of one connection.
+pub(crate) fn drawn_bytes<T: RandomSource>(source: &T) -> io::Result<[u8; 16]> {
+    let mut bytes = [0; 16];
+    source.fill_bytes(&mut bytes)?;
+    Ok(bytes)
 }

@@ -1,11 +1,12 @@
 //! Fault lines and exit statuses.
 
 ghost use Rattle.std.specs.Prelude.{◌≡◌};
-ghost use Rattle.errands.specs.Statuses.{status_of, store_back, store_front};
+ghost use Rattle.errands.specs.Statuses.{key_status, status_of, store_back, store_front};
 
 use batch::{BatchFault, Contact};
 use client::{ClientFault, refusal_name};
 use fault_lines::status_of_run;
+use key_file::KeyFileFault;
 use lines::RunFault;
 use service::Service;
 use std::fmt;
@@ -30,6 +31,20 @@ pub enum DeskFault {
     NoAnswer,
     /// The desk was waited for as long as is wanted, and there is no answer.
     Late,
+    /// The desk was asked under a key, and asks for none.
+    NoKey,
+    /// The desk has another key than the one under which it was asked.
+    OtherKey,
+    /// The desk was asked without a key, and asks for one.
+    HasKey,
+    /// The file of a key gives none.
+    KeyFile(KeyFileFault),
+    /// The file of a key was to be made, and is there.
+    KeyThere,
+    /// The hall's key and the entry key are one.
+    SameKeys,
+    /// An entry key or open sheets are asked for without a hall's key.
+    NoHallKey,
     /// The file is the store of another desk or hall.
     WrongDesk,
     /// The file is not a valid store of a desk.
@@ -93,6 +108,9 @@ impl From<BatchFault> for DeskFault {
             BatchFault::CannotConnect => DeskFault::CannotConnect,
             BatchFault::Asking(fault) => DeskFault::from(fault),
             BatchFault::Late => DeskFault::Late,
+            BatchFault::NoKey => DeskFault::NoKey,
+            BatchFault::OtherKey => DeskFault::OtherKey,
+            BatchFault::HasKey => DeskFault::HasKey,
             BatchFault::StillPending => DeskFault::StillPending,
             BatchFault::Lost => DeskFault::Lost,
             BatchFault::AnotherCommand => DeskFault::AnotherCommand,
@@ -113,6 +131,15 @@ impl fmt::Display for DeskFault {
             DeskFault::CannotConnect => f.write_str("cannot connect"),
             DeskFault::NoAnswer => f.write_str("no answer"),
             DeskFault::Late => f.write_str("no answer in time"),
+            DeskFault::NoKey => f.write_str("the desk has no key"),
+            DeskFault::OtherKey => f.write_str("the desk has another key"),
+            DeskFault::HasKey => f.write_str("the desk has a key"),
+            DeskFault::KeyFile(fault) => write!(f, "{fault}"),
+            DeskFault::KeyThere => f.write_str("key file is there"),
+            DeskFault::SameKeys => f.write_str("the two keys are one"),
+            DeskFault::NoHallKey => {
+                f.write_str("--entry-key and --open-sheets need a hall's key")
+            }
             DeskFault::WrongDesk => f.write_str("wrong desk"),
             DeskFault::DamagedStore => f.write_str("damaged store"),
             DeskFault::StoreDevice => f.write_str("store device"),
@@ -133,15 +160,35 @@ impl fmt::Display for DeskFault {
     }
 }
 
+/// The status of a key's file that gives none.
+fn key_status(fault: KeyFileFault) -> u8
+    ensures { result ≡ key_status fault }
+{
+    match fault {
+        KeyFileFault::NoMemory => 5,
+        KeyFileFault::NotThere
+        | KeyFileFault::Unreadable
+        | KeyFileFault::Open
+        | KeyFileFault::NoKey => 3,
+    }
+}
+
 /// The status of a fault: 3 for a named refusal, 4 for a device, 5 for memory.
 fn status_of(fault: DeskFault) -> u8
     ensures { result ≡ status_of fault }
 {
     match fault {
         DeskFault::Run(fault) => status_of_run(fault),
+        DeskFault::KeyFile(fault) => key_status(fault),
         DeskFault::BadDesk
         | DeskFault::TextTooLong
         | DeskFault::Refused { refusal: _ }
+        | DeskFault::NoKey
+        | DeskFault::OtherKey
+        | DeskFault::HasKey
+        | DeskFault::KeyThere
+        | DeskFault::SameKeys
+        | DeskFault::NoHallKey
         | DeskFault::WrongDesk
         | DeskFault::DamagedStore
         | DeskFault::NoMoreIds

@@ -4,16 +4,20 @@
 #![tactic(auto)]
 
 mod drawing;
+mod endings;
 mod entering;
 mod fault;
+mod incoming;
 mod logs;
 mod newest;
+mod outgoing;
 mod polling;
 mod reasons;
 mod report;
 mod requests;
 mod sockets;
 mod timing;
+mod waiting;
 
 pub use entering::{enter_all, enter_one};
 pub use fault::{DeskFault, tell, tell_asking, tell_serving};

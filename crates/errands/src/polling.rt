@@ -31,6 +31,8 @@ pub struct Inquiry<'a> {
     pub addresses: &'a [&'a str],
     /// For how many seconds each is waited for.
     pub patience: u32,
+    /// The hall's key, where it has one.
+    pub key: Option<[u8; 32]>,
 }
 
 /// What a desk is asked.
@@ -114,6 +116,9 @@ fn reply_to(question: Question, desk: u8, answer: Result<What, BatchFault>) -> O
         Ok(_) => Some(other_reply(question, desk)),
         Err(BatchFault::CannotConnect) => Some(Reply::CannotConnect),
         Err(BatchFault::Late) => Some(Reply::Late),
+        Err(BatchFault::NoKey) => Some(Reply::NoKey),
+        Err(BatchFault::OtherKey) => Some(Reply::OtherKey),
+        Err(BatchFault::HasKey) => Some(Reply::HasKey),
         Err(BatchFault::Asking(ClientFault::Refused { refusal })) => {
             Some(Reply::Refused { refusal })
         }
@@ -187,12 +192,13 @@ fn ask_for<'a, D: Dial>(
     address: &'a str,
 ) -> Result<Polled<'a>, AllocError>
     requires { IsDesk desk }
-    ensures { IfOk result (λ polled. AsksFor inquiry.entry.hall inquiry.entry.patience desk polled
-        address.now (D.dialed dial.old) (D.dialed dial.new)) }
+    ensures { IfOk result (λ polled. AsksFor inquiry.entry desk polled address.now
+        (D.dialed dial.old) (D.dialed dial.new)) }
 {
     let contact = Contact {
         address,
         patience: inquiry.patience,
+        key: inquiry.key,
     };
     match ask_at(alloc, dial, inquiry.hall, contact, desk) {
         Some(reply) => Ok(Polled {
@@ -216,8 +222,8 @@ fn ask_all<'a, D: Dial>(
 ) -> Result<(), AllocError>
     requires from { 1 ≤ desk }
     requires few { desk + length addresses.now ≤ 6 }
-    ensures { OnOk result (PollsMore inquiry.entry.hall inquiry.entry.patience desk
-        addresses.now polled.old.items polled.new.items (D.dialed dial.old) (D.dialed dial.new)) }
+    ensures { OnOk result (PollsMore inquiry.entry desk addresses.now
+        polled.old.items polled.new.items (D.dialed dial.old) (D.dialed dial.new)) }
 {
     let [address, rest @ ..] = addresses else {
         return Ok(());

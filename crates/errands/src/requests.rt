@@ -114,8 +114,9 @@ fn answered<D: Dial>(alloc: Global, dial: &mut D, errand: Errand<'_>) -> Result<
 /// - `BadDesk` before anything is opened.
 /// - `CannotConnect` where the connection to the address is not accepted.
 /// - `Refused` where the desk refuses, `NoAnswer` where no answer comes, `Late` where none comes as
-///   long as the desk is waited for, `Write` where the request or the answer cannot be written,
-///   `NoMemory` where memory runs out.
+///   long as the desk is waited for, `NoKey`, `OtherKey` or `HasKey` where it does not speak under
+///   the contact's key, `Write` where the request or the answer cannot be written, `NoMemory` where
+///   memory runs out.
 pub fn carry<D: Dial, W: Write>(
     alloc: Global,
     dial: &mut D,

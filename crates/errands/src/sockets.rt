@@ -1,120 +1,25 @@
 //! Connections to desks over TCP, on which a desk is waited for so long for each request and no
 //! longer.
 
-ghost use Rattle.std.specs.Prelude.{◌≡◌, ◌⊎◌, ◌↔◌, false};
-ghost use Rattle.std.specs.Io.{ReadsAtMost};
-
+use crate::drawing::drawn_bytes;
+use crate::incoming::Answer;
+use crate::outgoing::Outgoing;
+use crate::waiting::Wait;
 use batch::{Contact, Dial, Ending};
-use std::io::{ErrorKind, Read};
+use calls::Call;
+use std::alloc::Global;
+use std::io::ErrorKind;
 use std::net::{TcpStream, ToSocketAddrs};
-use std::time::{Duration, Instant};
+use std::time::Duration;
 use std::{io, thread};
+
+/// How many bytes tell whether a desk speaks under a key, and so how many reads bring them.
+const PREFACE: u32 = 20;
 
 /// How long a client rests after so many tries: 250 microseconds at first, twice as long after
 /// every third try, and at most 32 milliseconds.
 fn rest_after(tries: u32) -> Duration {
     Duration::from_micros(250 << (tries / 3).min(7))
-}
-
-/// The time from which a desk is waited for, and how long.
-#[derive(Drop)]
-struct Wait<'a> {
-    rt: &'a HostRuntime,
-    start: Instant,
-    length: Duration,
-}
-
-impl Wait<'_> {
-    /// How much of it is left; `TimedOut` where nothing is.
-    fn left(&self) -> io::Result<Duration> {
-        let passed = self.start.elapsed(self.rt)?;
-        match self.length.checked_sub(passed) {
-            Some(left) if !left.is_zero() => Ok(left),
-            _ => Err(io::Error::from(ErrorKind::TimedOut)),
-        }
-    }
-
-    /// It begins anew, unless the clock fails.
-    fn restart(&mut self) {
-        if let Ok(now) = Instant::now(self.rt) {
-            self.start = now;
-        }
-    }
-}
-
-/// How a connection ends on which a read fails so, where a byte of the answer had come, or none.
-fn ending_of(kind: ErrorKind, heard: bool) -> Ending
-    ensures late { result ≡ Ending.Late
-        ↔ ((kind ≡ ErrorKind.TimedOut) ⊎ (kind ≡ ErrorKind.WouldBlock)) }
-    ensures gone { result ≡ Ending.Gone
-        ↔ ((heard ≡ false)
-        × ((kind ≡ ErrorKind.ConnectionReset) ⊎ (kind ≡ ErrorKind.ConnectionAborted))) }
-{
-    match kind {
-        // the system says of a read that waited in vain that it would block
-        ErrorKind::TimedOut | ErrorKind::WouldBlock => Ending::Late,
-        ErrorKind::ConnectionReset | ErrorKind::ConnectionAborted if !heard => Ending::Gone,
-        _ => Ending::Own,
-    }
-}
-
-/// What a desk says over a connection. Each read waits for what is left of the wait, so that a desk
-/// that says a byte now and then holds a client no longer than a silent one.
-#[derive(Drop)]
-pub struct Answer<'a> {
-    stream: TcpStream,
-    wait: Wait<'a>,
-    /// Whether a byte has come since the last request began.
-    heard: bool,
-    ending: Ending,
-}
-
-impl<'a> Answer<'a> {
-    /// What comes over this stream, from the first request on.
-    fn new(stream: TcpStream, wait: Wait<'a>) -> Answer<'a> {
-        Answer {
-            stream,
-            wait,
-            heard: false,
-            ending: Ending::Own,
-        }
-    }
-
-    /// Reads once, within what is left of the wait.
-    fn read_in_time(&mut self, buf: &mut [u8]) -> io::Result<usize>
-        ensures { ReadsAtMost result buf.new }
-    {
-        let left = self.wait.left()?;
-        self.stream.set_read_timeout(Some(left))?;
-        self.stream.read(buf)
-    }
-
-    /// Begins one more request: from here on the desk is waited for anew.
-    fn begin(&mut self) {
-        self.heard = false;
-        self.wait.restart();
-    }
-}
-
-impl Read for Answer<'_> {
-    fn read(&mut self, buf: &mut [u8]) -> io::Result<usize> {
-        match self.read_in_time(buf) {
-            Ok(0) => {
-                if !self.heard {
-                    self.ending = Ending::Gone;
-                }
-                Ok(0)
-            }
-            Ok(count) => {
-                self.heard = true;
-                Ok(count)
-            }
-            Err(error) => {
-                self.ending = ending_of(error.kind(), self.heard);
-                Err(error)
-            }
-        }
-    }
 }
 
 /// Connections over TCP.
@@ -142,35 +47,70 @@ fn connected(rt: &HostRuntime, address: &str, wait: &Wait<'_>) -> io::Result<Tcp
     Err(last)
 }
 
+/// One side of a new connection, of a caller who has this key, or none.
+fn call_of(alloc: Global, key: Option<[u8; 32]>, random: [u8; 16]) -> io::Result<Call> {
+    match Call::new(alloc, key, random) {
+        Ok(call) => Ok(call),
+        Err(_) => Err(io::Error::from(ErrorKind::OutOfMemory)),
+    }
+}
+
+/// Begins a connection under a key: sends the client's preface and waits for the desk's. Where none
+/// comes, nothing can be sent, and the answer notes how the connection ends.
+fn open(answer: &mut Answer<'_>, outgoing: &mut Outgoing) -> io::Result<()> {
+    if outgoing.is_open() {
+        return Ok(());
+    }
+    outgoing.send()?;
+    let mut piece = [0; 20];
+    for _read in 0..PREFACE {
+        if outgoing.is_open() || answer.is_over() {
+            return Ok(());
+        }
+        let count = answer.take(&mut piece)?;
+        if count == 0 {
+            return Ok(());
+        }
+        let _said = answer.receive(&piece[..count])?;
+        outgoing.receive(&piece[..count])?;
+    }
+    Ok(())
+}
+
 impl<'a> Dial for Sockets<'a> {
     ghost use Rattle.std.specs.Prelude.{None};
 
     type Reader = Answer<'a>;
 
-    type Writer = TcpStream;
+    type Writer = Outgoing;
 
     ghost dialed = { λ _. None };
 
-    fn dial(&mut self, contact: Contact<'_>) -> io::Result<(Answer<'a>, TcpStream)> {
-        let wait = Wait {
-            rt: self.rt,
-            start: Instant::now(self.rt)?,
-            length: Duration::from_secs(u64::from(contact.patience)),
-        };
+    fn dial(&mut self, contact: Contact<'_>) -> io::Result<(Answer<'a>, Outgoing)> {
+        let alloc = self.rt.alloc();
+        let wait = Wait::new(self.rt, contact.patience)?;
         let stream = connected(self.rt, contact.address, &wait)?;
         // where it is refused, the request is only slower
         let _ = stream.set_nodelay(true);
         stream.set_write_timeout(Some(wait.left()?))?;
-        let writer = stream.try_clone()?;
-        Ok((Answer::new(stream, wait), writer))
+        let random = drawn_bytes(self.rt)?;
+        let hears = call_of(alloc, contact.key, random)?;
+        let says = call_of(alloc, contact.key, random)?;
+        let mut outgoing = Outgoing::new(stream.try_clone()?, says);
+        let mut answer = Answer::new(alloc, stream, wait, hears);
+        match open(&mut answer, &mut outgoing) {
+            Err(error) if error.kind() == ErrorKind::OutOfMemory => Err(error),
+            // where it failed, the answer knows how the connection ends
+            _ => Ok((answer, outgoing)),
+        }
     }
 
     fn again(&mut self, reader: &mut Answer<'a>) {
         reader.begin();
     }
 
-    fn hang_up(&mut self, reader: Answer<'a>, _writer: TcpStream) -> Ending {
-        reader.ending
+    fn hang_up(&mut self, reader: Answer<'a>, _writer: Outgoing) -> Ending {
+        reader.ending()
     }
 
     fn pause(&mut self, tries: u32) {

@@ -4,6 +4,9 @@ use Rattle.std.specs.Prelude.{List, [], ◌∷◌, ◌++◌, codes, length, Opti
 use Rattle.std.specs.List.{list_all}
 use Rattle.std.specs.declared.io.ErrorKind.{ErrorKind}
 use Rattle.std.specs.declared.io.ErrorKind.TheVariants as kind
+use Rattle.errands.specs.declared.fault.DeskFault.{DeskFault}
+use Rattle.errands.specs.declared.fault.DeskFault.TheVariants as fault
+use Rattle.key_file.specs.declared.fault.KeyFileFault.TheVariants as key_file
 use Rattle.wire.specs.declared.frame.Frame.{Frame}
 use Rattle.wire.specs.declared.frame.What.{What}
 use Rattle.wire.specs.declared.frame.What.TheVariants as what
@@ -11,6 +14,8 @@ use Rattle.explaining.specs.declared.findings.AddressFinding.{AddressFinding}
 use Rattle.explaining.specs.declared.findings.AddressFinding.TheVariants as address
 use Rattle.explaining.specs.declared.findings.FileFinding.{FileFinding}
 use Rattle.explaining.specs.declared.findings.FileFinding.TheVariants as file
+use Rattle.explaining.specs.declared.findings.KeyFinding.{KeyFinding}
+use Rattle.explaining.specs.declared.findings.KeyFinding.TheVariants as key
 use Rattle.explaining.specs.declared.findings.Finding.{Finding}
 use Rattle.explaining.specs.declared.findings.Finding.TheVariants as finding
 
@@ -42,6 +47,20 @@ of_listening kind.AddrInUse = Some address.Taken
 of_listening kind.AddrNotAvailable = Some address.NotOurs
 of_listening kind.PermissionDenied = Some address.NotAllowed
 of_listening _ = None
+
+-- what a fault tells of a key
+abbrev pub of_key : DeskFault → Option KeyFinding
+of_key fault.NoKey = Some key.NoKey
+of_key fault.OtherKey = Some key.OtherKey
+of_key fault.HasKey = Some key.HasKey
+of_key (fault.KeyFile key_file.NotThere) = Some key.NotThere
+of_key (fault.KeyFile key_file.Unreadable) = Some key.Unreadable
+of_key (fault.KeyFile key_file.Open) = Some key.Open
+of_key (fault.KeyFile key_file.NoKey) = Some key.NotOne
+of_key fault.KeyThere = Some key.IsThere
+of_key fault.SameKeys = Some key.TwoAreOne
+of_key fault.NoHallKey = Some key.NoHallKey
+of_key _ = None
 
 -- what an SQLite database begins with
 abbrev pub database_header : List ℕ

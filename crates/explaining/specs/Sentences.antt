@@ -6,6 +6,8 @@ use Rattle.explaining.specs.declared.findings.CommandCount.{CommandCount}
 use Rattle.explaining.specs.declared.findings.DeskName.{DeskName}
 use Rattle.explaining.specs.declared.findings.FileFinding.{FileFinding}
 use Rattle.explaining.specs.declared.findings.FileFinding.TheVariants as file
+use Rattle.explaining.specs.declared.findings.KeyFinding.{KeyFinding}
+use Rattle.explaining.specs.declared.findings.KeyFinding.TheVariants as key
 use Rattle.explaining.specs.declared.findings.OtherDesk.{OtherDesk}
 use Rattle.explaining.specs.declared.findings.Finding.{Finding}
 use Rattle.explaining.specs.declared.findings.Finding.TheVariants as finding
@@ -43,6 +45,19 @@ address_text address.NotOurs = codes "this machine has no such address; compare 
 address_text address.NotAllowed = codes "this user may not listen there; take a port from 1024 on"
 address_text address.FreeNow = codes "the address is free now; start the desk again"
 
+-- what is said of a key
+abbrev pub key_text : KeyFinding → List ℕ
+key_text key.NoKey = codes "ask without --key, or start the desk with --key"
+key_text key.OtherKey = codes "all desks of a hall have one key file; copy it from one of them"
+key_text key.HasKey = codes "name the file with the hall's key: --key FILE"
+key_text key.NotThere = codes "compare the path, or copy the file from a desk of the hall"
+key_text key.Unreadable = codes "look at its rights, and whether it is a file"
+key_text key.Open = codes "take their rights from it: chmod 600 FILE"
+key_text key.NotOne = codes "a key is 64 hexadecimal digits; desk key --file FILE makes one"
+key_text key.IsThere = codes "it is left as it is; name another file"
+key_text key.TwoAreOne = codes "make another one for entries: desk key --file FILE"
+key_text key.NoHallKey = codes "name the file with the hall's key: --key FILE"
+
 -- desk 3 of hall 7, say
 unfoldable pub name_text : DeskName → List ℕ
 name_text name = codes "desk " ++ decimal name.desk ++ codes " of hall " ++ decimal name.hall
@@ -63,5 +78,6 @@ count_text count = codes "the desk has " ++ decimal count.commands ++ codes " co
 abbrev pub finding_text : Finding → List ℕ
 finding_text (finding.File path what) = path.now ++ codes ": " ++ file_text what
 finding_text (finding.Address place what) = place.now ++ codes ": " ++ address_text what
+finding_text (finding.Key what) = key_text what
 finding_text (finding.Other desk) = other_text desk
 finding_text (finding.Length count) = count_text count

@@ -1,6 +1,6 @@
 //! What was met when it was looked again after a fault.
 
-use crate::sentences::{of_address, of_file, this_is, you_asked};
+use crate::sentences::{of_address, of_file, of_key, this_is, you_asked};
 use std::fmt;
 
 /// What was met of a desk's file.
@@ -40,6 +40,31 @@ pub enum FileFinding {
     NotWhole,
     /// It is the store of another desk, or of another hall.
     OtherDesk,
+}
+
+/// What was met of a key.
+#[derive(Clone, Copy, Debug, PartialEq, Eq)]
+pub enum KeyFinding {
+    /// The desk asks for none.
+    NoKey,
+    /// The desk has another one.
+    OtherKey,
+    /// The desk asks for one.
+    HasKey,
+    /// Its file is not there.
+    NotThere,
+    /// Its file can't be read.
+    Unreadable,
+    /// Others may read its file.
+    Open,
+    /// Its file has none.
+    NotOne,
+    /// Its file was to be made, and is there.
+    IsThere,
+    /// The hall's key and the entry key are one.
+    TwoAreOne,
+    /// An entry key or open sheets are asked for without the hall's key.
+    NoHallKey,
 }
 
 /// What was met at an address.
@@ -89,8 +114,8 @@ impl fmt::Display for DeskName {
     }
 }
 
-/// A desk that answers, and the one that was asked. Its text is `this is desk 3 of hall 7, you asked
-/// desk 2 of hall 7`.
+/// A desk that answers, and the one that was asked. Its text is `this is desk 3 of hall 7, you
+/// asked desk 2 of hall 7`.
 #[derive(Clone, Copy, Debug, PartialEq, Eq)]
 pub struct OtherDesk {
     pub met: DeskName,
@@ -143,6 +168,10 @@ pub enum Finding<'a> {
         address: &'a str,
         what: AddressFinding,
     },
+    /// Of a key.
+    Key {
+        what: KeyFinding,
+    },
     /// A desk answers that is another one than was asked.
     Other {
         desk: OtherDesk,
@@ -171,6 +200,7 @@ impl fmt::Display for Finding<'_> {
                 f.write_str(": ")?;
                 f.write_str(of_address(*what))
             }
+            Finding::Key { what } => f.write_str(of_key(*what)),
             Finding::Other { desk } => desk.fmt(f),
             Finding::Length { count } => count.fmt(f),
         }

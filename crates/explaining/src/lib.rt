@@ -15,6 +15,8 @@ mod sentences;
 mod telling;
 mod told;
 
-pub use findings::{AddressFinding, CommandCount, DeskName, FileFinding, Finding, OtherDesk};
+pub use findings::{
+    AddressFinding, CommandCount, DeskName, FileFinding, Finding, KeyFinding, OtherDesk,
+};
 pub use matters::About;
 pub use telling::{explain, is_wanted};

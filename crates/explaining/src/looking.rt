@@ -7,7 +7,7 @@ use crate::asking::heard_of;
 use crate::files::{of_damage, of_device, of_reading};
 use crate::findings::{AddressFinding, FileFinding, Finding};
 use crate::matters::About;
-use crate::told::{length_in, other_desk};
+use crate::told::{length_in, of_key, other_desk};
 use batch::Contact;
 use client::status_request;
 use errands::{DeskFault, Sockets};
@@ -98,7 +98,11 @@ pub(crate) fn found<'a>(
     fault: DeskFault,
     about: About<'a>,
 ) -> Option<Finding<'a>> {
+    if let Some(what) = of_key(fault) {
+        return Some(Finding::Key { what });
+    }
     match about {
+        About::Finding => None,
         About::Serving { store, address } => of_serving(rt, fault, store, address),
         About::Log { store } => of_log(rt, fault, store),
         About::Asking {

@@ -3,7 +3,7 @@
 use batch::Contact;
 
 /// What a fault is about, as far as it is known.
-#[derive(Clone, Copy, Debug)]
+#[derive(Clone, Copy)]
 pub enum About<'a> {
     /// A desk that was to serve: the path of its store, and the address at which it was to listen.
     Serving {
@@ -14,6 +14,8 @@ pub enum About<'a> {
     Log {
         store: &'a str,
     },
+    /// A desk that was to be asked, before it was known which one and how.
+    Finding,
     /// A desk of a hall that was asked.
     Asking {
         hall: u32,

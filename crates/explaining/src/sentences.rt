@@ -1,9 +1,9 @@
 //! The sentence for each thing that may be met.
 
 ghost use Rattle.std.specs.Prelude.{◌≡◌};
-ghost use Rattle.explaining.specs.Sentences.{address_text, file_text, this_is, you_asked};
+ghost use Rattle.explaining.specs.Sentences.{address_text, file_text, key_text, this_is, you_asked};
 
-use crate::findings::{AddressFinding, FileFinding};
+use crate::findings::{AddressFinding, FileFinding, KeyFinding};
 
 /// What is said of a desk's file, after its path.
 pub(crate) fn of_file(what: FileFinding) -> &'static str
@@ -45,6 +45,24 @@ pub(crate) fn of_address(what: AddressFinding) -> &'static str
         AddressFinding::NotOurs => "this machine has no such address; compare the addresses",
         AddressFinding::NotAllowed => "this user may not listen there; take a port from 1024 on",
         AddressFinding::FreeNow => "the address is free now; start the desk again",
+    }
+}
+
+/// What is said of a key.
+pub(crate) fn of_key(what: KeyFinding) -> &'static str
+    ensures { result.now ≡ key_text what }
+{
+    match what {
+        KeyFinding::NoKey => "ask without --key, or start the desk with --key",
+        KeyFinding::OtherKey => "all desks of a hall have one key file; copy it from one of them",
+        KeyFinding::HasKey => "name the file with the hall's key: --key FILE",
+        KeyFinding::NotThere => "compare the path, or copy the file from a desk of the hall",
+        KeyFinding::Unreadable => "look at its rights, and whether it is a file",
+        KeyFinding::Open => "take their rights from it: chmod 600 FILE",
+        KeyFinding::NotOne => "a key is 64 hexadecimal digits; desk key --file FILE makes one",
+        KeyFinding::IsThere => "it is left as it is; name another file",
+        KeyFinding::TwoAreOne => "make another one for entries: desk key --file FILE",
+        KeyFinding::NoHallKey => "name the file with the hall's key: --key FILE",
     }
 }
 

@@ -3,9 +3,13 @@
 ghost use Rattle.std.specs.Prelude.{◌≡◌};
 ghost use Rattle.std.specs.List.{list_all};
 ghost use Rattle.explaining.specs.Judged.{is_of_text, length_in, of_beginning, of_connecting};
-ghost use Rattle.explaining.specs.Judged.{of_listening, of_opening, other_desk};
+ghost use Rattle.explaining.specs.Judged.{of_key, of_listening, of_opening, other_desk};
 
-use crate::findings::{AddressFinding, CommandCount, DeskName, FileFinding, Finding, OtherDesk};
+use crate::findings::{
+    AddressFinding, CommandCount, DeskName, FileFinding, Finding, KeyFinding, OtherDesk,
+};
+use errands::DeskFault;
+use key_file::KeyFileFault;
 use std::io::ErrorKind;
 use wire::{Frame, What};
 
@@ -47,6 +51,25 @@ pub(crate) fn of_listening(kind: ErrorKind) -> Option<AddressFinding>
         ErrorKind::AddrInUse => Some(AddressFinding::Taken),
         ErrorKind::AddrNotAvailable => Some(AddressFinding::NotOurs),
         ErrorKind::PermissionDenied => Some(AddressFinding::NotAllowed),
+        _ => None,
+    }
+}
+
+/// What a fault tells of a key.
+pub(crate) fn of_key(fault: DeskFault) -> Option<KeyFinding>
+    ensures { result ≡ of_key fault }
+{
+    match fault {
+        DeskFault::NoKey => Some(KeyFinding::NoKey),
+        DeskFault::OtherKey => Some(KeyFinding::OtherKey),
+        DeskFault::HasKey => Some(KeyFinding::HasKey),
+        DeskFault::KeyFile(KeyFileFault::NotThere) => Some(KeyFinding::NotThere),
+        DeskFault::KeyFile(KeyFileFault::Unreadable) => Some(KeyFinding::Unreadable),
+        DeskFault::KeyFile(KeyFileFault::Open) => Some(KeyFinding::Open),
+        DeskFault::KeyFile(KeyFileFault::NoKey) => Some(KeyFinding::NotOne),
+        DeskFault::KeyThere => Some(KeyFinding::IsThere),
+        DeskFault::SameKeys => Some(KeyFinding::TwoAreOne),
+        DeskFault::NoHallKey => Some(KeyFinding::NoHallKey),
         _ => None,
     }
 }

@@ -1,10 +1,10 @@
 -- What is delivered stands in records that fit under the hall's key.
 use Rattle.std.proofs.Common.{◌≡◌, refl, sym, ap, subst, ◌∙◌, ℕ, List, [], ◌∷◌, ◌++◌, Option, None}
-use Rattle.std.proofs.Common.{Some}
+use Rattle.std.proofs.Common.{Some, append_assoc}
 use Rattle.std.specs.Prelude.{IsTrue}
 use Rattle.std.proofs.lemmas.List.{append-nil}
 use Rattle.answers.specs.declared.desk.Desk.{Ghosts as DeskOf}
-use Rattle.seal.specs.Records.{preface_of}
+use Rattle.seal.specs.Records.{preface_of, records}
 use Rattle.sealed.specs.declared.callers.Caller.{Caller}
 use Rattle.sealed.specs.declared.callers.Caller.TheVariants.{Anyone, Passer}
 use Rattle.sealed.specs.declared.callers.Caller.TheVariants as caller
@@ -12,7 +12,7 @@ use Rattle.sealed.specs.declared.callers.Doors.{Doors}
 use Rattle.sealed.specs.declared.callers.Doors.TheVariants.{Open, Locked}
 use Rattle.sealed.specs.declared.callers.Holder.TheVariants.{Hall, Entry}
 use Rattle.sealed.specs.declared.callers.Locks.{Locks}
-use Rattle.sealed.specs.Admitting.{Admits, IsSealed}
+use Rattle.sealed.specs.Admitting.{Admits, IsSealed, comes_under}
 use Rattle.sealed.specs.Calls.{CalledOf, caller_of}
 use Rattle.sealed.proofs.Admitted.{admits}
 use Rattle.serving.specs.Connection.{Begun}
@@ -69,7 +69,7 @@ no_entries Denied h = absurd cc
 
 -- ---- what is let in under the hall's key
 
-under_hall : (who : Option Caller) (locks : Locks) (server front handed : List ℕ)
+pub under_hall : (who : Option Caller) (locks : Locks) (server front handed : List ℕ)
     (earlier : List Begun) (one : Begun) (r : Request)
     → IsTrue (delivers (permitted (permission_of who) r))
     → Admits (Locked locks) server front handed who → BeginsAt handed earlier one
@@ -98,6 +98,26 @@ under_hall (Some (caller.Holder Hall)) locks server front handed earlier one r m
           ∙ ap (λ (s : List ℕ). preface_of sealed.client ++ s) hands.1.whole;
       each = hands.1.each;
       inside = sym hands.2 ∙ at.whole;
+    }
+
+-- more came behind
+pub under_more : (locks : Locks) (server front later : List ℕ) (earlier : List Begun) (one : Begun)
+    → IsUnderHall locks server front earlier one
+    → IsUnderHall locks server (front ++ later) earlier one
+under_more locks server front later earlier one h =
+    let sealed = records (comes_under h.client server locks.hall) 0 h.bodies in
+    record {
+      client = h.client;
+      bodies = h.bodies;
+      rest = h.rest ++ later;
+      more = h.more;
+      sixteen = h.sixteen;
+      whole =
+          ap (λ z. z ++ later) h.whole
+          ∙ append_assoc (preface_of h.client) (sealed ++ h.rest) later
+          ∙ ap (λ z. preface_of h.client ++ z) (append_assoc sealed h.rest later);
+      each = h.each;
+      inside = h.inside;
     }
 
 -- ---- the turns up to a frame

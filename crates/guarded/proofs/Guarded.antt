@@ -15,29 +15,22 @@ use Rattle.store.specs.declared.home.Home.{Home}
 use Rattle.wire.specs.declared.values.Version.{Version}
 use Rattle.guarded.specs.Guarding.{Guarding, fresh_guard}
 use Rattle.guarded.specs.GuardTurns.{Place, within}
-use Rattle.guarded.specs.GuardLaw.{GuardsServe, IsGreeting, IsGuarded}
+use Rattle.guarded.specs.GuardLaw.{GuardsServe, IsGreeting, IsGuarded, IsGuardedStream}
 use Rattle.guarded.proofs.Greeting.{greeting_is, opening_of}
 use Rattle.guarded.proofs.Holding.{Holds, holds_first, turns_hold}
+use Rattle.guarded.proofs.Keeping.{Keeps}
 
-guarded_of : {V : Type 0} (d : DeskOf V) (home : Home) (wire : Version) (doors : Doors)
-    (server : List ℕ) (a b : Place (speaking d.handles wire)) (came sent : List ℕ)
-    (begun : List Begun) → a.guard ≡ fresh_guard doors server home wire
-    → Holds doors server a b came sent begun → IsGuarded home doors server a b came sent begun
-guarded_of d home wire doors server a b came sent begun is h =
-    let k = h.keeps in
+-- what came over a stream, and what was sent
+pub stream_of : (doors : Doors) (server : List ℕ) (g : Guarding)
+    (came handed answers sent : List ℕ) (begun : List Begun)
+    → Keeps doors server g came handed answers sent begun
+    → IsGuardedStream doors server g came sent handed answers begun
+stream_of doors server g came handed answers sent begun k =
     let c = k.side in
     let who = caller_of c in
-    let handed = received h.inner in
-    let answers = handed_out h.inner in
-    let all =
-    turns_serve d home wire h.inner (within a) (within b) (ap (λ (g : Guarding). g.talk) is)
-    h.follow in
     record {
       who = who;
       front = k.front;
-      handed = handed;
-      answers = answers;
-      rest = all.1;
       first = opening_of c;
       body = k.body;
       read = record {
@@ -50,10 +43,6 @@ guarded_of d home wire doors server a b came sent begun is h =
           subst (λ (o : Doors). Admits o server k.front handed who) k.doors_are
           (subst (λ (s : List ℕ). Admits c.doors s k.front handed who) k.server_is
           (admits c k.front handed k.stands));
-      served =
-          subst
-          (λ (bs : List Begun). AreServed home (within a) (within b) handed answers bs all.1)
-          (all.3 ∙ h.begins) all.2;
       parts = k.sends;
       greets =
           subst (λ (s : List ℕ). IsGreeting s k.front who (opening_of c)) k.server_is
@@ -62,6 +51,28 @@ guarded_of d home wire doors server a b came sent begun is h =
           subst (λ (o : Doors). IsSent o server k.front who answers k.body) k.doors_are
           (subst (λ (s : List ℕ). IsSent c.doors s k.front who answers k.body) k.server_is
           (sends_what_is_given c k.front handed answers k.body k.stands k.given));
+      allowed = k.allowed;
+    }
+
+guarded_of : {V : Type 0} (d : DeskOf V) (home : Home) (wire : Version) (doors : Doors)
+    (server : List ℕ) (a b : Place (speaking d.handles wire)) (came sent : List ℕ)
+    (begun : List Begun) → a.guard ≡ fresh_guard doors server home wire
+    → Holds doors server a b came sent begun → IsGuarded home doors server a b came sent begun
+guarded_of d home wire doors server a b came sent begun is h =
+    let handed = received h.inner in
+    let answers = handed_out h.inner in
+    let all =
+    turns_serve d home wire h.inner (within a) (within b) (ap (λ (g : Guarding). g.talk) is)
+    h.follow in
+    record {
+      handed = handed;
+      answers = answers;
+      rest = all.1;
+      stream = stream_of doors server b.guard came handed answers sent begun h.keeps;
+      served =
+          subst
+          (λ (bs : List Begun). AreServed home (within a) (within b) handed answers bs all.1)
+          (all.3 ∙ h.begins) all.2;
     }
 
 pub guards_serve : {V : Type 0} (d : DeskOf V) → GuardsServe d

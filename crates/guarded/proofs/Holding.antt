@@ -19,7 +19,7 @@ use Rattle.wire.specs.declared.values.Version.{Version}
 use Rattle.wire.specs.Spelling.{spelling}
 use Rattle.guarded.specs.Guarding.{fresh_guard}
 use Rattle.guarded.specs.GuardTurns.{Follow, Place, within}
-use Rattle.guarded.proofs.Keeping.{Keeps, keeps_first, turn_goes}
+use Rattle.guarded.proofs.Keeping.{Keeps, keeps_as, keeps_first, turn_goes}
 use Rattle.guarded.proofs.Lists.{begun_in-both, follow_both, handed_out-both, received-both}
 
 -- The connection within took these turns, in which these frames were begun, and what holds of the
@@ -29,7 +29,7 @@ pub record Holds {V : Type 0} {way : Way V} (doors : Doors) (server : List ℕ) 
   pub inner : List Turn
   pub follow : TurnLaw.Follow (within a) inner (within b)
   pub begins : begun_in inner ≡ begun
-  pub keeps : Keeps doors server b.guard came (received inner) (handed_out inner) sent
+  pub keeps : Keeps doors server b.guard came (received inner) (handed_out inner) sent begun
 
 pub holds_first : {V : Type 0} {way : Way V} (home : Home) (wire : Version) (doors : Doors)
     (server : List ℕ) (a : Place way) → a.guard ≡ fresh_guard doors server home wire
@@ -41,60 +41,89 @@ holds_first home wire doors server a is = record {
   keeps = keeps_first home wire doors server a.guard is;
 }
 
--- one turn more
-turn_holds : {V : Type 0} {way : Way V} (doors : Doors) (server : List ℕ) (start a b : Place way)
-    (t : Turn) (came sent : List ℕ) (begun : List Begun)
-    (g : (inner : List Turn) × TurnLaw.Follow (within a) inner (within b)
-    × (begun_in inner ≡ begun_at t)
-    × ((came handed answers sent : List ℕ) → Keeps doors server a.guard came handed answers sent
-    → Keeps doors server b.guard (came ++ came_in t) (handed ++ received inner)
-    (answers ++ handed_out inner) (sent ++ taken_in t)))
-    → Holds doors server start a came sent begun
-    → Holds doors server start b (came ++ came_in t) (sent ++ taken_in t) (begun ++ begun_at t)
-turn_holds doors server start a b t came sent begun g h =
-    let inner = h.inner ++ g.0 in
-    record {
-      inner = inner;
-      follow = follow_both (within start) (within a) (within b) h.inner g.0 h.follow g.1;
-      begins =
-          begun_in-both h.inner g.0 ∙ ap (λ (s : List Begun). s ++ begun_in g.0) h.begins
-          ∙ ap (λ (s : List Begun). begun ++ s) g.2;
-      keeps =
-          subst (λ (s : List ℕ). Keeps doors server b.guard (came ++ came_in t) s
-          (handed_out inner) (sent ++ taken_in t)) (sym (received-both h.inner g.0))
-          (subst (λ (s : List ℕ). Keeps doors server b.guard (came ++ came_in t)
-          (received h.inner ++ received g.0) s (sent ++ taken_in t))
-          (sym (handed_out-both h.inner g.0))
-          (g.3 came (received h.inner) (handed_out h.inner) sent h.keeps));
-    }
+-- ---- many turns
+
+-- the connection within took these turns, and what holds goes on
+pub record GoesAll {V : Type 0} {way : Way V} (doors : Doors) (server : List ℕ)
+    (turns : List Turn) (a b : Place way) (inner : List Turn) : Type 0 where
+  pub follow : TurnLaw.Follow (within a) inner (within b)
+  pub begins : begun_in inner ≡ begun_in turns
+  pub keeps : (came handed answers sent : List ℕ) (begun : List Begun)
+      → Keeps doors server a.guard came handed answers sent begun
+      → Keeps doors server b.guard (came ++ received turns) (handed ++ received inner)
+      (answers ++ handed_out inner) (sent ++ handed_out turns) (begun ++ begun_in turns)
+
+pub turns_go : {V : Type 0} {way : Way V} (doors : Doors) (server : List ℕ) (turns : List Turn)
+    (a b : Place way) → Follow a turns b
+    → (inner : List Turn) × GoesAll doors server turns a b inner
+turns_go {V} {way} doors server [] a b same = (
+  [],
+  record {
+    follow = ap (λ (p : Place way). within p) same;
+    begins = refl;
+    keeps = λ came handed answers sent begun h.
+        keeps_as doors server b.guard came handed answers sent (came ++ []) (handed ++ [])
+        (answers ++ []) (sent ++ []) begun (begun ++ []) (sym (append-nil came))
+        (sym (append-nil handed)) (sym (append-nil answers)) (sym (append-nil sent))
+        (sym (append-nil begun))
+        (subst (λ (p : Place way). Keeps doors server p.guard came handed answers sent begun) same
+        h);
+  },
+)
+turns_go doors server (t ∷ ts) a b k =
+    let g = turn_goes doors server t a k.0 k.1 in
+    let later = turns_go doors server ts k.0 b k.2 in (
+      g.0 ++ later.0,
+      record {
+        follow =
+            follow_both (within a) (within k.0) (within b) g.0 later.0 g.1.follow later.1.follow;
+        begins =
+            begun_in-both g.0 later.0 ∙ ap (λ (s : List Begun). s ++ begun_in later.0) g.1.begins
+            ∙ ap (λ (s : List Begun). begun_at t ++ s) later.1.begins;
+        keeps = λ came handed answers sent begun h.
+            keeps_as doors server b.guard ((came ++ came_in t) ++ received ts)
+            ((handed ++ received g.0) ++ received later.0)
+            ((answers ++ handed_out g.0) ++ handed_out later.0)
+            ((sent ++ taken_in t) ++ handed_out ts) (came ++ (came_in t ++ received ts))
+            (handed ++ received (g.0 ++ later.0)) (answers ++ handed_out (g.0 ++ later.0))
+            (sent ++ (taken_in t ++ handed_out ts)) ((begun ++ begun_at t) ++ begun_in ts)
+            (begun ++ (begun_at t ++ begun_in ts))
+            (append_assoc came (came_in t) (received ts))
+            (append_assoc handed (received g.0) (received later.0)
+            ∙ ap (λ (s : List ℕ). handed ++ s) (sym (received-both g.0 later.0)))
+            (append_assoc answers (handed_out g.0) (handed_out later.0)
+            ∙ ap (λ (s : List ℕ). answers ++ s) (sym (handed_out-both g.0 later.0)))
+            (append_assoc sent (taken_in t) (handed_out ts))
+            (append_assoc begun (begun_at t) (begun_in ts))
+            (later.1.keeps (came ++ came_in t) (handed ++ received g.0)
+            (answers ++ handed_out g.0) (sent ++ taken_in t) (begun ++ begun_at t)
+            (g.1.keeps came handed answers sent begun h));
+      },
+    )
 
 pub turns_hold : {V : Type 0} {way : Way V} (doors : Doors) (server : List ℕ)
     (start a b : Place way) (turns : List Turn) (came sent : List ℕ) (begun : List Begun)
     → Holds doors server start a came sent begun → Follow a turns b
     → Holds doors server start b (came ++ received turns) (sent ++ handed_out turns)
     (begun ++ begun_in turns)
-turns_hold {V} {way} doors server start a b [] came sent begun h same =
-    subst (λ (s : List ℕ). Holds doors server start b s (sent ++ []) (begun ++ []))
-    (sym (append-nil came))
-    (subst (λ (s : List ℕ). Holds doors server start b came s (begun ++ []))
-    (sym (append-nil sent))
-    (subst (λ (s : List Begun). Holds doors server start b came sent s) (sym (append-nil begun))
-    (subst (λ (p : Place way). Holds doors server start p came sent begun) same h)))
-turns_hold doors server start a b (t ∷ ts) came sent begun h k =
-    let g = turn_goes doors server t a k.0 k.1 in
-    subst (λ (s : List ℕ). Holds doors server start b s
-    (sent ++ (taken_in t ++ handed_out ts)) (begun ++ (begun_at t ++ begun_in ts)))
-    (append_assoc came (came_in t) (received ts))
-    (subst (λ (s : List ℕ). Holds doors server start b ((came ++ came_in t) ++ received ts) s
-    (begun ++ (begun_at t ++ begun_in ts)))
-    (append_assoc sent (taken_in t) (handed_out ts))
-    (subst (λ (s : List Begun). Holds doors server start b ((came ++ came_in t) ++ received ts)
-    ((sent ++ taken_in t) ++ handed_out ts) s)
-    (append_assoc begun (begun_at t) (begun_in ts))
-    (turns_hold doors server start k.0 b ts (came ++ came_in t) (sent ++ taken_in t)
-    (begun ++ begun_at t)
-    (turn_holds doors server start a k.0 t came sent begun
-    (g.0, g.1.follow, g.1.begins, g.1.keeps) h) k.2)))
+turns_hold doors server start a b turns came sent begun h follow =
+    let g = turns_go doors server turns a b follow in
+    let handed = received h.inner in
+    let answers = handed_out h.inner in
+    record {
+      inner = h.inner ++ g.0;
+      follow = follow_both (within start) (within a) (within b) h.inner g.0 h.follow g.1.follow;
+      begins =
+          begun_in-both h.inner g.0 ∙ ap (λ (s : List Begun). s ++ begun_in g.0) h.begins
+          ∙ ap (λ (s : List Begun). begun ++ s) g.1.begins;
+      keeps =
+          keeps_as doors server b.guard (came ++ received turns) (handed ++ received g.0)
+          (answers ++ handed_out g.0) (sent ++ handed_out turns) (came ++ received turns)
+          (received (h.inner ++ g.0)) (handed_out (h.inner ++ g.0)) (sent ++ handed_out turns)
+          (begun ++ begun_in turns) (begun ++ begun_in turns) refl
+          (sym (received-both h.inner g.0)) (sym (handed_out-both h.inner g.0)) refl refl
+          (g.1.keeps came handed answers sent begun h.keeps);
+    }
 
 -- ---- the frame that is begun next
 

@@ -3,17 +3,20 @@ use Rattle.std.proofs.Common.{◌≡◌, refl, sym, ap, subst, ◌∙◌, ℕ, L
 use Rattle.std.proofs.Common.{Option, None, Some, Bool, true, false, arith, inl, inr, append_assoc}
 use Rattle.std.proofs.lemmas.List.{append-nil}
 use Rattle.std.proofs.Math.Seq.{drop-length}
-use Rattle.std.specs.Prelude.{IsSome}
+use Rattle.std.specs.Prelude.{IsSome, option_map}
 use Rattle.sealed.specs.declared.callers.Caller.{Caller}
 use Rattle.sealed.specs.declared.callers.Doors.{Doors}
 use Rattle.sealed.specs.declared.callers.Doors.TheVariants.{Open, Locked}
+use Rattle.sealed.specs.declared.callers.Holder.{Holder}
+use Rattle.sealed.specs.declared.callers.Holder.TheVariants.{Hall, Entry}
 use Rattle.sealed.specs.declared.callers.Refusal.{Refusal}
 use Rattle.sealed.specs.declared.callers.Refusal.TheVariants.{Unsealed, NoMemory}
 use Rattle.sealed.specs.Admitting.{Admits}
-use Rattle.sealed.specs.Calls.{CalledOf, IsSameDesk, SendsBy, SendsPlain, Stands, caller_of}
-use Rattle.sealed.specs.Calls.{fresh_called, is_sealed}
+use Rattle.sealed.specs.Calls.{CalledOf, IsSameDesk, SendsBy, SendsPlain, Stands, caller_by}
+use Rattle.sealed.specs.Calls.{caller_of, fresh_called, held_by, is_sealed}
 use Rattle.sealed.specs.Sent.{HasSent}
-use Rattle.sealed.specs.Trials.{TrialOf}
+use Rattle.sealed.specs.Trials.{SealsAs, SealsEntry, TrialOf}
+use Rattle.sealed.specs.Tunnels.{TunnelOf}
 use Rattle.sealed.proofs.Admitted.{admits}
 use Rattle.sealed.proofs.Sending.{sealing_goes_on, sealing_reads}
 use Rattle.serving.specs.Connection.{Begun}
@@ -30,6 +33,8 @@ use Rattle.guarded.specs.Guarding.{Guarding, IsFree, LetsIn, Loses, RunsOut, Sea
 use Rattle.guarded.specs.Guarding.{WantsRead, fresh_guard, greeting_if, greets}
 use Rattle.guarded.specs.GuardTurns.{IsQuiet, Place, with_talk, within}
 use Rattle.guarded.specs.GuardTurns as GuardTurns
+use Rattle.guarded.specs.GuardLaw.{AreAllowed, IsAllowed}
+use Rattle.guarded.specs.Permitting.{permission_of}
 use Rattle.guarded.proofs.Greeting.{greeted, opening_by, opening_of}
 use Rattle.guarded.proofs.Idling.{IsIdle, first_none, idle_came, second_none}
 
@@ -37,8 +42,7 @@ use Rattle.guarded.proofs.Idling.{IsIdle, first_none, idle_came, second_none}
 -- answers were taken of the connection within, and these bytes were taken of what is sent: the
 -- desk's side as it was before memory was refused, and what it read and sent.
 pub record Keeps (doors : Doors) (server : List ℕ) (g : Guarding)
-    (came handed answers sent : List ℕ)
-    : Type 0 where
+    (came handed answers sent : List ℕ) (begun : List Begun) : Type 0 where
   pub side : CalledOf
   pub doors_are : side.doors ≡ doors
   pub server_is : side.random ≡ server
@@ -49,6 +53,7 @@ pub record Keeps (doors : Doors) (server : List ℕ) (g : Guarding)
   pub body : List ℕ
   pub given : HasSent side answers body
   pub sends : sent ++ g.output ≡ opening_of side ++ body
+  pub allowed : AreAllowed (caller_of side) begun
   pub whole : g.starved ≡ false → (g.called ≡ side) × (later ≡ [])
   pub idle : g.starved ≡ false → handed ≡ [] → IsIdle g.talk
 
@@ -63,9 +68,9 @@ first_sent Open server = refl
 first_sent (Locked locks) server = (refl, refl)
 
 pub keeps_first : (home : Home) (wire : Version) (doors : Doors) (server : List ℕ) (g : Guarding)
-    → g ≡ fresh_guard doors server home wire → Keeps doors server g [] [] [] []
+    → g ≡ fresh_guard doors server home wire → Keeps doors server g [] [] [] [] []
 keeps_first home wire doors server g is =
-    subst (λ (z : Guarding). Keeps doors server z [] [] [] []) (sym is)
+    subst (λ (z : Guarding). Keeps doors server z [] [] [] [] []) (sym is)
     (record {
       side = fresh_called doors server;
       doors_are = refl;
@@ -77,6 +82,7 @@ keeps_first home wire doors server g is =
       body = [];
       given = first_sent doors server;
       sends = refl;
+      allowed = tt;
       whole = λ _. (refl, refl);
       idle = λ _. λ _. record { stream = refl; waiting = refl };
     })
@@ -88,10 +94,10 @@ pub record Goes {V : Type 0} {way : Way V} (doors : Doors) (server : List ℕ) (
     (a b : Place way) (inner : List Turn) : Type 0 where
   pub follow : TurnLaw.Follow (within a) inner (within b)
   pub begins : begun_in inner ≡ begun_at t
-  pub keeps : (came handed answers sent : List ℕ)
-      → Keeps doors server a.guard came handed answers sent
+  pub keeps : (came handed answers sent : List ℕ) (begun : List Begun)
+      → Keeps doors server a.guard came handed answers sent begun
       → Keeps doors server b.guard (came ++ came_in t) (handed ++ received inner)
-      (answers ++ handed_out inner) (sent ++ taken_in t)
+      (answers ++ handed_out inner) (sent ++ taken_in t) (begun ++ begun_at t)
 
 abbrev pub GoesSome : {V : Type 0} → {way : Way V} → Doors → List ℕ → Turn → Place way → Place way
     → Type 0
@@ -109,27 +115,29 @@ no_truth : (b : Bool) → b ≡ true → b ≡ false → ⊥
 no_truth b is other = let bad : true ≡ false = sym is ∙ other in absurd cc
 
 -- what holds, of lists that are the same
-keeps_as : (doors : Doors) (server : List ℕ) (g : Guarding)
-    (came handed answers sent came1 handed1 answers1 sent1 : List ℕ) → came ≡ came1
-    → handed ≡ handed1 → answers ≡ answers1 → sent ≡ sent1
-    → Keeps doors server g came handed answers sent
-    → Keeps doors server g came1 handed1 answers1 sent1
-keeps_as doors server g came handed answers sent came1 handed1 answers1 sent1 c h a s k =
-    subst (λ (z : List ℕ). Keeps doors server g came1 handed1 answers1 z) s
-    (subst (λ (z : List ℕ). Keeps doors server g came1 handed1 z sent) a
-    (subst (λ (z : List ℕ). Keeps doors server g came1 z answers sent) h
-    (subst (λ (z : List ℕ). Keeps doors server g z handed answers sent) c k)))
+pub keeps_as : (doors : Doors) (server : List ℕ) (g : Guarding)
+    (came handed answers sent came1 handed1 answers1 sent1 : List ℕ) (begun begun1 : List Begun)
+    → came ≡ came1 → handed ≡ handed1 → answers ≡ answers1 → sent ≡ sent1 → begun ≡ begun1
+    → Keeps doors server g came handed answers sent begun
+    → Keeps doors server g came1 handed1 answers1 sent1 begun1
+keeps_as doors server g came handed answers sent came1 handed1 answers1 sent1 begun begun1 c h a s b
+    k =
+    subst (λ (z : List Begun). Keeps doors server g came1 handed1 answers1 sent1 z) b
+    (subst (λ (z : List ℕ). Keeps doors server g came1 handed1 answers1 z begun) s
+    (subst (λ (z : List ℕ). Keeps doors server g came1 handed1 z sent begun) a
+    (subst (λ (z : List ℕ). Keeps doors server g came1 z answers sent begun) h
+    (subst (λ (z : List ℕ). Keeps doors server g z handed answers sent begun) c k))))
 
 -- ---- nothing was let in, served or answered
 
 -- this came, and this was taken of what is sent
 still : (doors : Doors) (server : List ℕ) (g new : Guarding)
-    (came handed answers sent more taken : List ℕ)
-    → Keeps doors server g came handed answers sent → new.talk ≡ g.talk
+    (came handed answers sent more taken : List ℕ) (begun : List Begun)
+    → Keeps doors server g came handed answers sent begun → new.talk ≡ g.talk
     → (sent ++ taken) ++ new.output ≡ sent ++ g.output
     → (new.starved ≡ false → (g.starved ≡ false) × (new.called ≡ g.called) × (more ≡ []))
-    → Keeps doors server new (came ++ more) handed answers (sent ++ taken)
-still doors server g new came handed answers sent more taken h talk out fed = record {
+    → Keeps doors server new (came ++ more) handed answers (sent ++ taken) begun
+still doors server g new came handed answers sent more taken begun h talk out fed = record {
   side = h.side;
   doors_are = h.doors_are;
   server_is = h.server_is;
@@ -140,6 +148,7 @@ still doors server g new came handed answers sent more taken h talk out fed = re
   body = h.body;
   given = h.given;
   sends = out ∙ h.sends;
+  allowed = h.allowed;
   whole = λ is.
       let f = fed is in
       let w = h.whole f.0 in
@@ -159,12 +168,13 @@ goes_still doors server t a b talk quiet none out fed = (
   record {
     follow = sym (same_within a b talk quiet);
     begins = sym none;
-    keeps = λ came handed answers sent h.
+    keeps = λ came handed answers sent begun h.
         keeps_as doors server b.guard (came ++ came_in t) handed answers (sent ++ taken_in t)
-        (came ++ came_in t) (handed ++ []) (answers ++ []) (sent ++ taken_in t) refl
-        (sym (append-nil handed)) (sym (append-nil answers)) refl
-        (still doors server a.guard b.guard came handed answers sent (came_in t) (taken_in t) h talk
-        (out sent) fed);
+        (came ++ came_in t) (handed ++ []) (answers ++ []) (sent ++ taken_in t) begun
+        (begun ++ begun_at t) refl (sym (append-nil handed)) (sym (append-nil answers)) refl
+        (sym (append-nil begun) ∙ ap (λ (s : List Begun). begun ++ s) (sym none))
+        (still doors server a.guard b.guard came handed answers sent (came_in t) (taken_in t) begun
+        h talk (out sent) fed);
   },
 )
 
@@ -194,11 +204,18 @@ goes_taken doors server t a b is quiet none nothing parts =
 
 -- ---- a piece came
 
+-- whoever was known to call does so still
+allowed_still : (who now : Option Caller) (begun : List Begun) → (IsSome who → now ≡ who)
+    → AreAllowed who begun → AreAllowed now begun
+allowed_still who now [] same h = tt
+allowed_still who now (one ∷ begun) same h =
+    subst (λ (w : Option Caller). AreAllowed w (one ∷ begun)) (sym (same h.0.known)) h
+
 came_keeps : (doors : Doors) (server : List ℕ) (g new : Guarding)
-    (came handed answers sent piece more : List ℕ) → WantsRead g → LetsIn piece more g new
-    → Keeps doors server g came handed answers sent
-    → Keeps doors server new (came ++ piece) (handed ++ more) answers sent
-came_keeps doors server g new came handed answers sent piece more wants lets h =
+    (came handed answers sent piece more : List ℕ) (begun : List Begun) → WantsRead g
+    → LetsIn piece more g new → Keeps doors server g came handed answers sent begun
+    → Keeps doors server new (came ++ piece) (handed ++ more) answers sent begun
+came_keeps doors server g new came handed answers sent piece more begun wants lets h =
     let now = h.whole wants.fed in
     let c = g.called in
     let d = new.called in
@@ -227,6 +244,9 @@ came_keeps doors server g new came handed answers sent piece more wants lets h =
           ∙ ap (λ (s : List ℕ). s ++ first) empty
           ∙ sym (greeted c d h.front handed piece (handed ++ more) answers h.body wants.hears
           lets.same was given stands);
+      allowed =
+          allowed_still (caller_of c) (caller_of d) begun lets.stays
+          (subst (λ (e : CalledOf). AreAllowed (caller_of e) begun) (sym now.0) h.allowed);
       whole = λ _. (refl, refl);
       idle = λ _. λ none.
           idle_came new.talk.end more g.talk new.talk
@@ -244,13 +264,13 @@ goes_came doors server piece more a b wants lets quiet =
       record {
         follow = (within b, (wants.served, lets.talk, still), refl);
         begins = refl;
-        keeps = λ came handed answers sent h.
+        keeps = λ came handed answers sent begun h.
             keeps_as doors server b.guard (came ++ piece) (handed ++ more) answers sent
-            (came ++ piece) (handed ++ (more ++ [])) (answers ++ []) (sent ++ []) refl
-            (ap (λ (s : List ℕ). handed ++ s) (sym (append-nil more))) (sym (append-nil answers))
-            (sym (append-nil sent))
-            (came_keeps doors server a.guard b.guard came handed answers sent piece more wants lets
-            h);
+            (came ++ piece) (handed ++ (more ++ [])) (answers ++ []) (sent ++ []) begun
+            (begun ++ []) refl (ap (λ (s : List ℕ). handed ++ s) (sym (append-nil more)))
+            (sym (append-nil answers)) (sym (append-nil sent)) (sym (append-nil begun))
+            (came_keeps doors server a.guard b.guard came handed answers sent piece more begun wants
+            lets h);
       },
     )
 
@@ -260,11 +280,12 @@ goes_came doors server piece more a b wants lets quiet =
 record StaysSo (c d : CalledOf) : Type 0 where
   opening : opening_of d ≡ opening_of c
   desk : IsSameDesk c d
+  caller : caller_of d ≡ caller_of c
 
 stays_same : (c d : CalledOf) → d ≡ c → StaysSo c d
 stays_same c d is =
     subst (λ (e : CalledOf). StaysSo c e) (sym is)
-    (record { opening = refl; desk = record { doors = refl; random = refl } })
+    (record { opening = refl; desk = record { doors = refl; random = refl }; caller = refl })
 
 stays_plain : (p : Option Caller) (bytes sent : List ℕ) (c d : CalledOf)
     → SendsPlain p bytes c d sent → StaysSo c d
@@ -277,6 +298,18 @@ opening_tried None t u server = refl
 opening_tried (Some Unsealed) t u server = refl
 opening_tried (Some NoMemory) t u server = refl
 
+-- so is the holder of a key
+entry_holder : (o : Option TunnelOf) (bytes sent : List ℕ) (t u : TrialOf)
+    → SealsEntry o bytes t u sent → u.holder ≡ t.holder
+entry_holder None bytes sent t u h = ap (λ (z : TrialOf). z.holder) h.1
+entry_holder (Some e) bytes sent t u h = ap (λ (z : TrialOf). z.holder) h.2
+
+same_holder : (k : Option Holder) (bytes sent : List ℕ) (t u : TrialOf)
+    → SealsAs k bytes t u sent → u.holder ≡ t.holder
+same_holder None bytes sent t u h = ap (λ (z : TrialOf). z.holder) h.1
+same_holder (Some Hall) bytes sent t u h = ap (λ (z : TrialOf). z.holder) h.2
+same_holder (Some Entry) bytes sent t u h = entry_holder t.entry bytes sent t u h
+
 stays_by : (o : Option TrialOf) (c d : CalledOf) (bytes sent : List ℕ) → c.trial ≡ o
     → SendsBy o bytes c d sent → StaysSo c d
 stays_by None c d bytes sent is h = stays_plain c.passing bytes sent c d h
@@ -287,6 +320,10 @@ stays_by (Some t) c d bytes sent is h =
           opening_tried c.refusal t h.0 c.random
           ∙ sym (ap (λ (o : Option TrialOf). opening_by c.refusal o c.random) is);
       desk = record { doors = refl; random = refl };
+      caller =
+          ap (λ (k : Option Holder). option_map held_by k)
+          (same_holder t.holder bytes sent t h.0 h.1)
+          ∙ sym (ap (λ (o : Option TrialOf). caller_by o c.passing) is);
     })
 
 -- something was let in, so somebody is
@@ -300,39 +337,73 @@ not_idle : (talk served : Talk) (frame : Frame) → Turns.BeginsNext talk served
 not_idle talk served frame next idle =
     let bad : [] ≡ frame ∷ served.waiting = sym idle.waiting ∙ next.next in absurd cc
 
--- its answer was lost
-lost_keeps : (doors : Doors) (server : List ℕ) (g new : Guarding) (served : Talk) (frame : Frame)
-    (came handed answers sent : List ℕ) → Loses served g new
-    → Keeps doors server g came handed answers sent
-    → Keeps doors server new came handed answers sent
-lost_keeps doors server g new served frame came handed answers sent loses h = record {
-  side = h.side;
-  doors_are = h.doors_are;
-  server_is = h.server_is;
-  front = h.front;
-  later = h.later;
-  parts = h.parts;
-  stands = h.stands;
-  body = h.body;
-  given = h.given;
-  sends = ap (λ (s : List ℕ). sent ++ s) loses.output ∙ h.sends;
-  whole = λ no. absurd (no_truth new.starved loses.starved no);
-  idle = λ no. absurd (no_truth new.starved loses.starved no);
+-- this frame is begun as one of whoever calls
+one_allowed : (g : Guarding) (side : CalledOf) (served : Talk) (one : Begun)
+    (front handed : List ℕ) → g.called ≡ side → Turns.BeginsNext g.talk served one.frame
+    → (handed ≡ [] → IsIdle g.talk) → one.may ≡ permission_of (caller_of g.called)
+    → Stands side front handed → IsAllowed (caller_of side) one
+one_allowed g side served one front handed is next idle may stands = record {
+  known =
+      let_somebody (caller_of side) side.doors side.random front handed
+      (admits side front handed stands)
+      (λ (none : handed ≡ []). not_idle g.talk served one.frame next (idle none));
+  may = may ∙ ap (λ (e : CalledOf). permission_of (caller_of e)) is;
 }
 
+all_and_one : (who : Option Caller) (begun : List Begun) (one : Begun) → AreAllowed who begun
+    → IsAllowed who one → AreAllowed who (begun ++ one ∷ [])
+all_and_one who [] one h last = (last, tt)
+all_and_one who (b ∷ begun) one h last = (h.0, all_and_one who begun one h.1 last)
+
+allowed_more : (g : Guarding) (side : CalledOf) (served : Talk) (one : Begun)
+    (front handed : List ℕ) (begun : List Begun) → g.called ≡ side
+    → Turns.BeginsNext g.talk served one.frame → (handed ≡ [] → IsIdle g.talk)
+    → one.may ≡ permission_of (caller_of g.called) → Stands side front handed
+    → AreAllowed (caller_of side) begun → AreAllowed (caller_of side) (begun ++ one ∷ [])
+allowed_more g side served one front handed begun is next idle may stands h =
+    all_and_one (caller_of side) begun one h
+    (one_allowed g side served one front handed is next idle may stands)
+
+-- its answer was lost
+lost_keeps : (doors : Doors) (server : List ℕ) (g new : Guarding) (served : Talk) (one : Begun)
+    (came handed answers sent : List ℕ) (begun : List Begun) → IsFree g
+    → Turns.BeginsNext g.talk served one.frame → one.may ≡ permission_of (caller_of g.called)
+    → Loses served g new → Keeps doors server g came handed answers sent begun
+    → Keeps doors server new came handed answers sent (begun ++ one ∷ [])
+lost_keeps doors server g new served one came handed answers sent begun free next may loses h =
+    record {
+      side = h.side;
+      doors_are = h.doors_are;
+      server_is = h.server_is;
+      front = h.front;
+      later = h.later;
+      parts = h.parts;
+      stands = h.stands;
+      body = h.body;
+      given = h.given;
+      sends = ap (λ (s : List ℕ). sent ++ s) loses.output ∙ h.sends;
+      allowed =
+          allowed_more g h.side served one h.front handed begun (h.whole free.fed).0 next
+          (h.idle free.fed) may h.stands h.allowed;
+      whole = λ no. absurd (no_truth new.starved loses.starved no);
+      idle = λ no. absurd (no_truth new.starved loses.starved no);
+    }
+
 -- or it was sealed
-sealed_keeps : (doors : Doors) (server : List ℕ) (g new : Guarding) (served : Talk) (frame : Frame)
-    (came handed answers sent : List ℕ) → IsFree g → Turns.BeginsNext g.talk served frame
-    → Seals served g new → Keeps doors server g came handed answers sent
-    → Keeps doors server new came handed (answers ++ served.pending) sent
-sealed_keeps doors server g new served frame came handed answers sent free next seals h =
+sealed_keeps : (doors : Doors) (server : List ℕ) (g new : Guarding) (served : Talk) (one : Begun)
+    (came handed answers sent : List ℕ) (begun : List Begun) → IsFree g
+    → Turns.BeginsNext g.talk served one.frame → one.may ≡ permission_of (caller_of g.called)
+    → Seals served g new → Keeps doors server g came handed answers sent begun
+    → Keeps doors server new came handed (answers ++ served.pending) sent (begun ++ one ∷ [])
+sealed_keeps doors server g new served one came handed answers sent begun free next may seals h =
     let now = h.whole free.fed in
     let c = g.called in
     let e = new.called in
     let out = new.output in
     let was = subst (λ (z : CalledOf). Stands z h.front handed) (sym now.0) h.stands in
     let given = subst (λ (z : CalledOf). HasSent z answers h.body) (sym now.0) h.given in
-    let full = λ (none : handed ≡ []). not_idle g.talk served frame next (h.idle free.fed none) in
+    let full = λ (none : handed ≡ []). not_idle g.talk served one.frame next (h.idle free.fed none)
+    in
     let some =
     let_somebody (caller_of c) c.doors c.random h.front handed (admits c h.front handed was) full in
     let same = stays_by c.trial c e served.pending out refl seals.sends in
@@ -354,27 +425,34 @@ sealed_keeps doors server g new served frame came handed answers sent free next 
           ap (λ (s : List ℕ). s ++ out)
           (empty ∙ ap (λ (s : List ℕ). s ++ h.body) (sym same.opening))
           ∙ append_assoc (opening_of e) h.body out;
+      allowed =
+          subst (λ (w : Option Caller). AreAllowed w (begun ++ one ∷ []))
+          (ap (λ (z : CalledOf). caller_of z) (sym now.0) ∙ sym same.caller)
+          (allowed_more g h.side served one h.front handed begun now.0 next (h.idle free.fed) may
+          h.stands h.allowed);
       whole = λ _. (refl, refl);
       idle = λ _. λ none. absurd (full none);
     }
 
 goes_lost : {V : Type 0} {way : Way V} (doors : Doors) (server : List ℕ) (one : Begun)
-    (served : Talk) (a b : Place way)
-    → TurnLaw.Turns (Began one) (within a) (with_talk b served) → Loses served a.guard b.guard
+    (served : Talk) (a b : Place way) → IsFree a.guard
+    → TurnLaw.Turns (Began one) (within a) (with_talk b served)
+    → one.may ≡ permission_of (caller_of a.guard.called) → Loses served a.guard b.guard
     → GoesSome doors server (Began one) a b
-goes_lost doors server one served a b turn loses =
+goes_lost doors server one served a b free turn may loses =
     let here = subst (λ (t : Talk). TurnLaw.Turns (Began one) (within a) (with_talk b t))
     (sym loses.talk) turn in (
       Began one ∷ [],
       record {
         follow = (within b, here, refl);
         begins = refl;
-        keeps = λ came handed answers sent h.
+        keeps = λ came handed answers sent begun h.
             keeps_as doors server b.guard came handed answers sent (came ++ []) (handed ++ [])
-            (answers ++ []) (sent ++ []) (sym (append-nil came)) (sym (append-nil handed))
-            (sym (append-nil answers)) (sym (append-nil sent))
-            (lost_keeps doors server a.guard b.guard served one.frame came handed answers sent loses
-            h);
+            (answers ++ []) (sent ++ []) (begun ++ one ∷ []) (begun ++ one ∷ [])
+            (sym (append-nil came)) (sym (append-nil handed)) (sym (append-nil answers))
+            (sym (append-nil sent)) refl
+            (lost_keeps doors server a.guard b.guard served one came handed answers sent begun free
+            turn.0 may loses h);
       },
     )
 
@@ -392,32 +470,33 @@ answer_taken b served is =
 
 goes_sealed : {V : Type 0} {way : Way V} (doors : Doors) (server : List ℕ) (one : Begun)
     (served : Talk) (a b : Place way) → IsFree a.guard
-    → TurnLaw.Turns (Began one) (within a) (with_talk b served) → Seals served a.guard b.guard
+    → TurnLaw.Turns (Began one) (within a) (with_talk b served)
+    → one.may ≡ permission_of (caller_of a.guard.called) → Seals served a.guard b.guard
     → GoesSome doors server (Began one) a b
-goes_sealed doors server one served a b free turn seals = (
+goes_sealed doors server one served a b free turn may seals = (
   Began one ∷ Took served.pending ∷ [],
   record {
     follow =
         (with_talk b served, turn, (within b, answer_taken b served seals.talk, refl));
     begins = refl;
-    keeps = λ came handed answers sent h.
+    keeps = λ came handed answers sent begun h.
         keeps_as doors server b.guard came handed (answers ++ served.pending) sent (came ++ [])
-        (handed ++ []) (answers ++ (served.pending ++ [])) (sent ++ []) (sym (append-nil came))
-        (sym (append-nil handed))
+        (handed ++ []) (answers ++ (served.pending ++ [])) (sent ++ []) (begun ++ one ∷ [])
+        (begun ++ one ∷ []) (sym (append-nil came)) (sym (append-nil handed))
         (ap (λ (s : List ℕ). answers ++ s) (sym (append-nil served.pending)))
-        (sym (append-nil sent))
-        (sealed_keeps doors server a.guard b.guard served one.frame came handed answers sent free
-        turn.0 seals h);
+        (sym (append-nil sent)) refl
+        (sealed_keeps doors server a.guard b.guard served one came handed answers sent begun free
+        turn.0 may seals h);
   },
 )
 
 -- ---- no frame was begun
 
 ran_keeps : (doors : Doors) (server : List ℕ) (g new : Guarding)
-    (came handed answers sent : List ℕ) → RunsOut g new
-    → Keeps doors server g came handed answers sent
-    → Keeps doors server new came handed answers sent
-ran_keeps doors server g new came handed answers sent runs h =
+    (came handed answers sent : List ℕ) (begun : List Begun) → RunsOut g new
+    → Keeps doors server g came handed answers sent begun
+    → Keeps doors server new came handed answers sent begun
+ran_keeps doors server g new came handed answers sent begun runs h =
     let now = h.whole runs.free.fed in
     record {
       side = h.side;
@@ -430,6 +509,7 @@ ran_keeps doors server g new came handed answers sent runs h =
       body = h.body;
       given = h.given;
       sends = ap (λ (z : Guarding). sent ++ z.output) runs.same ∙ h.sends;
+      allowed = h.allowed;
       whole = λ _. (ap (λ (z : Guarding). z.called) runs.same ∙ now.0, now.1);
       idle = λ _. λ none.
           let was = h.idle runs.free.fed none in
@@ -448,11 +528,12 @@ goes_out doors server a b runs quiet =
       record {
         follow = (within b, (inr runs.talk, still), refl);
         begins = refl;
-        keeps = λ came handed answers sent h.
+        keeps = λ came handed answers sent begun h.
             keeps_as doors server b.guard came handed answers sent (came ++ []) (handed ++ [])
-            (answers ++ []) (sent ++ []) (sym (append-nil came)) (sym (append-nil handed))
-            (sym (append-nil answers)) (sym (append-nil sent))
-            (ran_keeps doors server a.guard b.guard came handed answers sent runs h);
+            (answers ++ []) (sent ++ []) begun (begun ++ []) (sym (append-nil came))
+            (sym (append-nil handed)) (sym (append-nil answers)) (sym (append-nil sent))
+            (sym (append-nil begun))
+            (ran_keeps doors server a.guard b.guard came handed answers sent begun runs h);
       },
     )
 
@@ -470,9 +551,9 @@ turn_goes doors server (Came piece) a b (wants, inl starves, quiet) =
 turn_goes doors server (Came piece) a b (wants, inr lets, quiet) =
     goes_came doors server piece lets.0 a b wants lets.1 quiet
 turn_goes doors server (Began one) a b (free, served, turn, may, inl loses) =
-    goes_lost doors server one served a b turn loses
+    goes_lost doors server one served a b free turn may loses
 turn_goes doors server (Began one) a b (free, served, turn, may, inr seals) =
-    goes_sealed doors server one served a b free turn seals
+    goes_sealed doors server one served a b free turn may seals
 turn_goes doors server Rested a b (inl rests, quiet) =
     goes_taken doors server Rested a b (same_output a.guard b.guard rests.1) quiet refl refl
     (ap (λ (g : Guarding). g.output) (sym rests.1))

@@ -1,7 +1,7 @@
 -- What follows of the turns of a guarded connection.
 use Rattle.std.specs.Prelude.{◌≡◌, ◌⊎◌, ℕ, Bool, true, false, List, [], ◌∷◌, ◌++◌, length, Option}
-use Rattle.std.specs.Prelude.{None, Some, IsTrue}
-use Rattle.std.specs.List.{flat_map}
+use Rattle.std.specs.Prelude.{None, Some, IsSome, IsTrue}
+use Rattle.std.specs.List.{AllByRecursion, flat_map}
 use Rattle.answers.specs.declared.desk.Desk.{Ghosts as DeskOf}
 use Rattle.seal.specs.Records.{AreBodies, preface_of, records}
 use Rattle.seal.specs.Streams.{joined}
@@ -28,6 +28,7 @@ use Rattle.wire.specs.declared.values.Version.{Version}
 use Rattle.wire.specs.Spelling.{spelling}
 use Rattle.guarded.specs.Guarding.{Guarding, fresh_guard}
 use Rattle.guarded.specs.GuardTurns.{Follow, Place, within}
+use Rattle.guarded.specs.Permitting.{permission_of}
 
 -- ---- what is let in and served, and what is sent
 
@@ -45,24 +46,38 @@ IsGreeting server front (Some (caller.Holder key)) first = first ≡ preface_of 
 IsGreeting server front None first =
     (IsShort front × (first ≡ [])) ⊎ (first ≡ preface_of server)
 
--- What came, as far as it was read, was let in as the doors admit it. The frames begun stand first
--- in what was let in, and are served. What was sent is the desk's preface, where there is one, and
--- then the answers, sealed as the stream of whoever calls.
-pub record IsGuarded {V : Type 0} {way : Way V} (home : Home) (doors : Doors) (server : List ℕ)
-    (a b : Place way) (came sent : List ℕ) (begun : List Begun) : Type 0 where
+-- it is known who calls, and a frame is served as far as they may ask
+pub record IsAllowed (who : Option Caller) (one : Begun) : Type 0 where
+  pub known : IsSome who
+  pub may : one.may ≡ permission_of who
+
+abbrev pub AreAllowed : Option Caller → List Begun → Type 0
+AreAllowed who begun = AllByRecursion (λ (one : Begun). IsAllowed who one) begun
+
+-- What came, as far as it was read, was let in as the doors admit it. What was sent is the desk's
+-- preface, where there is one, and then the answers, sealed as the stream of whoever calls. Each
+-- frame was begun as one of whoever calls.
+pub record IsGuardedStream (doors : Doors) (server : List ℕ) (g : Guarding)
+    (came sent handed answers : List ℕ) (begun : List Begun) : Type 0 where
   pub who : Option Caller
   pub front : List ℕ
+  pub first : List ℕ
+  pub body : List ℕ
+  pub read : IsRead came front who g
+  pub admits : Admits doors server front handed who
+  pub parts : sent ++ g.output ≡ first ++ body
+  pub greets : IsGreeting server front who first
+  pub sends : IsSent doors server front who answers body
+  pub allowed : AreAllowed who begun
+
+-- The stream is so, and the frames begun stand first in what was let in, and are served.
+pub record IsGuarded {V : Type 0} {way : Way V} (home : Home) (doors : Doors) (server : List ℕ)
+    (a b : Place way) (came sent : List ℕ) (begun : List Begun) : Type 0 where
   pub handed : List ℕ
   pub answers : List ℕ
   pub rest : List ℕ
-  pub first : List ℕ
-  pub body : List ℕ
-  pub read : IsRead came front who b.guard
-  pub admits : Admits doors server front handed who
+  pub stream : IsGuardedStream doors server b.guard came sent handed answers begun
   pub served : AreServed home (within a) (within b) handed answers begun rest
-  pub parts : sent ++ b.guard.output ≡ first ++ body
-  pub greets : IsGreeting server front who first
-  pub sends : IsSent doors server front who answers body
 
 -- of every list of turns of a guarded connection with a desk of a kind, from its first turn on
 abbrev pub GuardsServe : {V : Type 0} → DeskOf V → Type 0

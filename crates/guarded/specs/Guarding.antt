@@ -3,8 +3,8 @@ use Rattle.std.specs.Prelude.{◌≡◌, ◌≢◌, ◌⊎◌, ℕ, ◌&&◌, no
 use Rattle.std.specs.Prelude.{length, drop, Option, None, Some}
 use Rattle.answers.specs.declared.desk.Desk.{Ghosts as DeskOf}
 use Rattle.seal.specs.Records.{preface_of}
-use Rattle.sealed.specs.Calls.{CalledOf, IsSameDesk, Sends, caller_of, fresh_called, is_over}
-use Rattle.sealed.specs.Calls.{is_sealed}
+use Rattle.sealed.specs.Calls.{CalledOf, IsSameDesk, KeepsCaller, Sends, caller_of, fresh_called}
+use Rattle.sealed.specs.Calls.{is_over, is_sealed}
 use Rattle.sealed.specs.Calls as Calls
 use Rattle.sealed.specs.declared.callers.Caller.{Caller}
 use Rattle.sealed.specs.declared.callers.Caller.TheVariants.{Anyone, Passer}
@@ -88,6 +88,7 @@ pub record LetsIn (piece more : List ℕ) (old new : Guarding) : Type 0 where
   pub receives : Calls.Receives piece old.called new.called more
   pub same : IsSameDesk old.called new.called
   pub sends : KeepsSent old.called new.called
+  pub stays : KeepsCaller old.called new.called
   pub talk : Turns.Receives more old.talk new.talk
   pub output : new.output
       ≡ greeting_if

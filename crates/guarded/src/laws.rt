@@ -6,8 +6,9 @@ use answers::Desk;
 
 /// However the pieces of a stream were cut and what is sent was taken, the frames begun are served
 /// as `serving::laws::turns_serve` says, and they stand first in what the doors admit of what came:
-/// all of it where the desk has no key, or the bodies of records that fit under a key. To whoever
-/// is let in without a key the answers are sent as they are: a law.
+/// all of it where the desk has no key, or the bodies of records that fit under a key. Each of them
+/// was served as far as whoever calls may ask. To whoever is let in without a key the answers are
+/// sent as they are: a law.
 pub fn guards_serve<D: Desk>()
     ensures { GuardsServe D.Desk }
 {}

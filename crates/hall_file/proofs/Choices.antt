@@ -1,8 +1,8 @@
 -- What a file says leaves no choice.
 use Rattle.std.proofs.Common.{◌≡◌, ℕ, List, [], ◌∷◌, ◌++◌, map, length, refl, ap, sym}
-use Rattle.std.proofs.Common.{◌∙◌, arith, Some, Bool, true, false, ◌||◌}
+use Rattle.std.proofs.Common.{◌∙◌, arith, Option, None, Some, Bool, true, false, ◌||◌}
 use Rattle.std.specs.List.{AllByRecursion, IsDistinct, list_any}
-use Rattle.std.specs.Prelude.{bytes_eq}
+use Rattle.std.specs.Prelude.{bytes_eq, Err, Ok}
 use Rattle.std.proofs.lemmas.Bool.{false≢true}
 use Rattle.std.proofs.lemmas.List.{length-map}
 use Rattle.std.proofs.lemmas.Map.Keys.{IsDistinct-head, IsDistinct-tail}
@@ -11,14 +11,15 @@ use Rattle.toml.specs.Data.{Data, string, as_str, as_array, Members, get_member}
 use Rattle.toml.specs.View.{items_of}
 use Rattle.hall_file.specs.Addresses.{IsAddress, is_count}
 use Rattle.hall_file.specs.Files.{SaysHall, Refuses, Opens}
-use Rattle.hall_file.specs.Members.{hall_name, desks_name, unknown_name}
-use Rattle.hall_file.specs.Members.{list_of, SaysDesks, FailsDesks, HasItem, hall_of}
+use Rattle.hall_file.specs.Members.{hall_name, desks_name, key_name, unknown_name, key_of}
+use Rattle.hall_file.specs.Members.{list_of, SaysDesks, FailsDesks, HasItem, hall_of, SaysKey}
 use Rattle.hall_file.proofs.Texts.{same_texts}
 use Rattle.hall_file.specs.declared.fault.DesksFault.{DesksFault}
 use Rattle.hall_file.specs.declared.fault.DesksFault.TheVariants.{NotList, BadCount, NotText}
 use Rattle.hall_file.specs.declared.fault.DesksFault.TheVariants.{NotAddress, Twice}
 use Rattle.hall_file.specs.declared.fault.HallFault.{HallFault}
 use Rattle.hall_file.specs.declared.fault.HallFault.TheVariants as fault
+use Rattle.hall_file.specs.declared.fault.KeyFault.{KeyFault}
 use Rattle.hall_file.specs.declared.fault.Member.TheVariants as name
 
 same_items : (ds es : List Data) → items_of ds ≡ items_of es → ds ≡ es
@@ -133,45 +134,76 @@ pub same_texts_of : (texts desks : List (List ℕ))
 same_texts_of texts desks e =
     sym (same_strings texts desks (same_lists (map string texts) (map string desks) e))
 
+same_keys : (ms ns : Members) (key lock : Option (List ℕ)) → ms ≡ ns
+    → SaysKey ms key → SaysKey ns lock → key ≡ lock
+same_keys ms ns None None same a b = refl
+same_keys ms ns None (Some path) same a (d, found, is) =
+    let both = sym found ∙ ap (get_member key_name) (sym same) ∙ a in absurd (cc)
+same_keys ms ns (Some path) None same (d, found, is) b =
+    let both = sym found ∙ ap (get_member key_name) same ∙ b in absurd (cc)
+same_keys ms ns (Some path) (Some other) same (d, found, is) (e, at, says) =
+    let value = same_value key_name ms ns d e same found at in
+    let oks : Ok path ≡ Ok other = sym is ∙ ap key_of value ∙ says in cc
+
 pub one_hall : (bytes : List ℕ) (hall other : ℕ) (desks others : List (List ℕ))
-    → SaysHall bytes hall desks → SaysHall bytes other others → (hall ≡ other) × (desks ≡ others)
-one_hall bytes hall other desks others a b =
+    (key lock : Option (List ℕ))
+    → SaysHall bytes hall desks key → SaysHall bytes other others lock
+    → (hall ≡ other) × (desks ≡ others) × (key ≡ lock)
+one_hall bytes hall other desks others key lock a b =
     let same = same_members bytes a.members b.members a.has_hall.known.opens
     b.has_hall.known.opens in
     let number = same_value hall_name a.members b.members a.has_hall.value b.has_hall.value same
     a.has_hall.found b.has_hall.found in
-    let list = same_value desks_name a.members b.members a.value b.value same a.found b.found in
+    let list = same_value desks_name a.members b.members a.lists.0 b.lists.0 same a.lists.1
+    b.lists.1 in
     let oks = sym a.has_hall.says ∙ ap hall_of number ∙ b.has_hall.says in (
       cc,
       same_strings desks others (same_lists (map string desks) (map string others)
-          (sym a.says.value ∙ list ∙ b.says.value)),
+          (sym a.lists.2.value ∙ list ∙ b.lists.2.value)),
+      same_keys a.members b.members key lock same a.says b.says,
     )
 
+-- a member that says a path fails in no way
+key_excludes : (ms : Members) (key : Option (List ℕ)) (d : Data) (fault : KeyFault) → SaysKey ms key
+    → get_member key_name ms ≡ Some d → key_of d ≡ Err fault → ⊥
+key_excludes ms None d fault none found fails = let both = sym found ∙ none in absurd (cc)
+key_excludes ms (Some path) d fault (e, at, is) found fails =
+    let value = same_Some e d (sym at ∙ found) in
+    let both = sym is ∙ ap key_of value ∙ fails in absurd (cc)
+
 -- what a file that says a hall is refused for
-pub refused_for : (bytes : List ℕ) (hall : ℕ) (desks : List (List ℕ)) (why : HallFault)
-    → SaysHall bytes hall desks → Refuses bytes why → why ≡ fault.NoMemory
-refused_for bytes hall desks fault.TooLong a r =
-    absurd (omega (arith, a.has_hall.known.opens.short))
-refused_for bytes hall desks (fault.NotUtf8 line) a (short, no_text, at) =
-    absurd (no_text a.has_hall.known.opens.document.utf8)
-refused_for bytes hall desks (fault.NotToml line reason) a (short, text, none, kind, span, at) =
-    let value = a.has_hall.known.opens.document.value in absurd (cc)
-refused_for bytes hall desks (fault.Unknown line text) a (ms, opens, unknown, at) =
-    let same = same_members bytes ms a.members opens a.has_hall.known.opens in
-    let found = sym unknown ∙ ap unknown_name same ∙ a.has_hall.known.known in absurd (cc)
-refused_for bytes hall desks (fault.Missing name.Hall) a (ms, known, none) =
-    let same = same_members bytes ms a.members known.opens a.has_hall.known.opens in
-    let found = sym none ∙ ap (get_member hall_name) same ∙ a.has_hall.found in absurd (cc)
-refused_for bytes hall desks (fault.Hall line wrong) a (ms, known, d, found, fails, at) =
-    let same = same_members bytes ms a.members known.opens a.has_hall.known.opens in
-    let value = same_value hall_name ms a.members d a.has_hall.value same found
-    a.has_hall.found in
-    let both = sym fails ∙ ap hall_of value ∙ a.has_hall.says in absurd (cc)
-refused_for bytes hall desks (fault.Missing name.Desks) a (ms, other, has, none) =
-    let same = same_members bytes ms a.members has.known.opens a.has_hall.known.opens in
-    let found = sym none ∙ ap (get_member desks_name) same ∙ a.found in absurd (cc)
-refused_for bytes hall desks (fault.Desks line wrong) a (ms, other, has, d, found, fails, at) =
-    let same = same_members bytes ms a.members has.known.opens a.has_hall.known.opens in
-    let value = same_value desks_name ms a.members d a.value same found a.found in
-    absurd (desks_exclude a.value desks wrong a.says (rw value at fails))
-refused_for bytes hall desks fault.NoMemory a r = refl
+pub refused_for : (bytes : List ℕ) (hall : ℕ) (desks : List (List ℕ)) (key : Option (List ℕ))
+    (why : HallFault)
+    → SaysHall bytes hall desks key → Refuses bytes why → why ≡ fault.NoMemory
+refused_for bytes hall desks key fault.TooLong s r =
+    absurd (omega (arith, s.has_hall.known.opens.short))
+refused_for bytes hall desks key (fault.NotUtf8 line) s (short, no_text, at) =
+    absurd (no_text s.has_hall.known.opens.document.utf8)
+refused_for bytes hall desks key (fault.NotToml line reason) s (short, text, none, kind, span, at) =
+    let value = s.has_hall.known.opens.document.value in absurd (cc)
+refused_for bytes hall desks key (fault.Unknown line text) s (ms, opens, unknown, at) =
+    let known = s.has_hall.known in
+    let same = same_members bytes ms s.members opens known.opens in
+    let found = sym unknown ∙ ap unknown_name same ∙ known.known in absurd (cc)
+refused_for bytes hall desks key (fault.Missing name.Hall) s (ms, known, none) =
+    let has = s.has_hall in
+    let same = same_members bytes ms s.members known.opens has.known.opens in
+    let found = sym none ∙ ap (get_member hall_name) same ∙ has.found in absurd (cc)
+refused_for bytes hall desks key (fault.Hall line wrong) s (ms, known, d, found, fails, at) =
+    let has = s.has_hall in
+    let same = same_members bytes ms s.members known.opens has.known.opens in
+    let value = same_value hall_name ms s.members d has.value same found has.found in
+    let both = sym fails ∙ ap hall_of value ∙ has.says in absurd (cc)
+refused_for bytes hall desks key (fault.Missing name.Desks) s (ms, other, has, none) =
+    let same = same_members bytes ms s.members has.known.opens s.has_hall.known.opens in
+    let found = sym none ∙ ap (get_member desks_name) same ∙ s.lists.1 in absurd (cc)
+refused_for bytes hall desks key (fault.Desks line wrong) s (ms, other, has, d, found, fails, at) =
+    let same = same_members bytes ms s.members has.known.opens s.has_hall.known.opens in
+    let value = same_value desks_name ms s.members d s.lists.0 same found s.lists.1 in
+    absurd (desks_exclude s.lists.0 desks wrong s.lists.2 (rw value at fails))
+refused_for bytes hall desks key (fault.Key line wrong) s
+    (ms, other, others, has, lists, d, found, fails, at) =
+    let same = same_members bytes ms s.members has.known.opens s.has_hall.known.opens in
+    absurd (key_excludes s.members key d wrong s.says
+    (ap (get_member key_name) (sym same) ∙ found) fails)
+refused_for bytes hall desks key fault.NoMemory s r = refl

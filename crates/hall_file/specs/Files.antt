@@ -1,5 +1,6 @@
 -- The file of a hall: what it says, and why a file says nothing.
-use Rattle.std.specs.Prelude.{◌≡◌, ◌≤◌, ◌<◌, ℕ, pos, List, map, length, Some, None, Ok, Err}
+use Rattle.std.specs.Prelude.{◌≡◌, ◌≤◌, ◌<◌, ℕ, pos, List, map, length, Option, Some, None, Ok}
+use Rattle.std.specs.Prelude.{Err}
 use Rattle.std.specs.Prelude.{string_bytes}
 use Rattle.std.specs.Str.{IsUtf8}
 use Rattle.std.specs.Str.Lossy.{utf8_valid_len}
@@ -7,12 +8,12 @@ use Rattle.toml.specs.Data.{Data, Members, no_members, member, integer, string, 
 use Rattle.toml.specs.Parse.{parse_document}
 use Rattle.toml.specs.Errors.{IsWithin, IsMemory, span_start}
 use Rattle.hall_file.specs.Lines.{IsDocument, IsLineOf, line_at}
-use Rattle.hall_file.specs.Members.{hall_name, desks_name, unknown_name, hall_of, list_of}
-use Rattle.hall_file.specs.Members.{SaysDesks, FailsDesks}
+use Rattle.hall_file.specs.Members.{hall_name, desks_name, key_name, unknown_name, hall_of, key_of}
+use Rattle.hall_file.specs.Members.{list_of, SaysDesks, FailsDesks, SaysKey}
 use Rattle.hall_file.specs.declared.fault.Member.TheVariants as name
 use Rattle.hall_file.specs.declared.fault.HallFault.{HallFault}
 use Rattle.hall_file.specs.declared.fault.HallFault.TheVariants.{TooLong, NotUtf8, NotToml}
-use Rattle.hall_file.specs.declared.fault.HallFault.TheVariants.{Unknown, Missing, Hall, Desks}
+use Rattle.hall_file.specs.declared.fault.HallFault.TheVariants.{Unknown, Missing, Hall, Desks, Key}
 use Rattle.hall_file.specs.declared.fault.HallFault.TheVariants.{NoMemory}
 
 -- 8 KiB
@@ -24,7 +25,7 @@ pub record Opens (bytes : List ℕ) (ms : Members) : Type 0 where
   pub short : length bytes ≤ most_bytes
   pub document : IsDocument bytes ms
 
--- no member stands there but `hall` and `desks`
+-- no member stands there but `hall`, `desks` and `key`
 pub record IsKnown (bytes : List ℕ) (ms : Members) : Type 0 where
   pub opens : Opens bytes ms
   pub known : unknown_name ms ≡ None
@@ -36,13 +37,17 @@ pub record HasHall (bytes : List ℕ) (ms : Members) (hall : ℕ) : Type 0 where
   pub found : get_member hall_name ms ≡ Some value
   pub says : hall_of value ≡ Ok hall
 
--- the file says this hall and the addresses of these desks
-pub record SaysHall (bytes : List ℕ) (hall : ℕ) (desks : List (List ℕ)) : Type 0 where
+-- `desks` has the addresses of these desks
+abbrev pub ListsDesks : Members → List (List ℕ) → Type 0
+ListsDesks ms desks = (d : Data) × (get_member desks_name ms ≡ Some d) × SaysDesks d desks
+
+-- the file says this hall, the addresses of these desks, and the path of its key, where it has one
+pub record SaysHall (bytes : List ℕ) (hall : ℕ) (desks : List (List ℕ)) (key : Option (List ℕ))
+    : Type 0 where
   pub members : Members
   pub has_hall : HasHall bytes members hall
-  pub value : Data
-  pub found : get_member desks_name members ≡ Some value
-  pub says : SaysDesks value desks
+  pub lists : ListsDesks members desks
+  pub says : SaysKey members key
 
 -- why a file is refused: the first of these that applies
 abbrev pub Refuses : List ℕ → HallFault → Type 0
@@ -67,10 +72,19 @@ Refuses bytes (Desks line fault) =
     (ms : Members) × (hall : ℕ) × HasHall bytes ms hall
     × (d : Data) × (get_member desks_name ms ≡ Some d) × FailsDesks d fault
     × IsLineOf bytes desks_name line
+Refuses bytes (Key line fault) =
+    (ms : Members) × (hall : ℕ) × (desks : List (List ℕ)) × HasHall bytes ms hall
+    × ListsDesks ms desks × (d : Data) × (get_member key_name ms ≡ Some d) × (key_of d ≡ Err fault)
+    × IsLineOf bytes key_name line
 Refuses bytes NoMemory = Unit {0}
 
+-- the member `key`, where there is one
+abbrev pub key_members : Option (List ℕ) → Members
+key_members None = no_members
+key_members (Some path) = member key_name (string path) no_members
+
 -- the members of a hall's file, in the order of their names
-abbrev pub members_of : ℕ → List (List ℕ) → Members
-members_of hall desks =
+abbrev pub members_of : ℕ → List (List ℕ) → Option (List ℕ) → Members
+members_of hall desks key =
     member desks_name (list_of (map string desks))
-    (member hall_name (integer (pos hall)) no_members)
+    (member hall_name (integer (pos hall)) (key_members key))

@@ -1,16 +1,25 @@
 -- The file of a hall as the program has it.
-use Rattle.std.specs.Prelude.{◌≡◌, ℕ, zero, suc, List, map, Option, Some, None, String, Vec}
-use Rattle.std.specs.Prelude.{string_bytes, slice_get}
+use Rattle.std.specs.Prelude.{◌≡◌, ℕ, zero, suc, List, [], map, Option, None, String, Vec}
+use Rattle.std.specs.Prelude.{option_map, string_bytes, slice_get, unwrap_or}
+use Rattle.std.specs.Path.{path_parent}
 use Rattle.std.specs.declared.alloc.Global.{Global}
-use Rattle.toml.specs.Data.{Data, Members, get_member, string}
+use Rattle.toml.specs.Data.{Data, Members, string}
 use Rattle.hall_file.specs.Addresses.{AreAddresses}
-use Rattle.hall_file.specs.Files.{SaysHall}
-use Rattle.hall_file.specs.Members.{desks_name, list_of, SaysDesks}
+use Rattle.hall_file.specs.Files.{ListsDesks, SaysHall}
+use Rattle.hall_file.specs.Members.{list_of}
 use Rattle.hall_file.specs.declared.hall_file.HallFile.{HallFile}
 
 -- the addresses of the desks
 abbrev pub texts_of : HallFile → List (List ℕ)
 texts_of file = map string_bytes file.desks.items
+
+-- the path of its key, where it has one
+abbrev pub key_text : HallFile → Option (List ℕ)
+key_text file = option_map string_bytes file.key
+
+-- the folder of the file at this path
+abbrev pub folder_of : List ℕ → List ℕ
+folder_of path = unwrap_or (path_parent path) []
 
 -- the address of a desk, counted from 1
 abbrev pub address_at : List (List ℕ) → ℕ → Option (List ℕ)
@@ -21,17 +30,18 @@ address_at texts (suc n) = slice_get texts n
 abbrev pub data_of : List (List ℕ) → Data
 data_of texts = list_of (map string texts)
 
--- the hall has this number, and its desks listen at these texts, which are addresses
+-- the hall has this number, its desks listen at these texts, which are addresses, and it names no
+-- key
 pub record HasDesks (hall : ℕ) (texts : List (List ℕ)) (file : HallFile) : Type 0 where
   pub number : file.hall ≡ hall
   pub desks : texts_of file ≡ texts
   pub addresses : AreAddresses texts
+  pub no_key : file.key ≡ None
 
 -- the bytes say this hall
 abbrev pub Says : List ℕ → HallFile → Type 0
-Says bytes file = SaysHall bytes file.hall (texts_of file)
+Says bytes file = SaysHall bytes file.hall (texts_of file) (key_text file)
 
 -- the member `desks` says these addresses
 abbrev pub FindsDesks : Members → Vec (String Global) Global → Type 0
-FindsDesks ms desks =
-    (d : Data) × (get_member desks_name ms ≡ Some d) × SaysDesks d (map string_bytes desks.items)
+FindsDesks ms desks = ListsDesks ms (map string_bytes desks.items)

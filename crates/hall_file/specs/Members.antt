@@ -1,10 +1,12 @@
--- What the members of a hall's file say: the hall's number, and the addresses of its desks.
+-- What the members of a hall's file say: the hall's number, the addresses of its desks, and where
+-- its key is.
 use Rattle.std.specs.Prelude.{◌≡◌, ◌+◌, ℕ, pos, negsuc, ◌||◌, true, false, IsTrue}
-use Rattle.std.specs.Prelude.{if◌then◌else◌, nat_le, List, ◌∷◌, ◌++◌, map, length, codes, bytes_eq}
+use Rattle.std.specs.Prelude.{if◌then◌else◌, nat_le, List, [], ◌∷◌, ◌++◌, map, length, codes}
+use Rattle.std.specs.Prelude.{bytes_eq}
 use Rattle.std.specs.Prelude.{Option, Some, None, Result, Ok, Err}
 use Rattle.std.specs.List.{list_any}
 use Rattle.toml.specs.Data.{Data, string, integer, array}
-use Rattle.toml.specs.Data.{Members, no_members, member, as_str, as_array}
+use Rattle.toml.specs.Data.{Members, no_members, member, as_str, as_array, get_member}
 use Rattle.toml.specs.View.{items_of}
 use Rattle.hall_file.specs.Addresses.{IsAddress, AreAddresses, is_count}
 use Rattle.hall_file.specs.declared.fault.HallNumberFault.{HallNumberFault}
@@ -12,6 +14,8 @@ use Rattle.hall_file.specs.declared.fault.HallNumberFault.TheVariants.{NotIntege
 use Rattle.hall_file.specs.declared.fault.DesksFault.{DesksFault}
 use Rattle.hall_file.specs.declared.fault.DesksFault.TheVariants.{NotList, BadCount, NotText}
 use Rattle.hall_file.specs.declared.fault.DesksFault.TheVariants.{NotAddress, Twice}
+use Rattle.hall_file.specs.declared.fault.KeyFault.{KeyFault}
+use Rattle.hall_file.specs.declared.fault.KeyFault.TheVariants as key
 
 abbrev pub hall_name : List ℕ
 hall_name = codes "hall"
@@ -19,11 +23,15 @@ hall_name = codes "hall"
 abbrev pub desks_name : List ℕ
 desks_name = codes "desks"
 
+abbrev pub key_name : List ℕ
+key_name = codes "key"
+
 -- the first member, in the order of the names' bytes, that a hall's file does not have
 abbrev pub unknown_name : Members → Option (List ℕ)
 unknown_name no_members = None
 unknown_name (member name d ms) =
-    if bytes_eq name hall_name || bytes_eq name desks_name then unknown_name ms else Some name
+    if bytes_eq name hall_name || bytes_eq name desks_name || bytes_eq name key_name
+    then unknown_name ms else Some name
 
 -- The hall.
 
@@ -70,3 +78,16 @@ FailsDesks d (NotAddress k) =
 FailsDesks d (Twice k) =
     (front : List (List ℕ)) × (text : List ℕ) × HasItem d front (string text) k
     × IsAddress text × (list_any (bytes_eq text) front ≡ true)
+
+-- The key.
+
+-- the path of the key's file that a value is
+abbrev pub key_of : Data → Result (List ℕ) KeyFault
+key_of (string []) = Err key.Empty
+key_of (string (b ∷ text)) = Ok (b ∷ text)
+key_of _ = Err key.NotText
+
+-- the path that the members say, where they have one
+abbrev pub SaysKey : Members → Option (List ℕ) → Type 0
+SaysKey ms None = get_member key_name ms ≡ None
+SaysKey ms (Some path) = (d : Data) × (get_member key_name ms ≡ Some d) × (key_of d ≡ Ok path)

@@ -49,6 +49,17 @@ pub enum DesksFault {
     Twice { desk: usize },
 }
 
+/// What is wrong with the value of `key`.
+#[derive(Clone, Copy, Debug, PartialEq, Eq, Error)]
+pub enum KeyFault {
+    /// It is no text.
+    #[error("not a text")]
+    NotText,
+    /// It is the empty text.
+    #[error("empty")]
+    Empty,
+}
+
 /// Why a file is no hall's file. Each has one line for people. Lines are counted from 1.
 #[derive(Debug, Drop, Error)]
 pub enum HallFault {
@@ -88,6 +99,12 @@ pub enum HallFault {
     Desks {
         line: usize,
         fault: DesksFault,
+    },
+    /// The value of `key` is no path of a key's file. The member begins on the line.
+    #[error("line {line}: key: {fault}")]
+    Key {
+        line: usize,
+        fault: KeyFault,
     },
     /// Memory ran out.
     #[error("no memory")]

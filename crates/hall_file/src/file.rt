@@ -1,14 +1,15 @@
 //! What the file of a hall says.
 
-ghost use Rattle.std.specs.Prelude.{IfOk, IfErr, ℕ};
+ghost use Rattle.std.specs.Prelude.{IfOk, IfErr, List, option_map, string_bytes, ℕ};
 ghost use Rattle.toml.specs.View.{table_view};
-ghost use Rattle.hall_file.specs.Files.{Opens, IsKnown, HasHall, Refuses};
+ghost use Rattle.hall_file.specs.Files.{HasHall, IsKnown, ListsDesks, Opens, Refuses};
 ghost use Rattle.hall_file.specs.Halls.{Says, FindsDesks};
+ghost use Rattle.hall_file.specs.Members.{SaysKey};
 
 use crate::fault::{DesksStop, HallFault, Member};
 use crate::hall_file::HallFile;
 use crate::line::{line_at, line_of};
-use crate::members::{addresses_of, number_of, unknown_in};
+use crate::members::{addresses_of, key_in, number_of, unknown_in};
 use std::alloc::Global;
 use toml::Table;
 
@@ -96,14 +97,37 @@ fn read_desks(alloc: Global, bytes: &[u8], table: &Table) -> Result<Vec<String>,
     }
 }
 
+/// The path of the key's file, in a file whose hall and desks were read.
+fn read_key(alloc: Global, bytes: &[u8], table: &Table) -> Result<Option<String>, HallFault>
+    requires { Opens bytes.now (table_view table.now) }
+    ensures ok { IfOk result (λ key.
+        SaysKey (table_view table.now) (option_map string_bytes key)) }
+    ensures err { IfErr result (λ fault. (hall : ℕ) (desks : List (List ℕ))
+        → HasHall bytes.now (table_view table.now) hall
+        → ListsDesks (table_view table.now) desks → Refuses bytes.now fault) }
+{
+    let Some(value) = table.get("key") else {
+        return Ok(None);
+    };
+    match key_in(value) {
+        Ok(path) => Ok(Some(String::from_str(alloc, path)?)),
+        Err(fault) => {
+            let line = line_of(alloc, bytes, "key")?;
+            Err(HallFault::Key { line, fault })
+        }
+    }
+}
+
 /// The hall that a file describes, in TOML 1.1:
 ///
 ///     hall = 7
 ///     desks = ["192.168.50.11:7001", "192.168.50.12:7001", "192.168.50.13:7001"]
+///     key = "hall.key"
 ///
 /// `hall` is 0 to 4,294,967,295. `desks` has the addresses of three or five desks, desk 1 first,
-/// each `HOST:PORT` with a port 1 to 65,535. No text stands there twice, and there is no other
-/// member. A byte-order mark at the front is dropped.
+/// each `HOST:PORT` with a port 1 to 65,535. No text stands there twice. `key` may be left out: it
+/// is the path of the file with the hall's key, and not empty. There is no other member. A
+/// byte-order mark at the front is dropped.
 ///
 /// # Errors
 ///
@@ -115,6 +139,7 @@ fn read_desks(alloc: Global, bytes: &[u8], table: &Table) -> Result<Vec<String>,
 /// - `Missing`, and then `Hall`, where `hall` is not there or is no such number.
 /// - `Missing`, and then `Desks`, where `desks` is not there or is no such list. The number of its
 ///   items comes first, then the first item that cannot stand there.
+/// - `Key` where `key` is there and is no text, or is empty.
 ///
 /// `NoMemory` where memory ran out. The line of a fault is where the member begins: the line after
 /// the longest run of whole lines from the beginning that is a document without the member.
@@ -126,5 +151,6 @@ pub fn read_hall(alloc: Global, bytes: &[u8]) -> Result<HallFile, HallFault>
     refuse_unknown(alloc, bytes, &table)?;
     let hall = read_number(alloc, bytes, &table)?;
     let desks = read_desks(alloc, bytes, &table)?;
-    Ok(HallFile { hall, desks })
+    let key = read_key(alloc, bytes, &table)?;
+    Ok(HallFile { hall, desks, key })
 }

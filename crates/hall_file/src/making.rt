@@ -22,7 +22,7 @@ fn value_of(alloc: Global, texts: &[&str]) -> Result<Value, AllocError>
     Ok(Value::Array(items))
 }
 
-/// The hall of this number whose desks listen at these addresses, desk 1 first.
+/// The hall of this number whose desks listen at these addresses, desk 1 first. It names no key.
 ///
 /// # Errors
 ///
@@ -39,5 +39,9 @@ pub fn hall_of_addresses(
 {
     let value = value_of(alloc, addresses)?;
     let desks = addresses_of(alloc, &value)?;
-    Ok(HallFile { hall, desks })
+    Ok(HallFile {
+        hall,
+        desks,
+        key: None,
+    })
 }

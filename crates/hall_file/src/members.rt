@@ -1,15 +1,16 @@
 //! What the members of a hall's file say.
 
 ghost use Rattle.std.specs.Prelude.{◌≡◌, map, option_map, string_bytes, bytes_eq, length};
-ghost use Rattle.std.specs.Prelude.{IfOk, IfErr, IsTrue};
+ghost use Rattle.std.specs.Prelude.{Err, IfOk, IfErr, IsTrue, Ok};
 ghost use Rattle.std.specs.List.{list_any};
 ghost use Rattle.toml.specs.View.{view, table_view};
 ghost use Rattle.hall_file.specs.Addresses.{is_count};
-ghost use Rattle.hall_file.specs.Members.{unknown_name, hall_of, list_of, SaysDesks, FailsDesks};
+ghost use Rattle.hall_file.specs.Members.{unknown_name, hall_of, key_of, list_of, SaysDesks};
+ghost use Rattle.hall_file.specs.Members.{FailsDesks};
 ghost use Rattle.hall_file.specs.Next.{IsNext, FailsNext, StopsDesks};
 
 use crate::address::is_address;
-use crate::fault::{DesksFault, DesksStop, HallNumberFault};
+use crate::fault::{DesksFault, DesksStop, HallNumberFault, KeyFault};
 use std::alloc::Global;
 use toml::{Table, Value};
 
@@ -19,8 +20,9 @@ pub(crate) fn unknown_in(table: &Table) -> Option<&str>
 {
     'members: for (name, _value) in table.iter() {
         let text = name.as_str();
-        if text.as_bytes() != b"hall".as_slice() && text.as_bytes() != b"desks".as_slice() {
-            return Some(text);
+        match text {
+            "hall" | "desks" | "key" => {}
+            _ => return Some(text),
         }
     }
     None
@@ -36,6 +38,18 @@ pub(crate) fn number_of(value: &Value) -> Result<u32, HallNumberFault>
     match u32::try_from(number) {
         Ok(hall) => Ok(hall),
         Err(_) => Err(HallNumberFault::OutOfRange),
+    }
+}
+
+/// The path of a key's file that a value is.
+pub(crate) fn key_in(value: &Value) -> Result<&str, KeyFault>
+    ensures ok { IfOk result (λ path. key_of (view value.now) ≡ Ok path.now) }
+    ensures err { IfErr result (λ fault. key_of (view value.now) ≡ Err fault) }
+{
+    match value.as_str() {
+        Some("") => Err(KeyFault::Empty),
+        Some(path) => Ok(path),
+        None => Err(KeyFault::NotText),
     }
 }
 

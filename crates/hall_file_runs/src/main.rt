@@ -2,13 +2,14 @@
 //!
 //! A line `case TITLE` begins one, the file follows, and a line `end` ends it. A line `cut` in
 //! place of `end` says that the file has no line feed at its end. `pad N TITLE` stands for a file
-//! of N bytes: a hall of three desks, and then a comment. `path PATH` asks for the file at a path.
-//! The title is printed after `# `, and then the hall with its desks and what is printed of it, or
-//! why the file is refused. The wanted output comes from `bench/hall_file.py`, a second program of
-//! the definition.
+//! of N bytes: a hall of three desks, and then a comment. `path PATH` asks for the file at a path,
+//! and `key PATH KEY` for the path of the key that the hall's file at PATH names by KEY. The title
+//! is printed after `# `, and then the hall with its desks and its key and what is printed of it,
+//! or why the file is refused. The wanted output comes from `bench/hall_file.py`, a second program
+//! of the definition.
 #![tactic(auto)]
 
-use hall_file::{HallFault, HallFile, print_hall, read_hall, read_hall_at};
+use hall_file::{HallFault, HallFile, key_path, print_hall, read_hall, read_hall_at};
 use std::alloc::Global;
 use std::io;
 use std::io::{Error, ErrorKind, Read, Write};
@@ -16,7 +17,8 @@ use std::io::{Error, ErrorKind, Read, Write};
 /// A hall of three desks, and a comment that does not end.
 const PADDED: &[u8] = b"hall = 7\ndesks = [\"a:1\", \"b:2\", \"c:3\"]\n#";
 
-/// Writes the hall with its desks, looked up by their numbers, one too many at each end.
+/// Writes the hall with its desks, looked up by their numbers, one too many at each end, and then
+/// its key.
 fn write_hall(out: &mut Vec<u8>, file: &HallFile) -> io::Result<()> {
     writeln!(out, "hall {} of {}", file.hall, file.desk_count())?;
     for desk in 0..7u8 {
@@ -25,7 +27,10 @@ fn write_hall(out: &mut Vec<u8>, file: &HallFile) -> io::Result<()> {
             None => writeln!(out, "{desk} -")?,
         }
     }
-    Ok(())
+    match file.key() {
+        Some(path) => writeln!(out, "key {path}"),
+        None => Ok(()),
+    }
 }
 
 /// Writes what is printed of a hall, and whether it is read back.
@@ -70,11 +75,21 @@ fn run_padded(alloc: Global, out: &mut Vec<u8>, count: usize) -> io::Result<()> 
     run_file(alloc, out, &bytes)
 }
 
+/// Writes where the key is that a hall's file names.
+fn run_key(alloc: Global, out: &mut Vec<u8>, path: &str, key: &str) -> io::Result<()> {
+    let whole = key_path(alloc, path, key)?;
+    writeln!(out, "{}", whole.as_str())
+}
+
 /// Does what a line asks for outside a case.
 fn run_line(rt: &HostRuntime, out: &mut Vec<u8>, line: &str) -> io::Result<()> {
     writeln!(out, "# {line}")?;
     match line.split_once(' ') {
         Some(("path", path)) => run_path(rt, out, path),
+        Some(("key", names)) => match names.split_once(' ') {
+            Some((path, key)) => run_key(rt.alloc(), out, path, key),
+            None => Ok(()),
+        },
         Some(("pad", count)) => run_padded(rt.alloc(), out, count.parse().unwrap_or(0)),
         _ => Ok(()),
     }

@@ -1,12 +1,24 @@
 -- Exit statuses.
 use Rattle.std.specs.Prelude.{ℕ}
+use Rattle.key_file.specs.declared.fault.KeyFileFault.{KeyFileFault}
+use Rattle.key_file.specs.declared.fault.KeyFileFault.TheVariants as key_fault
 use Rattle.hall_options.specs.declared.mistakes.Mistake.{Mistake}
 use Rattle.hall_options.specs.declared.mistakes.Mistake.TheVariants as mistake
 
--- 2 for arguments, 3 for a file that describes no hall, 4 for an address, 5 for memory
+-- 3 for a file that gives no key, 5 for memory
+abbrev pub key_status : KeyFileFault → ℕ
+key_status key_fault.NotThere = 3
+key_status key_fault.Unreadable = 3
+key_status key_fault.Open = 3
+key_status key_fault.NoKey = 3
+key_status key_fault.NoMemory = 5
+
+-- 2 for arguments, 3 for a file that describes no hall or gives no key, 4 for an address, 5 for
+-- memory
 abbrev pub status_of : Mistake → ℕ
 status_of (mistake.Number id) = 2
 status_of (mistake.Address id) = 4
 status_of (mistake.File fault) = 3
+status_of (mistake.Key fault) = key_status fault
 status_of (mistake.Unknown desk) = 4
 status_of mistake.NoMemory = 5

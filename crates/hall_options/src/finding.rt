@@ -3,7 +3,8 @@
 use crate::mistakes::Mistake;
 use clap::ArgMatches;
 use command_line::plain_number;
-use hall_file::{HallFault, HallFile, OpenFault, read_hall_at};
+use hall_file::{HallFault, HallFile, OpenFault, key_path, read_hall_at};
+use key_file::read_key_at;
 use std::io;
 use std::io::ErrorKind;
 use std::net::{SocketAddr, ToSocketAddrs};
@@ -11,13 +12,15 @@ use std::net::{SocketAddr, ToSocketAddrs};
 /// The file of a hall where the arguments name none.
 const HALL_FILE: &str = "hall.toml";
 
-/// A hall, and where its desks are.
-#[derive(Debug, Drop)]
+/// A hall, where its desks are, and its key.
+#[derive(Drop)]
 pub struct FoundHall {
     /// The number of the hall.
     pub hall: u32,
     /// The address of desk 1, of desk 2 and so on: at most five, and at least one.
     pub desks: Vec<Option<SocketAddr>>,
+    /// The key under which the desks are asked, if there is one.
+    pub key: Option<[u8; 32]>,
 }
 
 /// The number of an option. It is a mistake where it has a sign or leading zeros, which the parser
@@ -106,9 +109,8 @@ fn desks_of<'a>(rt: &HostRuntime, file: &HallFile) -> Result<Vec<Option<SocketAd
     Ok(desks)
 }
 
-/// The hall that a file describes.
-fn file_of<'a>(rt: &HostRuntime, found: &ArgMatches<'a>) -> Result<HallFile, Mistake<'a>> {
-    let path = found.get_str("config").unwrap_or(HALL_FILE);
+/// The hall that the file at a path describes.
+fn file_at<'a>(rt: &HostRuntime, path: &'a str) -> Result<HallFile, Mistake<'a>> {
     match read_hall_at(rt, path) {
         Ok(file) => Ok(file),
         Err(
@@ -121,18 +123,75 @@ fn file_of<'a>(rt: &HostRuntime, found: &ArgMatches<'a>) -> Result<HallFile, Mis
     }
 }
 
-/// The hall that the options of [`with_desks`](crate::with_desks) name, and its desks.
+/// The key that the file at a path has.
+fn key_at<'a>(rt: &HostRuntime, path: &str) -> Result<Option<[u8; 32]>, Mistake<'a>> {
+    match read_key_at(rt, path) {
+        Ok(key) => Ok(Some(key)),
+        Err(fault) => Err(Mistake::Key(fault)),
+    }
+}
+
+/// The key that the option names, if it is there.
+fn given_key<'a>(
+    rt: &HostRuntime,
+    found: &ArgMatches<'_>,
+) -> Result<Option<[u8; 32]>, Mistake<'a>> {
+    let Some(path) = found.get_str("key") else {
+        return Ok(None);
+    };
+    key_at(rt, path)
+}
+
+/// The key that the hall's file at a path names, if it does.
+fn file_key<'a>(
+    rt: &HostRuntime,
+    path: &str,
+    file: &HallFile,
+) -> Result<Option<[u8; 32]>, Mistake<'a>> {
+    let Some(named) = &file.key else {
+        return Ok(None);
+    };
+    let Ok(path) = key_path(rt.alloc(), path, named) else {
+        return Err(Mistake::NoMemory);
+    };
+    key_at(rt, &path)
+}
+
+/// The key that the option names, or else the hall's file at a path.
+fn key_of<'a>(
+    rt: &HostRuntime,
+    found: &ArgMatches<'_>,
+    path: &str,
+    file: &HallFile,
+) -> Result<Option<[u8; 32]>, Mistake<'a>> {
+    if found.get_str("key").is_some() {
+        return given_key(rt, found);
+    }
+    file_key(rt, path, file)
+}
+
+/// The hall that `--hall` and `--to` name.
+fn given_hall<'a>(rt: &HostRuntime, found: &ArgMatches<'_>) -> Result<FoundHall, Mistake<'a>> {
+    let hall = number_of(found)?;
+    let key = given_key(rt, found)?;
+    let desks = desks_at(rt, found)?;
+    Ok(FoundHall { hall, desks, key })
+}
+
+/// The hall that the options of [`with_desks`](crate::with_desks) name, its desks, and its key: that
+/// of `--key`, or else the one that the hall's file names. What is wrong with the hall's file or
+/// with `--hall` is said first, then what is wrong with the key's file, then with an address.
 pub fn hall_of<'a>(rt: &HostRuntime, found: &ArgMatches<'a>) -> Result<FoundHall, Mistake<'a>> {
     if found.get_str("hall").is_some() {
-        return Ok(FoundHall {
-            hall: number_of(found)?,
-            desks: desks_at(rt, found)?,
-        });
+        return given_hall(rt, found);
     }
-    let file = file_of(rt, found)?;
+    let path = found.get_str("config").unwrap_or(HALL_FILE);
+    let file = file_at(rt, path)?;
+    let key = key_of(rt, found, path, &file)?;
     let desks = desks_of(rt, &file)?;
     Ok(FoundHall {
         hall: file.hall,
         desks,
+        key,
     })
 }

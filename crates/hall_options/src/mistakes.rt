@@ -1,13 +1,14 @@
 //! What is said of wrong arguments and of what the system doesn't do, with the exit status: 2 for
-//! arguments, 3 for a file that describes no hall, 4 for an address, or where the system fails, and
-//! 5 where memory is refused.
+//! arguments, 3 for a file that describes no hall or gives no key, 4 for an address, or where the
+//! system fails, and 5 where memory is refused.
 
 ghost use Rattle.std.specs.Prelude.{◌≡◌, ◌⊎◌};
-ghost use Rattle.hall_options.specs.Mistakes.{status_of};
+ghost use Rattle.hall_options.specs.Mistakes.{key_status, status_of};
 
 use clap::Error;
 use command_line::{NOT_TEXT, PrintFault, print_parser_text};
 use hall_file::OpenFault;
+use key_file::KeyFileFault;
 use std::alloc::Global;
 use std::io;
 use std::io::{ErrorKind, Write};
@@ -21,6 +22,8 @@ pub enum Mistake<'a> {
     Address(&'static str),
     /// The hall's file describes no hall.
     File(OpenFault<'a>),
+    /// The key's file gives no key.
+    Key(KeyFileFault),
     /// The address that the hall's file has for this desk is not known.
     Unknown(u8),
     /// Memory was refused.
@@ -58,6 +61,17 @@ pub fn tell_no_arguments<F: Write>(faults: &mut F, program: &str, error: &io::Er
     2
 }
 
+/// Says why the key's file gives no key, and returns the status.
+fn tell_key<F: Write>(faults: &mut F, program: &str, fault: KeyFileFault) -> u8
+    ensures { result ≡ key_status fault }
+{
+    let _ = writeln!(faults, "{program}: {fault}");
+    match fault {
+        KeyFileFault::NoMemory => 5,
+        _ => 3,
+    }
+}
+
 /// Says what is wrong with arguments, and returns the status.
 pub fn tell_mistake<F: Write>(faults: &mut F, program: &str, mistake: Mistake<'_>) -> u8
     ensures { result ≡ status_of mistake.entry }
@@ -79,6 +93,7 @@ pub fn tell_mistake<F: Write>(faults: &mut F, program: &str, mistake: Mistake<'_
             let _ = writeln!(faults, "{program}: {fault}");
             3
         }
+        Mistake::Key(fault) => tell_key(faults, program, fault),
         Mistake::Unknown(number) => {
             let _ = writeln!(
                 faults,

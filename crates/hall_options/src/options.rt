@@ -21,7 +21,8 @@ pub fn option<'a>(
 }
 
 /// A program with the options that say which desks are asked: `--config`, a hall's file, or
-/// `--hall`, the hall's number, with `--to`, the addresses of one to five desks.
+/// `--hall`, the hall's number, with `--to`, the addresses of one to five desks; and `--key`, the
+/// file of the hall's key.
 pub fn with_desks<'a>(alloc: Global, command: Command<'a>) -> Result<Command<'a>, AllocError> {
     let any = ValueParser::string();
     let help = "The file that describes the hall; without it and --hall it is hall.toml";
@@ -35,5 +36,7 @@ pub fn with_desks<'a>(alloc: Global, command: Command<'a>) -> Result<Command<'a>
     let to = option(alloc, "to", "ADDR", help, any)
         .num_args(1..=5)
         .requires_arg("hall")?;
-    command.arg(config)?.arg(hall)?.arg(to)
+    let help = "The file of the hall's key; without it the one that the hall's file names";
+    let key = option(alloc, "key", "FILE", help, any);
+    command.arg(config)?.arg(hall)?.arg(to)?.arg(key)
 }

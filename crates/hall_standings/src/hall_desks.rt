@@ -10,6 +10,7 @@ use standings::json_line;
 use std::alloc::{AllocError, Global};
 use std::marker::Model;
 use std::net::Net;
+use std::random::RandomSource;
 use surveying::Survey;
 
 /// The most desks that a hall has.
@@ -73,7 +74,12 @@ impl HallDesks {
     /// Does all for the survey of a desk that can be done now over a connection to it, as
     /// `DeskStream::keep` does it. The place is that of the desk in the order in which they were
     /// added, from 0; nothing is done where there is none.
-    pub fn keep<R: Net>(&mut self, place: usize, stream: &mut DeskStream<'_, R>, now: u64)
+    pub fn keep<R: Net + RandomSource>(
+        &mut self,
+        place: usize,
+        stream: &mut DeskStream<'_, R>,
+        now: u64,
+    )
         ensures { IsKept place self.old self.new }
     {
         if let Some(asked) = self.asked.get_mut(place) {

@@ -1,10 +1,12 @@
-//! How all desks of a hall stand: each is asked once a second over a connection of its own, and
-//! what they said last is told as JSON.
+//! How all desks of a hall stand: each is asked once a second over a connection of its own, what
+//! they said last is told as JSON, and what is wrong with their keys on a line each.
 #![tactic(auto)]
 
 mod asked;
+mod asked_stream;
 mod hall_desks;
 mod streams;
 
+pub use asked_stream::AskedStream;
 pub use hall_desks::HallDesks;
 pub use streams::{AskedDesks, stream_to};

@@ -1,8 +1,10 @@
 //! The connections to the desks that are asked.
 
-ghost use Rattle.std.specs.Prelude.{◌≤◌};
+ghost use Rattle.std.specs.Prelude.{◌≡◌, ◌≤◌, IfOk};
+ghost use Rattle.desk_sockets.specs.Streams.{fresh_stream};
 ghost use Rattle.wire.specs.Ranges.{IsDesk};
 
+use crate::asked_stream::AskedStream;
 use crate::hall_desks::HallDesks;
 use desk_sockets::DeskStream;
 use mio::Registry;
@@ -10,6 +12,7 @@ use page_sockets::own_token;
 use std::alloc::{AllocError, Global};
 use std::io;
 use std::net::{Net, SocketAddr};
+use std::random::RandomSource;
 
 /// The number of the first of the program's own sockets that are the desks'.
 const FIRST_SOCKET: u8 = 10;
@@ -19,7 +22,7 @@ const FIRST_SOCKET: u8 = 10;
 pub struct AskedDesks<'a, R> {
     pub desks: HallDesks,
     /// In the order of the desks.
-    pub streams: Vec<DeskStream<'a, R>>,
+    pub streams: Vec<AskedStream<'a, R>>,
 }
 
 /// An address as it is printed.
@@ -33,21 +36,25 @@ fn address_of(addresses: &[Option<SocketAddr>], desk: u8) -> Option<SocketAddr> 
     *addresses.get(place)?
 }
 
-/// A connection to one of the desks at these addresses. Nothing is connected yet. Its socket is the
-/// program's own, with the number 11 for desk 1, and so on.
-pub fn stream_to<'a, R: Net>(
+/// A connection to one of the desks at these addresses, under the hall's key, if it has one. Nothing
+/// is connected yet. Its socket is the program's own, with the number 11 for desk 1, and so on.
+pub fn stream_to<'a, R: Net + RandomSource>(
     rt: &'a R,
     alloc: Global,
     registry: &Registry,
     number: u8,
     addresses: &[Option<SocketAddr>],
-) -> io::Result<DeskStream<'a, R>> {
+    key: Option<[u8; 32]>,
+) -> io::Result<DeskStream<'a, R>>
+    ensures { IfOk result (λ s. s ≡ fresh_stream key) }
+{
     let copy = Vec::from_slice(alloc, addresses)?;
     let registry = registry.try_clone()?;
-    Ok(DeskStream::new(rt, registry, own_token(number), copy))
+    let token = own_token(number);
+    Ok(DeskStream::new(rt, alloc, registry, token, copy, key))
 }
 
-impl<'a, R: Net> AskedDesks<'a, R> {
+impl<'a, R: Net + RandomSource> AskedDesks<'a, R> {
     /// Adds the desk with this number, and a connection to it.
     fn add(
         &mut self,
@@ -56,6 +63,7 @@ impl<'a, R: Net> AskedDesks<'a, R> {
         registry: &Registry,
         desk: u8,
         addresses: &[Option<SocketAddr>],
+        key: Option<[u8; 32]>,
     ) -> io::Result<()>
         requires { IsDesk desk }
     {
@@ -63,27 +71,28 @@ impl<'a, R: Net> AskedDesks<'a, R> {
             return Ok(());
         };
         let number = FIRST_SOCKET.saturating_add(desk);
-        let stream = stream_to(rt, alloc, registry, number, addresses)?;
+        let stream = stream_to(rt, alloc, registry, number, addresses, key)?;
         self.desks.add(desk, printed(alloc, address)?)?;
-        self.streams.push(stream)?;
+        self.streams.push(AskedStream::new(desk, stream))?;
         Ok(())
     }
 
-    /// The desks of the hall with this number whose addresses are known, at most five: the first
-    /// address is that of desk 1. Nothing is connected yet.
+    /// The desks of the hall with this number and this key, if it has one, whose addresses are
+    /// known, at most five: the first address is that of desk 1. Nothing is connected yet.
     pub fn new(
         rt: &'a R,
         alloc: Global,
         registry: &Registry,
         hall: u32,
         addresses: &[Option<SocketAddr>],
+        key: Option<[u8; 32]>,
     ) -> io::Result<AskedDesks<'a, R>> {
         let mut asked = AskedDesks {
             desks: HallDesks::new(alloc, hall),
             streams: Vec::new(alloc),
         };
         for desk in 1..=5_u8 {
-            asked.add(rt, alloc, registry, desk, addresses)?;
+            asked.add(rt, alloc, registry, desk, addresses, key)?;
         }
         Ok(asked)
     }

@@ -8,6 +8,7 @@ ghost use Rattle.mio_sockets.specs.Agendas.{GoesOn, IsOver, NamesNext, round};
 use crate::agenda::Agenda;
 use crate::guests::{Guests, MOST_ENDING, MOST_OPEN};
 use crate::outcomes::accepted_by;
+use crate::random::drawn;
 use crate::tokens::{Source, client_token, listener_token, source_of};
 use mio::net::{TcpListener, TcpStream};
 use mio::{Events, Interest, Poll, Registry};
@@ -16,6 +17,7 @@ use std::alloc::Global;
 use std::io;
 use std::marker::Model;
 use std::net::{Net, SocketAddr};
+use std::random::RandomSource;
 use std::time::{Clock, Duration, Instant};
 
 /// How many sockets that are ready are told of at once: all clients, the listener, and the other
@@ -31,7 +33,7 @@ const MOST_READY: usize = MOST_OPEN + MOST_ENDING + 8;
 /// A contract sees whether a round was begun and isn't over, and what of it is still to be named.
 #[derive(Drop)]
 pub struct SocketClients<'a, R> {
-    clock: &'a R,
+    system: &'a R,
     poll: Poll,
     events: Events,
     listener: TcpListener,
@@ -82,7 +84,7 @@ impl<'a, R: Net + Clock> SocketClients<'a, R> {
         poll.registry()
             .register(&mut listener, listener_token(), Interest::READABLE)?;
         Ok(SocketClients {
-            clock: runtime,
+            system: runtime,
             poll,
             events: Events::with_capacity(alloc, MOST_READY)?,
             listener,
@@ -97,7 +99,7 @@ impl<'a, R: Net + Clock> SocketClients<'a, R> {
     }
 }
 
-impl<R: Clock> SocketClients<'_, R> {
+impl<R: Clock + RandomSource> SocketClients<'_, R> {
     /// Where it listens; the port is the system's choice where that of `listen` was 0.
     pub fn address(&self) -> io::Result<SocketAddr> {
         self.listener.local_addr()
@@ -155,10 +157,10 @@ impl<R: Clock> SocketClients<'_, R> {
     {
         let start = match self.start {
             Some(start) => start,
-            None => Instant::now(self.clock)?,
+            None => Instant::now(self.system)?,
         };
         self.start = Some(start);
-        let millis = start.elapsed(self.clock)?.as_millis();
+        let millis = start.elapsed(self.system)?.as_millis();
         Ok(u64::try_from(millis).unwrap_or(u64::MAX))
     }
 
@@ -206,7 +208,8 @@ impl<R: Clock> SocketClients<'_, R> {
         }
     }
 
-    /// Lets the client in that waits.
+    /// Lets the client in that waits, with new random bytes. Where the system gives none, the client
+    /// isn't let in.
     fn let_in(&mut self, number: u64) -> Accepted
         ensures { self.new ≡ self.old }
     {
@@ -215,8 +218,11 @@ impl<R: Clock> SocketClients<'_, R> {
         }
         match self.take() {
             Ok(stream) => {
+                let Ok(random) = drawn(self.system) else {
+                    return Accepted::Nobody;
+                };
                 if self.guests.enter(self.poll.registry(), number, stream) {
-                    Accepted::Came
+                    Accepted::Came { random }
                 } else {
                     Accepted::Full
                 }
@@ -226,7 +232,7 @@ impl<R: Clock> SocketClients<'_, R> {
     }
 }
 
-impl<R: Clock> Clients for SocketClients<'_, R> {
+impl<R: Clock + RandomSource> Clients for SocketClients<'_, R> {
     ghost use Rattle.std.specs.Prelude.{None};
 
     // The system tells nothing of what clients send and take beyond what its calls answer.

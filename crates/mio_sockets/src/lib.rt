@@ -3,11 +3,15 @@
 #![tactic(auto)]
 
 mod agenda;
+mod asking;
 mod clients;
 mod desk_links;
+mod desk_wire;
 mod guests;
+mod keyed_stream;
 mod neighbour;
 mod outcomes;
+mod random;
 mod socket_wires;
 mod tellings;
 mod tokens;
@@ -16,4 +20,4 @@ mod wires;
 pub use clients::SocketClients;
 pub use desk_links::{DeskLinks, SocketLinks};
 pub use socket_wires::SocketWires;
-pub use wires::{Heard, Opening, Wires};
+pub use wires::{Heard, Opening, Trouble, Wires};

@@ -1,8 +1,10 @@
 //! The lines about other desks.
 
+use crate::wires::Trouble;
+use calls::CallTrouble;
 use links::Notice;
 use std::io;
-use std::io::{ErrorKind, Write};
+use std::io::Write;
 use std::net::SocketAddr;
 
 /// What a line is about: a desk, where it is to be found, and what went wrong last with a
@@ -11,18 +13,28 @@ use std::net::SocketAddr;
 pub struct Subject {
     pub desk: u8,
     pub address: SocketAddr,
-    pub trouble: ErrorKind,
+    pub trouble: Trouble,
+}
+
+/// Writes that a desk can't be reached, and why.
+fn tell_unreachable<W: Write>(writer: &mut W, subject: Subject) -> io::Result<()> {
+    let (desk, address) = (subject.desk, subject.address);
+    match subject.trouble {
+        Trouble::System { kind } => writeln!(writer, "desk {desk} at {address}: {kind}"),
+        Trouble::Key {
+            trouble: CallTrouble::HasKey,
+        } => writeln!(writer, "desk {desk} at {address} has a key"),
+        Trouble::Key { .. } => {
+            writeln!(writer, "desk {desk} at {address} has another key, or none")
+        }
+    }
 }
 
 /// Writes a line about a desk.
 pub fn tell<W: Write>(writer: &mut W, subject: Subject, notice: Notice) -> io::Result<()> {
     let desk = subject.desk;
     match notice {
-        Notice::Unreachable => {
-            let address = subject.address;
-            let trouble = subject.trouble;
-            writeln!(writer, "desk {desk} at {address}: {trouble}")?;
-        }
+        Notice::Unreachable => tell_unreachable(writer, subject)?,
         Notice::Reached { seconds } => {
             writeln!(writer, "desk {desk}: reached again after {seconds} s")?;
         }

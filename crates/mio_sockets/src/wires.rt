@@ -4,6 +4,7 @@ ghost use Rattle.std.specs.Prelude.{◌≢◌, [], ◌∷◌, List, Option, leng
 ghost use Rattle.multiplex.specs.Happenings.{CountsTaken};
 ghost use Rattle.mio_sockets.specs.Wiring.{Began, Closed, Tells, Wired, taken};
 
+use calls::CallTrouble;
 use multiplex::Taken;
 use std::io::ErrorKind;
 use std::net::SocketAddr;
@@ -27,8 +28,17 @@ pub enum Heard {
     Foreign,
     /// It has ended the connection.
     Ended,
-    /// The connection failed.
+    /// The connection failed, or what came doesn't fit under the key.
     Broke,
+}
+
+/// What went wrong with a connection.
+#[derive(Clone, Copy)]
+pub enum Trouble {
+    /// What the system says.
+    System { kind: ErrorKind },
+    /// The keys of the two sides.
+    Key { trouble: CallTrouble },
 }
 
 /// The connections to other desks, one at most to each. No call waits.
@@ -55,7 +65,7 @@ pub trait Wires {
         ensures { Tells (wired self.old) (wired self.new) [] };
 
     /// What went wrong last with a connection to this desk.
-    fn trouble(&self, desk: u8) -> ErrorKind;
+    fn trouble(&self, desk: u8) -> Trouble;
 
     /// Closes the connection to this desk, if there is one.
     fn close(&mut self, desk: u8)

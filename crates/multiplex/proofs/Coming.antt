@@ -14,9 +14,9 @@ HasFew t l = l.next ≤ t.most
 
 few_changed : (home : Home) (t : Terms) (c : Change) (a b : Lobby)
     → Changes home t c a b → HasFew t a → HasFew t b
-few_changed home t (Comes k) a b h few =
+few_changed home t (Comes k random) a b h few =
     subst (λ l. HasFew t l) (sym h.enters) (omega (arith, h.wanted))
-few_changed home t (TurnedAway k) a b h few =
+few_changed home t (TurnedAway k random) a b h few =
     subst (λ l. HasFew t l) (sym h.enters) (omega (arith, h.wanted))
 few_changed home t NoSocket a b h few = subst (λ l. HasFew t l) (sym h.1) few
 few_changed home t (Stray k) a b h few = subst (λ l. HasFew t l) (sym h.2) few

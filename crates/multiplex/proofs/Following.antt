@@ -1,109 +1,75 @@
--- The steps of many clients are turns of many connections.
-use Rattle.std.proofs.Common.{◌≡◌, ◌≢◌, refl, sym, ap, subst, ◌∙◌, ℕ, ◌+◌, ◌<◌, ◌≤◌}
+-- The steps of many clients are turns of many connections, each behind its door.
+use Rattle.std.proofs.Common.{◌≡◌, ◌≢◌, refl, sym, ap, subst, ◌∙◌, ℕ, ◌+◌}
 use Rattle.std.proofs.Common.{List, [], ◌∷◌, ◌++◌, append-nil, append_assoc, Option, None}
 use Rattle.std.proofs.Common.{Some, arith, Bool, true, false, cond, eqb}
-use Rattle.std.proofs.lemmas.Bool.{eq-eqb, ne_eqb}
-use Rattle.std.specs.List.{AllByRecursion}
+use Rattle.std.proofs.lemmas.Bool.{eqb-false, eqb-true}
+use Rattle.std.specs.Prelude.{IsSome}
 use Rattle.answers.specs.declared.desk.Desk.{Ghosts as DeskOf}
 use Rattle.answers.specs.Seen.{Seen}
-use Rattle.store.specs.declared.home.Home.{Home}
-use Rattle.wire.specs.declared.values.Version.{Version}
-use Rattle.serving.specs.declared.permission.Permission.TheVariants.{All}
-use Rattle.serving.specs.Connection.{AreUnder, serve_frame}
+use Rattle.connections.specs.Connections.{AreServedInTurn, Connections, FollowEach, MakesSome}
+use Rattle.connections.specs.Connections.{Point, Served, TurnOf, begun_of, place_of, served_of}
+use Rattle.connections.specs.Connections.{turns_of}
+use Rattle.connections.proofs.Interleaving.{HoldsSome, goes_on, makes_all}
+use Rattle.guarded.specs.Guarding.{Guarding, fresh_guard}
+use Rattle.guarded.specs.GuardTurns.{within}
+use Rattle.guarded.specs.GuardTurns as GuardTurns
+use Rattle.guarded.proofs.Holding.{GoesAll, turns_go}
+use Rattle.guarded.proofs.Keeping.{Keeps}
+use Rattle.sealed.specs.declared.callers.Doors.{Doors}
+use Rattle.serving.specs.Connection.{Begun, serve_frame}
 use Rattle.serving.specs.Making.{Outside, Way}
 use Rattle.serving.specs.OwnTicks.{tick_begun}
-use Rattle.serving.specs.Turns.{Talk, new_talk}
-use Rattle.serving.specs.TurnLaw.{Came as CameIn, Began, Follow, Place, Rested, Took as TookOf}
-use Rattle.serving.specs.TurnLaw.{Turn, Turns, begun_in, came_in, handed_out, received, taken_in}
-use Rattle.serving.proofs.Connecting.{under_both}
+use Rattle.serving.specs.Turns.{Talk}
+use Rattle.serving.specs.TurnLaw.{Follow, Place, Turn, Turns, begun_in, handed_out, received}
 use Rattle.serving.proofs.Makings.{Makes-nil, Makes-trans}
-use Rattle.connections.specs.Connections.{AreServedInTurn, Connections, FollowEach, TurnOf}
-use Rattle.connections.specs.Connections.{place_of}
-use Rattle.connections.specs.Connections.{IsServedOf, MakesSome, Point, Served, begun_of}
-use Rattle.connections.specs.Connections.{served_of, turns_of}
-use Rattle.connections.proofs.Interleaving.{HoldsSome, at_first, begun_both, goes_on, makes_all}
+use Rattle.store.specs.declared.home.Home.{Home}
 use Rattle.multiplex.specs.EachClient.{AreDoneInTurn, Deed, EachClientIsServed, Frame, OwnTick}
-use Rattle.multiplex.specs.EachClient.{frames_in, gave, own_ticks, point_in, sides_at, ticks_of}
-use Rattle.multiplex.specs.EachClient.{took}
-use Rattle.multiplex.specs.Happenings.{Happened}
-use Rattle.multiplex.specs.Passing.{Change, Changed, Changes, Clock, Comes, Lobby, NoSocket}
-use Rattle.multiplex.specs.Passing.{Pass, Room, Shut, Step, Stops, Stray, Takes, Ticked, TicksBy}
-use Rattle.multiplex.specs.Passing.{TicksItself, TurnedAway}
-use Rattle.multiplex.specs.Passing.{Visit, Visits, guest, staying, told_all}
-use Rattle.multiplex.specs.Passing.{told_change, told_end, told_turns, told_why, with_node}
+use Rattle.multiplex.specs.EachClient.{came_with, frames_in, gave, own_ticks, point_in, sides_at}
+use Rattle.multiplex.specs.EachClient.{ticks_of, took}
+use Rattle.multiplex.specs.Happenings.{Closed, Happened, Round}
+use Rattle.multiplex.specs.Passing.{Change, Changed, Changes, Clock, Comes, Lobby, NoSocket, Pass}
+use Rattle.multiplex.specs.Passing.{Room, Shut, Step, Stops, Stray, Takes, Ticked, TicksBy}
+use Rattle.multiplex.specs.Passing.{TurnedAway, Visit, Visits, guest, lobby, staying, told}
+use Rattle.multiplex.specs.Passing.{told_all}
+use Rattle.multiplex.specs.Passing.{told_change, told_end, told_why, with_node}
+use Rattle.multiplex.specs.declared.ends.Over.{Over}
 use Rattle.multiplex.specs.declared.ends.Over.TheVariants as over
 use Rattle.multiplex.specs.declared.ends.Why.{Why}
-use Rattle.multiplex.specs.declared.ends.Why.TheVariants as why
 use Rattle.multiplex.specs.declared.table.Guest.{Guest}
 use Rattle.multiplex.specs.declared.table.Terms.{Terms}
-use Rattle.multiplex.proofs.Apart.{Apart, Below, Other, instead, one_behind, others, without}
-use Rattle.multiplex.proofs.Placed.{all_as, all_back, all_both, all_front}
-use Rattle.multiplex.proofs.Shutting.{all_but}
-use Rattle.multiplex.proofs.Telling.{turns_both as told_both}
+use Rattle.multiplex.proofs.Behind.{Behind, EachBehind, KeptBy, came_behind, client_of, kept_as}
+use Rattle.multiplex.proofs.Behind.{more_behind, nothing_behind, still_behind}
+use Rattle.multiplex.proofs.Giving.{Gives, end_gives, frames-both, turns_give}
+use Rattle.multiplex.proofs.Placed.{all_back}
+use Rattle.multiplex.proofs.Seating.{Hosted, Stands, StandsIn, arrives, leaves, one_more, put}
+use Rattle.multiplex.proofs.Seating.{put_other, put_same, stands_told, stays}
 
--- ---- the turns of steps
+-- ---- one connection of many has its turns
 
 abbrev numbered : ℕ → List Turn → List TurnOf
 numbered k [] = []
 numbered k (t ∷ ts) = record { number = k; turn = t } ∷ numbered k ts
 
-abbrev turns_in : Step → List TurnOf
-turns_in (Changed c) = []
-turns_in (Clock now) = []
-turns_in (Ticked now starved) = []
-turns_in (Visit k turns fate) = numbered k turns
-
-abbrev all_turns : List Step → List TurnOf
-all_turns [] = []
-all_turns (s ∷ ss) = turns_in s ++ all_turns ss
-
--- each frame that these turns of a connection began was asked as one that may ask everything
-abbrev AskAll : List TurnOf → ℕ → Type 0
-AskAll turns k = AreUnder All (begun_in (turns_of k turns))
-
--- with one turn more of this connection, or of another one
-ask_more : (own : Bool) (t : Turn) (ts : List Turn) (mine : List Turn)
-    → AreUnder All (begun_in (t ∷ ts)) → AreUnder All (begun_in mine)
-    → AreUnder All (begun_in (cond own (t ∷ mine) mine))
-ask_more true (CameIn piece) ts mine all later = later
-ask_more true (Began one) ts mine all later = (all.0, later)
-ask_more true Rested ts mine all later = later
-ask_more true (TookOf bytes) ts mine all later = later
-ask_more false t ts mine all later = later
-
-ask_less : (t : Turn) (ts : List Turn) → AreUnder All (begun_in (t ∷ ts))
-    → AreUnder All (begun_in ts)
-ask_less (CameIn piece) ts all = all
-ask_less (Began one) ts all = all.1
-ask_less Rested ts all = all
-ask_less (TookOf bytes) ts all = all
-
-ask_each : (j : ℕ) (turns : List Turn) → AreUnder All (begun_in turns)
-    → (k : ℕ) → AskAll (numbered j turns) k
-ask_each j [] all k = tt
-ask_each j (t ∷ ts) all k =
-    ask_more (eqb j k) t ts (turns_of k (numbered j ts)) all
-    (ask_each j ts (ask_less t ts all) k)
-
-FollowEach-trans : {V : Type 0} {way : Way V} (a m b : Connections way) (ts us : List TurnOf)
-    → FollowEach a ts m → FollowEach m us b → FollowEach a (ts ++ us) b
-FollowEach-trans a m b [] us h k = subst (λ z. FollowEach z us b) (sym h) k
-FollowEach-trans a m b (t ∷ ts) us h k =
-    (h.0, h.1, FollowEach-trans h.0 m b ts us h.2 k)
-
--- ---- one connection of many has its turns
+-- the turns of one connection are its own, and no other one's
+turns_numbered : (k j : ℕ) (own : Bool) → eqb j k ≡ own → (ts : List Turn)
+    → turns_of k (numbered j ts) ≡ cond own ts []
+turns_numbered k j own is [] = no_turns own [] refl
+  where
+    no_turns : (own : Bool) (ts : List Turn) → ts ≡ [] → ts ≡ cond own [] []
+    no_turns true ts none = none
+    no_turns false ts none = none
+turns_numbered k j own is (t ∷ ts) =
+    ap (λ b. cond b (t ∷ turns_of k (numbered j ts)) (turns_of k (numbered j ts))) is
+    ∙ pick own (turns_numbered k j own is ts)
+  where
+    pick : (own : Bool) → turns_of k (numbered j ts) ≡ cond own ts []
+        → cond own (t ∷ turns_of k (numbered j ts)) (turns_of k (numbered j ts))
+        ≡ cond own (t ∷ ts) []
+    pick true later = ap (λ z. t ∷ z) later
+    pick false later = later
 
 abbrev conns : {V : Type 0} {way : Way V} → (ℕ → Talk) → Seen → Outside way → Connections way
 conns talks seen outside = record { talks = talks; seen = seen; outside = outside }
-
-abbrev put : ℕ → Talk → (ℕ → Talk) → ℕ → Talk
-put k t f j = cond (eqb j k) t (f j)
-
-put_same : (k : ℕ) (t : Talk) (f : ℕ → Talk) → put k t f k ≡ t
-put_same k t f = ap (λ z. cond z t (f k)) (eq-eqb k k refl)
-
-put_other : (k : ℕ) (t : Talk) (f : ℕ → Talk) (j : ℕ) → j ≢ k → put k t f j ≡ f j
-put_other k t f j apart = ap (λ z. cond z t (f j)) (ne_eqb j k apart)
 
 record Went {V : Type 0} {way : Way V} (k : ℕ) (talks : ℕ → Talk) (p q : Place way)
     (turns : List Turn) (new : ℕ → Talk) : Type 0 where
@@ -143,241 +109,229 @@ went {V} {way} k talks p q (t ∷ ts) at h =
       },
     )
 
--- ---- the connections of a lobby
+-- ---- what a step leads to
 
-abbrev Hosted : (ℕ → Talk) → Guest → Type 0
-Hosted talks g = talks g.number ≡ g.talk
-
-record Stands (home : Home) (wire : Version) (talks : ℕ → Talk) (guests : List Guest)
-    (next : ℕ) : Type 0 where
-  hosted : AllByRecursion (Hosted talks) guests
-  fresh : (k : ℕ) → next ≤ k → talks k ≡ new_talk home wire
-  low : AllByRecursion (Below next) guests
-  apart : Apart guests
-
-still_hosted : (talks new : ℕ → Talk) (k : ℕ) (gs : List Guest)
-    → ((j : ℕ) → j ≢ k → new j ≡ talks j) → AllByRecursion (Other k) gs
-    → AllByRecursion (Hosted talks) gs → AllByRecursion (Hosted new) gs
-still_hosted talks new k [] same far h = tt
-still_hosted talks new k (g ∷ gs) same far h =
-    (same g.number far.0 ∙ h.0, still_hosted talks new k gs same far.1 h.1)
-
-leaves : (home : Home) (wire : Version) (talks : ℕ → Talk) (before : List Guest) (g : Guest)
-    (after : List Guest) (next : ℕ)
-    → Stands home wire talks (before ++ g ∷ after) next
-    → Stands home wire talks (before ++ after) next
-leaves home wire talks before g after next h = record {
-  hosted = all_but (Hosted talks) before g after h.hosted;
-  fresh = h.fresh;
-  low = all_but (Below next) before g after h.low;
-  apart = without before g after h.apart;
-}
-
--- the client in the middle had its turns, and stays
-stays : (home : Home) (wire : Version) (talks new : ℕ → Talk) (before : List Guest)
-    (old g : Guest) (after : List Guest) (next : ℕ)
-    → g.number ≡ old.number → new old.number ≡ g.talk
-    → ((j : ℕ) → j ≢ old.number → new j ≡ talks j)
-    → Stands home wire talks (before ++ old ∷ after) next
-    → Stands home wire new (before ++ g ∷ after) next
-stays home wire talks new before old g after next same at rest h =
-    let far = others before old after h.apart in
-    let under = all_back (Below next) before (old ∷ after) h.low in
-    record {
-      hosted =
-          all_both (Hosted new) before (g ∷ after)
-          (still_hosted talks new old.number before rest far.0
-          (all_front (Hosted talks) before (old ∷ after) h.hosted)) (
-            ap new same ∙ at,
-            still_hosted talks new old.number after rest far.1
-                (all_back (Hosted talks) before (old ∷ after) h.hosted).1,
-          );
-      fresh =
-          λ k above. rest k (λ e. omega (arith, e, above, under.0)) ∙ h.fresh k above;
-      low =
-          all_both (Below next) before (g ∷ after)
-          (all_front (Below next) before (old ∷ after) h.low)
-          (subst (λ n. n < next) (sym same) under.0, under.1);
-      apart = instead before old g after same h.apart;
-    }
-
-comes : (home : Home) (wire : Version) (talks : ℕ → Talk) (guests : List Guest) (next time : ℕ)
-    → Stands home wire talks guests next
-    → Stands home wire talks (guests ++ guest next (new_talk home wire) time ∷ []) (next + 1)
-comes home wire talks guests next time h = record {
-  hosted = all_both (Hosted talks) guests _ h.hosted (h.fresh next (omega arith), tt);
-  fresh = λ k above. h.fresh k (omega (arith, above));
-  low =
-      all_both (Below (next + 1)) guests _
-      (all_as (Below next) (Below (next + 1)) guests (λ g low. omega (arith, low)) h.low)
-      (omega arith, tt);
-  apart = one_behind guests _ h.low h.apart;
-}
-
-turned_away : (home : Home) (wire : Version) (talks : ℕ → Talk) (guests : List Guest) (next : ℕ)
-    → Stands home wire talks guests next → Stands home wire talks guests (next + 1)
-turned_away home wire talks guests next h = record {
-  hosted = h.hosted;
-  fresh = λ k above. h.fresh k (omega (arith, above));
-  low = all_as (Below next) (Below (next + 1)) guests (λ g low. omega (arith, low)) h.low;
-  apart = h.apart;
-}
-
-abbrev StandsIn : Home → Version → (ℕ → Talk) → Lobby → Type 0
-StandsIn home wire talks l = Stands home wire talks l.guests l.next
-
-after_change : (home : Home) (t : Terms) (talks : ℕ → Talk) (c : Change) (a b : Lobby)
-    → Changes home t c a b → StandsIn home t.wire talks a → StandsIn home t.wire talks b
-after_change home t talks (Comes k) a b h s =
-    subst (λ l. StandsIn home t.wire talks l) (sym h.enters)
-    (subst
-    (λ n. Stands home t.wire talks (a.guests ++ guest n (new_talk home t.wire) a.time ∷ [])
-    (a.next + 1)) (sym h.number) (comes home t.wire talks a.guests a.next a.time s))
-after_change home t talks (TurnedAway k) a b h s =
-    subst (λ l. StandsIn home t.wire talks l) (sym h.enters)
-    (subst (λ z. Stands home t.wire talks z (a.next + 1)) (sym (append-nil a.guests))
-    (turned_away home t.wire talks a.guests a.next s))
-after_change home t talks NoSocket a b h s =
-    subst (λ l. StandsIn home t.wire talks l) (sym h.1) s
-after_change home t talks (Stray k) a b h s =
-    subst (λ l. StandsIn home t.wire talks l) (sym h.2) s
-after_change home t talks (Shut k w) a b h s =
-    subst (λ l. StandsIn home t.wire talks l) (sym h.3.left)
-    (leaves home t.wire talks h.0 h.2 h.1 a.next
-    (subst (λ z. Stands home t.wire talks z a.next) h.3.found s))
-after_change home t talks (Stops e) a b h s =
-    subst (λ l. StandsIn home t.wire talks l) (sym h.2) s
-
--- ---- a client that is ready
-
-abbrev conns_in : {V : Type 0} {way : Way V} → Room way → (ℕ → Talk) → Connections way
-conns_in a talks = conns talks a.seen a.outside
-
-record Leads {V : Type 0} {way : Way V} (home : Home) (wire : Version) (talks : ℕ → Talk)
-    (a b : Room way) (turns : List TurnOf) (new : ℕ → Talk) : Type 0 where
-  follow : FollowEach (conns_in a talks) turns (conns_in b new)
-  allowed : (k : ℕ) → AskAll turns k
-  stands : StandsIn home wire new b.lobby
-
-abbrev LeadsSome : {V : Type 0} → {way : Way V} → Home → Version → (ℕ → Talk) → Room way
-    → Room way → List TurnOf → Type 0
-LeadsSome home wire talks a b turns = (new : ℕ → Talk) × Leads home wire talks a b turns new
-
-after_visit : {V : Type 0} {way : Way V} (home : Home) (wire : Version) (talks : ℕ → Talk)
-    (k : ℕ) (turns : List Turn) (fate : Option Why) (a b : Room way) (before after : List Guest)
-    (old new : Guest)
-    → StandsIn home wire talks a.lobby → Visits k turns fate a b before after old new
-    → LeadsSome home wire talks a b (numbered k turns)
-after_visit home wire talks k turns fate a b before after old new s h =
-    let found = subst (λ z. Stands home wire talks z a.lobby.next) h.found s in
-    let here = (all_back (Hosted talks) before (old ∷ after) found.hosted).0 in
-    let moved =
-    went k talks (with_node a old.talk) (with_node b new.talk) turns
-    (ap talks (sym h.number) ∙ here) h.follow in
-    let same : new.number ≡ old.number = h.same ∙ sym h.number in
-    let kept =
-    stays home wire talks moved.0 before old new after a.lobby.next same
-    (ap moved.0 h.number ∙ moved.1.at)
-    (λ j apart. moved.1.rest j (λ e. apart (e ∙ sym h.number))) found in (
-      moved.0,
-      record {
-        follow = moved.1.follow;
-        allowed = ask_each k turns h.allowed;
-        stands = subst (λ l. StandsIn home wire moved.0 l) (sym h.left) (left fate moved.0 kept);
-      },
-    )
-  where
-    left : (f : Option Why) (talks : ℕ → Talk)
-        → Stands home wire talks (before ++ new ∷ after) a.lobby.next
-        → Stands home wire talks (before ++ (staying f new ++ after)) a.lobby.next
-    left None talks s = s
-    left (Some w) talks s = leaves home wire talks before new after a.lobby.next s
-
--- ---- step by step
-
--- what came of each connection, what was taken, and its frames that were begun
-record Past : Type 0 where
-  came : ℕ → List ℕ
-  taken : ℕ → List ℕ
-  begun : ℕ → List Served
-
-nothing : Past
-nothing = record { came = λ k. []; taken = λ k. []; begun = λ k. [] }
-
-abbrev later : Past → List TurnOf → List Deed → Past
-later p turns deeds = record {
-  came = λ k. p.came k ++ received (turns_of k turns);
-  taken = λ k. p.taken k ++ handed_out (turns_of k turns);
-  begun = λ k. p.begun k ++ served_of k (frames_in deeds);
-}
-
-abbrev HoldsOfEach : Home → Past → (ℕ → Talk) → Type 0
-HoldsOfEach home p talks =
-    (k : ℕ) → HoldsSome home (p.came k) (p.taken k) (p.begun k) (talks k)
-
--- nothing came of any connection
-unmoved : (home : Home) (p : Past) (talks : ℕ → Talk) (deeds : List Deed)
-    → frames_in deeds ≡ [] → HoldsOfEach home p talks
-    → HoldsOfEach home (later p [] deeds) talks
-unmoved home p talks deeds none h k =
-    subst (λ z. HoldsSome home z (p.taken k ++ []) (p.begun k ++ served_of k (frames_in deeds))
-    (talks k)) (sym (append-nil (p.came k)))
-    (subst (λ z. HoldsSome home (p.came k) z (p.begun k ++ served_of k (frames_in deeds)) (talks k))
-    (sym (append-nil (p.taken k)))
-    (subst (λ z. HoldsSome home (p.came k) (p.taken k) z (talks k))
-    (sym (append-nil (p.begun k)) ∙ ap (λ z. p.begun k ++ served_of k z) (sym none)) (h k)))
-
-record Led {V : Type 0} {way : Way V} (home : Home) (wire : Version) (p : Past) (a b : Room way)
-    (turns : List TurnOf) (ticks : List Bool) (deeds : List Deed) (new : ℕ → Talk)
-    : Type 0 where
+-- What is told of it grows by these. These deeds were done, and so it stands with each client.
+record Led {V : Type 0} {way : Way V} (home : Home) (t : Terms) (before : List Happened)
+    (frames : List Served) (a b : Room way) (js : List Happened) (ticks : List Bool)
+    (deeds : List Deed) (new : ℕ → Guarding) : Type 0 where
   done : AreDoneInTurn home (point_in a) deeds (point_in b)
   own : own_ticks deeds ≡ ticks
-  allowed : (k : ℕ) → AreUnder All (begun_of (served_of k (frames_in deeds)))
-  stands : StandsIn home wire new b.lobby
-  each : HoldsOfEach home (later p turns deeds) new
+  stands : StandsIn home t.wire (before ++ js) new b.lobby
+  each : EachBehind home t.doors (before ++ js) (frames ++ frames_in deeds) new
 
-abbrev LedSome : {V : Type 0} → {way : Way V} → Home → Version → Past → Room way → Room way
-    → List TurnOf → List Bool → Type 0
-LedSome home wire p a b turns ticks =
-    (deeds : List Deed) × (new : ℕ → Talk) × Led home wire p a b turns ticks deeds new
+abbrev LedSome : {V : Type 0} → {way : Way V} → Home → Terms → List Happened → List Served
+    → Room way → Room way → List Happened → List Bool → Type 0
+LedSome home t before frames a b js ticks =
+    (deeds : List Deed) × (new : ℕ → Guarding)
+    × Led home t before frames a b js ticks deeds new
 
 point_same : {V : Type 0} {way : Way V} (a b : Room way) → b.seen ≡ a.seen
     → b.outside ≡ a.outside → point_in a ≡ point_in b
 point_same a b seen outside = cc
 
--- the node and the other desks are as before, and so is each connection
-stays_so : {V : Type 0} {way : Way V} (home : Home) (wire : Version) (p : Past)
-    (talks : ℕ → Talk) (a b : Room way)
-    → b.seen ≡ a.seen → b.outside ≡ a.outside → StandsIn home wire talks b.lobby
-    → HoldsOfEach home p talks → LedSome home wire p a b [] []
-stays_so home wire p talks a b seen outside stands each = (
+-- nothing came of any client
+stays_so : {V : Type 0} {way : Way V} (home : Home) (t : Terms) (before : List Happened)
+    (frames : List Served) (guards : ℕ → Guarding) (a b : Room way) (js : List Happened)
+    → b.seen ≡ a.seen → b.outside ≡ a.outside → ((k : ℕ) → Gives k js [] [])
+    → StandsIn home t.wire before guards b.lobby → EachBehind home t.doors before frames guards
+    → LedSome home t before frames a b js []
+stays_so home t before frames guards a b js seen outside gives stands each = (
   [],
-  talks,
+  guards,
   record {
     done = point_same a b seen outside;
     own = refl;
-    allowed = λ k. tt;
-    stands = stands;
-    each = unmoved home p talks [] refl each;
+    stands =
+        stands_told home t.wire before js guards b.lobby.guests b.lobby.next
+        (λ k. (gives k).earlier) stands;
+    each = λ k. still_behind home t.doors k before js frames [] (guards k) (gives k) refl (each k);
   },
 )
 
--- the desk gave itself a Tick
-ticked : {V : Type 0} {way : Way V} (home : Home) (wire : Version) (p : Past) (talks : ℕ → Talk)
-    (now : ℕ) (starved : Bool) (a b : Room way)
-    → StandsIn home wire talks a.lobby → TicksItself home now starved a b
-    → HoldsOfEach home p talks → LedSome home wire p a b [] (starved ∷ [])
-ticked home wire p talks now starved a b stands h each = (
-  OwnTick starved ∷ [],
-  talks,
+round_gives : (now k : ℕ) → Gives k (Round now ∷ []) [] []
+round_gives now k = record { gave = refl; took = refl; earlier = refl }
+
+-- ---- a change of which the node knows nothing
+
+nothing_gives : (k : ℕ) → Gives k [] [] []
+nothing_gives k = record { gave = refl; took = refl; earlier = refl }
+
+closed_gives : (j k : ℕ) → Gives k (Closed j ∷ []) [] []
+closed_gives j k = record { gave = refl; took = refl; earlier = refl }
+
+stop_gives : (e : Over) (k : ℕ) → Gives k (told_change (Stops e)) [] []
+stop_gives over.All k = record { gave = refl; took = refl; earlier = refl }
+stop_gives over.Stopped k = record { gave = refl; took = refl; earlier = refl }
+stop_gives over.Down k = record { gave = refl; took = refl; earlier = refl }
+stop_gives over.Failed k = record { gave = refl; took = refl; earlier = refl }
+stop_gives over.Tired k = record { gave = refl; took = refl; earlier = refl }
+stop_gives over.NoMemory k = record { gave = refl; took = refl; earlier = refl }
+
+-- a client came
+record Arrived (home : Home) (t : Terms) (before : List Happened) (frames : List Served)
+    (b : Lobby) (js : List Happened) (new : ℕ → Guarding) : Type 0 where
+  stands : StandsIn home t.wire (before ++ js) new b
+  each : EachBehind home t.doors (before ++ js) (frames ++ []) new
+
+arrived : {V : Type 0} {way : Way V} (home : Home) (t : Terms) (before : List Happened)
+    (frames : List Served) (a b : Room way) (js : List Happened) (new : ℕ → Guarding)
+    → b.seen ≡ a.seen → b.outside ≡ a.outside → Arrived home t before frames b.lobby js new
+    → LedSome home t before frames a b js []
+arrived home t before frames a b js new seen outside h = (
+  [],
+  new,
   record {
-    done = (point_in b, h.tick, refl);
+    done = point_same a b seen outside;
     own = refl;
-    allowed = λ k. tt;
-    stands = subst (λ l. StandsIn home wire talks l) (sym h.left) stands;
-    each = unmoved home p talks (OwnTick starved ∷ []) refl each;
+    stands = h.stands;
+    each = h.each;
   },
 )
+
+after_change : {V : Type 0} {way : Way V} (home : Home) (t : Terms) (before : List Happened)
+    (frames : List Served) (guards : ℕ → Guarding) (c : Change) (a b : Room way)
+    → b.seen ≡ a.seen → b.outside ≡ a.outside → Changes home t c a.lobby b.lobby
+    → StandsIn home t.wire before guards a.lobby → EachBehind home t.doors before frames guards
+    → LedSome home t before frames a b (told_change c) []
+after_change home t before frames guards (Comes k random) a b seen outside h s each =
+    let l = a.lobby in
+    let new = fresh_guard t.doors random home t.wire in
+    let left : b.lobby
+    ≡ lobby (l.guests ++ guest l.next new l.time ∷ []) (l.next + 1) l.time l.own None
+    = subst
+    (λ n. b.lobby ≡ lobby (l.guests ++ guest n new l.time ∷ []) (l.next + 1) l.time l.own None)
+    h.number h.enters in
+    arrived home t before frames a b (told_change (Comes k random)) (put k new guards) seen outside
+    (subst
+    (λ n. Arrived home t before frames b.lobby (told_change (Comes n random)) (put n new guards))
+    (sym h.number)
+    (record {
+      stands =
+          subst
+          (λ (z : Lobby). StandsIn home t.wire (before ++ told_change (Comes l.next random))
+          (put l.next new guards) z) (sym left)
+          (one_more home t.wire t.doors random before guards l.guests l.next l.time s);
+      each =
+          came_behind home t.wire t.doors random l.next before [] frames guards
+          (s.fresh l.next (omega arith)) nothing_gives each;
+    }))
+after_change home t before frames guards (TurnedAway k random) a b seen outside h s each =
+    let l = a.lobby in
+    let new = fresh_guard t.doors random home t.wire in
+    arrived home t before frames a b (told_change (TurnedAway k random)) (put k new guards) seen
+    outside
+    (subst
+    (λ n. Arrived home t before frames b.lobby (told_change (TurnedAway n random))
+    (put n new guards)) (sym h.number)
+    (record {
+      stands =
+          subst
+          (λ (z : Lobby). StandsIn home t.wire (before ++ told_change (TurnedAway l.next random))
+          (put l.next new guards) z) (sym h.enters)
+          (subst
+          (λ z. Stands home t.wire (before ++ told_change (TurnedAway l.next random))
+          (put l.next new guards) z (l.next + 1)) (sym (append-nil l.guests))
+          (arrives home t.wire t.doors random before (Closed l.next ∷ []) guards l.guests l.next
+          (λ k. refl) s));
+      each =
+          came_behind home t.wire t.doors random l.next before (Closed l.next ∷ []) frames guards
+          (s.fresh l.next (omega arith)) (closed_gives l.next) each;
+    }))
+after_change home t before frames guards NoSocket a b seen outside h s each =
+    stays_so home t before frames guards a b (told_change NoSocket) seen outside
+    (λ k. record { gave = refl; took = refl; earlier = refl })
+    (subst (λ (l : Lobby). StandsIn home t.wire before guards l) (sym h.1) s) each
+after_change home t before frames guards (Stray j) a b seen outside h s each =
+    stays_so home t before frames guards a b (told_change (Stray j)) seen outside
+    (λ k. record { gave = refl; took = refl; earlier = refl })
+    (subst (λ (l : Lobby). StandsIn home t.wire before guards l) (sym h.2) s) each
+after_change home t before frames guards (Shut j w) a b seen outside h s each =
+    stays_so home t before frames guards a b (told_change (Shut j w)) seen outside (closed_gives j)
+    (subst (λ (l : Lobby). StandsIn home t.wire before guards l) (sym h.3.left)
+    (leaves home t.wire before guards h.0 h.2 h.1 a.lobby.next
+    (subst (λ z. Stands home t.wire before guards z a.lobby.next) h.3.found s))) each
+after_change home t before frames guards (Stops e) a b seen outside h s each =
+    stays_so home t before frames guards a b (told_change (Stops e)) seen outside (stop_gives e)
+    (subst (λ (l : Lobby). StandsIn home t.wire before guards l) (sym h.2) s) each
+
+-- ---- a client that is ready
+
+some_is : (o : Option (List ℕ)) → IsSome o → (x : List ℕ) × (o ≡ Some x)
+some_is None there = absurd cc
+some_is (Some x) there = (x, refl)
+
+-- its own stream goes on with its turns
+kept_own : {V : Type 0} {way : Way V} (doors : Doors) (server : List ℕ) (o : Option (List ℕ))
+    (g : Guarding) (turns inner : List Turn) (p q : GuardTurns.Place way)
+    (came handed answers sent : List ℕ) (begun : List Begun) → o ≡ Some server → g ≡ p.guard
+    → GoesAll doors server turns p q inner → KeptBy o doors g came handed answers sent begun
+    → KeptBy o doors q.guard (came ++ received turns) (handed ++ received inner)
+    (answers ++ handed_out inner) (sent ++ handed_out turns) (begun ++ begun_in turns)
+kept_own doors server o g turns inner p q came handed answers sent begun is at goes kept =
+    let was = subst (λ z. KeptBy z doors g came handed answers sent begun) is kept in
+    subst
+    (λ z. KeptBy z doors q.guard (came ++ received turns) (handed ++ received inner)
+    (answers ++ handed_out inner) (sent ++ handed_out turns) (begun ++ begun_in turns)) (sym is)
+    (goes.keeps came handed answers sent begun
+    (subst (λ z. Keeps doors server z came handed answers sent begun) at was))
+
+-- each other one's is as it was
+kept_other : (doors : Doors) (o : Option (List ℕ)) (g : Guarding)
+    (came handed answers sent : List ℕ) (begun : List Begun)
+    → KeptBy o doors g came handed answers sent begun
+    → KeptBy o doors g (came ++ []) (handed ++ []) (answers ++ []) (sent ++ []) (begun ++ [])
+kept_other doors o g came handed answers sent begun kept =
+    kept_as doors g o o came (came ++ []) handed (handed ++ []) answers (answers ++ []) sent
+    (sent ++ []) begun (begun ++ []) refl (sym (append-nil came)) (sym (append-nil handed))
+    (sym (append-nil answers)) (sym (append-nil sent)) (sym (append-nil begun)) kept
+
+-- so it stands with each client
+visited : {V : Type 0} {way : Way V} (home : Home) (doors : Doors) (server : List ℕ)
+    (before js : List Happened) (frames fs : List Served) (guards : ℕ → Guarding) (k : ℕ)
+    (turns inner : List Turn) (p q : GuardTurns.Place way) (new : ℕ → Talk)
+    (each : EachBehind home doors before frames guards)
+    → came_with k before ≡ Some server → guards k ≡ p.guard → new k ≡ q.guard.talk
+    → ((j : ℕ) → j ≢ k → new j ≡ (guards j).talk)
+    → ((j : ℕ) (own : Bool) → eqb k j ≡ own
+    → Gives j js (cond own (received turns) []) (cond own (handed_out turns) []))
+    → GoesAll doors server turns p q inner
+    → ((j : ℕ) → HoldsSome home ((each j).handed ++ received (turns_of j (numbered k inner)))
+    ((each j).answers ++ handed_out (turns_of j (numbered k inner)))
+    (served_of j frames ++ served_of j fs) (new j))
+    → ((j : ℕ) → begun_of (served_of j fs) ≡ begun_in (turns_of j (numbered k inner)))
+    → EachBehind home doors (before ++ js) (frames ++ fs) (put k q.guard guards)
+visited home doors server before js frames fs guards k turns inner p q new each came at moved rest
+    gives goes holds begins j = pick (eqb k j) refl
+  where
+    pick : (own : Bool) → eqb k j ≡ own
+        → Behind home doors j (before ++ js) (frames ++ fs) (cond own q.guard (guards j))
+    pick true is =
+        let same : k ≡ j = eqb-true k j is in
+        let mine : turns_of j (numbered k inner) ≡ inner = turns_numbered j k true is inner in
+        let h = each j in
+        more_behind home doors j before js frames fs (guards j) q.guard (received turns)
+        (handed_out turns) (received inner) (handed_out inner) (begun_in turns) h (gives j true is)
+        (begins j ∙ ap (λ z. begun_in z) mine ∙ goes.begins)
+        (subst (λ z. HoldsSome home (h.handed ++ received inner) (h.answers ++ handed_out inner)
+        (served_of j frames ++ served_of j fs) z) (ap new (sym same) ∙ moved)
+        (subst (λ z. HoldsSome home (h.handed ++ received z) (h.answers ++ handed_out z)
+        (served_of j frames ++ served_of j fs) (new j)) mine (holds j)))
+        (kept_own doors server (came_with j before) (guards j) turns inner p q (gave j before)
+        h.handed h.answers (took j before) (begun_of (served_of j frames))
+        (ap (λ z. came_with z before) (sym same) ∙ came) (ap guards (sym same) ∙ at) goes h.kept)
+    pick false is =
+        let apart : k ≢ j = eqb-false k j is in
+        let mine : turns_of j (numbered k inner) ≡ [] = turns_numbered j k false is inner in
+        let h = each j in
+        more_behind home doors j before js frames fs (guards j) (guards j) [] [] [] [] [] h
+        (gives j false is) (begins j ∙ ap (λ z. begun_in z) mine)
+        (subst (λ z. HoldsSome home (h.handed ++ []) (h.answers ++ [])
+        (served_of j frames ++ served_of j fs) z) (rest j (λ e. apart (sym e)))
+        (subst (λ z. HoldsSome home (h.handed ++ received z) (h.answers ++ handed_out z)
+        (served_of j frames ++ served_of j fs) (new j)) mine (holds j)))
+        (kept_other doors (came_with j before) (guards j) (gave j before) h.handed h.answers
+        (took j before) (begun_of (served_of j frames)) h.kept)
 
 abbrev as_deeds : List Served → List Deed
 as_deeds [] = []
@@ -397,90 +351,99 @@ done_frames home a b [] h = h
 done_frames home a b (f ∷ fs) h =
     (h.0, (h.0, h.1, refl), done_frames home h.0 b fs h.2)
 
--- a client had its turns
-visited : {V : Type 0} {way : Way V} (home : Home) (wire : Version) (p : Past)
-    (talks : ℕ → Talk) (a b : Room way) (turns : List TurnOf)
-    → LeadsSome home wire talks a b turns → HoldsOfEach home p talks
-    → LedSome home wire p a b turns []
-visited home wire p talks a b turns h each =
+visit_gives : (k : ℕ) (turns : List Turn) (fate : Option Why) (j : ℕ) (own : Bool) → eqb k j ≡ own
+    → Gives j (told (Visit k turns fate)) (cond own (received turns) [])
+    (cond own (handed_out turns) [])
+visit_gives k turns fate j own is =
+    let h = turns_give j k own is turns (told_why k fate ++ told_end k fate) (end_gives j k fate) in
+    record { gave = h.gave; took = h.took; earlier = h.earlier }
+
+after_visit : {V : Type 0} {way : Way V} (home : Home) (t : Terms) (before : List Happened)
+    (frames : List Served) (guards : ℕ → Guarding) (k : ℕ) (turns : List Turn) (fate : Option Why)
+    (a b : Room way) (front behind : List Guest) (old new : Guest)
+    → StandsIn home t.wire before guards a.lobby → EachBehind home t.doors before frames guards
+    → Visits k turns fate a b front behind old new
+    → LedSome home t before frames a b (told (Visit k turns fate)) []
+after_visit home t before frames guards k turns fate a b front behind old new s each h =
+    let next = a.lobby.next in
+    let js = told (Visit k turns fate) in
+    let found = subst (λ z. Stands home t.wire before guards z next) h.found s in
+    let here = (all_back (Hosted before guards) front (old ∷ behind) found.hosted).0 in
+    let at : guards k ≡ old.talk = ap guards (sym h.number) ∙ here.at in
+    let seed =
+    some_is (came_with k before) (subst (λ (n : ℕ). IsSome (came_with n before)) h.number here.came)
+    in
+    let p = with_node a old.talk in
+    let q = with_node b new.talk in
+    let go = turns_go t.doors seed.0 turns p q h.follow in
+    let talks = λ (j : ℕ). (guards j).talk in
+    let moved =
+    went k talks (within p) (within q) go.0 (ap (λ (g : Guarding). g.talk) at) go.1.follow in
     let after =
-    goes_on home p.came p.taken p.begun turns (conns_in a talks) (conns_in b h.0) each h.1.follow
-    in (
+    goes_on home (λ (j : ℕ). (each j).handed) (λ (j : ℕ). (each j).answers)
+    (λ (j : ℕ). served_of j frames) (numbered k go.0) (conns talks a.seen a.outside)
+    (conns moved.0 b.seen b.outside) (λ (j : ℕ). (each j).holds) moved.1.follow in
+    let kept =
+    stands_told home t.wire before js (put k new.talk guards) (front ++ new ∷ behind) next
+    (λ j. (visit_gives k turns fate j (eqb k j) refl).earlier)
+    (stays home t.wire before guards k front old new behind next h.number h.same found) in (
       as_deeds after.0,
-      h.0,
+      put k new.talk guards,
       record {
         done = done_frames home (point_in a) (point_in b) after.0 after.1;
         own = no_own_ticks after.0;
-        allowed =
-            λ k.
-            subst (λ z. AreUnder All z)
-            (sym (ap (λ z. begun_of (served_of k z)) (frames_of_deeds after.0) ∙ after.3 k))
-            (h.1.allowed k);
-        stands = h.1.stands;
+        stands =
+            subst (λ (l : Lobby). StandsIn home t.wire (before ++ js) (put k new.talk guards) l)
+            (sym h.left) (left fate kept);
         each =
-            λ k.
-            subst (λ z. HoldsSome home (p.came k ++ received (turns_of k turns))
-            (p.taken k ++ handed_out (turns_of k turns)) (p.begun k ++ served_of k z) (h.0 k))
-            (sym (frames_of_deeds after.0)) (after.2 k);
+            subst
+            (λ z. EachBehind home t.doors (before ++ js) (frames ++ z) (put k new.talk guards))
+            (sym (frames_of_deeds after.0))
+            (visited home t.doors seed.0 before js frames after.0 guards k turns go.0 p q moved.0
+            each seed.1 at moved.1.at moved.1.rest (visit_gives k turns fate) go.1 after.2 after.3);
       },
     )
+  where
+    left : (f : Option Why)
+        → Stands home t.wire (before ++ told (Visit k turns fate)) (put k new.talk guards)
+        (front ++ new ∷ behind) a.lobby.next
+        → Stands home t.wire (before ++ told (Visit k turns fate)) (put k new.talk guards)
+        (front ++ (staying f new ++ behind)) a.lobby.next
+    left None s = s
+    left (Some w) s =
+        leaves home t.wire (before ++ told (Visit k turns fate)) (put k new.talk guards) front new
+        behind a.lobby.next s
 
-after_step : {V : Type 0} {way : Way V} (home : Home) (t : Terms) (p : Past) (talks : ℕ → Talk)
-    (s : Step) (a b : Room way)
-    → StandsIn home t.wire talks a.lobby → Takes home t s a b → HoldsOfEach home p talks
-    → LedSome home t.wire p a b (turns_in s) (ticks_of (s ∷ []))
-after_step home t p talks (Changed c) a b stands h each =
-    stays_so home t.wire p talks a b h.1 h.2
-    (after_change home t talks c a.lobby b.lobby h.0 stands) each
-after_step home t p talks (Clock now) a b stands h each =
-    stays_so home t.wire p talks a b h.seen h.outside
-    (subst (λ l. StandsIn home t.wire talks l) (sym h.left) stands) each
-after_step home t p talks (Ticked now starved) a b stands h each =
-    ticked home t.wire p talks now starved a b stands h each
-after_step home t p talks (Visit k turns fate) a b stands h each =
-    visited home t.wire p talks a b (numbered k turns)
-    (after_visit home t.wire talks k turns fate a b h.0 h.1 h.2 h.3 stands h.4) each
+-- ---- step by step
+
+after_step : {V : Type 0} {way : Way V} (home : Home) (t : Terms) (before : List Happened)
+    (frames : List Served) (guards : ℕ → Guarding) (s : Step) (a b : Room way)
+    → StandsIn home t.wire before guards a.lobby → EachBehind home t.doors before frames guards
+    → Takes home t s a b → LedSome home t before frames a b (told s) (ticks_of (s ∷ []))
+after_step home t before frames guards (Changed c) a b stands each h =
+    after_change home t before frames guards c a b h.1 h.2 h.0 stands each
+after_step home t before frames guards (Clock now) a b stands each h =
+    stays_so home t before frames guards a b (Round now ∷ []) h.seen h.outside (round_gives now)
+    (subst (λ (l : Lobby). StandsIn home t.wire before guards l) (sym h.left) stands) each
+after_step home t before frames guards (Ticked now starved) a b stands each h = (
+  OwnTick starved ∷ [],
+  guards,
+  record {
+    done = (point_in b, h.tick, refl);
+    own = refl;
+    stands =
+        subst (λ (l : Lobby). StandsIn home t.wire (before ++ Round now ∷ []) guards l) (sym h.left)
+        (stands_told home t.wire before (Round now ∷ []) guards a.lobby.guests a.lobby.next
+        (λ k. refl) stands);
+    each = λ k.
+        still_behind home t.doors k before (Round now ∷ []) frames [] (guards k) (round_gives now k)
+        refl (each k);
+  },
+)
+after_step home t before frames guards (Visit k turns fate) a b stands each h =
+    after_visit home t before frames guards k turns fate a b h.0 h.1 h.2 h.3 stands each h.4
 
 -- ---- all steps
-
-turns_both : (k : ℕ) (ts us : List TurnOf)
-    → turns_of k (ts ++ us) ≡ turns_of k ts ++ turns_of k us
-turns_both k [] us = refl
-turns_both k (t ∷ ts) us = pick (eqb t.number k) (turns_both k ts us)
-  where
-    pick : (b : Bool) → turns_of k (ts ++ us) ≡ turns_of k ts ++ turns_of k us
-        → cond b (t.turn ∷ turns_of k (ts ++ us)) (turns_of k (ts ++ us))
-        ≡ cond b (t.turn ∷ turns_of k ts) (turns_of k ts) ++ turns_of k us
-    pick true is = ap (λ z. t.turn ∷ z) is
-    pick false is = is
-
-received_both : (ts us : List Turn) → received (ts ++ us) ≡ received ts ++ received us
-received_both [] us = refl
-received_both (t ∷ ts) us =
-    ap (λ z. came_in t ++ z) (received_both ts us)
-    ∙ sym (append_assoc (came_in t) (received ts) (received us))
-
-handed_both : (ts us : List Turn) → handed_out (ts ++ us) ≡ handed_out ts ++ handed_out us
-handed_both [] us = refl
-handed_both (t ∷ ts) us =
-    ap (λ z. taken_in t ++ z) (handed_both ts us)
-    ∙ sym (append_assoc (taken_in t) (handed_out ts) (handed_out us))
-
-frames_both : (ds es : List Deed) → frames_in (ds ++ es) ≡ frames_in ds ++ frames_in es
-frames_both [] es = refl
-frames_both (Frame f ∷ ds) es = ap (λ z. f ∷ z) (frames_both ds es)
-frames_both (OwnTick starved ∷ ds) es = frames_both ds es
-
-served_both : (k : ℕ) (fs gs : List Served)
-    → served_of k (fs ++ gs) ≡ served_of k fs ++ served_of k gs
-served_both k [] gs = refl
-served_both k (f ∷ fs) gs = pick (eqb f.number k) (served_both k fs gs)
-  where
-    pick : (b : Bool) → served_of k (fs ++ gs) ≡ served_of k fs ++ served_of k gs
-        → cond b (f ∷ served_of k (fs ++ gs)) (served_of k (fs ++ gs))
-        ≡ cond b (f ∷ served_of k fs) (served_of k fs) ++ served_of k gs
-    pick true is = ap (λ z. f ∷ z) is
-    pick false is = is
 
 own_both : (ds es : List Deed) → own_ticks (ds ++ es) ≡ own_ticks ds ++ own_ticks es
 own_both [] es = refl
@@ -500,47 +463,23 @@ done_both home a m b (Frame f ∷ ds) es h k = (h.0, h.1, done_both home h.0 m b
 done_both home a m b (OwnTick starved ∷ ds) es h k =
     (h.0, h.1, done_both home h.0 m b ds es h.2 k)
 
--- what came of two lists of turns is what came of both together
-later_both : (home : Home) (p : Past) (talks : ℕ → Talk) (ts us : List TurnOf)
-    (ds es : List Deed)
-    → HoldsOfEach home (later (later p ts ds) us es) talks
-    → HoldsOfEach home (later p (ts ++ us) (ds ++ es)) talks
-later_both home p talks ts us ds es h k =
-    let came : (p.came k ++ received (turns_of k ts)) ++ received (turns_of k us)
-    ≡ p.came k ++ received (turns_of k (ts ++ us))
-    = append_assoc (p.came k) (received (turns_of k ts)) (received (turns_of k us))
-    ∙ ap (λ z. p.came k ++ z) (sym (ap received (turns_both k ts us)
-    ∙ received_both (turns_of k ts) (turns_of k us))) in
-    let taken : (p.taken k ++ handed_out (turns_of k ts)) ++ handed_out (turns_of k us)
-    ≡ p.taken k ++ handed_out (turns_of k (ts ++ us))
-    = append_assoc (p.taken k) (handed_out (turns_of k ts)) (handed_out (turns_of k us))
-    ∙ ap (λ z. p.taken k ++ z) (sym (ap handed_out (turns_both k ts us)
-    ∙ handed_both (turns_of k ts) (turns_of k us))) in
-    let begun : (p.begun k ++ served_of k (frames_in ds)) ++ served_of k (frames_in es)
-    ≡ p.begun k ++ served_of k (frames_in (ds ++ es))
-    = append_assoc (p.begun k) (served_of k (frames_in ds)) (served_of k (frames_in es))
-    ∙ ap (λ z. p.begun k ++ z) (sym (ap (λ z. served_of k z) (frames_both ds es)
-    ∙ served_both k (frames_in ds) (frames_in es))) in
-    subst (λ z. HoldsSome home z (p.taken k ++ handed_out (turns_of k (ts ++ us)))
-    (p.begun k ++ served_of k (frames_in (ds ++ es))) (talks k)) came
-    (subst (λ z. HoldsSome home ((p.came k ++ received (turns_of k ts)) ++ received (turns_of k us))
-    z (p.begun k ++ served_of k (frames_in (ds ++ es))) (talks k)) taken
-    (subst (λ z. HoldsSome home ((p.came k ++ received (turns_of k ts)) ++ received (turns_of k us))
-    ((p.taken k ++ handed_out (turns_of k ts)) ++ handed_out (turns_of k us)) z (talks k)) begun
-    (h k)))
-
-after_steps : {V : Type 0} {way : Way V} (home : Home) (t : Terms) (p : Past) (talks : ℕ → Talk)
-    (ss : List Step) (a b : Room way)
-    → StandsIn home t.wire talks a.lobby → Pass home t a ss b → HoldsOfEach home p talks
-    → LedSome home t.wire p a b (all_turns ss) (ticks_of ss)
-after_steps {V} {way} home t p talks [] a b s h each =
-    subst (λ (z : Room way). LedSome home t.wire p a z [] []) h
-    (stays_so home t.wire p talks a a refl refl s each)
-after_steps home t p talks (x ∷ ss) a b s h each =
-    let first = after_step home t p talks x a h.0 s h.1 each in
+after_steps : {V : Type 0} {way : Way V} (home : Home) (t : Terms) (before : List Happened)
+    (frames : List Served) (guards : ℕ → Guarding) (ss : List Step) (a b : Room way)
+    → StandsIn home t.wire before guards a.lobby → EachBehind home t.doors before frames guards
+    → Pass home t a ss b → LedSome home t before frames a b (told_all ss) (ticks_of ss)
+after_steps {V} {way} home t before frames guards [] a b s each h =
+    subst (λ (z : Room way). LedSome home t before frames a z [] []) h
+    (stays_so home t before frames guards a a [] refl refl nothing_gives s each)
+after_steps home t before frames guards (x ∷ ss) a b s each h =
+    let first = after_step home t before frames guards x a h.0 s each h.1 in
+    let now = before ++ told x in
+    let begun = frames ++ frames_in first.0 in
     let more =
-    after_steps home t (later p (turns_in x) first.0) first.1 ss h.0 b first.2.stands h.2
-    first.2.each in (
+    after_steps home t now begun first.1 ss h.0 b first.2.stands first.2.each h.2 in
+    let parts = append_assoc before (told x) (told_all ss) in
+    let all : begun ++ frames_in more.0 ≡ frames ++ frames_in (first.0 ++ more.0) =
+    append_assoc frames (frames_in first.0) (frames_in more.0)
+    ∙ ap (λ z. frames ++ z) (sym (frames-both first.0 more.0)) in (
       first.0 ++ more.0,
       more.1,
       record {
@@ -550,20 +489,13 @@ after_steps home t p talks (x ∷ ss) a b s h each =
         own =
             own_both first.0 more.0 ∙ ap (λ z. z ++ own_ticks more.0) first.2.own
             ∙ ap (λ z. ticks_of (x ∷ []) ++ z) more.2.own ∙ ticks_first x ss;
-        allowed =
-            λ k.
-            let xs = served_of k (frames_in first.0) in
-            let ys = served_of k (frames_in more.0) in
-            let parts : begun_of (served_of k (frames_in (first.0 ++ more.0)))
-            ≡ begun_of xs ++ begun_of ys
-            = ap (λ z. begun_of (served_of k z)) (frames_both first.0 more.0)
-            ∙ ap begun_of (served_both k (frames_in first.0) (frames_in more.0))
-            ∙ begun_both xs ys in
-            subst (λ z. AreUnder All z) (sym parts)
-            (under_both All (begun_of xs) (begun_of ys) (first.2.allowed k) (more.2.allowed k));
-        stands = more.2.stands;
+        stands =
+            subst (λ (z : List Happened). StandsIn home t.wire z more.1 b.lobby) parts
+            more.2.stands;
         each =
-            later_both home p more.1 (turns_in x) (all_turns ss) first.0 more.0 more.2.each;
+            subst (λ (z : List Happened). EachBehind home t.doors z
+            (frames ++ frames_in (first.0 ++ more.0)) more.1) parts
+            (subst (λ z. EachBehind home t.doors (now ++ told_all ss) z more.1) all more.2.each);
       },
     )
 
@@ -593,141 +525,29 @@ makes_deeds home a b (OwnTick starved ∷ ds) h =
     makes_both home.hall a h.0 b (makes_tick home starved a h.0 h.1)
     (makes_deeds home h.0 b ds h.2)
 
--- ---- the bytes that are told
-
-abbrev SameCome : ℕ → List Happened → List TurnOf → Type 0
-SameCome k hs us = gave k hs ≡ received (turns_of k us)
-
-abbrev SameTaken : ℕ → List Happened → List TurnOf → Type 0
-SameTaken k hs us = took k hs ≡ handed_out (turns_of k us)
-
--- What is told of a visit, and its turns, have the same bytes of one way, where each turn has:
--- `run` gives those that are told, `part` those of a turn, `total` those of many.
-told_as_turned : (k j : ℕ) (run : List Happened → List ℕ) (part : Turn → List ℕ)
-    (total : List Turn → List ℕ)
-    → ((t : Turn) (ts : List Turn) → total (t ∷ ts) ≡ part t ++ total ts)
-    → ((t : Turn) (hs : List Happened)
-    → run (told_turns j (t ∷ []) ++ hs) ≡ cond (eqb j k) (part t ++ run hs) (run hs))
-    → (turns : List Turn) (hs : List Happened) (us : List TurnOf)
-    → run hs ≡ total (turns_of k us)
-    → run (told_turns j turns ++ hs) ≡ total (turns_of k (numbered j turns ++ us))
-told_as_turned k j run part total sums each [] hs us h = h
-told_as_turned k j run part total sums each (t ∷ ts) hs us h =
-    ap (λ z. run (z ++ hs)) (told_both j (t ∷ []) ts)
-    ∙ ap run (append_assoc (told_turns j (t ∷ [])) (told_turns j ts) hs)
-    ∙ each t (told_turns j ts ++ hs)
-    ∙ pick (eqb j k) (told_as_turned k j run part total sums each ts hs us h)
-  where
-    pick : (b : Bool)
-        → run (told_turns j ts ++ hs) ≡ total (turns_of k (numbered j ts ++ us))
-        → cond b (part t ++ run (told_turns j ts ++ hs)) (run (told_turns j ts ++ hs))
-        ≡ total (cond b (t ∷ turns_of k (numbered j ts ++ us)) (turns_of k (numbered j ts ++ us)))
-    pick true later = ap (λ z. part t ++ z) later ∙ sym (sums t (turns_of k (numbered j ts ++ us)))
-    pick false later = later
-
--- nothing is added in either case
-either : (b : Bool) (bytes : List ℕ) → bytes ≡ cond b bytes bytes
-either true bytes = refl
-either false bytes = refl
-
-came_turns : (k j : ℕ) (turns : List Turn) (hs : List Happened) (us : List TurnOf)
-    → SameCome k hs us → SameCome k (told_turns j turns ++ hs) (numbered j turns ++ us)
-came_turns k j = told_as_turned k j (gave k) came_in received (λ t ts. refl) each
-  where
-    each : (t : Turn) (hs : List Happened)
-        → gave k (told_turns j (t ∷ []) ++ hs)
-        ≡ cond (eqb j k) (came_in t ++ gave k hs) (gave k hs)
-    each (CameIn piece) hs = refl
-    each (TookOf bytes) hs = either (eqb j k) (gave k hs)
-    each (Began one) hs = either (eqb j k) (gave k hs)
-    each Rested hs = either (eqb j k) (gave k hs)
-
-taken_turns : (k j : ℕ) (turns : List Turn) (hs : List Happened) (us : List TurnOf)
-    → SameTaken k hs us → SameTaken k (told_turns j turns ++ hs) (numbered j turns ++ us)
-taken_turns k j = told_as_turned k j (took k) taken_in handed_out (λ t ts. refl) each
-  where
-    each : (t : Turn) (hs : List Happened)
-        → took k (told_turns j (t ∷ []) ++ hs)
-        ≡ cond (eqb j k) (taken_in t ++ took k hs) (took k hs)
-    each (CameIn piece) hs = either (eqb j k) (took k hs)
-    each (TookOf bytes) hs = refl
-    each (Began one) hs = either (eqb j k) (took k hs)
-    each Rested hs = either (eqb j k) (took k hs)
-
--- how a visit ends brings no bytes
-end_gives : (k j : ℕ) (fate : Option Why) (hs : List Happened)
-    → (gave k ((told_why j fate ++ told_end j fate) ++ hs) ≡ gave k hs)
-    × (took k ((told_why j fate ++ told_end j fate) ++ hs) ≡ took k hs)
-end_gives k j None hs = (refl, refl)
-end_gives k j (Some why.Done) hs = (refl, refl)
-end_gives k j (Some why.Ended) hs = (refl, refl)
-end_gives k j (Some why.Broke) hs = (refl, refl)
-end_gives k j (Some why.Silent) hs = (refl, refl)
-end_gives k j (Some why.Crowded) hs = (refl, refl)
-end_gives k j (Some why.NoSocket) hs = (refl, refl)
-end_gives k j (Some why.Over) hs = (refl, refl)
-
-change_gives : (k : ℕ) (c : Change) (hs : List Happened)
-    → (gave k (told_change c ++ hs) ≡ gave k hs) × (took k (told_change c ++ hs) ≡ took k hs)
-change_gives k (Comes j) hs = (refl, refl)
-change_gives k (TurnedAway j) hs = (refl, refl)
-change_gives k NoSocket hs = (refl, refl)
-change_gives k (Stray j) hs = (refl, refl)
-change_gives k (Shut j w) hs = (refl, refl)
-change_gives k (Stops over.All) hs = (refl, refl)
-change_gives k (Stops over.Stopped) hs = (refl, refl)
-change_gives k (Stops over.Down) hs = (refl, refl)
-change_gives k (Stops over.Failed) hs = (refl, refl)
-change_gives k (Stops over.Tired) hs = (refl, refl)
-change_gives k (Stops over.NoMemory) hs = (refl, refl)
-
-same_bytes : (k : ℕ) (ss : List Step)
-    → SameCome k (told_all ss) (all_turns ss) × SameTaken k (told_all ss) (all_turns ss)
-same_bytes k [] = (refl, refl)
-same_bytes k (Changed c ∷ ss) =
-    let later = same_bytes k ss in
-    let same = change_gives k c (told_all ss) in
-    (same.0 ∙ later.0, same.1 ∙ later.1)
-same_bytes k (Clock now ∷ ss) = same_bytes k ss
-same_bytes k (Ticked now starved ∷ ss) = same_bytes k ss
-same_bytes k (Visit j turns fate ∷ ss) =
-    let later = same_bytes k ss in
-    let tail = told_why j fate ++ told_end j fate in
-    let ends = end_gives k j fate (told_all ss) in
-    let parts = append_assoc (told_turns j turns) tail (told_all ss) in (
-      ap (λ z. gave k z) parts
-          ∙ came_turns k j turns (tail ++ told_all ss) (all_turns ss) (ends.0 ∙ later.0),
-      ap (λ z. took k z) parts
-          ∙ taken_turns k j turns (tail ++ told_all ss) (all_turns ss) (ends.1 ∙ later.1),
-    )
-
 -- ---- the law
 
 pub each_client : {V : Type 0} (d : DeskOf V) → EachClientIsServed d
-unfolding nothing
 each_client d result home t period a b before after steps h =
-    let none = λ (k : ℕ). new_talk home t.wire in
-    let at_start : StandsIn home t.wire none a.lobby =
-    subst (λ l. StandsIn home t.wire none l) (sym h.first)
-    (record { hosted = tt; fresh = λ k above. refl; low = tt; apart = tt }) in
+    let none = λ (k : ℕ). fresh_guard t.doors [] home t.wire in
+    let at_start : StandsIn home t.wire [] none a.lobby =
+    subst (λ (l : Lobby). StandsIn home t.wire [] none l) (sym h.first)
+    (record {
+      hosted = tt;
+      fresh = λ k above. record { talk = refl; absent = refl };
+      low = tt;
+      apart = tt;
+    }) in
     let led =
-    after_steps home t nothing none steps a b at_start h.pass
-    (λ k. at_first home t.wire (none k) refl) in (
+    after_steps home t [] [] none steps a b at_start
+    (λ k. nothing_behind home t.wire t.doors (none k) k refl) h.pass in (
       led.0,
       led.2.done,
       makes_deeds home (point_in a) (point_in b) led.0 led.2.done,
       led.2.own,
       λ k.
           let one = led.2.each k in
-          let all = served_of k (frames_in led.0) in (
-            one.0,
-            led.1 k,
-            subst
-                (λ z. IsServedOf home z (took k (told_all steps)) all one.0 (led.1 k))
-                (sym (same_bytes k steps).0)
-                (subst
-                (λ z. IsServedOf home (received (turns_of k (all_turns steps))) z all one.0
-                (led.1 k)) (sym (same_bytes k steps).1) one.1.served),
-            led.2.allowed k,
-          ),
+          client_of home t.doors (came_with k (told_all steps)) (led.1 k) (gave k (told_all steps))
+          one.handed one.answers (took k (told_all steps)) (served_of k (frames_in led.0)) one.holds
+          one.kept,
     )

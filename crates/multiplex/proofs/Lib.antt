@@ -5,7 +5,11 @@ pub mod Walking
 pub mod Shutting
 pub mod Stepping
 pub mod Apart
+pub mod Giving
+pub mod Seating
+pub mod Behind
 pub mod Following
+pub mod UnderHall
 pub mod Periods
 pub mod Visits
 pub mod Coming

@@ -18,8 +18,8 @@ HasNone l = l.own.ticker ≡ None
 
 after_change : (home : Home) (t : Terms) (c : Change) (a b : Lobby) → Changes home t c a b
     → b.own ≡ a.own
-after_change home t (Comes k) a b h = ap (λ (l : Lobby). l.own) h.enters
-after_change home t (TurnedAway k) a b h = ap (λ (l : Lobby). l.own) h.enters
+after_change home t (Comes k random) a b h = ap (λ (l : Lobby). l.own) h.enters
+after_change home t (TurnedAway k random) a b h = ap (λ (l : Lobby). l.own) h.enters
 after_change home t NoSocket a b h = ap (λ (l : Lobby). l.own) h.1
 after_change home t (Stray k) a b h = ap (λ (l : Lobby). l.own) h.2
 after_change home t (Shut k w) a b h = ap (λ (l : Lobby). l.own) h.3.left

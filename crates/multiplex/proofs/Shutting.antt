@@ -6,7 +6,8 @@ use Rattle.std.proofs.lemmas.Bool.{ltb-true}
 use Rattle.std.proofs.lemmas.List.Quantifiers.{position-Some}
 use Rattle.store.specs.declared.home.Home.{Home}
 use Rattle.wire.specs.declared.values.Version.{Version}
-use Rattle.serving.specs.Turns.{new_talk}
+use Rattle.guarded.specs.Guarding.{fresh_guard}
+use Rattle.sealed.specs.declared.callers.Doors.{Doors}
 use Rattle.std.specs.List.{AllByRecursion}
 use Rattle.multiplex.specs.Happenings.{Happened, Tells, Came, Closed, Full}
 use Rattle.multiplex.specs.Passing.{Change, Changes, Comes, Lobby, NoSocket, Shut, TurnedAway}
@@ -133,34 +134,49 @@ keeps_both home wire old mid new h k kept = k (h kept)
 
 -- ---- a client comes
 
-settled_new : (home : Home) (wire : Version) → Settled (new_talk home wire)
-settled_new home wire =
-    inr (record { free = record { unended = refl; taken = refl }; served = refl; unbroken = refl })
+settled_new : (doors : Doors) (random : List ℕ) (home : Home) (wire : Version)
+    → Settled (fresh_guard doors random home wire)
+settled_new doors random home wire =
+    inr
+    (record {
+      fed = refl;
+      taken = refl;
+      hears = refl;
+      served = record {
+        free = record { unended = refl; taken = refl };
+        served = refl;
+        unbroken = refl;
+      };
+    })
 
 pub welcome_keeps : {C : Type 0} (happened : C → Option (List Happened)) (home : Home)
-    (wire : Version) (old new : Table) (c later : C)
-    → Welcomes happened home wire old new c later → KeepsKept home wire old new
-welcome_keeps happened home wire old new c later h kept = either h.either
+    (t : Terms) (random : List ℕ) (old new : Table) (c later : C)
+    → Welcomes happened home t random old new c later → KeepsKept home t.wire old new
+welcome_keeps happened home t random old new c later h kept = either h.either
   where
     either :
-        ((new.guests.items ≡ old.guests.items ++ guest old.next (new_talk home wire) old.time ∷ [])
+        ((new.guests.items
+        ≡ old.guests.items
+        ++ guest old.next (fresh_guard t.doors random home t.wire) old.time ∷ [])
         × Tells (happened c) (happened later) [])
         ⊎ ((new.guests.items ≡ old.guests.items)
         × Tells (happened c) (happened later) (Closed old.next ∷ []))
-        → AreKept home wire new.guests.items
+        → AreKept home t.wire new.guests.items
     either (inl k) =
-        subst (λ z. AreKept home wire z) (sym k.0)
-        (all_both (IsKept home wire) old.guests.items _ kept
-        (record { home = refl; wire = refl; settled = settled_new home wire }, tt))
-    either (inr k) = subst (λ z. AreKept home wire z) (sym k.0) kept
+        subst (λ z. AreKept home t.wire z) (sym k.0)
+        (all_both (IsKept home t.wire) old.guests.items _ kept (
+          record { home = refl; wire = refl; settled = settled_new t.doors random home t.wire },
+          tt,
+        ))
+    either (inr k) = subst (λ z. AreKept home t.wire z) (sym k.0) kept
 
 pub enters : {C : Type 0} (happened : C → Option (List Happened)) (home : Home) (t : Terms)
-    (old new : Table) (c between later : C)
+    (random : List ℕ) (old new : Table) (c between later : C)
     → old.next < t.most → length old.guests.items < 512
-    → Tells (happened c) (happened between) (Came old.next ∷ [])
-    → Welcomes happened home t.wire old new between later
+    → Tells (happened c) (happened between) (Came old.next random ∷ [])
+    → Welcomes happened home t random old new between later
     → AltersSome happened home t None old new c later
-enters happened home t old new c between later wanted room told h = either h.either
+enters happened home t random old new c between later wanted room told h = either h.either
   where
     comes : (more : List Guest) → new.guests.items ≡ old.guests.items ++ more
         → Enters t old.next more (lobby_of old None) (lobby_of new None)
@@ -174,20 +190,21 @@ enters happened home t old new c between later wanted room told h = either h.eit
 
     either :
         ((new.guests.items
-        ≡ old.guests.items ++ guest old.next (new_talk home t.wire) old.time ∷ [])
+        ≡ old.guests.items
+        ++ guest old.next (fresh_guard t.doors random home t.wire) old.time ∷ [])
         × Tells (happened between) (happened later) [])
         ⊎ ((new.guests.items ≡ old.guests.items)
         × Tells (happened between) (happened later) (Closed old.next ∷ []))
         → AltersSome happened home t None old new c later
     either (inl k) = (
-      Comes old.next ∷ [],
+      Comes old.next random ∷ [],
       record {
         changed = (lobby_of new None, comes _ k.0, refl);
         told = Tells-trans (happened c) (happened between) (happened later) _ _ told k.1;
       },
     )
     either (inr k) = (
-      TurnedAway old.next ∷ [],
+      TurnedAway old.next random ∷ [],
       record {
         changed =
             (lobby_of new None, comes [] (k.0 ∙ sym (append-nil old.guests.items)), refl);

@@ -8,7 +8,8 @@ use Rattle.std.proofs.lemmas.List.Quantifiers.{position-Some}
 use Rattle.std.proofs.lemmas.List.{set_split}
 use Rattle.answers.specs.declared.desk.Desk.{Ghosts as DeskOf}
 use Rattle.serving.specs.declared.peers.Peers.{Ghosts as PeersOf}
-use Rattle.serving.specs.TurnLaw.{Follow, Turn}
+use Rattle.serving.specs.TurnLaw.{Turn}
+use Rattle.guarded.specs.GuardTurns.{Follow}
 use Rattle.store.specs.declared.home.Home.{Home}
 use Rattle.wire.specs.declared.values.Version.{Version}
 use Rattle.multiplex.specs.Happenings.{Happened, Tells, Closed}
@@ -94,7 +95,7 @@ pub visiting : {V U C : Type 0} (d : DeskOf V) (p : PeersOf U)
     (happened : C → Option (List Happened)) (home : Home) (t : Terms) (k : ℕ) (fate : Option Why)
     (table : Table) (old new : Guest) (before after : List Guest) (left : Lobby)
     (a m : Scene V U C)
-    → table.guests.items ≡ before ++ old ∷ after → old.number ≡ k → old.talk.wire ≡ t.wire
+    → table.guests.items ≡ before ++ old ∷ after → old.number ≡ k → old.talk.talk.wire ≡ t.wire
     → Hosts d p happened table.time fate old new a m
     → left
     ≡ lobby (before ++ (staying fate new ++ after)) table.next table.time table.own
@@ -117,7 +118,6 @@ visiting d p happened home t k fate table old new before after left a m found nu
               (λ w. Follow (place_at d p w (at_guest a old)) goes.0
               (place_at d p w (at_guest m new))) wire goes.1.follow;
           once = goes.1.few;
-          allowed = goes.1.allowed;
           same = h.0.number ∙ number;
           ready = h.0.ready;
           stands = h.1.1;
@@ -133,7 +133,7 @@ visiting d p happened home t k fate table old new before after left a m found nu
 pub answers_stay : {V U C : Type 0} (d : DeskOf V) (p : PeersOf U)
     (happened : C → Option (List Happened)) (home : Home) (t : Terms) (k : ℕ) (place : ℕ)
     (table changed : Table) (old new : Guest) (before after : List Guest) (a m : Scene V U C)
-    → About table place old new before after → old.number ≡ k → old.talk.wire ≡ t.wire
+    → About table place old new before after → old.number ≡ k → old.talk.talk.wire ≡ t.wire
     → changed.guests.items ≡ set table.guests.items place new → changed.next ≡ table.next
     → changed.time ≡ table.time → changed.own ≡ table.own
     → Hosts d p happened table.time None old new a m
@@ -193,7 +193,7 @@ pub record Leaving {C : Type 0} (happened : C → Option (List Happened)) (over 
     (table changed : Table) (k : ℕ) (new : Guest) (before after : List Guest) (c later : C)
     : Type 0 where
   pub left : lobby_of changed over
-      ≡ lobby (before ++ after) table.next table.time table.own (over_by new.talk.end)
+      ≡ lobby (before ++ after) table.next table.time table.own (over_by new.talk.talk.end)
   pub told : Tells (happened c) (happened later) (Closed k ∷ [])
 
 pub leaving : {C : Type 0} (happened : C → Option (List Happened)) (place : ℕ)
@@ -214,7 +214,7 @@ leaving happened place over table mid changed old new before after c later split
           lobby_same
           (h.4.left ∙ ap (λ z. z ++ h.1) same.fronts ∙ ap (λ z. before ++ z) same.backs)
           (h.4.next ∙ next) (h.4.time ∙ time) (h.4.own ∙ own)
-          (h.4.ends ∙ ap (λ (z : Guest). over_by z.talk.end) same.here);
+          (h.4.ends ∙ ap (λ (z : Guest). over_by z.talk.talk.end) same.here);
       told =
           subst (λ (z : Guest). Tells (happened c) (happened later) (Closed z.number ∷ []))
           same.here h.4.told;
@@ -224,7 +224,7 @@ pub answers_leave : {V U C : Type 0} (d : DeskOf V) (p : PeersOf U)
     (happened : C → Option (List Happened)) (home : Home) (t : Terms) (k : ℕ) (w : Why)
     (place : ℕ) (over : Option Over) (table mid changed : Table) (old new : Guest)
     (before after : List Guest) (a : Scene V U C) (node : V) (peers : U) (c later : C)
-    → About table place old new before after → old.number ≡ k → old.talk.wire ≡ t.wire
+    → About table place old new before after → old.number ≡ k → old.talk.talk.wire ≡ t.wire
     → mid.guests.items ≡ set table.guests.items place new → mid.next ≡ table.next
     → mid.time ≡ table.time → mid.own ≡ table.own
     → Hosts d p happened table.time (Some w) old new a (scene node peers c)
@@ -273,7 +273,7 @@ pub record Stands (home : Home) (wire : Version) (k : ℕ) (table : Table) (plac
     : Type 0 where
   pub within : place < length table.guests.items
   pub number : old.number ≡ k
-  pub same : old.talk.wire ≡ wire
+  pub same : old.talk.talk.wire ≡ wire
 
 pub stands : (home : Home) (wire : Version) (k : ℕ) (table : Table) (place : ℕ) (old : Guest)
     → position (has_number k) table.guests.items ≡ Some place

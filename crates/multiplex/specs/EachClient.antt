@@ -1,13 +1,16 @@
 -- What holds of each client of many that were served side by side.
 use Rattle.std.specs.Prelude.{◌≡◌, ℕ, ◌==◌, Bool, if◌then◌else◌, List, [], ◌∷◌, ◌++◌}
-use Rattle.std.specs.Prelude.{Option, None}
+use Rattle.std.specs.Prelude.{Option, None, Some, IsTrue}
 use Rattle.answers.specs.declared.desk.Desk.{Ghosts as DeskOf}
 use Rattle.store.specs.declared.home.Home.{Home}
-use Rattle.serving.specs.declared.permission.Permission.TheVariants.{All}
-use Rattle.serving.specs.Connection.{AreUnder, Sides}
+use Rattle.sealed.specs.declared.callers.Doors.{Doors}
+use Rattle.sealed.specs.declared.callers.Doors.TheVariants.{Locked}
+use Rattle.sealed.specs.declared.callers.Locks.{Locks}
+use Rattle.guarded.specs.Guarding.{Guarding}
+use Rattle.guarded.specs.GuardLaw.{IsGuardedStream, IsUnderHall, delivers}
+use Rattle.serving.specs.Connection.{Sides, asked}
 use Rattle.serving.specs.Making.{Way, speaking}
 use Rattle.serving.specs.OwnTicks.{unanswered}
-use Rattle.serving.specs.Turns.{Talk}
 use Rattle.connections.specs.Connections.{AreServedInTurn, IsServedOf, MakesSome, Point, Served}
 use Rattle.connections.specs.Connections.{begun_of, served_of}
 use Rattle.multiplex.specs.Happenings.{Happened, Round, Came, Full, Named, Gave, Took, Ended, Broke}
@@ -23,7 +26,7 @@ gave k [] = []
 gave k (Gave j bytes ∷ hs) = if j == k then bytes ++ gave k hs else gave k hs
 gave k (Took j bytes ∷ hs) = gave k hs
 gave k (Round time ∷ hs) = gave k hs
-gave k (Came j ∷ hs) = gave k hs
+gave k (Came j random ∷ hs) = gave k hs
 gave k (Full ∷ hs) = gave k hs
 gave k (Named j ∷ hs) = gave k hs
 gave k (Ended j ∷ hs) = gave k hs
@@ -36,7 +39,7 @@ took k [] = []
 took k (Took j bytes ∷ hs) = if j == k then bytes ++ took k hs else took k hs
 took k (Gave j bytes ∷ hs) = took k hs
 took k (Round time ∷ hs) = took k hs
-took k (Came j ∷ hs) = took k hs
+took k (Came j random ∷ hs) = took k hs
 took k (Full ∷ hs) = took k hs
 took k (Named j ∷ hs) = took k hs
 took k (Ended j ∷ hs) = took k hs
@@ -88,12 +91,48 @@ AreDoneInTurn {V} {way} home a (Frame f ∷ ds) b =
 AreDoneInTurn {V} {way} home a (OwnTick starved ∷ ds) b =
     (m : Point way) × TicksBy starved home (sides_at a) (sides_at m) × AreDoneInTurn home m ds b
 
+-- the random bytes that were drawn for a client, if it came
+abbrev pub came_with : ℕ → List Happened → Option (List ℕ)
+came_with k [] = None
+came_with k (Came j random ∷ hs) = if j == k then Some random else came_with k hs
+came_with k (Gave j bytes ∷ hs) = came_with k hs
+came_with k (Took j bytes ∷ hs) = came_with k hs
+came_with k (Round time ∷ hs) = came_with k hs
+came_with k (Full ∷ hs) = came_with k hs
+came_with k (Named j ∷ hs) = came_with k hs
+came_with k (Ended j ∷ hs) = came_with k hs
+came_with k (Broke j ∷ hs) = came_with k hs
+came_with k (Closed j ∷ hs) = came_with k hs
+came_with k (Failed ∷ hs) = came_with k hs
+
+-- ---- one client
+
+-- A client that gave these bytes and took those, and of which these frames were begun. Its stream
+-- was let in as the doors admit it, and the frames were served as far as whoever calls may ask:
+-- what was let in are these frames, those that wait, and a rest. What it took, and then what was
+-- still to be sent when its connection was ended, is the desk's preface, where there is one, and
+-- then what is sent of the answers to these frames, in order, and of nothing else.
+pub record IsServedBehind (home : Home) (doors : Doors) (server came sent : List ℕ)
+    (all : List Served) : Type 0 where
+  pub guard : Guarding
+  pub handed : List ℕ
+  pub answers : List ℕ
+  pub rest : List ℕ
+  pub stream : IsGuardedStream doors server guard came sent handed answers (begun_of all)
+  pub served : IsServedOf home handed answers all rest guard.talk
+
+-- and of one that never came nothing came
+abbrev pub IsServedClient : Home → Doors → Option (List ℕ) → List ℕ → List ℕ → List Served → Type 0
+IsServedClient home doors None came sent all = (came ≡ []) × (sent ≡ []) × (all ≡ [])
+IsServedClient home doors (Some server) came sent all =
+    IsServedBehind home doors server came sent all
+
+-- ---- the laws
+
 -- Of every serving of many clients: the frames that were begun are served and the desk's own Ticks
 -- are taken one after the other, whichever clients the frames are of, and the calls of all of them
--- lead from the first node to the last. The bytes that a client gave are its own frames that were
--- begun, those that wait, and a rest. Those that it took, and then what was still pending when its
--- connection was ended, are the answers to its own frames, in order, and nothing else. Each frame is
--- served as it asks, since every client may ask everything.
+-- lead from the first node to the last. Each client is served what its own frames come to, as far
+-- as it may ask, and nothing else.
 abbrev pub EachClientIsServed : {V : Type 0} → DeskOf V → Type 0
 EachClientIsServed d =
     (result : ServedEach) (home : Home) (t : Terms) (period : Option ℕ)
@@ -104,10 +143,19 @@ EachClientIsServed d =
     × AreDoneInTurn home (point_in a) deeds (point_in b)
     × MakesSome home.hall (point_in a) (point_in b)
     × (own_ticks deeds ≡ ticks_of steps)
-    × ((k : ℕ) → (rest : List ℕ) × (talk : Talk)
-    × IsServedOf home (gave k (told_all steps)) (took k (told_all steps))
-    (served_of k (frames_in deeds)) rest talk
-    × AreUnder All (begun_of (served_of k (frames_in deeds))))
+    × ((k : ℕ)
+    → IsServedClient home t.doors (came_with k (told_all steps)) (gave k (told_all steps))
+    (took k (told_all steps)) (served_of k (frames_in deeds)))
+
+-- At a desk with a key, each frame of a client that delivers a message stands in records that fit
+-- under the hall's key, of what the client gave.
+abbrev pub EachDeliversUnderHall : Type 0
+EachDeliversUnderHall =
+    (home : Home) (locks : Locks) (server came sent : List ℕ) (earlier later : List Served)
+    (one : Served)
+    → IsServedBehind home (Locked locks) server came sent (earlier ++ one ∷ later)
+    → IsTrue (delivers (asked home one.one))
+    → IsUnderHall locks server came (begun_of earlier) one.one
 
 -- without a period the desk never gives itself a Tick
 abbrev pub TicksNeedAPeriod : {V : Type 0} → DeskOf V → Type 0

@@ -14,8 +14,8 @@ use Rattle.multiplex.specs.declared.clients.Taken.TheVariants as taken_is
 pub data Happened : Type 0 where
   -- a round is over, so many milliseconds after the first one
   Round : ℕ → Happened
-  -- a client came, and has this number
-  Came : ℕ → Happened
+  -- a client came, and has this number; these random bytes were drawn for it
+  Came : ℕ → List ℕ → Happened
   -- none could be accepted, since the system has no more sockets
   Full : Happened
   -- this client was named as ready
@@ -45,7 +45,7 @@ ready (ready_is.Round now) = Round now ∷ []
 ready ready_is.Failed = Failed ∷ []
 
 abbrev pub accepted : ℕ → Accepted → List Happened
-accepted k accepted_is.Came = Came k ∷ []
+accepted k (accepted_is.Came random) = Came k random ∷ []
 accepted k accepted_is.Nobody = []
 accepted k accepted_is.Full = Full ∷ []
 

@@ -3,3 +3,4 @@ pub mod Passing
 pub mod EachClient
 pub mod Scenes
 pub mod model
+pub mod Rounds

@@ -4,17 +4,15 @@ use Rattle.std.specs.Prelude.{Option, None, Some, suc, Bool, true, false, ◌||�
 use Rattle.std.specs.Prelude.{if◌then◌else◌}
 use Rattle.std.specs.List.{AllByRecursion}
 use Rattle.answers.specs.Seen.{Seen}
+use Rattle.guarded.specs.Guarding.{Guarding, IsDone, WantsRead, fresh_guard}
+use Rattle.guarded.specs.GuardTurns.{Follow, Place}
 use Rattle.store.specs.declared.home.Home.{Home}
 use Rattle.serving.specs.declared.ends.End.{End}
 use Rattle.serving.specs.declared.ends.End.TheVariants as end
-use Rattle.serving.specs.declared.permission.Permission.{Permission}
-use Rattle.serving.specs.declared.permission.Permission.TheVariants.{All}
-use Rattle.serving.specs.Connection.{AreUnder, Sides}
+use Rattle.serving.specs.Connection.{Sides}
 use Rattle.serving.specs.Making.{Outside, Way}
 use Rattle.serving.specs.OwnTicks.{Ticks, TicksInPart, unanswered}
-use Rattle.serving.specs.Turns.{Talk, WantsRead, new_talk}
-use Rattle.serving.specs.TurnLaw.{Came as CameIn, Began, Follow, Place, Rested, Took as TookOf}
-use Rattle.serving.specs.TurnLaw.{Turn, begun_in}
+use Rattle.serving.specs.TurnLaw.{Came as CameIn, Began, Rested, Took as TookOf, Turn}
 use Rattle.ticking.specs.Ticking.{Look, Ticking, after, is_due, look, new_ticker}
 use Rattle.multiplex.specs.Happenings.{Happened, Round, Came, Full, Named, Gave, Took, Ended, Broke}
 use Rattle.multiplex.specs.Happenings.{Closed, Failed, Tells}
@@ -76,7 +74,7 @@ lobby guests next time own over =
 abbrev pub empty_lobby : OwnTicks → Lobby
 empty_lobby own = lobby [] 0 0 own None
 
-abbrev pub guest : ℕ → Talk → ℕ → Guest
+abbrev pub guest : ℕ → Guarding → ℕ → Guest
 guest number talk ready = record { number = number; talk = talk; ready = ready }
 
 -- what is seen of the node beside that, and what is there beside
@@ -86,17 +84,17 @@ pub record Room {V : Type 0} (way : Way V) : Type 0 where
   pub outside : Outside way
 
 -- a connection, with the node as it is seen
-abbrev pub with_node : {V : Type 0} → {way : Way V} → Room way → Talk → Place way
-with_node a talk = record { talk = talk; seen = a.seen; outside = a.outside }
+abbrev pub with_node : {V : Type 0} → {way : Way V} → Room way → Guarding → Place way
+with_node a talk = record { guard = talk; seen = a.seen; outside = a.outside }
 
 -- ---- steps
 
--- a change of which the node knows nothing: a client came, or came and was turned away for want of
--- memory; the system had no socket for one; a client was ready whose connection is not open; a
--- connection was ended; serving is over
+-- a change of which the node knows nothing: a client came, with these random bytes, or came and was
+-- turned away for want of memory; the system had no socket for one; a client was ready whose
+-- connection is not open; a connection was ended; serving is over
 pub data Change : Type 0 where
-  Comes : ℕ → Change
-  TurnedAway : ℕ → Change
+  Comes : ℕ → List ℕ → Change
+  TurnedAway : ℕ → List ℕ → Change
   NoSocket : Change
   Stray : ℕ → Change
   Shut : ℕ → Why → Change
@@ -144,8 +142,8 @@ told_over over.Tired = []
 told_over over.NoMemory = []
 
 abbrev pub told_change : Change → List Happened
-told_change (Comes k) = Came k ∷ []
-told_change (TurnedAway k) = Came k ∷ Closed k ∷ []
+told_change (Comes k random) = Came k random ∷ []
+told_change (TurnedAway k random) = Came k random ∷ Closed k ∷ []
 told_change NoSocket = Full ∷ []
 told_change (Stray k) = Named k ∷ []
 told_change (Shut k w) = Closed k ∷ []
@@ -164,17 +162,12 @@ told_all (s ∷ ss) = told s ++ told_all ss
 
 -- ---- a client that is ready
 
--- all that came is served, but for what waits until an answer is taken
-abbrev pub Settled : Talk → Type 0
-Settled c = (c.pending ≢ []) ⊎ WantsRead c
-
--- it ended, and all of its answers were taken
-pub record IsDone (c : Talk) : Type 0 where
-  pub ended : c.end ≢ None
-  pub taken : c.pending ≡ []
+-- all that came is served, but for what waits until what is to be sent is taken
+abbrev pub Settled : Guarding → Type 0
+Settled c = (c.output ≢ []) ⊎ WantsRead c
 
 -- when the connection of a client that was ready goes on, or is ended
-abbrev pub IsFate : Option Why → Talk → Type 0
+abbrev pub IsFate : Option Why → Guarding → Type 0
 IsFate None c = Settled c
 IsFate (Some why.Done) c = IsDone c
 IsFate (Some why.Ended) c = WantsRead c
@@ -197,18 +190,14 @@ over_by (Some end.Write) = None
 over_by (Some end.NoMemory) = None
 over_by None = None
 
-abbrev pub over_after : Option Why → Talk → Option Over
+abbrev pub over_after : Option Why → Guarding → Option Over
 over_after None c = None
-over_after (Some w) c = over_by c.end
+over_after (Some w) c = over_by c.talk.end
 
 -- the client stays, or leaves
 abbrev pub staying : Option Why → Guest → List Guest
 staying None g = g ∷ []
 staying (Some w) g = []
-
--- what a client may ask of the desk: everything, whichever it is
-abbrev pub may_ask : Guest → Permission
-may_ask g = All
 
 -- how many pieces came
 abbrev pub pieces : List Turn → ℕ
@@ -218,8 +207,7 @@ pieces (Began one ∷ ts) = pieces ts
 pieces (Rested ∷ ts) = pieces ts
 pieces (TookOf bytes ∷ ts) = pieces ts
 
--- A ready client's connection took these turns, in which one piece came at most, and each frame was
--- asked as the client may ask.
+-- a ready client's connection took these turns, in which one piece came at most
 pub record Visits {V : Type 0} {way : Way V} (k : ℕ) (turns : List Turn) (fate : Option Why)
     (a b : Room way) (before after : List Guest) (old new : Guest) : Type 0 where
   pub going : a.lobby.over ≡ None
@@ -227,7 +215,6 @@ pub record Visits {V : Type 0} {way : Way V} (k : ℕ) (turns : List Turn) (fate
   pub number : old.number ≡ k
   pub follow : Follow (with_node a old.talk) turns (with_node b new.talk)
   pub once : pieces turns ≤ 1
-  pub allowed : AreUnder (may_ask old) (begun_in turns)
   pub same : new.number ≡ k
   pub ready : new.ready ≡ a.lobby.time
   pub stands : IsFate fate new.talk
@@ -264,7 +251,7 @@ pub record Shuts (t : Terms) (k : ℕ) (w : Why) (a b : Lobby) (before after : L
   pub number : old.number ≡ k
   pub cause : IsCause t w a old
   pub left : b ≡ lobby (before ++ after) a.next a.time a.own
-      (first_of a.over (over_by old.talk.end))
+      (first_of a.over (over_by old.talk.talk.end))
 
 -- another client came, with which these stay
 pub record Enters (t : Terms) (k : ℕ) (more : List Guest) (a b : Lobby) : Type 0 where
@@ -284,8 +271,9 @@ IsStop t over.Stopped a = ⊥
 IsStop t over.Down a = ⊥
 
 abbrev pub Changes : Home → Terms → Change → Lobby → Lobby → Type 0
-Changes home t (Comes k) a b = Enters t k (guest k (new_talk home t.wire) a.time ∷ []) a b
-Changes home t (TurnedAway k) a b = Enters t k [] a b
+Changes home t (Comes k random) a b =
+    Enters t k (guest k (fresh_guard t.doors random home t.wire) a.time ∷ []) a b
+Changes home t (TurnedAway k random) a b = Enters t k [] a b
 Changes home t NoSocket a b = (a.over ≡ None) × (b ≡ a)
 Changes home t (Stray k) a b =
     (a.over ≡ None) × AllByRecursion (λ (g : Guest). g.number ≢ k) a.guests × (b ≡ a)

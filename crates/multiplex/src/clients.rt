@@ -21,8 +21,8 @@ pub enum Ready {
 /// What came of accepting a client.
 #[derive(Clone, Copy, PartialEq, Eq, Debug)]
 pub enum Accepted {
-    /// A client came.
-    Came,
+    /// A client came. These bytes are new with each client: they tell its connection from others.
+    Came { random: [u8; 16] },
     /// None waits, or the one that waited has gone.
     Nobody,
     /// The system has no more sockets.

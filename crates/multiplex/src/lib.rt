@@ -2,6 +2,7 @@
 #![tactic(auto)]
 
 mod clients;
+mod driven;
 mod ends;
 pub mod laws;
 mod links;
@@ -12,6 +13,7 @@ mod table;
 mod turns;
 
 pub use clients::{Accepted, Clients, Given, Ready, Taken};
+pub use driven::Rounds;
 pub use ends::{Over, ServedEach, Why};
 pub use links::Links;
 pub use serving_each::serve_each;

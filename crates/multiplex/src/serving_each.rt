@@ -20,7 +20,7 @@ use ticking::Period;
 const LONGEST_WAIT: u64 = 1000;
 
 /// For how long it may be waited, in milliseconds: at most until a Tick of the desk's own is due.
-fn wait_of<L: Links>(links: &L, own: &OwnTicks, now: u64) -> u64
+pub(crate) fn wait_of<L: Links>(links: &L, own: &OwnTicks, now: u64) -> u64
     ensures most { result ≤ 1000 }
     ensures due { IfSome (left_at own.now.ticker now) (λ left. result ≤ left) }
 {
@@ -59,7 +59,7 @@ fn end_round<D: Desk, C: Clients, L: Links>(
 }
 
 /// Does what can be done next without waiting, and says why serving is over by that, if it is.
-fn step<D: Desk, C: Clients, L: Links>(
+pub(crate) fn step<D: Desk, C: Clients, L: Links>(
     alloc: Global,
     table: &mut Table,
     terms: Terms,

@@ -16,7 +16,8 @@ use crate::ends::{Over, Why};
 use crate::table::{Guest, MOST_OPEN, Table, Terms, longest_silent};
 use crate::turns::talk_on;
 use answers::Desk;
-use serving::{Connection, End, Peers};
+use guarded::Guard;
+use serving::{End, Peers};
 use std::alloc::Global;
 
 /// Why serving is over once a connection that ended so was ended.
@@ -49,15 +50,14 @@ fn host<D: Desk, C: Clients, P: Peers>(
     node: &mut D,
     peers: &mut P,
 ) -> Option<Why>
-    requires kept { IsKept (D.home_of node.old) guest.old.talk.wire guest.old }
+    requires kept { IsKept (D.home_of node.old) guest.old.talk.talk.wire guest.old }
     ensures hosts { Hosts D.Desk P.Peers C.happened time result guest.old guest.new
         (scene node.old peers.old clients.old) (scene node.new peers.new clients.new) }
     ensures home { D.home_of node.new ≡ D.home_of node.old }
 {
     guest.ready = time;
     let number = guest.number;
-    let may = guest.may_ask();
-    if let Some(why) = talk_on(number, may, &mut guest.talk, clients, node, peers) {
+    if let Some(why) = talk_on(number, &mut guest.talk, clients, node, peers) {
         return Some(why);
     }
     if clients.watch(number, guest.talk.wants_write()) {
@@ -134,22 +134,24 @@ pub(crate) fn let_all_go<C: Clients>(table: &mut Table, clients: &mut C)
     }
 }
 
-/// Lets the client in that came. Where there is no memory for it, its connection is ended.
+/// Gives the client that came a connection, with these random bytes. Where there is no memory for
+/// it, it is ended.
 fn welcome<D: Desk, C: Clients>(
     alloc: Global,
     table: &mut Table,
     terms: Terms,
+    random: [u8; 16],
     clients: &mut C,
     node: &D,
 )
     requires { table.old.next < terms.most }
-    ensures { Welcomes C.happened (D.home_of node.now) terms.wire table.old table.new
+    ensures { Welcomes C.happened (D.home_of node.now) terms random table.old table.new
         clients.old clients.new }
 {
     let number = table.next;
     let ready = table.time;
     table.next += 1;
-    let Ok(talk) = Connection::new(alloc, node, terms.wire) else {
+    let Ok(talk) = Guard::new(alloc, node, terms.wire, terms.doors, random) else {
         clients.close(number);
         return;
     };
@@ -180,8 +182,8 @@ fn enter<D: Desk, C: Clients>(
     ensures few { length table.new.guests.items ≤ 512 }
 {
     match clients.accept(table.next) {
-        Accepted::Came => {
-            welcome(alloc, table, terms, clients, node);
+        Accepted::Came { random } => {
+            welcome(alloc, table, terms, random, clients, node);
             None
         }
         Accepted::Nobody => None,

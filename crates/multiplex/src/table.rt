@@ -1,12 +1,12 @@
 //! The clients whose connections are open.
 
 ghost use Rattle.std.specs.Prelude.{◌≡◌, [], position, IfOk, IfSome, IfNone};
-ghost use Rattle.multiplex.specs.Passing.{first_ticks, may_ask};
+ghost use Rattle.multiplex.specs.Passing.{first_ticks};
 ghost use Rattle.multiplex.specs.model.Tables.{IsLongestAt, has_number, is_silent};
 
 use crate::own_ticks::OwnTicks;
 use answers::Desk;
-use serving::{Connection, Permission};
+use guarded::{Doors, Guard};
 use std::alloc::{AllocError, Global};
 use ticking::Period;
 use wire::Version;
@@ -15,7 +15,7 @@ use wire::Version;
 pub(crate) const MOST_OPEN: usize = 512;
 
 /// How a desk's clients are served.
-#[derive(Clone, Copy, Debug)]
+#[derive(Clone, Copy)]
 pub struct Terms {
     /// The version of the wire in which frames are pushed to other desks.
     pub wire: Version,
@@ -23,6 +23,8 @@ pub struct Terms {
     pub most: u64,
     /// How long a client is waited for, in milliseconds.
     pub patience: u64,
+    /// What is asked of a client: nothing, or a key.
+    pub doors: Doors,
 }
 
 /// A client whose connection is open.
@@ -30,18 +32,9 @@ pub struct Terms {
 pub(crate) struct Guest {
     /// How many clients came before it.
     pub(crate) number: u64,
-    pub(crate) talk: Connection,
+    pub(crate) talk: Guard,
     /// When it was last ready, in milliseconds after the first round.
     pub(crate) ready: u64,
-}
-
-impl Guest {
-    /// What the client may ask of the desk: everything, whichever it is.
-    pub(crate) fn may_ask(&self) -> Permission
-        ensures { result ≡ may_ask self.now }
-    {
-        Permission::All
-    }
 }
 
 /// The clients whose connections are open, in the order in which they came.

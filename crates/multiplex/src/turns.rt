@@ -2,7 +2,7 @@
 
 ghost use Rattle.std.specs.Prelude.{◌≡◌, ◌≢◌, []};
 ghost use Rattle.std.specs.Bool.{OnTrue};
-ghost use Rattle.serving.specs.Turns.{WantsRead};
+ghost use Rattle.guarded.specs.Guarding.{WantsRead};
 ghost use Rattle.multiplex.specs.Passing.{Settled};
 ghost use Rattle.multiplex.specs.model.Visiting.{Goes, Moves, Reads, Sends, SettledOrDone, TalksOn};
 ghost use Rattle.multiplex.specs.model.Visiting.{broken, spot};
@@ -10,11 +10,12 @@ ghost use Rattle.multiplex.specs.model.Visiting.{broken, spot};
 use crate::clients::{Clients, Given, Taken};
 use crate::ends::Why;
 use answers::Desk;
-use serving::{Connection, Peers, Permission};
+use guarded::Guard;
+use serving::Peers;
 
 /// Writes once what is to be sent. False: the write failed.
-fn send<C: Clients>(number: u64, talk: &mut Connection, clients: &mut C) -> bool
-    requires { talk.old.pending ≢ [] }
+fn send<C: Clients>(number: u64, talk: &mut Guard, clients: &mut C) -> bool
+    requires { talk.old.output ≢ [] }
     ensures { Sends C.happened number result clients.old clients.new talk.old talk.new }
 {
     match clients.write(number, talk.output()) {
@@ -27,24 +28,22 @@ fn send<C: Clients>(number: u64, talk: &mut Connection, clients: &mut C) -> bool
     }
 }
 
-/// Serves the frames that wait, of a client that may ask so much, as long as their answers are
-/// taken at once. False: a write failed.
+/// Serves the frames that wait, as long as their answers are taken at once. False: a write failed.
 fn serve_waiting<D: Desk, C: Clients, P: Peers>(
     number: u64,
-    may: Permission,
-    talk: &mut Connection,
+    talk: &mut Guard,
     clients: &mut C,
     node: &mut D,
     peers: &mut P,
 ) -> bool
-    requires home { D.home_of node.old ≡ talk.old.home }
-    ensures served { Goes D.Desk P.Peers C.happened number may (broken result) 0
+    requires home { D.home_of node.old ≡ talk.old.talk.home }
+    ensures served { Goes D.Desk P.Peers C.happened number (broken result) 0
         (spot node.old peers.old clients.old talk.old)
         (spot node.new peers.new clients.new talk.new) }
     ensures settled { OnTrue result (SettledOrDone talk.new) }
     ensures node { D.home_of node.new ≡ D.home_of node.old }
 {
-    while talk.advance(node, peers, may) {
+    while talk.advance(node, peers) {
         if talk.wants_write() && !send(number, talk, clients) {
             return false;
         }
@@ -53,7 +52,7 @@ fn serve_waiting<D: Desk, C: Clients, P: Peers>(
 }
 
 /// Reads once. None: a piece came, or nothing did.
-fn read<C: Clients>(number: u64, talk: &mut Connection, clients: &mut C) -> Option<Why>
+fn read<C: Clients>(number: u64, talk: &mut Guard, clients: &mut C) -> Option<Why>
     requires { WantsRead talk.old }
     ensures { Reads C.happened number result clients.old clients.new talk.old talk.new }
 {
@@ -70,7 +69,7 @@ fn read<C: Clients>(number: u64, talk: &mut Connection, clients: &mut C) -> Opti
 }
 
 /// Writes once what is to be sent, or else reads once. Where that ends the connection, it says why.
-fn move_bytes<C: Clients>(number: u64, talk: &mut Connection, clients: &mut C) -> Option<Why>
+fn move_bytes<C: Clients>(number: u64, talk: &mut Guard, clients: &mut C) -> Option<Why>
     requires settled { Settled talk.old }
     ensures moves { Moves C.happened number result clients.old clients.new talk.old talk.new }
 {
@@ -84,19 +83,18 @@ fn move_bytes<C: Clients>(number: u64, talk: &mut Connection, clients: &mut C) -
     read(number, talk, clients)
 }
 
-/// Writes or reads once, and serves what came of a client that may ask so much, as long as answers
-/// are taken at once. Where the connection is to be ended now, it says why.
+/// Writes or reads once, and serves what came, as long as answers are taken at once. Where the
+/// connection is to be ended now, it says why.
 pub(crate) fn talk_on<D: Desk, C: Clients, P: Peers>(
     number: u64,
-    may: Permission,
-    talk: &mut Connection,
+    talk: &mut Guard,
     clients: &mut C,
     node: &mut D,
     peers: &mut P,
 ) -> Option<Why>
-    requires home { D.home_of node.old ≡ talk.old.home }
+    requires home { D.home_of node.old ≡ talk.old.talk.home }
     requires settled { Settled talk.old }
-    ensures talks { TalksOn D.Desk P.Peers C.happened number may result
+    ensures talks { TalksOn D.Desk P.Peers C.happened number result
         (spot node.old peers.old clients.old talk.old)
         (spot node.new peers.new clients.new talk.new) }
     ensures node { D.home_of node.new ≡ D.home_of node.old }
@@ -104,7 +102,7 @@ pub(crate) fn talk_on<D: Desk, C: Clients, P: Peers>(
     if let Some(why) = move_bytes(number, talk, clients) {
         return Some(why);
     }
-    if !serve_waiting(number, may, talk, clients, node, peers) {
+    if !serve_waiting(number, talk, clients, node, peers) {
         return Some(Why::Broke);
     }
     if talk.is_done() {

@@ -1,22 +1,20 @@
 //! The arguments of the program, and how it ends.
 
 use crate::journal_file::{FileFault, open_journal};
+use crate::program::PROGRAM;
 use crate::serving::{End, MOST_BROWSERS, Order, serve};
 use card_queue::JournalFault;
 use clap::builder::ValueParser;
 use clap::{Arg, ArgAction, ArgMatches, Command, Error};
 use command_line::borrowed;
 use hall_options::{
-    FoundHall, Mistake, address_at, hall_of, option, tell, tell_mistake, tell_parse_error,
-    tell_system, with_desks,
+    Mistake, address_at, hall_of, option, tell, tell_mistake, tell_parse_error, tell_system,
+    with_desks,
 };
 use page_sockets::BrowserSockets;
 use std::alloc::{AllocError, Global};
 use std::io::Write;
 use std::net::SocketAddr;
-
-/// The name of the program.
-pub const PROGRAM: &str = "scoretable";
 
 const ABOUT: &str = "Takes scorecards in a browser, and enters them at the desks of a hall.";
 
@@ -38,12 +36,15 @@ saved once it is decided. ADDR is that of --listen. It prints `scoretable at ADD
 and runs until it is stopped. What was not decided then is submitted after the next start.
 
 The desks are those of --hall and --to, or without these all desks of the hall that FILE describes.
+Where they have a key, it is in the file of --key, or in the one that FILE names. Standard error
+gets a line where a desk has another key, has no key, or has a key and the score table has none.
 Whoever reaches ADDR can enter results, so it has to be an address of this machine alone, as
 127.0.0.1:8081, unless --open-network is given.
 
-Exit status: 2 invalid arguments, or help or the version; 3 FILE describes no hall, or the journal
-is damaged; 4 an invalid address, the journal cannot be used, cannot listen, cannot go on, or two
-desks told different entries; 5 no memory. Standard error gets a line that says why.";
+Exit status: 2 invalid arguments, or help or the version; 3 FILE describes no hall, the key's file
+gives no key, or the journal is damaged; 4 an invalid address, the journal cannot be used, cannot
+listen, cannot go on, or two desks told different entries; 5 no memory. Standard error gets a line
+that says why.";
 
 /// The program without its options, as the parser knows it.
 fn plain_command<'a>(alloc: Global) -> Command<'a> {
@@ -135,14 +136,13 @@ fn title_of<'a>(alloc: Global, found: &ArgMatches<'_>) -> Result<String, Mistake
 
 /// What the arguments ask for. The journal is opened last.
 fn order_of<'a>(rt: &HostRuntime, found: &ArgMatches<'a>) -> Result<Order, Refusal<'a>> {
-    let FoundHall { hall, desks } = hall_of(rt, found)?;
+    let hall = hall_of(rt, found)?;
     let listen = listen_at(rt, found)?;
     let title = title_of(rt.alloc(), found)?;
     let path = found.get_str("journal").unwrap_or(JOURNAL);
     match open_journal(rt, path, 0) {
         Ok(journal) => Ok(Order {
             hall,
-            desks,
             title,
             listen,
             journal,

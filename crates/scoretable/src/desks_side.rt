@@ -4,15 +4,17 @@ ghost use Rattle.following.specs.Following.{IsPlace};
 ghost use Rattle.wire.specs.Ranges.{IsDesk};
 
 use crate::journal_file::JournalFile;
+use crate::program::PROGRAM;
 use crate::sending::Sending;
 use card_queue::Stepped;
 use desk_sockets::{DeskStream, Kept};
+use hall_options::FoundHall;
 use hall_standings::{AskedDesks, stream_to};
 use mio::Registry;
 use mirroring::Stage;
 use std::alloc::Global;
 use std::io;
-use std::net::SocketAddr;
+use std::rt::Stderr;
 use submitting::Submission;
 use table_service::TableService;
 use table_views::Desks;
@@ -54,42 +56,44 @@ pub struct DesksSide<'a> {
     answered_at: u64,
     /// When the desk was asked at once for what comes next, or had not taken everything.
     hurried_at: u64,
+    /// Where it is said what is wrong with a desk's key.
+    faults: Stderr,
 }
 
-/// Does all that can be done now for the desks that are asked how they stand.
-fn keep_asked(asked: &mut AskedDesks<'_, HostRuntime>, now: u64) {
+/// Does all that can be done now for the desks that are asked how they stand, and says what is
+/// wrong with their keys.
+fn keep_asked(asked: &mut AskedDesks<'_, HostRuntime>, faults: &mut Stderr, now: u64) {
     for place in 0..asked.streams.len() {
-        if let Some(stream) = asked.streams.get_mut(place) {
-            asked.desks.keep(place, stream, now);
+        if let Some(one) = asked.streams.get_mut(place) {
+            asked.desks.keep(place, &mut one.stream, now);
+            one.tell(faults, PROGRAM);
         }
     }
 }
 
-/// Nothing is on its way to the desks at these addresses.
+/// Nothing is on its way to the desks of a hall.
 fn sending_of<'a>(
     rt: &'a HostRuntime,
     registry: &Registry,
-    hall: u32,
-    desks: &[Option<SocketAddr>],
+    hall: &FoundHall,
 ) -> io::Result<Sending<'a, HostRuntime>> {
     let alloc = rt.alloc();
-    let stream = stream_to(rt, alloc, registry, 1, desks)?;
-    let submission = Submission::new(alloc, hall, 1);
-    Ok(Sending::new(submission, stream, count_of(desks.len())))
+    let stream = stream_to(rt, alloc, registry, 1, &hall.desks, hall.key)?;
+    let submission = Submission::new(alloc, hall.hall, 1);
+    Ok(Sending::new(submission, stream, count_of(hall.desks.len())))
 }
 
 impl<'a> DesksSide<'a> {
-    /// Nothing is connected yet. The addresses are those of desk 1, of desk 2 and so on.
+    /// Nothing is connected yet.
     pub fn new(
         rt: &'a HostRuntime,
         registry: &Registry,
-        hall: u32,
-        desks: &[Option<SocketAddr>],
+        hall: &FoundHall,
     ) -> io::Result<DesksSide<'a>> {
         let alloc = rt.alloc();
-        let asked = AskedDesks::new(rt, alloc, registry, hall, desks)?;
-        let stream = stream_to(rt, alloc, registry, 0, desks)?;
-        let sending = sending_of(rt, registry, hall, desks)?;
+        let asked = AskedDesks::new(rt, alloc, registry, hall.hall, &hall.desks, hall.key)?;
+        let stream = stream_to(rt, alloc, registry, 0, &hall.desks, hall.key)?;
+        let sending = sending_of(rt, registry, hall)?;
         Ok(DesksSide {
             alloc,
             stream,
@@ -98,6 +102,7 @@ impl<'a> DesksSide<'a> {
             caught_up: false,
             answered_at: 0,
             hurried_at: 0,
+            faults: rt.stderr(),
         })
     }
 
@@ -191,7 +196,7 @@ impl<'a> DesksSide<'a> {
 
     /// Does all that can be done now. False: the hall is broken.
     pub fn keep(&mut self, service: &mut TableService<JournalFile>, now: u64) -> io::Result<bool> {
-        keep_asked(&mut self.asked, now);
+        keep_asked(&mut self.asked, &mut self.faults, now);
         if !self.keep_mirror(service, now) {
             return Ok(false);
         }

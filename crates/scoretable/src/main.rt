@@ -7,12 +7,14 @@ mod desks_side;
 mod drawing;
 mod hosts;
 mod journal_file;
+mod program;
 mod sending;
 mod serving;
 
-use arguments::{PROGRAM, run_given};
+use arguments::run_given;
 use command_line::given;
 use hall_options::tell_no_arguments;
+use program::PROGRAM;
 use std::process::ExitCode;
 
 fn main(rt: HostRuntime) -> ExitCode {

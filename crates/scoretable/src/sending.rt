@@ -8,6 +8,7 @@ use acceptor::entry::Entry;
 use desk_sockets::DeskStream;
 use learner::log::Log;
 use std::net::Net;
+use std::random::RandomSource;
 use submitting::Submission;
 
 /// How long entries wait at a desk until they are submitted at the next one, in milliseconds.
@@ -74,7 +75,7 @@ fn forget_from(submission: &mut Submission, log: &Log, position: u32) {
     }
 }
 
-impl<'a, R: Net> Sending<'a, R> {
+impl<'a, R: Net + RandomSource> Sending<'a, R> {
     /// Nothing is on its way. The first desk comes first, of so many, 1 to 5.
     pub fn new(submission: Submission, stream: DeskStream<'a, R>, desks: u8) -> Sending<'a, R>
         requires { IsDesk desks }

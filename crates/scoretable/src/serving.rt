@@ -7,6 +7,7 @@ use crate::desks_side::{DesksSide, count_of};
 use crate::drawing::{drawn_ids, drawn_token};
 use crate::hosts::hosts_of;
 use crate::journal_file::{JournalFile, Opened};
+use hall_options::FoundHall;
 use http_server::Config;
 use mirroring::Mirroring;
 use page_sockets::BrowserSockets;
@@ -34,9 +35,8 @@ const LONGEST_BODY: usize = 8_388_608;
 /// What the score table is to do.
 #[derive(Drop)]
 pub struct Order {
-    pub hall: u32,
-    /// The address of desk 1, of desk 2 and so on: one to five.
-    pub desks: Vec<Option<SocketAddr>>,
+    /// The hall, with one to five desks.
+    pub hall: FoundHall,
     pub title: String,
     pub listen: SocketAddr,
     pub journal: Opened,
@@ -210,15 +210,14 @@ fn table_of(
     service_of(rt.alloc(), hall, desks, setup, journal)
 }
 
-/// What is kept up with the desks at these addresses.
+/// What is kept up with the desks of a hall.
 fn side_of<'a>(
     rt: &'a HostRuntime,
     sockets: &BrowserSockets<'a, HostRuntime>,
-    hall: u32,
-    desks: &[Option<SocketAddr>],
+    hall: &FoundHall,
 ) -> io::Result<DesksSide<'a>> {
     let registry = sockets.registry()?;
-    DesksSide::new(rt, &registry, hall, desks)
+    DesksSide::new(rt, &registry, hall)
 }
 
 /// Says where it listens, and serves until it can't go on.
@@ -229,8 +228,9 @@ pub fn serve<'a, W: Write>(
     writer: &mut W,
 ) -> io::Result<End> {
     let address = sockets.address()?;
-    let side = side_of(rt, &sockets, order.hall, &order.desks)?;
-    let desks = count_of(order.desks.len());
-    let service = table_of(rt, address, order.hall, desks, order.title, order.journal)?;
+    let side = side_of(rt, &sockets, &order.hall)?;
+    let desks = count_of(order.hall.desks.len());
+    let hall = order.hall.hall;
+    let service = table_of(rt, address, hall, desks, order.title, order.journal)?;
     serve_sockets(rt, address, service, side, sockets, writer)
 }

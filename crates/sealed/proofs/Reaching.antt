@@ -5,7 +5,7 @@ use Rattle.std.proofs.lemmas.List.{append-nil}
 use Rattle.seal.specs.declared.channel.Direction.TheVariants.{ToClient}
 use Rattle.seal.specs.Records.{key_of, preface_of}
 use Rattle.seal.specs.Streams.{Fed}
-use Rattle.sealed.specs.Callings.{CallingOf, Receives, Stands, StandsBy, StandsClosed}
+use Rattle.sealed.specs.Callings.{CallingOf, Receives, SendsOn, Stands, StandsBy, StandsClosed}
 use Rattle.sealed.specs.Fronts.{IsShort, IsUnsealed}
 use Rattle.sealed.specs.Trials.{ReadsAll}
 use Rattle.sealed.specs.Tunnels.{TunnelOf, channel_of}
@@ -27,6 +27,12 @@ closed_is b c came handed none is h =
     subst (λ (t : Option TunnelOf). StandsBy t c came handed) (sym none)
     (subst (λ (u : Bool). StandsClosed u c came handed) (sym is) h)
 
+-- nothing is sent while the desk's preface did not come
+sends_none : (o n : Option TunnelOf) → o ≡ None → n ≡ None → SendsOn o n
+sends_none None None was is = tt
+sends_none None (Some u) was is = absurd cc
+sends_none (Some t) n was is = absurd cc
+
 -- it isn't known yet what the stream is
 pub receives_short : (old new : CallingOf) (piece : List ℕ) (added : ℕ) → old.tunnel ≡ None
     → old.unsealed ≡ false → new.tunnel ≡ None → new.unsealed ≡ false → new.key ≡ old.key
@@ -35,6 +41,7 @@ pub receives_short : (old new : CallingOf) (piece : List ℕ) (added : ℕ) → 
 receives_short old new piece added o1 o2 n1 n2 key random held short = record {
   key = key;
   random = random;
+  sends = sends_none old.tunnel new.tunnel o1 n1;
   stands = λ came handed h.
       let q = is_closed false old came handed o1 o2 h in
       let all = all_held came piece old.held new.held added held q.1 short in
@@ -50,6 +57,7 @@ pub receives_unsealed : (old mid new : CallingOf) (piece : List ℕ) (added : �
 receives_unsealed old mid new piece added o1 o2 n1 n2 key random held unsealed = record {
   key = key;
   random = random;
+  sends = sends_none old.tunnel new.tunnel o1 n1;
   stands = λ came handed h.
       let q = is_closed false old came handed o1 o2 h in
       let whole = held_and_rest came piece old.held mid.held added held q.1 in
@@ -64,6 +72,7 @@ pub receives_more_unsealed : (c : CallingOf) (piece : List ℕ) → c.tunnel ≡
 receives_more_unsealed c piece none is = record {
   key = refl;
   random = refl;
+  sends = sends_none c.tunnel c.tunnel none none;
   stands = λ came handed h.
       let q = is_closed true c came handed none is h in
       closed_is true c (came ++ piece) (handed ++ []) none is
@@ -86,6 +95,8 @@ receives_first old mid new piece server more added o1 o2 key random held sixteen
     record {
       key = new_key ∙ key;
       random = new_random ∙ random;
+      sends = subst (λ (o : Option TunnelOf). SendsOn o new.tunnel) (sym o1)
+          (subst (λ (o : Option TunnelOf). SendsOn None o) (sym tunnel) opens.4);
       stands = λ came handed h.
           let q = is_closed false old came handed o1 o2 h in
           let prefaced =
@@ -105,10 +116,12 @@ receives_first old mid new piece server more added o1 o2 key random held sixteen
 -- one more piece of it
 pub receives_more : (old new : CallingOf) (t u : TunnelOf) (piece more : List ℕ)
     → old.tunnel ≡ Some t → new.tunnel ≡ Some u → new.key ≡ old.key → new.random ≡ old.random
-    → Fed piece t.opener u.opener more → Receives piece old new more
-receives_more old new t u piece more o1 n1 key random fed = record {
+    → Fed piece t.opener u.opener more → u.sealer ≡ t.sealer → Receives piece old new more
+receives_more old new t u piece more o1 n1 key random fed sealer = record {
   key = key;
   random = random;
+  sends = subst (λ (o : Option TunnelOf). SendsOn o new.tunnel) (sym o1)
+      (subst (λ (o : Option TunnelOf). SendsOn (Some t) o) (sym n1) sealer);
   stands = λ came handed h.
       let q = subst (λ (o : Option TunnelOf). StandsBy o old came handed) o1 h in
       let same : channel_of (key_of old.key old.random q.server) ToClient

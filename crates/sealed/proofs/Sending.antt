@@ -17,7 +17,7 @@ use Rattle.sealed.specs.Admitting.{goes_under}
 use Rattle.sealed.specs.Fronts.{IsPrefaced}
 use Rattle.sealed.specs.Calls.{CalledOf, SendsPlain, Stands, StandsAt, StandsPassing}
 use Rattle.sealed.specs.Calls.{StandsReading, StandsTrying, IsOfLocks, SendsBy, caller_by}
-use Rattle.sealed.specs.Calls.{caller_of, held_by}
+use Rattle.sealed.specs.Calls.{KeepsCaller, caller_of, held_by}
 use Rattle.sealed.specs.Sent.{HasSent, IsNew, IsSent, IsSentSealed, KeepsSent, SealingGoesOn}
 use Rattle.sealed.specs.Sent.{SealingReads, SendsWhatIsGiven, SentAs, SentBy, SentEntry, SentOver}
 use Rattle.sealed.specs.Sent.{SentPlain, from_start, key_for}
@@ -95,6 +95,22 @@ keeps_tried old new t u was is same given sent h =
     let q = subst (λ (o : Option TrialOf). SentBy o old given sent) was h in
     subst (λ (o : Option TrialOf). SentBy o new given sent) (sym is)
     (tried_as t.holder t u given sent refl same q)
+
+held_still : (t u : TrialOf) → IsSameTrial t u → (o : Option Holder) → t.holder ≡ o
+    → IsSome (option_map held_by o) → option_map held_by u.holder ≡ option_map held_by o
+held_still t u same None was h = absurd (cc)
+held_still t u same (Some k) was h =
+    ap (λ (p : Option Holder). option_map held_by p)
+    (same.stays (subst (λ (p : Option Holder). IsSome p) (sym was) refl) ∙ was)
+
+-- whoever was known to call does so still
+pub keeps_caller : (old new : CalledOf) (t u : TrialOf) → old.trial ≡ Some t
+    → new.trial ≡ Some u → IsSameTrial t u → KeepsCaller old new
+keeps_caller old new t u was is same h =
+    let some = subst (λ (o : Option TrialOf). IsSome (caller_by o old.passing)) was h in
+    ap (λ (o : Option TrialOf). caller_by o new.passing) is
+    ∙ held_still t u same t.holder refl some
+    ∙ sym (ap (λ (o : Option TrialOf). caller_by o old.passing) was)
 
 -- the first piece of one
 pub keeps_opened : (old new : CalledOf) (t : TrialOf) → old.trial ≡ None → old.passing ≡ None

@@ -1,8 +1,9 @@
 -- The side of whoever calls a desk: what it keeps, and what it has read.
 use Rattle.std.specs.Prelude.{◌≡◌, ℕ, Bool, true, false, List, [], ◌++◌, Option, None, Some}
-use Rattle.seal.specs.declared.channel.Direction.TheVariants.{ToClient}
+use Rattle.seal.specs.declared.channel.Direction.TheVariants.{ToClient, ToServer}
 use Rattle.seal.specs.declared.fault.OpenFault.{OpenFault}
 use Rattle.seal.specs.Records.{key_of}
+use Rattle.seal.specs.Sealing.{Sealing}
 use Rattle.sealed.specs.declared.calling.Trouble.{Trouble}
 use Rattle.sealed.specs.declared.calling.Trouble.TheVariants.{NoKey, OtherKey}
 use Rattle.sealed.specs.Fronts.{IsPrefaced, IsShort, IsUnsealed}
@@ -71,11 +72,24 @@ StandsBy None c came handed = StandsClosed c.unsealed c came handed
 abbrev pub Stands : CallingOf → List ℕ → List ℕ → Type 0
 Stands c came handed = StandsBy c.tunnel c came handed
 
+-- before the first record is sent, under the key of what comes
+abbrev pub first_sealing : TunnelOf → Sealing
+first_sealing t = record { channel = channel_of t.opener.channel.key ToServer; number = 0 }
+
+-- What is sent goes on with what was sent before. Once the desk's preface came it begins: its
+-- records are numbered from 0.
+abbrev pub SendsOn : Option TunnelOf → Option TunnelOf → Type 0
+SendsOn None None = Unit {0}
+SendsOn None (Some u) = u.sealer ≡ first_sealing u
+SendsOn (Some t) None = ⊥
+SendsOn (Some t) (Some u) = u.sealer ≡ t.sealer
+
 -- the key and the random bytes are the same; and whatever came and was handed on before, with this
 -- piece these bytes more are
 pub record Receives (piece : List ℕ) (old new : CallingOf) (more : List ℕ) : Type 0 where
   pub key : new.key ≡ old.key
   pub random : new.random ≡ old.random
+  pub sends : SendsOn old.tunnel new.tunnel
   pub stands : (came handed : List ℕ) → Stands old came handed
       → Stands new (came ++ piece) (handed ++ more)
 

@@ -1,6 +1,6 @@
 -- A desk's side of a connection: what it keeps, and what it has read.
 use Rattle.std.specs.Prelude.{◌≡◌, ℕ, Bool, true, false, List, [], ◌++◌, Option, None, Some}
-use Rattle.std.specs.Prelude.{option_map}
+use Rattle.std.specs.Prelude.{IsSome, option_map}
 use Rattle.sealed.specs.declared.callers.Caller.{Caller}
 use Rattle.sealed.specs.declared.callers.Caller.TheVariants.{Anyone, Passer}
 use Rattle.sealed.specs.declared.callers.Caller.TheVariants as caller
@@ -129,6 +129,10 @@ Stands c came handed = StandsAt c.refusal c came handed
 pub record IsSameDesk (old new : CalledOf) : Type 0 where
   pub doors : new.doors ≡ old.doors
   pub random : new.random ≡ old.random
+
+-- once it is known who calls, that stays
+abbrev pub KeepsCaller : CalledOf → CalledOf → Type 0
+KeepsCaller old new = IsSome (caller_of old) → caller_of new ≡ caller_of old
 
 -- whatever came and was handed on before: with this piece these bytes more are
 abbrev pub Receives : List ℕ → CalledOf → CalledOf → List ℕ → Type 0

@@ -2,7 +2,7 @@
 
 ghost use Rattle.std.specs.Prelude.{◌≡◌, ◌≢◌, [], None, Some, IfOk, IsSome, OnErr, OnOk};
 ghost use Rattle.seal.specs.Records.{preface_of};
-ghost use Rattle.sealed.specs.Calls.{IsSameDesk, Receives, Sends, caller_of};
+ghost use Rattle.sealed.specs.Calls.{IsSameDesk, KeepsCaller, Receives, Sends, caller_of};
 ghost use Rattle.sealed.specs.Calls.{first_passing, fresh_called, is_over, is_sealed};
 ghost use Rattle.sealed.specs.Sent.{KeepsSent};
 ghost use Rattle.sealed.specs.model.Steps.{OpensAfter, Passes};
@@ -101,13 +101,11 @@ impl Called {
     pub fn is_over(&self) -> bool
         ensures { result ≡ is_over self.now }
     {
-        if self.refusal.is_some() {
-            return true;
-        }
-        match &self.trial {
+        let misfits = match &self.trial {
             Some(trial) => trial.is_over(),
             None => false,
-        }
+        };
+        self.refusal.is_some() || misfits
     }
 
     /// Whether the client's preface came whole, so that its stream is tried with the desk's keys.
@@ -171,6 +169,7 @@ impl Called {
         requires open { self.old.refusal ≡ None }
         ensures receives { IfOk result (λ more. Receives piece.now self.old self.new more.items) }
         ensures sends { OnOk result (KeepsSent self.old self.new) }
+        ensures stays { KeepsCaller self.old self.new }
         ensures same { IsSameDesk self.old self.new }
     {
         let added = hold(&mut self.front, piece);
@@ -194,6 +193,7 @@ impl Called {
         requires tried { IsSome self.old.trial }
         ensures receives { IfOk result (λ more. Receives piece.now self.old self.new more.items) }
         ensures sends { OnOk result (KeepsSent self.old self.new) }
+        ensures stays { KeepsCaller self.old self.new }
         ensures same { IsSameDesk self.old self.new }
     {
         let Some(trial) = &mut self.trial else {
@@ -210,6 +210,7 @@ impl Called {
         requires passes { IsSome self.old.passing }
         ensures receives { IfOk result (λ more. Receives piece.now self.old self.new more.items) }
         ensures sends { OnOk result (KeepsSent self.old self.new) }
+        ensures stays { KeepsCaller self.old self.new }
         ensures same { IsSameDesk self.old self.new }
     {
         let handed = Vec::from_slice(self.alloc, piece)?;
@@ -221,6 +222,7 @@ impl Called {
         requires open { self.old.refusal ≡ None }
         ensures receives { IfOk result (λ more. Receives piece.now self.old self.new more.items) }
         ensures sends { OnOk result (KeepsSent self.old self.new) }
+        ensures stays { KeepsCaller self.old self.new }
         ensures same { IsSameDesk self.old self.new }
     {
         if self.trial.is_some() {
@@ -235,13 +237,15 @@ impl Called {
     /// Takes the next piece of what comes, and hands on what is to be served of it now.
     ///
     /// Where memory is refused, nothing more is read, and `refusal` says so. After a refusal
-    /// nothing is handed on. What is sent later goes on with what was sent before.
+    /// nothing is handed on. What is sent later goes on with what was sent before. Once it is known
+    /// who calls, that stays.
     pub fn receive(&mut self, piece: &[u8]) -> Result<Vec<u8>, NoMemory>
         ensures receives { IfOk result (λ more. Receives piece.now self.old self.new more.items) }
         ensures sends { OnOk result (KeepsSent self.old self.new) }
         ensures refused { IfOk result (λ more. self.old.refusal ≢ None
             → (more.items ≡ []) × (self.new ≡ self.old)) }
         ensures starved { OnErr result (self.new.refusal ≡ Some Starved) }
+        ensures stays { KeepsCaller self.old self.new }
         ensures same { IsSameDesk self.old self.new }
     {
         if self.refusal.is_some() {

@@ -8,9 +8,11 @@ use Rattle.replica.specs.Nodes.{NodeValue}
 use Rattle.replica.specs.Opens.{Opens}
 use Rattle.serving.specs.Making.{speaking}
 use Rattle.connections.specs.Connections.{Point}
+use Rattle.sealed.specs.declared.callers.Doors.{Doors}
 use Rattle.store.specs.declared.home.Home.{Home}
 use Rattle.store.specs.declared.keeper.Keeper.{Ghosts as KeeperOf}
 use Rattle.serve.proofs.Over.{by_listener}
+use Rattle.serve.specs.Keys.{AreDoors}
 use Rattle.serve.specs.Files.{HeldFor, IsOpenedOn, KeepsFor}
 use Rattle.serve.specs.Printing.{IsAllowed, IsOfListener, Output, home_of}
 use Rattle.serve.specs.Serves.{FailsDesk, FailsKept, FailsServing, IsRun, RunsDesk}
@@ -38,58 +40,60 @@ opened_on k how files home keeper node kept n = record {
 
 -- ---- and serves
 
-run_of : {K : Type 0} (k : KeeperOf K) (files : Image) (s : Service) (o : Output)
+run_of : {K : Type 0} (k : KeeperOf K) (files : Image) (s : Service) (d : Doors) (o : Output)
     (first last : NodeValue K)
     (Does : Turn → Point (speaking (Handles k) s.wire) → Point (speaking (Handles k) s.wire)
     → Type 0)
-    → IsOpenedOn k s.making files (home_of s) first
-    → Does (turn_of s (k.home_of first.keeper) (length first.desk.log) o)
+    → AreDoors s d → IsOpenedOn k s.making files (home_of s) first
+    → Does (turn_of s d (k.home_of first.keeper) (length first.desk.log) o)
     (resting k s.wire first) (resting k s.wire last)
     → IsRun k files s o Does
-run_of k files s o first last Does opened does = record {
+run_of k files s d o first last Does keyed opened does = record {
   first = first;
   last = last;
+  doors = d;
+  keyed = keyed;
   opened = opened;
   served =
       subst
-      (λ h. Does (turn_of s h (length first.desk.log) o) (resting k s.wire first)
+      (λ h. Does (turn_of s d h (length first.desk.log) o) (resting k s.wire first)
       (resting k s.wire last))
       opened.place does;
 }
 
-pub runs : {K : Type 0} (k : KeeperOf K) (s : Service) (o : Output) (keeper : K)
+pub runs : {K : Type 0} (k : KeeperOf K) (s : Service) (d : Doors) (o : Output) (keeper : K)
     (first last : NodeValue K) (r : Result (Unit {0}) ServeFault)
-    → Opens k keeper first
-    → OnOk r (Serves (turn_of s (k.home_of first.keeper) (length first.desk.log) o)
+    → Opens k keeper first → AreDoors s d
+    → OnOk r (Serves (turn_of s d (k.home_of first.keeper) (length first.desk.log) o)
     (resting k s.wire first) (resting k s.wire last))
     → OnOk r (RunsKept k keeper s o)
-runs k s o keeper first last r opens h =
+runs k s d o keeper first last r opens keyed h =
     on_ok_weaker r
-    (λ does files kept. run_of k files s o first last Serves
+    (λ does files kept. run_of k files s d o first last Serves keyed
     (opened_on k s.making files (home_of s) keeper first kept opens) does)
     h
 
-pub runs_ill : {K : Type 0} (k : KeeperOf K) (s : Service) (o : Output) (keeper : K)
+pub runs_ill : {K : Type 0} (k : KeeperOf K) (s : Service) (d : Doors) (o : Output) (keeper : K)
     (first last : NodeValue K) (r : Result (Unit {0}) ServeFault)
-    → Opens k keeper first → IsAllowed s
+    → Opens k keeper first → AreDoors s d → IsAllowed s
     → IfErr r (λ f. (IsOfListener f × KeepsBytes o.old o.new)
-    ⊎ FailsServing f (turn_of s (k.home_of first.keeper) (length first.desk.log) o)
+    ⊎ FailsServing f (turn_of s d (k.home_of first.keeper) (length first.desk.log) o)
     (resting k s.wire first) (resting k s.wire last))
     → IfErr r (FailsKept k keeper s o)
-runs_ill k s o keeper first last r opens allowed h =
+runs_ill k s d o keeper first last r opens keyed allowed h =
     IfErr-weaker r _ _ (λ f. how f) h
   where
     how : (f : ServeFault)
         → (IsOfListener f × KeepsBytes o.old o.new)
         ⊎ FailsServing f
-        (turn_of s (k.home_of first.keeper) (length first.desk.log) o)
+        (turn_of s d (k.home_of first.keeper) (length first.desk.log) o)
         (resting k s.wire first) (resting k s.wire last)
         → FailsKept k keeper s o f
     how f (inl e) files kept =
         inl (record { cause = by_listener f s e.0 allowed; silent = e.1 })
     how f (inr e) files kept =
         inr
-        (run_of k files s o first last (FailsServing f)
+        (run_of k files s d o first last (FailsServing f) keyed
         (opened_on k s.making files (home_of s) keeper first kept opens) e)
 
 -- ---- the files that a keeper was opened on, for the desk that was asked for

@@ -10,7 +10,9 @@ use Rattle.multiplex.specs.declared.ends.Over.{Over}
 use Rattle.multiplex.specs.declared.ends.ServedEach.{ServedEach}
 use Rattle.serving.specs.Making.{Way}
 use Rattle.connections.specs.Connections.{Point}
+use Rattle.sealed.specs.declared.callers.Doors.{Doors}
 use Rattle.store.specs.declared.home.Home.{Home}
+use Rattle.serve.specs.Keys.{IsOfKeys}
 use Rattle.serve.specs.Printing.{Hinders, IsAllowed, IsFew, IsOfListener, IsOfOpening, IsOfStore}
 use Rattle.serve.specs.Printing.{IsRefused}
 use Rattle.serve.specs.Printing.{Output}
@@ -29,30 +31,33 @@ few_of s count few = by s.connections few
     by None few = tt
     by (Some m) few = few
 
-few_served : {V : Type 0} {way : Way V} (s : Service) (len : ℕ) (o : Output) (a b : Point way)
+few_served : {V : Type 0} {way : Way V} (s : Service) (d : Doors) (len : ℕ)
+    (o : Output) (a b : Point way)
     (served : ServedEach)
-    → HasServed served (turn_of s (home_of s) len o) a b
+    → HasServed served (turn_of s d (home_of s) len o) a b
     → IsFew served.connections s
-few_served s len o a b served h =
+few_served s d len o a b served h =
     few_of s served.connections
-    (few_come served (home_of s) (terms_of s) (period_of s.tick) (with_clients h.0 a)
+    (few_come served (home_of s) (terms_of s d) (period_of s.tick) (with_clients h.0 a)
     (with_clients h.1 b) None None h.2 h.3)
 
-prints_to : {V : Type 0} {way : Way V} (s : Service) (len : ℕ) (o : Output) (a b : Point way)
+prints_to : {V : Type 0} {way : Way V} (s : Service) (d : Doors) (len : ℕ)
+    (o : Output) (a b : Point way)
     (e : Over)
-    → IsAllowed s → ServesTo e (turn_of s (home_of s) len o) a b → Prints s o
-prints_to s len o a b e allowed h = record {
+    → IsAllowed s → ServesTo e (turn_of s d (home_of s) len o) a b → Prints s o
+prints_to s d len o a b e allowed h = record {
   allowed = allowed;
   len = len;
   count = h.0;
-  few = few_served s len o a b (served_to h.0 e h.1) h.2;
+  few = few_served s d len o a b (served_to h.0 e h.1) h.2;
   written = h.3;
 }
 
-pub prints : {V : Type 0} {way : Way V} (s : Service) (len : ℕ) (o : Output) (a b : Point way)
-    → IsAllowed s → Serves (turn_of s (home_of s) len o) a b → Prints s o
-prints s len o a b allowed (inl h) = prints_to s len o a b _ allowed h
-prints s len o a b allowed (inr h) = prints_to s len o a b _ allowed h
+pub prints : {V : Type 0} {way : Way V} (s : Service) (d : Doors) (len : ℕ)
+    (o : Output) (a b : Point way)
+    → IsAllowed s → Serves (turn_of s d (home_of s) len o) a b → Prints s o
+prints s d len o a b allowed (inl h) = prints_to s d len o a b _ allowed h
+prints s d len o a b allowed (inr h) = prints_to s d len o a b _ allowed h
 
 more_of : (a c : Option (List ℕ)) (xs ys : List ℕ) → AppendsPart a c xs → AppendsPart a c (xs ++ ys)
 more_of a c xs ys p = (
@@ -64,20 +69,21 @@ more_of a c xs ys p = (
   },
 )
 
-prints_part : {V : Type 0} {way : Way V} (s : Service) (len : ℕ) (o : Output) (a b : Point way)
-    → IsAllowed s → IsCutOff (turn_of s (home_of s) len o) a b → PrintsPart s o
-prints_part s len o a b allowed (inl h) = record {
+prints_part : {V : Type 0} {way : Way V} (s : Service) (d : Doors) (len : ℕ)
+    (o : Output) (a b : Point way)
+    → IsAllowed s → IsCutOff (turn_of s d (home_of s) len o) a b → PrintsPart s o
+prints_part s d len o a b allowed (inl h) = record {
   allowed = allowed;
   len = len;
   count = 0;
   few = few_of s 0 (omega arith);
   written = more_of o.old o.new (first_line (home_of s) len) (last_line 0) h.2;
 }
-prints_part s len o a b allowed (inr h) = record {
+prints_part s d len o a b allowed (inr h) = record {
   allowed = allowed;
   len = len;
   count = h.0.connections;
-  few = few_served s len o a b h.0 h.1;
+  few = few_served s d len o a b h.0 h.1;
   written = h.2;
 }
 
@@ -98,26 +104,32 @@ part_of s o h = record {
   );
 }
 
-pub prints_at : {V : Type 0} {way : Way V} (f : ServeFault) (s : Service) (len : ℕ) (o : Output)
+pub prints_at : {V : Type 0} {way : Way V} (f : ServeFault) (s : Service) (d : Doors) (len : ℕ)
+    (o : Output)
     (a b : Point way)
-    → IsAllowed s → FailsServing f (turn_of s (home_of s) len o) a b
+    → IsAllowed s → FailsServing f (turn_of s d (home_of s) len o) a b
     → PrintsAt f s o
-prints_at fault.Down s len o a b allowed h = prints_to s len o a b _ allowed h
-prints_at fault.CannotListen s len o a b allowed (inl h) = inr (prints_to s len o a b _ allowed h)
-prints_at fault.CannotListen s len o a b allowed (inr h) = inr (prints_to s len o a b _ allowed h)
-prints_at fault.Write s len o a b allowed h = prints_part s len o a b allowed h
-prints_at fault.NoMemory s len o a b allowed (inl h) =
-    inr (part_of s o (prints_to s len o a b _ allowed h))
-prints_at fault.NoMemory s len o a b allowed (inr h) = inr (prints_part s len o a b allowed h)
-prints_at fault.BadCount s len o a b allowed h = absurd h
-prints_at fault.BadDesk s len o a b allowed h = absurd h
-prints_at fault.WrongDesk s len o a b allowed h = absurd h
-prints_at fault.Damaged s len o a b allowed h = absurd h
-prints_at fault.Device s len o a b allowed h = absurd h
-prints_at fault.SameAddresses s len o a b allowed h = absurd h
-prints_at fault.NoStore s len o a b allowed h = absurd h
-prints_at fault.StoreThere s len o a b allowed h = absurd h
-prints_at (fault.UnknownHost desk) s len o a b allowed h = absurd h
+prints_at fault.Down s d len o a b allowed h = prints_to s d len o a b _ allowed h
+prints_at fault.CannotListen s d len o a b allowed (inl h) =
+    inr (prints_to s d len o a b _ allowed h)
+prints_at fault.CannotListen s d len o a b allowed (inr h) =
+    inr (prints_to s d len o a b _ allowed h)
+prints_at fault.Write s d len o a b allowed h = prints_part s d len o a b allowed h
+prints_at fault.NoMemory s d len o a b allowed (inl h) =
+    inr (part_of s o (prints_to s d len o a b _ allowed h))
+prints_at fault.NoMemory s d len o a b allowed (inr h) = inr (prints_part s d len o a b allowed h)
+prints_at fault.BadCount s d len o a b allowed h = absurd h
+prints_at fault.BadDesk s d len o a b allowed h = absurd h
+prints_at fault.WrongDesk s d len o a b allowed h = absurd h
+prints_at fault.Damaged s d len o a b allowed h = absurd h
+prints_at fault.Device s d len o a b allowed h = absurd h
+prints_at fault.SameAddresses s d len o a b allowed h = absurd h
+prints_at fault.NoStore s d len o a b allowed h = absurd h
+prints_at fault.StoreThere s d len o a b allowed h = absurd h
+prints_at (fault.UnknownHost desk) s d len o a b allowed h = absurd h
+prints_at fault.NoHallKey s d len o a b allowed h = absurd h
+prints_at (fault.KeyFile e) s d len o a b allowed h = absurd h
+prints_at fault.SameKeys s d len o a b allowed h = absurd h
 
 -- what stands in front of serving prints nothing
 pub hindered : (f : ServeFault) (s : Service) (o : Output) → Hinders f s → Keeps o.old o.new
@@ -135,11 +147,17 @@ hindered fault.SameAddresses s o h k = (h, k)
 hindered fault.NoStore s o h k = (h, k)
 hindered fault.StoreThere s o h k = (h, k)
 hindered (fault.UnknownHost desk) s o h k = (h, k)
+hindered fault.NoHallKey s o h k = (h, k)
+hindered (fault.KeyFile e) s o h k = (h, k)
+hindered fault.SameKeys s o h k = (h, k)
 
 pub by_name : (f : ServeFault) (s : Service) → IsRefused f s → Hinders f s
 by_name fault.BadCount s h = h
 by_name fault.BadDesk s h = h
 by_name fault.SameAddresses s h = h
+by_name fault.NoHallKey s h = h
+by_name (fault.KeyFile e) s h = absurd h
+by_name fault.SameKeys s h = absurd h
 by_name fault.NoStore s h = absurd h
 by_name fault.StoreThere s h = absurd h
 by_name (fault.UnknownHost desk) s h = absurd h
@@ -165,6 +183,28 @@ by_store fault.SameAddresses s h allowed = absurd h
 by_store fault.NoStore s h allowed = absurd h
 by_store fault.StoreThere s h allowed = absurd h
 by_store (fault.UnknownHost desk) s h allowed = absurd h
+by_store fault.NoHallKey s h allowed = absurd h
+by_store (fault.KeyFile e) s h allowed = absurd h
+by_store fault.SameKeys s h allowed = absurd h
+
+-- the keys
+pub by_keys : (f : ServeFault) (s : Service) → IsOfKeys f s → IsAllowed s → Hinders f s
+by_keys (fault.KeyFile e) s h allowed = (allowed, h)
+by_keys fault.SameKeys s h allowed = (allowed, h)
+by_keys fault.NoHallKey s h allowed = absurd h
+by_keys (fault.UnknownHost desk) s h allowed = absurd h
+by_keys fault.BadCount s h allowed = absurd h
+by_keys fault.BadDesk s h allowed = absurd h
+by_keys fault.SameAddresses s h allowed = absurd h
+by_keys fault.NoStore s h allowed = absurd h
+by_keys fault.StoreThere s h allowed = absurd h
+by_keys fault.WrongDesk s h allowed = absurd h
+by_keys fault.Damaged s h allowed = absurd h
+by_keys fault.Device s h allowed = absurd h
+by_keys fault.CannotListen s h allowed = absurd h
+by_keys fault.Down s h allowed = absurd h
+by_keys fault.Write s h allowed = absurd h
+by_keys fault.NoMemory s h allowed = absurd h
 
 pub by_opening : (f : ServeFault) (s : Service) → IsOfOpening f s → IsAllowed s → Hinders f s
 by_opening fault.NoStore s h allowed = (allowed, h)
@@ -180,6 +220,9 @@ by_opening fault.SameAddresses s h allowed = absurd h
 by_opening fault.CannotListen s h allowed = absurd h
 by_opening fault.Down s h allowed = absurd h
 by_opening fault.Write s h allowed = absurd h
+by_opening fault.NoHallKey s h allowed = absurd h
+by_opening (fault.KeyFile e) s h allowed = absurd h
+by_opening fault.SameKeys s h allowed = absurd h
 
 pub by_listener : (f : ServeFault) (s : Service) → IsOfListener f → IsAllowed s → Hinders f s
 by_listener f s (inl is) allowed = subst (λ (f : ServeFault). Hinders f s) (sym is) allowed
@@ -187,29 +230,32 @@ by_listener f s (inr is) allowed = subst (λ (f : ServeFault). Hinders f s) (sym
 
 -- ---- the desk that was opened is the one that was asked for
 
-pub printed : {V : Type 0} {way : Way V} (s : Service) (home : Home) (len : ℕ) (o : Output)
+pub printed : {V : Type 0} {way : Way V} (s : Service) (d : Doors) (home : Home)
+    (len : ℕ) (o : Output)
     (a b : Point way) (r : Result (Unit {0}) ServeFault)
     → home ≡ home_of s → IsAllowed s
-    → OnOk r (Serves (turn_of s home len o) a b) → OnOk r (Prints s o)
-printed s home len o a b r is allowed h =
-    on_ok_weaker r (λ served. prints s len o a b allowed
-    (subst (λ (p : Home). Serves (turn_of s p len o) a b) is served)) h
+    → OnOk r (Serves (turn_of s d home len o) a b) → OnOk r (Prints s o)
+printed s d home len o a b r is allowed h =
+    on_ok_weaker r (λ served. prints s d len o a b allowed
+    (subst (λ (p : Home). Serves (turn_of s d p len o) a b) is served)) h
 
-ends_printed : {V : Type 0} {way : Way V} (s : Service) (len : ℕ) (o : Output) (a b : Point way)
+ends_printed : {V : Type 0} {way : Way V} (s : Service) (d : Doors) (len : ℕ)
+    (o : Output) (a b : Point way)
     (f : ServeFault) → IsAllowed s
     → (IsOfListener f × Keeps o.old o.new)
-    ⊎ FailsServing f (turn_of s (home_of s) len o) a b
+    ⊎ FailsServing f (turn_of s d (home_of s) len o) a b
     → PrintsAt f s o
-ends_printed s len o a b f allowed (inl e) = hindered f s o (by_listener f s e.0 allowed) e.1
-ends_printed s len o a b f allowed (inr e) = prints_at f s len o a b allowed e
+ends_printed s d len o a b f allowed (inl e) = hindered f s o (by_listener f s e.0 allowed) e.1
+ends_printed s d len o a b f allowed (inr e) = prints_at f s d len o a b allowed e
 
-pub printed_fault : {V : Type 0} {way : Way V} (s : Service) (home : Home) (len : ℕ)
+pub printed_fault : {V : Type 0} {way : Way V} (s : Service) (d : Doors) (home : Home)
+    (len : ℕ)
     (o : Output) (a b : Point way) (r : Result (Unit {0}) ServeFault)
     → home ≡ home_of s → IsAllowed s
     → IfErr r (λ f. (IsOfListener f × Keeps o.old o.new)
-    ⊎ FailsServing f (turn_of s home len o) a b)
+    ⊎ FailsServing f (turn_of s d home len o) a b)
     → IfErr r (λ f. PrintsAt f s o)
-printed_fault s home len o a b r is allowed h =
-    IfErr-weaker r _ _ (λ f ends. ends_printed s len o a b f allowed
+printed_fault s d home len o a b r is allowed h =
+    IfErr-weaker r _ _ (λ f ends. ends_printed s d len o a b f allowed
     (subst (λ (p : Home). (IsOfListener f × Keeps o.old o.new)
-    ⊎ FailsServing f (turn_of s p len o) a b) is ends)) h
+    ⊎ FailsServing f (turn_of s d p len o) a b) is ends)) h

@@ -11,6 +11,7 @@ use Rattle.service.specs.declared.Making.TheVariants as making
 use Rattle.service.specs.declared.Service.{Service}
 use Rattle.serve.specs.Addresses.{AreApart, HasTwins}
 use Rattle.serve.specs.Files.{KeepsFor}
+use Rattle.serve.specs.Keys.{IsKeyed, LacksKey}
 use Rattle.serve.specs.Printing.{IsAllowed, IsOfFile, IsPlaced, IsRefused, home_of, texts_of}
 use Rattle.serve.specs.declared.fault.ServeFault.{ServeFault}
 use Rattle.serve.specs.declared.fault.ServeFault.TheVariants as fault
@@ -33,8 +34,15 @@ placed_of : (s : Service) (home : Home) → home ≡ home_of s → IsHome home �
 placed_of s home is h = subst (λ (h : Home). IsHome h) is h
 
 pub allowed_of : (s : Service) (home : Home) → (home ≡ home_of s) × IsHome home
-    → (IsOfFile s.making → AreApart (texts_of s)) → IsAllowed s
-allowed_of s home is apart = (placed_of s home is.0 is.1, apart)
+    → (IsOfFile s.making → AreApart (texts_of s)) → IsKeyed s → IsAllowed s
+allowed_of s home is apart keyed = ((placed_of s home is.0 is.1, apart), keyed)
+
+pub lacks_of : (s : Service) (home : Home) (f : ServeFault) → (home ≡ home_of s) × IsHome home
+    → (IsOfFile s.making → AreApart (texts_of s)) → (f ≡ fault.NoHallKey) × LacksKey s
+    → IsRefused f s
+lacks_of s home f is apart h =
+    subst (λ (f : ServeFault). IsRefused f s) (sym h.0)
+    ((placed_of s home is.0 is.1, apart), h.1)
 
 pub same_of : (s : Service) (home : Home) (f : ServeFault) → (home ≡ home_of s) × IsHome home
     → (f ≡ fault.SameAddresses) × IsOfFile s.making × HasTwins (texts_of s) → IsRefused f s

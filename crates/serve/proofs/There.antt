@@ -4,6 +4,7 @@ use Rattle.std.proofs.lemmas.Result.{IfErr-weaker}
 use Rattle.std.specs.declared.io.Write.{Ghosts as WriteOf}
 use Rattle.multiplex.specs.declared.table.Terms.{Terms}
 use Rattle.replica.specs.Nodes.{NodeValue}
+use Rattle.sealed.specs.declared.callers.Doors.{Doors}
 use Rattle.store.specs.declared.keeper.Keeper.{Ghosts as KeeperOf}
 use Rattle.serve.specs.Printing.{output}
 use Rattle.serve.specs.Serves.{FailsServing, FailsThere, period_of, resting, terms_of, turn}
@@ -18,13 +19,13 @@ FailsOn k w t period first last before after f =
     (output (w.contents before) (w.contents after)) unheard)
     (resting k t.wire first) (resting k t.wire last)
 
-pub failed_there : {K X : Type 0} (k : KeeperOf K) (w : WriteOf X) (s : Service) (t : Terms)
+pub failed_there : {K X : Type 0} (k : KeeperOf K) (w : WriteOf X) (s : Service) (d : Doors) (t : Terms)
     (p : Option ℕ) (first last : NodeValue K) (before after : X) (r : Result (Unit {0}) ServeFault)
-    → t ≡ terms_of s → p ≡ period_of s.tick
+    → t ≡ terms_of s d → p ≡ period_of s.tick
     → IfErr r (λ f. FailsOn k w t p first last before after f)
-    → IfErr r (λ f. FailsThere k w s first last before after f)
-failed_there k w s t p first last before after r is same h =
-    IfErr-weaker r (λ f. FailsOn k w (terms_of s) (period_of s.tick) first last before after f)
-    (λ f. FailsThere k w s first last before after f) (λ f ends. inr ends)
-    (subst (λ q. IfErr r (λ f. FailsOn k w (terms_of s) q first last before after f)) same
+    → IfErr r (λ f. FailsThere k w s d first last before after f)
+failed_there k w s d t p first last before after r is same h =
+    IfErr-weaker r (λ f. FailsOn k w (terms_of s d) (period_of s.tick) first last before after f)
+    (λ f. FailsThere k w s d first last before after f) (λ f ends. inr ends)
+    (subst (λ q. IfErr r (λ f. FailsOn k w (terms_of s d) q first last before after f)) same
     (subst (λ z. IfErr r (λ f. FailsOn k w z p first last before after f)) is h))

@@ -8,6 +8,7 @@ use Rattle.store.specs.declared.fault.OpenFault.{OpenFault}
 use Rattle.store.specs.declared.fault.OpenFault.TheVariants as opening
 use Rattle.store.specs.declared.home.Home.{Home}
 use Rattle.serve.specs.Addresses.{AreApart, HasTwins, IsNoAddress}
+use Rattle.serve.specs.Keys.{IsKeyed, IsOfKeys, LacksKey}
 use Rattle.serve.specs.declared.fault.ServeFault.{ServeFault}
 use Rattle.serve.specs.declared.fault.ServeFault.TheVariants as fault
 use Rattle.service.specs.declared.Making.{Making}
@@ -48,14 +49,19 @@ abbrev pub texts_of : Service → List (List ℕ)
 texts_of s = map (λ t. t.now) s.addresses.now
 
 -- one of the desks of a hall, and of a hall's file each desk has an address of its own
-abbrev pub IsAllowed : Service → Type 0
-IsAllowed s = IsPlaced s × (IsOfFile s.making → AreApart (texts_of s))
+abbrev pub IsInHall : Service → Type 0
+IsInHall s = IsPlaced s × (IsOfFile s.making → AreApart (texts_of s))
 
--- the three refusals by name, in this order
+-- and without a hall's key nothing is said of others
+abbrev pub IsAllowed : Service → Type 0
+IsAllowed s = IsInHall s × IsKeyed s
+
+-- the four refusals by name, in this order
 abbrev pub IsRefused : ServeFault → Service → Type 0
 IsRefused fault.BadCount s = ¬ IsCount s
 IsRefused fault.BadDesk s = IsCount s × (¬ IsPlaced s)
 IsRefused fault.SameAddresses s = IsPlaced s × IsOfFile s.making × HasTwins (texts_of s)
+IsRefused fault.NoHallKey s = IsInHall s × LacksKey s
 IsRefused _ s = ⊥
 
 -- Why a file is not opened in which a store is, or none: a store that has to be there is not, or one
@@ -131,6 +137,9 @@ abbrev pub Hinders : ServeFault → Service → Type 0
 Hinders fault.BadCount s = ¬ IsCount s
 Hinders fault.BadDesk s = IsCount s × (¬ IsPlaced s)
 Hinders fault.SameAddresses s = IsPlaced s × IsOfFile s.making × HasTwins (texts_of s)
+Hinders fault.NoHallKey s = IsInHall s × LacksKey s
+Hinders (fault.KeyFile e) s = IsAllowed s × IsOfKeys (fault.KeyFile e) s
+Hinders fault.SameKeys s = IsAllowed s × IsOfKeys fault.SameKeys s
 Hinders fault.NoStore s = IsAllowed s × (s.making ≡ making.Open)
 Hinders fault.StoreThere s = IsAllowed s × (s.making ≡ making.New)
 Hinders (fault.UnknownHost desk) s =

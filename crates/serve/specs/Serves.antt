@@ -20,7 +20,9 @@ use Rattle.connections.specs.Connections.{Point}
 use Rattle.store.specs.declared.home.Home.{Home}
 use Rattle.store.specs.declared.keeper.Keeper.{Ghosts as KeeperOf}
 use Rattle.wire.specs.declared.values.Version.{Version}
+use Rattle.sealed.specs.declared.callers.Doors.{Doors}
 use Rattle.serve.specs.Files.{IsOpenedOn, KeepsFor}
+use Rattle.serve.specs.Keys.{AreDoors}
 use Rattle.serve.specs.Printing.{Hinders, IsOfListener, Output, first_line, both_lines, home_of}
 use Rattle.serve.specs.Printing.{output}
 use Rattle.serve.specs.declared.fault.ServeFault.{ServeFault}
@@ -35,12 +37,13 @@ most_of None = 2 ^ 64 - 1
 
 -- how the clients of a desk are served: at most as many come as were asked for, and each may be
 -- silent for so many milliseconds, and for a second more, since the silence of a client counts from
--- the end of the round before it was ready, which may be a second ago
-abbrev pub terms_of : Service → Terms
-terms_of s = record {
+-- the end of the round before it was ready, which may be a second ago; and this is asked of each
+abbrev pub terms_of : Service → Doors → Terms
+terms_of s doors = record {
   wire = s.wire;
   most = most_of s.connections;
   patience = s.patience * 1000 + 1000;
+  doors = doors;
 }
 
 -- the period of the desk's own Ticks, in milliseconds: a number from 100 to 60,000 that is asked
@@ -129,8 +132,8 @@ abbrev pub unheard : Heard
 unheard = heard None None
 
 -- what is told of a desk that serves as it is asked for, with a log of this length at first
-abbrev pub turn_of : Service → Home → ℕ → Output → Turn
-turn_of s home len o = turn home (terms_of s) (period_of s.tick) len o unheard
+abbrev pub turn_of : Service → Doors → Home → ℕ → Output → Turn
+turn_of s doors home len o = turn home (terms_of s doors) (period_of s.tick) len o unheard
 
 -- a node, where nothing is told of what the other desks were handed
 abbrev pub resting : {K : Type 0} → (k : KeeperOf K) → (wire : Version) → NodeValue K
@@ -140,15 +143,17 @@ resting k wire node = record {
   outside = outside_of (speaking (Handles k) wire) node None;
 }
 
--- The desk that was opened on these files served so: from what it was then, with the length of its
--- log in the first line, to what it was at the end.
+-- The desk that was opened on these files served so, and asked of its clients what its keys say:
+-- from what it was then, with the length of its log in the first line, to what it was at the end.
 pub record IsRun {K : Type 0} (k : KeeperOf K) (files : Image) (s : Service) (o : Output)
     (Does : Turn → Point (speaking (Handles k) s.wire) → Point (speaking (Handles k) s.wire)
     → Type 0) : Type 0 where
   pub first : NodeValue K
   pub last : NodeValue K
+  pub doors : Doors
+  pub keyed : AreDoors s doors
   pub opened : IsOpenedOn k s.making files (home_of s) first
-  pub served : Does (turn_of s (home_of s) (length first.desk.log) o)
+  pub served : Does (turn_of s doors (home_of s) (length first.desk.log) o)
       (resting k s.wire first) (resting k s.wire last)
 
 -- nothing was printed and nobody served, by this cause
@@ -202,25 +207,25 @@ FailsNode k p happened w terms period a b f =
     (resting_on k p terms.wire b)
 
 -- what is told of a node that serves at its address
-abbrev pub told_there : {K X : Type 0} → KeeperOf K → WriteOf X → Service → NodeValue K
+abbrev pub told_there : {K X : Type 0} → KeeperOf K → WriteOf X → Service → Doors → NodeValue K
     → (before after : X) → Turn
-told_there k w s node before after =
-    turn_of s (k.home_of node.keeper) (length node.desk.log)
+told_there k w s doors node before after =
+    turn_of s doors (k.home_of node.keeper) (length node.desk.log)
     (output (w.contents before) (w.contents after))
 
 -- the node served at its address, and printed both lines
-abbrev pub ServesThere : {K X : Type 0} → KeeperOf K → WriteOf X → Service → NodeValue K
+abbrev pub ServesThere : {K X : Type 0} → KeeperOf K → WriteOf X → Service → Doors → NodeValue K
     → NodeValue K → (before after : X) → Type 0
-ServesThere k w s first last before after =
-    Serves (told_there k w s first before after) (resting k s.wire first)
+ServesThere k w s doors first last before after =
+    Serves (told_there k w s doors first before after) (resting k s.wire first)
     (resting k s.wire last)
 
 -- it could not listen there, and nothing was printed; or it served, and ended by this fault
-abbrev pub FailsThere : {K X : Type 0} → KeeperOf K → WriteOf X → Service → NodeValue K
+abbrev pub FailsThere : {K X : Type 0} → KeeperOf K → WriteOf X → Service → Doors → NodeValue K
     → NodeValue K → (before after : X) → ServeFault → Type 0
-FailsThere k w s first last before after f =
+FailsThere k w s doors first last before after f =
     (IsOfListener f × Keeps (w.contents before) (w.contents after))
-    ⊎ FailsServing f (told_there k w s first before after) (resting k s.wire first)
+    ⊎ FailsServing f (told_there k w s doors first before after) (resting k s.wire first)
     (resting k s.wire last)
 
 -- the desk that was opened on these files served

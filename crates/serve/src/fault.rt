@@ -3,6 +3,7 @@
 ghost use Rattle.std.specs.Prelude.{◌≡◌};
 ghost use Rattle.serve.specs.Printing.{IsOfStore, opening_fault};
 
+use key_file::KeyFileFault;
 use store::fault::OpenFault;
 
 /// Why a desk does not serve, or ends early.
@@ -14,6 +15,12 @@ pub enum ServeFault {
     BadDesk,
     /// Two desks of a hall's file have one address.
     SameAddresses,
+    /// An entry key, or open sheets, are asked for without a hall's key.
+    NoHallKey,
+    /// The file of the hall's key gives none, or that of the entry key.
+    KeyFile(KeyFileFault),
+    /// The hall's key and the entry key are one.
+    SameKeys,
     /// A store has to be there, and the file is not there or empty.
     NoStore,
     /// A store has to be made, and one is there.

@@ -112,11 +112,13 @@ fn tell_missing<W: Write>(
     lines.flush()
 }
 
-/// The links to the other desks, whose sockets the poll of the clients tells of. Where lines about
-/// other desks are wanted, it says which two have one address, and of which no address was found.
+/// The links to the other desks, whose sockets the poll of the clients tells of. They speak under
+/// the hall's key, where there is one. Where lines about other desks are wanted, it says which two
+/// have one address, and of which no address was found.
 pub fn links_to<'r>(
     rt: &'r HostRuntime,
     service: Service<'_>,
+    key: Option<[u8; 32]>,
     clients: &SocketClients<'r, HostRuntime>,
 ) -> Result<SocketLinks<'r, HostRuntime, Stderr>, ServeFault>
     ensures links { IfOk result
@@ -141,7 +143,7 @@ pub fn links_to<'r>(
     match DeskLinks::new(
         rt.alloc(),
         &addresses,
-        SocketWires::new(rt, rt.alloc(), registry, service.hall),
+        SocketWires::new(rt, rt.alloc(), registry, service.hall, key),
         lines,
     ) {
         Ok(links) => Ok(links),

@@ -3,6 +3,7 @@
 ghost use Rattle.std.specs.Prelude.{◌≡◌, ◌↔◌, IfOk, IfErr, OnOk, IsTrue};
 ghost use Rattle.store.specs.Ranges.{IsHome};
 ghost use Rattle.serve.specs.Addresses.{AreApart, HasTwins};
+ghost use Rattle.serve.specs.Keys.{IsKeyed, LacksKey};
 ghost use Rattle.serve.specs.Printing.{IsAllowed, IsOfFile, IsRefused, home_of, texts_of};
 
 use crate::fault::ServeFault;
@@ -57,8 +58,22 @@ fn apart(service: Service<'_>) -> Result<(), ServeFault>
     }
 }
 
+/// Refuses an entry key, and open sheets, without a hall's key.
+fn keyed(service: Service<'_>) -> Result<(), ServeFault>
+    ensures ok { OnOk result (IsKeyed service.entry) }
+    ensures err { IfErr result (λ f. (f ≡ ServeFault.NoHallKey) × LacksKey service.entry) }
+{
+    if service.key.is_some() {
+        return Ok(());
+    }
+    if service.entry_key.is_some() || service.open_sheets {
+        return Err(ServeFault::NoHallKey);
+    }
+    Ok(())
+}
+
 /// The desk, of a hall of as many desks as there are addresses. Of a hall's file no two addresses
-/// may be equal.
+/// may be equal, and an entry key and open sheets come beside a hall's key.
 pub fn home_of(service: Service<'_>) -> Result<Home, ServeFault>
     ensures ok { IfOk result (λ home. (home ≡ home_of service.entry) × IsHome home) }
     ensures allowed { OnOk result (IsAllowed service.entry) }
@@ -68,7 +83,10 @@ pub fn home_of(service: Service<'_>) -> Result<Home, ServeFault>
         Ok(home) => home,
         Err(fault) => return Err(fault),
     };
-    match apart(service) {
+    if let Err(fault) = apart(service) {
+        return Err(fault);
+    }
+    match keyed(service) {
         Ok(()) => Ok(home),
         Err(fault) => Err(fault),
     }

@@ -3,6 +3,7 @@
 #![tactic(auto)]
 
 mod closing;
+mod doors;
 mod fault;
 mod hall;
 mod home;

@@ -2,12 +2,14 @@
 
 ghost use Rattle.std.specs.Prelude.{◌≡◌, IfErr, OnOk};
 ghost use Rattle.sqlite.specs.WalFiles.{image_at};
+ghost use Rattle.serve.specs.Keys.{AreDoors};
 ghost use Rattle.serve.specs.Printing.{IsAllowed, Prints, PrintsAt, home_of, output};
 ghost use Rattle.serve.specs.Serves.{FailsDesk, FailsKept, FailsNode, FailsThere, RunsDesk};
 ghost use Rattle.serve.specs.Serves.{RunsKept, ServesNode, ServesThere, ends_by, period_of, stage};
 ghost use Rattle.serve.specs.Serves.{terms_of};
 
 use crate::closing::{Close, close_node};
+use crate::doors::{doors_of, hall_key};
 use crate::fault::{ServeFault, fault_of_open};
 use crate::hall::{links_to, listen};
 use crate::home::home_of;
@@ -16,6 +18,7 @@ use crate::telling::{tell_first, tell_last};
 use desk_file::fault_of_load;
 use multiplex::{Clients, Links, Over, Terms, serve_each};
 use node::Node;
+use sealed::Doors;
 use service::Service;
 use sqlite::{FileFrom, FileStore, Start};
 use std::alloc::Global;
@@ -42,8 +45,8 @@ fn told_end(over: Over) -> Result<(), ServeFault>
 }
 
 /// How the clients of a desk are served.
-fn terms_of(service: Service<'_>) -> Terms
-    ensures { result ≡ terms_of service.entry }
+fn terms_of(service: Service<'_>, doors: Doors) -> Terms
+    ensures { result ≡ terms_of service.entry doors }
 {
     let most = match service.connections {
         Some(connections) => u64::from(connections),
@@ -53,6 +56,7 @@ fn terms_of(service: Service<'_>) -> Terms
         wire: service.wire,
         most,
         patience: u64::from(service.patience) * 1000 + ROUND,
+        doors,
     }
 }
 
@@ -110,25 +114,26 @@ pub fn serve_node<K: Keeper + Drop, C: Clients, L: Links, W: Write>(
 fn serve_there<K: Keeper + Drop, W: Write>(
     rt: &HostRuntime,
     service: Service<'_>,
+    doors: Doors,
     node: &mut Node<K>,
     writer: &mut W,
 ) -> Result<(), ServeFault>
-    ensures ok { OnOk result (ServesThere K.Keeper W.Write service.entry node.old node.new
+    ensures ok { OnOk result (ServesThere K.Keeper W.Write service.entry doors node.old node.new
         writer.old writer.new) }
-    ensures err { IfErr result (FailsThere K.Keeper W.Write service.entry node.old node.new
+    ensures err { IfErr result (FailsThere K.Keeper W.Write service.entry doors node.old node.new
         writer.old writer.new) }
 {
     let mut clients = match listen(rt, service) {
         Ok(clients) => clients,
         Err(fault) => return Err(fault),
     };
-    let mut links = match links_to(rt, service, &clients) {
+    let mut links = match links_to(rt, service, hall_key(doors), &clients) {
         Ok(links) => links,
         Err(fault) => return Err(fault),
     };
     serve_node(
         rt.alloc(),
-        terms_of(service),
+        terms_of(service, doors),
         period_of(service),
         &mut clients,
         node,
@@ -142,10 +147,12 @@ fn serve_there<K: Keeper + Drop, W: Write>(
 fn serve_kept<K: Keeper + Close + Drop, W: Write>(
     rt: &HostRuntime,
     service: Service<'_>,
+    doors: Doors,
     keeper: K,
     writer: &mut W,
 ) -> Result<(), ServeFault>
     requires allowed { IsAllowed service }
+    requires doors { AreDoors service doors }
     requires place { K.home_of keeper ≡ home_of service }
     ensures ok { OnOk result
         (Prints service.entry (output (W.contents writer.old) (W.contents writer.new))) }
@@ -160,13 +167,14 @@ fn serve_kept<K: Keeper + Close + Drop, W: Write>(
         Ok(node) => node,
         Err(fault) => return Err(fault_of_open(fault_of_load(fault))),
     };
-    let ended = serve_there(rt, service, &mut node, writer);
+    let ended = serve_there(rt, service, doors, &mut node, writer);
     close_node(node);
     ended
 }
 
 /// Opens a desk's file, listens at the desk's address, and serves the clients that come, side by
-/// side; frames for other desks go to their addresses. On standard error it says when another desk
+/// side; frames for other desks go to their addresses. With a key of the hall it asks a key of each
+/// client, and speaks to the other desks under the hall's. On standard error it says when another desk
 /// can't be reached, and when it is reached again, unless `quiet` is asked for.
 ///
 /// Once it listens it prints `desk <d> of <n> len <len>`, and at its end `served <count>`. It ends
@@ -182,8 +190,13 @@ fn serve_kept<K: Keeper + Close + Drop, W: Write>(
 /// - `BadCount` where there are neither three addresses nor five, then `BadDesk` where the desk is
 ///   none of those: nothing is opened.
 /// - Where it is said whether the store is opened or made, next `SameAddresses` where two addresses
-///   are equal, then `NoStore` or `StoreThere` by what the file has (an empty one is as none), then
-///   `UnknownHost` where the system finds no address of a desk: nothing is opened or made.
+///   are equal.
+/// - `NoHallKey` where an entry key or open sheets are asked for without a hall's key; then
+///   `KeyFile` where the file of the hall's key gives none, then where that of the entry key gives
+///   none, and `SameKeys` where the two keys are one: nothing is opened.
+/// - Where it is said whether the store is opened or made, next `NoStore` or `StoreThere` by what
+///   the file has (an empty one is as none), then `UnknownHost` where the system finds no address
+///   of a desk: nothing is opened or made.
 /// - `WrongDesk`, `Damaged` and `Device` where the file can't be opened as this desk's store. A
 ///   file that another program has open is `Device`. Where the store has to be there, a database
 ///   without a table is `Damaged`; where it has to be made, one with a table is `StoreThere`.
@@ -213,9 +226,13 @@ pub fn serve<S: Start, W: Write>(
         Ok(home) => home,
         Err(fault) => return Err(fault),
     };
+    let doors = match doors_of(rt, service) {
+        Ok(doors) => doors,
+        Err(fault) => return Err(fault),
+    };
     let keeper = match open_store(rt, service, home, start) {
         Ok(keeper) => keeper,
         Err(fault) => return Err(fault),
     };
-    serve_kept(rt, service, keeper, writer)
+    serve_kept(rt, service, doors, keeper, writer)
 }

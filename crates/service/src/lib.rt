@@ -37,6 +37,12 @@ pub struct Service<'a> {
     pub tick: Option<u32>,
     /// Whether no lines about other desks are written.
     pub quiet: bool,
+    /// The path of the file with the hall's key; without it, the hall has no key.
+    pub key: Option<&'a str>,
+    /// The path of the file with the key for entries alone, which comes beside the hall's key.
+    pub entry_key: Option<&'a str>,
+    /// Whether whoever has no key may ask for sheets, which is said beside the hall's key.
+    pub open_sheets: bool,
     /// Where the desks of the hall listen, in the order of their numbers.
     pub addresses: &'a [&'a str],
 }

@@ -7,6 +7,7 @@ use multiplex::{
     Accepted, Clients, Given, Links, Over, Ready, ServedEach, Taken, Terms, serve_each,
 };
 use node::Node;
+use sealed::{Doors, Locks};
 use std::alloc::Global;
 use std::test::Fail;
 use store::memory::MemoryKeeper;
@@ -86,7 +87,7 @@ impl Clients for Script {
     }
 
     fn accept(&mut self, _number: u64) -> Accepted {
-        Accepted::Came
+        Accepted::Came { random: [7; 16] }
     }
 
     fn read(&mut self, _number: u64, buffer: &mut [u8; 4096]) -> Given {
@@ -161,6 +162,7 @@ fn check_three(
         wire: Version::One,
         most: u64::MAX,
         patience: 30_000,
+        doors: Doors::Open,
     };
     let served = serve_each(alloc, terms, None, script, node, &mut Nobody);
     let stopped = ServedEach {
@@ -193,4 +195,40 @@ fn serves_three_clients_side_by_side(rt: HostRuntime) -> Result<(), Fail> {
     let mut script = Script::new(alloc, THREE);
     let mut node = Node::open(alloc, MemoryKeeper::new(alloc, 7, 1, 3)?)?;
     check_three(alloc, &mut script, &mut node)
+}
+
+/// A client without a key sends a frame.
+const ONE: &[Coming] = &[
+    Coming::Another,
+    Coming::Gives(0, TICK),
+    Coming::Takes(0),
+    Coming::Takes(0),
+    Coming::Takes(0),
+];
+
+/// The preface of a desk for whose client these random bytes were drawn.
+const PREFACE: &[u8] = b"DSK1\x07\x07\x07\x07\x07\x07\x07\x07\x07\x07\x07\x07\x07\x07\x07\x07";
+
+#[test]
+fn tells_a_client_without_a_key_that_one_is_asked_for(rt: HostRuntime) -> Result<(), Fail> {
+    let alloc = rt.alloc();
+    let mut script = Script::new(alloc, ONE);
+    let mut node = Node::open(alloc, MemoryKeeper::new(alloc, 7, 1, 3)?)?;
+    let locks = Locks {
+        hall: [1; 32],
+        entry: None,
+        sheets: false,
+    };
+    let terms = Terms {
+        wire: Version::One,
+        most: 1,
+        patience: 30_000,
+        doors: Doors::Locked { locks },
+    };
+    let served = serve_each(alloc, terms, None, &mut script, &mut node, &mut Nobody);
+    expect(served.over == Over::All, "the client was let go")?;
+    expect(
+        script.first.as_slice() == PREFACE,
+        "the preface, and no answer",
+    )
 }

@@ -7,6 +7,7 @@ use crate::frames::{FINE, TAKEN_PENDING, TICK, expect};
 use crate::many_clients::{Coming, FRONT, REST, Script};
 use multiplex::{Links, Over, ServedEach, Terms, serve_each};
 use node::Node;
+use sealed::Doors;
 use serving::Peers;
 use std::alloc::Global;
 use std::test::Fail;
@@ -122,6 +123,7 @@ fn play(
         wire: Version::One,
         most: u64::MAX,
         patience: 30_000,
+        doors: Doors::Open,
     };
     let served = serve_each(alloc, terms, period, script, &mut node, kept);
     let failed = ServedEach {

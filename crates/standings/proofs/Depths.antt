@@ -47,6 +47,9 @@ reply_depth (reply.Earlier desk) = omega arith
 reply_depth reply.CannotConnect = omega arith
 reply_depth reply.NoAnswer = omega arith
 reply_depth reply.Late = omega arith
+reply_depth reply.NoKey = omega arith
+reply_depth reply.OtherKey = omega arith
+reply_depth reply.HasKey = omega arith
 reply_depth (reply.Refused refusal) = omega arith
 
 polled_depth : (p : Polled) → depth (polled_json p) ≤ 2

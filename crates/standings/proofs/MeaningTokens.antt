@@ -1,7 +1,7 @@
 -- The tokens of what the answers come to.
 use Rattle.std.proofs.Common.{◌≡◌, ◌<◌, ◌≤◌, ap, ◌∙◌, ℕ, Bool, List, ◌∷◌, codes, flat_map}
 use Rattle.std.proofs.Common.{length, subst, sym}
-use Rattle.json.specs.Json.{Members, boolean, member, no_members}
+use Rattle.json.specs.Json.{boolean, member, no_members}
 use Rattle.json.specs.Token.{Token, begin_array}
 use Rattle.json.specs.Tree.{items_tokens, json_tokens, members_tokens}
 use Rattle.json.specs.Value.{items_of}

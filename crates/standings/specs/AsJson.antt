@@ -46,6 +46,9 @@ reply_members (reply.Earlier desk) =
 reply_members reply.CannotConnect = fault_members (codes "cannot connect")
 reply_members reply.NoAnswer = fault_members (codes "no answer")
 reply_members reply.Late = fault_members (codes "no answer in time")
+reply_members reply.NoKey = fault_members (codes "the desk has no key")
+reply_members reply.OtherKey = fault_members (codes "the desk has another key")
+reply_members reply.HasKey = fault_members (codes "the desk has a key")
 reply_members (reply.Refused refusal) =
     member (codes "fault") (string (codes "refused"))
     (member (codes "refusal") (string (refusal_name refusal)) no_members)

@@ -35,6 +35,9 @@ reply_text asked (reply.Earlier desk) = name_text asked desk ++ codes "an earlie
 reply_text asked reply.CannotConnect = codes "cannot connect"
 reply_text asked reply.NoAnswer = codes "no answer"
 reply_text asked reply.Late = codes "no answer in time"
+reply_text asked reply.NoKey = codes "the desk has no key"
+reply_text asked reply.OtherKey = codes "the desk has another key"
+reply_text asked reply.HasKey = codes "the desk has a key"
 reply_text asked (reply.Refused refusal) = codes "refused " ++ refusal_name refusal
 
 -- a desk of so many

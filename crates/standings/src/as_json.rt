@@ -134,6 +134,9 @@ fn write_reply(out: &mut Writer, reply: &Reply) -> Result<(), AllocError>
         Reply::CannotConnect => write_fault(out, "cannot connect"),
         Reply::NoAnswer => write_fault(out, "no answer"),
         Reply::Late => write_fault(out, "no answer in time"),
+        Reply::NoKey => write_fault(out, "the desk has no key"),
+        Reply::OtherKey => write_fault(out, "the desk has another key"),
+        Reply::HasKey => write_fault(out, "the desk has a key"),
         Reply::Refused { refusal } => write_refused(out, *refusal),
     }
 }

@@ -93,6 +93,9 @@ fn push_reply(out: &mut Vec<u8>, asked: u8, reply: &Reply) -> Result<(), AllocEr
         Reply::CannotConnect => out.extend_from_slice(b"cannot connect"),
         Reply::NoAnswer => out.extend_from_slice(b"no answer"),
         Reply::Late => out.extend_from_slice(b"no answer in time"),
+        Reply::NoKey => out.extend_from_slice(b"the desk has no key"),
+        Reply::OtherKey => out.extend_from_slice(b"the desk has another key"),
+        Reply::HasKey => out.extend_from_slice(b"the desk has a key"),
         Reply::Refused { refusal } => {
             out.extend_from_slice(b"refused ")?;
             out.extend_from_slice(refusal_name(*refusal).as_bytes())

@@ -17,6 +17,12 @@ pub enum Reply {
     NoAnswer,
     /// The desk was waited for as long as is wanted, and there is no answer.
     Late,
+    /// The desk was asked under a key, and asks for none.
+    NoKey,
+    /// The desk has another key than the one under which it was asked.
+    OtherKey,
+    /// The desk was asked without a key, and asks for one.
+    HasKey,
     /// The desk refused.
     Refused { refusal: ClientRefusal },
 }

@@ -20,6 +20,7 @@ use std::alloc::{AllocError, Global};
 use std::collections::VecDeque;
 use std::marker::Model;
 use std::net::Net;
+use std::random::RandomSource;
 use table_views::{Around, Desks};
 
 /// The most sets of ids that are kept.
@@ -145,7 +146,7 @@ impl<K: Keeper> TableService<K> {
 
     /// Does all for the mirror that can be done now over a connection to a desk, as
     /// `DeskStream::keep` does it.
-    pub fn keep<R: Net>(&mut self, stream: &mut DeskStream<'_, R>, now: u64) -> Kept
+    pub fn keep<R: Net + RandomSource>(&mut self, stream: &mut DeskStream<'_, R>, now: u64) -> Kept
         ensures others { IsKeptBut self.old self.new }
         ensures same { result ≡ Kept.Same
             → self.new.mirroring.entries ≡ self.old.mirroring.entries }

@@ -20,10 +20,11 @@ pub done : (p : Place) (patience status : ℕ) (r : Reach) (Left : Type 0)
     (mid : Option (List Dialed)) (told : Option (List ℕ))
     → Resolves p patience found (looking r mid told)
     → there.address.now ≡ string_bytes found.address → there.patience ≡ patience
+    → there.key ≡ found.key
     → Does (record { hall = found.hall; desk = found.desk }) there
     (record { place = place_of there; old = mid; new = r.dialed_then })
     → EndsAt p patience status r Left Does
-done p patience status r Left Does found there mid told resolves address same does = inr (
+done p patience status r Left Does found there mid told resolves address same under does = inr (
   record { hall = found.hall; desk = found.desk },
   there,
   mid,
@@ -35,6 +36,7 @@ done p patience status r Left Does found there mid told resolves address same do
     desk = refl;
     address = address;
     patience_is = same;
+    key = under;
   },
   does,
 )

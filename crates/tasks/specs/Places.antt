@@ -43,6 +43,7 @@ pub record FindsDesk (p : Place) (patience : ℕ) (r : Reach) (one : Receiver) (
   pub desk : one.desk ≡ found.desk
   pub address : there.address.now ≡ string_bytes found.address
   pub patience_is : there.patience ≡ patience
+  pub key : there.key ≡ found.key
 
 -- no desk was found, and this is left as it was; or one was, and this was done with it
 abbrev pub EndsAt : Place → ℕ → ℕ → Reach → Type 0 → (Receiver → Contact → Told → Type 0) → Type 0
@@ -54,5 +55,5 @@ EndsAt p patience status r Left Does =
 
 -- the arguments name the desk and its address
 abbrev pub NamesDesk : Place → Type 0
-NamesDesk (place.Desk hall desk address) = Unit {0}
-NamesDesk (place.File file desk) = ⊥
+NamesDesk (place.Desk hall desk address key) = Unit {0}
+NamesDesk (place.File file desk key) = ⊥

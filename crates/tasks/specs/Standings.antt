@@ -1,7 +1,10 @@
 -- How the desks of a hall stand, printed once or again and again.
-use Rattle.std.specs.Prelude.{◌≡◌, ◌⊎◌, ◌≤◌, ℕ, Bool, true, false, List, length, map}
+use Rattle.std.specs.Prelude.{◌≡◌, ◌⊎◌, ◌≤◌, ℕ, Bool, true, false, List, Option, length, map}
+use Rattle.std.specs.Prelude.{option_map}
 use Rattle.std.specs.Io.KnownBytes.{Keeps}
 use Rattle.addressing.specs.Files.{IsOfFile}
+use Rattle.addressing.specs.Keys.{FailsKey, IsKeyOf, Naming, naming}
+use Rattle.addressing.specs.Resolving.{IsKeyless, IsSaid}
 use Rattle.arguments.specs.declared.places.Desks.{Desks}
 use Rattle.arguments.specs.declared.places.Desks.TheVariants as desks
 use Rattle.errands.specs.Polling.{FailsReport, Outside, Reports}
@@ -9,14 +12,13 @@ use Rattle.errands.specs.Statuses.{status_of}
 use Rattle.errands.specs.Watching.{FailsWatch, HasWatched}
 use Rattle.errands.specs.declared.fault.DeskFault.{DeskFault}
 use Rattle.errands.specs.declared.polling.Inquiry.{Inquiry}
-use Rattle.hall_file.specs.Halls.{Says, texts_of}
-use Rattle.hall_file.specs.declared.hall_file.HallFile.{HallFile}
+use Rattle.hall_file.specs.Halls.{texts_of}
 use Rattle.standings.specs.declared.forms.Form.{Form}
 
 -- at most five desks are asked
 abbrev pub AreFew : Desks → Type 0
-AreFew (desks.Addresses hall addresses) = length addresses.now ≤ 5
-AreFew (desks.File file) = Unit {0}
+AreFew (desks.Addresses hall addresses key) = length addresses.now ≤ 5
+AreFew (desks.File file key) = Unit {0}
 
 -- the desks of an inquiry were asked and a report on them printed, once, or again and again until
 -- that failed
@@ -28,27 +30,36 @@ EndsInquiry status q form true o =
     ((status ≡ 0) × HasWatched form q o)
     ⊎ ((f : DeskFault) × (status ≡ status_of f) × FailsWatch f form q o)
 
--- these desks of this hall are asked, each for so long
-pub record Asks (q : Inquiry) (hall : ℕ) (addresses : List (List ℕ)) (patience : ℕ) : Type 0 where
+-- these desks of this hall are asked, each for so long, under this key, or without one
+pub record Asks (q : Inquiry) (hall : ℕ) (addresses : List (List ℕ)) (key : Option (List ℕ))
+    (patience : ℕ) : Type 0 where
   pub hall_is : q.hall ≡ hall
   pub there : map (λ a. a.now) q.addresses.now ≡ addresses
+  pub key_is : q.key ≡ key
   pub patience_is : q.patience ≡ patience
 
 -- so it was, of the desks at these addresses
-abbrev pub EndsAddresses : ℕ → (hall : ℕ) → List (List ℕ) → ℕ → Form → Bool → Outside → Type 0
-EndsAddresses status hall addresses patience form watches o =
-    (q : Inquiry) × Asks q hall addresses patience × EndsInquiry status q form watches o
+abbrev pub EndsAddresses : ℕ → (hall : ℕ) → List (List ℕ) → Option (List ℕ) → ℕ → Form → Bool
+    → Outside → Type 0
+EndsAddresses status hall addresses key patience form watches o =
+    (q : Inquiry) × Asks q hall addresses key patience × EndsInquiry status q form watches o
 
--- the file gives no hall, or memory ran out, and no desk was asked and nothing printed
-abbrev pub EndsFile : ℕ → Outside → Type 0
-EndsFile status o =
-    (f : DeskFault) × (status ≡ status_of f) × IsOfFile f × (o.dialed ≡ o.dialed_then)
+-- no desk was asked and nothing printed, by such a fault
+abbrev pub EndsUnasked : (DeskFault → Type 0) → ℕ → Outside → Type 0
+EndsUnasked Is status o =
+    (f : DeskFault) × (status ≡ status_of f) × Is f × (o.dialed ≡ o.dialed_then)
     × Keeps o.old o.new
 
+-- the file gives no hall, or its key is not to be had, or memory ran out
+abbrev pub EndsFile : ℕ → Naming → Outside → Type 0
+EndsFile status n o = EndsUnasked (λ f. IsOfFile f ⊎ IsKeyless n f) status o
+
 abbrev pub EndsStatus : Desks → ℕ → Form → (watches : Bool) → ℕ → Outside → Type 0
-EndsStatus (desks.Addresses hall addresses) patience form watches status o =
-    EndsAddresses status hall (map (λ a. a.now) addresses.now) patience form watches o
-EndsStatus (desks.File file) patience form watches status o =
-    EndsFile status o
-    ⊎ ((hall : HallFile) × (bytes : List ℕ) × Says bytes hall
-    × EndsAddresses status hall.hall (texts_of hall) patience form watches o)
+EndsStatus (desks.Addresses hall addresses key) patience form watches status o =
+    EndsUnasked (FailsKey (option_map (λ k. k.now) key)) status o
+    ⊎ ((k : Option (List ℕ)) × IsKeyOf (option_map (λ k. k.now) key) k
+    × EndsAddresses status hall (map (λ a. a.now) addresses.now) k patience form watches o)
+EndsStatus (desks.File file key) patience form watches status o =
+    EndsFile status (naming file key) o
+    ⊎ IsSaid (naming file key)
+    (λ hall k. EndsAddresses status hall.hall (texts_of hall) k patience form watches o)

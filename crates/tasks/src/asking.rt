@@ -39,6 +39,7 @@ pub fn carry_at<D: Dial, W: Write, F: Write>(
     let contact = Contact {
         address: found.address.as_str(),
         patience,
+        key: found.key,
     };
     let (hall, desk) = (found.hall, found.desk);
     let errand = Errand {
@@ -85,6 +86,7 @@ pub fn newest_at<D: Dial, W: Write, F: Write>(
     let contact = Contact {
         address: found.address.as_str(),
         patience,
+        key: found.key,
     };
     let (hall, desk) = (found.hall, found.desk);
     let receiver = Receiver { hall, desk };
@@ -126,6 +128,7 @@ pub fn copy_log_at<D: Dial, W: Write, F: Write>(
     let contact = Contact {
         address: found.address.as_str(),
         patience,
+        key: found.key,
     };
     let (hall, desk) = (found.hall, found.desk);
     let receiver = Receiver { hall, desk };

@@ -38,10 +38,11 @@ pub fn enter_at<D: Dial, W: Write, F: Write>(
     let contact = Contact {
         address: found.address.as_str(),
         patience,
+        key: found.key,
     };
     let (hall, desk) = (found.hall, found.desk);
     let receiver = Receiver { hall, desk };
-    let mut reached = Reached::new(rt, place);
+    let mut reached = Reached::new(rt, place, found.key);
     let alloc = rt.alloc();
     match enter_one(
         rt,
@@ -91,10 +92,11 @@ pub fn enter_lines_at<D: Dial, R: Read, W: Write, F: Write>(
     let contact = Contact {
         address: found.address.as_str(),
         patience,
+        key: found.key,
     };
     let (hall, desk) = (found.hall, found.desk);
     let receiver = Receiver { hall, desk };
-    let mut reached = Reached::new(rt, place);
+    let mut reached = Reached::new(rt, place, found.key);
     let is_terminal = rt.stderr().is_terminal();
     let alloc = rt.alloc();
     match enter_all(

@@ -16,17 +16,18 @@ const PATIENCE: u32 = 1;
 pub(crate) struct Reached<'a> {
     rt: &'a HostRuntime,
     place: Place<'a>,
+    key: Option<[u8; 32]>,
 }
 
 impl<'a> Reached<'a> {
-    /// Of the hall of this place.
-    pub(crate) fn new(rt: &'a HostRuntime, place: Place<'a>) -> Reached<'a> {
-        Reached { rt, place }
+    /// Of the hall of this place, whose desks are asked under this key.
+    pub(crate) fn new(rt: &'a HostRuntime, place: Place<'a>, key: Option<[u8; 32]>) -> Reached<'a> {
+        Reached { rt, place, key }
     }
 }
 
 /// Whether the desk of a number says how it stands, asked over a connection of its own.
-fn is_reached(rt: &HostRuntime, hall: &HallFile, desk: u8) -> bool {
+fn is_reached(rt: &HostRuntime, hall: &HallFile, key: Option<[u8; 32]>, desk: u8) -> bool {
     let Some(address) = hall.address_of(desk) else {
         return false;
     };
@@ -34,6 +35,7 @@ fn is_reached(rt: &HostRuntime, hall: &HallFile, desk: u8) -> bool {
     let contact = Contact {
         address,
         patience: PATIENCE,
+        key,
     };
     if desk == 0 || desk > 5 {
         return false;
@@ -77,11 +79,11 @@ fn sentence(alloc: Global, count: u8, last: u8, desks: u8) -> Result<Vec<u8>, Al
 }
 
 /// What is said of the desks of a hall that answer.
-fn reason_of(rt: &HostRuntime, hall: &HallFile) -> Option<Vec<u8>> {
+fn reason_of(rt: &HostRuntime, hall: &HallFile, key: Option<[u8; 32]>) -> Option<Vec<u8>> {
     let (mut count, mut last) = (0_u8, 0);
     let desks = hall.desk_count();
     for desk in 1..=desks {
-        if is_reached(rt, hall, desk) {
+        if is_reached(rt, hall, key, desk) {
             count = count.saturating_add(1);
             last = desk;
         }
@@ -92,8 +94,8 @@ fn reason_of(rt: &HostRuntime, hall: &HallFile) -> Option<Vec<u8>> {
 impl Reasons for Reached<'_> {
     fn reason(&mut self, _alloc: Global) -> Option<Vec<u8>> {
         match self.place {
-            Place::File { file, desk: _ } => match read_hall_at(self.rt, file) {
-                Ok(hall) => reason_of(self.rt, &hall),
+            Place::File { file, .. } => match read_hall_at(self.rt, file) {
+                Ok(hall) => reason_of(self.rt, &hall, self.key),
                 Err(_) => None,
             },
             Place::Desk { .. } => None,

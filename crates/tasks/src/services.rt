@@ -1,6 +1,6 @@
 //! What is asked of a desk that is to serve the hall of a file.
 
-ghost use Rattle.std.specs.Prelude.{◌≡◌, map};
+ghost use Rattle.std.specs.Prelude.{◌≡◌, map, option_map};
 ghost use Rattle.tasks.specs.Services.{IsServiceOf, making_of};
 
 use arguments::HallService;
@@ -13,10 +13,16 @@ fn making_of(makes: bool) -> Making
     if makes { Making::New } else { Making::Open }
 }
 
-/// What is asked of the desk that is wanted, of a hall with this number, whose desks listen at
-/// these addresses.
-pub fn service_of<'a>(hall: u32, wanted: HallService<'a>, addresses: &'a [&'a str]) -> Service<'a>
-    ensures { IsServiceOf result hall wanted.entry (map (λ a. a.now) addresses.now) }
+/// What is asked of the desk that is wanted, of a hall with this number, whose desks have the key
+/// of this file, or none, and listen at these addresses.
+pub fn service_of<'a>(
+    hall: u32,
+    wanted: HallService<'a>,
+    key: Option<&'a str>,
+    addresses: &'a [&'a str],
+) -> Service<'a>
+    ensures { IsServiceOf result hall wanted.entry (option_map (λ k. k.now) key.entry)
+        (map (λ a. a.now) addresses.now) }
 {
     Service {
         hall,
@@ -28,6 +34,9 @@ pub fn service_of<'a>(hall: u32, wanted: HallService<'a>, addresses: &'a [&'a st
         wire: wanted.wire,
         tick: wanted.tick,
         quiet: wanted.quiet,
+        key,
+        entry_key: wanted.entry_key,
+        open_sheets: wanted.open_sheets,
         addresses,
     }
 }

@@ -6,7 +6,7 @@ ghost use Rattle.hall_file.specs.Halls.{texts_of};
 ghost use Rattle.tasks.specs.Standings.{AreFew, EndsInquiry, EndsStatus};
 
 use crate::telling::tell_missing;
-use addressing::hall_of_file;
+use addressing::{hall_of_file, key_at, key_of_hall};
 use arguments::Desks;
 use batch::Dial;
 use errands::{DeskFault, Inquiry, print_standings, tell, watch_standings};
@@ -61,8 +61,8 @@ pub fn addresses_of<'a>(alloc: Global, hall: &'a HallFile) -> Result<Vec<&'a str
 }
 
 /// Asks the desks of a hall how they stand, prints a report on them, and returns the exit status:
-/// that of [`print_standings`], or that of a fault. Where the hall's file describes none, it says
-/// so.
+/// that of [`print_standings`], or that of a fault. Where the hall's file describes none, or its
+/// key is not to be had, it says so.
 pub fn status_at<D: Dial, W: Write, F: Write>(
     rt: &HostRuntime,
     dial: &mut D,
@@ -77,18 +77,31 @@ pub fn status_at<D: Dial, W: Write, F: Write>(
         (outside D.dialed W.contents dial.old dial.new writer.old writer.new) }
 {
     match desks {
-        Desks::Addresses { hall, addresses } => {
+        Desks::Addresses {
+            hall,
+            addresses,
+            key,
+        } => {
+            let key = match key_at(rt, key) {
+                Ok(key) => key,
+                Err(fault) => return tell(faults, fault),
+            };
             let inquiry = Inquiry {
                 hall,
                 addresses,
                 patience,
+                key,
             };
             inquire(rt, dial, inquiry, way, writer, faults)
         }
-        Desks::File { file } => {
+        Desks::File { file, key } => {
             let hall = match hall_of_file(rt, file, faults) {
                 Ok(hall) => hall,
                 Err(fault) => return tell_missing(rt, faults, fault, false),
+            };
+            let key = match key_of_hall(rt, file, key, &hall) {
+                Ok(key) => key,
+                Err(fault) => return tell(faults, fault),
             };
             let Ok(texts) = addresses_of(rt.alloc(), &hall) else {
                 return tell(faults, DeskFault::Run(RunFault::NoMemory));
@@ -97,6 +110,7 @@ pub fn status_at<D: Dial, W: Write, F: Write>(
                 hall: hall.hall,
                 addresses: &texts,
                 patience,
+                key,
             };
             inquire(rt, dial, inquiry, way, writer, faults)
         }

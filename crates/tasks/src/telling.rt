@@ -47,6 +47,8 @@ pub fn tell_missing<F: Write>(
             faults,
             "no desk of the hall answers: `desk status` says of each why"
         );
+    } else if is_wanted(rt, explains) {
+        explain(rt, faults, fault, About::Finding);
     }
     status
 }

@@ -3,12 +3,12 @@ use Rattle.std.specs.Prelude.{◌≡◌, ◌⊎◌, ℕ, ◌+◌, List, [], ◌�
 use Rattle.answers.specs.declared.desk.Desk.{Ghosts as DeskOf}
 use Rattle.serving.specs.declared.peers.Peers.{Ghosts as PeersOf}
 use Rattle.serving.specs.Making.{speaking}
-use Rattle.serving.specs.Turns.{new_talk}
+use Rattle.guarded.specs.Guarding.{fresh_guard}
 use Rattle.store.specs.declared.home.Home.{Home}
 use Rattle.wire.specs.declared.values.Version.{Version}
 use Rattle.multiplex.specs.Happenings.{Happened, Tells, Closed, Named, Round}
 use Rattle.multiplex.specs.Passing.{Change, Changes, Lobby, Pass, Room, Step, Takes, guest, lobby}
-use Rattle.multiplex.specs.Passing.{may_ask, over_by, told, told_all, told_change}
+use Rattle.multiplex.specs.Passing.{over_by, told, told_all, told_change}
 use Rattle.multiplex.specs.declared.ends.Over.{Over}
 use Rattle.multiplex.specs.declared.ends.Why.{Why}
 use Rattle.multiplex.specs.declared.table.Guest.{Guest}
@@ -33,7 +33,7 @@ pub record Loses {C : Type 0} (happened : C → Option (List Happened)) (over : 
   pub next : new.next ≡ old.next
   pub time : new.time ≡ old.time
   pub own : new.own ≡ old.own
-  pub ends : over ≡ over_by gone.talk.end
+  pub ends : over ≡ over_by gone.talk.talk.end
   pub told : Tells (happened c) (happened later) (Closed gone.number ∷ [])
 
 -- that of the client at this place
@@ -74,12 +74,14 @@ Empties happened home t over old new c later =
 
 -- a client that came has a connection, or none for want of memory
 pub record Welcomes {C : Type 0} (happened : C → Option (List Happened)) (home : Home)
-    (wire : Version) (old new : Table) (c later : C) : Type 0 where
+    (t : Terms) (random : List ℕ) (old new : Table) (c later : C) : Type 0 where
   pub next : new.next ≡ old.next + 1
   pub time : new.time ≡ old.time
   pub own : new.own ≡ old.own
   pub either :
-      ((new.guests.items ≡ old.guests.items ++ guest old.next (new_talk home wire) old.time ∷ [])
+      ((new.guests.items
+      ≡ old.guests.items
+      ++ guest old.next (fresh_guard t.doors random home t.wire) old.time ∷ [])
       × Tells (happened c) (happened later) [])
       ⊎ ((new.guests.items ≡ old.guests.items)
       × Tells (happened c) (happened later) (Closed old.next ∷ []))
@@ -98,7 +100,7 @@ abbrev pub Hosts : {V U C : Type 0} → DeskOf V → PeersOf U → (C → Option
     → Option Why → Guest → Guest → Scene V U C → Scene V U C → Type 0
 Hosts d p happened time fate old new a b =
     IsHosted time old new
-    × TalksOn d p happened old.number (may_ask old) fate (at_guest a old) (at_guest b new)
+    × TalksOn d p happened old.number fate (at_guest a old) (at_guest b new)
 
 -- the step that a client is which was named as ready; all but its name is told
 abbrev pub Answers : {V U C : Type 0} → DeskOf V → PeersOf U → (C → Option (List Happened)) → Home

@@ -24,8 +24,8 @@ pub record IsLongestAt (guests : List Guest) (i : ℕ) : Type 0 where
 
 -- a connection of this desk between two visits
 pub record IsKept (place : Home) (version : Version) (g : Guest) : Type 0 where
-  pub home : g.talk.home ≡ place
-  pub wire : g.talk.wire ≡ version
+  pub home : g.talk.talk.home ≡ place
+  pub wire : g.talk.talk.wire ≡ version
   pub settled : Settled g.talk
 
 abbrev pub AreKept : Home → Version → List Guest → Type 0

@@ -3,15 +3,14 @@ use Rattle.std.specs.Prelude.{◌≡◌, ◌⊎◌, ◌≤◌, ℕ, Bool, true, 
 use Rattle.std.specs.Prelude.{Option, None, Some}
 use Rattle.answers.specs.declared.desk.Desk.{Ghosts as DeskOf}
 use Rattle.serving.specs.declared.peers.Peers.{Ghosts as PeersOf}
-use Rattle.serving.specs.declared.permission.Permission.{Permission}
-use Rattle.serving.specs.Connection.{AreUnder}
 use Rattle.serving.specs.Making.{speaking}
 use Rattle.serving.specs.Sessions.{outside}
-use Rattle.serving.specs.Turns.{Receives, Talk, WantsRead, after_sent}
-use Rattle.serving.specs.TurnLaw.{Follow, Place, Turn, begun_in}
+use Rattle.serving.specs.TurnLaw.{Turn}
+use Rattle.guarded.specs.Guarding.{Guarding, IsDone, Receives, WantsRead, after_sent}
+use Rattle.guarded.specs.GuardTurns.{Follow, Place}
 use Rattle.wire.specs.declared.values.Version.{Version}
 use Rattle.multiplex.specs.Happenings.{Happened, Tells, Gave, Took, Broke}
-use Rattle.multiplex.specs.Passing.{IsDone, IsFate, Settled, pieces, told_why, told_turns}
+use Rattle.multiplex.specs.Passing.{IsFate, Settled, pieces, told_why, told_turns}
 use Rattle.multiplex.specs.declared.ends.Why.{Why}
 use Rattle.multiplex.specs.declared.ends.Why.TheVariants as why
 
@@ -20,9 +19,9 @@ pub record Spot (V U C : Type 0) : Type 0 where
   pub node : V
   pub peers : U
   pub clients : C
-  pub talk : Talk
+  pub talk : Guarding
 
-abbrev pub spot : {V U C : Type 0} → V → U → C → Talk → Spot V U C
+abbrev pub spot : {V U C : Type 0} → V → U → C → Guarding → Spot V U C
 spot node peers clients talk =
     record { node = node; peers = peers; clients = clients; talk = talk }
 
@@ -30,32 +29,32 @@ spot node peers clients talk =
 abbrev pub place_at : {V U C : Type 0} → (d : DeskOf V) → PeersOf U → (version : Version)
     → Spot V U C → Place (speaking d.handles version)
 place_at d p version s = record {
-  talk = s.talk;
+  guard = s.talk;
   seen = d.seen s.node;
   outside = outside d p version s.node s.peers;
 }
 
--- these turns were taken of a client that may ask so much, in which so many pieces came at most
+-- these turns were taken, in which so many pieces came at most
 pub record Takes {V U C : Type 0} (d : DeskOf V) (p : PeersOf U)
-    (happened : C → Option (List Happened)) (k : ℕ) (may : Permission) (cause : Option Why)
-    (most : ℕ) (a b : Spot V U C) (turns : List Turn) : Type 0 where
+    (happened : C → Option (List Happened)) (k : ℕ) (cause : Option Why) (most : ℕ)
+    (a b : Spot V U C) (turns : List Turn) : Type 0 where
   pub few : pieces turns ≤ most
-  pub allowed : AreUnder may (begun_in turns)
-  pub follow : Follow (place_at d p a.talk.wire a) turns (place_at d p a.talk.wire b)
+  pub follow : Follow (place_at d p a.talk.talk.wire a) turns
+      (place_at d p a.talk.talk.wire b)
   pub told : Tells (happened a.clients) (happened b.clients)
       (told_turns k turns ++ told_why k cause)
-  pub home : b.talk.home ≡ a.talk.home
-  pub wire : b.talk.wire ≡ a.talk.wire
+  pub home : b.talk.talk.home ≡ a.talk.talk.home
+  pub wire : b.talk.talk.wire ≡ a.talk.talk.wire
 
 abbrev pub Goes : {V U C : Type 0} → DeskOf V → PeersOf U → (C → Option (List Happened)) → ℕ
-    → Permission → Option Why → ℕ → Spot V U C → Spot V U C → Type 0
-Goes d p happened k may cause most a b =
-    (turns : List Turn) × Takes d p happened k may cause most a b turns
+    → Option Why → ℕ → Spot V U C → Spot V U C → Type 0
+Goes d p happened k cause most a b =
+    (turns : List Turn) × Takes d p happened k cause most a b turns
 
 -- and the connection goes on, or is to be ended
 abbrev pub TalksOn : {V U C : Type 0} → DeskOf V → PeersOf U → (C → Option (List Happened)) → ℕ
-    → Permission → Option Why → Spot V U C → Spot V U C → Type 0
-TalksOn d p happened k may fate a b = Goes d p happened k may fate 1 a b × IsFate fate b.talk
+    → Option Why → Spot V U C → Spot V U C → Type 0
+TalksOn d p happened k fate a b = Goes d p happened k fate 1 a b × IsFate fate b.talk
 
 -- true where nothing failed
 abbrev pub broken : Bool → Option Why
@@ -63,17 +62,17 @@ broken true = None
 broken false = Some why.Broke
 
 -- what is done once is all that was told of it
-abbrev pub Sends : {C : Type 0} → (C → Option (List Happened)) → ℕ → Bool → C → C → Talk → Talk
-    → Type 0
+abbrev pub Sends : {C : Type 0} → (C → Option (List Happened)) → ℕ → Bool → C → C → Guarding
+    → Guarding → Type 0
 Sends happened k true c later old new =
-    ((bytes : List ℕ) × (old.pending ≡ bytes ++ new.pending) × (new ≡ after_sent old (length bytes))
+    ((bytes : List ℕ) × (old.output ≡ bytes ++ new.output) × (new ≡ after_sent old (length bytes))
     × Tells (happened c) (happened later) (Took k bytes ∷ []))
     ⊎ ((new ≡ old) × Tells (happened c) (happened later) [])
 Sends happened k false c later old new =
     (new ≡ old) × Tells (happened c) (happened later) (Broke k ∷ [])
 
-abbrev pub Reads : {C : Type 0} → (C → Option (List Happened)) → ℕ → Option Why → C → C → Talk
-    → Talk → Type 0
+abbrev pub Reads : {C : Type 0} → (C → Option (List Happened)) → ℕ → Option Why → C → C → Guarding
+    → Guarding → Type 0
 Reads happened k None c later old new =
     ((piece : List ℕ) × Receives piece old new
     × Tells (happened c) (happened later) (Gave k piece ∷ []))
@@ -83,12 +82,12 @@ Reads happened k (Some w) c later old new =
     × IsFate (Some w) new
 
 -- all that came is served, or the connection ended and its answers were taken
-abbrev pub SettledOrDone : Talk → Type 0
+abbrev pub SettledOrDone : Guarding → Type 0
 SettledOrDone c = Settled c ⊎ IsDone c
 
 -- a write, or a read where nothing is to be sent
-abbrev pub Moves : {C : Type 0} → (C → Option (List Happened)) → ℕ → Option Why → C → C → Talk
-    → Talk → Type 0
+abbrev pub Moves : {C : Type 0} → (C → Option (List Happened)) → ℕ → Option Why → C → C → Guarding
+    → Guarding → Type 0
 Moves happened k cause c later old new =
     ((ok : Bool) × (cause ≡ broken ok) × Sends happened k ok c later old new)
     ⊎ (WantsRead old × Reads happened k cause c later old new)

@@ -2,7 +2,7 @@
 use Rattle.std.specs.Prelude.{◌≡◌, ℕ, List, Some}
 use Rattle.seal.specs.declared.channel.Direction.TheVariants.{ToClient}
 use Rattle.seal.specs.Records.{key_of}
-use Rattle.sealed.specs.Callings.{CallingOf}
+use Rattle.sealed.specs.Callings.{CallingOf, first_sealing}
 use Rattle.sealed.specs.Trials.{ReadsAll, comes_by}
 use Rattle.sealed.specs.Tunnels.{TunnelOf, channel_of}
 
@@ -11,3 +11,4 @@ abbrev pub OpensTo : List ℕ → List ℕ → CallingOf → CallingOf → List 
 OpensTo server rest old new more =
     (t : TunnelOf) × (new ≡ record old { tunnel = Some t })
     × (comes_by t ≡ channel_of (key_of old.key old.random server) ToClient) × ReadsAll t rest more
+    × (t.sealer ≡ first_sealing t)

@@ -5,8 +5,8 @@ use Rattle.arguments.proofs.parsing.command.Goals as goal
 pub with_subcommand-requires : goal.with_subcommand-requires
 with_subcommand-requires c = c.in_ok-replay_command.ensures.1.1
 
-pub with_subcommand-requires-13 : goal.with_subcommand-requires-13
-with_subcommand-requires-13 c = c.in_ok-sheet_command.ensures.1.1
+pub with_subcommand-requires-14 : goal.with_subcommand-requires-14
+with_subcommand-requires-14 c = c.in_ok-sheet_command.ensures.1.1
 
 pub with_subcommand-requires-2 : goal.with_subcommand-requires-2
 with_subcommand-requires-2 c = c.in_ok-import_command.ensures.1.1
@@ -29,24 +29,26 @@ returns c =
     let six =
     subbed _ _ _ _ _ five c.in_ok-hall_file_command.ensures.0 c.in_ok-command-6.ensures in
     let seven =
-    subbed _ _ _ _ _ six c.in_ok-serve_command.ensures.0 c.in_ok-command-7.ensures in
+    subbed _ _ _ _ _ six c.in_ok-key_command.ensures.0 c.in_ok-command-7.ensures in
     let eight =
-    subbed _ _ _ _ _ seven c.in_ok-status_command.ensures.0 c.in_ok-command-8.ensures in
+    subbed _ _ _ _ _ seven c.in_ok-serve_command.ensures.0 c.in_ok-command-8.ensures in
     let nine =
-    subbed _ _ _ _ _ eight c.in_ok-log_command.ensures.0 c.in_ok-command-9.ensures in
+    subbed _ _ _ _ _ eight c.in_ok-status_command.ensures.0 c.in_ok-command-9.ensures in
     let ten =
-    subbed _ _ _ _ _ nine c.in_ok-enter_command.ensures.0 c.in_ok-command-10.ensures in
+    subbed _ _ _ _ _ nine c.in_ok-log_command.ensures.0 c.in_ok-command-10.ensures in
     let eleven =
-    subbed _ _ _ _ _ ten c.in_ok-enter_lines_command.ensures.0 c.in_ok-command-11.ensures in
+    subbed _ _ _ _ _ ten c.in_ok-enter_command.ensures.0 c.in_ok-command-11.ensures in
     let twelve =
-    subbed _ _ _ _ _ eleven c.in_ok-ask_command.ensures.0 c.in_ok-command-12.ensures in
+    subbed _ _ _ _ _ eleven c.in_ok-enter_lines_command.ensures.0 c.in_ok-command-12.ensures in
     let thirteen =
-    subbed _ _ _ _ _ twelve sheet.1.0 c.in_ok-command-13.ensures in
+    subbed _ _ _ _ _ twelve c.in_ok-ask_command.ensures.0 c.in_ok-command-13.ensures in
     let fourteen =
-    subbed _ _ _ _ _ thirteen c.in_ok-tick_command.ensures.0 c.in_ok-command-14.ensures in
-    IfOk-weaker c.with_subcommand-15.result _ _
+    subbed _ _ _ _ _ thirteen sheet.1.0 c.in_ok-command-14.ensures in
+    let fifteen =
+    subbed _ _ _ _ _ fourteen c.in_ok-tick_command.ensures.0 c.in_ok-command-15.ensures in
+    IfOk-weaker c.with_subcommand-16.result _ _
     (λ command made. (
       record { replay = replay.0; sheet = sheet.0; imported = imported.0 },
-      subbed _ _ _ _ _ fourteen c.in_ok-stop_command.ensures.0 made,
+      subbed _ _ _ _ _ fifteen c.in_ok-stop_command.ensures.0 made,
     ))
-    c.with_subcommand-15.ensures
+    c.with_subcommand-16.ensures

@@ -14,5 +14,8 @@ returns c = (
     wire = c.in_ok-wire.ensures;
     tick = (c.in_ok-tick.tick, refl, c.in_ok-tick.ensures);
     quiet = c.flag_at-quiet.ensures;
+    key = c.given_text-key.ensures;
+    entry_key = c.given_text-entry_key.ensures;
+    open_sheets = c.flag_at-open_sheets.ensures;
   },
 )

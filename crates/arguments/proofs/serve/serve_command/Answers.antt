@@ -37,10 +37,18 @@ returns c =
     seven c.flag-quiet.ensures.rule
     c.in_ok-command-9.ensures.app c.in_ok-command-9.ensures.local in
     let nine =
-    added c.in_ok-command-9.command c.in_ok-command-10.command _ c.explain_flag.result _
-    eight c.explain_flag.ensures.rule
+    added c.in_ok-command-9.command c.in_ok-command-10.command _ c.entry_key_option.result _
+    eight c.entry_key_option.ensures.rule
     c.in_ok-command-10.ensures.app c.in_ok-command-10.ensures.local in
-    added_last c.with_argument-10.result c.in_ok-command-10.command _
+    let ten =
+    added c.in_ok-command-10.command c.in_ok-command-11.command _ c.flag-open_sheets.result _
+    nine c.flag-open_sheets.ensures.rule
+    c.in_ok-command-11.ensures.app c.in_ok-command-11.ensures.local in
+    let eleven =
+    added c.in_ok-command-11.command c.in_ok-command-12.command _ c.explain_flag.result _
+    ten c.explain_flag.ensures.rule
+    c.in_ok-command-12.ensures.app c.in_ok-command-12.ensures.local in
+    added_last c.with_argument-12.result c.in_ok-command-12.command _
     c.in_ok-addresses_value.field-0 _
-    nine c.in_ok-addresses_value.ensures.rule
-    c.with_argument-10.ensures.app c.with_argument-10.ensures.local
+    eleven c.in_ok-addresses_value.ensures.rule
+    c.with_argument-12.ensures.app c.with_argument-12.ensures.local

@@ -19,6 +19,9 @@ returns c =
         wire = c.in_ok-wire.ensures;
         tick = c.in_ok-tick.ensures;
         quiet = c.flag_at-quiet.ensures;
+        key = c.given_text-key.ensures;
+        entry_key = c.given_text-entry_key.ensures;
+        open_sheets = c.flag_at-open_sheets.ensures;
         addresses = sym (raw_values-rows f (codes "addr")) ∙ sym c.in_ok-addresses.ensures;
       },
       subst given c.if-makes.false c.flag_at-makes.ensures,

@@ -33,6 +33,11 @@ returns-in-text c =
     task_renamed c.args.name.now (codes "hall-file") (rows_of (found_of c.args.found.now))
     c.hall_file_of.result c.in-text.is c.hall_file_of.ensures
 
+pub returns-in-key : goal.returns-in-key
+returns-in-key c =
+    task_renamed c.args.name.now (codes "key") (rows_of (found_of c.args.found.now))
+    c.key_of.result c.in-key.is c.key_of.ensures
+
 pub returns-in-serve : goal.returns-in-serve
 returns-in-serve c =
     task_renamed c.args.name.now (codes "serve") (rows_of (found_of c.args.found.now))

@@ -54,6 +54,16 @@ returns-in-Err-print_hall_file g c =
       λ zero. absurd (not_zero fault _ c.tell_missing.ensures zero),
     )
 
+pub returns-in-Key : goal.returns-in-Key
+returns-in-Key g c =
+    let s =
+    sides g.R.Read.remaining g.W.Write.contents c.args.reader.now c.args.reader.now
+    c.args.writer.now c.run_key.new.writer in
+    let d = calls g.D.Dial.dialed c.args.dial.now c.args.dial.now in
+    let t = told g.F.Write.contents c.args.faults.now c.run_key.new.faults in
+    subst (λ a. Ends a c.run_key.result s d t) (sym c.in-Key.is)
+    (Keeps-refl _, c.run_key.ensures.ends, c.run_key.ensures.quiet)
+
 pub returns-in-Carry : goal.returns-in-Carry
 returns-in-Carry g c =
     let s =

@@ -4,7 +4,7 @@ use Rattle.errands.proofs.polling.+ask_all.Goals as goal
 
 pub returns : goal.returns
 returns g t c =
-    polls_more c.ask_all.result c.args.inquiry.hall c.args.inquiry.patience c.args.desk _
+    polls_more c.ask_all.result c.args.inquiry c.args.desk _
     c.args.addresses.now c.args.polled.now.items c.push.new.self.items c.ask_all.new.polled.items
     c.in_ok-one.one _ _ _ (search rules) c.in_ok-one.ensures c.in_ok-push.ensures.items
     c.ask_all.ensures

@@ -7,4 +7,9 @@ pub returns-clause-ok : goal.returns-clause-ok
 returns-clause-ok c =
     let says = rw c.in_ok-value.ensures at c.in_ok-desks.ensures.ok in
     let same = same_texts_of _ _ says.value in
-    record { number = refl; desks = same; addresses = subst AreAddresses same says.addresses }
+    record {
+      number = refl;
+      desks = same;
+      addresses = subst AreAddresses same says.addresses;
+      no_key = refl;
+    }

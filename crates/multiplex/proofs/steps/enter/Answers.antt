@@ -4,7 +4,7 @@ use Rattle.multiplex.proofs.steps.enter.Goals as goal
 
 pub returns-in-Came-clause-alters : goal.returns-in-Came-clause-alters
 returns-in-Came-clause-alters g c =
-    enters _ _ c.args.terms _ _ _ _ _ c.requires.wanted c.requires.room c.in-Came.ensures
+    enters _ _ c.args.terms _ _ _ _ _ _ c.requires.wanted c.requires.room c.in-Came.ensures
     c.welcome.ensures
 
 pub returns-in-Full-clause-alters : goal.returns-in-Full-clause-alters

@@ -7,39 +7,39 @@ use Rattle.multiplex.proofs.turns.serve_waiting.Goals.{else-wants_write-via-else
 
 pub returns-then-not-send-clause-served : goal.returns-then-not-send-clause-served
 returns-then-not-send-clause-served g c =
-    goes_both _ _ _ _ _ _ 0 0 _ _ _ c.loop-may.invariant.goes
-    (goes_both _ _ _ _ _ _ 0 0 _ _ _
-    (advanced _ _ _ _ _ 0 c.advance.result _ _ _ _ _ _ _ c.advance.ensures.turn)
-    (after_send _ _ _ _ _ 0 false _ _ _ _ _ _ c.if-not-send.ensures))
+    goes_both _ _ _ _ _ 0 0 _ _ _ c.loop-talk.invariant.goes
+    (goes_both _ _ _ _ _ 0 0 _ _ _
+    (advanced _ _ _ _ 0 c.advance.result _ _ _ _ _ _ _ c.advance.ensures.turn)
+    (after_send _ _ _ _ 0 false _ _ _ _ _ _ c.if-not-send.ensures))
 
-pub loop-may-preserved : goal.loop-may-preserved
-loop-may-preserved g c =
+pub loop-talk-preserved : goal.loop-talk-preserved
+loop-talk-preserved g c =
     let d = g.D.Desk in
     let begun =
-    goes_both _ _ _ _ _ _ 0 0 _ _ _ c.loop-may.invariant.goes
-    (advanced _ _ _ _ _ 0 c.advance.result _ _ _ _ _ _ _ c.advance.ensures.turn) in
+    goes_both _ _ _ _ _ 0 0 _ _ _ c.loop-talk.invariant.goes
+    (advanced _ _ _ _ 0 c.advance.result _ _ _ _ _ _ _ c.advance.ensures.turn) in
     let goes :
-    Goes d g.P.Peers g.C.Clients.happened c.args.number c.args.may None 0
+    Goes d g.P.Peers g.C.Clients.happened c.args.number None 0
     (spot c.args.node.now c.args.peers.now c.args.clients.now c.args.talk.now)
     (spot c.advance.new.node c.advance.new.peers c.else-wants_write.clients
     c.else-wants_write.talk) =
     elim c.else-wants_write.branch [
       | else-wants_write-via-then-wants_write+else-not-send w ↦
           rw (w.talk-is, w.clients-is)
-          (goes_both _ _ _ _ _ _ 0 0 _ _ _ begun
-          (after_send _ _ _ _ _ 0 true _ _ _ _ _ _ w.if-not-send.ensures))
+          (goes_both _ _ _ _ _ 0 0 _ _ _ begun
+          (after_send _ _ _ _ 0 true _ _ _ _ _ _ w.if-not-send.ensures))
       | else-wants_write-via-else-wants_write w ↦ rw (w.talk-is, w.clients-is) begun
     ] in
     record {
       goes = goes;
-      home = c.advance.ensures.home ∙ c.loop-may.invariant.home;
+      home = c.advance.ensures.home ∙ c.loop-talk.invariant.home;
       same = goes.1.home;
     }
 
 pub returns-clause-served : goal.returns-clause-served
 returns-clause-served g c =
-    goes_both _ _ _ _ _ _ 0 0 _ _ _ c.loop-may.invariant.goes
-    (advanced _ _ _ _ _ 0 c.advance.result _ _ _ _ _ _ _ c.advance.ensures.turn)
+    goes_both _ _ _ _ _ 0 0 _ _ _ c.loop-talk.invariant.goes
+    (advanced _ _ _ _ 0 c.advance.result _ _ _ _ _ _ _ c.advance.ensures.turn)
 
 pub returns-clause-settled : goal.returns-clause-settled
-returns-clause-settled g c = at_rest c.loop-may.talk _ c.loop-may-test.ensures.turn.2
+returns-clause-settled g c = at_rest c.loop-talk.talk _ c.loop-talk-test.ensures.turn.2

@@ -19,22 +19,22 @@ returns-in-Err-clause-fails g c files kept =
 
 pub returns-clause-ok : goal.returns-clause-ok
 returns-clause-ok g c =
-    printed c.args.service _ _ _ _ _ c.serve_there-ended.result
+    printed c.args.service c.args.doors _ _ _ _ _ c.serve_there-ended.result
     (c.in-Ok.ensures.opened.home ∙ c.requires.place) c.requires.allowed
     c.serve_there-ended.ensures.ok
 
 pub returns-clause-err : goal.returns-clause-err
 returns-clause-err g c =
-    printed_fault c.args.service _ _ _ _ _ c.serve_there-ended.result
+    printed_fault c.args.service c.args.doors _ _ _ _ _ c.serve_there-ended.result
     (c.in-Ok.ensures.opened.home ∙ c.requires.place) c.requires.allowed
     c.serve_there-ended.ensures.err
 
 pub returns-clause-serves : goal.returns-clause-serves
 returns-clause-serves g c =
-    runs _ c.args.service _ c.args.keeper c.in-Ok.node _ c.serve_there-ended.result
-    c.in-Ok.ensures.opened c.serve_there-ended.ensures.ok
+    runs _ c.args.service c.args.doors _ c.args.keeper c.in-Ok.node _ c.serve_there-ended.result
+    c.in-Ok.ensures.opened c.requires.doors c.serve_there-ended.ensures.ok
 
 pub returns-clause-fails : goal.returns-clause-fails
 returns-clause-fails g c =
-    runs_ill _ c.args.service _ c.args.keeper c.in-Ok.node _ c.serve_there-ended.result
-    c.in-Ok.ensures.opened c.requires.allowed c.serve_there-ended.ensures.err
+    runs_ill _ c.args.service c.args.doors _ c.args.keeper c.in-Ok.node _
+    c.serve_there-ended.result c.in-Ok.ensures.opened c.requires.doors c.requires.allowed c.serve_there-ended.ensures.err

@@ -12,9 +12,13 @@ returns-in-Ok-carry-clause-ends g c =
     done c.args.place c.args.patience 0
     (reach g.D.Dial.dialed g.F.Write.contents c.args.dial.now c.carry.new.dial c.args.faults.now)
     (Keeps old new) (λ one there t. EndsErrand 0 (errand_of one there c.args.request) t old new)
-    c.in-Ok.found (record { address = c.as_str.result; patience = c.args.patience })
+    c.in-Ok.found (record {
+      address = c.as_str.result;
+      patience = c.args.patience;
+      key = c.in-Ok.found.key;
+    })
     (g.D.Dial.dialed c.found_at.new.dial) (g.F.Write.contents c.found_at.new.faults)
-    c.in-Ok.ensures.ok c.as_str.ensures.value refl
+    c.in-Ok.ensures.ok c.as_str.ensures.value refl refl
     (inl (refl, c.in-Ok-carry.ensures.ok))
 
 pub returns-clause-ends : goal.returns-clause-ends
@@ -25,7 +29,11 @@ returns-clause-ends g c =
     (reach g.D.Dial.dialed g.F.Write.contents c.args.dial.now c.carry.new.dial c.args.faults.now)
     (Keeps old new)
     (λ one there t. EndsErrand c.tell_asked.result (errand_of one there c.args.request) t old new)
-    c.in-Ok.found (record { address = c.as_str.result; patience = c.args.patience })
+    c.in-Ok.found (record {
+      address = c.as_str.result;
+      patience = c.args.patience;
+      key = c.in-Ok.found.key;
+    })
     (g.D.Dial.dialed c.found_at.new.dial) (g.F.Write.contents c.found_at.new.faults)
-    c.in-Ok.ensures.ok c.as_str.ensures.value refl
+    c.in-Ok.ensures.ok c.as_str.ensures.value refl refl
     (inr (c.in-Err-carry.fault, c.tell_asked.ensures, c.in-Err-carry.ensures.err))

@@ -13,9 +13,13 @@ returns-in-Ok-print_newest-clause-ends g c =
     (reach g.D.Dial.dialed g.F.Write.contents c.args.dial.now c.print_newest.new.dial
     c.args.faults.now)
     (Keeps old new) (λ one _ t. EndsSheet 0 one c.args.sheet t old new)
-    c.in-Ok.found (record { address = c.as_str.result; patience = c.args.patience })
+    c.in-Ok.found (record {
+      address = c.as_str.result;
+      patience = c.args.patience;
+      key = c.in-Ok.found.key;
+    })
     (g.D.Dial.dialed c.found_at.new.dial) (g.F.Write.contents c.found_at.new.faults)
-    c.in-Ok.ensures.ok c.as_str.ensures.value refl
+    c.in-Ok.ensures.ok c.as_str.ensures.value refl refl
     (inl (refl, c.in-Ok-print_newest.ensures.ok))
 
 pub returns-clause-ends : goal.returns-clause-ends
@@ -26,7 +30,11 @@ returns-clause-ends g c =
     (reach g.D.Dial.dialed g.F.Write.contents c.args.dial.now c.print_newest.new.dial
     c.args.faults.now)
     (Keeps old new) (λ one _ t. EndsSheet c.tell_asked.result one c.args.sheet t old new)
-    c.in-Ok.found (record { address = c.as_str.result; patience = c.args.patience })
+    c.in-Ok.found (record {
+      address = c.as_str.result;
+      patience = c.args.patience;
+      key = c.in-Ok.found.key;
+    })
     (g.D.Dial.dialed c.found_at.new.dial) (g.F.Write.contents c.found_at.new.faults)
-    c.in-Ok.ensures.ok c.as_str.ensures.value refl
+    c.in-Ok.ensures.ok c.as_str.ensures.value refl refl
     (inr (c.in-Err-print_newest.fault, c.tell_asked.ensures, c.in-Err-print_newest.ensures.err))

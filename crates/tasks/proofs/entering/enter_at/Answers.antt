@@ -15,9 +15,13 @@ returns-in-Ok-enter_one g c =
     (reach g.D.Dial.dialed g.F.Write.contents c.args.dial.now c.enter_one.new.dial
     c.args.faults.now)
     (Keeps old new) (λ one _ t. EndsOne 0 one single t old new)
-    c.in-Ok.found (record { address = c.as_str.result; patience = c.args.patience })
+    c.in-Ok.found (record {
+      address = c.as_str.result;
+      patience = c.args.patience;
+      key = c.in-Ok.found.key;
+    })
     (g.D.Dial.dialed c.found_at.new.dial) (g.F.Write.contents c.found_at.new.faults)
-    c.in-Ok.ensures.ok c.as_str.ensures.value refl
+    c.in-Ok.ensures.ok c.as_str.ensures.value refl refl
     (inl (refl, c.in-Ok-enter_one.ensures.ok))
 
 pub returns : goal.returns
@@ -30,7 +34,11 @@ returns g c =
     (reach g.D.Dial.dialed g.F.Write.contents c.args.dial.now c.enter_one.new.dial
     c.args.faults.now)
     (Keeps old new) (λ one _ t. EndsOne c.tell_asked.result one single t old new)
-    c.in-Ok.found (record { address = c.as_str.result; patience = c.args.patience })
+    c.in-Ok.found (record {
+      address = c.as_str.result;
+      patience = c.args.patience;
+      key = c.in-Ok.found.key;
+    })
     (g.D.Dial.dialed c.found_at.new.dial) (g.F.Write.contents c.found_at.new.faults)
-    c.in-Ok.ensures.ok c.as_str.ensures.value refl
+    c.in-Ok.ensures.ok c.as_str.ensures.value refl refl
     (inr (c.in-Err-enter_one.fault, c.tell_asked.ensures, c.in-Err-enter_one.ensures.err))

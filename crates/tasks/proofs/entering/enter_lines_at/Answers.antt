@@ -15,9 +15,13 @@ returns-in-Ok-enter_all g c =
     (reach g.D.Dial.dialed g.F.Write.contents c.args.dial.now c.enter_all.new.dial
     c.args.faults.now)
     (Keeps s.had s.left × Keeps s.old s.new) (λ one _ t. EndsInput 0 one c.args.lines s t)
-    c.in-Ok.found (record { address = c.as_str.result; patience = c.args.patience })
+    c.in-Ok.found (record {
+      address = c.as_str.result;
+      patience = c.args.patience;
+      key = c.in-Ok.found.key;
+    })
     (g.D.Dial.dialed c.found_at.new.dial) (g.F.Write.contents c.found_at.new.faults)
-    c.in-Ok.ensures.ok c.as_str.ensures.value refl
+    c.in-Ok.ensures.ok c.as_str.ensures.value refl refl
     (inl (refl, c.in-Ok-enter_all.ensures.ok))
 
 pub returns : goal.returns
@@ -30,7 +34,11 @@ returns g c =
     c.args.faults.now)
     (Keeps s.had s.left × Keeps s.old s.new)
     (λ one _ t. EndsInput c.tell_asked.result one c.args.lines s t)
-    c.in-Ok.found (record { address = c.as_str.result; patience = c.args.patience })
+    c.in-Ok.found (record {
+      address = c.as_str.result;
+      patience = c.args.patience;
+      key = c.in-Ok.found.key;
+    })
     (g.D.Dial.dialed c.found_at.new.dial) (g.F.Write.contents c.found_at.new.faults)
-    c.in-Ok.ensures.ok c.as_str.ensures.value refl
+    c.in-Ok.ensures.ok c.as_str.ensures.value refl refl
     (inr (c.in-Err-enter_all.fault, c.tell_asked.ensures, c.in-Err-enter_all.ensures.err))

@@ -7,6 +7,29 @@ use Rattle.lines.specs.declared.fault.RunFault.TheVariants as run
 use Rattle.tasks.specs.Standings.{EndsStatus}
 use Rattle.tasks.proofs.standing.status_at.Goals as goal
 
+pub returns-in-Err-key_of_hall : goal.returns-in-Err-key_of_hall
+returns-in-Err-key_of_hall g c =
+    let dial = c.args.dial.now in
+    let writer = c.args.writer.now in
+    let o = outside g.D.Dial.dialed g.W.Write.contents dial dial writer writer in
+    let form = c.args.way.form in
+    let told = c.tell-in-Err-key_of_hall in
+    subst
+    (λ (d : Desks). EndsStatus d c.args.patience form c.args.way.watches told.result o)
+    (sym c.in-File.is)
+    (inl (
+      c.in-Err-key_of_hall.fault,
+      told.ensures,
+      inr (
+        c.in-Ok-hall_of_file.hall,
+        c.in-Ok-hall_of_file.ensures.ok.0,
+        c.in-Ok-hall_of_file.ensures.ok.1,
+        c.in-Err-key_of_hall.ensures.err,
+      ),
+      refl,
+      Keeps-refl _,
+    ))
+
 pub returns-in_default : goal.returns-in_default
 returns-in_default g c =
     let dial = c.args.dial.now in
@@ -14,9 +37,9 @@ returns-in_default g c =
     let o = outside g.D.Dial.dialed g.W.Write.contents dial dial writer writer in
     let form = c.args.way.form in
     subst
-    (λ (d : Desks). EndsStatus d c.args.patience form c.args.way.watches c.tell.result o)
+    (λ (d : Desks). EndsStatus d c.args.patience form c.args.way.watches c.tell-in_default.result o)
     (sym c.in-File.is)
-    (inl (fault.Run run.NoMemory, c.tell.ensures, inr refl, refl, Keeps-refl _))
+    (inl (fault.Run run.NoMemory, c.tell-in_default.ensures, inl (inr refl), refl, Keeps-refl _))
 
 pub returns-in-Ok-addresses_of : goal.returns-in-Ok-addresses_of
 returns-in-Ok-addresses_of g c =
@@ -30,18 +53,22 @@ returns-in-Ok-addresses_of g c =
     (λ (d : Desks). EndsStatus d c.args.patience form c.args.way.watches asked.result o)
     (sym c.in-File.is)
     (inr (
-      c.in-Ok.hall,
-      c.in-Ok.ensures.ok.0,
-      c.in-Ok.ensures.ok.1,
+      c.in-Ok-hall_of_file.hall,
+      c.in-Ok-hall_of_file.ensures.ok.0,
+      c.in-Ok-hall_of_file.ensures.ok.1,
+      c.in-Ok-key_of_hall.key,
+      c.in-Ok-key_of_hall.ensures.ok,
       (
         record {
-          hall = c.in-Ok.hall.hall;
+          hall = c.in-Ok-hall_of_file.hall.hall;
           addresses = c.deref.result;
           patience = c.args.patience;
+          key = c.in-Ok-key_of_hall.key;
         },
         record {
           hall_is = refl;
           there = texts ∙ c.in-Ok-addresses_of.ensures;
+          key_is = refl;
           patience_is = refl;
         },
         asked.ensures,

@@ -2,4 +2,7 @@ use Rattle.std.specs.Prelude.{◌≡◌}
 use Rattle.desk_sockets.proofs.desk_stream.DeskStream.fulfil_all.Given as goal
 
 abbrev pub invariant-loop-wish : goal.invariant-loop-wish
-invariant-loop-wish g l = g.D.Dialogue.held l.dialogue ≡ g.D.Dialogue.held l.fn.dialogue
+invariant-loop-wish g l = record {
+  key : l.self.key ≡ l.fn.self.key;
+  held : g.D.Dialogue.held l.dialogue ≡ g.D.Dialogue.held l.fn.dialogue;
+}

@@ -1,6 +1,6 @@
 use Rattle.std.proofs.Common.{refl, Some}
 use Rattle.sealed.specs.Calls.{CalledOf}
-use Rattle.sealed.proofs.Sending.{keeps_tried}
+use Rattle.sealed.proofs.Sending.{keeps_caller, keeps_tried}
 use Rattle.sealed.proofs.Standing.{stands_tried}
 use Rattle.sealed.proofs.called.Called.try_on.Goals as goal
 
@@ -37,4 +37,20 @@ returns-clause-sends c =
     let new : CalledOf = record old { trial = Some c.feed.new.self } in
     rw (← c.self.view_is)
     (keeps_tried old new c.in-Some.trial c.feed.new.self c.in-Some.is refl
+    c.in_ok-handed.ensures.same)
+
+pub returns-clause-stays : goal.returns-clause-stays
+returns-clause-stays c =
+    let was = c.self.inside in
+    let old : CalledOf = record {
+      doors = was.doors;
+      random = was.random;
+      held = was.front.items;
+      passing = was.passing;
+      trial = was.trial;
+      refusal = was.refusal;
+    } in
+    let new : CalledOf = record old { trial = Some c.feed.new.self } in
+    rw (← c.self.view_is)
+    (keeps_caller old new c.in-Some.trial c.feed.new.self c.in-Some.is refl
     c.in_ok-handed.ensures.same)

@@ -16,4 +16,5 @@ returns-in-Some c =
     let new : CallingOf = record old { tunnel = Some c.feed.new.self } in
     rw (← c.self.view_is)
     (receives_more old new c.in-Some.tunnel c.feed.new.self c.args.piece.now
-    c.in_ok-handed.handed.items c.in-Some.is refl refl refl c.in_ok-handed.ensures.fed)
+    c.in_ok-handed.handed.items c.in-Some.is refl refl refl c.in_ok-handed.ensures.fed
+    c.in_ok-handed.ensures.sealer)

@@ -1,0 +1,3 @@
+pub mod Troubles
+pub mod Connections
+pub mod Streams

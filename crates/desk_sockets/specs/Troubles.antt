@@ -1,0 +1,12 @@
+-- What can be wrong with the keys of the two sides of a connection.
+use Rattle.std.specs.Prelude.{Bool, true, false, not, Option, None, Some}
+use Rattle.calls.specs.declared.trouble.CallTrouble.{CallTrouble}
+use Rattle.calls.specs.declared.trouble.CallTrouble.TheVariants.{NoKey, OtherKey, HasKey}
+
+-- whoever has a key can be told that a desk has none, or another one; whoever has none, that a desk
+-- has one
+abbrev pub fits : Bool → Option CallTrouble → Bool
+fits keyed None = true
+fits keyed (Some NoKey) = keyed
+fits keyed (Some OtherKey) = keyed
+fits keyed (Some HasKey) = not keyed

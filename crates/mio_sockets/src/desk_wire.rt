@@ -1,0 +1,230 @@
+//! The connection to one other desk, and what is known of who answers there.
+//!
+//! Desks answer each other nothing. So that it is seen who answers at an address, a question is
+//! written at the front of a connection, as a client's, until one was answered by the right desk,
+//! and again once it could not be reached. The question changes nothing at the desk.
+//!
+//! With a key a connection counts as open once the desk's preface came, and, where it isn't known
+//! who answers, the answer to the question. So a desk that has another key is never reached.
+
+ghost use Rattle.std.specs.Prelude.{◌≢◌, [], length};
+ghost use Rattle.multiplex.specs.Happenings.{CountsTaken};
+
+use crate::asking::Asking;
+use crate::keyed_stream::{Came, KeyedStream};
+use crate::outcomes::taken_by;
+use crate::wires::{Heard, Opening, Trouble};
+use multiplex::Taken;
+use std::io;
+use std::io::ErrorKind;
+
+/// The connection to one other desk.
+#[derive(Drop)]
+pub(crate) struct DeskWire {
+    asking: Asking,
+    stream: Option<KeyedStream>,
+    /// Whether the right desk has answered since it could not be reached.
+    known: bool,
+    /// Whether a connection is open only once it is known who answers: with a key, and once the
+    /// desk asked for one.
+    doubted: bool,
+    /// Whether another hall or desk has answered, which isn't told yet.
+    foreign: bool,
+    /// What went wrong last, or would have if the connection were given up now.
+    trouble: Trouble,
+}
+
+/// What went wrong, as the system says it.
+fn of_system(kind: ErrorKind) -> Trouble {
+    Trouble::System { kind }
+}
+
+/// Sends what is to be sent at the front of a connection.
+fn send(stream: &mut KeyedStream) -> Result<(), Trouble> {
+    match stream.send() {
+        Ok(_) => Ok(()),
+        Err(error) => Err(of_system(error.kind())),
+    }
+}
+
+/// Reads what comes at the front of a connection. Where the desk has ended it without a word,
+/// though it was to be asked, it has another key, or none.
+fn listen(stream: &mut KeyedStream, asking: Asking, asks: bool) -> Result<(), Trouble> {
+    let came = stream.hear(asking);
+    if let Some(trouble) = stream.trouble() {
+        return Err(Trouble::Key { trouble });
+    }
+    match came {
+        Came::Nothing => Ok(()),
+        Came::Broke => Err(of_system(ErrorKind::ConnectionReset)),
+        Came::Ended => match stream.trouble_at_end() {
+            Some(trouble) if asks => Err(Trouble::Key { trouble }),
+            _ => Err(of_system(ErrorKind::ConnectionReset)),
+        },
+    }
+}
+
+/// Gives the question, once it may be given.
+fn ask(stream: &mut KeyedStream, asking: Asking) -> Result<(), Trouble> {
+    if !stream.may_ask() {
+        return Ok(());
+    }
+    let Some(question) = asking.bytes() else {
+        return Ok(());
+    };
+    match stream.ask(&question) {
+        Ok(()) => send(stream),
+        Err(error) => Err(of_system(error.kind())),
+    }
+}
+
+impl DeskWire {
+    /// No connection yet. `sealed`: there is a key.
+    pub(crate) fn new(asking: Asking, sealed: bool) -> DeskWire {
+        DeskWire {
+            asking,
+            stream: None,
+            known: false,
+            doubted: sealed,
+            foreign: false,
+            trouble: of_system(ErrorKind::NotConnected),
+        }
+    }
+
+    /// What went wrong last.
+    pub(crate) fn trouble(&self) -> Trouble {
+        self.trouble
+    }
+
+    /// Has a connection that was begun, or could not be. False: it could not be.
+    pub(crate) fn begin(&mut self, connected: io::Result<KeyedStream>) -> bool {
+        self.foreign = false;
+        match connected {
+            Ok(stream) => {
+                self.stream = Some(stream);
+                self.trouble = of_system(ErrorKind::TimedOut);
+                true
+            }
+            Err(error) => {
+                self.stream = None;
+                self.fail(of_system(error.kind()));
+                false
+            }
+        }
+    }
+
+    /// Notes that it isn't known any more who answers, since this went wrong.
+    fn fail(&mut self, trouble: Trouble) {
+        self.known = false;
+        if let Trouble::Key { .. } = trouble {
+            self.doubted = true;
+        }
+        self.trouble = trouble;
+    }
+
+    /// Notes who answered, once somebody has.
+    fn note_answer(&mut self) {
+        let Some(stream) = &mut self.stream else {
+            return;
+        };
+        if let Some(right) = stream.take_answer() {
+            self.known = right;
+            self.foreign = !right;
+        }
+    }
+
+    /// Whether the connection is open, once it is there, or what went wrong.
+    fn is_open(&mut self) -> Result<bool, Trouble> {
+        let Some(stream) = &mut self.stream else {
+            return Err(of_system(ErrorKind::NotFound));
+        };
+        match stream.connected() {
+            Ok(()) => {}
+            Err(ErrorKind::NotConnected) => return Ok(false),
+            Err(kind) => return Err(of_system(kind)),
+        }
+        let asks = !self.known;
+        send(stream)?;
+        if self.doubted {
+            listen(stream, self.asking, asks)?;
+        }
+        if asks {
+            ask(stream, self.asking)?;
+        }
+        Ok(stream.is_open() && (!self.doubted || self.known || stream.is_heard()))
+    }
+
+    /// What has become of the connection, which was begun.
+    pub(crate) fn opening(&mut self) -> Opening {
+        let open = self.is_open();
+        self.note_answer();
+        match open {
+            Ok(true) => {
+                self.trouble = of_system(ErrorKind::ConnectionReset);
+                Opening::Open
+            }
+            Ok(false) => Opening::Later,
+            Err(trouble) => {
+                self.fail(trouble);
+                Opening::Failed
+            }
+        }
+    }
+
+    /// Writes as much of the bytes as the connection takes without waiting.
+    pub(crate) fn write(&mut self, bytes: &[u8]) -> Taken
+        requires { bytes.now ≢ [] }
+        ensures { CountsTaken (length bytes.now) result }
+    {
+        let taken = match &mut self.stream {
+            Some(stream) => taken_by(stream.write(bytes)),
+            None => Taken::Broke,
+        };
+        self.trouble = of_system(if taken == Taken::Later {
+            ErrorKind::TimedOut
+        } else {
+            ErrorKind::ConnectionReset
+        });
+        taken
+    }
+
+    /// Reads what comes, and drops it. What the desk said first tells who answers.
+    fn listen_on(&mut self) -> Heard {
+        let Some(stream) = &mut self.stream else {
+            return Heard::Broke;
+        };
+        if stream.send().is_err() {
+            return Heard::Broke;
+        }
+        let came = stream.hear(self.asking);
+        if let Some(trouble) = stream.trouble() {
+            self.fail(Trouble::Key { trouble });
+            return Heard::Broke;
+        }
+        match came {
+            Came::Nothing => Heard::Nothing,
+            Came::Ended => Heard::Ended,
+            Came::Broke => Heard::Broke,
+        }
+    }
+
+    /// Hears what comes on the connection, which is open.
+    pub(crate) fn hear(&mut self) -> Heard {
+        let heard = if self.foreign {
+            Heard::Nothing
+        } else {
+            self.listen_on()
+        };
+        self.note_answer();
+        if self.foreign {
+            self.foreign = false;
+            return Heard::Foreign;
+        }
+        heard
+    }
+
+    /// Closes the connection, if there is one.
+    pub(crate) fn close(&mut self) {
+        self.stream = None;
+    }
+}
