@@ -90,8 +90,9 @@ impl<'a, R: Net + RandomSource> DeskStream<'a, R> {
         }
     }
 
-    /// What was wrong with the last connection of which it is known. None once a desk answered. With
-    /// a key it is that the desk has none, or another one; without a key, that the desk has one.
+    /// What was wrong with the last connection of which it is known. None once a desk answered.
+    /// With a key it is that the desk has none, or another one; without a key, that the desk has
+    /// one.
     pub fn trouble(&self) -> Option<CallTrouble>
         ensures trouble { result ≡ self.now.trouble }
         ensures fits { fits (is_some self.now.key) result ≡ true }
@@ -264,10 +265,10 @@ impl<'a, R: Net + RandomSource> DeskStream<'a, R> {
         true
     }
 
-    /// Does all for a dialogue that can be done now, at so many milliseconds of a clock that doesn't
-    /// go back, without waiting. It is to be called again once the socket is ready, or the time is
-    /// over that the dialogue's `wait` says. A desk that has another key, or none, or has a key
-    /// where there is none here, counts as lost.
+    /// Does all for a dialogue that can be done now, at so many milliseconds of a clock that
+    /// doesn't go back, without waiting. It is to be called again once the socket is ready, or the
+    /// time is over that the dialogue's `wait` says. A desk that has another key, or none, or has a
+    /// key where there is none here, counts as lost.
     pub fn keep<D: Dialogue>(&mut self, dialogue: &mut D, now: u64) -> Kept
         ensures key { self.new.key ≡ self.old.key }
         ensures held { result ≡ Kept.Same → D.held dialogue.new ≡ D.held dialogue.old }

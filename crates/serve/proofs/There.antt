@@ -19,8 +19,9 @@ FailsOn k w t period first last before after f =
     (output (w.contents before) (w.contents after)) unheard)
     (resting k t.wire first) (resting k t.wire last)
 
-pub failed_there : {K X : Type 0} (k : KeeperOf K) (w : WriteOf X) (s : Service) (d : Doors) (t : Terms)
-    (p : Option ℕ) (first last : NodeValue K) (before after : X) (r : Result (Unit {0}) ServeFault)
+pub failed_there : {K X : Type 0} (k : KeeperOf K) (w : WriteOf X) (s : Service) (d : Doors)
+    (t : Terms) (p : Option ℕ) (first last : NodeValue K) (before after : X)
+    (r : Result (Unit {0}) ServeFault)
     → t ≡ terms_of s d → p ≡ period_of s.tick
     → IfErr r (λ f. FailsOn k w t p first last before after f)
     → IfErr r (λ f. FailsThere k w s d first last before after f)

@@ -64,8 +64,8 @@ IsRefused fault.SameAddresses s = IsPlaced s × IsOfFile s.making × HasTwins (t
 IsRefused fault.NoHallKey s = IsInHall s × LacksKey s
 IsRefused _ s = ⊥
 
--- Why a file is not opened in which a store is, or none: a store that has to be there is not, or one
--- that has to be made is there already.
+-- Why a file is not opened in which a store is, or none: a store that has to be there is not, or
+-- one that has to be made is there already.
 abbrev pub refusal_of : Making → Bool → Option ServeFault
 refusal_of making.AsNeeded there = None
 refusal_of making.Open true = None

@@ -174,8 +174,8 @@ fn serve_kept<K: Keeper + Close + Drop, W: Write>(
 
 /// Opens a desk's file, listens at the desk's address, and serves the clients that come, side by
 /// side; frames for other desks go to their addresses. With a key of the hall it asks a key of each
-/// client, and speaks to the other desks under the hall's. On standard error it says when another desk
-/// can't be reached, and when it is reached again, unless `quiet` is asked for.
+/// client, and speaks to the other desks under the hall's. On standard error it says when another
+/// desk can't be reached, and when it is reached again, unless `quiet` is asked for.
 ///
 /// Once it listens it prints `desk <d> of <n> len <len>`, and at its end `served <count>`. It ends
 /// once it has served as many connections as were asked for, where a client asks it to stop, and by

@@ -37,4 +37,5 @@ returns-clause-serves g c =
 pub returns-clause-fails : goal.returns-clause-fails
 returns-clause-fails g c =
     runs_ill _ c.args.service c.args.doors _ c.args.keeper c.in-Ok.node _
-    c.serve_there-ended.result c.in-Ok.ensures.opened c.requires.doors c.requires.allowed c.serve_there-ended.ensures.err
+    c.serve_there-ended.result c.in-Ok.ensures.opened c.requires.doors c.requires.allowed
+    c.serve_there-ended.ensures.err
