@@ -45,8 +45,8 @@ pub trait Dial {
     ghost dialed: { Self → Option (List Dialed) };
 
     /// Opens a connection for a request, under the contact's key: what the desk says, and where
-    /// requests go. Where the desk doesn't speak under that key, nothing can be written, and the end
-    /// of the connection tells why.
+    /// requests go. Where the desk doesn't speak under that key, nothing can be written, and the
+    /// end of the connection tells why.
     fn dial(&mut self, contact: Contact<'_>) -> io::Result<(Self::Reader, Self::Writer)>
         ensures opened { IfOk result (λ c. Dials (dialed self.old) (dialed self.new)
             (Opened (place_of contact.entry) (Self.Reader.remaining c.0)

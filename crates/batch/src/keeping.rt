@@ -236,8 +236,8 @@ pub(crate) fn ask<D: Dial>(
 /// - `CannotConnect` where no connection could be opened: nothing is asked.
 /// - `Asking` where the desk refuses, the request cannot be written, or there is no answer.
 /// - `Late` where there is no answer, and the desk was waited for as long as the contact says.
-/// - `NoKey`, `OtherKey` and `HasKey` where there is no answer, since the desk speaks without a key,
-///   under another one, or only under one: nothing was done.
+/// - `NoKey`, `OtherKey` and `HasKey` where there is no answer, since the desk speaks without a
+///   key, under another one, or only under one: nothing was done.
 /// - `NoMemory` where memory runs out.
 pub fn ask_over<D: Dial>(
     alloc: Global,

@@ -1,6 +1,6 @@
 //! Requests to a desk, one after the other over connections that are kept; many commands that are
-//! entered at one, each with an id of its own; the log of one, part after part; and the newest sheet
-//! of a round.
+//! entered at one, each with an id of its own; the log of one, part after part; and the newest
+//! sheet of a round.
 #![tactic(auto)]
 
 mod asking;

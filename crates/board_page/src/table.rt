@@ -8,8 +8,8 @@ use crate::escaping::push_escaped;
 use csv::{ByteRecord, ReaderBuilder};
 use std::alloc::{AllocError, Global};
 
-/// The records of a text of comma-separated values, as a reader of CSV reads them. A record may have
-/// any number of fields, so that the reader fails only where memory runs out.
+/// The records of a text of comma-separated values, as a reader of CSV reads them. A record may
+/// have any number of fields, so that the reader fails only where memory runs out.
 pub fn records_of(alloc: Global, text: &[u8]) -> Result<Vec<ByteRecord>, AllocError>
     ensures { IfOk result (λ rows. AreRecordsOf text.now (map fields_of rows.items)) }
 {

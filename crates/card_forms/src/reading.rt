@@ -108,9 +108,9 @@ fn refused(faults: Unread) -> CardReading
     }
 }
 
-/// The card that a form says, or what is wrong with each of its fields. A field of white space alone
-/// says nothing; what the others may say, `scorecard::read` says. `NoMemory` comes in place of any
-/// answer.
+/// The card that a form says, or what is wrong with each of its fields. A field of white space
+/// alone says nothing; what the others may say, `scorecard::read` says. `NoMemory` comes in place
+/// of any answer.
 #[tactic(auto, using(crate::proofs::Five::five_items))]
 pub fn card_of(alloc: Global, form: &CardForm) -> Result<Card, CardReading>
     ensures read { IfOk result (IsReadAs form.now) }

@@ -254,7 +254,8 @@ ends : (e f : Event) (r s : ℕ) (c : Command) (closed : Bool)
     → round_of (cs ++ c ∷ []) e r
     ≡ cond (same_event e f && r == s) (option_map change (round_of cs e r)) (round_of cs e r)
 ends e f r s c closed change cs closes sets nobody stay keeps ending changes =
-    round_changed e r cs c (same_event e f && r == s) change closes (λ o before is. changed o before)
+    round_changed e r cs c (same_event e f && r == s) change closes
+    (λ o before is. changed o before)
   where
     step : (o : Opened) (before : Option (Settings × Table)) (b : Bool)
         → with_parts e (settings_now e r o)

@@ -599,7 +599,8 @@ pub round_set_to : (xs : List KeptRound) (e : Event) (r i : ℕ) (old : KeptRoun
     ≡ change (old.settings, old.table)
     → ChangesRound e r change xs (set xs i (record old { settings = settings; table = table }))
 round_set_to xs e r i old settings table change at there is =
-    round_changed_to xs e r i old (record old { settings = settings; table = table }) change at there
+    round_changed_to xs e r i old (record old { settings = settings; table = table }) change at
+    there
     refl refl refl refl refl is
 
 -- another scramble's place

@@ -46,7 +46,8 @@ abbrev pub stands : {X : Type 0} → Option X → Option X → Option X → Opti
 stands given other None = given
 stands given other (Some x) = Some (unwrap_or other x)
 
-pub standing_push : {X : Type 0} (given other : Command → Option X) (cs : List Command) (c : Command)
+pub standing_push : {X : Type 0} (given other : Command → Option X) (cs : List Command)
+    (c : Command)
     → standing given other (cs ++ c ∷ []) ≡ stands (given c) (other c) (standing given other cs)
 standing_push {X} given other [] c = step (given c)
   where
@@ -72,7 +73,8 @@ standing_push {X} given other (d ∷ ds) c =
     step (Some x) p h = ap Some (later p (last_of other ds) x)
 
 -- a command that says neither leaves what stands
-pub standing_kept : {X : Type 0} (given other : Command → Option X) (cs : List Command) (c : Command)
+pub standing_kept : {X : Type 0} (given other : Command → Option X) (cs : List Command)
+    (c : Command)
     → given c ≡ None → other c ≡ None
     → standing given other (cs ++ c ∷ []) ≡ standing given other cs
 standing_kept {X} given other cs c none same =

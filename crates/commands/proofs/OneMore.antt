@@ -232,7 +232,8 @@ entrants_push e r settings waiting earlier (d ∷ ds) c =
 
 -- one more command changes the settings by that command alone
 pub settings_push : (e : Event) (r : ℕ) (settings : Settings) (cs : List Command) (c : Command)
-    → settings_after e r settings (cs ++ c ∷ []) ≡ settings_by e r c (settings_after e r settings cs)
+    → settings_after e r settings (cs ++ c ∷ []) ≡ settings_by e r c
+    (settings_after e r settings cs)
 settings_push e r settings [] c = refl
 settings_push e r settings (d ∷ ds) c = settings_push e r (settings_by e r d settings) ds c
 
@@ -384,7 +385,8 @@ round_with e r before c o es sets stays h =
     round_more e r before o c
     ∙ ap
     (λ (s : Settings).
-    with_parts e s (unwrap_or (closing e r c) (is_ended e r o.since)) (entrants_with e r before o c))
+    with_parts e s (unwrap_or (closing e r c) (is_ended e r o.since))
+    (entrants_with e r before o c))
     (sets (settings_now e r o))
     ∙ ap
     (λ (x : Option Bool).

@@ -1,4 +1,4 @@
--- Without `EDITION 3` everything is as edition 2 had it, and without `EDITION 2` either as edition 1.
+-- Without `EDITION 3` all is as edition 2 had it, and without `EDITION 2` too as edition 1.
 use Rattle.std.proofs.Common.{◌≡◌, ℕ, ◌-◌, ◌≤◌, Bool, true, false, not, ◌||◌, ◌==◌, ◌&&◌, cond}
 use Rattle.std.proofs.Common.{nat_lt, List, [], ◌∷◌, ◌++◌, fold, codes, Option, Some, None, is_some}
 use Rattle.std.proofs.Common.{unwrap_or, Result, Ok, Err, refl, sym, ap, ◌∙◌, subst, arith, eq-eqb}

@@ -1,5 +1,6 @@
 -- What is wrong with a connection is what can be wrong with it.
-use Rattle.std.proofs.Common.{◌≡◌, ◌∙◌, ℕ, Bool, true, false, List, [], ◌∷◌, not, ◌&&◌, ap, refl, subst, sym}
+use Rattle.std.proofs.Common.{◌≡◌, ◌∙◌, ℕ, Bool, true, false, List, []}
+use Rattle.std.proofs.Common.{◌∷◌, not, ◌&&◌, ap, refl, subst, sym}
 use Rattle.std.specs.Prelude.{Option, None, Some, is_some, if◌then◌else◌}
 use Rattle.sealed.specs.Callings.{CallingOf}
 use Rattle.sealed.specs.Callings as Callings

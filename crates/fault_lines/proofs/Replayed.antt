@@ -32,7 +32,8 @@ ends_whole (Err e) task status s t is all part zero told quiet =
 -- after the replay the fault stream had this, and then the line of the fault was told
 pub ends_apart : {T : Type 0} (ran : Result T ReplayFault) (task : ReplayTask) (status : ℕ)
     (s : Sides) (old mid new : Option (List ℕ)) → task.only_sheet ≡ true
-    → OnOk ran (ReplaysAllApart task.style task.event task.round s (record { before = old; now = mid }))
+    → OnOk ran (ReplaysAllApart task.style task.event task.round s
+    (record { before = old; now = mid }))
     → IfErr ran
     (ReplaysPartApart task.style task.event task.round s (record { before = old; now = mid }))
     → OnOk ran (status ≡ 0) → IfErr ran (λ e. status ≡ status_of_replay e)

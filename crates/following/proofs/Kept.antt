@@ -302,7 +302,8 @@ told_grew since false = record {
 }
 
 told_known : (since : ℕ) (more : Bool)
-    → IsTold since false (not more) (if more then stage.Useless since else stage.Answered (Some since))
+    → IsTold since false (not more)
+    (if more then stage.Useless since else stage.Answered (Some since))
 told_known since true = record {
   runs = refl;
   asked = refl;

@@ -2,7 +2,8 @@
 
 ghost use Rattle.std.specs.Prelude.{◌≡◌, ◌≤◌};
 ghost use Rattle.following.specs.Following.{IsPlace, new_following, action_of, after_action};
-ghost use Rattle.following.specs.Following.{after_opened, after_answer, after_lost, after_hurry, wait_of};
+ghost use Rattle.following.specs.Following.{after_opened, after_answer, after_lost};
+ghost use Rattle.following.specs.Following.{after_hurry, wait_of};
 ghost use Rattle.following.specs.Following.{is_over, left_of, is_free, pace_left, is_silent};
 ghost use Rattle.following.specs.Following.{is_useless, is_connected, is_stopped, may_open};
 ghost use Rattle.following.specs.Following.{may_ask, last_of, stage_wait, answered_stage};

@@ -178,9 +178,9 @@ fn given_hall<'a>(rt: &HostRuntime, found: &ArgMatches<'_>) -> Result<FoundHall,
     Ok(FoundHall { hall, desks, key })
 }
 
-/// The hall that the options of [`with_desks`](crate::with_desks) name, its desks, and its key: that
-/// of `--key`, or else the one that the hall's file names. What is wrong with the hall's file or
-/// with `--hall` is said first, then what is wrong with the key's file, then with an address.
+/// The hall that the options of [`with_desks`](crate::with_desks) name, its desks, and its key:
+/// that of `--key`, or else the one that the hall's file names. What is wrong with the hall's file
+/// or with `--hall` is said first, then what is wrong with the key's file, then with an address.
 pub fn hall_of<'a>(rt: &HostRuntime, found: &ArgMatches<'a>) -> Result<FoundHall, Mistake<'a>> {
     if found.get_str("hall").is_some() {
         return given_hall(rt, found);

@@ -1,5 +1,6 @@
 //! The options by which a program finds the desks of a hall: the hall's file, or the hall's number
-//! with the desks' addresses, and the file of the hall's key; and what is said where they are wrong.
+//! with the desks' addresses, and the file of the hall's key; and what is said where they are
+//! wrong.
 #![tactic(auto)]
 
 mod finding;

@@ -49,8 +49,8 @@ pub fn tell_system<F: Write>(faults: &mut F, program: &str, error: &io::Error, w
     tell(faults, program, why, 4)
 }
 
-/// Says why a program has no arguments, and returns the status: 5 where memory was refused, and else
-/// 2, since they are not text.
+/// Says why a program has no arguments, and returns the status: 5 where memory was refused, and
+/// else 2, since they are not text.
 pub fn tell_no_arguments<F: Write>(faults: &mut F, program: &str, error: &io::Error) -> u8
     ensures { (result ≡ 5) ⊎ (result ≡ 2) }
 {

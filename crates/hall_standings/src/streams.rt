@@ -36,8 +36,9 @@ fn address_of(addresses: &[Option<SocketAddr>], desk: u8) -> Option<SocketAddr> 
     *addresses.get(place)?
 }
 
-/// A connection to one of the desks at these addresses, under the hall's key, if it has one. Nothing
-/// is connected yet. Its socket is the program's own, with the number 11 for desk 1, and so on.
+/// A connection to one of the desks at these addresses, under the hall's key, if it has one.
+/// Nothing is connected yet. Its socket is the program's own, with the number 11 for desk 1, and so
+/// on.
 pub fn stream_to<'a, R: Net + RandomSource>(
     rt: &'a R,
     alloc: Global,

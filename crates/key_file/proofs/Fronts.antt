@@ -1,6 +1,7 @@
 -- The first 66 bytes of a reader, and the key that all its bytes spell.
 use Rattle.std.proofs.Common.{◌≡◌, ◌∙◌, ℕ, ◌≤◌, ◌+◌, ◌-◌, ◌==◌, List, [], ◌++◌, take, length, ap}
-use Rattle.std.proofs.Common.{get_or, sym, subst, arith, Bool, true, false, Option, None, Some, cond}
+use Rattle.std.proofs.Common.{get_or, sym, subst, arith, Bool, true}
+use Rattle.std.proofs.Common.{false, Option, None, Some, cond}
 use Rattle.std.specs.Prelude.{IfSome, Ok, option_map}
 use Rattle.std.proofs.lemmas.List.{length-take, take_all}
 use Rattle.hex.specs.Hex.{decode_of}

@@ -208,8 +208,8 @@ impl<R: Clock + RandomSource> SocketClients<'_, R> {
         }
     }
 
-    /// Lets the client in that waits, with new random bytes. Where the system gives none, the client
-    /// isn't let in.
+    /// Lets the client in that waits, with new random bytes. Where the system gives none, the
+    /// client isn't let in.
     fn let_in(&mut self, number: u64) -> Accepted
         ensures { self.new ≡ self.old }
     {

@@ -117,7 +117,8 @@ still_behind home doors k told js frames fs g gives none h =
     (subst (λ z. HoldsSome home h.handed h.answers z g.talk)
     (sym (ap (λ z. served_of k frames ++ z) none ∙ append-nil (served_of k frames))) h.holds)))
     (kept_as doors g (came_with k told) (came_with k told) (gave k told)
-    (gave k told ++ []) h.handed (h.handed ++ []) h.answers (h.answers ++ []) (took k told) (took k told ++ [])
+    (gave k told ++ []) h.handed (h.handed ++ []) h.answers (h.answers ++ []) (took k told)
+    (took k told ++ [])
     (begun_of (served_of k frames)) (begun_of (served_of k frames) ++ []) refl
     (sym (append-nil (gave k told))) (sym (append-nil h.handed)) (sym (append-nil h.answers))
     (sym (append-nil (took k told))) (sym (append-nil (begun_of (served_of k frames)))) h.kept)

@@ -16,7 +16,8 @@ after turn.Over now w = if w.is_idle then waits now false else w
 abbrev pub is_late : ℕ → ℕ → Waiting → Bool
 is_late now patience w = ltb patience (now - w.since)
 
--- which of two is waited for longer; of two that are waited for equally long, the one that came first
+-- which of two is waited for longer; of two that are waited for equally long, the one that came
+-- first
 abbrev pub is_longer : ℕ → ℕ → ℕ → Waiting → Bool
 is_longer number since other w = ltb w.since since || (w.since == since && ltb number other)
 

@@ -145,8 +145,8 @@ impl<C: Sockets> Table<C> {
         self.close(number);
     }
 
-    /// The browser that is waited for since the longest time. Where that is so of several, it is the
-    /// one of them that came first.
+    /// The browser that is waited for since the longest time. Where that is so of several, it is
+    /// the one of them that came first.
     fn longest_waiting(&self) -> Option<u64> {
         let mut found = None;
         let mut earliest = u64::MAX;

@@ -29,7 +29,8 @@ hall_line hall position = joined (
 unfoldable pub head_line : List ℕ → RoundId → Settings → ℕ → List ℕ
 head_line hall id settings position =
     codes "<table><thead><tr><th colspan=\"20\" class=\"head\"><b>"
-    ++ round_words id settings.advance ++ codes "</b> <span>" ++ settings_words id.event settings ++ hall_line hall position
+    ++ round_words id settings.advance ++ codes "</b> <span>" ++ settings_words id.event settings
+    ++ hall_line hall position
 
 -- the first record names the columns, each further one is a line
 unfoldable pub table_of : List (List (List ℕ)) → List ℕ

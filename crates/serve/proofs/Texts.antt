@@ -1,6 +1,7 @@
 -- Texts that stand at two places.
 use Rattle.std.proofs.Common.{◌≡◌, ◌<◌, ◌≤◌, ◌+◌, ℕ, zero, suc, List, [], ◌∷◌, Some, Option, None}
-use Rattle.std.proofs.Common.{refl, ◌∙◌, sym, ap, map, length, get_or, arith, Bor, Bool, true, false}
+use Rattle.std.proofs.Common.{refl, ◌∙◌, sym, ap, map, length}
+use Rattle.std.proofs.Common.{get_or, arith, Bor, Bool, true, false}
 use Rattle.std.proofs.Common.{subst, inl, inr}
 use Rattle.std.proofs.lemmas.Slice.Eq.{bytes_eq-Decides}
 use Rattle.std.proofs.lemmas.Bool.Decides.{leb_tells}
@@ -19,7 +20,8 @@ pub twins_at : (texts : List (Bor (List ℕ))) (i j : ℕ) (d e : Bor (List ℕ)
     → j < length texts → r ≡ bytes_eq (get_or texts i d).now (get_or texts j e).now → r ≡ true
     → AreTwins (map (λ (t : Bor (List ℕ)). t.now) texts) i j
 twins_at texts i j d e r before within told same =
-    let is = (bytes_eq-Decides (get_or texts i d).now (get_or texts j e).now).0 (sym told ∙ same) in (
+    let decided = (bytes_eq-Decides (get_or texts i d).now (get_or texts j e).now).0 in
+    let is = decided (sym told ∙ same) in (
       before,
       (get_or texts i d).now,
       text_at texts i d (omega (arith, before, within)),

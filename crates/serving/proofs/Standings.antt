@@ -1,5 +1,6 @@
 -- How a desk stands is in the ranges of a frame.
-use Rattle.std.proofs.Common.{◌≡◌, inl, inr, ◌⊎◌, ◌∙◌, sym, ap, subst, arith, ℕ, ◌<◌, ◌≤◌, ◌^◌, ◌==◌}
+use Rattle.std.proofs.Common.{◌≡◌, inl, inr, ◌⊎◌, ◌∙◌, sym, ap}
+use Rattle.std.proofs.Common.{subst, arith, ℕ, ◌<◌, ◌≤◌, ◌^◌, ◌==◌}
 use Rattle.std.proofs.Common.{Bool, true, false, if◌then◌else◌, Option, None, Some}
 use Rattle.acceptor.specs.Ballots.{no_ballot}
 use Rattle.acceptor.specs.declared.ballot.Ballot.{Ballot}

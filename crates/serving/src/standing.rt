@@ -25,7 +25,8 @@ fn role_of(role: &Role) -> DeskRole
     }
 }
 
-/// The highest promised ballot, if any was promised, where a desk of a hall of so many has this one.
+/// The highest promised ballot, if any was promised, where a desk of a hall of so many has this
+/// one.
 fn promised_of(promised: Ballot) -> Option<Ballot>
     ensures { result ≡ promised_of promised }
 {

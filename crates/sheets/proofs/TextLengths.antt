@@ -115,7 +115,8 @@ attempts_short unit format vs are =
 person_short : (number : ℕ) (marked : Bool) (name : List ℕ) → number ≤ 9999 → length name ≤ 160
     → length (person number marked name) ≤ 169
 person_short number marked name low short =
-    append_short 7 162 (codes " " ++ right 4 (decimal number) ++ codes " " ++ mark marked) (codes " "
+    append_short 7 162 (codes " " ++ right 4 (decimal number) ++ codes " " ++ mark marked)
+    (codes " "
     ++ name ++ codes "\n")
     (append_short 6 1 (codes " " ++ right 4 (decimal number) ++ codes " ") (mark marked)
     (append_short 5 1 (codes " " ++ right 4 (decimal number)) (codes " ")

@@ -1,5 +1,6 @@
 -- How much room a name takes where each double quote of it is doubled.
-use Rattle.std.proofs.Common.{◌≡◌, ◌≢◌, ℕ, zero, suc, ◌+◌, ◌<◌, ◌≤◌, Bool, true, false, ◌||◌, ◌==◌, not}
+use Rattle.std.proofs.Common.{◌≡◌, ◌≢◌, ℕ, zero, suc, ◌+◌, ◌<◌}
+use Rattle.std.proofs.Common.{◌≤◌, Bool, true, false, ◌||◌, ◌==◌, not}
 use Rattle.std.proofs.Common.{IsTrue, List, [], ◌∷◌, length, get_or, refl, sym, ◌∙◌, subst}
 use Rattle.std.proofs.Common.{arith}
 use Rattle.std.specs.Prelude.{count_by}
@@ -37,7 +38,8 @@ one_lacks by c small other = lacks_each by (encode_utf8 c) none
     none : (k : ℕ) → k < length (encode_utf8 c) → get_or (encode_utf8 c) k 0 ≢ by
     none k less is =
         let same : c ≡ get_or (encode_utf8 c) k 0 =
-        inside_one c [] (encode_utf8 c) k (sym (append-nil (encode_utf8 c))) less (omega (arith, is, small)) in
+        inside_one c [] (encode_utf8 c) k (sym (append-nil (encode_utf8 c))) less
+        (omega (arith, is, small)) in
         absurd (false≢true (grind (arith, nat_tests, same, is, other)))
 
 text_lacks : (by : ℕ) (cs : List ℕ) → by < 128 → list_all (λ c. not (c == by)) cs ≡ true

@@ -14,7 +14,8 @@ loop-pos-preserved c =
           let there : slice_get log k ≡ Some w.in-Some.entry.now = sym w.in-Some.ensures in
           let next = copies_next log p k w.in-Some.entry.now c.loop-pos.auto.pos there in
           rw w.entries-is
-          (w.in_ok-push.ensures.pushed ∙ ap (λ es. es ++ w.in_ok-copy_in.field-0 ∷ []) c.loop-pos.invariant
+          (w.in_ok-push.ensures.pushed ∙ ap (λ es. es ++ w.in_ok-copy_in.field-0 ∷ [])
+          c.loop-pos.invariant
           ∙ ap (λ e. take (k - p) (drop p log) ++ e ∷ []) w.in_ok-copy_in.ensures ∙ sym next)
       | in_default w ↦
           let none : slice_get log k ≡ None = cc w.in_default.ensures in

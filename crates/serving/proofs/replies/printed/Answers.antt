@@ -7,4 +7,7 @@ returns-in-Ok-clause-in_range g c =
     let few =
     fits c.fits_in_a_frame.ensures _ _ _ _ _ _ c.ranges.position.fits c.in-Ok.ensures.sheet in
     let same : c.new.result ≡ c.in-Ok.text.items = search rules in
-    record { body = λ version. subst (λ z. length z ≤ 299992) (sym same) few; way = λ version. refl }
+    record {
+      body = λ version. subst (λ z. length z ≤ 299992) (sym same) few;
+      way = λ version. refl;
+    }

@@ -36,5 +36,6 @@ pub returns-in-None : goal.returns-in-None
 returns-in-None c =
     let at : holder c.args.self.now c.args.name.now ≡ None =
     rw (← c.as_bytes.ensures) (sym c.get.ensures.value ∙ ap option_copied c.in-None.is) in
-    taken_by_holder c.args.accepted.now c.args.number c.args.name.now c.args.self.now None c.requires
+    taken_by_holder c.args.accepted.now c.args.number c.args.name.now c.args.self.now None
+    c.requires
     at

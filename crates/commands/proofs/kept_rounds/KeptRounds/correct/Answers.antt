@@ -12,7 +12,8 @@ returns-in-Ok-correct-clause-done c =
     entered_to c.args.entry.now (option_copied c.args.scramble) c.args.self.now found.0 found.1
     c.in-Ok.ensures.settled c.index_mut-kept.result.now c.index_mut-kept.ensures.value
     c.correct.new.self c.make_room.new.self c.note.new.self c.is_solution-solved.result
-    (with_correction c.args.entry.now.number c.args.entry.now.attempt (option_copied c.args.scramble) c.args.entry.now.outcome)
+    (with_correction c.args.entry.now.number c.args.entry.now.attempt
+    (option_copied c.args.scramble) c.args.entry.now.outcome)
     c.is_solution-solved.ensures c.make_room.ensures.same c.note.ensures
     (rw (
       c.in-Ok-correct.ensures.corrected,
