@@ -121,7 +121,7 @@ abbrev pub is_over : ℕ → ℕ → ℕ → Bool
 is_over now since millis = nat_le millis (now - since)
 
 -- a connection is opened only once a frame waits and no pause holds; it is given up after a second
--- of opening; it is closed after 63 frames, or 100 milliseconds with nothing to be sent
+-- of opening; it is closed after 63 frames, or 500 milliseconds with nothing to be sent
 abbrev pub wish_at : Stage → Bool → ℕ → Wish
 wish_at Closed waits now = if waits then wish.Open else wish.Rest
 wish_at (Paused since millis) waits now =
@@ -129,7 +129,7 @@ wish_at (Paused since millis) waits now =
 wish_at (Opening since) waits now = if is_over now since 1000 then wish.GiveUp else wish.Rest
 wish_at (Open frames quiet) waits now =
     if nat_le 63 frames then wish.Close else (
-    if waits then wish.Write else (if is_over now quiet 100 then wish.Close else wish.Rest)
+    if waits then wish.Write else (if is_over now quiet 500 then wish.Close else wish.Rest)
     )
 
 abbrev pub wish_of : LinkState → ℕ → Wish
@@ -146,7 +146,7 @@ wait_at Closed waits now = None
 wait_at (Paused since millis) waits now =
     if waits then Some (left_of now since millis) else None
 wait_at (Opening since) waits now = Some (left_of now since 1000)
-wait_at (Open frames quiet) waits now = if waits then None else Some (left_of now quiet 100)
+wait_at (Open frames quiet) waits now = if waits then None else Some (left_of now quiet 500)
 
 abbrev pub wait_of : LinkState → ℕ → Option ℕ
 wait_of s now = wait_at s.stage (has_some s.waiting) now

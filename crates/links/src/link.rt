@@ -24,7 +24,7 @@ const MOST_FRAMES: u32 = 63;
 const OPENING: u64 = 1000;
 
 /// How long a connection stays open with nothing to be sent, in milliseconds.
-const QUIET: u64 = 100;
+const QUIET: u64 = 500;
 
 /// The pause after the first failure in a row, and the longest one, in milliseconds.
 const FIRST_PAUSE: u64 = 100;
