@@ -1,18 +1,20 @@
 //! Commands, from their forms.
 
-ghost use Rattle.std.specs.Prelude.{◌≡◌, codes, Err, IfOk, None, Some};
-ghost use Rattle.card_forms.specs.Asking.{IsCommandText};
+ghost use Rattle.std.specs.Prelude.{◌≡◌, ◌↔◌, codes, Err, IfOk, None, Some};
+ghost use Rattle.card_forms.specs.Asking.{Asks, FieldsAsk, IsAsked, IsCommandText, field};
+ghost use Rattle.notation.specs.Notation.{Spells as SpellsMoves};
 ghost use Rattle.card_forms.specs.Cards.{form_id_of};
 ghost use Rattle.card_forms.specs.Pairs.{value_of};
 
 use crate::cards::form_id_of;
-use crate::command_faults::{CommandFormFault, Field, Wrong};
+use crate::command_faults::{CommandFormFault, Field, FieldFault, Wrong};
 use crate::command_fields::{
     advance, attempt, competitor, cutoff, event, format, limit, round, settings,
 };
 use crate::command_text::CommandText;
 use crate::form_id::FormId;
 use crate::pairs::Pairs;
+use crate::reading::trimmed;
 use notation::{Moves, ReadFault};
 use std::alloc::{AllocError, Global};
 use texts::{Command, CommandFault, Name, print, read};
@@ -31,103 +33,139 @@ struct Asked {
     why: Wrong,
 }
 
-/// A command whose fields are in their ranges.
-fn printed(alloc: Global, command: &Command) -> Result<Asked, CommandFormFault> {
-    let text = print(alloc, command)?;
-    Ok(Asked {
-        text,
-        last: Field::Command,
-        why: Wrong::NotACommand,
-    })
-}
-
 /// A competitor's name.
-fn name_of(alloc: Global, pairs: &Pairs) -> Result<Name, AllocError> {
-    let bytes = Vec::from_slice(alloc, pairs.value("name").trim_ascii())?;
+fn name_of(alloc: Global, pairs: &Pairs) -> Result<Name, AllocError>
+    ensures { IfOk result (λ name. name ≡ field (codes "name") pairs.now) }
+{
+    let bytes = Vec::from_slice(alloc, trimmed(pairs.value("name")))?;
     Ok(Name::new(bytes))
 }
 
-/// A command whose name is yet to be checked.
-fn named(alloc: Global, command: &Command) -> Result<Asked, CommandFormFault> {
-    let text = print(alloc, command)?;
-    Ok(Asked {
-        text,
-        last: Field::Name,
-        why: Wrong::NotAName,
-    })
-}
-
-/// A registration.
-fn register(alloc: Global, pairs: &Pairs) -> Result<Asked, CommandFormFault> {
+/// A registration, whose name is yet to be checked.
+fn register(alloc: Global, pairs: &Pairs) -> Result<Command, FieldFault>
+    ensures { IfOk result (IsAsked pairs.now (codes "REG")) }
+{
     let number = competitor(pairs)?;
     let name = name_of(alloc, pairs)?;
-    named(alloc, &Command::Register { number, name })
+    Ok(Command::Register { number, name })
 }
 
-/// Another name for a competitor.
-fn rename(alloc: Global, pairs: &Pairs) -> Result<Asked, CommandFormFault> {
+/// Another name for a competitor, which is yet to be checked.
+fn rename(alloc: Global, pairs: &Pairs) -> Result<Command, FieldFault>
+    ensures { IfOk result (IsAsked pairs.now (codes "REN")) }
+{
     let number = competitor(pairs)?;
     let name = name_of(alloc, pairs)?;
-    named(alloc, &Command::Rename { number, name })
+    Ok(Command::Rename { number, name })
 }
 
 /// The moves of a scramble.
-fn moves_of(alloc: Global, pairs: &Pairs) -> Result<Moves, CommandFormFault> {
-    match notation::read(alloc, pairs.value("moves").trim_ascii()) {
+fn moves_of(alloc: Global, pairs: &Pairs) -> Result<Moves, FieldFault>
+    ensures { IfOk result (λ moves. SpellsMoves (field (codes "moves") pairs.now) moves) }
+{
+    match notation::read(alloc, trimmed(pairs.value("moves"))) {
         Ok(moves) => Ok(moves),
-        Err(ReadFault::NoMemory) => Err(CommandFormFault::NoMemory),
-        Err(_) => Err(CommandFormFault::Wrong {
+        Err(ReadFault::NoMemory) => Err(FieldFault::NoMemory),
+        Err(_) => Err(FieldFault::Wrong {
             field: Field::Moves,
             why: Wrong::NotMoves,
         }),
     }
 }
 
-/// A command whose moves may make it too long.
-fn scrambled(alloc: Global, command: &Command) -> Result<Asked, CommandFormFault> {
-    let text = print(alloc, command)?;
-    Ok(Asked {
-        text,
-        last: Field::Moves,
-        why: Wrong::NotMoves,
-    })
-}
-
-/// A scramble.
-fn scramble(alloc: Global, pairs: &Pairs) -> Result<Asked, CommandFormFault> {
+/// A scramble, whose moves may make it too long.
+fn scramble(alloc: Global, pairs: &Pairs) -> Result<Command, FieldFault>
+    ensures { IfOk result (IsAsked pairs.now (codes "SCR")) }
+{
     let id = round(pairs)?;
     let attempt = attempt(pairs)?;
     let moves = moves_of(alloc, pairs)?;
-    scrambled(alloc, &Command::Scramble { id, attempt, moves })
+    Ok(Command::Scramble { id, attempt, moves })
 }
 
-/// Another scramble.
-fn rescramble(alloc: Global, pairs: &Pairs) -> Result<Asked, CommandFormFault> {
+/// Another scramble, whose moves may make it too long.
+fn rescramble(alloc: Global, pairs: &Pairs) -> Result<Command, FieldFault>
+    ensures { IfOk result (IsAsked pairs.now (codes "RSC")) }
+{
     let id = round(pairs)?;
     let attempt = attempt(pairs)?;
     let moves = moves_of(alloc, pairs)?;
-    scrambled(alloc, &Command::Rescramble { id, attempt, moves })
+    Ok(Command::Rescramble { id, attempt, moves })
+}
+
+/// A competitor for an event.
+fn enter(pairs: &Pairs) -> Result<Command, FieldFault>
+    ensures { IfOk result (IsAsked pairs.now (codes "ENT")) }
+{
+    let event = event(pairs)?;
+    let number = competitor(pairs)?;
+    Ok(Command::Enter { event, number })
+}
+
+/// A round that is opened.
+fn open(alloc: Global, pairs: &Pairs) -> Result<Command, FieldFault>
+    ensures { IfOk result (IsAsked pairs.now (codes "OPEN")) }
+{
+    let id = round(pairs)?;
+    let settings = settings(alloc, pairs, id.event)?;
+    Ok(Command::Open { id, settings })
+}
+
+/// Who advances from a round.
+fn set_advance(pairs: &Pairs) -> Result<Command, FieldFault>
+    ensures { IfOk result (IsAsked pairs.now (codes "ADV")) }
+{
+    let id = round(pairs)?;
+    let advance = advance(pairs)?;
+    Ok(Command::SetAdvance { id, advance })
+}
+
+/// A round that is closed.
+fn close(pairs: &Pairs) -> Result<Command, FieldFault>
+    ensures { IfOk result (IsAsked pairs.now (codes "CLOSE")) }
+{
+    let id = round(pairs)?;
+    Ok(Command::Close { id })
 }
 
 /// Other settings of a round.
-fn set_round(alloc: Global, pairs: &Pairs) -> Result<Asked, CommandFormFault> {
+fn set_round(alloc: Global, pairs: &Pairs) -> Result<Command, FieldFault>
+    ensures { IfOk result (IsAsked pairs.now (codes "SET")) }
+{
     let id = round(pairs)?;
     let format = format(pairs)?;
     let cutoff = cutoff(alloc, pairs, id.event)?;
     let limit = limit(alloc, pairs)?;
-    printed(
-        alloc,
-        &Command::SetRound {
-            id,
-            format,
-            cutoff,
-            limit,
-        },
-    )
+    Ok(Command::SetRound {
+        id,
+        format,
+        cutoff,
+        limit,
+    })
 }
 
-/// The text of the command that the fields ask for, where its word came with edition 3.
-fn asked_by_new_word(alloc: Global, word: &[u8], pairs: &Pairs) -> Result<Asked, CommandFormFault> {
+/// A competitor who is taken out of a round.
+fn withdraw(pairs: &Pairs) -> Result<Command, FieldFault>
+    ensures { IfOk result (IsAsked pairs.now (codes "WDR")) }
+{
+    let id = round(pairs)?;
+    let number = competitor(pairs)?;
+    Ok(Command::Withdraw { id, number })
+}
+
+/// A round that is opened again.
+fn reopen(pairs: &Pairs) -> Result<Command, FieldFault>
+    ensures { IfOk result (IsAsked pairs.now (codes "REOPEN")) }
+{
+    let id = round(pairs)?;
+    Ok(Command::Reopen { id })
+}
+
+/// The command of a word that came with edition 3.
+#[tactic(auto, using(crate::proofs::Asked::asked_as))]
+fn command_of_edition_3(alloc: Global, word: &[u8], pairs: &Pairs) -> Result<Command, FieldFault>
+    ensures { IfOk result (IsAsked pairs.now word.now) }
+{
     if word == b"REN".as_slice() {
         rename(alloc, pairs)
     } else if word == b"SET".as_slice() {
@@ -135,52 +173,66 @@ fn asked_by_new_word(alloc: Global, word: &[u8], pairs: &Pairs) -> Result<Asked,
     } else if word == b"RSC".as_slice() {
         rescramble(alloc, pairs)
     } else if word == b"WDR".as_slice() {
-        let id = round(pairs)?;
-        let number = competitor(pairs)?;
-        printed(alloc, &Command::Withdraw { id, number })
+        withdraw(pairs)
     } else if word == b"REOPEN".as_slice() {
-        let id = round(pairs)?;
-        printed(alloc, &Command::Reopen { id })
+        reopen(pairs)
     } else {
-        Err(CommandFormFault::Wrong {
+        Err(FieldFault::Wrong {
             field: Field::Command,
             why: Wrong::NoSuchCommand,
         })
     }
 }
 
-/// The text of the command that the fields ask for.
-fn asked_by_fields(alloc: Global, pairs: &Pairs) -> Result<Asked, CommandFormFault> {
-    let word = pairs.value("command").trim_ascii();
+/// The command of a word, with the values of the fields that it needs.
+#[tactic(auto, using(crate::proofs::Asked::asked_as))]
+fn command_of(alloc: Global, word: &[u8], pairs: &Pairs) -> Result<Command, FieldFault>
+    ensures { IfOk result (IsAsked pairs.now word.now) }
+{
     if word == b"REG".as_slice() {
         register(alloc, pairs)
     } else if word == b"ENT".as_slice() {
-        let event = event(pairs)?;
-        let number = competitor(pairs)?;
-        printed(alloc, &Command::Enter { event, number })
+        enter(pairs)
     } else if word == b"OPEN".as_slice() {
-        let id = round(pairs)?;
-        let settings = settings(alloc, pairs, id.event)?;
-        printed(alloc, &Command::Open { id, settings })
+        open(alloc, pairs)
     } else if word == b"ADV".as_slice() {
-        let id = round(pairs)?;
-        let advance = advance(pairs)?;
-        printed(alloc, &Command::SetAdvance { id, advance })
+        set_advance(pairs)
     } else if word == b"CLOSE".as_slice() {
-        let id = round(pairs)?;
-        printed(alloc, &Command::Close { id })
+        close(pairs)
     } else if word == b"SCR".as_slice() {
         scramble(alloc, pairs)
     } else if word == b"EDITION".as_slice() {
-        printed(alloc, &Command::SetEdition { edition: 3 })
+        Ok(Command::SetEdition { edition: 3 })
     } else {
-        asked_by_new_word(alloc, word, pairs)
+        command_of_edition_3(alloc, word, pairs)
     }
 }
 
+/// The field of a command that is to blame where its text is none, and why: all others are in their
+/// ranges.
+fn blamed(command: &Command) -> (Field, Wrong) {
+    match command {
+        Command::Register { .. } | Command::Rename { .. } => (Field::Name, Wrong::NotAName),
+        Command::Scramble { .. } | Command::Rescramble { .. } => (Field::Moves, Wrong::NotMoves),
+        _ => (Field::Command, Wrong::NotACommand),
+    }
+}
+
+/// The text of the command that the fields ask for.
+fn asked_by_fields(alloc: Global, pairs: &Pairs) -> Result<Asked, FieldFault>
+    ensures { IfOk result (λ asked. FieldsAsk pairs.now asked.text.items) }
+{
+    let command = command_of(alloc, trimmed(pairs.value("command")), pairs)?;
+    let text = print(alloc, &command)?;
+    let (last, why) = blamed(&command);
+    Ok(Asked { text, last, why })
+}
+
 /// The text of the command that a form asks for.
-fn asked_by(alloc: Global, pairs: &Pairs) -> Result<Asked, CommandFormFault> {
-    let text = pairs.value("text").trim_ascii();
+fn asked_by(alloc: Global, pairs: &Pairs) -> Result<Asked, FieldFault>
+    ensures { IfOk result (λ asked. Asks pairs.now asked.text.items) }
+{
+    let text = trimmed(pairs.value("text"));
     if text.is_empty() {
         return asked_by_fields(alloc, pairs);
     }
@@ -193,23 +245,25 @@ fn asked_by(alloc: Global, pairs: &Pairs) -> Result<Asked, CommandFormFault> {
 }
 
 /// The text, if it is a command.
-fn checked(alloc: Global, asked: Asked) -> Result<CommandText, CommandFormFault>
-    ensures { IfOk result IsCommandText }
+fn checked(alloc: Global, asked: Asked) -> Result<CommandText, FieldFault>
+    ensures command { IfOk result IsCommandText }
+    ensures same { IfOk result (λ text. text ≡ asked.text.items) }
 {
     let Asked { text, last, why } = asked;
     match read(alloc, &text) {
-        Ok(_) => CommandText::new(text).ok_or(CommandFormFault::Wrong {
+        Ok(_) => CommandText::new(text).ok_or(FieldFault::Wrong {
             field: last,
             why: Wrong::TooLong,
         }),
-        Err(CommandFault::NoMemory) => Err(CommandFormFault::NoMemory),
-        Err(CommandFault::TooLong) => Err(CommandFormFault::Wrong {
+        Err(CommandFault::NoMemory) => Err(FieldFault::NoMemory),
+        Err(CommandFault::TooLong) => Err(FieldFault::Wrong {
             field: last,
             why: Wrong::TooLong,
         }),
-        Err(CommandFault::NotACommand | CommandFault::BadField { .. }) => Err(
-            CommandFormFault::Wrong { field: last, why },
-        ),
+        Err(CommandFault::NotACommand | CommandFault::BadField { .. }) => Err(FieldFault::Wrong {
+            field: last,
+            why,
+        }),
     }
 }
 
@@ -236,10 +290,13 @@ pub fn command_form(alloc: Global, pairs: &Pairs) -> Result<CommandForm, Command
     // The id is the form's.
     ensures id { IfOk result
         (λ form. form_id_of (value_of (codes "id") pairs.now) ≡ Some form.id) }
-    // The text is the spelling of a command in its ranges.
+    // The text is the one that the form asks for.
+    ensures asks { IfOk result (λ form. Asks pairs.now form.text) }
+    // It is the spelling of a command in its ranges.
     ensures command { IfOk result (λ form. IsCommandText form.text) }
-    ensures bad_id { form_id_of (value_of (codes "id") pairs.now) ≡ None
-        → result ≡ Err CommandFormFault.BadId }
+    // The fault is this one exactly where the form has no id.
+    ensures bad_id { (result ≡ Err CommandFormFault.BadId)
+        ↔ (form_id_of (value_of (codes "id") pairs.now) ≡ None) }
 {
     let id = form_id_of(pairs.value("id")).ok_or(CommandFormFault::BadId)?;
     let asked = asked_by(alloc, pairs)?;

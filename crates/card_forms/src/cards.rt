@@ -22,8 +22,8 @@ pub struct CardForm {
     pub attempts: Fields,
 }
 
-/// An id of a form, as it was sent.
-pub(crate) fn form_id_of(bytes: &[u8]) -> Option<FormId>
+/// An id of a form, as it was sent: 1 to 2^63 - 16,384, without a sign and leading zeros.
+pub fn form_id_of(bytes: &[u8]) -> Option<FormId>
     ensures { result ≡ form_id_of bytes.now }
 {
     FormId::new(number_between(1, FormId::MOST, bytes)?)

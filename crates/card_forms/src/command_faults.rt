@@ -91,13 +91,36 @@ pub enum CommandFormFault {
     NoMemory,
 }
 
-impl From<AllocError> for CommandFormFault {
+impl From<FieldFault> for CommandFormFault {
+    ghost use Rattle.std.specs.Prelude.{◌≢◌};
+    ghost use Rattle.card_forms.specs.declared.command_faults.CommandFormFault.TheVariants.{BadId};
+
+    ghost from_gives = { λ _ fault. fault ≢ BadId };
+
+    fn from(fault: FieldFault) -> CommandFormFault {
+        match fault {
+            FieldFault::Wrong { field, why } => CommandFormFault::Wrong { field, why },
+            FieldFault::NoMemory => CommandFormFault::NoMemory,
+        }
+    }
+}
+
+/// Why the fields of a form ask for no command.
+#[derive(Clone, Copy)]
+pub(crate) enum FieldFault {
+    /// A field is wrong: the first one, in the order of the command's fields.
+    Wrong { field: Field, why: Wrong },
+    /// Memory ran out.
+    NoMemory,
+}
+
+impl From<AllocError> for FieldFault {
     ghost use Rattle.std.specs.Prelude.{◌≡◌};
-    ghost use Rattle.card_forms.specs.declared.command_faults.CommandFormFault.TheVariants.{NoMemory};
+    ghost use Rattle.card_forms.specs.declared.command_faults.FieldFault.TheVariants.{NoMemory};
 
     ghost from_gives = { λ _ fault. fault ≡ NoMemory };
 
-    fn from(_: AllocError) -> CommandFormFault {
-        CommandFormFault::NoMemory
+    fn from(_: AllocError) -> FieldFault {
+        FieldFault::NoMemory
     }
 }

@@ -1,10 +1,15 @@
 //! The fields of a command's form.
 
-ghost use Rattle.std.specs.Prelude.{◌≤◌, IfOk};
+ghost use Rattle.std.specs.Prelude.{◌≡◌, ◌≤◌, IfOk, IfSome};
+ghost use Rattle.formats.specs.Events.{unit_of};
+ghost use Rattle.card_forms.specs.Asking.{HasAdvance, HasAttempt, HasCompetitor, HasCutoff};
+ghost use Rattle.card_forms.specs.Asking.{HasEvent, HasFormat, HasLimit, HasNumber, HasRound};
+ghost use Rattle.card_forms.specs.Asking.{HasSettings, IsBelow, IsClock, is_none};
 
 use crate::cards::round_of;
-use crate::command_faults::{CommandFormFault, Field, Wrong};
+use crate::command_faults::{Field, FieldFault, Wrong};
 use crate::pairs::Pairs;
+use crate::reading::trimmed;
 use attempts::Unit;
 use formats::{Advance, Event, Format, MOST_ENTRANTS, unit_of};
 use scorecard::read;
@@ -15,21 +20,16 @@ use texts::{Entered, RoundId, Settings, number_between};
 const MOST_TIME: u32 = 360_000;
 
 /// The fault of a field.
-fn wrong(field: Field, why: Wrong) -> CommandFormFault {
-    CommandFormFault::Wrong { field, why }
+fn wrong(field: Field, why: Wrong) -> FieldFault {
+    FieldFault::Wrong { field, why }
 }
 
 /// A number of a range.
-fn number(
-    pairs: &Pairs,
-    name: &str,
-    field: Field,
-    low: u32,
-    high: u32,
-) -> Result<u32, CommandFormFault>
-    ensures { IfOk result (λ number. (low ≤ number) × (number ≤ high)) }
+fn number(pairs: &Pairs, name: &str, field: Field, low: u32, high: u32) -> Result<u32, FieldFault>
+    ensures value { IfOk result (HasNumber name.now low high pairs.now) }
+    ensures within { IfOk result (λ number. (low ≤ number) × (number ≤ high)) }
 {
-    let text = pairs.value(name).trim_ascii();
+    let text = trimmed(pairs.value(name));
     match number_between(u64::from(low), u64::from(high), text) {
         Some(number) => Ok(number as u32),
         None => Err(wrong(field, Wrong::NotBetween { low, high })),
@@ -37,35 +37,47 @@ fn number(
 }
 
 /// The competitor's number.
-pub(crate) fn competitor(pairs: &Pairs) -> Result<u16, CommandFormFault> {
+pub(crate) fn competitor(pairs: &Pairs) -> Result<u16, FieldFault>
+    ensures { IfOk result (HasCompetitor pairs.now) }
+{
     Ok(number(pairs, "number", Field::Number, 1, 9_999)? as u16)
 }
 
 /// The number of an attempt.
-pub(crate) fn attempt(pairs: &Pairs) -> Result<u8, CommandFormFault> {
+pub(crate) fn attempt(pairs: &Pairs) -> Result<u8, FieldFault>
+    ensures { IfOk result (HasAttempt pairs.now) }
+{
     Ok(number(pairs, "attempt", Field::Attempt, 1, 5)? as u8)
 }
 
 /// The event.
-pub(crate) fn event(pairs: &Pairs) -> Result<Event, CommandFormFault> {
-    let text = pairs.value("event").trim_ascii();
+pub(crate) fn event(pairs: &Pairs) -> Result<Event, FieldFault>
+    ensures { IfOk result (HasEvent pairs.now) }
+{
+    let text = trimmed(pairs.value("event"));
     Event::from_name(text).ok_or(wrong(Field::Event, Wrong::NotAnEvent))
 }
 
 /// The round.
-pub(crate) fn round(pairs: &Pairs) -> Result<RoundId, CommandFormFault> {
-    let text = pairs.value("round").trim_ascii();
+pub(crate) fn round(pairs: &Pairs) -> Result<RoundId, FieldFault>
+    ensures { IfOk result (HasRound pairs.now) }
+{
+    let text = trimmed(pairs.value("round"));
     round_of(text).ok_or(wrong(Field::Round, Wrong::NotARound))
 }
 
 /// The format.
-pub(crate) fn format(pairs: &Pairs) -> Result<Format, CommandFormFault> {
-    let text = pairs.value("format").trim_ascii();
+pub(crate) fn format(pairs: &Pairs) -> Result<Format, FieldFault>
+    ensures { IfOk result (HasFormat pairs.now) }
+{
+    let text = trimmed(pairs.value("format"));
     Format::from_name(text).ok_or(wrong(Field::Format, Wrong::NotAFormat))
 }
 
 /// The hundredths of a second of a time that is written as on a scorecard, at most an hour.
-fn clock(alloc: Global, text: &[u8]) -> Option<u32> {
+fn clock(alloc: Global, text: &[u8]) -> Option<u32>
+    ensures { IfSome result (IsClock text.now) }
+{
     match read(alloc, Event::Cube3, text) {
         Ok(
             Entered::Time {
@@ -78,12 +90,16 @@ fn clock(alloc: Global, text: &[u8]) -> Option<u32> {
 }
 
 /// Whether a field says that there is none.
-fn is_none(text: &[u8]) -> bool {
+fn is_none(text: &[u8]) -> bool
+    ensures { result ≡ is_none text.now }
+{
     text.is_empty() || text == b"-".as_slice()
 }
 
 /// What an attempt has to be below, in the event's unit.
-fn below(alloc: Global, event: Event, text: &[u8]) -> Result<u32, CommandFormFault> {
+fn below(alloc: Global, event: Event, text: &[u8]) -> Result<u32, FieldFault>
+    ensures { IfOk result (IsBelow (unit_of event) text.now) }
+{
     match unit_of(event) {
         Unit::Time => clock(alloc, text).ok_or(wrong(Field::Cutoff, Wrong::NotATime)),
         Unit::Moves | Unit::Multi => {
@@ -101,9 +117,11 @@ pub(crate) fn cutoff(
     alloc: Global,
     pairs: &Pairs,
     event: Event,
-) -> Result<Option<(u8, u32)>, CommandFormFault> {
-    let text = pairs.value("cutoff").trim_ascii();
-    if is_none(text) && is_none(pairs.value("after").trim_ascii()) {
+) -> Result<Option<(u8, u32)>, FieldFault>
+    ensures { IfOk result (HasCutoff pairs.now event) }
+{
+    let text = trimmed(pairs.value("cutoff"));
+    if is_none(text) && is_none(trimmed(pairs.value("after"))) {
         return Ok(None);
     }
     let after = number(pairs, "after", Field::After, 1, 4)? as u8;
@@ -112,8 +130,10 @@ pub(crate) fn cutoff(
 }
 
 /// The time limit: none where nothing or `-` is written.
-pub(crate) fn limit(alloc: Global, pairs: &Pairs) -> Result<Option<u32>, CommandFormFault> {
-    let text = pairs.value("limit").trim_ascii();
+pub(crate) fn limit(alloc: Global, pairs: &Pairs) -> Result<Option<u32>, FieldFault>
+    ensures { IfOk result (HasLimit pairs.now) }
+{
+    let text = trimmed(pairs.value("limit"));
     if is_none(text) {
         return Ok(None);
     }
@@ -124,8 +144,10 @@ pub(crate) fn limit(alloc: Global, pairs: &Pairs) -> Result<Option<u32>, Command
 }
 
 /// Who advances.
-pub(crate) fn advance(pairs: &Pairs) -> Result<Advance, CommandFormFault> {
-    let text = pairs.value("advance").trim_ascii();
+pub(crate) fn advance(pairs: &Pairs) -> Result<Advance, FieldFault>
+    ensures { IfOk result (HasAdvance pairs.now) }
+{
+    let text = trimmed(pairs.value("advance"));
     if text == b"final".as_slice() {
         Ok(Advance::Final)
     } else if text == b"top".as_slice() {
@@ -139,11 +161,9 @@ pub(crate) fn advance(pairs: &Pairs) -> Result<Advance, CommandFormFault> {
 }
 
 /// How a round is run.
-pub(crate) fn settings(
-    alloc: Global,
-    pairs: &Pairs,
-    event: Event,
-) -> Result<Settings, CommandFormFault> {
+pub(crate) fn settings(alloc: Global, pairs: &Pairs, event: Event) -> Result<Settings, FieldFault>
+    ensures { IfOk result (HasSettings pairs.now event) }
+{
     let format = format(pairs)?;
     let cutoff = cutoff(alloc, pairs, event)?;
     let limit = limit(alloc, pairs)?;

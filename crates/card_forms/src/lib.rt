@@ -20,7 +20,7 @@ mod reading;
 mod typed;
 
 pub use asking::{CommandForm, command_form};
-pub use cards::{CardForm, card_form, round_of};
+pub use cards::{CardForm, card_form, form_id_of, round_of};
 pub use command_faults::{CommandFormFault, Field, Wrong};
 pub use command_text::CommandText;
 pub use command_texts::CommandTexts;

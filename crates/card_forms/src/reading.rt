@@ -29,7 +29,7 @@ fn number_in(text: &[u8]) -> Result<u16, NumberFault>
 
 /// The bytes without the white space around them.
 #[tactic(auto, unfolding(scorecard::specs::Spelling::trimmed))]
-fn trimmed(bytes: &[u8]) -> &[u8]
+pub(crate) fn trimmed(bytes: &[u8]) -> &[u8]
     ensures { result.now ≡ trimmed bytes.now }
 {
     bytes.trim_ascii()

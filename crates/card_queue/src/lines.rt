@@ -3,16 +3,17 @@
 ghost use Rattle.std.specs.Prelude.{◌≡◌, ◌++◌, ◌∷◌, [], IfOk, OnOk, decimal, map, string_bytes};
 ghost use Rattle.std.specs.Option.{option_map};
 ghost use Rattle.percent_encoding.specs.Percent.{percent_decode};
-ghost use Rattle.card_forms.specs.Cards.{form_id_of};
 ghost use Rattle.card_queue.specs.Words.{card_in, card_words, command_in, done_in, done_line};
 ghost use Rattle.card_queue.specs.Words.{escaped, item_line, parts, round_word, said, said_by};
 ghost use Rattle.card_queue.specs.Words.{spaced, texts_after, with_end};
 
-use card_forms::{CardForm, CommandText, CommandTexts, Fields, FormId, Item, Typed, round_of};
+use card_forms::{
+    CardForm, CommandText, CommandTexts, Fields, FormId, Item, Typed, form_id_of, round_of,
+};
 use itoa::Buffer;
 use percent_encoding::{AsciiSet, CONTROLS, ascii_set, percent_decode, percent_encode};
 use std::alloc::{AllocError, Global};
-use texts::{RoundId, number_between};
+use texts::RoundId;
 
 /// What a word escapes, beside all that is not ASCII.
 const ESCAPED: AsciiSet = ascii_set!(CONTROLS.add(b' ').add(b'%'));
@@ -126,13 +127,6 @@ pub fn done_line(alloc: Global, id: FormId) -> Result<String, AllocError>
     Ok(line)
 }
 
-/// An id.
-fn id_of(bytes: &[u8]) -> Option<FormId>
-    ensures { result ≡ form_id_of bytes.now }
-{
-    FormId::new(number_between(1, FormId::MOST, bytes)?)
-}
-
 /// The bytes that a word stands for.
 fn unescaped(alloc: Global, word: &[u8]) -> Result<Vec<u8>, AllocError>
     ensures { IfOk result (λ bytes. bytes.items ≡ percent_decode word.now) }
@@ -178,7 +172,7 @@ fn card(alloc: Global, words: &[&[u8]]) -> Result<Option<CardForm>, AllocError>
     let [id, round, number, first, second, third, fourth, fifth] = words else {
         return Ok(None);
     };
-    let (Some(id), Some(round)) = (id_of(id), round_of(round)) else {
+    let (Some(id), Some(round)) = (form_id_of(id), round_of(round)) else {
         return Ok(None);
     };
     let number = typed(alloc, number)?;
@@ -213,7 +207,7 @@ fn commands(alloc: Global, words: &[&[u8]]) -> Result<Option<Item>, AllocError>
     let Some((id, left)) = words.split_first() else {
         return Ok(None);
     };
-    let Some(id) = id_of(*id) else {
+    let Some(id) = form_id_of(*id) else {
         return Ok(None);
     };
     let Some(texts) = texts_of(alloc, left)? else {
@@ -230,7 +224,7 @@ fn done(words: &[&[u8]]) -> Option<FormId>
     ensures { result ≡ done_in (map (λ word. word.now) words.now) }
 {
     match words {
-        [id] => id_of(id),
+        [id] => form_id_of(id),
         _ => None,
     }
 }

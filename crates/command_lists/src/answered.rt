@@ -1,15 +1,17 @@
 //! What commands would be answered.
 
-ghost use Rattle.std.specs.Prelude.{◌≡◌, IfOk};
+ghost use Rattle.std.specs.Prelude.{◌≡◌, IfOk, string_bytes};
 ghost use Rattle.std.specs.List.{list_all};
 ghost use Rattle.card_queue.specs.Sending.{command_entries};
-ghost use Rattle.command_lists.specs.Answered.{is_done};
+ghost use Rattle.command_lists.specs.Answered.{first_refusal, is_done, refusal};
+ghost use Rattle.command_lists.specs.Answered.{refused_from, shown};
 ghost use Rattle.mirror.specs.Answered.{answers_after};
 
 use card_forms::{CommandText, CommandTexts, FormId};
 use card_queue::command_entries;
 use code_meanings::meaning_of;
 use foretelling::foretell;
+use itoa::Buffer;
 use learner::log::Log;
 use std::alloc::{AllocError, Global};
 use texts::{Answer, Code};
@@ -46,38 +48,57 @@ pub fn all_done(answers: &[Answer]) -> bool
     answers.iter().all(|answer| is_done(answer))
 }
 
-/// The first command that is not accepted, with its place from 0, and why.
-fn first_refused<'a>(
-    texts: &'a [CommandText],
-    answers: &[Answer],
-) -> Option<(usize, &'a CommandText, Code)> {
-    for (place, text) in texts.iter().enumerate() {
-        if let Some(Answer::Refused(code)) = answers.get(place) {
-            return Some((place, text, *code));
+/// The first answer that is a refusal: its place from 0, and why.
+fn first_refused(answers: &[Answer]) -> Option<(usize, Code)>
+    ensures { result ≡ refused_from 0 answers.now }
+{
+    for (place, answer) in answers.iter().enumerate() {
+        if let Answer::Refused(code) = answer {
+            return Some((place, *code));
         }
     }
     None
 }
 
-/// A text, with a question mark in the place of all that is no UTF-8.
-fn shown(alloc: Global, text: &CommandText) -> Result<String, AllocError> {
-    let mut shown = String::new(alloc);
-    shown.push_str(std::str::from_utf8(text.as_bytes()).unwrap_or("?"))?;
-    Ok(shown)
+/// A text, or a question mark for one that is no UTF-8.
+fn shown(text: &[u8]) -> &str
+    ensures { result.now ≡ shown text.now }
+{
+    match str::from_utf8(text) {
+        Ok(text) => text,
+        Err(_) => "?",
+    }
 }
 
-/// Which command is refused first, and why, in a line for people: `2: ENT 333 17: the round is
-/// closed`. Nothing where none is.
+/// What is said of a command that is refused: its number, its text and why, as in `2: ENT 333 17:
+/// the round is closed`.
+fn refusal(alloc: Global, number: u64, text: &[u8], code: Code) -> Result<String, AllocError>
+    ensures { IfOk result (λ line. string_bytes line ≡ refusal number text.now code) }
+{
+    let mut line = String::new(alloc);
+    line.push_str(Buffer::new().format(number))?;
+    line.push_str(": ")?;
+    line.push_str(shown(text))?;
+    line.push_str(": ")?;
+    line.push_str(meaning_of(code))?;
+    Ok(line)
+}
+
+/// Which command is refused first, counted from 1, and why, in a line for people: `2: ENT 333 17:
+/// the round is closed`. Nothing where none is.
 pub fn first_refusal(
     alloc: Global,
     texts: &[CommandText],
     answers: &[Answer],
-) -> Result<String, AllocError> {
-    let Some((place, text, code)) = first_refused(texts, answers) else {
+) -> Result<String, AllocError>
+    ensures { IfOk result (λ line. string_bytes line
+        ≡ first_refusal texts.now answers.now) }
+{
+    let Some((place, code)) = first_refused(answers) else {
         return Ok(String::new(alloc));
     };
-    let number = (place as u64).saturating_add(1);
-    let shown = shown(alloc, text)?;
-    let meaning = meaning_of(code);
-    format!(in alloc; "{number}: {shown}: {meaning}")
+    let Some(text) = texts.get(place) else {
+        return Ok(String::new(alloc));
+    };
+    refusal(alloc, place as u64 + 1, text.as_bytes(), code)
 }

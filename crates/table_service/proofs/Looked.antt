@@ -7,6 +7,7 @@ use Rattle.card_forms.specs.declared.pairs.Pair.{Pair}
 use Rattle.card_forms.specs.Pairs.{value_of}
 use Rattle.command_lists.specs.declared.file.FileLines.{FileLines}
 use Rattle.command_lists.specs.declared.file.FileLines.TheVariants as file
+use Rattle.command_lists.specs.Answered.{first_refusal}
 use Rattle.command_lists.specs.Files.{IsOfFile}
 use Rattle.command_lists.specs.Lists.{AreUnfit, IsReadFrom}
 use Rattle.hall_views.specs.Refused.{faults_page}
@@ -19,8 +20,9 @@ use Rattle.table_service.specs.declared.plan.Reply.TheVariants as reply
 use Rattle.table_service.specs.declared.plan.Shown.{Shown}
 use Rattle.table_service.specs.declared.plan.Shown.TheVariants as shown
 use Rattle.table_service.specs.Imports.{PlansFile}
-use Rattle.table_service.specs.Lists.{LooksAt, PlansAsked, PlansLines, would_be_done}
-use Rattle.table_service.specs.Plans.{RefusesFor, ShowsPage, page_after}
+use Rattle.table_service.specs.Lists.{LooksAt, PlansAsked, PlansLines, answered, unfit_words}
+use Rattle.table_service.specs.Lists.{would_be_done}
+use Rattle.table_service.specs.Plans.{IsWrong, RefusesWith, ShowsPage, page_after}
 
 -- a page that is sent
 pub page_shown : (status : Shown) (text : List ℕ) (page : Vec ℕ Global) (plan : Plan)
@@ -30,27 +32,37 @@ pub page_shown : (status : Shown) (text : List ℕ) (page : Vec ℕ Global) (pla
 page_shown status text page plan is made =
     subst (λ (p : Plan). ShowsPage status text p) (sym made) ((refl, is), refl)
 
+-- the page says what is wrong
+pub is_wrong : (around : Around) (pairs : List Pair) (back why : List ℕ) → back ≡ page_after pairs
+    → (r : Result Plan AllocError) → IfOk r (RefusesWith around back why)
+    → IfOk r (IsWrong around pairs)
+is_wrong around pairs back why same (Ok plan) wrong =
+    (why, subst (λ (place : List ℕ). RefusesWith around place why plan) same wrong)
+is_wrong around pairs back why same (Err error) wrong = tt
+
 module _ (around : Around) (pairs : List Pair) (id : ℕ) (back : List ℕ)
     (same : back ≡ page_after pairs) where
   -- not all commands would be accepted
   pub not_done : (texts : List (List ℕ)) → would_be_done around.mirror.now id texts ≡ false
-      → (r : Result Plan AllocError) → IfOk r (RefusesFor around back)
+      → (why : List ℕ) → why ≡ first_refusal texts (answered around.mirror.now id texts)
+      → (r : Result Plan AllocError) → IfOk r (RefusesWith around back why)
       → IfOk r (PlansAsked around pairs id texts (would_be_done around.mirror.now id texts))
-  not_done texts is (Ok plan) wrong =
+  not_done texts is why says (Ok plan) wrong =
       subst (λ (b : Bool). PlansAsked around pairs id texts b plan) (sym is)
-      (subst (λ (place : List ℕ). RefusesFor around place plan) same wrong)
-  not_done texts is (Err error) wrong = tt
+      (subst (λ (words : List ℕ). RefusesWith around (page_after pairs) words plan) says
+      (subst (λ (place : List ℕ). RefusesWith around place why plan) same wrong))
+  not_done texts is why says (Err error) wrong = tt
 
   -- the lines have no commands that can be sent together
   pub none_read : (lines : List ℕ) → lines ≡ value_of (codes "lines") pairs
       → (texts : Option (List (List ℕ))) → texts ≡ None → IsReadFrom lines texts
-      → (r : Result Plan AllocError) → IfOk r (RefusesFor around back)
+      → (r : Result Plan AllocError) → IfOk r (RefusesWith around back unfit_words)
       → IfOk r (PlansLines around pairs id)
   none_read lines of texts is read (Ok plan) wrong =
       inl (
         subst AreUnfit of
             (subst (λ (o : Option (List (List ℕ))). IsReadFrom lines o) is read),
-        subst (λ (place : List ℕ). RefusesFor around place plan) same wrong,
+        subst (λ (place : List ℕ). RefusesWith around place unfit_words plan) same wrong,
       )
   none_read lines of texts is read (Err error) wrong = tt
 

@@ -17,7 +17,7 @@ use Rattle.card_forms.specs.declared.items.Item.{Item}
 use Rattle.card_forms.specs.declared.items.Item.TheVariants as item
 use Rattle.card_forms.specs.declared.items.State.{State}
 use Rattle.card_forms.specs.declared.pairs.Pair.{Pair}
-use Rattle.card_forms.specs.Asking.{IsCommandText}
+use Rattle.card_forms.specs.Asking.{Asks as AsksOf, IsCommandText}
 use Rattle.card_forms.specs.Cards.{card_form_of, form_id_of}
 use Rattle.card_forms.specs.Items.{id_of}
 use Rattle.card_forms.specs.Pairs.{value_of}
@@ -128,24 +128,24 @@ module _ (plan : Plan) (one : Item) (takes : plan.effect ≡ effect.Take one) wh
 
     command_text : (id : ℕ) (text back : List ℕ) → path ≡ codes "/command"
         → form_id_of (value_of (codes "id") pairs) ≡ Some id → IsCommandText text
-        → (state : Option State) → found_in q id ≡ state → (full : Bool) → is_full q ≡ full
-        → PlansText id text back state full plan → Found
-    command_text id text back at is fit (Some state) known full room plans =
+        → AsksOf pairs text → (state : Option State) → found_in q id ≡ state → (full : Bool)
+        → is_full q ≡ full → PlansText id text back state full plan → Found
+    command_text id text back at is fit asks (Some state) known full room plans =
         absurd (not_nothing plans.1)
-    command_text id text back at is fit None unknown true room plans =
+    command_text id text back at is fit asks None unknown true room plans =
         absurd (not_refused problem.Busy plans)
-    command_text id text back at is fit None unknown false room sends =
+    command_text id text back at is fit asks None unknown false room sends =
         let both : effect.Take (item.Commands id (text ∷ [])) ≡ effect.Take one =
         sym sends.1 ∙ takes in
         let same : item.Commands id (text ∷ []) ≡ one = cc in
         subst (λ (it : Item). FoundAs around.mirror.now q pairs path it) same
-        ((is, inl (at, (text, fit, refl))), unknown, room, (back, sends.0))
+        ((is, inl (at, (text, fit, asks, refl))), unknown, room, (back, sends.0))
 
     command_asked : path ≡ codes "/command" → PlansCommand around q pairs plan → Found
-    command_asked at (inl refused) = absurd (not_refused problem.BadForm refused)
+    command_asked at (inl lacks) = absurd (not_refused problem.BadForm lacks.1)
     command_asked at (inr (inl wrong)) = absurd (not_ids wrong.1.1)
     command_asked at (inr (inr asks)) =
-        command_text asks.id asks.text (page_after pairs) at asks.named asks.fit
+        command_text asks.id asks.text (page_after pairs) at asks.named asks.fit asks.asks
         (found_in q asks.id) refl (is_full q) refl asks.plans
 
     -- by whether the commands of the lines would be accepted
@@ -154,7 +154,7 @@ module _ (plan : Plan) (one : Item) (takes : plan.effect ≡ effect.Take one) wh
         → texts_in (value_of (codes "lines") pairs) ≡ Some texts → found_in q id ≡ None
         → is_full q ≡ false → (done : Bool) → would_be_done around.mirror.now id texts ≡ done
         → PlansAsked around pairs id texts done plan → Found
-    texts_done id texts at is are unknown room false so wrong = absurd (not_ids wrong.1.1)
+    texts_done id texts at is are unknown room false so wrong = absurd (not_ids wrong.1)
     texts_done id texts at is are unknown room true so sends =
         let both : effect.Take (item.Commands id texts) ≡ effect.Take one =
         sym sends.1 ∙ takes in
@@ -165,7 +165,7 @@ module _ (plan : Plan) (one : Item) (takes : plan.effect ≡ effect.Take one) wh
     lines_asked : (id : ℕ) → path ≡ codes "/commands"
         → form_id_of (value_of (codes "id") pairs) ≡ Some id → found_in q id ≡ None
         → is_full q ≡ false → PlansLines around pairs id plan → Found
-    lines_asked id at is unknown room (inl unfit) = absurd (not_ids unfit.1.1.1)
+    lines_asked id at is unknown room (inl unfit) = absurd (not_ids unfit.1.1)
     lines_asked id at is unknown room (inr asks) =
         texts_done id asks.texts at is asks.are unknown room
         (would_be_done around.mirror.now id asks.texts) refl asks.plans
@@ -189,7 +189,7 @@ module _ (plan : Plan) (one : Item) (takes : plan.effect ≡ effect.Take one) wh
 
     -- looking at lines takes nothing
     not_looked : (lines : List ℕ) → LooksAt around lines plan → ⊥
-    not_looked lines (inl unfit) = not_ids unfit.1.1.1
+    not_looked lines (inl unfit) = not_ids unfit.1.1
     not_looked lines (inr looked) = not_ids looked.2.shows.1
 
     sent_lines : (commands lines : Bool) → bytes_eq path (codes "/commands") ≡ commands

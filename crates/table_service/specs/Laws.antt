@@ -8,7 +8,7 @@ use Rattle.http_server.specs.Response.{fields_of}
 use Rattle.card_forms.specs.declared.items.Item.{Item}
 use Rattle.card_forms.specs.declared.items.Item.TheVariants as item
 use Rattle.card_forms.specs.declared.pairs.Pair.{Pair}
-use Rattle.card_forms.specs.Asking.{IsCommandText}
+use Rattle.card_forms.specs.Asking.{Asks as AsksOf, IsCommandText}
 use Rattle.card_forms.specs.Cards.{card_form_of, form_id_of}
 use Rattle.card_forms.specs.Items.{id_of}
 use Rattle.card_forms.specs.Pairs.{value_of}
@@ -29,8 +29,9 @@ pub record IsForm (s : ServiceOf) (request : Request (List ℕ)) : Type 0 where
   pub token : has_token s.token (sent_pairs request) ≡ true
 
 -- the command that a command's form asks for
-abbrev pub AsksForOne : List (List ℕ) → Type 0
-AsksForOne texts = (text : List ℕ) × IsCommandText text × (texts ≡ text ∷ [])
+abbrev pub AsksForOne : List Pair → List (List ℕ) → Type 0
+AsksForOne pairs texts =
+    (text : List ℕ) × IsCommandText text × AsksOf pairs text × (texts ≡ text ∷ [])
 
 -- the commands of the lines of a form, each of which would be accepted after the log
 abbrev pub AsksForAll : List Entry → List Pair → ℕ → List (List ℕ) → Type 0
@@ -43,7 +44,7 @@ AsksFor log path pairs (item.Card form) =
     (path ≡ codes "/card") × (card_form_of pairs ≡ Ok form)
 AsksFor log path pairs (item.Commands id texts) =
     (form_id_of (value_of (codes "id") pairs) ≡ Some id)
-    × (((path ≡ codes "/command") × AsksForOne texts)
+    × (((path ≡ codes "/command") × AsksForOne pairs texts)
     ⊎ ((path ≡ codes "/commands") × AsksForAll log pairs id texts))
 
 -- a form of one of the program's own pages asks for an item whose id is not known, and there is

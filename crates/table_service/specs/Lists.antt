@@ -11,7 +11,7 @@ use Rattle.card_forms.specs.Cards.{form_id_of}
 use Rattle.card_forms.specs.Pairs.{value_of}
 use Rattle.card_queue.specs.Queues.{QueueOf, found_in, is_full}
 use Rattle.card_queue.specs.Sending.{command_entries}
-use Rattle.command_lists.specs.Answered.{is_done}
+use Rattle.command_lists.specs.Answered.{first_refusal, is_done}
 use Rattle.command_lists.specs.Lists.{AreUnfit, texts_in}
 use Rattle.hall_views.specs.declared.preview.Tried.{Tried}
 use Rattle.hall_views.specs.Preview.{preview_page}
@@ -21,7 +21,7 @@ use Rattle.table_service.specs.declared.plan.Effect.TheVariants as effect
 use Rattle.table_service.specs.declared.plan.Plan.{Plan}
 use Rattle.table_service.specs.declared.plan.Problem.TheVariants as problem
 use Rattle.table_service.specs.declared.plan.Shown.TheVariants as shown
-use Rattle.table_service.specs.Plans.{IsWrong, RefusesFor, Sends, ShowsPage, page_after, refuses}
+use Rattle.table_service.specs.Plans.{RefusesWith, Sends, ShowsPage, page_after, refuses}
 
 -- what commands would be answered after a log, if the first has this id
 abbrev pub answered : List Entry → ℕ → List (List ℕ) → List Answer
@@ -30,13 +30,19 @@ answered log id texts = answers_after log (command_entries id texts)
 abbrev pub would_be_done : List Entry → ℕ → List (List ℕ) → Bool
 would_be_done log id texts = list_all is_done (answered log id texts)
 
+-- what is said of lines that have no commands which can be sent together
+abbrev pub unfit_words : List ℕ
+unfit_words = codes "1 to 16,384 commands are sent together, each of at most 600 bytes"
+
 -- ---- commands that are sent
 
 -- by whether all of them would be accepted
 abbrev pub PlansAsked : Around → List Pair → ℕ → List (List ℕ) → Bool → Plan → Type 0
 PlansAsked around pairs id texts true plan =
     Sends (page_after pairs) (effect.Take (item.Commands id texts)) plan
-PlansAsked around pairs id texts false plan = IsWrong around pairs plan
+PlansAsked around pairs id texts false plan =
+    RefusesWith around (page_after pairs)
+    (first_refusal texts (answered around.mirror.now id texts)) plan
 
 -- the lines have commands that can be sent together
 pub record AsksTexts (around : Around) (pairs : List Pair) (id : ℕ) (plan : Plan) : Type 0 where
@@ -47,7 +53,8 @@ pub record AsksTexts (around : Around) (pairs : List Pair) (id : ℕ) (plan : Pl
 -- new commands, for which there is room
 abbrev pub PlansLines : Around → List Pair → ℕ → Plan → Type 0
 PlansLines around pairs id plan =
-    (AreUnfit (value_of (codes "lines") pairs) × IsWrong around pairs plan)
+    (AreUnfit (value_of (codes "lines") pairs)
+    × RefusesWith around (page_after pairs) unfit_words plan)
     ⊎ AsksTexts around pairs id plan
 
 -- by what has become of the form, and whether there is no room
@@ -88,5 +95,5 @@ pub record Previews (around : Around) (texts : List (List ℕ)) (plan : Plan) : 
 -- lines are looked at
 abbrev pub LooksAt : Around → List ℕ → Plan → Type 0
 LooksAt around lines plan =
-    (AreUnfit lines × RefusesFor around (codes "/import") plan)
+    (AreUnfit lines × RefusesWith around (codes "/import") unfit_words plan)
     ⊎ ((texts : List (List ℕ)) × (texts_in lines ≡ Some texts) × Previews around texts plan)

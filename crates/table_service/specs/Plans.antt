@@ -10,7 +10,7 @@ use Rattle.card_forms.specs.declared.faults.CardFormFault.{CardFormFault}
 use Rattle.card_forms.specs.declared.items.Item.TheVariants as item
 use Rattle.card_forms.specs.declared.items.State.{State}
 use Rattle.card_forms.specs.declared.pairs.Pair.{Pair}
-use Rattle.card_forms.specs.Asking.{IsCommandText}
+use Rattle.card_forms.specs.Asking.{Asks, IsCommandText}
 use Rattle.card_forms.specs.Cards.{card_form_of, form_id_of}
 use Rattle.card_forms.specs.Pairs.{value_of}
 use Rattle.card_queue.specs.Queues.{QueueOf, found_in, is_full}
@@ -158,14 +158,13 @@ abbrev pub page_after : List Pair → List ℕ
 page_after pairs =
     if has_forms (value_of (codes "back") pairs) then value_of (codes "back") pairs else codes "/"
 
--- the page that says why nothing is sent, with a link back to this page
-abbrev pub RefusesFor : Around → List ℕ → Plan → Type 0
-RefusesFor around back plan =
-    (why : List ℕ) × ShowsPage shown.Wrong (refused_page around back why) plan
+-- the page that says in these words why nothing is sent, with a link back to this page
+abbrev pub RefusesWith : Around → List ℕ → List ℕ → Plan → Type 0
+RefusesWith around back why plan = ShowsPage shown.Wrong (refused_page around back why) plan
 
 -- the page that says what is wrong
 abbrev pub IsWrong : Around → List Pair → Plan → Type 0
-IsWrong around pairs plan = RefusesFor around (page_after pairs) plan
+IsWrong around pairs plan = (why : List ℕ) × RefusesWith around (page_after pairs) why plan
 
 -- by what has become of the command's form, and whether there is no room
 abbrev pub PlansText : ℕ → List ℕ → List ℕ → Option State → Bool → Plan → Type 0
@@ -180,8 +179,14 @@ pub record AsksCommand (q : QueueOf) (pairs : List Pair) (plan : Plan) : Type 0 
   pub text : List ℕ
   pub named : form_id_of (value_of (codes "id") pairs) ≡ Some id
   pub fit : IsCommandText text
+  pub asks : Asks pairs text
   pub plans : PlansText id text (page_after pairs) (found_in q id) (is_full q) plan
+
+-- the form has no id
+abbrev pub LacksId : List Pair → Plan → Type 0
+LacksId pairs plan =
+    (form_id_of (value_of (codes "id") pairs) ≡ None) × (plan ≡ refuses problem.BadForm)
 
 abbrev pub PlansCommand : Around → QueueOf → List Pair → Plan → Type 0
 PlansCommand around q pairs plan =
-    (plan ≡ refuses problem.BadForm) ⊎ (IsWrong around pairs plan ⊎ AsksCommand q pairs plan)
+    LacksId pairs plan ⊎ (IsWrong around pairs plan ⊎ AsksCommand q pairs plan)

@@ -2,7 +2,7 @@
 
 ghost use Rattle.std.specs.Prelude.{◌≡◌, IfOk};
 ghost use Rattle.card_queue.specs.Queues.{found_in, is_full};
-ghost use Rattle.table_service.specs.Plans.{IsWrong, PlansCommand, PlansText, RefusesFor};
+ghost use Rattle.table_service.specs.Plans.{IsWrong, PlansCommand, PlansText, RefusesWith};
 ghost use Rattle.table_service.specs.Plans.{has_forms, page_after};
 
 use crate::plan::{Effect, Plan, Problem, Shown};
@@ -32,14 +32,14 @@ pub(crate) fn page_after(pairs: &Pairs) -> &[u8]
     if has_forms(back) { back } else { b"/" }
 }
 
-/// The page that says why nothing is sent, with a link back to this page.
+/// The page that says in these words why nothing is sent, with a link back to this page.
 pub(crate) fn refuse(
     alloc: Global,
     around: &Around<'_>,
     back: &[u8],
     why: &[u8],
 ) -> Result<Plan, AllocError>
-    ensures { IfOk result (RefusesFor around.entry.now back.now) }
+    ensures { IfOk result (RefusesWith around.entry.now back.now why.now) }
 {
     let page = refused_page(alloc, around, back, why)?;
     Ok(Plan::with_ids(Shown::Wrong, page))

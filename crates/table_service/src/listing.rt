@@ -1,30 +1,21 @@
 //! Several commands that are sent together, one a line.
 
 ghost use Rattle.std.specs.Prelude.{◌≡◌, IfOk};
-ghost use Rattle.card_forms.specs.Cards.{form_id_of};
 ghost use Rattle.card_queue.specs.Queues.{found_in, is_full};
 ghost use Rattle.table_service.specs.Lists.{PlansAsked, PlansLines, PlansList, PlansListFor};
 ghost use Rattle.table_service.specs.Lists.{would_be_done};
 
 use crate::commanding::{page_after, refuse};
 use crate::plan::{Effect, Plan, Problem};
-use card_forms::{CommandTexts, FormId, Item, Pairs};
+use card_forms::{CommandTexts, FormId, Item, Pairs, form_id_of};
 use card_queue::CardQueue;
 use command_lists::{all_done, answers_to, first_refusal, texts_in};
 use std::alloc::{AllocError, Global};
 use table_views::Around;
-use texts::number_between;
 
 /// What is said of lines that have no commands which can be sent together.
 pub(crate) const UNFIT: &[u8] =
     b"1 to 16,384 commands are sent together, each of at most 600 bytes";
-
-/// An id of a form, as it was sent.
-fn form_id_of(bytes: &[u8]) -> Option<FormId>
-    ensures { result ≡ form_id_of bytes.now }
-{
-    FormId::new(number_between(1, FormId::MOST, bytes)?)
-}
 
 /// Goes on where all commands would be accepted; else says which would not.
 fn plan_texts(

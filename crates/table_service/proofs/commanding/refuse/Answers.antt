@@ -4,8 +4,6 @@ use Rattle.table_service.proofs.Looked.{page_shown}
 use Rattle.table_service.proofs.commanding.refuse.Goals as goal
 
 pub returns : goal.returns
-returns c = (
-  c.args.why.now,
-  page_shown shown.Wrong (refused_page c.args.around.now c.args.back.now c.args.why.now)
-      c.in_ok-page.page c.with_ids.result c.in_ok-page.ensures c.with_ids.ensures,
-)
+returns c =
+    page_shown shown.Wrong (refused_page c.args.around.now c.args.back.now c.args.why.now)
+    c.in_ok-page.page c.with_ids.result c.in_ok-page.ensures c.with_ids.ensures
