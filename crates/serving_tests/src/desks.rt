@@ -14,7 +14,7 @@ use store::keeper::Keeper;
 use store::memory::MemoryKeeper;
 
 /// The entry of a client.
-pub(crate) fn ann(alloc: Global) -> Result<Entry, Fail> {
+fn ann(alloc: Global) -> Result<Entry, Fail> {
     Ok(Entry::new(alloc, 7, b"REG 1 Ann Li")?)
 }
 
