@@ -1,10 +1,11 @@
 #!/usr/bin/env python3
-"""What `board_views_runs` has to print: a second program of the definitions.
+"""What `views_runs` has to print of the board: a second program of the definitions.
 
-    bench/board_views.py < crates/board_views_runs/stdin > crates/board_views_runs/stdout
+    for it in board table; do bench/${it}_views.py < crates/views_runs/stdin; done
 
-Reads the lines of crates/board_views_runs, whose src/main.rt says how they are written. The sheets
-come from bench/rules.py, which shares nothing with the crates. Standard library only.
+is what crates/views_runs/stdout holds. Reads the lines that are for the board, of which
+src/board_pages.rt of crates/views_runs says how they are written. The sheets come from
+bench/rules.py, which shares nothing with the crates. Standard library only.
 """
 
 import html
@@ -200,9 +201,13 @@ def page(title, log, path):
 
 
 def main():
-    title, log = "", []
+    title, log, is_board = "", [], True
     for line in sys.stdin.buffer.read().split(b"\n"):
-        if line.startswith(b"title "):
+        if line.startswith(b"pages of "):
+            is_board = line == b"pages of the board"
+        elif not is_board:
+            continue
+        elif line.startswith(b"title "):
             title = line[6:].decode()
         elif line.startswith(b"> "):
             log.append(line[2:])

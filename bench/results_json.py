@@ -5,10 +5,10 @@
     bench/results_json.py cases stdin|stdout
     bench/results_json.py random FROM TO stdin|stdout
 
-`meet` prints the results of the meet that the commands make. `cases` prints the input of the
-program `results_json_runs` and what it has to print, and `random` those of random meets. It is
-written from the definition (docs/FORMATS.md) over Python's `json` and the meets of bench/rules.py,
-and uses nothing of the crates.
+`meet` prints the results of the meet that the commands make. `cases` prints the last part of the
+input of the program `file_runs` and what it has to print for it, and `random` that of random meets.
+It is written from the definition (docs/FORMATS.md) over Python's `json` and the meets of
+bench/rules.py, and uses nothing of the crates.
 """
 
 import json
@@ -120,7 +120,7 @@ def case_text(case, which):
     title, commands = case
     if which == "stdout":
         return f"# {title}\n{printed(commands)}\n"
-    return f"case {title}\n" + "".join(f"{command}\n" for command in commands) + "end\n"
+    return f"results {title}\n" + "".join(f"{command}\n" for command in commands) + "end\n"
 
 
 def main(arguments):

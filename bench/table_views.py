@@ -1,10 +1,12 @@
 #!/usr/bin/env python3
-"""What `table_views_runs` has to print: a second program of the pages' definitions.
+"""What `views_runs` has to print of the score table: a second program of the pages' definitions.
 
-    bench/table_views.py < crates/table_views_runs/stdin > crates/table_views_runs/stdout
+    bench/table_views.py < crates/views_runs/stdin
 
-Reads the lines of crates/table_views_runs, whose src/main.rt says how they are written. The results
-come from bench/rules.py, which shares nothing with the crates. Standard library only.
+is the latter part of crates/views_runs/stdout; bench/board_views.py says how all is made. Reads the
+lines that are for the score table, of which src/main.rt of crates/views_runs says how they are
+written. The results come from bench/rules.py, which shares nothing with the crates. Standard
+library only.
 """
 
 import html
@@ -656,9 +658,12 @@ class Pages:
 
 
 def main():
-    pages, out = Pages(), []
+    pages, out, is_table = Pages(), [], False
     for line in sys.stdin.buffer.read().decode().split("\n"):
-        pages.line(line, out)
+        if line.startswith("pages of "):
+            is_table = line == "pages of the score table"
+        elif is_table:
+            pages.line(line, out)
     sys.stdout.buffer.write("".join(out).encode())
 
 

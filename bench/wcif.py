@@ -6,9 +6,14 @@
     bench/wcif.py big
 
 `lines` prints the command lines of a file, or `fault: ` and a text for each fault. `cases` prints
-the input of the program `wcif_runs` and what it has to print: the files of examples/wcif and small
-changes of them. `big` prints examples/wcif/large.json. It is written from the definition of what a
-desk holds (docs/FORMATS.md) and uses nothing of the repository.
+the first part of the input of the program `file_runs`, its imports, and what it has to print for
+them: the files of examples/wcif and small changes of them. `big` prints examples/wcif/large.json. It
+is written from the definition of what a desk holds (docs/FORMATS.md) and uses nothing of the
+repository.
+
+    for it in wcif wcif_results results_json; do bench/$it.py cases stdin; done
+
+is the whole input of `file_runs`, and with `stdout` what it has to print.
 """
 
 import json
@@ -385,11 +390,11 @@ def cases(which):
     files += [(title, options, short(changed(change)))
               for title, options, change in CHANGES]
     for title, options, body in files:
-        ask = f"case {options[0]} {options[1]} {title}\n"
+        ask = f"import {options[0]} {options[1]} {title}\n"
         yield f"{ask}{body.rstrip()}\nend\n" if which == "stdin" else (
             f"# {title}\n" + printed(json.loads(body), options))
     for title, body, out in RAW:
-        yield f"case refuse refuse {title}\n{body}\nend\n" if which == "stdin" else (
+        yield f"import refuse refuse {title}\n{body}\nend\n" if which == "stdin" else (
             f"# {title}\n{out}")
 
 

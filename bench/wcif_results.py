@@ -6,10 +6,10 @@
     bench/wcif_results.py random FROM TO stdin|stdout
 
 `file` prints the file with the results of the meet that the commands make, or a line `fault: ` for
-each thing of the meet that the file has no place for. `cases` prints the input of the program
-`wcif_results_runs` and what it has to print, and `random` those of random meets and files. It is
-written from the definition (docs/FORMATS.md) over Python's `json` and the meets of bench/rules.py,
-and uses nothing of the crates.
+each thing of the meet that the file has no place for. `cases` prints the exports of the input of
+the program `file_runs` and what it has to print for them, and `random` those of random meets and
+files. It is written from the definition (docs/FORMATS.md) over Python's `json` and the meets of
+bench/rules.py, and uses nothing of the crates.
 """
 
 import json
@@ -315,7 +315,7 @@ def case_text(case, which):
     if which == "stdout":
         return f"# {title}\n" + exported(commands, body + "\n")
     given = "".join(f"> {command}\n" for command in commands)
-    return f"case {title}\n{given}{body.rstrip()}\nend\n"
+    return f"export {title}\n{given}{body.rstrip()}\nend\n"
 
 
 def main(arguments):
@@ -326,7 +326,7 @@ def main(arguments):
         for case in stored():
             sys.stdout.write(case_text(case, arguments[1]))
         for title, body, out in RAW:
-            sys.stdout.write(f"case {title}\n{body}\nend\n" if arguments[1] == "stdin"
+            sys.stdout.write(f"export {title}\n{body}\nend\n" if arguments[1] == "stdin"
                              else f"# {title}\n{out}")
     elif arguments[:1] == ["random"] and len(arguments) == 4:
         for seed in range(int(arguments[1]), int(arguments[2])):

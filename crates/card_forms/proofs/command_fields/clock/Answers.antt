@@ -6,6 +6,7 @@ pub returns-in-Ok-Time-default-eq0 : goal.returns-in-Ok-Time-default-eq0
 returns-in-Ok-Time-default-eq0 c =
     let here = c.in-Ok-Time-default-eq0 in (
       c.read.ensures.found (entered.Time here.hundredths 0)
-          (here.is ∙ ap Ok (here.field-0-is ∙ ap (entered.Time here.hundredths) here.field-0-1-test)),
+          (here.is
+          ∙ ap Ok (here.field-0-is ∙ ap (entered.Time here.hundredths) here.field-0-1-test)),
       c.if-hundredths-le-MOST_TIME.true,
     )

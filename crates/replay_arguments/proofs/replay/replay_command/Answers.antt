@@ -21,4 +21,5 @@ returns c =
       made,
     ))
     (added_last c.with_argument-4.result c.in_ok-command-3.command _ c.flag-only_sheet.result _
-    three c.flag-only_sheet.ensures.rule c.with_argument-4.ensures.app c.with_argument-4.ensures.local)
+    three c.flag-only_sheet.ensures.rule c.with_argument-4.ensures.app
+    c.with_argument-4.ensures.local)

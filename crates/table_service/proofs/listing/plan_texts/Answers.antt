@@ -19,6 +19,7 @@ returns-then-not-all_done c =
     (c.all_done.ensures ∙ ap (list_all is_done) (c.deref.ensures.value ∙ answers))
     ∙ c.if-not-all_done.true) c.as_bytes.result.now
     (c.as_bytes.ensures.value ∙ c.in_ok-why.ensures
-    ∙ ap (λ texts. first_refusal texts c.deref-then-not-all_done.result.now) c.as_slice.ensures.texts
+    ∙ ap (λ texts. first_refusal texts c.deref-then-not-all_done.result.now)
+    c.as_slice.ensures.texts
     ∙ ap (first_refusal c.args.texts) (c.deref-then-not-all_done.ensures.value ∙ answers))
     c.refuse.result c.refuse.ensures
