@@ -5,15 +5,15 @@
 //!   Interchange Format. LIMITS is `refuse` or `as-single`, NAMES is `refuse` or `id`. The command
 //!   lines are printed, or a line `fault: ` for each fault, or why the file is not read.
 //! - `export TITLE`: lines `> COMMAND` are the commands of a meet, each with an id of its own, and
-//!   all other lines are such a file. A line `refused: COMMAND` is printed for each command that the
-//!   meet refuses, and then the file with the results, a line `fault: ` for each fault, or why the
-//!   file is not read.
+//!   all other lines are such a file. A line `refused: COMMAND` is printed for each command that
+//!   the meet refuses, and then the file with the results, a line `fault: ` for each fault, or why
+//!   the file is not read.
 //! - `results TITLE`: the lines that follow are commands of a meet, each with an id of its own. Its
 //!   results are printed as JSON.
 //!
 //! A line `end` ends a case, and its title is printed first, after `# `. The cases and the output
-//! that is wanted are those of `bench/wcif.py`, `bench/wcif_results.py` and `bench/results_json.py`,
-//! second programs of the definitions, one after the other.
+//! that is wanted are those of `bench/wcif.py`, `bench/wcif_results.py` and
+//! `bench/results_json.py`, second programs of the definitions, one after the other.
 #![tactic(auto)]
 
 mod case;

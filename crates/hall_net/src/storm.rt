@@ -19,8 +19,8 @@ fn draw_kind(draws: &mut Draws) -> u8 {
     draws.below(7).saturating_add(1).min(7) as u8
 }
 
-/// Draws after what nothing that a desk sends gets out any more, by which it is stopped: some of its
-/// writes, or its next message of some kind.
+/// Draws after what nothing that a desk sends gets out any more, by which it is stopped: some of
+/// its writes, or its next message of some kind.
 pub fn draw_mute(net: &mut Net, draws: &mut Draws, desk: u8) {
     if draws.hits(50) {
         net.paths.mute_after(desk, draws.below(8));

@@ -5,11 +5,11 @@
 //! digits, how strong each hazard is: how far delays differ; pieces that come late, and writes that
 //! are taken in part and then for a while not at all; connections that are cut, or over which
 //! nothing comes any more; machines that don't reach each other, in one direction or in both; desks
-//! that are stopped, at once, between two of their writes, or after a message of one kind, by a kill
-//! or by a cut of the power; a desk, all desks or a client that are held for a while, a desk also
-//! after a message of one kind; files of which from some call on each one fails, as on a full disk,
-//! also while the desk is opened again; clocks that run at other speeds; a client that sends what is
-//! no frame, or resets. Half of the halls have keys.
+//! that are stopped, at once, between two of their writes, or after a message of one kind, by a
+//! kill or by a cut of the power; a desk, all desks or a client that are held for a while, a desk
+//! also after a message of one kind; files of which from some call on each one fails, as on a full
+//! disk, also while the desk is opened again; clocks that run at other speeds; a client that sends
+//! what is no frame, or resets. Half of the halls have keys.
 //!
 //! Each desk is the code that serves: the steps of `multiplex` with the desk's own Ticks, the links
 //! of `mio_sockets`, and a node over its store in two files. The connections, the files and the
@@ -19,13 +19,13 @@
 //!
 //! Compared are, at each moment: of any two logs one begins with the other, and no desk comes back
 //! with a shorter one, or without a promise that another desk was told; each mirror is a beginning
-//! of them; each command that a client is told is done stands where it was told, and was answered so
-//! by the rules; each sheet is the one of the log up to its position; what a desk is sent by another
-//! desk is frames of that desk. After the storm, with three clients cut off from one desk each for
-//! good, all commands are done, and all desks and mirrors have the same log, without a pause of a
-//! minute in which nothing is decided. Then, two seconds later, one desk is alone for a minute with
-//! one more command, and no desk has more to say to the others in that minute than a few Ticks. Last
-//! it is let back, and all is the same once more.
+//! of them; each command that a client is told is done stands where it was told, and was answered
+//! so by the rules; each sheet is the one of the log up to its position; what a desk is sent by
+//! another desk is frames of that desk. After the storm, with three clients cut off from one desk
+//! each for good, all commands are done, and all desks and mirrors have the same log, without a
+//! pause of a minute in which nothing is decided. Then, two seconds later, one desk is alone for a
+//! minute with one more command, and no desk has more to say to the others in that minute than a
+//! few Ticks. Last it is let back, and all is the same once more.
 //!
 //! Memory that is refused is no hazard of a run, since one allocator serves the whole process:
 //! `rt try --fail-alloc N` does it for one line.

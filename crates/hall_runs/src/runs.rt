@@ -186,8 +186,8 @@ impl<'a, K: Keeper + Drop, B: Stores<K> + Drop> HallRun<'a, K, B> {
         }
     }
 
-    /// How long a desk is away, in milliseconds: it is started again at once, or soon, or in a storm
-    /// by somebody who has to come for that.
+    /// How long a desk is away, in milliseconds: it is started again at once, or soon, or in a
+    /// storm by somebody who has to come for that.
     fn draw_away(&mut self) -> u64 {
         let count = match self.draws.below(3) {
             0 => 100,

@@ -1,8 +1,8 @@
 //! The pages of the board and of the score table: a program that reads a competition and paths from
 //! its standard input, and writes the page at each path.
 //!
-//! The lines after a line `pages of the board` are for it, as src/board_pages.rt says. Those after a
-//! line `pages of the score table` are for that:
+//! The lines after a line `pages of the board` are for it, as src/board_pages.rt says. Those after
+//! a line `pages of the score table` are for that:
 //!
 //! - `hall NAME` names the hall, and `now MILLISECONDS` sets the clock.
 //! - `desks FOLLOWED SILENT UNDECIDED LENGTH..` says what is known of the desks; `-` is unknown.
