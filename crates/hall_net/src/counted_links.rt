@@ -31,6 +31,12 @@ impl Peers for CountedLinks<'_> {
 }
 
 impl Links for CountedLinks<'_> {
+    ghost use Rattle.std.specs.Prelude.{None, ⊤};
+
+    ghost kept = { λ _. None };
+
+    ghost due = { λ _ _ _. ⊤ };
+
     fn keep(&mut self, now: u64) {
         self.links.keep(now);
     }

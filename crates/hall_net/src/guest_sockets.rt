@@ -155,6 +155,8 @@ impl Clients for GuestSockets<'_> {
 
     ghost happened = { λ _. None };
 
+    ghost requests = { λ _. None };
+
     fn ready(&mut self, wait: u64) -> Ready {
         let _wait = wait;
         if !self.in_round {

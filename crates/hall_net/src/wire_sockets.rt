@@ -168,6 +168,8 @@ impl Wires for WireSockets<'_> {
 
     ghost wired = { λ _. None };
 
+    ghost looked = { λ _. None };
+
     fn begin(&mut self, desk: u8, address: SocketAddr) -> bool {
         let _address = address;
         match self.lines.get_mut(usize::from(desk)) {

@@ -3,7 +3,9 @@ use Rattle.std.proofs.Common.{◌≡◌, refl, sym, ap, subst, ◌∙◌, ℕ, �
 use Rattle.std.proofs.Common.{Option, take, drop, length, get_or, set, append_assoc, append-nil}
 use Rattle.std.proofs.Common.{arith}
 use Rattle.std.proofs.lemmas.List.{take_more, take_more_set, drop-drop, drop-set-lt, get_or-drop}
+use Rattle.std.specs.List.{AllByRecursion}
 use Rattle.links.specs.Histories.{Step}
+use Rattle.mio_sockets.specs.Keeping.{AreSettled, IsSettled}
 use Rattle.mio_sockets.specs.Wiring.{Wired, Line, IsDriven, AreDriven, KeepsLine, KeepsLines}
 use Rattle.mio_sockets.specs.Wiring.{told_all, told_each}
 use Rattle.mio_sockets.proofs.Driving.{Tells-as, Tells-nil, Tells-trans}
@@ -54,13 +56,13 @@ pub none_yet : (x : Option (List Wired)) (old : List Line) → SoFar x x old old
 none_yet x old =
     record { kept = record { each = []; driven = tt; told = Tells-nil x }; rest = refl }
 
-same_there : (old new : List Line) (i : ℕ) (d : Line) → drop i new ≡ drop i old
+pub same_there : (old new : List Line) (i : ℕ) (d : Line) → drop i new ≡ drop i old
     → get_or new i d ≡ get_or old i d
 same_there old new i d is =
     ap (λ n. get_or new n d) (omega arith) ∙ sym (get_or-drop i new 0 d)
     ∙ ap (λ ls. get_or ls 0 d) is ∙ get_or-drop i old 0 d ∙ ap (λ n. get_or old n d) (omega arith)
 
-after_there : (old new : List Line) (i : ℕ) → drop i new ≡ drop i old
+pub after_there : (old new : List Line) (i : ℕ) → drop i new ≡ drop i old
     → drop (i + 1) new ≡ drop (i + 1) old
 after_there old new i is =
     sym (drop-drop 1 i new) ∙ ap (λ (ls : List Line). drop 1 ls) is ∙ drop-drop 1 i old
@@ -79,3 +81,15 @@ one_more {x} {y} {z} {old} {new} {i} d b low high so k =
           (sym (take_more_set new i b high)) (lines_more so.kept moved));
       rest = drop-set-lt (i + 1) new i b (omega arith) ∙ after_there old new i so.rest;
     }
+
+all_more : {X : Type 0} (P : X → Type 0) (xs : List X) (x : X) → AllByRecursion P xs → P x
+    → AllByRecursion P (xs ++ x ∷ [])
+all_more P [] x h k = (k, tt)
+all_more P (y ∷ xs) x h k = (h.0, all_more P xs x h.1 k)
+
+pub settled_more : (now : ℕ) (lines : List Line) (i : ℕ) (b : Line) → i < length lines
+    → AreSettled now (take i lines) → IsSettled now b.link
+    → AreSettled now (take (i + 1) (set lines i b))
+settled_more now lines i b within h k =
+    subst (λ (ls : List Line). AreSettled now ls) (sym (take_more_set lines i b within))
+    (all_more (λ (l : Line). IsSettled now l.link) (take i lines) b h k)

@@ -1,3 +1,5 @@
 pub mod Driving
 pub mod Each
 pub mod Pushing
+pub mod Soonest
+pub mod Looking

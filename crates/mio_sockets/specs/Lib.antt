@@ -2,3 +2,6 @@ pub mod Tokens
 pub mod Outcomes
 pub mod Agendas
 pub mod Wiring
+pub mod Waiting
+pub mod Keeping
+pub mod Looking

@@ -20,7 +20,7 @@ pub data Wired : Type 0 where
   Closed : ℕ → Wired
 
 -- what came of the connections grows by these, in order; who tells it may stop, and never begins
-abbrev pub Tells : Option (List Wired) → Option (List Wired) → List Wired → Type 0
+abbrev pub Tells : {A : Type 0} → Option (List A) → Option (List A) → List A → Type 0
 Tells None None more = ⊤
 Tells (Some xs) None more = ⊤
 Tells None (Some ys) more = ⊥

@@ -235,8 +235,11 @@ impl<R: Clock + RandomSource> SocketClients<'_, R> {
 impl<R: Clock + RandomSource> Clients for SocketClients<'_, R> {
     ghost use Rattle.std.specs.Prelude.{None};
 
-    // The system tells nothing of what clients send and take beyond what its calls answer.
+    // The system tells nothing of what clients send and take beyond what its calls answer, and no
+    // call is noted.
     ghost happened = { λ _. None };
+
+    ghost requests = { λ _. None };
 
     /// A round is begun where the last one is over. First of a round is named that somebody waits,
     /// then the clients in the order of their numbers, and then it is over.

@@ -1,6 +1,9 @@
 //! The links to the other desks of a hall.
 
 ghost use Rattle.std.specs.Prelude.{◌≡◌, [], ◌∷◌, IfOk, position, take};
+ghost use Rattle.mio_sockets.specs.Keeping.{AreSettled};
+ghost use Rattle.mio_sockets.specs.Looking.{LookAtAll, Looks};
+ghost use Rattle.mio_sockets.specs.Waiting.{sooner, soonest};
 ghost use Rattle.mio_sockets.specs.Wiring.{has_number};
 ghost use Rattle.serving.specs.Adding.{Push, Hands};
 ghost use Rattle.mio_sockets.specs.Wiring.{KeepsLines, PushesTo, lines_from};
@@ -68,7 +71,10 @@ fn tell_due<W: Write>(lines: &mut Option<W>, subject: Subject, due: Option<Notic
 }
 
 /// What a line about a desk says beside what became of it.
-fn subject_of<C: Wires>(desk: &Neighbour, wires: &C) -> Subject {
+fn subject_of<C: Wires>(desk: &Neighbour, wires: &C) -> Subject
+    ensures desk { result.desk ≡ desk.now.desk }
+    ensures address { result.address ≡ desk.now.address }
+{
     Subject {
         desk: desk.desk(),
         address: desk.address(),
@@ -83,7 +89,9 @@ fn keep_each<C: Wires, W: Write>(
     lines: &mut Option<W>,
     now: u64,
 )
-    ensures { KeepsLines (C.wired wires.old) (C.wired wires.new) desks.old desks.new }
+    ensures keeps { KeepsLines (C.wired wires.old) (C.wired wires.new) desks.old desks.new }
+    ensures settled { AreSettled now desks.new }
+    ensures looks { Looks C.looked wires.old wires.new (LookAtAll desks.old) }
 {
     for place in 0..desks.len() {
         let desk = &mut desks[place];
@@ -100,12 +108,25 @@ fn place_of(desks: &[Neighbour], desk: u8) -> Option<usize>
 }
 
 /// The shorter wait; None is for ever.
-fn sooner(a: Option<u64>, b: Option<u64>) -> Option<u64> {
+fn sooner(a: Option<u64>, b: Option<u64>) -> Option<u64>
+    ensures { result ≡ sooner a b }
+{
     match (a, b) {
         (Some(a), Some(b)) => Some(a.min(b)),
         (None, b) => b,
         (a, None) => a,
     }
+}
+
+/// The shortest wait of all.
+fn soonest(desks: &[Neighbour], now: u64) -> Option<u64>
+    ensures { result ≡ soonest desks.now now }
+{
+    let mut wait = None;
+    for place in 0..desks.len() {
+        wait = sooner(wait, desks[place].wait(now));
+    }
+    wait
 }
 
 impl<C: Wires, W: Write> DeskLinks<C, W> {
@@ -157,20 +178,28 @@ impl<C: Wires, W: Write> Peers for DeskLinks<C, W> {
 }
 
 impl<C: Wires, W: Write> Links for DeskLinks<C, W> {
+    ghost use Rattle.std.specs.Prelude.{◌≡◌, None};
+    ghost use Rattle.mio_sockets.specs.Waiting.{soonest};
+
+    // At which moments they were kept isn't noted.
+    ghost kept = { λ _. None };
+
+    // When the link is to be kept that is to be kept soonest.
+    ghost due = { λ links now left. left ≡ soonest links.lines now };
+
     /// Drives each link: opens, writes and closes what is due, and tells the lines that are due.
     fn keep(&mut self, now: u64)
-        ensures { KeepsLines (C.wired self.old.wires) (C.wired self.new.wires)
+        ensures keeps { KeepsLines (C.wired self.old.wires) (C.wired self.new.wires)
             self.old.lines self.new.lines }
+        ensures settled { AreSettled now self.new.lines }
+        ensures looks { Looks C.looked self.old.wires self.new.wires
+            (LookAtAll self.old.lines) }
     {
         self.now = now;
         keep_each(&mut self.desks, &mut self.wires, &mut self.lines, now);
     }
 
     fn wait(&self, now: u64) -> Option<u64> {
-        let mut wait = None;
-        for desk in self.desks.iter() {
-            wait = sooner(wait, desk.wait(now));
-        }
-        wait
+        soonest(&self.desks, now)
     }
 }

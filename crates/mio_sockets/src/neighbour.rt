@@ -1,10 +1,14 @@
 //! One other desk: its link, and how it is driven over its connection.
 
-ghost use Rattle.std.specs.Prelude.{◌≡◌, ◌≤◌, IfSome, IfNone};
+ghost use Rattle.std.specs.Prelude.{◌≡◌, ◌≤◌, ◌<◌, [], true, false, IfSome, IfNone};
 ghost use Rattle.links.specs.Links.{IsUnconnected};
 ghost use Rattle.links.specs.declared.stages.Wish.TheVariants as wish;
-ghost use Rattle.links.specs.Links.{wish_of};
-ghost use Rattle.mio_sockets.specs.Wiring.{IsSameDesk, IsStored, KeepsLine, TakesFrame, new_line};
+ghost use Rattle.links.specs.Links.{after_ended, after_failed, wish_of};
+ghost use Rattle.mio_sockets.specs.Keeping.{IsSettled, Writes, left_in};
+ghost use Rattle.mio_sockets.specs.Looking.{Looks, LooksAs, LooksIn};
+ghost use Rattle.mio_sockets.specs.Waiting.{quiet_in, wait_in};
+ghost use Rattle.mio_sockets.specs.Wiring.{IsSameDesk, IsStored, KeepsLine, TakesFrame, Tells};
+ghost use Rattle.mio_sockets.specs.Wiring.{new_line};
 
 use crate::wires::{Heard, Opening, Wires};
 use links::{Link, Notice, Notices, Pushed, Stage, Wish};
@@ -12,10 +16,6 @@ use multiplex::Taken;
 use std::alloc::Global;
 use std::marker::Model;
 use std::net::SocketAddr;
-
-/// How many wishes of a link are fulfilled at once. At most 63 frames are sent on a connection, so
-/// that a link rests before that.
-const MOST_WISHES: u32 = 1024;
 
 /// How long a connection may take nothing of what is to be sent, in milliseconds.
 const STUCK: u64 = 3000;
@@ -80,7 +80,9 @@ impl Neighbour {
     }
 
     /// How long its open connection has taken nothing, in milliseconds.
-    fn quiet_for(&self, now: u64) -> u64 {
+    fn quiet_for(&self, now: u64) -> u64
+        ensures { result ≡ quiet_in self.now.link.stage now }
+    {
         match self.link.stage() {
             Stage::Open { quiet, .. } => now.saturating_sub(quiet),
             _ => 0,
@@ -90,6 +92,7 @@ impl Neighbour {
     /// In how many milliseconds at most the link is to be kept again, where its socket doesn't
     /// become ready before. None: not until a frame is pushed.
     pub fn wait(&self, now: u64) -> Option<u64>
+        ensures wait { result ≡ wait_in self.now now }
         ensures soon { IfSome result (λ millis. millis ≤ 3000) }
         ensures rests { IfNone result (wish_of self.now.link now ≡ wish.Rest) }
     {
@@ -130,7 +133,9 @@ impl Neighbour {
 
     /// Says that the connection failed, and closes it.
     fn fail<C: Wires>(&mut self, wires: &mut C, now: u64) -> Option<Notice>
-        ensures { KeepsLine (C.wired wires.old) (C.wired wires.new) self.old self.new }
+        ensures keeps { KeepsLine (C.wired wires.old) (C.wired wires.new) self.old self.new }
+        ensures looks { Tells (C.looked wires.old) (C.looked wires.new) [] }
+        ensures link { self.new.link ≡ after_failed self.old.link now }
     {
         wires.close(self.desk);
         self.link.failed(now);
@@ -139,7 +144,9 @@ impl Neighbour {
 
     /// Says that the other side ended the connection, and closes it.
     fn end<C: Wires>(&mut self, wires: &mut C, now: u64) -> Option<Notice>
-        ensures { KeepsLine (C.wired wires.old) (C.wired wires.new) self.old self.new }
+        ensures keeps { KeepsLine (C.wired wires.old) (C.wired wires.new) self.old self.new }
+        ensures looks { Tells (C.looked wires.old) (C.looked wires.new) [] }
+        ensures link { self.new.link ≡ after_ended self.old.link now }
     {
         wires.close(self.desk);
         self.link.ended(now);
@@ -153,7 +160,10 @@ impl Neighbour {
     /// Begins a connection.
     fn open<C: Wires>(&mut self, wires: &mut C, now: u64) -> Done
         requires { IsUnconnected self.old.link.stage }
-        ensures { KeepsLine (C.wired wires.old) (C.wired wires.new) self.old self.new }
+        ensures keeps { KeepsLine (C.wired wires.old) (C.wired wires.new) self.old self.new }
+        ensures looks { Tells (C.looked wires.old) (C.looked wires.new) [] }
+        ensures rests { result.goes_on ≡ false }
+        ensures settled { IsSettled now self.new.link }
     {
         self.link.began(now);
         let begun = wires.begin(self.desk, self.address);
@@ -166,7 +176,11 @@ impl Neighbour {
 
     /// Writes what the link has to send. A connection that takes nothing for three seconds failed.
     fn write<C: Wires>(&mut self, wires: &mut C, now: u64) -> Done
-        ensures { KeepsLine (C.wired wires.old) (C.wired wires.new) self.old self.new }
+        requires { wish_of self.old.link now ≡ wish.Write }
+        ensures keeps { KeepsLine (C.wired wires.old) (C.wired wires.new) self.old self.new }
+        ensures looks { Tells (C.looked wires.old) (C.looked wires.new) [] }
+        ensures settled { result.goes_on ≡ false → IsSettled now self.new.link }
+        ensures less { result.goes_on ≡ true → left_in self.new.link < left_in self.old.link }
     {
         if self.link.output().is_empty() {
             self.link.sent(now, 0);
@@ -205,7 +219,10 @@ impl Neighbour {
 
     /// Fulfils what the link wishes now.
     fn fulfil<C: Wires>(&mut self, wires: &mut C, now: u64) -> Done
-        ensures { KeepsLine (C.wired wires.old) (C.wired wires.new) self.old self.new }
+        ensures keeps { KeepsLine (C.wired wires.old) (C.wired wires.new) self.old self.new }
+        ensures looks { Tells (C.looked wires.old) (C.looked wires.new) [] }
+        ensures settled { result.goes_on ≡ false → IsSettled now self.new.link }
+        ensures less { result.goes_on ≡ true → left_in self.new.link < left_in self.old.link }
     {
         match self.link.wish(now) {
             Wish::Rest => Done {
@@ -232,7 +249,10 @@ impl Neighbour {
     /// Writes at once what the link has to send, where its connection is open and takes it. Gives
     /// the line that is due, if one is.
     pub fn write_now<C: Wires>(&mut self, wires: &mut C, now: u64) -> Option<Notice>
-        ensures { KeepsLine (C.wired wires.old) (C.wired wires.new) self.old self.new }
+        ensures keeps { KeepsLine (C.wired wires.old) (C.wired wires.new) self.old self.new }
+        ensures looks { Tells (C.looked wires.old) (C.looked wires.new) [] }
+        ensures writes { wish_of self.old.link now ≡ wish.Write
+            → Writes now self.old.link self.new.link }
     {
         match self.link.wish(now) {
             Wish::Write => self.write(wires, now).line,
@@ -242,7 +262,9 @@ impl Neighbour {
 
     /// Tells the link what has become of its connection.
     fn look<C: Wires>(&mut self, wires: &mut C, now: u64) -> Option<Notice>
-        ensures { KeepsLine (C.wired wires.old) (C.wired wires.new) self.old self.new }
+        ensures keeps { KeepsLine (C.wired wires.old) (C.wired wires.new) self.old self.new }
+        ensures looks { Looks C.looked wires.old wires.new
+            (LooksAs self.old.desk self.old.link.stage now self.old.link self.new.link) }
     {
         match self.link.stage() {
             Stage::Closed | Stage::Paused { .. } => None,
@@ -266,23 +288,27 @@ impl Neighbour {
     /// Fulfils the link's wishes, one after the other, until it rests or its connection can take no
     /// more now.
     fn fulfil_all<C: Wires>(&mut self, wires: &mut C, now: u64) -> Option<Notice>
-        ensures { KeepsLine (C.wired wires.old) (C.wired wires.new) self.old self.new }
+        ensures keeps { KeepsLine (C.wired wires.old) (C.wired wires.new) self.old self.new }
+        ensures looks { Tells (C.looked wires.old) (C.looked wires.new) [] }
+        ensures settled { IsSettled now self.new.link }
     {
         let mut line = None;
-        for _wish in 0..MOST_WISHES {
+        loop {
             let done = self.fulfil(wires, now);
             line = line.or(done.line);
             if !done.goes_on {
                 return line;
             }
         }
-        line
     }
 
     /// Tells the link what has become of its connection, and fulfils its wishes. The line that is
     /// due, if one is.
     pub fn keep<C: Wires>(&mut self, wires: &mut C, now: u64) -> Option<Notice>
-        ensures { KeepsLine (C.wired wires.old) (C.wired wires.new) self.old self.new }
+        ensures keeps { KeepsLine (C.wired wires.old) (C.wired wires.new) self.old self.new }
+        ensures looks { Looks C.looked wires.old wires.new
+            (LooksIn self.old.desk self.old.link.stage) }
+        ensures settled { IsSettled now self.new.link }
     {
         let seen = self.look(wires, now);
         let made = self.fulfil_all(wires, now);

@@ -71,6 +71,8 @@ impl<R: Net + RandomSource> Wires for SocketWires<'_, R> {
     // The system doesn't tell what reaches the other side.
     ghost wired = { λ _. None };
 
+    ghost looked = { λ _. None };
+
     fn begin(&mut self, desk: u8, address: SocketAddr) -> bool {
         let connected = self.connect(desk, address);
         match self.desks.get_mut(usize::from(desk)) {

@@ -2,6 +2,7 @@
 
 ghost use Rattle.std.specs.Prelude.{◌≢◌, [], ◌∷◌, List, Option, length};
 ghost use Rattle.multiplex.specs.Happenings.{CountsTaken};
+ghost use Rattle.mio_sockets.specs.Looking.{Listened, Look, Looked};
 ghost use Rattle.mio_sockets.specs.Wiring.{Began, Closed, Tells, Wired, taken};
 
 use calls::CallTrouble;
@@ -46,28 +47,36 @@ pub trait Wires {
     /// What came of them, in order, where that is told.
     ghost wired: { Self → Option (List Wired) };
 
+    /// What was looked at, in order, and what was seen, where that is told.
+    ghost looked: { Self → Option (List Look) };
+
     /// Begins a connection to a desk that has none, at an address. False: it can't be opened.
     fn begin(&mut self, desk: u8, address: SocketAddr) -> bool
-        ensures { Tells (wired self.old) (wired self.new) (Began desk address ∷ []) };
+        ensures told { Tells (wired self.old) (wired self.new) (Began desk address ∷ []) }
+        ensures looks { Tells (looked self.old) (looked self.new) [] };
 
     /// What has become of the connection to this desk, which was begun.
     fn opening(&mut self, desk: u8) -> Opening
-        ensures { Tells (wired self.old) (wired self.new) [] };
+        ensures told { Tells (wired self.old) (wired self.new) [] }
+        ensures looks { Tells (looked self.old) (looked self.new) (Looked desk result ∷ []) };
 
     /// Writes as much of the bytes as the connection takes without waiting.
     fn write(&mut self, desk: u8, bytes: &[u8]) -> Taken
         requires { bytes.now ≢ [] }
         ensures count { CountsTaken (length bytes.now) result }
-        ensures told { Tells (wired self.old) (wired self.new) (taken desk result bytes.now) };
+        ensures told { Tells (wired self.old) (wired self.new) (taken desk result bytes.now) }
+        ensures looks { Tells (looked self.old) (looked self.new) [] };
 
     /// Reads what comes on the connection without waiting, and drops it.
     fn hear(&mut self, desk: u8) -> Heard
-        ensures { Tells (wired self.old) (wired self.new) [] };
+        ensures told { Tells (wired self.old) (wired self.new) [] }
+        ensures looks { Tells (looked self.old) (looked self.new) (Listened desk result ∷ []) };
 
     /// What went wrong last with a connection to this desk.
     fn trouble(&self, desk: u8) -> Trouble;
 
     /// Closes the connection to this desk, if there is one.
     fn close(&mut self, desk: u8)
-        ensures { Tells (wired self.old) (wired self.new) (Closed desk ∷ []) };
+        ensures told { Tells (wired self.old) (wired self.new) (Closed desk ∷ []) }
+        ensures looks { Tells (looked self.old) (looked self.new) [] };
 }

@@ -12,4 +12,5 @@ pub mod Following
 pub mod UnderHall
 pub mod Periods
 pub mod Visits
+pub mod Asked
 pub mod Coming

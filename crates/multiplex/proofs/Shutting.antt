@@ -227,7 +227,7 @@ get_here : {X : Type 0} (before : List X) (x : X) (after : List X) (d : X)
 get_here [] x after d = refl
 get_here (y ∷ before) x after d = get_here before x after d
 
-at_place : (guests before : List Guest) (gone : Guest) (after : List Guest) (i : ℕ) (d : Guest)
+pub at_place : (guests before : List Guest) (gone : Guest) (after : List Guest) (i : ℕ) (d : Guest)
     → length before ≡ i → guests ≡ before ++ gone ∷ after → get_or guests i d ≡ gone
 at_place guests before gone after i d len found =
     ap (λ z. get_or z i d) found ∙ ap (λ n. get_or (before ++ gone ∷ after) n d) (sym len)

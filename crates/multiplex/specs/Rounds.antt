@@ -21,4 +21,5 @@ pub record Begins {V : Type 0} (d : DeskOf V) (t : Terms) (period : Option ℕ) 
   pub desk : r.desk ≡ first
   pub empty : r.table.guests.items ≡ []
   pub next : r.table.next ≡ 0
+  pub time : r.table.time ≡ 0
   pub own : r.table.own ≡ first_ticks (d.home_of first) period (d.seen first)

@@ -1,7 +1,9 @@
 //! A desk that serves, step after step.
 
-ghost use Rattle.std.specs.Prelude.{◌≡◌, ◌≤◌, IfOk};
+ghost use Rattle.std.specs.Prelude.{◌≡◌, ◌≤◌, ℕ, IfOk, Option};
 ghost use Rattle.multiplex.specs.model.Scenes.{Does};
+ghost use Rattle.multiplex.specs.Musts.{Musts, left_at, wait_by};
+ghost use Rattle.multiplex.specs.Requests.{Asks};
 ghost use Rattle.multiplex.specs.Rounds.{Begins};
 ghost use Rattle.multiplex.specs.Scenes.{scene};
 
@@ -75,9 +77,12 @@ impl<D: Desk + Drop> Rounds<D> {
     }
 
     /// For how many milliseconds it may be waited after the last round, where nothing becomes
-    /// ready: at most until a Tick of the desk's own is due, or the links are to be kept again.
+    /// ready: at most a second, until a Tick of the desk's own is due, and until the links are to
+    /// be kept again.
     pub fn wait<L: Links>(&self, links: &L) -> u64
-        ensures { result ≤ 1000 }
+        ensures { let table = self.now.table in
+            (left : Option ℕ) × L.due links.now table.time left
+            × (result ≡ wait_by left (left_at table.own.ticker table.time)) }
     {
         wait_of(links, &self.table.own, self.table.time)
     }
@@ -89,6 +94,9 @@ impl<D: Desk + Drop> Rounds<D> {
             result self.old.table self.new.table
             (scene self.old.desk links.old clients.old)
             (scene self.new.desk links.new clients.new) }
+        ensures asks { Asks C.requests clients.old clients.new
+            (Musts L.due L.kept self.old.terms result self.old.table self.new.table
+            links.old links.new) }
         ensures terms { self.new.terms ≡ self.old.terms }
         ensures home { D.home_of self.new.desk ≡ D.home_of self.old.desk }
     {

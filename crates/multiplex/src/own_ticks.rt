@@ -2,7 +2,8 @@
 
 ghost use Rattle.std.specs.Prelude.{◌≡◌, ◌||◌};
 ghost use Rattle.multiplex.specs.Passing.{first_ticks, looked, over_if, shown, ticks_at};
-ghost use Rattle.multiplex.specs.model.Ticks.{MayTick, desks, left_at, own_of};
+ghost use Rattle.multiplex.specs.Musts.{left_at};
+ghost use Rattle.multiplex.specs.model.Ticks.{MayTick, desks, own_of};
 
 use crate::ends::Over;
 use answers::Desk;

@@ -1,9 +1,13 @@
 //! Serving many clients, side by side.
 
-ghost use Rattle.std.specs.Prelude.{◌≡◌, ◌≤◌, length, IfSome};
+ghost use Rattle.std.specs.Prelude.{◌≡◌, ◌≤◌, ℕ, length, Option};
+ghost use Rattle.multiplex.specs.Musts.{AsksDuly, AsksUntil, EndsRound, Musts, left_at, stand};
+ghost use Rattle.multiplex.specs.Musts.{wait_by};
+ghost use Rattle.multiplex.specs.Passing.{first_ticks};
+ghost use Rattle.multiplex.specs.Requests.{Asks};
+ghost use Rattle.multiplex.specs.model.Asking.{AsksSome};
 ghost use Rattle.multiplex.specs.model.Tables.{AreKept, KeepsAll};
 ghost use Rattle.multiplex.specs.model.Scenes.{Does, DoesRound};
-ghost use Rattle.multiplex.specs.model.Ticks.{left_at};
 ghost use Rattle.multiplex.specs.Scenes.{Serves, scene};
 
 use crate::clients::{Clients, Ready};
@@ -19,10 +23,11 @@ use ticking::Period;
 /// How long nothing needs to become ready at most, in milliseconds.
 const LONGEST_WAIT: u64 = 1000;
 
-/// For how long it may be waited, in milliseconds: at most until a Tick of the desk's own is due.
+/// For how long it may be waited, in milliseconds: at most a second, until the links are to be kept
+/// again, and until a Tick of the desk's own is due.
 pub(crate) fn wait_of<L: Links>(links: &L, own: &OwnTicks, now: u64) -> u64
-    ensures most { result ≤ 1000 }
-    ensures due { IfSome (left_at own.now.ticker now) (λ left. result ≤ left) }
+    ensures { (left : Option ℕ) × L.due links.now now left
+        × (result ≡ wait_by left (left_at own.now.ticker now)) }
 {
     let links = links.wait(now).unwrap_or(LONGEST_WAIT).min(LONGEST_WAIT);
     match own.left(now) {
@@ -45,6 +50,8 @@ fn end_round<D: Desk, C: Clients, L: Links>(
     ensures does { DoesRound D.Desk L.Peers C.happened (D.home_of node.old) terms now result
         table.old table.new
         (scene node.old links.old clients.old) (scene node.new links.new clients.new) }
+    ensures ends { EndsRound terms now result table.new (L.kept links.new) }
+    ensures asks { Asks C.requests clients.old clients.new AsksSome }
     ensures kept { KeepsAll table.old table.new }
     ensures fewer { length table.new.guests.items ≤ length table.old.guests.items }
     ensures home { D.home_of node.new ≡ D.home_of node.old }
@@ -58,7 +65,7 @@ fn end_round<D: Desk, C: Clients, L: Links>(
     let_go(table, terms.patience, clients)
 }
 
-/// Does what can be done next without waiting, and says why serving is over by that, if it is.
+/// Does what can be done next, and says why serving is over by that, if it is.
 pub(crate) fn step<D: Desk, C: Clients, L: Links>(
     alloc: Global,
     table: &mut Table,
@@ -72,6 +79,8 @@ pub(crate) fn step<D: Desk, C: Clients, L: Links>(
     ensures does { Does D.Desk L.Peers C.happened (D.home_of node.old) terms result
         table.old table.new
         (scene node.old links.old clients.old) (scene node.new links.new clients.new) }
+    ensures asks { Asks C.requests clients.old clients.new
+        (Musts L.due L.kept terms result table.old table.new links.old links.new) }
     ensures kept { AreKept (D.home_of node.old) terms.wire table.new.guests.items }
     ensures few { length table.new.guests.items ≤ 512 }
     ensures home { D.home_of node.new ≡ D.home_of node.old }
@@ -98,6 +107,9 @@ fn serve_rounds<D: Desk, C: Clients, L: Links>(
     ensures does { Does D.Desk L.Peers C.happened (D.home_of node.old) terms (Some result)
         table.old table.new
         (scene node.old links.old clients.old) (scene node.new links.new clients.new) }
+    ensures asks { Asks C.requests clients.old clients.new
+        (AsksUntil L.due L.kept terms result (stand table.old links.old)
+        (stand table.new links.new)) }
     ensures home { D.home_of node.new ≡ D.home_of node.old }
 {
     for _step in 0..u64::MAX {
@@ -123,8 +135,12 @@ fn serve_rounds<D: Desk, C: Clients, L: Links>(
 ///
 /// With a period the desk gives itself Ticks: it is looked at once a round is over, and where
 /// `ticking::Ticker` says that one is due, the node is given a Tick as a client's Tick gives it
-/// one, and no client is answered. Where the desk is down after it, serving is over. It is waited
-/// at most until the next one is due. Without a period no such Tick comes.
+/// one, and no client is answered. Where the desk is down after it, serving is over. Without a
+/// period no such Tick comes.
+///
+/// It is waited until something is ready, for a second at most, and at most until the next Tick of
+/// the desk's own is due or the links are to be kept again. A contract sees what is done at each
+/// step (`served`), and what has to be asked of the clients and the links there (`asks`).
 pub fn serve_each<D: Desk, C: Clients, L: Links>(
     alloc: Global,
     terms: Terms,
@@ -135,6 +151,9 @@ pub fn serve_each<D: Desk, C: Clients, L: Links>(
 ) -> ServedEach
     ensures served { Serves D.Desk L.Peers C.happened terms period result
         (scene node.old links.old clients.old) (scene node.new links.new clients.new) }
+    ensures asks { Asks C.requests clients.old clients.new
+        (AsksDuly L.due L.kept terms result.over
+        (first_ticks (D.home_of node.old) period (D.seen node.old)) links.old links.new) }
     ensures home { D.home_of node.new ≡ D.home_of node.old }
 {
     let Ok(mut table) = Table::new(alloc, period, node) else {

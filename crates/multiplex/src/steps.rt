@@ -1,11 +1,15 @@
 //! The steps of serving many clients: one comes, one is ready, one is let go, and time passes.
 
-ghost use Rattle.std.specs.Prelude.{◌≡◌, ◌≤◌, ◌<◌, ◌-◌, [], length};
+ghost use Rattle.std.specs.Prelude.{◌≡◌, ◌≤◌, ◌<◌, ◌-◌, [], length, None};
 ghost use Rattle.multiplex.specs.Passing.{over_by};
+ghost use Rattle.multiplex.specs.Musts.{Accepts, Admits, Attends, MakesPlace, NoneIsSilent};
+ghost use Rattle.multiplex.specs.Requests.{Asks};
+ghost use Rattle.multiplex.specs.model.Asking.{AsksHosted, AsksSome, ClosesAt, IsEndsOf, MayClose};
 ghost use Rattle.multiplex.specs.model.Tables.{AreKept, IsKept, KeepsAll, KeepsKept, MakesRoom};
 ghost use Rattle.multiplex.specs.model.Scenes.{AltersSome, Answers, Empties, Hosts, IsShut};
 ghost use Rattle.multiplex.specs.Scenes.{scene};
 ghost use Rattle.multiplex.specs.model.Scenes.{Welcomes};
+ghost use Rattle.multiplex.specs.declared.clients.Accepted.TheVariants as accepted_is;
 ghost use Rattle.multiplex.specs.declared.ends.Over.{Over as OverOf};
 ghost use Rattle.multiplex.specs.declared.ends.Why.{Why as WhyOf};
 ghost use Rattle.multiplex.specs.declared.table.Terms.{Terms as TermsOf};
@@ -34,7 +38,9 @@ fn over_by(end: Option<End>) -> Option<Over>
 /// Ends the connection at this place, and says why serving is over by that, if it is.
 fn shut<C: Clients>(table: &mut Table, place: usize, clients: &mut C) -> Option<Over>
     requires { place < length table.old.guests.items }
-    ensures { IsShut C.happened place result table.old table.new clients.old clients.new }
+    ensures shut { IsShut C.happened place result table.old table.new clients.old clients.new }
+    ensures asks { Asks C.requests clients.old clients.new
+        (ClosesAt place table.old.guests.items) }
 {
     let guest = table.guests.remove(place);
     clients.close(guest.number);
@@ -53,6 +59,8 @@ fn host<D: Desk, C: Clients, P: Peers>(
     requires kept { IsKept (D.home_of node.old) guest.old.talk.talk.wire guest.old }
     ensures hosts { Hosts D.Desk P.Peers C.happened time result guest.old guest.new
         (scene node.old peers.old clients.old) (scene node.new peers.new clients.new) }
+    ensures asks { Asks C.requests clients.old clients.new
+        (AsksHosted guest.old.number guest.old.talk.output guest.new.talk.output result) }
     ensures home { D.home_of node.new ≡ D.home_of node.old }
 {
     guest.ready = time;
@@ -81,6 +89,8 @@ pub(crate) fn visit<D: Desk, C: Clients, P: Peers>(
     ensures answers { Answers D.Desk P.Peers C.happened (D.home_of node.old) terms number result
         table.old table.new
         (scene node.old peers.old clients.old) (scene node.new peers.new clients.new) }
+    ensures asks { Asks C.requests clients.old clients.new
+        (Attends number table.old.guests.items table.new.guests.items) }
     ensures kept { AreKept (D.home_of node.old) terms.wire table.new.guests.items }
     ensures fewer { length table.new.guests.items ≤ length table.old.guests.items }
     ensures home { D.home_of node.new ≡ D.home_of node.old }
@@ -100,9 +110,11 @@ pub(crate) fn visit<D: Desk, C: Clients, P: Peers>(
 fn crowd_out<C: Clients>(table: &mut Table, clients: &mut C) -> Option<Over>
     ensures alters { (home : Home) (t : TermsOf) (w : WhyOf) → MakesRoom w table.old.guests.items
         → AltersSome C.happened home t result table.old table.new clients.old clients.new }
+    ensures asks { Asks C.requests clients.old clients.new
+        (MakesPlace 0 (length table.old.guests.items) accepted_is.Full) }
     ensures kept { KeepsAll table.old table.new }
     ensures next { table.new.next ≡ table.old.next }
-    ensures fewer { length table.new.guests.items ≤ length table.old.guests.items - 1 }
+    ensures fewer { length table.new.guests.items ≡ length table.old.guests.items - 1 }
 {
     let place = longest_silent(&table.guests)?;
     shut(table, place, clients)
@@ -112,6 +124,9 @@ fn crowd_out<C: Clients>(table: &mut Table, clients: &mut C) -> Option<Over>
 pub(crate) fn let_go<C: Clients>(table: &mut Table, patience: u64, clients: &mut C) -> Option<Over>
     ensures alters { (home : Home) (t : TermsOf) → t.patience ≡ patience
         → AltersSome C.happened home t result table.old table.new clients.old clients.new }
+    ensures silent { result ≡ None → NoneIsSilent patience table.new }
+    ensures time { table.new.time ≡ table.old.time }
+    ensures asks { Asks C.requests clients.old clients.new AsksSome }
     ensures kept { KeepsAll table.old table.new }
     ensures fewer { length table.new.guests.items ≤ length table.old.guests.items }
 {
@@ -127,6 +142,7 @@ pub(crate) fn let_go<C: Clients>(table: &mut Table, patience: u64, clients: &mut
 pub(crate) fn let_all_go<C: Clients>(table: &mut Table, clients: &mut C)
     ensures told { (home : Home) (t : TermsOf) (over : OverOf)
         → Empties C.happened home t over table.old table.new clients.old clients.new }
+    ensures asks { Asks C.requests clients.old clients.new (IsEndsOf table.old.guests.items) }
     ensures empty { table.new.guests.items ≡ [] }
 {
     while let Some(guest) = table.guests.pop() {
@@ -145,8 +161,9 @@ fn welcome<D: Desk, C: Clients>(
     node: &D,
 )
     requires { table.old.next < terms.most }
-    ensures { Welcomes C.happened (D.home_of node.now) terms random table.old table.new
-        clients.old clients.new }
+    ensures welcomes { Welcomes C.happened (D.home_of node.now) terms random
+        table.old table.new clients.old clients.new }
+    ensures asks { Asks C.requests clients.old clients.new (MayClose table.old.next) }
 {
     let number = table.next;
     let ready = table.time;
@@ -178,6 +195,8 @@ fn enter<D: Desk, C: Clients>(
     requires room { length table.old.guests.items < 512 }
     ensures alters { AltersSome C.happened (D.home_of node.now) terms result table.old table.new
         clients.old clients.new }
+    ensures asks { Asks C.requests clients.old clients.new
+        (Accepts table.old.next (length table.old.guests.items)) }
     ensures kept { KeepsKept (D.home_of node.now) terms.wire table.old table.new }
     ensures few { length table.new.guests.items ≤ 512 }
 {
@@ -203,6 +222,7 @@ pub(crate) fn admit<D: Desk, C: Clients>(
     requires few { length table.old.guests.items ≤ 512 }
     ensures alters { AltersSome C.happened (D.home_of node.now) terms result table.old table.new
         clients.old clients.new }
+    ensures asks { Asks C.requests clients.old clients.new (Admits terms result table.old) }
     ensures kept { KeepsKept (D.home_of node.now) terms.wire table.old table.new }
     ensures few { length table.new.guests.items ≤ 512 }
 {

@@ -4,6 +4,8 @@ ghost use Rattle.std.specs.Prelude.{◌≡◌, ◌≢◌, []};
 ghost use Rattle.std.specs.Bool.{OnTrue};
 ghost use Rattle.guarded.specs.Guarding.{WantsRead};
 ghost use Rattle.multiplex.specs.Passing.{Settled};
+ghost use Rattle.multiplex.specs.Requests.{Asks};
+ghost use Rattle.multiplex.specs.model.Asking.{AsksMove, AsksSome, BeginsWithMove, Hears, Offers};
 ghost use Rattle.multiplex.specs.model.Visiting.{Goes, Moves, Reads, Sends, SettledOrDone, TalksOn};
 ghost use Rattle.multiplex.specs.model.Visiting.{broken, spot};
 
@@ -16,7 +18,8 @@ use serving::Peers;
 /// Writes once what is to be sent. False: the write failed.
 fn send<C: Clients>(number: u64, talk: &mut Guard, clients: &mut C) -> bool
     requires { talk.old.output ≢ [] }
-    ensures { Sends C.happened number result clients.old clients.new talk.old talk.new }
+    ensures sends { Sends C.happened number result clients.old clients.new talk.old talk.new }
+    ensures asks { Asks C.requests clients.old clients.new (Offers number talk.old.output) }
 {
     match clients.write(number, talk.output()) {
         Taken::Bytes { count } => {
@@ -41,6 +44,7 @@ fn serve_waiting<D: Desk, C: Clients, P: Peers>(
         (spot node.old peers.old clients.old talk.old)
         (spot node.new peers.new clients.new talk.new) }
     ensures settled { OnTrue result (SettledOrDone talk.new) }
+    ensures asks { Asks C.requests clients.old clients.new AsksSome }
     ensures node { D.home_of node.new ≡ D.home_of node.old }
 {
     while talk.advance(node, peers) {
@@ -54,7 +58,8 @@ fn serve_waiting<D: Desk, C: Clients, P: Peers>(
 /// Reads once. None: a piece came, or nothing did.
 fn read<C: Clients>(number: u64, talk: &mut Guard, clients: &mut C) -> Option<Why>
     requires { WantsRead talk.old }
-    ensures { Reads C.happened number result clients.old clients.new talk.old talk.new }
+    ensures reads { Reads C.happened number result clients.old clients.new talk.old talk.new }
+    ensures asks { Asks C.requests clients.old clients.new (Hears number) }
 {
     let mut buffer = [0; 4096];
     match clients.read(number, &mut buffer) {
@@ -72,6 +77,7 @@ fn read<C: Clients>(number: u64, talk: &mut Guard, clients: &mut C) -> Option<Wh
 fn move_bytes<C: Clients>(number: u64, talk: &mut Guard, clients: &mut C) -> Option<Why>
     requires settled { Settled talk.old }
     ensures moves { Moves C.happened number result clients.old clients.new talk.old talk.new }
+    ensures asks { Asks C.requests clients.old clients.new (AsksMove number talk.old.output) }
 {
     if talk.wants_write() {
         return if send(number, talk, clients) {
@@ -97,6 +103,8 @@ pub(crate) fn talk_on<D: Desk, C: Clients, P: Peers>(
     ensures talks { TalksOn D.Desk P.Peers C.happened number result
         (spot node.old peers.old clients.old talk.old)
         (spot node.new peers.new clients.new talk.new) }
+    ensures asks { Asks C.requests clients.old clients.new
+        (BeginsWithMove number talk.old.output) }
     ensures node { D.home_of node.new ≡ D.home_of node.old }
 {
     if let Some(why) = move_bytes(number, talk, clients) {

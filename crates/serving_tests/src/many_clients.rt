@@ -68,6 +68,8 @@ impl Clients for Script {
 
     ghost happened = { λ _. None };
 
+    ghost requests = { λ _. None };
+
     fn ready(&mut self, wait: u64) -> Ready {
         let _ = self.waits.push(wait);
         self.piece = b"";
@@ -124,6 +126,12 @@ impl Clients for Script {
 }
 
 impl Links for Nobody {
+    ghost use Rattle.std.specs.Prelude.{None, ⊤};
+
+    ghost kept = { λ _. None };
+
+    ghost due = { λ _ _ _. ⊤ };
+
     fn keep(&mut self, _now: u64) {}
 
     fn wait(&self, _now: u64) -> Option<u64> {

@@ -48,6 +48,12 @@ impl Peers for Kept {
 }
 
 impl Links for Kept {
+    ghost use Rattle.std.specs.Prelude.{None, ⊤};
+
+    ghost kept = { λ _. None };
+
+    ghost due = { λ _ _ _. ⊤ };
+
     fn keep(&mut self, _now: u64) {
         let _ = self.counts.push(self.count);
     }

@@ -1,18 +1,13 @@
 -- The Ticks that a desk gives itself, at one look.
-use Rattle.std.specs.Prelude.{◌≡◌, ◌⊎◌, ℕ, Bool, false, Option, None, Some, IsTrue, IsFalse}
+use Rattle.std.specs.Prelude.{◌≡◌, ◌⊎◌, ℕ, Bool, false, Option, None, IsTrue, IsFalse}
 use Rattle.answers.specs.declared.desk.Desk.{Ghosts as DeskOf}
 use Rattle.serving.specs.OwnTicks.{sides_alone}
 use Rattle.serving.specs.declared.peers.Peers.{Ghosts as PeersOf}
-use Rattle.ticking.specs.Ticking.{Look, Ticking, left}
+use Rattle.ticking.specs.Ticking.{Look, Ticking}
 use Rattle.wire.specs.declared.values.Version.{Version}
 use Rattle.multiplex.specs.Passing.{TicksBy, over_if, shown, ticks_after, ticks_at}
 use Rattle.multiplex.specs.declared.ends.Over.{Over}
 use Rattle.multiplex.specs.declared.own_ticks.OwnTicks.{OwnTicks}
-
--- how long it is until the next Tick is due, if one ever is
-abbrev pub left_at : Option Ticking → ℕ → Option ℕ
-left_at None now = None
-left_at (Some t) now = Some (left t now)
 
 abbrev pub own_of : Option Ticking → Bool → OwnTicks
 own_of ticker starved = record { ticker = ticker; starved = starved }

@@ -10,7 +10,7 @@ returns-then-is_some-clause-does g c before told =
     does_round g.D.Desk g.L.Peers g.C.Clients.happened c.args.terms c.args.now
     c.tick_if_due-over.result c.args.table.now c.tick_if_due-over.new.self c.args.node.now
     c.tick_if_due-over.new.node c.args.links.now c.tick_if_due-over.new.peers c.keep.new.self before
-    c.args.clients.now c.keep.ensures told c.tick_if_due-over.ensures.ticks
+    c.args.clients.now c.keep.ensures.handed told c.tick_if_due-over.ensures.ticks
 
 pub returns-clause-does : goal.returns-clause-does
 returns-clause-does g c before told =
@@ -28,7 +28,7 @@ returns-clause-does g c before told =
     (none_of c.tick_if_due-over.result c.is_some.result c.is_some.ensures c.if-is_some.false)
     (does_round d g.L.Peers happened c.args.terms c.args.now c.tick_if_due-over.result table
     c.tick_if_due-over.new.self c.args.node.now next c.args.links.now c.tick_if_due-over.new.peers
-    c.keep.new.self before c.args.clients.now c.keep.ensures told
+    c.keep.new.self before c.args.clients.now c.keep.ensures.handed told
     c.tick_if_due-over.ensures.ticks))
     (does_changes d g.L.Peers happened home c.args.terms c.let_go.result mid c.let_go.new.table next
     c.keep.new.self c.args.clients.now c.let_go.new.clients

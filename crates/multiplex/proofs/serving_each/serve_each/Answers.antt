@@ -1,5 +1,7 @@
-use Rattle.std.proofs.Common.{refl}
+use Rattle.std.proofs.Common.{refl, ap, inr, List, ◌++◌}
+use Rattle.multiplex.specs.Requests.{Request}
 use Rattle.multiplex.proofs.Shutting.{lobby_same}
+use Rattle.multiplex.proofs.Telling.{Tells-trans}
 use Rattle.multiplex.proofs.Stepping.{serves_all, serves_none}
 use Rattle.multiplex.proofs.serving_each.serve_each.Goals as goal
 
@@ -19,3 +21,23 @@ returns-clause-served g c =
     (lobby_same table.0 table.1 table.2 c.in-Ok.ensures.own refl) c.serve_rounds-over.ensures.does
     (c.let_all_go.ensures.told (g.D.Desk.home_of c.args.node.now) c.args.terms over)
     c.let_all_go.ensures.empty
+
+pub returns-clause-asks : goal.returns-clause-asks
+returns-clause-asks g c =
+    let table = c.in-Ok.ensures.empty in
+    let until = c.serve_rounds-over.ensures.asks in
+    let requests = g.C.Clients.requests in
+    let ends = c.let_all_go.ensures.asks in (
+      until.0 ++ ends.0,
+      Tells-trans (requests c.args.clients.now) (requests c.serve_rounds-over.new.clients)
+          (requests c.let_all_go.new.clients) until.0 ends.0 until.1 ends.1,
+      inr
+          (record {
+            before = c.in-Ok.table;
+            fresh = (table.0, table.1, table.2, c.in-Ok.ensures.own);
+            after = c.serve_rounds-over.new.table;
+            served = until.0;
+            until = until.2;
+            all = ap (λ (z : List Request). until.0 ++ z) ends.2;
+          }),
+    )

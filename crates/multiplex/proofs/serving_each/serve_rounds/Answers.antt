@@ -1,9 +1,11 @@
-use Rattle.std.proofs.Common.{subst, sym, ap, ◌∙◌, eqb, None, Some}
+use Rattle.std.proofs.Common.{subst, sym, ap, ◌∙◌, eqb, None, Some, refl, inl, inr, arith}
 use Rattle.multiplex.specs.declared.ends.Over.TheVariants as over
+use Rattle.multiplex.specs.Musts.{stand}
 use Rattle.multiplex.specs.Scenes.{scene}
 use Rattle.multiplex.specs.model.Scenes.{Does}
 use Rattle.multiplex.specs.model.Tables.{AreKept}
 use Rattle.multiplex.proofs.Stepping.{does_both, does_stop, is_empty}
+use Rattle.multiplex.proofs.Asked.{steps_more, until_here, until_step}
 use Rattle.multiplex.proofs.Telling.{Tells-nil}
 use Rattle.multiplex.proofs.serving_each.serve_rounds.Goals as goal
 
@@ -62,6 +64,11 @@ loop-step-preserved g c =
           (sym c.step.ensures.home) c.step.ensures.kept;
       few = c.step.ensures.few;
       home = c.step.ensures.home ∙ at.invariant.home;
+      asks =
+          steps_more g.C.Clients.requests g.L.Links.due g.L.Links.kept c.args.terms at._step
+          (stand c.args.table.now c.args.links.now) (stand at.table at.links)
+          (stand c.step.new.table c.step.new.links) c.args.clients.now at.clients
+          c.step.new.clients at.invariant.asks c.in_default.ensures.asks;
     }
 
 pub returns-clause-does : goal.returns-clause-does
@@ -75,3 +82,30 @@ returns-clause-does g c =
     (scene at.node at.links at.clients) (scene at.node at.links at.clients) at.invariant.does
     (does_stop d g.L.Peers happened home c.args.terms over.Tired at.table at.node at.links
     at.clients at.clients tt (Tells-nil (happened at.clients)))
+
+pub returns-then-table-terms-clause-asks : goal.returns-then-table-terms-clause-asks
+returns-then-table-terms-clause-asks g c =
+    let at = c.loop-step in
+    let none =
+    is_empty at.table.guests.items
+    (c.if-is_empty.ensures ∙ ap (λ n. eqb n 0) at.table.guests.ok.0) in
+    until_here g.C.Clients.requests g.L.Links.due g.L.Links.kept c.args.terms over.All at._step
+    (stand c.args.table.now c.args.links.now) (stand at.table at.links) c.args.clients.now
+    at.clients at.invariant.asks (inl (refl, none, c.if-table-terms.true, refl, refl))
+
+pub returns-in-Some-clause-asks : goal.returns-in-Some-clause-asks
+returns-in-Some-clause-asks g c =
+    let at = c.loop-step in
+    until_step g.C.Clients.requests g.L.Links.due g.L.Links.kept c.args.terms c.in-Some.over
+    at._step (stand c.args.table.now c.args.links.now) (stand at.table at.links)
+    (stand c.step.new.table c.step.new.links) c.args.clients.now at.clients c.step.new.clients
+    at.invariant.asks c.in-Some.ensures.asks
+
+pub returns-clause-asks : goal.returns-clause-asks
+returns-clause-asks g c =
+    let at = c.loop-step in
+    until_here g.C.Clients.requests g.L.Links.due g.L.Links.kept c.args.terms over.Tired at._step
+    (stand c.args.table.now c.args.links.now) (stand at.table at.links) c.args.clients.now
+    at.clients at.invariant.asks
+    (inr
+    (inl (refl, omega (arith, c.loop-step-test.false, c.loop-step.auto._step-end), refl, refl)))

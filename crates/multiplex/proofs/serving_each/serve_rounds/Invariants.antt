@@ -1,7 +1,9 @@
 use Rattle.std.proofs.Common.{◌≡◌, ◌≤◌, length, None}
+use Rattle.multiplex.specs.Musts.{stand}
 use Rattle.multiplex.specs.Scenes.{scene}
 use Rattle.multiplex.specs.model.Scenes.{Does}
 use Rattle.multiplex.specs.model.Tables.{AreKept}
+use Rattle.multiplex.proofs.Asked.{AsksSteps}
 use Rattle.multiplex.proofs.serving_each.serve_rounds.Given as goal
 
 -- steps were taken, and serving goes on
@@ -15,4 +17,7 @@ invariant-loop-step g l =
       kept : AreKept (d.home_of l.node) l.terms.wire l.table.guests.items;
       few : length l.table.guests.items ≤ 512;
       home : d.home_of l.node ≡ d.home_of l.initial.node;
+      asks : AsksSteps g.C.Clients.requests g.L.Links.due g.L.Links.kept l.terms l._step
+          (stand l.initial.table l.initial.links) (stand l.table l.links) l.initial.clients
+          l.clients;
     }

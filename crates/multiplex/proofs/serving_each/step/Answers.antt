@@ -1,4 +1,6 @@
+use Rattle.multiplex.specs.declared.clients.Ready.TheVariants as ready_is
 use Rattle.multiplex.specs.declared.ends.Over.TheVariants as over
+use Rattle.multiplex.proofs.Asked.{musts_ask}
 use Rattle.multiplex.proofs.Shutting.{alters_both, alters_none}
 use Rattle.multiplex.proofs.Stepping.{does_answer, does_changes, does_stop}
 use Rattle.multiplex.proofs.serving_each.step.Goals as goal
@@ -13,7 +15,7 @@ returns-in-Waits-clause-does g c =
     (alters_both happened home c.args.terms c.admit.result table table c.admit.new.table
     c.args.clients.now c.ready.new.self c.admit.new.clients
     (alters_none happened home c.args.terms table c.args.clients.now c.ready.new.self
-    c.in-Waits.ensures)
+    c.in-Waits.ensures.told)
     c.admit.ensures.alters)
 
 pub returns-in-Client-clause-does : goal.returns-in-Client-clause-does
@@ -21,11 +23,11 @@ returns-in-Client-clause-does g c =
     does_answer g.D.Desk g.L.Peers g.C.Clients.happened (g.D.Desk.home_of c.args.node.now)
     c.args.terms c.in-Client.number c.visit.result c.args.table.now c.visit.new.table
     c.args.node.now c.visit.new.node c.args.links.now c.visit.new.peers c.args.clients.now
-    c.ready.new.self c.visit.new.clients c.in-Client.ensures c.visit.ensures.answers
+    c.ready.new.self c.visit.new.clients c.in-Client.ensures.told c.visit.ensures.answers
 
 pub returns-in-Round-clause-does : goal.returns-in-Round-clause-does
 returns-in-Round-clause-does g c =
-    c.end_round.ensures.does c.args.clients.now c.in-Round.ensures
+    c.end_round.ensures.does c.args.clients.now c.in-Round.ensures.told
 
 pub returns-in-Round-clause-kept : goal.returns-in-Round-clause-kept
 returns-in-Round-clause-kept g c =
@@ -35,4 +37,28 @@ pub returns-in-Failed-clause-does : goal.returns-in-Failed-clause-does
 returns-in-Failed-clause-does g c =
     does_stop g.D.Desk g.L.Peers g.C.Clients.happened (g.D.Desk.home_of c.args.node.now)
     c.args.terms over.Failed c.args.table.now c.args.node.now c.args.links.now
-    c.args.clients.now c.ready.new.self tt c.in-Failed.ensures
+    c.args.clients.now c.ready.new.self tt c.in-Failed.ensures.told
+
+pub returns-in-Waits-clause-asks : goal.returns-in-Waits-clause-asks
+returns-in-Waits-clause-asks g c =
+    musts_ask g.C.Clients.requests g.L.Links.due g.L.Links.kept c.args.terms c.admit.result
+    c.args.table.now c.admit.new.table c.args.links.now c.args.links.now c.args.clients.now
+    c.ready.new.self c.admit.new.clients c.wait_of.result ready_is.Waits
+    c.admit.ensures.asks.0 c.wait_of.ensures c.in-Waits.ensures.requests
+    c.admit.ensures.asks.1 c.admit.ensures.asks.2
+
+pub returns-in-Client-clause-asks : goal.returns-in-Client-clause-asks
+returns-in-Client-clause-asks g c =
+    musts_ask g.C.Clients.requests g.L.Links.due g.L.Links.kept c.args.terms c.visit.result
+    c.args.table.now c.visit.new.table c.args.links.now c.visit.new.peers c.args.clients.now
+    c.ready.new.self c.visit.new.clients c.wait_of.result (ready_is.Client c.in-Client.number)
+    c.visit.ensures.asks.0 c.wait_of.ensures c.in-Client.ensures.requests
+    c.visit.ensures.asks.1 c.visit.ensures.asks.2
+
+pub returns-in-Round-clause-asks : goal.returns-in-Round-clause-asks
+returns-in-Round-clause-asks g c =
+    musts_ask g.C.Clients.requests g.L.Links.due g.L.Links.kept c.args.terms c.end_round.result
+    c.args.table.now c.end_round.new.table c.args.links.now c.end_round.new.links
+    c.args.clients.now c.ready.new.self c.end_round.new.clients c.wait_of.result
+    (ready_is.Round c.in-Round.now) c.end_round.ensures.asks.0 c.wait_of.ensures
+    c.in-Round.ensures.requests c.end_round.ensures.asks.1 c.end_round.ensures.ends

@@ -14,9 +14,9 @@ returns-clause-alters g c home t w room =
     found
     (subst (λ z. IsLongestAt z c.in_ok-place.place) c.deref.ensures.value
     c.in_ok-place.ensures.longest)))
-    c.shut.ensures
+    c.shut.ensures.shut
 
 pub returns-clause-kept : goal.returns-clause-kept
 returns-clause-kept g c home wire =
     shut_keeps g.C.Clients.happened c.in_ok-place.place c.shut.result c.args.table.now
-    c.shut.new.table c.args.clients.now c.shut.new.clients c.shut.ensures home wire
+    c.shut.new.table c.args.clients.now c.shut.new.clients c.shut.ensures.shut home wire

@@ -1,15 +1,24 @@
-use Rattle.std.proofs.Common.{refl}
+use Rattle.std.proofs.Common.{refl, arith}
+use Rattle.multiplex.proofs.Asked.{ends_all, ends_more, none_left}
 use Rattle.multiplex.proofs.Shutting.{empties_more, empties_same}
 use Rattle.multiplex.proofs.steps.let_all_go.Goals as goal
 
 pub loop-guest-preserved : goal.loop-guest-preserved
-loop-guest-preserved g c home t over =
+loop-guest-preserved g c =
     let table = c.loop-guest.table in
-    empties_more g.C.Clients.happened home t over c.args.table.now table
-    (record { guests = c.pop.new.self; next = table.next; time = table.time; own = table.own })
-    c.in-Some.guest c.args.clients.now c.loop-guest.clients c.close.new.self
-    c.in-Some.ensures.items refl refl refl
-    (c.loop-guest.invariant home t over) c.close.ensures
+    let requests = g.C.Clients.requests in
+    let gone = c.in-Some.guest in
+    record {
+      told = λ home t over.
+          empties_more g.C.Clients.happened home t over c.args.table.now table
+          (record { guests = c.pop.new.self; next = table.next; time = table.time; own = table.own })
+          c.in-Some.guest c.args.clients.now c.loop-guest.clients c.close.new.self
+          c.in-Some.ensures.items refl refl refl
+          (c.loop-guest.invariant.told home t over) c.close.ensures.told;
+      asks = ends_more requests c.args.clients.now c.loop-guest.clients c.close.new.self
+          c.args.table.now.guests.items table.guests.items c.pop.new.self.items gone
+          c.in-Some.ensures.items c.loop-guest.invariant.asks c.close.ensures.requests;
+    }
 
 pub returns-clause-told : goal.returns-clause-told
 returns-clause-told g c home t over =
@@ -18,4 +27,13 @@ returns-clause-told g c home t over =
     (record { guests = c.pop.new.self; next = table.next; time = table.time; own = table.own })
     c.args.clients.now c.loop-guest.clients
     c.in_default.ensures.items refl refl refl
-    (c.loop-guest.invariant home t over)
+    (c.loop-guest.invariant.told home t over)
+
+pub returns-clause-asks : goal.returns-clause-asks
+returns-clause-asks g c =
+    ends_all g.C.Clients.requests c.args.clients.now c.loop-guest.clients
+    c.args.table.now.guests.items c.loop-guest.table.guests.items
+    (none_left c.loop-guest.table.guests.items
+    (λ some.
+    c.in_default.ensures.variant.1 (omega (arith, some, c.loop-guest.table.guests.ok.0))))
+    c.loop-guest.invariant.asks

@@ -1,3 +1,6 @@
+use Rattle.std.proofs.Common.{◌≡◌, ◌++◌}
+use Rattle.multiplex.specs.Musts.{ends_of}
+use Rattle.multiplex.specs.Requests.{Asks}
 use Rattle.multiplex.specs.declared.ends.Over.{Over}
 use Rattle.multiplex.specs.declared.table.Terms.{Terms}
 use Rattle.multiplex.specs.model.Scenes.{Empties}
@@ -6,9 +9,13 @@ use Rattle.multiplex.proofs.steps.let_all_go.Given as goal
 
 -- those so far were ended
 abbrev pub invariant-loop-guest : goal.invariant-loop-guest
-invariant-loop-guest g l =
-    (home : Home) (t : Terms) (over : Over)
-    → Empties g.C.Clients.happened home t over l.initial.table l.table l.initial.clients l.clients
+invariant-loop-guest g l = record {
+  told : (home : Home) (t : Terms) (over : Over)
+      → Empties g.C.Clients.happened home t over l.initial.table l.table l.initial.clients
+      l.clients;
+  asks : Asks g.C.Clients.requests l.initial.clients l.clients
+      (λ asked. asked ++ ends_of l.table.guests.items ≡ ends_of l.initial.table.guests.items);
+}
 
 abbrev pub decreases-loop-guest : goal.decreases-loop-guest
 decreases-loop-guest g l = goal.left-loop-guest g l

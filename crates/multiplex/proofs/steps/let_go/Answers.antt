@@ -1,5 +1,6 @@
 use Rattle.std.proofs.Common.{◌<◌, ◌-◌, refl, sym, subst, ◌∙◌, arith}
 use Rattle.multiplex.specs.declared.ends.Why.TheVariants as why
+use Rattle.multiplex.proofs.Asked.{asks_some, none_silent}
 use Rattle.multiplex.proofs.Shutting.{alters_both, shut_fewer, shut_keeps, shuts}
 use Rattle.multiplex.proofs.Shutting.{silent_cause}
 use Rattle.multiplex.proofs.steps.let_go.Goals as goal
@@ -15,12 +16,12 @@ returns-in-Some-shut-clause-alters g c home t same =
           (silent_cause c.args.patience table.time table.guests.items before gone after
           c.in-Some.place len found (sym c.place_of_silent.ensures ∙ c.in-Some.is)),
     ))
-    c.in-Some-shut.ensures)
+    c.in-Some-shut.ensures.shut)
 
 pub returns-in-Some-shut-clause-kept : goal.returns-in-Some-shut-clause-kept
 returns-in-Some-shut-clause-kept g c home wire h =
     shut_keeps g.C.Clients.happened c.in-Some.place c.shut.result c.loop-place.table
-    c.shut.new.table c.loop-place.clients c.shut.new.clients c.shut.ensures home wire
+    c.shut.new.table c.loop-place.clients c.shut.new.clients c.shut.ensures.shut home wire
     (c.loop-place.invariant.kept home wire h)
 
 pub loop-place-preserved : goal.loop-place-preserved
@@ -37,17 +38,42 @@ loop-place-preserved g c =
                 (silent_cause c.args.patience table.time table.guests.items before gone after
                 c.in-Some.place len found (sym c.place_of_silent.ensures ∙ c.in-Some.is)),
           ))
-          c.in_default-shut.ensures);
+          c.in_default-shut.ensures.shut);
       kept =
           λ home wire h.
           shut_keeps g.C.Clients.happened c.in-Some.place c.shut.result table
-          c.shut.new.table c.loop-place.clients c.shut.new.clients c.shut.ensures home wire
+          c.shut.new.table c.loop-place.clients c.shut.new.clients c.shut.ensures.shut home wire
           (c.loop-place.invariant.kept home wire h);
       fewer =
           omega (
             arith,
             shut_fewer g.C.Clients.happened c.in-Some.place c.shut.result table c.shut.new.table
-                c.loop-place.clients c.shut.new.clients c.shut.ensures,
+                c.loop-place.clients c.shut.new.clients c.shut.ensures.shut,
             c.loop-place.invariant.fewer,
           );
+      time = c.shut.ensures.shut.4.time ∙ c.loop-place.invariant.time;
+      asks =
+          asks_some g.C.Clients.requests c.args.clients.now c.loop-place.clients
+          c.shut.new.clients c.shut.ensures.asks.0 c.loop-place.invariant.asks
+          c.shut.ensures.asks.1;
     }
+
+pub returns-in-Some-shut-clause-time : goal.returns-in-Some-shut-clause-time
+returns-in-Some-shut-clause-time g c =
+    c.shut.ensures.shut.4.time ∙ c.loop-place.invariant.time
+
+pub returns-in-Some-shut-clause-asks : goal.returns-in-Some-shut-clause-asks
+returns-in-Some-shut-clause-asks g c =
+    asks_some g.C.Clients.requests c.args.clients.now c.loop-place.clients c.shut.new.clients
+    c.shut.ensures.asks.0 c.loop-place.invariant.asks c.shut.ensures.asks.1
+
+pub returns-clause-silent : goal.returns-clause-silent
+returns-clause-silent g c none =
+    none_silent c.args.patience c.loop-place.table
+    (sym c.place_of_silent.ensures ∙ c.in_default.is)
+
+pub returns-clause-time : goal.returns-clause-time
+returns-clause-time g c = c.loop-place.invariant.time
+
+pub returns-clause-asks : goal.returns-clause-asks
+returns-clause-asks g c = c.loop-place.invariant.asks

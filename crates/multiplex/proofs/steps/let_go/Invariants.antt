@@ -1,5 +1,7 @@
 use Rattle.std.proofs.Common.{◌≡◌, ◌≤◌, length, None}
 use Rattle.multiplex.specs.declared.table.Terms.{Terms}
+use Rattle.multiplex.specs.Requests.{Asks}
+use Rattle.multiplex.specs.model.Asking.{AsksSome}
 use Rattle.multiplex.specs.model.Scenes.{AltersSome}
 use Rattle.multiplex.specs.model.Tables.{KeepsAll}
 use Rattle.store.specs.declared.home.Home.{Home}
@@ -13,6 +15,8 @@ invariant-loop-place g l = record {
       l.clients;
   kept : KeepsAll l.initial.table l.table;
   fewer : length l.table.guests.items ≤ length l.initial.table.guests.items;
+  time : l.table.time ≡ l.initial.table.time;
+  asks : Asks g.C.Clients.requests l.initial.clients l.clients AsksSome;
 }
 
 abbrev pub decreases-loop-place : goal.decreases-loop-place

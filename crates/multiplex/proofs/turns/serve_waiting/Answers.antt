@@ -1,5 +1,8 @@
 use Rattle.std.proofs.Common.{◌∙◌, true, false, None}
+use Rattle.multiplex.specs.Requests.{Asks}
+use Rattle.multiplex.specs.model.Asking.{AsksSome}
 use Rattle.multiplex.specs.model.Visiting.{Goes, spot}
+use Rattle.multiplex.proofs.Asked.{asks_some}
 use Rattle.multiplex.proofs.Walking.{advanced, after_send, at_rest, goes_both}
 use Rattle.multiplex.proofs.turns.serve_waiting.Goals as goal
 use Rattle.multiplex.proofs.turns.serve_waiting.Goals.{else-wants_write-via-then-wants_write+else-not-send}
@@ -10,7 +13,7 @@ returns-then-not-send-clause-served g c =
     goes_both _ _ _ _ _ 0 0 _ _ _ c.loop-talk.invariant.goes
     (goes_both _ _ _ _ _ 0 0 _ _ _
     (advanced _ _ _ _ 0 c.advance.result _ _ _ _ _ _ _ c.advance.ensures.turn)
-    (after_send _ _ _ _ 0 false _ _ _ _ _ _ c.if-not-send.ensures))
+    (after_send _ _ _ _ 0 false _ _ _ _ _ _ c.if-not-send.ensures.sends))
 
 pub loop-talk-preserved : goal.loop-talk-preserved
 loop-talk-preserved g c =
@@ -27,14 +30,28 @@ loop-talk-preserved g c =
       | else-wants_write-via-then-wants_write+else-not-send w ↦
           rw (w.talk-is, w.clients-is)
           (goes_both _ _ _ _ _ 0 0 _ _ _ begun
-          (after_send _ _ _ _ 0 true _ _ _ _ _ _ w.if-not-send.ensures))
+          (after_send _ _ _ _ 0 true _ _ _ _ _ _ w.if-not-send.ensures.sends))
       | else-wants_write-via-else-wants_write w ↦ rw (w.talk-is, w.clients-is) begun
+    ] in
+    let asks : Asks g.C.Clients.requests c.args.clients.now c.else-wants_write.clients AsksSome =
+    elim c.else-wants_write.branch [
+      | else-wants_write-via-then-wants_write+else-not-send w ↦
+          rw (w.clients-is)
+          (asks_some g.C.Clients.requests _ _ _ w.if-not-send.ensures.asks.0
+          c.loop-talk.invariant.asks w.if-not-send.ensures.asks.1)
+      | else-wants_write-via-else-wants_write w ↦ rw (w.clients-is) c.loop-talk.invariant.asks
     ] in
     record {
       goes = goes;
       home = c.advance.ensures.home ∙ c.loop-talk.invariant.home;
       same = goes.1.home;
+      asks = asks;
     }
+
+pub returns-then-not-send-clause-asks : goal.returns-then-not-send-clause-asks
+returns-then-not-send-clause-asks g c =
+    asks_some g.C.Clients.requests _ _ _ c.if-not-send.ensures.asks.0 c.loop-talk.invariant.asks
+    c.if-not-send.ensures.asks.1
 
 pub returns-clause-served : goal.returns-clause-served
 returns-clause-served g c =

@@ -1,4 +1,6 @@
 use Rattle.std.proofs.Common.{◌≡◌, length, None}
+use Rattle.multiplex.specs.Requests.{Asks}
+use Rattle.multiplex.specs.model.Asking.{AsksSome}
 use Rattle.multiplex.specs.model.Visiting.{Goes, spot}
 use Rattle.multiplex.proofs.turns.serve_waiting.Given as goal
 
@@ -12,6 +14,7 @@ invariant-loop-talk g l =
           (spot l.node l.peers l.clients l.talk);
       home : d.home_of l.node ≡ d.home_of l.initial.node;
       same : l.talk.talk.home ≡ l.initial.talk.talk.home;
+      asks : Asks g.C.Clients.requests l.initial.clients l.clients AsksSome;
     }
 
 abbrev pub decreases-loop-talk : goal.decreases-loop-talk

@@ -13,7 +13,7 @@ returns-in-Some g c =
     (record {
       frame = pushed_at c.args.to c.args.frame.now _ _ c.self.inside.desks.items c.in-Some.place
           c.index_mut-desk.result.now c.push.new.self c.write_now-due.new.self found
-          c.index_mut-desk.ensures.value c.push.ensures c.write_now-due.ensures;
+          c.index_mut-desk.ensures.value c.push.ensures c.write_now-due.ensures.keeps;
     })
 
 pub returns-in_default : goal.returns-in_default

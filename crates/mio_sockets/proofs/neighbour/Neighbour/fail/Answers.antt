@@ -3,8 +3,8 @@ use Rattle.links.specs.Histories as step
 use Rattle.mio_sockets.proofs.Driving.{calls}
 use Rattle.mio_sockets.proofs.neighbour.Neighbour.fail.Goals as goal
 
-pub returns : goal.returns
-returns g c =
+pub returns-clause-keeps : goal.returns-clause-keeps
+returns-clause-keeps g c =
     rw (← c.self.view_is)
     (calls (step.Failed c.args.now) (record { desk = refl; address = refl }) refl
-    c.failed.ensures c.close.ensures)
+    c.failed.ensures c.close.ensures.told)

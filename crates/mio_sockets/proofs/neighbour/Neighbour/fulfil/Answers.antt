@@ -3,9 +3,9 @@ use Rattle.links.specs.Histories as step
 use Rattle.mio_sockets.proofs.Driving.{calls}
 use Rattle.mio_sockets.proofs.neighbour.Neighbour.fulfil.Goals as goal
 
-pub returns-in-Close : goal.returns-in-Close
-returns-in-Close g c =
+pub returns-in-Close-clause-keeps : goal.returns-in-Close-clause-keeps
+returns-in-Close-clause-keeps g c =
     rw (← c.self.view_is)
     (calls step.Closed (record { desk = refl; address = refl }) refl
     (c.in-Close.ensures.between refl, c.closed.ensures)
-    c.close.ensures)
+    c.close.ensures.told)

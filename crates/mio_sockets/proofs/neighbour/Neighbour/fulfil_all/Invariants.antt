@@ -1,7 +1,16 @@
-use Rattle.mio_sockets.specs.Wiring.{KeepsLine}
+use Rattle.std.proofs.Common.{[]}
+use Rattle.mio_sockets.specs.Keeping.{left_in}
+use Rattle.mio_sockets.specs.Wiring.{KeepsLine, Tells}
 use Rattle.mio_sockets.proofs.neighbour.Neighbour.fulfil_all.Given as goal
 
 -- the link was driven so far
-abbrev pub invariant-loop-wish : goal.invariant-loop-wish
-invariant-loop-wish g l =
-    KeepsLine (g.C.Wires.wired l.initial.wires) (g.C.Wires.wired l.wires) l.initial.self l.self
+abbrev pub invariant-loop-line : goal.invariant-loop-line
+invariant-loop-line g l = record {
+  keeps : KeepsLine (g.C.Wires.wired l.initial.wires) (g.C.Wires.wired l.wires) l.initial.self
+      l.self;
+  looks : Tells (g.C.Wires.looked l.initial.wires) (g.C.Wires.looked l.wires) [];
+}
+
+-- each wish that is fulfilled leaves less to be done
+abbrev pub decreases-loop-line : goal.decreases-loop-line
+decreases-loop-line g l = left_in l.self.link

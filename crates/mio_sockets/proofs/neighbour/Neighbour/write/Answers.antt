@@ -4,14 +4,14 @@ use Rattle.links.specs.Links.{pending}
 use Rattle.mio_sockets.proofs.Driving.{Tells-nil, calls, sends}
 use Rattle.mio_sockets.proofs.neighbour.Neighbour.write.Goals as goal
 
-pub returns-then-is_empty : goal.returns-then-is_empty
-returns-then-is_empty g c =
+pub returns-then-is_empty-clause-keeps : goal.returns-then-is_empty-clause-keeps
+returns-then-is_empty-clause-keeps g c =
     rw (← c.self.view_is)
     (calls (step.Sent c.args.now []) (record { desk = refl; address = refl }) refl
     ((pending c.self.inside.link, refl), c.sent.ensures) (Tells-nil _))
 
-pub returns-in-Bytes : goal.returns-in-Bytes
-returns-in-Bytes g c =
+pub returns-in-Bytes-clause-keeps : goal.returns-in-Bytes-clause-keeps
+returns-in-Bytes-clause-keeps g c =
     rw (← c.self.view_is)
     (sends c.args.now c.in-Bytes.count c.output-2.result.now c.output-2.ensures
     c.in-Bytes.ensures.count.0 c.in-Bytes.ensures.count.1

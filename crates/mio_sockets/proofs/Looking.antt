@@ -1,0 +1,126 @@
+-- A connection that was looked at, and then closed.
+use Rattle.std.proofs.Common.{◌≡◌, refl, sym, subst, ℕ, ◌+◌, ◌<◌, List, [], ◌∷◌, ◌++◌, Option}
+use Rattle.std.proofs.Common.{append_assoc, append-nil, ap, ◌∙◌, take, drop, length, get_or, set}
+use Rattle.std.proofs.Common.{arith}
+use Rattle.std.proofs.lemmas.List.{take_more, drop-set-lt}
+use Rattle.links.specs.Links.{LinkState, after_ended, after_failed}
+use Rattle.links.specs.declared.stages.Stage.{Stage}
+use Rattle.links.specs.declared.stages.Stage.TheVariants.{Opening, Open}
+use Rattle.links.specs.declared.stages.Stage.TheVariants as stage
+use Rattle.mio_sockets.specs.Looking.{Listened, Look, LookAtAll, Looked, Looks, LooksAs, LooksIn}
+use Rattle.mio_sockets.specs.Wiring.{Line, Tells}
+use Rattle.mio_sockets.specs.declared.wires.Heard.TheVariants as heard_is
+use Rattle.mio_sockets.specs.declared.wires.Opening.TheVariants as opening_is
+use Rattle.mio_sockets.proofs.Driving.{Tells-trans}
+use Rattle.mio_sockets.proofs.Each.{after_there, same_there}
+
+-- it could not be opened
+pub looks_failed : {C : Type 0} (looked : C → Option (List Look)) (c between later : C)
+    (d now since : ℕ) (old new : LinkState) → Opening since ≡ old.stage
+    → Tells (looked c) (looked between) (Looked d opening_is.Failed ∷ [])
+    → Tells (looked between) (looked later) [] → new ≡ after_failed old now
+    → Looks looked c later (LooksAs d old.stage now old new)
+looks_failed looked c between later d now since old new at told more is =
+    subst (λ (st : Stage). Looks looked c later (LooksAs d st now old new)) at (
+      Looked d opening_is.Failed ∷ [],
+      Tells-trans (looked c) (looked between) (looked later) (Looked d opening_is.Failed ∷ []) []
+          told more,
+      (opening_is.Failed, refl, is),
+    )
+
+-- the other side ended it
+pub looks_ended : {C : Type 0} (looked : C → Option (List Look)) (c between later : C)
+    (d now frames quiet : ℕ) (old new : LinkState) → Open frames quiet ≡ old.stage
+    → Tells (looked c) (looked between) (Listened d heard_is.Ended ∷ [])
+    → Tells (looked between) (looked later) [] → new ≡ after_ended old now
+    → Looks looked c later (LooksAs d old.stage now old new)
+looks_ended looked c between later d now frames quiet old new at told more is =
+    subst (λ (st : Stage). Looks looked c later (LooksAs d st now old new)) at (
+      Listened d heard_is.Ended ∷ [],
+      Tells-trans (looked c) (looked between) (looked later) (Listened d heard_is.Ended ∷ []) []
+          told more,
+      (heard_is.Ended, refl, is),
+    )
+
+-- it failed
+pub looks_broke : {C : Type 0} (looked : C → Option (List Look)) (c between later : C)
+    (d now frames quiet : ℕ) (old new : LinkState) → Open frames quiet ≡ old.stage
+    → Tells (looked c) (looked between) (Listened d heard_is.Broke ∷ [])
+    → Tells (looked between) (looked later) [] → new ≡ after_failed old now
+    → Looks looked c later (LooksAs d old.stage now old new)
+looks_broke looked c between later d now frames quiet old new at told more is =
+    subst (λ (st : Stage). Looks looked c later (LooksAs d st now old new)) at (
+      Listened d heard_is.Broke ∷ [],
+      Tells-trans (looked c) (looked between) (looked later) (Listened d heard_is.Broke ∷ []) []
+          told more,
+      (heard_is.Broke, refl, is),
+    )
+
+-- whatever the link makes of it
+in_by : (d : ℕ) (st : Stage) (now : ℕ) (old new : LinkState) (looks : List Look)
+    → LooksAs d st now old new looks → LooksIn d st looks
+in_by d stage.Closed now old new looks h = h.0
+in_by d (stage.Paused since millis) now old new looks h = h.0
+in_by d (Opening since) now old new looks h = (h.0, h.1)
+in_by d (Open frames quiet) now old new looks h = (h.0, h.1)
+
+-- a connection was looked at, and then its link was driven
+pub looks_in : {C : Type 0} (looked : C → Option (List Look)) (c between later : C) (d now : ℕ)
+    (old new : LinkState)
+    → Looks looked c between (LooksAs d old.stage now old new)
+    → Tells (looked between) (looked later) []
+    → Looks looked c later (LooksIn d old.stage)
+looks_in looked c between later d now old new h more = (
+  h.0 ++ [],
+  Tells-trans (looked c) (looked between) (looked later) h.0 [] h.1 more,
+  in_by d old.stage now old new (h.0 ++ [])
+      (subst (λ (z : List Look). LooksAs d old.stage now old new z) (sym (append-nil h.0)) h.2),
+)
+
+-- ---- one desk after the other
+
+-- the connections to the desks so far were looked at
+pub record LookedSoFar {C : Type 0} (looked : C → Option (List Look)) (c later : C)
+    (old new : List Line) (i : ℕ) : Type 0 where
+  pub looks : Looks looked c later (LookAtAll (take i old))
+  pub rest : drop i new ≡ drop i old
+
+look_more : (lines : List Line) (l : Line) (xs ys : List Look) → LookAtAll lines xs
+    → LooksIn l.desk l.link.stage ys → LookAtAll (lines ++ l ∷ []) (xs ++ ys)
+look_more [] l xs ys h k = (
+  ys,
+  [],
+  ap (λ (z : List Look). z ++ ys) h ∙ sym (append-nil ys),
+  k,
+  refl,
+)
+look_more (o ∷ lines) l xs ys h k = (
+  h.0,
+  h.1 ++ ys,
+  ap (λ (z : List Look). z ++ ys) h.2 ∙ append_assoc h.0 h.1 ys,
+  h.3,
+  look_more lines l h.1 ys h.4 k,
+)
+
+pub one_look_more : {C : Type 0} (looked : C → Option (List Look)) (c between later : C)
+    (old new : List Line) (i : ℕ) (d b : Line) → i < length old → i < length new
+    → LookedSoFar looked c between old new i
+    → Looks looked between later
+    (LooksIn (get_or new i d).desk (get_or new i d).link.stage)
+    → LookedSoFar looked c later old (set new i b) (i + 1)
+one_look_more looked c between later old new i d b low high so k =
+    let there = same_there old new i d so.rest in
+    let moved : Looks looked between later
+    (LooksIn (get_or old i d).desk (get_or old i d).link.stage) =
+    subst (λ (l : Line). Looks looked between later (LooksIn l.desk l.link.stage)) there k in
+    let first = so.looks in
+    record {
+      looks =
+          subst (λ (ls : List Line). Looks looked c later (LookAtAll ls))
+          (sym (take_more old i d low)) (
+            first.0 ++ moved.0,
+            Tells-trans (looked c) (looked between) (looked later) first.0 moved.0 first.1 moved.1,
+            look_more (take i old) (get_or old i d) first.0 moved.0 first.2 moved.2,
+          );
+      rest = drop-set-lt (i + 1) new i b (omega arith) ∙ after_there old new i so.rest;
+    }

@@ -1,0 +1,45 @@
+-- For how long the links to the other desks may be left.
+use Rattle.std.specs.Prelude.{ℕ, ◌-◌, min, List, [], ◌∷◌, Option, None, Some}
+use Rattle.links.specs.Links.{wait_of, wish_of}
+use Rattle.links.specs.declared.stages.Stage.{Stage}
+use Rattle.links.specs.declared.stages.Stage.TheVariants.{Closed, Paused, Opening, Open}
+use Rattle.links.specs.declared.stages.Wish.{Wish}
+use Rattle.links.specs.declared.stages.Wish.TheVariants as wish
+use Rattle.mio_sockets.specs.Wiring.{Line}
+
+-- for how long an open connection took nothing
+abbrev pub quiet_in : Stage → ℕ → ℕ
+quiet_in Closed now = 0
+quiet_in (Paused since millis) now = 0
+quiet_in (Opening since) now = 0
+quiet_in (Open frames quiet) now = now - quiet
+
+-- how long a wish may wait that stays as it is: not at all, but for bytes that the connection does
+-- not take, until it took none for three seconds
+abbrev pub wait_for : Wish → ℕ → Option ℕ
+wait_for wish.Rest quiet = None
+wait_for wish.Write quiet = Some (3000 - quiet)
+wait_for wish.Open quiet = Some 0
+wait_for wish.Close quiet = Some 0
+wait_for wish.GiveUp quiet = Some 0
+
+-- the first of these that is one
+abbrev pub first_some : Option ℕ → Option ℕ → Option ℕ
+first_some None b = b
+first_some (Some a) b = Some a
+
+-- in how many milliseconds the link to a desk is to be kept again: once its wish may be another
+-- one, or else once that is overdue
+abbrev pub wait_in : Line → ℕ → Option ℕ
+wait_in l now =
+    first_some (wait_of l.link now) (wait_for (wish_of l.link now) (quiet_in l.link.stage now))
+
+abbrev pub sooner : Option ℕ → Option ℕ → Option ℕ
+sooner None b = b
+sooner (Some a) None = Some a
+sooner (Some a) (Some b) = Some (min a b)
+
+-- the link that is to be kept soonest
+abbrev pub soonest : List Line → ℕ → Option ℕ
+soonest [] now = None
+soonest (l ∷ ls) now = sooner (wait_in l now) (soonest ls now)

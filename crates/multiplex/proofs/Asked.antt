@@ -1,0 +1,411 @@
+-- What was asked, one after the other.
+use Rattle.std.proofs.Common.{◌≡◌, ◌≢◌, ◌↔◌, inl, inr, refl, sym, ap, subst, ◌∙◌, ℕ, ◌≤◌, ◌-◌, ◌+◌}
+use Rattle.std.proofs.Common.{List, [], ◌∷◌, ◌++◌, append_assoc, append-nil, length, length-append}
+use Rattle.std.proofs.Common.{set}
+use Rattle.std.proofs.Common.{Option, None, Some, Bool, true, false, arith, IsTrue, position, ◌<◌}
+use Rattle.std.proofs.lemmas.Bool.{eqb-false, ltb-false}
+use Rattle.std.proofs.lemmas.List.{reverse-append}
+use Rattle.std.specs.Prelude.{map}
+use Rattle.multiplex.specs.Happenings.{Tells}
+use Rattle.multiplex.specs.Musts.{Accepts, Admits, Attends, IsMove, MakesPlace}
+use Rattle.multiplex.specs.Musts.{AsksUntil, Ends, Follows, GoesOn, Musts, NoneIsSilent, Stand}
+use Rattle.multiplex.specs.Musts.{ends_of, has_more, joined, left_at, wait_by}
+use Rattle.multiplex.specs.Requests.{Asks, Request, Accepting, Closing, Waited, Watching}
+use Rattle.multiplex.specs.declared.clients.Accepted.TheVariants as accepted_is
+use Rattle.multiplex.specs.declared.clients.Ready.{Ready}
+use Rattle.multiplex.specs.declared.ends.Over.{Over}
+use Rattle.multiplex.specs.declared.ends.Why.{Why}
+use Rattle.multiplex.specs.declared.table.Guest.{Guest}
+use Rattle.multiplex.specs.declared.table.Table.{Table}
+use Rattle.multiplex.specs.declared.table.Terms.{Terms}
+use Rattle.multiplex.specs.model.Asking.{AsksHosted, AsksMove, AsksSome, BeginsWithMove, ClosesAt}
+use Rattle.multiplex.specs.model.Asking.{IsEndsOf, MayClose}
+use Rattle.multiplex.specs.model.Tables.{has_number, is_silent}
+use Rattle.multiplex.proofs.Placed.{all_as, nowhere}
+use Rattle.multiplex.proofs.Shutting.{at_place}
+use Rattle.multiplex.proofs.Telling.{Tells-as, Tells-nil, Tells-trans}
+use Rattle.multiplex.proofs.Visits.{About}
+
+pub asks_none : {C : Type 0} (requests : C → Option (List Request)) (c : C)
+    (P : List Request → Type 0) → P [] → Asks requests c c P
+asks_none requests c P p = ([], Tells-nil (requests c), p)
+
+pub asks_both : {C : Type 0} (requests : C → Option (List Request)) (c between later : C)
+    (P Q R : List Request → Type 0)
+    → ((xs ys : List Request) → P xs → Q ys → R (xs ++ ys))
+    → Asks requests c between P → Asks requests between later Q → Asks requests c later R
+asks_both requests c between later P Q R both h k = (
+  h.0 ++ k.0,
+  Tells-trans (requests c) (requests between) (requests later) h.0 k.0 h.1 k.1,
+  both h.0 k.0 h.2 k.2,
+)
+
+pub asks_as : {C : Type 0} (requests : C → Option (List Request)) (c later : C)
+    (P Q : List Request → Type 0) → ((xs : List Request) → P xs → Q xs)
+    → Asks requests c later P → Asks requests c later Q
+asks_as requests c later P Q same h = (h.0, h.1, same h.0 h.2)
+
+-- anything may follow
+pub asks_some : {C : Type 0} (requests : C → Option (List Request)) (c between later : C)
+    (more : List Request)
+    → Asks requests c between AsksSome → Tells (requests between) (requests later) more
+    → Asks requests c later AsksSome
+asks_some requests c between later more h k = (
+  h.0 ++ more,
+  Tells-trans (requests c) (requests between) (requests later) h.0 more h.1 k,
+  tt,
+)
+
+-- ---- a client has its turns
+
+pub begins_more : (k : ℕ) (output : List ℕ) (xs ys : List Request)
+    → AsksMove k output xs → AsksSome ys → BeginsWithMove k output (xs ++ ys)
+begins_more k output xs ys h some =
+    (h.0, h.1, (ys, ap (λ (z : List Request). z ++ ys) h.2))
+
+pub begins_then : {C : Type 0} (requests : C → Option (List Request)) (c between later : C)
+    (k : ℕ) (output : List ℕ)
+    → Asks requests c between (AsksMove k output) → Asks requests between later AsksSome
+    → Asks requests c later (BeginsWithMove k output)
+begins_then requests c between later k output h j =
+    asks_both requests c between later (AsksMove k output) AsksSome (BeginsWithMove k output)
+    (begins_more k output) h j
+
+-- nobody can be watched any more
+pub hosted_unwatched : (k : ℕ) (old new : List ℕ) (w : Why) (writes : Bool)
+    (xs ys : List Request)
+    → BeginsWithMove k old xs → ys ≡ Watching k writes false ∷ []
+    → AsksHosted k old new (Some w) (xs ++ ys)
+hosted_unwatched k old new w writes xs ys h is = record {
+  first = h.0;
+  move = h.1;
+  more = h.2.0 ++ ys;
+  all = ap (λ (z : List Request). z ++ ys) h.2.1
+      ∙ ap (λ (z : List Request). h.0 ∷ z) (sym (append-nil (h.2.0 ++ ys)));
+}
+
+pub hosted_watched : (k : ℕ) (old new : List ℕ) (xs ys : List Request)
+    → BeginsWithMove k old xs → ys ≡ Watching k (has_more new) true ∷ []
+    → AsksHosted k old new None (xs ++ ys)
+hosted_watched k old new xs ys h is = record {
+  first = h.0;
+  move = h.1;
+  more = h.2.0;
+  all = ap (λ (z : List Request). z ++ ys) h.2.1
+      ∙ ap (λ (z : List Request). h.0 ∷ (h.2.0 ++ z)) is;
+}
+
+pub hosts_unwatched : {C : Type 0} (requests : C → Option (List Request)) (c between later : C)
+    (k : ℕ) (old new : List ℕ) (w : Why) (writes ok : Bool)
+    → Asks requests c between (BeginsWithMove k old)
+    → Tells (requests between) (requests later) (Watching k writes ok ∷ [])
+    → ok ≡ false
+    → Asks requests c later (AsksHosted k old new (Some w))
+hosts_unwatched requests c between later k old new w writes ok h told refused = (
+  h.0 ++ Watching k writes ok ∷ [],
+  Tells-trans (requests c) (requests between) (requests later) h.0 (Watching k writes ok ∷ [])
+      h.1 told,
+  hosted_unwatched k old new w writes h.0 (Watching k writes ok ∷ []) h.2
+      (ap (λ b. Watching k writes b ∷ []) refused),
+)
+
+pub has_more_is : (output : List ℕ) (b : Bool) → (IsTrue b ↔ (output ≢ [])) → b ≡ has_more output
+has_more_is [] true h = absurd (h.0 refl refl)
+has_more_is [] false h = refl
+has_more_is (x ∷ xs) true h = refl
+has_more_is (x ∷ xs) false h = h.1 (λ e. absurd cc)
+
+pub hosts_watched : {C : Type 0} (requests : C → Option (List Request)) (c between later : C)
+    (k : ℕ) (old new : List ℕ) (writes ok : Bool)
+    → Asks requests c between (BeginsWithMove k old)
+    → Tells (requests between) (requests later) (Watching k writes ok ∷ [])
+    → (IsTrue writes ↔ (new ≢ [])) → ok ≡ true
+    → Asks requests c later (AsksHosted k old new None)
+hosts_watched requests c between later k old new writes ok h told waits accepted = (
+  h.0 ++ Watching k writes ok ∷ [],
+  Tells-trans (requests c) (requests between) (requests later) h.0 (Watching k writes ok ∷ [])
+      h.1 told,
+  hosted_watched k old new h.0 (Watching k writes ok ∷ []) h.2
+      (ap (λ b. Watching k writes b ∷ []) accepted
+      ∙ ap (λ b. Watching k b true ∷ []) (has_more_is new writes waits)),
+)
+
+-- ---- a client is named
+
+pub attends_nobody : (k : ℕ) (guests : List Guest) → position (has_number k) guests ≡ None
+    → Attends k guests guests []
+attends_nobody k guests none =
+    inl (
+      all_as (λ g. has_number k g ≡ false) (λ (g : Guest). g.number ≢ k) guests
+          (λ g apart. eqb-false g.number k apart) (nowhere (has_number k) guests none),
+      refl,
+    )
+
+moves_as : (j k : ℕ) (output : List ℕ) (asked : Request) → j ≡ k → IsMove j output asked
+    → IsMove k output asked
+moves_as j k output asked is h = subst (λ n. IsMove n output asked) is h
+
+pub attends_stay : (k place : ℕ) (table : Table) (new : List Guest) (old later : Guest)
+    (before after : List Guest) (asked : List Request)
+    → About table place old later before after → old.number ≡ k
+    → new ≡ set table.guests.items place later
+    → AsksHosted old.number old.talk.output later.talk.output None asked
+    → Attends k table.guests.items new asked
+attends_stay k place table new old later before after asked split number is h =
+    inr
+    (record {
+      before = before;
+      after = after;
+      one = old;
+      found = split.found;
+      number = number;
+      first = h.first;
+      move = moves_as old.number k old.talk.output h.first number h.move;
+      more = h.more;
+      last = Watching k (has_more later.talk.output) true ∷ [];
+      end = inl (record { later = later; stays = is ∙ split.put; watched = refl });
+      all =
+          subst
+          (λ n. asked ≡ h.first ∷ (h.more ++ Watching n (has_more later.talk.output) true ∷ []))
+          number h.all;
+    })
+
+pub attends_leave : (k place : ℕ) (w : Why) (table mid : Table) (new : List Guest)
+    (old later : Guest) (before after : List Guest) (xs ys : List Request)
+    → About table place old later before after → old.number ≡ k → later.number ≡ old.number
+    → mid.guests.items ≡ set table.guests.items place later
+    → new ≡ before ++ after
+    → AsksHosted old.number old.talk.output later.talk.output (Some w) xs
+    → ClosesAt place mid.guests.items ys
+    → Attends k table.guests.items new (xs ++ ys)
+attends_leave k place w table mid new old later before after xs ys split number same is left h
+    shut =
+    let gone : shut.gone ≡ later =
+    sym (shut.at later)
+    ∙ at_place mid.guests.items before later after place later split.front (is ∙ split.put) in
+    let closed : shut.gone.number ≡ k =
+    ap (λ (g : Guest). g.number) gone ∙ same ∙ number in
+    inr
+    (record {
+      before = before;
+      after = after;
+      one = old;
+      found = split.found;
+      number = number;
+      first = h.first;
+      move = moves_as old.number k old.talk.output h.first number h.move;
+      more = h.more ++ [];
+      last = Closing k ∷ [];
+      end = inr (record { leaves = left; closed = refl });
+      all =
+          ap (λ (z : List Request). z ++ ys) h.all
+          ∙ ap (λ (z : List Request). h.first ∷ ((h.more ++ []) ++ z))
+          (shut.all ∙ ap (λ n. Closing n ∷ []) closed);
+    })
+
+-- ---- a client comes
+
+pub accepts_came : (k count : ℕ) (random : List ℕ) (xs ys : List Request)
+    → xs ≡ Accepting k (accepted_is.Came random) ∷ [] → MayClose k ys → Accepts k count (xs ++ ys)
+accepts_came k count random xs ys is h =
+    (accepted_is.Came random, ys, ap (λ (z : List Request). z ++ ys) is, h)
+
+pub accepts_full : (k count : ℕ) (xs ys : List Request)
+    → xs ≡ Accepting k accepted_is.Full ∷ [] → MakesPlace 0 count accepted_is.Full ys
+    → Accepts k count (xs ++ ys)
+accepts_full k count xs ys is h =
+    (accepted_is.Full, ys, ap (λ (z : List Request). z ++ ys) is, h)
+
+closes_one : (count : ℕ) (asked : List Request) → 512 ≤ count
+    → MakesPlace 0 count accepted_is.Full asked → (j : ℕ) × (asked ≡ Closing j ∷ [])
+closes_one count asked full (inl h) = absurd (omega (arith, full, h.0))
+closes_one count asked full (inr h) = h
+
+pub admits_crowded : (t : Terms) (over : Option Over) (old mid : Table) (xs ys : List Request)
+    → 512 ≤ length old.guests.items
+    → mid.next ≡ old.next
+    → length mid.guests.items ≡ length old.guests.items - 1
+    → MakesPlace 0 (length old.guests.items) accepted_is.Full xs
+    → Accepts mid.next (length mid.guests.items) ys
+    → Admits t over old (xs ++ ys)
+admits_crowded t over old mid xs ys full next fewer h k =
+    let one = closes_one (length old.guests.items) xs full h in
+    inr
+    (inr (
+      full,
+      (
+        one.0,
+        ys,
+        ap (λ (z : List Request). z ++ ys) one.1,
+        inr
+            (subst (λ n. Accepts n (length old.guests.items - 1) ys) next
+            (subst (λ n. Accepts mid.next n ys) fewer k)),
+      ),
+    ))
+
+-- ---- a round is over
+
+pub none_silent : (patience : ℕ) (table : Table)
+    → position (is_silent patience table.time) table.guests.items ≡ None
+    → NoneIsSilent patience table
+none_silent patience table none =
+    all_as (λ g. is_silent patience table.time g ≡ false)
+    (λ (g : Guest). table.time - g.ready ≤ patience) table.guests.items
+    (λ g apart. ltb-false patience (table.time - g.ready) apart)
+    (nowhere (is_silent patience table.time) table.guests.items none)
+
+-- ---- all are ended
+
+ends_last : (guests : List Guest) (gone : Guest)
+    → ends_of (guests ++ gone ∷ []) ≡ Closing gone.number ∷ ends_of guests
+ends_last guests gone =
+    ap (map (λ (g : Guest). Closing g.number)) (reverse-append guests (gone ∷ []))
+
+-- one more was ended, of those that are still there the last one
+pub ends_more : {C : Type 0} (requests : C → Option (List Request)) (c between later : C)
+    (first old new : List Guest) (gone : Guest)
+    → old ≡ new ++ gone ∷ []
+    → Asks requests c between (λ asked. asked ++ ends_of old ≡ ends_of first)
+    → Tells (requests between) (requests later) (Closing gone.number ∷ [])
+    → Asks requests c later (λ asked. asked ++ ends_of new ≡ ends_of first)
+ends_more requests c between later first old new gone is h told = (
+  h.0 ++ Closing gone.number ∷ [],
+  Tells-trans (requests c) (requests between) (requests later) h.0 (Closing gone.number ∷ [])
+      h.1 told,
+  append_assoc h.0 (Closing gone.number ∷ []) (ends_of new)
+      ∙ ap (λ (z : List Request). h.0 ++ z) (sym (ap ends_of is ∙ ends_last new gone)) ∙ h.2,
+)
+
+pub ends_all : {C : Type 0} (requests : C → Option (List Request)) (c later : C)
+    (first old : List Guest) → old ≡ []
+    → Asks requests c later (λ asked. asked ++ ends_of old ≡ ends_of first)
+    → Asks requests c later (IsEndsOf first)
+ends_all requests c later first old none h = (
+  h.0,
+  h.1,
+  sym (append-nil h.0) ∙ ap (λ (z : List Guest). h.0 ++ ends_of z) (sym none) ∙ h.2,
+)
+
+pub none_left : (guests : List Guest) → (0 < length guests → false ≡ true) → guests ≡ []
+none_left [] none = refl
+none_left (one ∷ guests) none = let some : false ≡ true = none (omega arith) in absurd cc
+
+-- ---- a step
+
+-- it was waited as long as may be, and then more was asked
+pub musts_ask : {C L : Type 0} (requests : C → Option (List Request))
+    (due : L → ℕ → Option ℕ → Type 0) (kept : L → Option (List ℕ)) (t : Terms)
+    (over : Option Over) (old new : Table) (links after : L) (c between later : C) (wait : ℕ)
+    (ready : Ready) (more : List Request)
+    → ((left : Option ℕ) × due links old.time left
+    × (wait ≡ wait_by left (left_at old.own.ticker old.time)))
+    → Tells (requests c) (requests between) (Waited wait ready ∷ [])
+    → Tells (requests between) (requests later) more
+    → Follows t over old new (kept after) ready more
+    → Asks requests c later (Musts due kept t over old new links after)
+musts_ask requests due kept t over old new links after c between later wait ready more h told k
+    follows = (
+      Waited wait ready ∷ more,
+      Tells-trans (requests c) (requests between) (requests later) (Waited wait ready ∷ []) more
+          told k,
+      record {
+        left = h.0;
+        says = h.1;
+        ready = ready;
+        more = more;
+        all = ap (λ n. Waited n ready ∷ more) h.2;
+        follows = follows;
+      },
+    )
+
+-- ---- serving goes on
+
+pub goes_more : {L : Type 0} (due : L → ℕ → Option ℕ → Type 0) (kept : L → Option (List ℕ))
+    (t : Terms) (a m b : Stand L) (steps : List (List Request)) (asked : List Request)
+    → GoesOn due kept t a steps m
+    → Musts due kept t None m.table b.table m.links b.links asked
+    → GoesOn due kept t a (steps ++ asked ∷ []) b
+goes_more {L} due kept t a m b [] asked h k = (
+  b,
+  subst (λ (s : Stand L). Musts due kept t None s.table b.table s.links b.links asked)
+      (sym h) k,
+  refl,
+)
+goes_more due kept t a m b (one ∷ steps) asked h k =
+    (h.0, h.1, goes_more due kept t h.0 m b steps asked h.2 k)
+
+joined_more : (steps : List (List Request)) (asked : List Request)
+    → joined (steps ++ asked ∷ []) ≡ joined steps ++ asked
+joined_more [] asked = append-nil asked
+joined_more (one ∷ steps) asked =
+    ap (λ (z : List Request). one ++ z) (joined_more steps asked)
+    ∙ sym (append_assoc one (joined steps) asked)
+
+-- what was asked in so many steps
+abbrev pub AsksSteps : {C L : Type 0} → (C → Option (List Request))
+    → (L → ℕ → Option ℕ → Type 0) → (L → Option (List ℕ)) → Terms → ℕ → Stand L → Stand L → C → C
+    → Type 0
+AsksSteps requests due kept t count a b c later =
+    (steps : List (List Request)) × (length steps ≡ count) × GoesOn due kept t a steps b
+    × Tells (requests c) (requests later) (joined steps)
+
+pub steps_none : {C L : Type 0} (requests : C → Option (List Request))
+    (due : L → ℕ → Option ℕ → Type 0) (kept : L → Option (List ℕ)) (t : Terms) (a : Stand L)
+    (c : C) → AsksSteps requests due kept t 0 a a c c
+steps_none requests due kept t a c = ([], refl, refl, Tells-nil (requests c))
+
+pub steps_more : {C L : Type 0} (requests : C → Option (List Request))
+    (due : L → ℕ → Option ℕ → Type 0) (kept : L → Option (List ℕ)) (t : Terms) (count : ℕ)
+    (a m b : Stand L) (c between later : C)
+    → AsksSteps requests due kept t count a m c between
+    → Asks requests between later (Musts due kept t None m.table b.table m.links b.links)
+    → AsksSteps requests due kept t (count + 1) a b c later
+steps_more requests due kept t count a m b c between later h k = (
+  h.0 ++ k.0 ∷ [],
+  length-append h.0 (k.0 ∷ []) ∙ ap (λ n. n + 1) h.1,
+  goes_more due kept t a m b h.0 k.0 h.2 k.2,
+  Tells-as (requests c) (requests later) (joined h.0 ++ k.0) (joined (h.0 ++ k.0 ∷ []))
+      (sym (joined_more h.0 k.0))
+      (Tells-trans (requests c) (requests between) (requests later) (joined h.0) k.0 h.3 k.1),
+)
+
+-- serving is over without a further step
+pub until_here : {C L : Type 0} (requests : C → Option (List Request))
+    (due : L → ℕ → Option ℕ → Type 0) (kept : L → Option (List ℕ)) (t : Terms) (over : Over)
+    (count : ℕ) (a m : Stand L) (c later : C)
+    → AsksSteps requests due kept t count a m c later
+    → Ends due kept t over count m m []
+    → Asks requests c later (AsksUntil due kept t over a m)
+until_here requests due kept t over count a m c later h ends = (
+  joined h.0,
+  h.3,
+  record {
+    steps = h.0;
+    mid = m;
+    last = [];
+    goes = h.2;
+    ends = subst (λ n. Ends due kept t over n m m []) (sym h.1) ends;
+    all = sym (append-nil (joined h.0));
+  },
+)
+
+-- or by one
+pub until_step : {C L : Type 0} (requests : C → Option (List Request))
+    (due : L → ℕ → Option ℕ → Type 0) (kept : L → Option (List ℕ)) (t : Terms) (over : Over)
+    (count : ℕ) (a m b : Stand L) (c between later : C)
+    → AsksSteps requests due kept t count a m c between
+    → Asks requests between later
+    (Musts due kept t (Some over) m.table b.table m.links b.links)
+    → Asks requests c later (AsksUntil due kept t over a b)
+until_step requests due kept t over count a m b c between later h k = (
+  joined h.0 ++ k.0,
+  Tells-trans (requests c) (requests between) (requests later) (joined h.0) k.0 h.3 k.1,
+  record {
+    steps = h.0;
+    mid = m;
+    last = k.0;
+    goes = h.2;
+    ends = inr (inr k.2);
+    all = refl;
+  },
+)

@@ -1,0 +1,219 @@
+-- What a desk has to ask of its clients and its links at each step.
+use Rattle.std.specs.Prelude.{◌≡◌, ◌≢◌, ◌⊎◌, ◌≤◌, ◌<◌, ℕ, ◌-◌, min, List, [], ◌∷◌, ◌++◌, length}
+use Rattle.std.specs.Prelude.{map, reverse}
+use Rattle.std.specs.Prelude.{Option, None, Some, Bool, true, false, IfSome}
+use Rattle.std.specs.List.{AllByRecursion}
+use Rattle.multiplex.specs.Requests.{Request, Waited, Accepting, Reading, Writing, Watching}
+use Rattle.multiplex.specs.Requests.{Closing}
+use Rattle.multiplex.specs.declared.clients.Ready.{Ready}
+use Rattle.multiplex.specs.declared.clients.Ready.TheVariants as ready_is
+use Rattle.multiplex.specs.declared.clients.Accepted.{Accepted}
+use Rattle.multiplex.specs.declared.clients.Accepted.TheVariants as accepted_is
+use Rattle.multiplex.specs.declared.clients.Given.{Given}
+use Rattle.multiplex.specs.declared.clients.Taken.{Taken}
+use Rattle.multiplex.specs.declared.ends.Over.{Over}
+use Rattle.multiplex.specs.declared.ends.Over.TheVariants as over_is
+use Rattle.multiplex.specs.declared.own_ticks.OwnTicks.{OwnTicks}
+use Rattle.multiplex.specs.declared.table.Guest.{Guest}
+use Rattle.multiplex.specs.declared.table.Table.{Table}
+use Rattle.multiplex.specs.declared.table.Terms.{Terms}
+use Rattle.ticking.specs.Ticking.{Ticking, left}
+
+-- ---- how long it is waited
+
+-- how long it is until the next Tick is due, if one ever is
+abbrev pub left_at : Option Ticking → ℕ → Option ℕ
+left_at None now = None
+left_at (Some t) now = Some (left t now)
+
+abbrev pub shorter : Option ℕ → ℕ → ℕ
+shorter None millis = millis
+shorter (Some left) millis = min left millis
+
+-- at most a second, at most until the links are to be kept again, and at most until a Tick of the
+-- desk's own is due
+abbrev pub wait_by : Option ℕ → Option ℕ → ℕ
+wait_by links own = shorter own (shorter links 1000)
+
+-- ---- a client was named as ready
+
+-- all that is to be sent to it is offered to it, or else it is read from
+abbrev pub IsMove : ℕ → List ℕ → Request → Type 0
+IsMove k output asked =
+    ((output ≢ []) × ((t : Taken) × (asked ≡ Writing k (length output) t)))
+    ⊎ ((output ≡ []) × ((g : Given) × (asked ≡ Reading k g)))
+
+-- whether something is still to be sent
+abbrev pub has_more : List ℕ → Bool
+has_more [] = false
+has_more (byte ∷ bytes) = true
+
+-- At last it is asked to be named again: when it can take bytes, where some are still to be sent,
+-- or else when it can be read from.
+pub record Stays (k : ℕ) (before after new : List Guest) (last : List Request) : Type 0 where
+  pub later : Guest
+  pub stays : new ≡ before ++ later ∷ after
+  pub watched : last ≡ Watching k (has_more later.talk.output) true ∷ []
+
+-- or its connection is ended
+pub record Leaves (k : ℕ) (before after new : List Guest) (last : List Request) : Type 0 where
+  pub leaves : new ≡ before ++ after
+  pub closed : last ≡ Closing k ∷ []
+
+-- what is asked where its connection is open
+pub record IsAttended (k : ℕ) (old new : List Guest) (asked : List Request) : Type 0 where
+  pub before : List Guest
+  pub after : List Guest
+  pub one : Guest
+  pub found : old ≡ before ++ one ∷ after
+  pub number : one.number ≡ k
+  pub first : Request
+  pub move : IsMove k one.talk.output first
+  pub more : List Request
+  pub last : List Request
+  pub end : Stays k before after new last ⊎ Leaves k before after new last
+  pub all : asked ≡ first ∷ (more ++ last)
+
+-- and nothing is asked where it is not
+abbrev pub Attends : ℕ → List Guest → List Guest → List Request → Type 0
+Attends k old new asked =
+    (AllByRecursion (λ (g : Guest). g.number ≢ k) old × (asked ≡ []))
+    ⊎ IsAttended k old new asked
+
+-- ---- a client waits
+
+-- Where the system has no socket for it, one of those that are open is let go, if there is one. It
+-- is turned away where there is no memory for it.
+abbrev pub MakesPlace : ℕ → ℕ → Accepted → List Request → Type 0
+MakesPlace k count accepted_is.Full more =
+    ((count ≡ 0) × (more ≡ [])) ⊎ ((j : ℕ) × (more ≡ Closing j ∷ []))
+MakesPlace k count (accepted_is.Came random) more = (more ≡ []) ⊎ (more ≡ Closing k ∷ [])
+MakesPlace k count accepted_is.Nobody more = more ≡ []
+
+-- it is accepted, where so many connections are open
+abbrev pub Accepts : ℕ → ℕ → List Request → Type 0
+Accepts k count asked =
+    (a : Accepted) × (more : List Request) × (asked ≡ Accepting k a ∷ more)
+    × MakesPlace k count a more
+
+-- where as many are open as may be, one of them is let go first, by which serving may be over
+abbrev pub Crowds : ℕ → ℕ → Option Over → List Request → Type 0
+Crowds k count over asked =
+    (j : ℕ) × (more : List Request) × (asked ≡ Closing j ∷ more)
+    × (((over ≢ None) × (more ≡ [])) ⊎ Accepts k (count - 1) more)
+
+-- nothing is asked where no other client is wanted
+abbrev pub Admits : Terms → Option Over → Table → List Request → Type 0
+Admits t over old asked =
+    ((t.most ≤ old.next) × (asked ≡ []))
+    ⊎ (((length old.guests.items < 512) × Accepts old.next (length old.guests.items) asked)
+    ⊎ ((512 ≤ length old.guests.items)
+    × Crowds old.next (length old.guests.items) over asked))
+
+-- ---- a round is over
+
+-- each client was ready within the time for which one is waited for
+abbrev pub NoneIsSilent : ℕ → Table → Type 0
+NoneIsSilent patience table =
+    AllByRecursion (λ (g : Guest). table.time - g.ready ≤ patience) table.guests.items
+
+-- the last moment at which the links were kept, where that is told
+abbrev pub WereKeptAt : ℕ → Option (List ℕ) → Type 0
+WereKeptAt now kept =
+    IfSome kept (λ moments. (earlier : List ℕ) × (moments ≡ earlier ++ now ∷ []))
+
+-- the links are kept, and clients that are silent for too long are let go
+pub record EndsRound (t : Terms) (now : ℕ) (over : Option Over) (new : Table)
+    (kept : Option (List ℕ)) : Type 0 where
+  pub time : new.time ≡ now
+  pub links : WereKeptAt now kept
+  pub silent : over ≡ None → NoneIsSilent t.patience new
+
+-- ---- a step
+
+abbrev pub Follows : Terms → Option Over → Table → Table → Option (List ℕ) → Ready → List Request
+    → Type 0
+Follows t over old new kept ready_is.Waits more = Admits t over old more
+Follows t over old new kept (ready_is.Client k) more =
+    Attends k old.guests.items new.guests.items more
+Follows t over old new kept (ready_is.Round now) more = EndsRound t now over new kept
+Follows t over old new kept ready_is.Failed more = (over ≡ Some over_is.Failed) × (more ≡ [])
+
+-- It is waited until something is ready, as long as may be, and then that is done which is to be
+-- done. What the links say of when they are to be kept again stands first.
+pub record Musts {L : Type 0} (due : L → ℕ → Option ℕ → Type 0) (kept : L → Option (List ℕ))
+    (t : Terms) (over : Option Over) (old new : Table) (links later : L) (asked : List Request)
+    : Type 0 where
+  pub left : Option ℕ
+  pub says : due links old.time left
+  pub ready : Ready
+  pub more : List Request
+  pub all : asked ≡ Waited (wait_by left (left_at old.own.ticker old.time)) ready ∷ more
+  pub follows : Follows t over old new (kept later) ready more
+
+-- ---- serving from its first client to its end
+
+-- what stands between two steps: the clients whose connections are open, and the links
+pub record Stand (L : Type 0) : Type 0 where
+  pub table : Table
+  pub links : L
+
+abbrev pub stand : {L : Type 0} → Table → L → Stand L
+stand table links = record { table = table; links = links }
+
+-- steps after each of which serving goes on, with what was asked at each
+abbrev pub GoesOn : {L : Type 0} → (L → ℕ → Option ℕ → Type 0) → (L → Option (List ℕ)) → Terms
+    → Stand L → List (List Request) → Stand L → Type 0
+GoesOn due kept t a [] b = a ≡ b
+GoesOn {L} due kept t a (asked ∷ steps) b =
+    (m : Stand L) × Musts due kept t None a.table m.table a.links m.links asked
+    × GoesOn due kept t m steps b
+
+abbrev pub joined : List (List Request) → List Request
+joined [] = []
+joined (asked ∷ steps) = asked ++ joined steps
+
+-- After so many steps serving is over: as many clients as were asked for came and left; or it took
+-- 2^64 - 1 steps; or a further step, at which this was asked, ended it.
+abbrev pub Ends : {L : Type 0} → (L → ℕ → Option ℕ → Type 0) → (L → Option (List ℕ)) → Terms
+    → Over → ℕ → Stand L → Stand L → List Request → Type 0
+Ends due kept t over count a b last =
+    ((over ≡ over_is.All) × (a.table.guests.items ≡ []) × (t.most ≤ a.table.next) × (b ≡ a)
+    × (last ≡ []))
+    ⊎ (((over ≡ over_is.Tired) × (count ≡ 18446744073709551615) × (b ≡ a) × (last ≡ []))
+    ⊎ Musts due kept t (Some over) a.table b.table a.links b.links last)
+
+-- all that is asked while it is served
+pub record AsksUntil {L : Type 0} (due : L → ℕ → Option ℕ → Type 0) (kept : L → Option (List ℕ))
+    (t : Terms) (over : Over) (a b : Stand L) (asked : List Request) : Type 0 where
+  pub steps : List (List Request)
+  pub mid : Stand L
+  pub last : List Request
+  pub goes : GoesOn due kept t a steps mid
+  pub ends : Ends due kept t over (length steps) mid b last
+  pub all : asked ≡ joined steps ++ last
+
+-- at the end all connections are ended, the last one first
+abbrev pub ends_of : List Guest → List Request
+ends_of guests = map (λ (g : Guest). Closing g.number) (reverse guests)
+
+-- before the first client
+abbrev pub IsFresh : OwnTicks → Table → Type 0
+IsFresh own t = (t.guests.items ≡ []) × (t.next ≡ 0) × (t.time ≡ 0) × (t.own ≡ own)
+
+-- from the first client to the last
+pub record ServesDuly {L : Type 0} (due : L → ℕ → Option ℕ → Type 0) (kept : L → Option (List ℕ))
+    (t : Terms) (over : Over) (own : OwnTicks) (first last : L) (asked : List Request)
+    : Type 0 where
+  pub before : Table
+  pub fresh : IsFresh own before
+  pub after : Table
+  pub served : List Request
+  pub until : AsksUntil due kept t over (stand before first) (stand after last) served
+  pub all : asked ≡ served ++ ends_of after.guests.items
+
+-- nothing is asked where there was no memory to begin
+abbrev pub AsksDuly : {L : Type 0} → (L → ℕ → Option ℕ → Type 0) → (L → Option (List ℕ)) → Terms
+    → Over → OwnTicks → L → L → List Request → Type 0
+AsksDuly due kept t over own first last asked =
+    ((over ≡ over_is.NoMemory) × (asked ≡ [])) ⊎ ServesDuly due kept t over own first last asked

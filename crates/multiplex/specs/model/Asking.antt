@@ -1,0 +1,55 @@
+-- What is asked in the parts of a step.
+use Rattle.std.specs.Prelude.{◌≡◌, ◌⊎◌, ℕ, List, [], ◌∷◌, ◌++◌, length, slice_index_or}
+use Rattle.std.specs.Prelude.{Option, None, Some, true}
+use Rattle.multiplex.specs.Musts.{IsMove, ends_of, has_more}
+use Rattle.multiplex.specs.Requests.{Request, Reading, Writing, Watching, Closing}
+use Rattle.multiplex.specs.declared.clients.Given.{Given}
+use Rattle.multiplex.specs.declared.clients.Taken.{Taken}
+use Rattle.multiplex.specs.declared.ends.Why.{Why}
+use Rattle.multiplex.specs.declared.table.Guest.{Guest}
+
+-- one thing alone is asked
+abbrev pub Offers : ℕ → List ℕ → List Request → Type 0
+Offers k output asked = (t : Taken) × (asked ≡ Writing k (length output) t ∷ [])
+
+abbrev pub Hears : ℕ → List Request → Type 0
+Hears k asked = (g : Given) × (asked ≡ Reading k g ∷ [])
+
+abbrev pub AsksMove : ℕ → List ℕ → List Request → Type 0
+AsksMove k output asked = (first : Request) × IsMove k output first × (asked ≡ first ∷ [])
+
+-- it is asked first, and then anything
+abbrev pub BeginsWithMove : ℕ → List ℕ → List Request → Type 0
+BeginsWithMove k output asked =
+    (first : Request) × IsMove k output first × ((more : List Request) × (asked ≡ first ∷ more))
+
+-- anything
+abbrev pub AsksSome : List Request → Type 0
+AsksSome asked = Unit {0}
+
+-- what is asked last of a client that stays
+abbrev pub watching : ℕ → List ℕ → Option Why → List Request
+watching k output None = Watching k (has_more output) true ∷ []
+watching k output (Some w) = []
+
+-- a client has its turns, and had and has this to be sent
+pub record AsksHosted (k : ℕ) (old new : List ℕ) (fate : Option Why) (asked : List Request)
+    : Type 0 where
+  pub first : Request
+  pub move : IsMove k old first
+  pub more : List Request
+  pub all : asked ≡ first ∷ (more ++ watching k new fate)
+
+-- the connection of the client at this place is ended
+pub record ClosesAt (place : ℕ) (guests : List Guest) (asked : List Request) : Type 0 where
+  pub gone : Guest
+  pub at : (d : Guest) → slice_index_or guests place d ≡ gone
+  pub all : asked ≡ Closing gone.number ∷ []
+
+-- that of the client that came, or none
+abbrev pub MayClose : ℕ → List Request → Type 0
+MayClose k asked = (asked ≡ []) ⊎ (asked ≡ Closing k ∷ [])
+
+-- those of all that are open
+abbrev pub IsEndsOf : List Guest → List Request → Type 0
+IsEndsOf guests asked = asked ≡ ends_of guests
