@@ -7,6 +7,8 @@ use Rattle.following.specs.Following.{Following, new_following, action_of, after
 use Rattle.following.specs.Following.{after_answer, after_lost, after_opened, hurried_stage}
 use Rattle.following.specs.Following.{with_stage}
 use Rattle.following.specs.declared.stages.Action.{Action}
+use Rattle.following.specs.declared.stages.Stage.{Stage}
+use Rattle.following.specs.declared.stages.Stage.TheVariants as stage
 use Rattle.following.specs.declared.stages.Action.TheVariants as action
 use Rattle.mirror.specs.Fronts.{TakesAs}
 use Rattle.mirror.specs.declared.mirror.Taken.{Taken}
@@ -74,6 +76,11 @@ begun now m = mirroring m.hall (after_action m.follower now) m.entries m.talking
 
 abbrev pub Acts : Wish → ℕ → MirroringOf → MirroringOf → Type 0
 Acts w now old new = ActsBy (action_of old.follower now) w (begun now old) new
+
+-- a connection is being opened
+abbrev pub is_opening : Stage → Bool
+is_opening (stage.Opening since) = true
+is_opening _ = false
 
 -- ---- what comes
 

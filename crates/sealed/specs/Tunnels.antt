@@ -1,5 +1,5 @@
 -- A sealed connection under one key.
-use Rattle.std.specs.Prelude.{◌≡◌, ℕ, ◌+◌, List, [], length, None}
+use Rattle.std.specs.Prelude.{◌≡◌, ℕ, ◌+◌, ◌-◌, ◌*◌, ◌<◌, ◌≤◌, List, [], length, None}
 use Rattle.seal.specs.declared.channel.Channel.{Channel}
 use Rattle.seal.specs.declared.channel.Direction.{Direction}
 use Rattle.seal.specs.declared.channel.Direction.TheVariants.{ToServer, ToClient}
@@ -35,3 +35,9 @@ pub record SealsAll (bytes : List ℕ) (old new : Sealing) (sent : List ℕ) : T
   pub gives : joined bodies ≡ bytes
   pub sealed : sent ≡ records old.channel old.number bodies
   pub counted : new ≡ record old { number = old.number + length bodies }
+
+-- and they are as few as can be: a body has at most 16,384 bytes
+pub record AreFew (bytes : List ℕ) (old new : Sealing) : Type 0 where
+  pub grown : old.number ≤ new.number
+  pub enough : length bytes ≤ 16384 * (new.number - old.number)
+  pub few : 16384 * (new.number - old.number) < length bytes + 16384

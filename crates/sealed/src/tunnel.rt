@@ -1,8 +1,8 @@
 //! A sealed connection under one key, as one of its sides has it.
 
-ghost use Rattle.std.specs.Prelude.{◌≡◌, [], IfOk, OnErr, Option, None};
+ghost use Rattle.std.specs.Prelude.{◌≡◌, [], IfOk, OnErr, OnOk, Option, None};
 ghost use Rattle.seal.specs.Streams.{Fed};
-ghost use Rattle.sealed.specs.Tunnels.{SealsAll, fresh_tunnel, opposite};
+ghost use Rattle.sealed.specs.Tunnels.{AreFew, SealsAll, fresh_tunnel, opposite};
 
 use seal::{Channel, Direction, NoMemory, OpenFault, Opener, SealFault, Sealer};
 use std::alloc::Global;
@@ -85,6 +85,7 @@ impl Tunnel {
     pub fn seal(&mut self, alloc: Global, bytes: &[u8]) -> Result<Vec<u8>, SealFault>
         ensures sealed { IfOk result
             (λ sent. SealsAll bytes.now self.old.sealer self.new.sealer sent.items) }
+        ensures few { OnOk result (AreFew bytes.now self.old.sealer self.new.sealer) }
         ensures opener { self.new.opener ≡ self.old.opener }
     {
         let mut sent = Vec::new(alloc);

@@ -320,6 +320,9 @@ impl Submission {
 }
 
 impl Dialogue for Submission {
+    ghost use Rattle.std.specs.Prelude.{◌≡◌, false};
+    ghost use Rattle.desk_talks.specs.Dialogues.{has_changed};
+    ghost use Rattle.desk_talks.specs.Lines.{is_opening};
     ghost use Rattle.std.specs.Prelude.{List, ℕ};
     ghost use Rattle.acceptor.specs.declared.entry.Entry.{Entry as EntryOf};
     ghost use Rattle.submitting.specs.Submissions.{held};
@@ -329,31 +332,50 @@ impl Dialogue for Submission {
     // The entries, whichever of them were taken.
     ghost held = { held };
 
-    fn act(&mut self, now: u64) -> Wish {
+    fn act(&mut self, now: u64) -> Wish
+        ensures held { held self.new ≡ held self.old }
+        ensures acts { Acts result now self.old self.new }
+    {
         self.act(now)
     }
 
-    fn is_opening(&self) -> bool {
+    fn is_opening(&self) -> bool
+        ensures { result ≡ is_opening self.now.line.stage }
+    {
         self.line.is_opening()
     }
 
-    fn opened(&mut self) -> bool {
+    fn opened(&mut self) -> bool
+        ensures held { held self.new ≡ held self.old }
+        ensures opens { Opens result self.old self.new }
+    {
         self.opened()
     }
 
-    fn lost(&mut self) {
+    fn lost(&mut self)
+        ensures held { held self.new ≡ held self.old }
+        ensures lost { self.new ≡ lost self.old }
+    {
         self.lost();
     }
 
-    fn output(&self) -> &[u8] {
+    fn output(&self) -> &[u8]
+        ensures { result.now ≡ unsent_by self.now.line.talking }
+    {
         self.output()
     }
 
-    fn sent(&mut self, count: usize) {
+    fn sent(&mut self, count: usize)
+        ensures held { held self.new ≡ held self.old }
+        ensures sent { self.new ≡ sent_by self.old count }
+    {
         self.sent(count);
     }
 
-    fn hear(&mut self, now: u64, piece: &[u8]) -> Came {
+    fn hear(&mut self, now: u64, piece: &[u8]) -> Came
+        ensures held { has_changed result ≡ false → held self.new ≡ held self.old }
+        ensures hears { HearsDesk result piece.now self.old self.new }
+    {
         let _now = now;
         self.hear(piece)
     }
