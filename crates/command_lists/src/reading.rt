@@ -41,14 +41,16 @@ fn fit(texts: Option<Vec<CommandText>>) -> Option<CommandTexts>
 /// The commands of lines: their texts without white space at a line's end that a browser adds, and
 /// without lines that are empty and comments. There are 1 to 16,384 of them, each of at most 600
 /// bytes. None where the lines have no such commands, or are above the limits of an input.
+#[tactic(auto, using(crate::proofs::WholeInput::fit_from, crate::proofs::WholeInput::too_long))]
 pub fn texts_in(alloc: Global, lines: &[u8]) -> Result<Option<CommandTexts>, AllocError>
     ensures { IfOk result (IsReadFrom lines.now) }
 {
     let mut reader = lines;
     let commands = match read_commands(alloc, &mut reader) {
         Ok(commands) => commands,
-        Err(RunFault::NoMemory) => return Err(AllocError),
-        Err(_) => return Ok(None),
+        Err(RunFault::InputTooLong) => return Ok(None),
+        // No read of bytes that are there fails.
+        Err(_) => return Err(AllocError),
     };
     let texts = shorts(alloc, &commands)?;
     Ok(fit(texts))

@@ -1,5 +1,7 @@
 -- Exit statuses.
 use Rattle.std.specs.Prelude.{ℕ}
+use Rattle.std.specs.declared.io.ErrorKind.{ErrorKind}
+use Rattle.std.specs.declared.io.ErrorKind.TheVariants as kind
 use Rattle.key_file.specs.declared.fault.KeyFileFault.{KeyFileFault}
 use Rattle.key_file.specs.declared.fault.KeyFileFault.TheVariants as key_fault
 use Rattle.hall_options.specs.declared.mistakes.Mistake.{Mistake}
@@ -22,3 +24,13 @@ status_of (mistake.File fault) = 3
 status_of (mistake.Key fault) = key_status fault
 status_of (mistake.Unknown desk) = 4
 status_of mistake.NoMemory = 5
+
+-- where the system did not do something: 5 for memory, 4 for all else
+abbrev pub system_status : ErrorKind → ℕ
+system_status kind.OutOfMemory = 5
+system_status _ = 4
+
+-- where there are no arguments: 5 for memory, 2 where they are not text
+abbrev pub arguments_status : ErrorKind → ℕ
+arguments_status kind.OutOfMemory = 5
+arguments_status _ = 2

@@ -1,5 +1,14 @@
 //! What the options name.
 
+ghost use Rattle.std.specs.Prelude.{◌≡◌, ◌++◌, ◌∷◌, ◌||◌, [], List, ℕ, None, Ok, Some, true};
+ghost use Rattle.std.specs.Prelude.{codes, is_some, vec_len, IfErr, IfOk, OnOk};
+ghost use Rattle.clap.specs.Words.{found_of};
+ghost use Rattle.hall_file.specs.Halls.{Says, key_text};
+ghost use Rattle.hall_options.specs.Found.{HasNumber, IsGiven, IsHallMistake, IsHallOf, IsKeyOf};
+ghost use Rattle.hall_options.specs.Found.{IsMistakeIn, IsMistakeOfDesk, IsMistakeOfFile};
+ghost use Rattle.hall_options.specs.Found.{IsMistakeOfKey, IsUnknown, count_of, is_given};
+ghost use Rattle.hall_options.specs.declared.mistakes.Mistake.TheVariants as wrong;
+
 use crate::mistakes::Mistake;
 use clap::ArgMatches;
 use command_line::plain_number;
@@ -25,7 +34,10 @@ pub struct FoundHall {
 
 /// The number of an option. It is a mistake where it has a sign or leading zeros, which the parser
 /// accepts.
-pub fn number_at<'a>(found: &ArgMatches<'_>, id: &'static str) -> Result<u64, Mistake<'a>> {
+pub fn number_at<'a>(found: &ArgMatches<'_>, id: &'static str) -> Result<u64, Mistake<'a>>
+    ensures ok { IfOk result (HasNumber (found_of found.now) id.now) }
+    ensures err { IfErr result (λ m. m ≡ wrong.Number id.entry) }
+{
     let Some(text) = found.get_str(id) else {
         return Err(Mistake::Number(id));
     };
@@ -41,10 +53,10 @@ fn address_of(rt: &HostRuntime, text: &str) -> io::Result<SocketAddr> {
 }
 
 /// An address that was looked for, or this mistake where it isn't known.
-fn known<'a>(
-    found: io::Result<SocketAddr>,
-    mistake: Mistake<'a>,
-) -> Result<SocketAddr, Mistake<'a>> {
+fn known<'a>(found: io::Result<SocketAddr>, mistake: Mistake<'a>) -> Result<SocketAddr, Mistake<'a>>
+    ensures ok { IfOk result (λ address. found ≡ Ok address) }
+    ensures err { IfErr result (IsUnknown mistake.entry) }
+{
     match found {
         Ok(address) => Ok(address),
         Err(error) if error.kind() == ErrorKind::OutOfMemory => Err(Mistake::NoMemory),
@@ -53,7 +65,10 @@ fn known<'a>(
 }
 
 /// Adds the address of one more desk.
-fn add<'a>(desks: &mut Vec<Option<SocketAddr>>, address: SocketAddr) -> Result<(), Mistake<'a>> {
+fn add<'a>(desks: &mut Vec<Option<SocketAddr>>, address: SocketAddr) -> Result<(), Mistake<'a>>
+    ensures ok { OnOk result (desks.new.items ≡ desks.old.items ++ Some address ∷ []) }
+    ensures err { IfErr result (λ m. m ≡ wrong.NoMemory) }
+{
     match desks.push(Some(address)) {
         Ok(()) => Ok(()),
         Err(_) => Err(Mistake::NoMemory),
@@ -65,7 +80,10 @@ pub fn address_at<'a>(
     rt: &HostRuntime,
     found: &ArgMatches<'_>,
     id: &'static str,
-) -> Result<SocketAddr, Mistake<'a>> {
+) -> Result<SocketAddr, Mistake<'a>>
+    ensures ok { IfOk result (λ _. is_given (found_of found.now) id.now ≡ true) }
+    ensures err { IfErr result (IsUnknown (wrong.Address id.entry)) }
+{
     match found.get_str(id) {
         Some(text) => known(address_of(rt, text), Mistake::Address(id)),
         None => Err(Mistake::Address(id)),
@@ -73,7 +91,10 @@ pub fn address_at<'a>(
 }
 
 /// The number of the hall that no file describes.
-fn number_of<'a>(found: &ArgMatches<'_>) -> Result<u32, Mistake<'a>> {
+fn number_of<'a>(found: &ArgMatches<'_>) -> Result<u32, Mistake<'a>>
+    ensures ok { IfOk result (HasNumber (found_of found.now) (codes "hall")) }
+    ensures err { IfErr result (IsMistakeIn true (found_of found.now)) }
+{
     match u32::try_from(number_at(found, "hall")?) {
         Ok(hall) => Ok(hall),
         Err(_) => Err(Mistake::Number("hall")),
@@ -84,7 +105,11 @@ fn number_of<'a>(found: &ArgMatches<'_>) -> Result<u32, Mistake<'a>> {
 fn desks_at<'a>(
     rt: &HostRuntime,
     found: &ArgMatches<'_>,
-) -> Result<Vec<Option<SocketAddr>>, Mistake<'a>> {
+) -> Result<Vec<Option<SocketAddr>>, Mistake<'a>>
+    ensures ok { IfOk result
+        (λ desks. count_of (found_of found.now) (codes "to") ≡ Some (vec_len desks)) }
+    ensures err { IfErr result (IsMistakeIn true (found_of found.now)) }
+{
     let Some(texts) = found.get_strs("to") else {
         return Err(Mistake::Address("to"));
     };
@@ -97,11 +122,15 @@ fn desks_at<'a>(
 }
 
 /// All desks of a hall's file.
-fn desks_of<'a>(rt: &HostRuntime, file: &HallFile) -> Result<Vec<Option<SocketAddr>>, Mistake<'a>> {
+fn desks_of<'a>(rt: &HostRuntime, file: &HallFile) -> Result<Vec<Option<SocketAddr>>, Mistake<'a>>
+    ensures ok { IfOk result (λ desks. vec_len desks ≡ vec_len file.now.desks) }
+    ensures err { IfErr result (IsMistakeOfDesk file.now) }
+{
     let mut desks = Vec::new(rt.alloc());
-    for number in 1..=file.desk_count() {
+    for place in 0..file.desk_count() {
+        let number = place + 1;
         let Some(text) = file.address_of(number) else {
-            return Ok(desks);
+            return Err(Mistake::Unknown(number));
         };
         let address = known(address_of(rt, text), Mistake::Unknown(number))?;
         add(&mut desks, address)?;
@@ -110,7 +139,10 @@ fn desks_of<'a>(rt: &HostRuntime, file: &HallFile) -> Result<Vec<Option<SocketAd
 }
 
 /// The hall that the file at a path describes.
-fn file_at<'a>(rt: &HostRuntime, path: &'a str) -> Result<HallFile, Mistake<'a>> {
+fn file_at<'a>(rt: &HostRuntime, path: &'a str) -> Result<HallFile, Mistake<'a>>
+    ensures ok { IfOk result (λ file. (bytes : List ℕ) × Says bytes file) }
+    ensures err { IfErr result (IsMistakeOfFile path.now) }
+{
     match read_hall_at(rt, path) {
         Ok(file) => Ok(file),
         Err(
@@ -124,7 +156,10 @@ fn file_at<'a>(rt: &HostRuntime, path: &'a str) -> Result<HallFile, Mistake<'a>>
 }
 
 /// The key that the file at a path has.
-fn key_at<'a>(rt: &HostRuntime, path: &str) -> Result<Option<[u8; 32]>, Mistake<'a>> {
+fn key_at<'a>(rt: &HostRuntime, path: &str) -> Result<Option<[u8; 32]>, Mistake<'a>>
+    ensures ok { IfOk result (IsKeyOf true) }
+    ensures err { IfErr result IsMistakeOfKey }
+{
     match read_key_at(rt, path) {
         Ok(key) => Ok(Some(key)),
         Err(fault) => Err(Mistake::Key(fault)),
@@ -132,10 +167,10 @@ fn key_at<'a>(rt: &HostRuntime, path: &str) -> Result<Option<[u8; 32]>, Mistake<
 }
 
 /// The key that the option names, if it is there.
-fn given_key<'a>(
-    rt: &HostRuntime,
-    found: &ArgMatches<'_>,
-) -> Result<Option<[u8; 32]>, Mistake<'a>> {
+fn given_key<'a>(rt: &HostRuntime, found: &ArgMatches<'_>) -> Result<Option<[u8; 32]>, Mistake<'a>>
+    ensures ok { IfOk result (IsKeyOf (is_given (found_of found.now) (codes "key"))) }
+    ensures err { IfErr result IsMistakeOfKey }
+{
     let Some(path) = found.get_str("key") else {
         return Ok(None);
     };
@@ -147,7 +182,10 @@ fn file_key<'a>(
     rt: &HostRuntime,
     path: &str,
     file: &HallFile,
-) -> Result<Option<[u8; 32]>, Mistake<'a>> {
+) -> Result<Option<[u8; 32]>, Mistake<'a>>
+    ensures ok { IfOk result (IsKeyOf (is_some (key_text file.now))) }
+    ensures err { IfErr result IsMistakeOfKey }
+{
     let Some(named) = &file.key else {
         return Ok(None);
     };
@@ -163,7 +201,11 @@ fn key_of<'a>(
     found: &ArgMatches<'_>,
     path: &str,
     file: &HallFile,
-) -> Result<Option<[u8; 32]>, Mistake<'a>> {
+) -> Result<Option<[u8; 32]>, Mistake<'a>>
+    ensures ok { IfOk result (IsKeyOf
+        (is_given (found_of found.now) (codes "key") || is_some (key_text file.now))) }
+    ensures err { IfErr result IsMistakeOfKey }
+{
     if found.get_str("key").is_some() {
         return given_key(rt, found);
     }
@@ -171,7 +213,10 @@ fn key_of<'a>(
 }
 
 /// The hall that `--hall` and `--to` name.
-fn given_hall<'a>(rt: &HostRuntime, found: &ArgMatches<'_>) -> Result<FoundHall, Mistake<'a>> {
+fn given_hall<'a>(rt: &HostRuntime, found: &ArgMatches<'_>) -> Result<FoundHall, Mistake<'a>>
+    ensures ok { IfOk result (IsGiven (found_of found.now)) }
+    ensures err { IfErr result (IsMistakeIn true (found_of found.now)) }
+{
     let hall = number_of(found)?;
     let key = given_key(rt, found)?;
     let desks = desks_at(rt, found)?;
@@ -181,7 +226,10 @@ fn given_hall<'a>(rt: &HostRuntime, found: &ArgMatches<'_>) -> Result<FoundHall,
 /// The hall that the options of [`with_desks`](crate::with_desks) name, its desks, and its key:
 /// that of `--key`, or else the one that the hall's file names. What is wrong with the hall's file
 /// or with `--hall` is said first, then what is wrong with the key's file, then with an address.
-pub fn hall_of<'a>(rt: &HostRuntime, found: &ArgMatches<'a>) -> Result<FoundHall, Mistake<'a>> {
+pub fn hall_of<'a>(rt: &HostRuntime, found: &ArgMatches<'a>) -> Result<FoundHall, Mistake<'a>>
+    ensures ok { IfOk result (IsHallOf (found_of found.now)) }
+    ensures err { IfErr result (IsHallMistake (found_of found.now)) }
+{
     if found.get_str("hall").is_some() {
         return given_hall(rt, found);
     }

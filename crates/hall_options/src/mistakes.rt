@@ -3,7 +3,9 @@
 //! system fails, and 5 where memory is refused.
 
 ghost use Rattle.std.specs.Prelude.{◌≡◌, ◌⊎◌};
-ghost use Rattle.hall_options.specs.Mistakes.{key_status, status_of};
+ghost use Rattle.std.specs.IoError.{error_kind};
+ghost use Rattle.hall_options.specs.Mistakes.{arguments_status, key_status, status_of};
+ghost use Rattle.hall_options.specs.Mistakes.{system_status};
 
 use clap::Error;
 use command_line::{NOT_TEXT, PrintFault, print_parser_text};
@@ -41,7 +43,7 @@ pub fn tell<F: Write>(faults: &mut F, program: &str, why: &str, status: u8) -> u
 /// Says why the system did not do something, and returns the status: 5 where memory was refused,
 /// and else 4.
 pub fn tell_system<F: Write>(faults: &mut F, program: &str, error: &io::Error, why: &str) -> u8
-    ensures { (result ≡ 5) ⊎ (result ≡ 4) }
+    ensures { result ≡ system_status (error_kind error.now) }
 {
     if error.kind() == ErrorKind::OutOfMemory {
         return tell(faults, program, "no memory", 5);
@@ -52,7 +54,7 @@ pub fn tell_system<F: Write>(faults: &mut F, program: &str, error: &io::Error, w
 /// Says why a program has no arguments, and returns the status: 5 where memory was refused, and
 /// else 2, since they are not text.
 pub fn tell_no_arguments<F: Write>(faults: &mut F, program: &str, error: &io::Error) -> u8
-    ensures { (result ≡ 5) ⊎ (result ≡ 2) }
+    ensures { result ≡ arguments_status (error_kind error.now) }
 {
     if error.kind() == ErrorKind::OutOfMemory {
         return tell(faults, program, "no memory", 5);

@@ -1,3 +1,4 @@
 pub mod Tokens
 pub mod Outcomes
 pub mod Agendas
+pub mod Streams

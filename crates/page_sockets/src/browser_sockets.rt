@@ -1,8 +1,8 @@
 //! The sockets of browsers over TCP.
 
-ghost use Rattle.std.specs.Prelude.{◌≡◌, ◌≤◌, length, true, false};
+ghost use Rattle.std.specs.Prelude.{◌≡◌, ◌≤◌, [], length, true, false, IfOk};
 ghost use Rattle.pages.specs.Happenings.{CountsGiven, CountsTaken};
-ghost use Rattle.page_sockets.specs.Agendas.{GoesOn, IsOver, NamesNext, round};
+ghost use Rattle.page_sockets.specs.Agendas.{GoesOn, IsOver, NamesNext, agenda, round};
 
 use crate::agenda::Agenda;
 use crate::outcomes::accepted_by;
@@ -74,13 +74,15 @@ fn note_all(events: &Events, registry: &Registry, streams: &mut Streams, agenda:
 }
 
 impl<'a, R: Net + Clock> BrowserSockets<'a, R> {
-    /// Listens at this address. At most so many connections are open at once.
+    /// Listens at this address. At most so many connections are open at once. No round was begun.
     pub fn listen(
         runtime: &'a R,
         alloc: Global,
         address: SocketAddr,
         most: usize,
-    ) -> io::Result<Self> {
+    ) -> io::Result<Self>
+        ensures { IfOk result (λ sockets. sockets ≡ round false (agenda false [])) }
+    {
         let most_ready = most.saturating_add(MOST_OTHERS);
         let mut listener = TcpListener::bind(runtime, address)?;
         let poll = Poll::new(runtime)?;

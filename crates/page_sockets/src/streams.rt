@@ -1,6 +1,6 @@
 //! The browsers' sockets: those of open connections, and those of connections that are ending.
 
-ghost use Rattle.std.specs.Prelude.{◌≡◌, ◌≤◌, length, IfOk};
+ghost use Rattle.std.specs.Prelude.{◌≡◌, ◌≤◌, false, length, true, IfOk};
 ghost use Rattle.pages.specs.Happenings.{CountsGiven, CountsTaken};
 ghost use Rattle.indexmap.specs.IndexMap.{index_map_len};
 
@@ -59,8 +59,13 @@ pub struct Streams {
 }
 
 impl Streams {
+    ghost use Rattle.page_sockets.specs.Streams.{OthersStay, SameOpen, is_empty, is_full, is_open};
+    ghost use Rattle.page_sockets.specs.Streams.{some_end};
+
     pub fn new(alloc: Global, most: usize) -> Result<Streams, AllocError>
-        ensures { IfOk result (λ s. s.most ≡ most) }
+        ensures most { IfOk result (λ s. s.most ≡ most) }
+        ensures none { IfOk result (λ s. is_empty s ≡ true) }
+        ensures none_end { IfOk result (λ s. some_end s ≡ false) }
     {
         Ok(Streams {
             staying: IndexMap::with_capacity(alloc, most)?,
@@ -70,23 +75,33 @@ impl Streams {
     }
 
     /// Whether as many connections are open as may be.
-    pub fn is_full(&self) -> bool {
+    pub fn is_full(&self) -> bool
+        ensures { result ≡ is_full self.now }
+    {
         self.staying.len() >= self.most
     }
 
     /// Whether no connection is open.
-    pub fn is_empty(&self) -> bool {
+    pub fn is_empty(&self) -> bool
+        ensures { result ≡ is_empty self.now }
+    {
         self.staying.is_empty()
     }
 
     /// Whether the connection of the browser with this number is open.
-    pub fn is_open(&self, number: u64) -> bool {
+    pub fn is_open(&self, number: u64) -> bool
+        ensures { result ≡ is_open self.now number }
+    {
         self.staying.contains_key(&number)
     }
 
     /// Lets a browser in. False: as many are in as may be, the system doesn't tell when it is
     /// ready, or memory was refused.
-    pub fn enter(&mut self, registry: &Registry, number: u64, stream: TcpStream) -> bool {
+    pub fn enter(&mut self, registry: &Registry, number: u64, stream: TcpStream) -> bool
+        ensures full { is_full self.old ≡ true → result ≡ false }
+        ensures entered { result ≡ true → is_open self.new number ≡ true }
+        ensures others { OthersStay number self.old self.new }
+    {
         if self.staying.len() >= self.most {
             return false;
         }
@@ -102,7 +117,9 @@ impl Streams {
 
     /// Reads once of a browser.
     pub fn read(&mut self, number: u64, buffer: &mut [u8; 4096]) -> Given
-        ensures { CountsGiven (length buffer.new) result }
+        ensures count { CountsGiven (length buffer.new) result }
+        ensures closed { is_open self.old number ≡ false → result ≡ Given.Broke }
+        ensures same { self.new ≡ self.old }
     {
         match self.staying.get(&number) {
             Some(mut stream) => given_by(stream.read(buffer)),
@@ -112,7 +129,9 @@ impl Streams {
 
     /// Writes once to a browser.
     pub fn write(&mut self, number: u64, bytes: &[u8]) -> Taken
-        ensures { CountsTaken (length bytes.now) result }
+        ensures count { CountsTaken (length bytes.now) result }
+        ensures closed { is_open self.old number ≡ false → result ≡ Taken.Broke }
+        ensures same { self.new ≡ self.old }
     {
         match self.staying.get(&number) {
             Some(mut stream) => taken_by(stream.write(bytes)),
@@ -121,7 +140,10 @@ impl Streams {
     }
 
     /// Asks the system to tell when a browser can take bytes, or else when it can be read from.
-    pub fn watch(&mut self, registry: &Registry, number: u64, writes: bool) -> bool {
+    pub fn watch(&mut self, registry: &Registry, number: u64, writes: bool) -> bool
+        ensures closed { is_open self.old number ≡ false → result ≡ false }
+        ensures same { SameOpen self.old self.new }
+    {
         let Some(token) = browser_token(number) else {
             return false;
         };
@@ -138,7 +160,10 @@ impl Streams {
 
     /// Ends the connection of a browser: it is told that no more is sent, and its socket is kept
     /// until the browser ends the connection too, but not where sockets are scarce.
-    pub fn end(&mut self, registry: &Registry, number: u64, now: u64, scarce: bool) {
+    pub fn end(&mut self, registry: &Registry, number: u64, now: u64, scarce: bool)
+        ensures ended { is_open self.new number ≡ false }
+        ensures others { OthersStay number self.old self.new }
+    {
         let Some(stream) = self.staying.swap_remove(&number) else {
             return;
         };
@@ -150,7 +175,9 @@ impl Streams {
 
     /// Keeps a socket whose connection is ending. Where as many are kept as may be, the one that is
     /// ending for the longest time is closed for it.
-    fn keep_ending(&mut self, registry: &Registry, number: u64, stream: TcpStream, now: u64) {
+    fn keep_ending(&mut self, registry: &Registry, number: u64, stream: TcpStream, now: u64)
+        ensures { self.new.staying ≡ self.old.staying }
+    {
         let Some(token) = browser_token(number) else {
             return;
         };
@@ -168,7 +195,9 @@ impl Streams {
 
     /// Reads what a browser still sends whose connection is ending, and closes the connection where
     /// the browser has ended it too.
-    pub fn hear_ending(&mut self, registry: &Registry, number: u64) {
+    pub fn hear_ending(&mut self, registry: &Registry, number: u64)
+        ensures { self.new.staying ≡ self.old.staying }
+    {
         let Some(token) = browser_token(number) else {
             return;
         };
@@ -187,7 +216,9 @@ impl Streams {
     }
 
     /// Closes the connections that are ending for longer than that is waited for.
-    pub fn close_late(&mut self, now: u64) {
+    pub fn close_late(&mut self, now: u64)
+        ensures { self.new.staying ≡ self.old.staying }
+    {
         for _ending in 0..MOST_ENDING {
             match self.ending.get_index(0) {
                 Some((_, ending)) if now.saturating_sub(ending.since) > ENDING => {}
@@ -198,7 +229,11 @@ impl Streams {
     }
 
     /// Closes all connections that are ending, and says whether there were some.
-    pub fn close_ending(&mut self) -> bool {
+    pub fn close_ending(&mut self) -> bool
+        ensures some { result ≡ some_end self.old }
+        ensures none { some_end self.new ≡ false }
+        ensures staying { self.new.staying ≡ self.old.staying }
+    {
         let some = !self.ending.is_empty();
         self.ending.clear();
         some

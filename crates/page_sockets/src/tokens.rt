@@ -1,6 +1,6 @@
 //! Which socket a token of the poll names.
 
-ghost use Rattle.std.specs.Prelude.{◌≡◌, ◌<◌, ◌-◌, ◌^◌, IfSome, IsSome, ◌↔◌};
+ghost use Rattle.std.specs.Prelude.{◌≡◌, ◌<◌, ◌+◌, ◌-◌, ◌^◌, IfSome, IsSome, ◌↔◌};
 ghost use Rattle.page_sockets.specs.Tokens.{source_of};
 
 use mio::Token;
@@ -25,9 +25,10 @@ pub fn listener_token() -> Token
     Token(usize::MAX)
 }
 
-/// The token of a socket of the program's own, for each number of one byte.
+/// The token of a socket of the program's own, for each number of one byte another one.
 pub fn own_token(number: u8) -> Token
-    ensures { source_of result.0 ≡ Source.Other }
+    ensures other { source_of result.0 ≡ Source.Other }
+    ensures place { result.0 ≡ 2 ^ 64 - 257 + number }
 {
     Token(FIRST_OTHER + usize::from(number))
 }

@@ -197,7 +197,7 @@ module _ (plan : Plan) (one : Item) (takes : plan.effect ≡ effect.Take one) wh
     sent_lines true lines at plans =
         list_asked ((bytes_eq-Decides path (codes "/commands")).0 at)
         (form_id_of (value_of (codes "id") pairs)) refl plans
-    sent_lines false true at plans = absurd (not_looked _ plans)
+    sent_lines false true at plans = absurd (not_looked (value_of (codes "lines") pairs) plans)
     sent_lines false false at plans = absurd (not_refused problem.Method plans)
 
     sent : (card command : Bool) → bytes_eq path (codes "/card") ≡ card

@@ -1,0 +1,28 @@
+-- The browsers' sockets.
+use Rattle.std.specs.Prelude.{◌≡◌, ◌≢◌, ◌==◌, ℕ, Bool, is_some, nat_eq, nat_le, not}
+use Rattle.indexmap.specs.IndexMap.{get, index_map_len}
+use Rattle.page_sockets.specs.declared.streams.Streams.{Streams}
+
+-- the connection of the browser with this number is open
+abbrev pub is_open : Streams → ℕ → Bool
+is_open s k = is_some (get nat_eq s.staying k)
+
+-- no connection is open
+abbrev pub is_empty : Streams → Bool
+is_empty s = index_map_len s.staying == 0
+
+-- as many connections are open as may be
+abbrev pub is_full : Streams → Bool
+is_full s = nat_le s.most (index_map_len s.staying)
+
+-- a connection is ending
+abbrev pub some_end : Streams → Bool
+some_end s = not (index_map_len s.ending == 0)
+
+-- the connection of each other browser is open where it was
+abbrev pub OthersStay : ℕ → Streams → Streams → Type 0
+OthersStay k old new = (j : ℕ) → j ≢ k → is_open new j ≡ is_open old j
+
+-- the connections that are open are the same
+abbrev pub SameOpen : Streams → Streams → Type 0
+SameOpen old new = (k : ℕ) → is_open new k ≡ is_open old k
