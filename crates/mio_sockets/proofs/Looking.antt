@@ -3,57 +3,26 @@ use Rattle.std.proofs.Common.{◌≡◌, refl, sym, subst, ℕ, ◌+◌, ◌<◌
 use Rattle.std.proofs.Common.{append_assoc, append-nil, ap, ◌∙◌, take, drop, length, get_or, set}
 use Rattle.std.proofs.Common.{arith}
 use Rattle.std.proofs.lemmas.List.{take_more, drop-set-lt}
-use Rattle.links.specs.Links.{LinkState, after_ended, after_failed}
+use Rattle.links.specs.Links.{LinkState}
 use Rattle.links.specs.declared.stages.Stage.{Stage}
 use Rattle.links.specs.declared.stages.Stage.TheVariants.{Opening, Open}
 use Rattle.links.specs.declared.stages.Stage.TheVariants as stage
-use Rattle.mio_sockets.specs.Looking.{Listened, Look, LookAtAll, Looked, Looks, LooksAs, LooksIn}
+use Rattle.mio_sockets.specs.Looking.{Look, LookAtAll, Looks, LooksAs, LooksIn}
 use Rattle.mio_sockets.specs.Wiring.{Line, Tells}
-use Rattle.mio_sockets.specs.declared.wires.Heard.TheVariants as heard_is
-use Rattle.mio_sockets.specs.declared.wires.Opening.TheVariants as opening_is
 use Rattle.mio_sockets.proofs.Driving.{Tells-trans}
 use Rattle.mio_sockets.proofs.Each.{after_there, same_there}
 
--- it could not be opened
-pub looks_failed : {C : Type 0} (looked : C → Option (List Look)) (c between later : C)
-    (d now since : ℕ) (old new : LinkState) → Opening since ≡ old.stage
-    → Tells (looked c) (looked between) (Looked d opening_is.Failed ∷ [])
-    → Tells (looked between) (looked later) [] → new ≡ after_failed old now
+-- this was seen, and the connection was closed for it
+pub looks_closed : {C : Type 0} (looked : C → Option (List Look)) (c between later : C)
+    (d now : ℕ) (old new : LinkState) (st : Stage) (look : Look) → st ≡ old.stage
+    → Tells (looked c) (looked between) (look ∷ [])
+    → Tells (looked between) (looked later) [] → LooksAs d st now old new (look ∷ [])
     → Looks looked c later (LooksAs d old.stage now old new)
-looks_failed looked c between later d now since old new at told more is =
-    subst (λ (st : Stage). Looks looked c later (LooksAs d st now old new)) at (
-      Looked d opening_is.Failed ∷ [],
-      Tells-trans (looked c) (looked between) (looked later) (Looked d opening_is.Failed ∷ []) []
-          told more,
-      (opening_is.Failed, refl, is),
-    )
-
--- the other side ended it
-pub looks_ended : {C : Type 0} (looked : C → Option (List Look)) (c between later : C)
-    (d now frames quiet : ℕ) (old new : LinkState) → Open frames quiet ≡ old.stage
-    → Tells (looked c) (looked between) (Listened d heard_is.Ended ∷ [])
-    → Tells (looked between) (looked later) [] → new ≡ after_ended old now
-    → Looks looked c later (LooksAs d old.stage now old new)
-looks_ended looked c between later d now frames quiet old new at told more is =
-    subst (λ (st : Stage). Looks looked c later (LooksAs d st now old new)) at (
-      Listened d heard_is.Ended ∷ [],
-      Tells-trans (looked c) (looked between) (looked later) (Listened d heard_is.Ended ∷ []) []
-          told more,
-      (heard_is.Ended, refl, is),
-    )
-
--- it failed
-pub looks_broke : {C : Type 0} (looked : C → Option (List Look)) (c between later : C)
-    (d now frames quiet : ℕ) (old new : LinkState) → Open frames quiet ≡ old.stage
-    → Tells (looked c) (looked between) (Listened d heard_is.Broke ∷ [])
-    → Tells (looked between) (looked later) [] → new ≡ after_failed old now
-    → Looks looked c later (LooksAs d old.stage now old new)
-looks_broke looked c between later d now frames quiet old new at told more is =
-    subst (λ (st : Stage). Looks looked c later (LooksAs d st now old new)) at (
-      Listened d heard_is.Broke ∷ [],
-      Tells-trans (looked c) (looked between) (looked later) (Listened d heard_is.Broke ∷ []) []
-          told more,
-      (heard_is.Broke, refl, is),
+looks_closed looked c between later d now old new st look at told more is =
+    subst (λ (s : Stage). Looks looked c later (LooksAs d s now old new)) at (
+      look ∷ [],
+      Tells-trans (looked c) (looked between) (looked later) (look ∷ []) [] told more,
+      is,
     )
 
 -- whatever the link makes of it

@@ -1,6 +1,6 @@
 -- The shortest wait of several.
-use Rattle.std.proofs.Common.{◌≡◌, refl, sym, ap, ◌∙◌, ℕ, ◌+◌, ◌<◌, min, List, [], ◌∷◌, drop, suc, zero}
-use Rattle.std.proofs.Common.{get_or, length, Option, None, Some, arith}
+use Rattle.std.proofs.Common.{◌≡◌, refl, sym, ap, ◌∙◌, ℕ, ◌+◌, ◌<◌, min, List, [], ◌∷◌, drop}
+use Rattle.std.proofs.Common.{suc, zero, get_or, length, Option, None, Some, arith}
 use Rattle.mio_sockets.specs.Waiting.{sooner, soonest, wait_in}
 use Rattle.mio_sockets.specs.Wiring.{Line}
 

@@ -1,4 +1,5 @@
 use Rattle.std.proofs.Common.{refl, arith}
+use Rattle.multiplex.specs.declared.table.Table.{Table}
 use Rattle.multiplex.proofs.Asked.{ends_all, ends_more, none_left}
 use Rattle.multiplex.proofs.Shutting.{empties_more, empties_same}
 use Rattle.multiplex.proofs.steps.let_all_go.Goals as goal
@@ -6,12 +7,13 @@ use Rattle.multiplex.proofs.steps.let_all_go.Goals as goal
 pub loop-guest-preserved : goal.loop-guest-preserved
 loop-guest-preserved g c =
     let table = c.loop-guest.table in
+    let left : Table =
+    record { guests = c.pop.new.self; next = table.next; time = table.time; own = table.own } in
     let requests = g.C.Clients.requests in
     let gone = c.in-Some.guest in
     record {
       told = λ home t over.
-          empties_more g.C.Clients.happened home t over c.args.table.now table
-          (record { guests = c.pop.new.self; next = table.next; time = table.time; own = table.own })
+          empties_more g.C.Clients.happened home t over c.args.table.now table left
           c.in-Some.guest c.args.clients.now c.loop-guest.clients c.close.new.self
           c.in-Some.ensures.items refl refl refl
           (c.loop-guest.invariant.told home t over) c.close.ensures.told;

@@ -5,8 +5,6 @@ use Rattle.multiplex.specs.model.Visiting.{Goes, spot}
 use Rattle.multiplex.proofs.Asked.{asks_some}
 use Rattle.multiplex.proofs.Walking.{advanced, after_send, at_rest, goes_both}
 use Rattle.multiplex.proofs.turns.serve_waiting.Goals as goal
-use Rattle.multiplex.proofs.turns.serve_waiting.Goals.{else-wants_write-via-then-wants_write+else-not-send}
-use Rattle.multiplex.proofs.turns.serve_waiting.Goals.{else-wants_write-via-else-wants_write}
 
 pub returns-then-not-send-clause-served : goal.returns-then-not-send-clause-served
 returns-then-not-send-clause-served g c =
@@ -27,19 +25,19 @@ loop-talk-preserved g c =
     (spot c.advance.new.node c.advance.new.peers c.else-wants_write.clients
     c.else-wants_write.talk) =
     elim c.else-wants_write.branch [
-      | else-wants_write-via-then-wants_write+else-not-send w ↦
+      | goal.else-wants_write-via-then-wants_write+else-not-send w ↦
           rw (w.talk-is, w.clients-is)
           (goes_both _ _ _ _ _ 0 0 _ _ _ begun
           (after_send _ _ _ _ 0 true _ _ _ _ _ _ w.if-not-send.ensures.sends))
-      | else-wants_write-via-else-wants_write w ↦ rw (w.talk-is, w.clients-is) begun
+      | goal.else-wants_write-via-else-wants_write w ↦ rw (w.talk-is, w.clients-is) begun
     ] in
     let asks : Asks g.C.Clients.requests c.args.clients.now c.else-wants_write.clients AsksSome =
     elim c.else-wants_write.branch [
-      | else-wants_write-via-then-wants_write+else-not-send w ↦
+      | goal.else-wants_write-via-then-wants_write+else-not-send w ↦
           rw (w.clients-is)
           (asks_some g.C.Clients.requests _ _ _ w.if-not-send.ensures.asks.0
           c.loop-talk.invariant.asks w.if-not-send.ensures.asks.1)
-      | else-wants_write-via-else-wants_write w ↦ rw (w.clients-is) c.loop-talk.invariant.asks
+      | goal.else-wants_write-via-else-wants_write w ↦ rw (w.clients-is) c.loop-talk.invariant.asks
     ] in
     record {
       goes = goes;

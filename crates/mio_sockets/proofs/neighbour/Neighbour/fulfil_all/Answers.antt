@@ -3,7 +3,8 @@ use Rattle.mio_sockets.proofs.Driving.{Tells-trans, both}
 use Rattle.mio_sockets.proofs.neighbour.Neighbour.fulfil_all.Goals as goal
 
 pub returns-then-not-done-clause-keeps : goal.returns-then-not-done-clause-keeps
-returns-then-not-done-clause-keeps g c = both c.loop-line.invariant.keeps c.fulfil-done.ensures.keeps
+returns-then-not-done-clause-keeps g c =
+    both c.loop-line.invariant.keeps c.fulfil-done.ensures.keeps
 
 pub loop-line-preserved : goal.loop-line-preserved
 loop-line-preserved g c = record {
