@@ -1,6 +1,8 @@
 -- The browsers' sockets.
-use Rattle.std.specs.Prelude.{◌≡◌, ◌≢◌, ◌==◌, ℕ, Bool, is_some, nat_eq, nat_le, not}
+use Rattle.std.specs.Prelude.{◌≡◌, ◌≢◌, ◌==◌, ◌-◌, ℕ, Bool, false, is_some, nat_eq, nat_le, nat_lt}
+use Rattle.std.specs.Prelude.{not, if◌then◌else◌, List, [], ◌∷◌}
 use Rattle.indexmap.specs.IndexMap.{get, index_map_len}
+use Rattle.page_sockets.specs.declared.streams.Ending.{Ending}
 use Rattle.page_sockets.specs.declared.streams.Streams.{Streams}
 
 -- the connection of the browser with this number is open
@@ -26,3 +28,15 @@ OthersStay k old new = (j : ℕ) → j ≢ k → is_open new j ≡ is_open old j
 -- the connections that are open are the same
 abbrev pub SameOpen : Streams → Streams → Type 0
 SameOpen old new = (k : ℕ) → is_open new k ≡ is_open old k
+
+-- ---- connections that are ending, in the order in which their ends began
+
+-- the first one is ending for longer than two seconds
+abbrev pub has_late : ℕ → List (ℕ × Ending) → Bool
+has_late now [] = false
+has_late now (e ∷ es) = nat_lt 2000 (now - e.1.since)
+
+-- without those in front that are
+abbrev pub without_late : ℕ → List (ℕ × Ending) → List (ℕ × Ending)
+without_late now [] = []
+without_late now (e ∷ es) = if nat_lt 2000 (now - e.1.since) then without_late now es else e ∷ es

@@ -228,6 +228,9 @@ impl<R: Clock + Drop> Sockets for BrowserSockets<'_, R> {
     // The system tells nothing of what browsers send and take beyond what its calls answer.
     ghost happened = { λ _. None };
 
+    // Nor is it told what they are asked.
+    ghost requests = { λ _. None };
+
     /// A round is begun where the last one is over. First of a round is named that somebody waits,
     /// then the browsers, and then it is over.
     fn ready(&mut self, wait: u64) -> Ready

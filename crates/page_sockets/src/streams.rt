@@ -60,7 +60,7 @@ pub struct Streams {
 
 impl Streams {
     ghost use Rattle.page_sockets.specs.Streams.{OthersStay, SameOpen, is_empty, is_full, is_open};
-    ghost use Rattle.page_sockets.specs.Streams.{some_end};
+    ghost use Rattle.page_sockets.specs.Streams.{has_late, some_end, without_late};
 
     pub fn new(alloc: Global, most: usize) -> Result<Streams, AllocError>
         ensures most { IfOk result (λ s. s.most ≡ most) }
@@ -215,15 +215,23 @@ impl Streams {
         }
     }
 
-    /// Closes the connections that are ending for longer than that is waited for.
-    pub fn close_late(&mut self, now: u64)
-        ensures { self.new.staying ≡ self.old.staying }
+    /// Whether the connection that is ending for the longest time is so for longer than that is
+    /// waited for.
+    fn has_late(&self, now: u64) -> bool
+        ensures { result ≡ has_late now self.now.ending.entries }
     {
-        for _ending in 0..MOST_ENDING {
-            match self.ending.get_index(0) {
-                Some((_, ending)) if now.saturating_sub(ending.since) > ENDING => {}
-                _ => return,
-            }
+        match self.ending.get_index(0) {
+            Some((_, ending)) => now.saturating_sub(ending.since) > ENDING,
+            None => false,
+        }
+    }
+
+    /// Closes the connections that are ending for longer than two seconds.
+    pub fn close_late(&mut self, now: u64)
+        ensures staying { self.new.staying ≡ self.old.staying }
+        ensures ending { self.new.ending.entries ≡ without_late now self.old.ending.entries }
+    {
+        while self.has_late(now) {
             let _closed = self.ending.shift_remove_index(0);
         }
     }

@@ -3,3 +3,8 @@ pub mod Hearing
 pub mod Keeping
 pub mod Tables
 pub mod Answering
+pub mod Asked
+pub mod Turning
+pub mod Placing
+pub mod Finding
+pub mod Ending

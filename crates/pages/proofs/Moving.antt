@@ -9,20 +9,19 @@ use Rattle.http_server.specs.History.{History}
 use Rattle.pages.specs.Happenings.{Happened, Gave, Ended, Took, Tells, gave, took, gave_at, took_at}
 use Rattle.pages.specs.Turns.{Hears, Moves, Moved}
 
-pub Tells-none : (a : Option (List Happened)) → Tells a a []
+pub Tells-none : {A : Type 0} (a : Option (List A)) → Tells a a []
 Tells-none None = tt
 Tells-none (Some xs) = sym (append-nil xs)
 
-pub Tells-then : (a b c : Option (List Happened)) (xs ys : List Happened) → Tells a b xs
-    → Tells b c ys
-    → Tells a c (xs ++ ys)
+pub Tells-then : {A : Type 0} (a b c : Option (List A)) (xs ys : List A) → Tells a b xs
+    → Tells b c ys → Tells a c (xs ++ ys)
 Tells-then None None None xs ys x y = tt
 Tells-then None None (Some cs) xs ys x y = absurd y
 Tells-then None (Some bs) c xs ys x y = absurd x
 Tells-then (Some ws) b None xs ys x y = tt
 Tells-then (Some ws) None (Some cs) xs ys x y = absurd y
-Tells-then (Some ws) (Some bs) (Some cs) xs ys x y =
-    y ∙ ap (λ (t : List Happened). t ++ ys) x ∙ append_assoc ws xs ys
+Tells-then {A} (Some ws) (Some bs) (Some cs) xs ys x y =
+    y ∙ ap (λ (t : List A). t ++ ys) x ∙ append_assoc ws xs ys
 
 pub gave-append : (k : ℕ) (xs ys : List Happened) → gave k (xs ++ ys) ≡ gave k xs ++ gave k ys
 gave-append k xs ys = flat_map-append (gave_at k) xs ys

@@ -4,10 +4,16 @@ use Rattle.http.specs.declared.request.Request.{Request}
 use Rattle.http_server.specs.declared.response.Response.{Response}
 use Rattle.pages.specs.declared.browsers.Browsers.{Browsers}
 use Rattle.pages.specs.declared.sockets.Sockets as sockets
+use Rattle.pages.specs.declared.table.Table.{Table}
 use Rattle.pages.specs.declared.table.Terms.{Terms}
 use Rattle.pages.specs.Happenings.{Happened}
+use Rattle.pages.specs.Musts.{IsFresh}
 use Rattle.pages.specs.Turns.{Turn, Answers}
 use Rattle.pages.specs.Handed.{EachIsAnswered}
+
+-- the browsers whose connections are open, and how many came
+abbrev pub table_of : {C : Type 0} {g : sockets.Ghosts C} → Browsers C g → Table C
+table_of b = b.table
 
 abbrev pub sockets_of : {C : Type 0} {g : sockets.Ghosts C} → Browsers C g → C
 sockets_of b = b.table.sockets
@@ -27,7 +33,7 @@ IsUntold (Some hs) = hs ≡ []
 -- no browser had a turn
 abbrev pub IsNew : {C : Type 0} {g : sockets.Ghosts C} → Terms → C → Browsers C g → Type 0
 IsNew terms sockets b =
-    (terms_of b ≡ terms) × (sockets_of b ≡ sockets) × (turns_of b ≡ [])
+    (terms_of b ≡ terms) × (sockets_of b ≡ sockets) × (turns_of b ≡ []) × IsFresh (table_of b)
 
 -- In a round browsers had turns, and the service was called for their requests, one after the
 -- other, whichever browsers these were of, and led from the one state to the other.

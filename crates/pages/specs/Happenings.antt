@@ -19,8 +19,8 @@ pub data Happened : Type 0 where
   -- its connection was ended
   Closed : ℕ → Happened
 
--- what happened grows by these, in order; who tells it may stop, and never begins
-abbrev pub Tells : Option (List Happened) → Option (List Happened) → List Happened → Type 0
+-- what is told grows by these, in order; who tells it may stop, and never begins
+abbrev pub Tells : {A : Type 0} → Option (List A) → Option (List A) → List A → Type 0
 Tells None None more = ⊤
 Tells (Some xs) None more = ⊤
 Tells None (Some ys) more = ⊥

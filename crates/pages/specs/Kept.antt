@@ -83,6 +83,7 @@ pub record IsFirst {C : Type 0} (wanted : Terms) (given : C) (t : Table C) : Typ
   pub sockets : t.sockets ≡ given
   pub none : t.browsers.entries ≡ []
   pub next : t.next ≡ 0
+  pub time : t.now ≡ 0
   pub turns : t.turns.items ≡ []
 
 -- the terms, how many came, and the turns

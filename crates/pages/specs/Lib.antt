@@ -1,7 +1,10 @@
 pub mod Happenings
+pub mod Requests
 pub mod Waiting
 pub mod Turns
 pub mod Kept
+pub mod Musts
+pub mod Asking
 pub mod Handed
 pub mod Browsers
 pub mod Laws

@@ -3,6 +3,8 @@ use Rattle.std.specs.Prelude.{ℕ, ◌-◌, ◌==◌, ◌&&◌, ◌||◌, ltb, B
 use Rattle.pages.specs.declared.waiting.Turned.{Turned}
 use Rattle.pages.specs.declared.waiting.Turned.TheVariants as turn
 use Rattle.pages.specs.declared.waiting.Waiting.{Waiting}
+use Rattle.pages.specs.declared.waiting.Longest.{Longest}
+use Rattle.std.specs.Prelude.{Option, None, Some}
 
 abbrev pub waits : ℕ → Bool → Waiting
 waits since is_idle = record { since = since; is_idle = is_idle }
@@ -20,6 +22,13 @@ is_late now patience w = ltb patience (now - w.since)
 -- first
 abbrev pub is_longer : ℕ → ℕ → ℕ → Waiting → Bool
 is_longer number since other w = ltb w.since since || (w.since == since && ltb number other)
+
+-- of one and of the one that was found, if one was, the one that is waited for longer
+abbrev pub longer : ℕ → Option Longest → Waiting → Longest
+longer number None w = record { number = number; since = w.since }
+longer number (Some one) w =
+    if is_longer number one.since one.number w then record { number = number; since = w.since }
+    else one
 
 -- whether the connection goes on after such a turn
 abbrev pub goes_on : Turned → Bool

@@ -22,7 +22,9 @@ pub struct Browsers<C: Sockets> {
 }
 
 impl<C: Sockets> Browsers<C> {
-    ghost use Rattle.pages.specs.Browsers.{IsNew, IsUntold, Served, sockets_of};
+    ghost use Rattle.pages.specs.Browsers.{IsNew, IsUntold, Served, sockets_of, table_of};
+    ghost use Rattle.pages.specs.Musts.{AsksRound};
+    ghost use Rattle.pages.specs.Requests.{Asks};
 
     /// None has come yet. The names of headers are the browsers' choice, so their maps take secret
     /// keys.
@@ -45,8 +47,13 @@ impl<C: Sockets> Browsers<C> {
     /// the answers to what came, and one write more. Then those are let go that are waited for too
     /// long. Returns when the round was over, in milliseconds after the first one. None: the system
     /// doesn't tell what is ready any more.
+    ///
+    /// A contract sees how the service answered (`served`), and where the sockets tell what was
+    /// asked of them, what has to be asked in a round (`asks`).
     pub fn round<S: Service>(&mut self, service: &mut S, wait: u64) -> Option<u64>
-        ensures { Served S.answers service.old service.new self.old self.new }
+        ensures served { Served S.answers service.old service.new self.old self.new }
+        ensures asks { Asks C.requests (sockets_of self.old) (sockets_of self.new)
+            (AsksRound wait result (table_of self.old) (table_of self.new)) }
     {
         self.table.round(service, wait)
     }
@@ -56,15 +63,5 @@ impl<C: Sockets> Browsers<C> {
         ensures { result.now ≡ sockets_of self.now }
     {
         &self.table.sockets
-    }
-
-    /// How many browsers' connections are open.
-    pub fn len(&self) -> usize {
-        self.table.browsers.len()
-    }
-
-    /// Whether none is open.
-    pub fn is_empty(&self) -> bool {
-        self.table.browsers.is_empty()
     }
 }

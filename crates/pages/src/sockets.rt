@@ -1,8 +1,10 @@
 //! What the sockets of browsers are: they never make anybody wait.
 
-ghost use Rattle.std.specs.Prelude.{◌≢◌, [], List, Option, length};
+ghost use Rattle.std.specs.Prelude.{◌≢◌, [], ◌∷◌, List, Option, length};
 ghost use Rattle.pages.specs.Happenings.{CountsGiven, CountsTaken, Happened, Tells};
 ghost use Rattle.pages.specs.Happenings.{accepted, closed, given, taken};
+ghost use Rattle.pages.specs.Requests.{Request, Waited, Accepting, Reading, Writing, Watching};
+ghost use Rattle.pages.specs.Requests.{Closing};
 
 /// What can be done next without waiting.
 #[derive(Clone, Copy, PartialEq, Eq, Debug)]
@@ -59,36 +61,51 @@ pub trait Sockets: Drop {
     /// What came of them, in order, where that is told.
     ghost happened: { Self → Option (List Happened) };
 
+    /// What was asked of them, in order, and what came of it, where that is told.
+    ghost requests: { Self → Option (List Request) };
+
     /// Waits until something is ready, and names it. All that was ready at once is named one after
     /// the other, and then the round is over. Where nothing becomes ready, the round is over after
     /// `wait` milliseconds.
     fn ready(&mut self, wait: u64) -> Ready
-        ensures { Tells (happened self.old) (happened self.new) [] };
+        ensures told { Tells (happened self.old) (happened self.new) [] }
+        ensures requests { Tells (requests self.old) (requests self.new)
+            (Waited wait result ∷ []) };
 
     /// Accepts the browser that waits. From now on it has this number, and is named when it can be
     /// read from.
     fn accept(&mut self, number: u64) -> Accepted
-        ensures { Tells (happened self.old) (happened self.new) (accepted number result) };
+        ensures told { Tells (happened self.old) (happened self.new) (accepted number result) }
+        ensures requests { Tells (requests self.old) (requests self.new)
+            (Accepting number result ∷ []) };
 
     /// Reads once of a browser, without waiting.
     fn read(&mut self, number: u64, buffer: &mut [u8; 4096]) -> Given
         ensures count { CountsGiven (length buffer.new) result }
         ensures told { Tells (happened self.old) (happened self.new)
-            (given number result buffer.new) };
+            (given number result buffer.new) }
+        ensures requests { Tells (requests self.old) (requests self.new)
+            (Reading number result ∷ []) };
 
     /// Writes to a browser as much of the bytes as it takes without waiting.
     fn write(&mut self, number: u64, bytes: &[u8]) -> Taken
         requires { bytes.now ≢ [] }
         ensures count { CountsTaken (length bytes.now) result }
         ensures told { Tells (happened self.old) (happened self.new)
-            (taken number result bytes.now) };
+            (taken number result bytes.now) }
+        ensures requests { Tells (requests self.old) (requests self.new)
+            (Writing number (length bytes.now) result ∷ []) };
 
     /// Asks that the browser be named when it can take bytes (`writes`), or else when it can be
     /// read from. Each time that it was named this is to be asked anew. False: the system refuses.
     fn watch(&mut self, number: u64, writes: bool) -> bool
-        ensures { Tells (happened self.old) (happened self.new) [] };
+        ensures told { Tells (happened self.old) (happened self.new) [] }
+        ensures requests { Tells (requests self.old) (requests self.new)
+            (Watching number writes result ∷ []) };
 
     /// Ends a browser's connection. What it was sent reaches it, if it still reads.
     fn close(&mut self, number: u64)
-        ensures { Tells (happened self.old) (happened self.new) (closed number) };
+        ensures told { Tells (happened self.old) (happened self.new) (closed number) }
+        ensures requests { Tells (requests self.old) (requests self.new)
+            (Closing number ∷ []) };
 }

@@ -1,6 +1,7 @@
 //! The browsers whose connections are open: one comes, one has its turn, one is let go.
 
-ghost use Rattle.std.specs.Prelude.{◌≡◌, ◌<◌, ◌-◌, ◌^◌, IfOk, IsFalse, IsTrue};
+ghost use Rattle.std.specs.Prelude.{◌≡◌, ◌<◌, ◌-◌, ◌^◌, [], ◌∷◌, IfOk, IsFalse, IsTrue};
+ghost use Rattle.pages.specs.Requests.{Closing};
 
 use crate::sockets::{Accepted, Ready, Sockets};
 use crate::turns::take_turn;
@@ -55,7 +56,13 @@ enum Step {
 }
 
 impl<C: Sockets> Table<C> {
+    ghost use Rattle.pages.specs.Asking.{FindsLate, FindsLongest, KeepsOn, LetsGo, SettlesBy};
+    ghost use Rattle.pages.specs.Asking.{StepsBy};
     ghost use Rattle.pages.specs.Kept.{AnswersIn, IsFirst, Keeps, KeepsWith, StaysSame};
+    ghost use Rattle.pages.specs.Musts.{Accepts, Admits, AsksRound, Attends, EndsRound, GivesPlace};
+    ghost use Rattle.pages.specs.Musts.{LetsLongestGo, MakesRoom};
+    ghost use Rattle.pages.specs.Requests.{Asks};
+    ghost use Rattle.pages.specs.declared.sockets.Accepted.TheVariants as accepted_is;
 
     /// None has come yet.
     pub(crate) fn new(
@@ -82,6 +89,9 @@ impl<C: Sockets> Table<C> {
     fn close(&mut self, number: u64)
         ensures kept { Keeps C.happened self.old self.new }
         ensures same { StaysSame self.old self.new }
+        ensures rest { self.new ≡ record self.old { sockets = self.new.sockets } }
+        ensures asks { Asks C.requests self.old.sockets self.new.sockets
+            (λ asked. asked ≡ Closing number ∷ []) }
     {
         self.sockets.close(number);
     }
@@ -91,6 +101,9 @@ impl<C: Sockets> Table<C> {
     fn keep_on(&mut self, number: u64, browser: Browser) -> bool
         ensures kept { KeepsWith C.happened number browser self.old self.new }
         ensures same { StaysSame self.old self.new }
+        ensures time { self.new.now ≡ self.old.now }
+        ensures asks { Asks C.requests self.old.sockets self.new.sockets
+            (KeepsOn number browser result self.old self.new) }
     {
         let writes = browser.connection.wants_write();
         if !self.sockets.watch(number, writes) {
@@ -107,6 +120,9 @@ impl<C: Sockets> Table<C> {
         ensures kept { IsTrue goes_on → KeepsWith C.happened number browser self.old self.new }
         ensures closed { IsFalse goes_on → Keeps C.happened self.old self.new }
         ensures same { StaysSame self.old self.new }
+        ensures time { self.new.now ≡ self.old.now }
+        ensures asks { Asks C.requests self.old.sockets self.new.sockets
+            (SettlesBy number browser goes_on self.old self.new) }
     {
         if !goes_on {
             self.close(number);
@@ -123,6 +139,10 @@ impl<C: Sockets> Table<C> {
         ensures kept { Keeps C.happened self.old self.new }
         ensures terms { self.new.terms ≡ self.old.terms }
         ensures answers { AnswersIn C.happened S.answers service.old service.new self.old self.new }
+        ensures time { self.new.now ≡ self.old.now }
+        ensures next { self.new.next ≡ self.old.next }
+        ensures asks { Asks C.requests self.old.sockets self.new.sockets
+            (Attends number self.old self.new) }
     {
         let Some(browser) = self.browsers.swap_remove(&number) else {
             return;
@@ -138,6 +158,9 @@ impl<C: Sockets> Table<C> {
     fn let_go(&mut self, number: u64)
         ensures kept { Keeps C.happened self.old self.new }
         ensures same { StaysSame self.old self.new }
+        ensures time { self.new.now ≡ self.old.now }
+        ensures asks { Asks C.requests self.old.sockets self.new.sockets
+            (LetsGo number self.old self.new) }
     {
         let Some(_browser) = self.browsers.swap_remove(&number) else {
             return;
@@ -147,26 +170,29 @@ impl<C: Sockets> Table<C> {
 
     /// The browser that is waited for since the longest time. Where that is so of several, it is
     /// the one of them that came first.
-    fn longest_waiting(&self) -> Option<u64> {
+    fn longest_waiting(&self) -> Option<u64>
+        ensures { FindsLongest self.entry.now result }
+    {
         let mut found = None;
-        let mut earliest = u64::MAX;
-        let mut first = u64::MAX;
         for place in 0..self.browsers.len() {
-            if let Some((number, browser)) = self.browsers.get_index(place)
-                && browser.waiting.is_longer(*number, earliest, first)
-            {
-                found = Some(*number);
-                earliest = browser.waiting.since;
-                first = *number;
-            }
+            let Some((number, browser)) = self.browsers.get_index(place) else {
+                unreachable!()
+            };
+            found = Some(browser.waiting.longer(*number, found));
         }
-        found
+        match found {
+            Some(one) => Some(one.number),
+            None => None,
+        }
     }
 
     /// Lets that one go.
     fn let_longest_go(&mut self)
         ensures kept { Keeps C.happened self.old self.new }
         ensures same { StaysSame self.old self.new }
+        ensures time { self.new.now ≡ self.old.now }
+        ensures asks { Asks C.requests self.old.sockets self.new.sockets
+            (LetsLongestGo self.old self.new) }
     {
         let Some(number) = self.longest_waiting() else {
             return;
@@ -180,6 +206,9 @@ impl<C: Sockets> Table<C> {
         ensures kept { Keeps C.happened self.old self.new }
         ensures terms { self.new.terms ≡ self.old.terms }
         ensures turns { self.new.turns ≡ self.old.turns }
+        ensures time { self.new.now ≡ self.old.now }
+        ensures asks { Asks C.requests self.old.sockets self.new.sockets
+            (GivesPlace accepted_is.Came self.old self.new) }
     {
         let number = self.next;
         self.next += 1;
@@ -204,6 +233,9 @@ impl<C: Sockets> Table<C> {
         ensures kept { Keeps C.happened self.old self.new }
         ensures terms { self.new.terms ≡ self.old.terms }
         ensures turns { self.new.turns ≡ self.old.turns }
+        ensures time { self.new.now ≡ self.old.now }
+        ensures asks { Asks C.requests self.old.sockets self.new.sockets
+            (Accepts self.old self.new) }
     {
         if self.next == u64::MAX {
             return;
@@ -220,6 +252,9 @@ impl<C: Sockets> Table<C> {
     fn make_room(&mut self)
         ensures kept { Keeps C.happened self.old self.new }
         ensures same { StaysSame self.old self.new }
+        ensures time { self.new.now ≡ self.old.now }
+        ensures asks { Asks C.requests self.old.sockets self.new.sockets
+            (MakesRoom self.old self.new) }
     {
         if self.browsers.len() < self.terms.most {
             return;
@@ -233,13 +268,18 @@ impl<C: Sockets> Table<C> {
         ensures kept { Keeps C.happened self.old self.new }
         ensures terms { self.new.terms ≡ self.old.terms }
         ensures turns { self.new.turns ≡ self.old.turns }
+        ensures time { self.new.now ≡ self.old.now }
+        ensures asks { Asks C.requests self.old.sockets self.new.sockets
+            (Admits self.old self.new) }
     {
         self.make_room();
         self.accept();
     }
 
     /// The first browser that is waited for too long.
-    fn first_late(&self) -> Option<u64> {
+    fn first_late(&self) -> Option<u64>
+        ensures { FindsLate self.entry.now result }
+    {
         for place in 0..self.browsers.len() {
             if let Some((number, browser)) = self.browsers.get_index(place)
                 && browser.waiting.is_late(self.now, self.terms.patience)
@@ -255,12 +295,12 @@ impl<C: Sockets> Table<C> {
         ensures kept { Keeps C.happened self.old self.new }
         ensures terms { self.new.terms ≡ self.old.terms }
         ensures turns { self.new.turns ≡ self.old.turns }
+        ensures next { self.new.next ≡ self.old.next }
+        ensures asks { Asks C.requests self.old.sockets self.new.sockets
+            (EndsRound now self.old self.new) }
     {
         self.now = now;
-        for _browser in 0..self.browsers.len() {
-            let Some(number) = self.first_late() else {
-                return;
-            };
+        while let Some(number) = self.first_late() {
             self.let_go(number);
         }
     }
@@ -270,6 +310,8 @@ impl<C: Sockets> Table<C> {
         ensures kept { Keeps C.happened self.old self.new }
         ensures terms { self.new.terms ≡ self.old.terms }
         ensures answers { AnswersIn C.happened S.answers service.old service.new self.old self.new }
+        ensures asks { Asks C.requests self.old.sockets self.new.sockets
+            (StepsBy wait result self.old self.new) }
     {
         match self.sockets.ready(wait) {
             Ready::Waits => {
@@ -294,6 +336,8 @@ impl<C: Sockets> Table<C> {
         ensures kept { Keeps C.happened self.old self.new }
         ensures terms { self.new.terms ≡ self.old.terms }
         ensures answers { AnswersIn C.happened S.answers service.old service.new self.old self.new }
+        ensures asks { Asks C.requests self.old.sockets self.new.sockets
+            (AsksRound wait result self.old self.new) }
     {
         for _turn in 0..u64::MAX {
             match self.step(service, wait) {

@@ -3,6 +3,9 @@
 ghost use Rattle.std.specs.Prelude.{◌≡◌, ◌<◌, [], length};
 ghost use Rattle.http_server.specs.Connection.{config_of, history};
 ghost use Rattle.http_server.specs.Exchange.{Calls};
+ghost use Rattle.pages.specs.Asking.{AsksAnswer, AsksMove, Comes, OffersOnce, ReadsOnce};
+ghost use Rattle.pages.specs.Musts.{Turns};
+ghost use Rattle.pages.specs.Requests.{Asks};
 ghost use Rattle.pages.specs.Turns.{Hears, Moved};
 ghost use Rattle.pages.specs.Waiting.{goes_on};
 
@@ -17,6 +20,7 @@ fn send<C: Sockets>(number: u64, connection: &mut Connection, sockets: &mut C) -
         (history connection.old) (history connection.new) }
     ensures calls { (history connection.new).calls ≡ (history connection.old).calls }
     ensures config { config_of connection.new ≡ config_of connection.old }
+    ensures asks { Asks C.requests sockets.old sockets.new (OffersOnce number result) }
 {
     match sockets.write(number, connection.output()) {
         Taken::Bytes { count } => {
@@ -63,6 +67,7 @@ fn read<C: Sockets>(number: u64, connection: &mut Connection, sockets: &mut C) -
         (history connection.old) (history connection.new) }
     ensures calls { (history connection.new).calls ≡ (history connection.old).calls }
     ensures config { config_of connection.new ≡ config_of connection.old }
+    ensures asks { Asks C.requests sockets.old sockets.new (ReadsOnce number) }
 {
     let mut buffer = [0; 4096];
     match sockets.read(number, &mut buffer) {
@@ -79,6 +84,8 @@ fn move_bytes<C: Sockets>(number: u64, connection: &mut Connection, sockets: &mu
         (history connection.old) (history connection.new) }
     ensures calls { (history connection.new).calls ≡ (history connection.old).calls }
     ensures config { config_of connection.new ≡ config_of connection.old }
+    ensures asks { Asks C.requests sockets.old sockets.new
+        (AsksMove number (history connection.old) result) }
 {
     if connection.wants_write() {
         send(number, connection, sockets)
@@ -99,6 +106,8 @@ fn answer<C: Sockets, S: Service>(
     ensures calls { Calls S.answers service.old service.new
         (history connection.old).calls (history connection.new).calls }
     ensures config { config_of connection.new ≡ config_of connection.old }
+    ensures asks { Asks C.requests sockets.old sockets.new
+        (AsksAnswer number (config_of connection.new) (history connection.new) result) }
 {
     connection.advance(service);
     if !connection.wants_write() {
@@ -113,7 +122,9 @@ fn answer<C: Sockets, S: Service>(
 }
 
 /// What came of a turn whose moves all succeeded, and in which something was sent or nothing.
-fn turned(connection: &Connection, has_sent: bool) -> Turned {
+fn turned(connection: &Connection, has_sent: bool) -> Turned
+    ensures { Comes (history connection.now) has_sent result }
+{
     if connection.is_done() {
         Turned::Over
     } else if has_sent && !connection.wants_write() {
@@ -135,6 +146,9 @@ pub(crate) fn take_turn<C: Sockets, S: Service>(
     ensures calls { Calls S.answers service.old service.new
         (history connection.old).calls (history connection.new).calls }
     ensures config { config_of connection.new ≡ config_of connection.old }
+    ensures asks { Asks C.requests sockets.old sockets.new
+        (Turns number (config_of connection.old) (history connection.old)
+        (history connection.new) result) }
 {
     let was_sending = connection.wants_write();
     if !move_bytes(number, connection, sockets) {

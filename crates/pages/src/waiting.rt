@@ -1,7 +1,7 @@
 //! For how long a browser is waited for.
 
 ghost use Rattle.std.specs.Prelude.{◌≡◌};
-ghost use Rattle.pages.specs.Waiting.{after, goes_on, is_late, is_longer};
+ghost use Rattle.pages.specs.Waiting.{after, goes_on, is_late, is_longer, longer};
 
 /// What came of a browser's turn.
 #[derive(Clone, Copy, PartialEq, Eq, Debug)]
@@ -35,6 +35,13 @@ pub(crate) struct Waiting {
     pub(crate) is_idle: bool,
 }
 
+/// The browser that is waited for longest among several: its number, and since when.
+#[derive(Clone, Copy, PartialEq, Eq, Debug)]
+pub(crate) struct Longest {
+    pub(crate) number: u64,
+    pub(crate) since: u64,
+}
+
 impl Waiting {
     /// After a turn at this time.
     pub(crate) fn after(self, turned: Turned, now: u64) -> Waiting
@@ -60,6 +67,20 @@ impl Waiting {
         ensures { result ≡ is_longer number since other self }
     {
         self.since < since || (self.since == since && number < other)
+    }
+
+    /// Of the browser with this number and the one that was found, if one was, the one that is
+    /// waited for longer; of two that are waited for equally long, the one that came first.
+    pub(crate) fn longer(self, number: u64, found: Option<Longest>) -> Longest
+        ensures { result ≡ longer number found self }
+    {
+        match found {
+            Some(one) if !self.is_longer(number, one.since, one.number) => one,
+            _ => Longest {
+                number,
+                since: self.since,
+            },
+        }
     }
 
     /// Whether the browser is waited for longer than so many milliseconds.

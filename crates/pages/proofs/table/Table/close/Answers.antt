@@ -9,5 +9,5 @@ returns-clause-kept g c = λ held.
     let t = c.args.self.now in
     let happened = g.C.Sockets.happened in
     AreKept-same t.terms.config (happened t.sockets) (happened c.close.new.self)
-    (closed c.args.number) (places_of t) t.next t.turns.items c.close.ensures
+    (closed c.args.number) (places_of t) t.next t.turns.items c.close.ensures.told
     (quiet_closed c.args.number) held

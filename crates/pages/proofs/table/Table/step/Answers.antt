@@ -1,7 +1,13 @@
 use Rattle.std.proofs.Common.{[], ap, refl}
+use Rattle.pages.specs.Asking.{StepsBy}
 use Rattle.pages.specs.Kept.{places_of}
+use Rattle.pages.specs.Requests.{Waited}
+use Rattle.pages.specs.declared.sockets.Ready.TheVariants as ready_is
+use Rattle.pages.specs.declared.table.Step.TheVariants as step_is
+use Rattle.pages.proofs.Asked.{asks_after}
 use Rattle.pages.proofs.Answering.{Answers-same}
 use Rattle.pages.proofs.Keeping.{AreKept-same}
+use Rattle.pages.proofs.Placing.{admits_from, attends_from, ends_from}
 use Rattle.pages.proofs.Tables.{quiet_none}
 use Rattle.pages.proofs.table.Table.step.Goals as goal
 
@@ -11,7 +17,7 @@ returns-in-Waits-clause-kept g c = λ held.
     let happened = g.C.Sockets.happened in
     c.admit.ensures.kept
     (AreKept-same t.terms.config (happened t.sockets) (happened c.ready.new.self) []
-    (places_of t) t.next t.turns.items c.ready.ensures quiet_none held)
+    (places_of t) t.next t.turns.items c.ready.ensures.told quiet_none held)
 
 pub returns-in-Waits-clause-answers : goal.returns-in-Waits-clause-answers
 returns-in-Waits-clause-answers g c = λ held.
@@ -23,7 +29,7 @@ returns-in-Browser-clause-kept g c = λ held.
     let happened = g.C.Sockets.happened in
     c.visit.ensures.kept
     (AreKept-same t.terms.config (happened t.sockets) (happened c.ready.new.self) []
-    (places_of t) t.next t.turns.items c.ready.ensures quiet_none held)
+    (places_of t) t.next t.turns.items c.ready.ensures.told quiet_none held)
 
 pub returns-in-Browser-clause-answers : goal.returns-in-Browser-clause-answers
 returns-in-Browser-clause-answers g c = λ held.
@@ -31,7 +37,7 @@ returns-in-Browser-clause-answers g c = λ held.
     let happened = g.C.Sockets.happened in
     c.visit.ensures.answers
     (AreKept-same t.terms.config (happened t.sockets) (happened c.ready.new.self) []
-    (places_of t) t.next t.turns.items c.ready.ensures quiet_none held)
+    (places_of t) t.next t.turns.items c.ready.ensures.told quiet_none held)
 
 pub returns-in-Round-clause-kept : goal.returns-in-Round-clause-kept
 returns-in-Round-clause-kept g c = λ held.
@@ -39,7 +45,7 @@ returns-in-Round-clause-kept g c = λ held.
     let happened = g.C.Sockets.happened in
     c.end_round.ensures.kept
     (AreKept-same t.terms.config (happened t.sockets) (happened c.ready.new.self) []
-    (places_of t) t.next t.turns.items c.ready.ensures quiet_none held)
+    (places_of t) t.next t.turns.items c.ready.ensures.told quiet_none held)
 
 pub returns-in-Round-clause-answers : goal.returns-in-Round-clause-answers
 returns-in-Round-clause-answers g c = λ held.
@@ -51,8 +57,67 @@ returns-in-Failed-clause-kept g c = λ held.
     let t = c.args.self.now in
     let happened = g.C.Sockets.happened in
     AreKept-same t.terms.config (happened t.sockets) (happened c.ready.new.self) []
-    (places_of t) t.next t.turns.items c.ready.ensures quiet_none held
+    (places_of t) t.next t.turns.items c.ready.ensures.told quiet_none held
 
 pub returns-in-Failed-clause-answers : goal.returns-in-Failed-clause-answers
 returns-in-Failed-clause-answers g c = λ held.
     Answers-same g.S.Service.answers _ _ _ _ refl refl
+
+pub returns-in-Waits-clause-asks : goal.returns-in-Waits-clause-asks
+returns-in-Waits-clause-asks g c =
+    let t = c.args.self.now in
+    let new = c.admit.new.self in
+    let wait = c.args.wait in
+    asks_after g.C.Sockets.requests t.sockets c.ready.new.self new.sockets
+    (Waited wait ready_is.Waits) _ (StepsBy wait step_is.GoesOn t new)
+    (λ ys h. (
+      ready_is.Waits,
+      refl,
+      record {
+        terms = c.admit.ensures.terms;
+        more = ys;
+        all = refl;
+        follows = (admits_from t new c.ready.new.self ys h, c.admit.ensures.time);
+      },
+    ))
+    c.in-Waits.ensures.requests c.admit.ensures.asks
+
+pub returns-in-Browser-clause-asks : goal.returns-in-Browser-clause-asks
+returns-in-Browser-clause-asks g c =
+    let t = c.args.self.now in
+    let new = c.visit.new.self in
+    let wait = c.args.wait in
+    let k = c.in-Browser.number in
+    asks_after g.C.Sockets.requests t.sockets c.ready.new.self new.sockets
+    (Waited wait (ready_is.Browser k)) _ (StepsBy wait step_is.GoesOn t new)
+    (λ ys h. (
+      ready_is.Browser k,
+      refl,
+      record {
+        terms = c.visit.ensures.terms;
+        more = ys;
+        all = refl;
+        follows = (
+          attends_from t new c.ready.new.self ys k h,
+          c.visit.ensures.time,
+          c.visit.ensures.next,
+        );
+      },
+    ))
+    c.in-Browser.ensures.requests c.visit.ensures.asks
+
+pub returns-in-Round-clause-asks : goal.returns-in-Round-clause-asks
+returns-in-Round-clause-asks g c =
+    let t = c.args.self.now in
+    let new = c.end_round.new.self in
+    let wait = c.args.wait in
+    let now = c.in-Round.now in
+    asks_after g.C.Sockets.requests t.sockets c.ready.new.self new.sockets
+    (Waited wait (ready_is.Round now)) _ (StepsBy wait (step_is.Over now) t new)
+    (λ ys h. record {
+      terms = c.end_round.ensures.terms;
+      more = ys;
+      all = refl;
+      follows = (ends_from t new c.ready.new.self ys now h, c.end_round.ensures.next);
+    })
+    c.in-Round.ensures.requests c.end_round.ensures.asks
