@@ -1,30 +1,14 @@
 -- A link that is driven over its connection: one call, and one after the other.
 use Rattle.std.proofs.Common.{◌≡◌, refl, sym, ap, subst, ◌∙◌, ℕ, List, [], ◌∷◌, ◌++◌, append_assoc}
-use Rattle.std.proofs.Common.{append-nil, Option, None, Some, ◌≤◌, take, drop, length, arith}
+use Rattle.std.proofs.Common.{append-nil, Option, ◌≤◌, take, drop, length, arith}
 use Rattle.std.proofs.lemmas.List.{length-take-le, take-append-drop}
 use Rattle.std.specs.declared.net.SocketAddr.{SocketAddr}
 use Rattle.links.specs.Links.{LinkState, pending, after_sent}
 use Rattle.links.specs.Histories.{Step, Sent}
-use Rattle.mio_sockets.specs.Wiring.{Wired, Tells, Line, IsSameDesk, Drives, Goes, told, told_all}
+use Rattle.mio_sockets.specs.Wiring.{Wired, Line, IsSameDesk, Drives, Goes, told, told_all}
+use Rattle.multiplex.specs.Happenings.{Tells}
+use Rattle.multiplex.proofs.Telling.{Tells-as, Tells-nil, Tells-trans}
 use Rattle.mio_sockets.specs.Wiring.{KeepsLine, Took, told_bytes}
-
-pub Tells-nil : {A : Type 0} (a : Option (List A)) → Tells a a []
-Tells-nil None = tt
-Tells-nil (Some xs) = sym (append-nil xs)
-
-pub Tells-trans : {A : Type 0} (a b c : Option (List A)) (xs ys : List A) → Tells a b xs
-    → Tells b c ys → Tells a c (xs ++ ys)
-Tells-trans None b None xs ys h k = tt
-Tells-trans (Some ks) b None xs ys h k = tt
-Tells-trans None None (Some cs) xs ys h k = absurd k
-Tells-trans None (Some bs) (Some cs) xs ys h k = absurd h
-Tells-trans (Some ks) None (Some cs) xs ys h k = absurd k
-Tells-trans {A} (Some ks) (Some bs) (Some cs) xs ys h k =
-    k ∙ ap (λ (t : List A). t ++ ys) h ∙ append_assoc ks xs ys
-
-pub Tells-as : {A : Type 0} (a b : Option (List A)) (xs ys : List A) → xs ≡ ys → Tells a b xs
-    → Tells a b ys
-Tells-as {A} a b xs ys is h = subst (λ (t : List A). Tells a b t) is h
 
 goes_both : (a b c : LinkState) (ss ts : List Step) → Goes a ss b → Goes b ts c
     → Goes a (ss ++ ts) c

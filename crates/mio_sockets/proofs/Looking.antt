@@ -8,8 +8,9 @@ use Rattle.links.specs.declared.stages.Stage.{Stage}
 use Rattle.links.specs.declared.stages.Stage.TheVariants.{Opening, Open}
 use Rattle.links.specs.declared.stages.Stage.TheVariants as stage
 use Rattle.mio_sockets.specs.Looking.{Look, LookAtAll, Looks, LooksAs, LooksIn}
-use Rattle.mio_sockets.specs.Wiring.{Line, Tells}
-use Rattle.mio_sockets.proofs.Driving.{Tells-trans}
+use Rattle.mio_sockets.specs.Wiring.{Line}
+use Rattle.multiplex.specs.Happenings.{Tells}
+use Rattle.multiplex.proofs.Telling.{Tells-trans}
 use Rattle.mio_sockets.proofs.Each.{after_there, same_there}
 
 -- this was seen, and the connection was closed for it

@@ -3,7 +3,8 @@ use Rattle.std.specs.Prelude.{◌≡◌, ℕ, List, [], ◌∷◌, ◌++◌, Opt
 use Rattle.links.specs.Links.{LinkState, after_ended, after_failed, after_opened}
 use Rattle.links.specs.declared.stages.Stage.{Stage}
 use Rattle.links.specs.declared.stages.Stage.TheVariants.{Closed, Paused, Opening, Open}
-use Rattle.mio_sockets.specs.Wiring.{Line, Tells}
+use Rattle.mio_sockets.specs.Wiring.{Line}
+use Rattle.multiplex.specs.Happenings.{Tells}
 use Rattle.mio_sockets.specs.declared.wires.Heard.{Heard}
 use Rattle.mio_sockets.specs.declared.wires.Heard.TheVariants as heard_is
 use Rattle.mio_sockets.specs.declared.wires.Opening.{Opening as Opened}

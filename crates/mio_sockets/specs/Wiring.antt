@@ -2,9 +2,10 @@
 -- its connection.
 use Rattle.std.specs.Prelude.{◌≡◌, ◌≢◌, ◌⊎◌, ℕ, ◌+◌, ◌^◌, ◌-◌, ◌==◌, min, List, [], ◌∷◌, ◌++◌}
 use Rattle.std.specs.Prelude.{take}
-use Rattle.std.specs.Prelude.{Option, None, Some, ⊤, Bool, true, false}
+use Rattle.std.specs.Prelude.{Option, None, Some, Bool, true, false}
 use Rattle.std.specs.List.{AllByRecursion}
 use Rattle.std.specs.declared.net.SocketAddr.{SocketAddr}
+use Rattle.multiplex.specs.Happenings.{Tells}
 use Rattle.multiplex.specs.declared.clients.Taken.{Taken}
 use Rattle.multiplex.specs.declared.clients.Taken.TheVariants as taken_is
 use Rattle.links.specs.declared.stages.Pushed.TheVariants as push
@@ -18,13 +19,6 @@ pub data Wired : Type 0 where
   Began : ℕ → SocketAddr → Wired
   Took : ℕ → List ℕ → Wired
   Closed : ℕ → Wired
-
--- what came of the connections grows by these, in order; who tells it may stop, and never begins
-abbrev pub Tells : {A : Type 0} → Option (List A) → Option (List A) → List A → Type 0
-Tells None None more = ⊤
-Tells (Some xs) None more = ⊤
-Tells None (Some ys) more = ⊥
-Tells (Some xs) (Some ys) more = ys ≡ xs ++ more
 
 -- the bytes that were taken stand first among those that were given
 abbrev pub taken : ℕ → Taken → List ℕ → List Wired

@@ -3,7 +3,8 @@
 ghost use Rattle.std.specs.Prelude.{◌≢◌, [], ◌∷◌, List, Option, length};
 ghost use Rattle.multiplex.specs.Happenings.{CountsTaken};
 ghost use Rattle.mio_sockets.specs.Looking.{Listened, Look, Looked};
-ghost use Rattle.mio_sockets.specs.Wiring.{Began, Closed, Tells, Wired, taken};
+ghost use Rattle.mio_sockets.specs.Wiring.{Began, Closed, Wired, taken};
+ghost use Rattle.multiplex.specs.Happenings.{Tells};
 
 use calls::CallTrouble;
 use multiplex::Taken;
