@@ -58,6 +58,9 @@ pub record IsInBounds (q : QueueOf) : Type 0 where
   pub done : length q.done ≤ 10
   pub front : 0 < length q.sent → 0 < length q.waiting
 
+abbrev pub IsUnderWay : QueueOf → Type 0
+IsUnderWay q = 0 < length q.sent
+
 -- ---- what is known
 
 -- since when an item of this id waits
@@ -109,14 +112,30 @@ Takes old item now taken.Full new =
 Takes old item now taken.Queued new =
     (found_in old (id_of item) ≡ None) × (is_full old ≡ false) × (new ≡ queued old item now)
 
+-- ---- taking back
+
+-- the item that was queued last waits no more: another one waits before it, or none is under way
+pub record IsTakenBack (old : QueueOf) (item : Item) (new : QueueOf) : Type 0 where
+  pub others : List Waiting
+  pub last : Waiting
+  pub parts : old.waiting ≡ others ++ last ∷ []
+  pub idle : (0 < length others) ⊎ (old.sent ≡ [])
+  pub gives : item ≡ last.item
+  pub becomes : new ≡ queue others old.sent old.sent_at old.done old.outcomes
+
+-- nothing waits, or nothing but an item that is under way
+abbrev pub HasNoneToTakeBack : QueueOf → Type 0
+HasNoneToTakeBack q = (q.waiting ≡ []) ⊎ ((length q.waiting ≡ 1) × IsUnderWay q)
+
+abbrev pub TakesBack : QueueOf → Option Item → QueueOf → Type 0
+TakesBack old (Some item) new = IsTakenBack old item new
+TakesBack old None new = HasNoneToTakeBack old × (new ≡ old)
+
 -- ---- a step
 
 -- the commands that are accepted in a log
 abbrev pub accepted_in : List Entry → List Command
 accepted_in log = (history (texts log)).accepted
-
-abbrev pub IsUnderWay : QueueOf → Type 0
-IsUnderWay q = 0 < length q.sent
 
 -- since when something is under way
 abbrev pub since_sent : QueueOf → Option ℕ

@@ -91,7 +91,8 @@ fn push_done<'a>(recent: &mut Vec<Recent<'a>>, done: &'a VecDeque<Done>) -> Resu
 impl CardQueue {
     ghost use Rattle.std.specs.Prelude.{◌<◌, [], IfOk, OnErr, length, map, not, position};
     ghost use Rattle.card_queue.specs.Queues.{empty_queue, found_in, is_full, Takes, Steps};
-    ghost use Rattle.card_queue.specs.Queues.{IsEndedAs, has_card_of, knows, since_of};
+    ghost use Rattle.card_queue.specs.Queues.{IsEndedAs, IsUnderWay, TakesBack, has_card_of};
+    ghost use Rattle.card_queue.specs.Queues.{knows, since_of};
     ghost use Rattle.card_queue.specs.Queues.{since_sent, recent_in, shown};
     ghost use Rattle.card_queue.specs.Journals.{is_of, Restores};
 
@@ -162,10 +163,11 @@ impl CardQueue {
     }
 
     /// Takes an item, unless its id is known or there is no room. Where memory is refused, the
-    /// queue is as it was.
+    /// queue is as it was. Where entries are under way, an item waited before.
     pub fn take(&mut self, item: Item, now: u64) -> Result<Taken, AllocError>
         ensures ok { IfOk result (λ taken. Takes self.old item now taken self.new) }
         ensures err { OnErr result (self.new ≡ self.old) }
+        ensures front { IsUnderWay self.old → 0 < length self.old.waiting }
     {
         if let Some(state) = self.find(item.id()) {
             return Ok(Taken::Known(state));
@@ -175,6 +177,18 @@ impl CardQueue {
         }
         self.waiting.push_back(Waiting { item, since: now })?;
         Ok(Taken::Queued)
+    }
+
+    /// Takes back the item that was queued last. None: no item waits, or the only one that does is
+    /// under way; then the queue is as it was.
+    pub fn take_back(&mut self) -> Option<Item>
+        ensures { TakesBack self.old result self.new }
+    {
+        if self.waiting.len() == 1 && !self.sent.is_empty() {
+            return None;
+        }
+        let Waiting { item, .. } = self.waiting.pop_back()?;
+        Some(item)
     }
 
     /// The entries of the item in front that are under way, in order. None where nothing is.

@@ -2,3 +2,4 @@ pub mod Looked
 pub mod Pairs
 pub mod Walks
 pub mod Planned
+pub mod Journaled

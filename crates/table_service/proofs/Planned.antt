@@ -39,7 +39,7 @@ use Rattle.table_service.specs.declared.reading.Asked.{Asked}
 use Rattle.table_service.specs.declared.reading.Asked.TheVariants as asked
 use Rattle.table_service.specs.Asked.{asked_at}
 use Rattle.table_service.specs.Gate.{has_token, is_own}
-use Rattle.table_service.specs.Laws.{Asks, AsksFor, IsQueued, IsSecured}
+use Rattle.table_service.specs.Laws.{Asks, AsksFor, IsQueued, IsSecured, QueuesNothing}
 use Rattle.table_service.specs.Imports.{PlansBody, PlansCarried, PlansPartsIf, boundary_in}
 use Rattle.table_service.specs.Imports.{content_of}
 use Rattle.table_service.specs.Lists.{LooksAt, PlansAsked, PlansLines, PlansListFor, PlansListOf}
@@ -307,9 +307,11 @@ sent_on reply.Script r on is = absurd on.1
 module _ (old new : ServiceOf) (request : Request (List ℕ)) (response : Response) where
   queued_as : (plan : Plan) → Plans old request plan → (what : Effect) → plan.effect ≡ what
       → DoesAs what plan old response new
-      → (new.queue ≡ old.queue) ⊎ IsQueued old request response new
-  queued_as plan planned effect.Nothing is does = inl (ap (λ (s : ServiceOf). s.queue) does.0)
-  queued_as plan planned effect.Ids is does = inl (ap (λ (s : ServiceOf). s.queue) does.0)
+      → QueuesNothing old new ⊎ IsQueued old request response new
+  queued_as plan planned effect.Nothing is does =
+      inl (ap (λ (s : ServiceOf). s.queue) does.0, ap (λ (s : ServiceOf). s.kept) does.0)
+  queued_as plan planned effect.Ids is does =
+      inl (ap (λ (s : ServiceOf). s.queue) does.0, ap (λ (s : ServiceOf). s.kept) does.0)
   queued_as plan planned (effect.Take one) is (inl does) =
       let asks = taken plan one is old request planned in
       inr record {
@@ -319,10 +321,10 @@ module _ (old new : ServiceOf) (request : Request (List ℕ)) (response : Respon
         told = sent_on plan.reply response asks.1 does.1;
       }
   queued_as plan planned (effect.Take one) is (inr kept) =
-      inl (ap (λ (s : ServiceOf). s.queue) kept.0)
+      inl (ap (λ (s : ServiceOf). s.queue) kept.0, ap (λ (s : ServiceOf). s.kept) kept.0)
 
   pub queued_for_forms : Answers old request response new
-      → (new.queue ≡ old.queue) ⊎ IsQueued old request response new
+      → QueuesNothing old new ⊎ IsQueued old request response new
   queued_for_forms answers =
       queued_as answers.plan answers.planned answers.plan.effect refl answers.does
 

@@ -55,7 +55,11 @@ pub record Asks (s : ServiceOf) (request : Request (List ℕ)) (one : Item) : Ty
   pub unknown : found_in s.queue (id_of one) ≡ None
   pub room : is_full s.queue ≡ false
 
--- the item that a form asks for is queued, and the browser is sent on
+-- the queue stays, and nothing is kept in the journal
+abbrev pub QueuesNothing : ServiceOf → ServiceOf → Type 0
+QueuesNothing old new = (new.queue ≡ old.queue) × (new.kept ≡ old.kept)
+
+-- the item that a form asks for is queued, its line is kept, and the browser is sent on
 pub record IsQueued (old : ServiceOf) (request : Request (List ℕ)) (response : Response)
     (new : ServiceOf) : Type 0 where
   pub one : Item
@@ -63,12 +67,12 @@ pub record IsQueued (old : ServiceOf) (request : Request (List ℕ)) (response :
   pub becomes : new ≡ with_item old one
   pub told : response.status ≡ 303
 
--- nothing is queued but what a form of one of the program's own pages asks for
+-- nothing is queued or kept but what a form of one of the program's own pages asks for
 abbrev pub QueuesForForms : Type 0
 QueuesForForms =
     (old new : ServiceOf) (request : Request (List ℕ)) (response : Response)
     → Answers old request response new
-    → (new.queue ≡ old.queue) ⊎ IsQueued old request response new
+    → QueuesNothing old new ⊎ IsQueued old request response new
 
 -- the fields that each answer has come first
 abbrev pub IsSecured : Response → Type 0

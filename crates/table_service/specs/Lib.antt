@@ -7,6 +7,8 @@ pub mod Pages
 pub mod Checks
 pub mod Plans
 pub mod Sent
+pub mod Keeping
 pub mod Services
 pub mod Laws
+pub mod Journal
 pub mod Lists

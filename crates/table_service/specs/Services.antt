@@ -6,7 +6,9 @@ use Rattle.http_server.specs.declared.response.Response.{Response}
 use Rattle.mirroring.specs.Mirrorings.{MirroringOf}
 use Rattle.card_forms.specs.declared.items.Item.{Item}
 use Rattle.card_queue.specs.declared.stepping.Stepped.{Stepped}
+use Rattle.card_queue.specs.declared.stepping.Stepped.TheVariants as stepped
 use Rattle.card_queue.specs.Queues.{QueueOf, Steps, queued, recent_in, shown}
+use Rattle.card_queue.specs.Words.{done_line, item_line, with_end}
 use Rattle.table_views.specs.declared.around.Around.{Around}
 use Rattle.table_views.specs.declared.desks.Desks.{Desks}
 use Rattle.table_service.specs.declared.plan.Effect.{Effect}
@@ -14,13 +16,14 @@ use Rattle.table_service.specs.declared.plan.Effect.TheVariants as effect
 use Rattle.table_service.specs.declared.plan.Plan.{Plan}
 use Rattle.table_service.specs.declared.plan.Problem.TheVariants as problem
 use Rattle.table_service.specs.Gate.{is_own}
+use Rattle.table_service.specs.Keeping.{with_kept}
 use Rattle.table_service.specs.Plans.{refuses}
 use Rattle.table_service.specs.Replies.{IsProblem, Writes}
 use Rattle.table_service.specs.Sent.{PlansOwn}
 
 -- the title of the hall, the hosts and the token of the program, the mirror with what keeps it up,
--- what is known of the desks, the queue, the ids for the forms of pages, a set for each page, and
--- the time
+-- what is known of the desks, the queue, the ids for the forms of pages, a set for each page, the
+-- time, and what was kept in the journal, where that is told
 pub record ServiceOf : Type 0 where
   pub title : List ℕ
   pub hosts : List (List ℕ)
@@ -30,10 +33,11 @@ pub record ServiceOf : Type 0 where
   pub queue : QueueOf
   pub ids : List (List ℕ)
   pub time : ℕ
+  pub kept : Option (List ℕ)
 
 abbrev pub service : List ℕ → List (List ℕ) → List ℕ → MirroringOf → Desks → QueueOf
-    → List (List ℕ) → ℕ → ServiceOf
-service title hosts token mirroring desks queue ids time = record {
+    → List (List ℕ) → ℕ → Option (List ℕ) → ServiceOf
+service title hosts token mirroring desks queue ids time kept = record {
   title = title;
   hosts = hosts;
   token = token;
@@ -42,6 +46,7 @@ service title hosts token mirroring desks queue ids time = record {
   queue = queue;
   ids = ids;
   time = time;
+  kept = kept;
 }
 
 -- ---- what a service becomes
@@ -50,9 +55,12 @@ service title hosts token mirroring desks queue ids time = record {
 abbrev pub with_ids_used : ServiceOf → ServiceOf
 with_ids_used s = record s { ids = drop 1 s.ids }
 
--- an item is queued
+-- an item is queued, and its line is kept
 abbrev pub with_item : ServiceOf → Item → ServiceOf
-with_item s one = record s { queue = queued s.queue one s.time }
+with_item s one = record s {
+  queue = queued s.queue one s.time;
+  kept = with_kept s.kept (with_end (item_line one));
+}
 
 -- ---- what is to be done for a request
 
@@ -86,7 +94,7 @@ Plans s request plan = PlansIf s request (is_own s.hosts request) plan
 
 -- ---- what is done
 
--- an item is queued and the browser is sent on; or the item was not kept, and that is answered
+-- an item is queued and kept, and the browser is sent on; or it was not kept, and that is answered
 abbrev pub Takes : Item → Plan → ServiceOf → Response → ServiceOf → Type 0
 Takes one plan old response new =
     ((new ≡ with_item old one) × Writes plan.reply response)
@@ -111,21 +119,28 @@ pub record Answers (old : ServiceOf) (request : Request (List ℕ)) (response : 
 
 -- no ids are given, and no time is said
 pub record IsNew (title : List ℕ) (hosts : List (List ℕ)) (token : List ℕ) (mirroring : MirroringOf)
-    (queue : QueueOf) (s : ServiceOf) : Type 0 where
+    (queue : QueueOf) (kept : Option (List ℕ)) (s : ServiceOf) : Type 0 where
   pub desks : Desks
-  pub is : s ≡ service title hosts token mirroring desks queue [] 0
+  pub is : s ≡ service title hosts token mirroring desks queue [] 0 kept
 
 -- nothing but the mirror
 abbrev pub IsKeptBut : ServiceOf → ServiceOf → Type 0
 IsKeptBut old new = new ≡ record old { mirroring = new.mirroring }
 
--- the queue takes a step by the mirror's log
+-- where an item is done, the line that says so is kept, or it was not kept; else nothing is
+abbrev pub KeepsEnd : Stepped → Option (List ℕ) → Option (List ℕ) → Type 0
+KeepsEnd (stepped.Ends id outcome) old new =
+    (new ≡ with_kept old (with_end (done_line id))) ⊎ (new ≡ old)
+KeepsEnd _ old new = new ≡ old
+
+-- the queue takes a step by the mirror's log, and nothing else changes but what is kept of its end
 abbrev pub StepsQueue : ServiceOf → Stepped → ServiceOf → Type 0
 StepsQueue old stepped new =
     Steps old.queue old.mirroring.entries old.time stepped new.queue
-    × (new ≡ record old { queue = new.queue })
+    × KeepsEnd stepped old.kept new.kept
+    × (new ≡ record old { queue = new.queue; kept = new.kept })
 
--- the item is queued, and the answer is as it was; or it was not kept, and that is answered
+-- the item is queued and kept, and the answer stays; or it was not kept, and that is answered
 abbrev pub AddsItem : Item → ServiceOf → Response → ServiceOf → Response → Type 0
 AddsItem one old before new response =
     ((new ≡ old) × IsProblem problem.Busy response)

@@ -21,6 +21,8 @@ mod showing;
 
 pub use checks::{Checked, notes_of};
 pub use keeper::Keeper;
-pub use laws::{answers_are_secured, foreign_requests_are_refused, forms_alone_are_queued};
+pub use laws::{
+    answers_are_secured, foreign_requests_are_refused, forms_alone_are_queued, journal_is_of_queue,
+};
 pub use service::TableService;
 pub use setup::Setup;

@@ -2,6 +2,7 @@
 
 ghost use Rattle.std.specs.Prelude.{◌≡◌, slice_get};
 ghost use Rattle.std.specs.Option.{option_copied};
+ghost use Rattle.table_service.specs.Services.{KeepsEnd};
 
 use crate::gate::is_own;
 use crate::keeper::Keeper;
@@ -28,7 +29,7 @@ const MOST_SETS: usize = 64;
 
 /// Answers browsers with the pages of a mirror of a hall's log, and queues what they send.
 #[derive(Drop)]
-pub struct TableService<K> {
+pub struct TableService<K: Keeper> {
     alloc: Global,
     setup: Setup,
     mirroring: Mirroring,
@@ -41,14 +42,15 @@ pub struct TableService<K> {
     keeper: K,
 }
 
-impl<K> Model for TableService<K> {
+impl<K: Keeper> Model for TableService<K> {
     ghost use Rattle.std.specs.Prelude.{map, string_bytes};
     ghost use Rattle.table_service.specs.Services.{ServiceOf, service};
 
     ghost Value = { ServiceOf };
 
     ghost view = { λ s. service (string_bytes s.setup.title) (map string_bytes s.setup.hosts.items)
-        (string_bytes s.setup.token) s.mirroring s.desks s.queue s.ids.items s.time };
+        (string_bytes s.setup.token) s.mirroring s.desks s.queue s.ids.items s.time
+        (K.kept s.keeper) };
 }
 
 /// What is known of the desks at first.
@@ -66,6 +68,18 @@ fn first_set(ids: &VecDeque<[FormId; 32]>) -> Option<&[FormId; 32]>
     ensures { option_copied result ≡ slice_get ids.now.items 0 }
 {
     ids.front()
+}
+
+/// Keeps the line of an item that a step ended, if it ended one.
+fn keep_end<K: Keeper>(alloc: Global, keeper: &mut K, stepped: &Stepped)
+    ensures { KeepsEnd stepped.now (K.kept keeper.old) (K.kept keeper.new) }
+{
+    let Stepped::Ends { id, .. } = stepped else {
+        return;
+    };
+    if let Ok(line) = done_line(alloc, *id) {
+        let _ = keeper.keep(line.as_str());
+    }
 }
 
 impl<K: Keeper> TableService<K> {
@@ -86,7 +100,7 @@ impl<K: Keeper> TableService<K> {
         keeper: K,
     ) -> TableService<K>
         ensures { IsNew (string_bytes setup.title) (map string_bytes setup.hosts.items)
-            (string_bytes setup.token) mirroring queue result }
+            (string_bytes setup.token) mirroring queue (K.kept keeper) result }
     {
         TableService {
             alloc,
@@ -170,11 +184,7 @@ impl<K: Keeper> TableService<K> {
         ensures err { OnErr result (self.new ≡ self.old) }
     {
         let stepped = self.queue.step(self.mirroring.mirror(), self.time)?;
-        if let Stepped::Ends { id, .. } = stepped {
-            if let Ok(line) = done_line(self.alloc, id) {
-                let _ = self.keeper.keep(line.as_str());
-            }
-        }
+        keep_end(self.alloc, &mut self.keeper, &stepped);
         Ok(stepped)
     }
 
@@ -209,7 +219,9 @@ impl<K: Keeper> TableService<K> {
         }
     }
 
-    /// Keeps an item in the journal and queues it, or says that it was not kept.
+    /// Queues an item and keeps its line in the journal. Where the line is not kept, the item is
+    /// taken back, and that is answered. Memory for the queue may be refused, and a line that was
+    /// kept can't be taken back: so the item is queued first.
     fn take(&mut self, item: Item, response: &mut Response) -> Result<(), AllocError>
         requires unknown { found_in self.old.queue (id_of item) ≡ None }
         requires room { is_full self.old.queue ≡ false }
@@ -218,14 +230,16 @@ impl<K: Keeper> TableService<K> {
         ensures err { OnErr result (self.new ≡ self.old) }
     {
         let line = line_of(self.alloc, &item)?;
-        if !self.keeper.keep(line.as_str()) {
-            response.clear();
-            return tell_problem(response, Problem::Busy);
-        }
         match self.queue.take(item, self.time)? {
-            Taken::Queued => Ok(()),
+            Taken::Queued => {}
             Taken::Known(_) | Taken::Full => unreachable!(),
         }
+        if self.keeper.keep(line.as_str()) {
+            return Ok(());
+        }
+        let _item = self.queue.take_back();
+        response.clear();
+        tell_problem(response, Problem::Busy)
     }
 }
 

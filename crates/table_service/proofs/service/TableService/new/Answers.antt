@@ -8,6 +8,7 @@ returns g c = record {
   is = ap
       (λ (ids : List (List ℕ)). service (string_bytes c.args.setup.title)
       (map string_bytes c.args.setup.hosts.items) (string_bytes c.args.setup.token)
-      c.args.mirroring c.unknown_desks.result c.args.queue ids 0)
+      c.args.mirroring c.unknown_desks.result c.args.queue ids 0
+      (g.K.Keeper.kept c.args.keeper))
       c.new.ensures.items;
 }
