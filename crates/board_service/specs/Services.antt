@@ -1,6 +1,7 @@
 -- What the board answers.
-use Rattle.std.specs.Prelude.{◌≡◌, ℕ, ◌&&◌, Bool, true, false, List, [], ◌∷◌, Option, codes}
+use Rattle.std.specs.Prelude.{◌≡◌, ℕ, ◌&&◌, Bool, true, false, List, [], ◌∷◌, Option, codes, min}
 use Rattle.std.specs.Str.{bytes_eq}
+use Rattle.following.specs.Following.{wait_of}
 use Rattle.http.specs.declared.request.Request.{Request}
 use Rattle.http.specs.Request.{head_of}
 use Rattle.http_uri.specs.Uri.{uri_path}
@@ -11,7 +12,7 @@ use Rattle.page_replies.specs.declared.page.Page.{Page}
 use Rattle.page_replies.specs.Replies.{Replies, is_read, no_store}
 use Rattle.board_views.specs.Views.{IsPageAt}
 use Rattle.mirroring.specs.Mirrorings.{MirroringOf}
-use Rattle.hall_standings.specs.Halls.{HallDesksOf, IsStatus}
+use Rattle.hall_standings.specs.Halls.{HallDesksOf, IsStatus, desks_wait}
 
 -- the title of the competition, the mirror with what keeps it up, and the desks that are asked
 pub record ServiceOf : Type 0 where
@@ -21,6 +22,11 @@ pub record ServiceOf : Type 0 where
 
 abbrev pub service : List ℕ → MirroringOf → HallDesksOf → ServiceOf
 service title mirroring desks = record { title = title; mirroring = mirroring; desks = desks }
+
+-- in how many milliseconds something is to be done for the mirror or for the survey of a desk, if
+-- nothing comes: as soon as it is for one of them
+abbrev pub service_wait : ServiceOf → ℕ → ℕ
+service_wait s now = min (desks_wait s.desks now) (wait_of s.mirroring.follower now)
 
 -- the path that a request asks for, without the query
 abbrev pub path_of : Request (List ℕ) → List ℕ

@@ -4,6 +4,7 @@ ghost use Rattle.std.specs.Prelude.{◌≡◌, IfOk, OnOk, string_bytes};
 ghost use Rattle.board_views.specs.Views.{IsPageAt};
 ghost use Rattle.http_server.specs.Response.{IsBlank};
 ghost use Rattle.board_service.specs.Services.{ShowsPage, ShowsStatus, asks_status, service};
+ghost use Rattle.board_service.specs.Services.{service_wait};
 ghost use Rattle.hall_standings.specs.Halls.{IsKept};
 
 use crate::shelf::Shelf;
@@ -115,8 +116,10 @@ impl BoardService {
     }
 
     /// In how many milliseconds something is to be done for the mirror or for a survey, if nothing
-    /// comes.
-    pub fn wait(&self, now: u64) -> u64 {
+    /// comes: as soon as it is for one of them, and so at most 1,000.
+    pub fn wait(&self, now: u64) -> u64
+        ensures { result ≡ service_wait self.now now }
+    {
         let wait = self.mirroring.wait(now);
         self.desks.wait(now).min(wait)
     }

@@ -1,2 +1,4 @@
 pub mod Judged
+pub mod Looking
 pub mod Sentences
+pub mod model

@@ -1,5 +1,10 @@
 //! An address, tried again.
 
+ghost use Rattle.std.specs.Prelude.{IfErr, IfOk};
+ghost use Rattle.hall_file.specs.Addresses.{IsAddress};
+ghost use Rattle.explaining.specs.Looking.{IsMetAt, IsMissed, IsOfConnecting};
+ghost use Rattle.explaining.specs.Looking.{IsOfListening};
+
 use crate::findings::AddressFinding;
 use crate::told::{of_connecting, of_listening};
 use hall_file::is_address;
@@ -10,7 +15,10 @@ use std::time::Duration;
 const MOST_SECONDS: u32 = 3;
 
 /// The first address that a text stands for, or what was met in place of one.
-fn address_of<R: Net>(net: &R, text: &str) -> Result<SocketAddr, AddressFinding> {
+fn address_of<R: Net>(net: &R, text: &str) -> Result<SocketAddr, AddressFinding>
+    ensures ok { IfOk result (λ _. IsAddress text.now) }
+    ensures err { IfErr result (λ what. IsMissed text.now what) }
+{
     if !is_address(text) {
         return Err(AddressFinding::NotAddress);
     }
@@ -25,7 +33,9 @@ fn address_of<R: Net>(net: &R, text: &str) -> Result<SocketAddr, AddressFinding>
 
 /// What is met at an address where a desk should listen. It is waited for as many seconds as a desk
 /// is waited for, and three at most.
-pub(crate) fn of_asking<R: Net>(net: &R, text: &str, patience: u32) -> Option<AddressFinding> {
+pub(crate) fn of_asking<R: Net>(net: &R, text: &str, patience: u32) -> Option<AddressFinding>
+    ensures { IsMetAt text.now IsOfConnecting result }
+{
     let address = match address_of(net, text) {
         Ok(address) => address,
         Err(found) => return Some(found),
@@ -39,7 +49,9 @@ pub(crate) fn of_asking<R: Net>(net: &R, text: &str, patience: u32) -> Option<Ad
 }
 
 /// What is met at an address where a desk of this machine is to listen.
-pub(crate) fn of_serving<R: Net>(net: &R, text: &str) -> Option<AddressFinding> {
+pub(crate) fn of_serving<R: Net>(net: &R, text: &str) -> Option<AddressFinding>
+    ensures { IsMetAt text.now IsOfListening result }
+{
     let address = match address_of(net, text) {
         Ok(address) => address,
         Err(found) => return Some(found),

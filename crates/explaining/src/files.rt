@@ -1,5 +1,9 @@
 //! A desk's file, looked at again.
 
+ghost use Rattle.std.specs.Prelude.{IfOk, IfSome};
+ghost use Rattle.explaining.specs.Looking.{IsOfDamage, IsOfDevice, IsOfReading};
+ghost use Rattle.explaining.specs.model.Files.{IsOfOpening, IsOfPath, IsOfRoom};
+
 use crate::findings::FileFinding;
 use crate::told::{of_beginning, of_opening};
 use sqlite_std_file::{OpenError, Unknown, open};
@@ -32,7 +36,9 @@ fn length_of<R: Files>(rt: &R, path: &str) -> u64 {
 }
 
 /// What stands at a path in place of a file.
-fn no_file<R: Files>(rt: &R, path: &str) -> Option<FileFinding> {
+fn no_file<R: Files>(rt: &R, path: &str) -> Option<FileFinding>
+    ensures { IfSome result IsOfPath }
+{
     match fs::metadata(rt, path) {
         Ok(data) if data.is_dir() => Some(FileFinding::IsFolder),
         Ok(_) => None,
@@ -64,7 +70,9 @@ fn fill<R: Files>(rt: &R, path: &str) -> io::Result<()> {
 }
 
 /// Whether there is room beside a file, and what was met if there is none.
-fn no_room<R: Files + AllocGlobal>(rt: &R, path: &str) -> Option<FileFinding> {
+fn no_room<R: Files + AllocGlobal>(rt: &R, path: &str) -> Option<FileFinding>
+    ensures { IfSome result IsOfRoom }
+{
     let Ok(room) = beside(rt, path, "-room") else {
         return None;
     };
@@ -86,7 +94,9 @@ fn is_allowed<R: Files>(rt: &R, path: &str) -> bool {
 }
 
 /// What was met of a file that is there, opened again as a desk opens it.
-fn opened_again(rt: &HostRuntime, path: &str) -> Option<FileFinding> {
+fn opened_again(rt: &HostRuntime, path: &str) -> Option<FileFinding>
+    ensures { IfSome result IsOfOpening }
+{
     match open(rt, path, Unknown) {
         Ok(_) => Some(FileFinding::OpensNow),
         Err(OpenError::Busy) => Some(FileFinding::HeldOpen),
@@ -105,7 +115,9 @@ fn opened_again(rt: &HostRuntime, path: &str) -> Option<FileFinding> {
 
 /// What was met of a file that a desk was to be served from, and that could not be opened, read or
 /// written.
-pub(crate) fn of_device(rt: &HostRuntime, path: &str) -> Option<FileFinding> {
+pub(crate) fn of_device(rt: &HostRuntime, path: &str) -> Option<FileFinding>
+    ensures { IfSome result IsOfDevice }
+{
     match no_file(rt, path) {
         // it was to be made
         Some(FileFinding::NotThere) => no_room(rt, path),
@@ -121,7 +133,9 @@ pub(crate) fn of_device(rt: &HostRuntime, path: &str) -> Option<FileFinding> {
 }
 
 /// What was met of a file whose log was to be read, and that could not be opened or read.
-pub(crate) fn of_reading(rt: &HostRuntime, path: &str) -> Option<FileFinding> {
+pub(crate) fn of_reading(rt: &HostRuntime, path: &str) -> Option<FileFinding>
+    ensures { IfSome result IsOfReading }
+{
     match no_file(rt, path) {
         Some(found) => Some(found),
         None => match opened_again(rt, path) {
@@ -132,7 +146,9 @@ pub(crate) fn of_reading(rt: &HostRuntime, path: &str) -> Option<FileFinding> {
 }
 
 /// What the first bytes of a file tell, 16 or all that it has.
-fn beginning<R: Files>(rt: &R, path: &str) -> io::Result<Option<FileFinding>> {
+fn beginning<R: Files>(rt: &R, path: &str) -> io::Result<Option<FileFinding>>
+    ensures { IfOk result (λ what. IfSome what IsOfDamage) }
+{
     let mut bytes = [0; 16];
     let mut file = fs::open(rt, path)?;
     let count = file.read(&mut bytes)?;
@@ -140,7 +156,9 @@ fn beginning<R: Files>(rt: &R, path: &str) -> io::Result<Option<FileFinding>> {
 }
 
 /// What was met of a file that is no desk's store.
-pub(crate) fn of_damage<R: Files + AllocGlobal>(rt: &R, path: &str) -> Option<FileFinding> {
+pub(crate) fn of_damage<R: Files + AllocGlobal>(rt: &R, path: &str) -> Option<FileFinding>
+    ensures { IfSome result IsOfDamage }
+{
     match beginning(rt, path) {
         Ok(Some(found)) => return Some(found),
         Ok(None) => {}

@@ -1,6 +1,9 @@
 //! What is looked at again, for each fault.
 
-ghost use Rattle.std.specs.Prelude.{◌≤◌};
+ghost use Rattle.std.specs.Prelude.{◌≡◌, ◌≤◌, if◌then◌else◌, option_map};
+ghost use Rattle.explaining.specs.Judged.{length_in, other_desk};
+ghost use Rattle.explaining.specs.Looking.{IsFound, IsHeard, IsOfAsking, IsOfLog, IsOfServing};
+ghost use Rattle.explaining.specs.declared.findings.Finding.TheVariants as finding;
 
 use crate::addresses;
 use crate::asking::heard_of;
@@ -14,12 +17,16 @@ use errands::{DeskFault, Sockets};
 use wire::ClientRefusal;
 
 /// What was met of the file at a path.
-fn of_file(path: &str, what: Option<FileFinding>) -> Option<Finding<'_>> {
+fn of_file<'a>(path: &'a str, what: Option<FileFinding>) -> Option<Finding<'a>>
+    ensures { result ≡ option_map (λ w. finding.File path.entry w) what }
+{
     what.map(|what| Finding::File { path, what })
 }
 
 /// What was met at an address.
-fn of_address(address: &str, what: Option<AddressFinding>) -> Option<Finding<'_>> {
+fn of_address<'a>(address: &'a str, what: Option<AddressFinding>) -> Option<Finding<'a>>
+    ensures { result ≡ option_map (λ w. finding.Address address.entry w) what }
+{
     what.map(|what| Finding::Address { address, what })
 }
 
@@ -29,7 +36,9 @@ fn of_serving<'a>(
     fault: DeskFault,
     store: &'a str,
     address: &'a str,
-) -> Option<Finding<'a>> {
+) -> Option<Finding<'a>>
+    ensures { IsOfServing fault store.entry address.entry result }
+{
     match fault {
         DeskFault::StoreDevice | DeskFault::StoreDown => of_file(store, of_device(rt, store)),
         DeskFault::DamagedStore => of_file(store, of_damage(rt, store)),
@@ -40,7 +49,9 @@ fn of_serving<'a>(
 }
 
 /// What was met of a file whose log was to be read.
-fn of_log<'a>(rt: &HostRuntime, fault: DeskFault, store: &'a str) -> Option<Finding<'a>> {
+fn of_log<'a>(rt: &HostRuntime, fault: DeskFault, store: &'a str) -> Option<Finding<'a>>
+    ensures { IsOfLog fault store.entry result }
+{
     match fault {
         DeskFault::StoreDevice => of_file(store, of_reading(rt, store)),
         DeskFault::DamagedStore => of_file(store, of_damage(rt, store)),
@@ -56,7 +67,10 @@ fn of_desk<'a>(
     desk: u8,
     contact: Contact<'_>,
     wants_length: bool,
-) -> Option<Finding<'a>> {
+) -> Option<Finding<'a>>
+    ensures { IsHeard desk
+        (λ given. (if wants_length then length_in given else other_desk given hall desk)) result }
+{
     if desk == 0 || desk > 5 {
         return None;
     }
@@ -76,7 +90,9 @@ fn of_asking<'a>(
     hall: u32,
     desk: u8,
     contact: Contact<'a>,
-) -> Option<Finding<'a>> {
+) -> Option<Finding<'a>>
+    ensures { IsOfAsking fault hall desk contact.entry result }
+{
     match fault {
         DeskFault::CannotConnect => {
             let address = contact.address;
@@ -93,11 +109,9 @@ fn of_asking<'a>(
 }
 
 /// Looks again after a fault, and says what was met, where there is something to say.
-pub(crate) fn found<'a>(
-    rt: &HostRuntime,
-    fault: DeskFault,
-    about: About<'a>,
-) -> Option<Finding<'a>> {
+pub(crate) fn found<'a>(rt: &HostRuntime, fault: DeskFault, about: About<'a>) -> Option<Finding<'a>>
+    ensures { IsFound fault about.entry result }
+{
     if let Some(what) = of_key(fault) {
         return Some(Finding::Key { what });
     }

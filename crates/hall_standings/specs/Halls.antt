@@ -1,7 +1,8 @@
 -- The desks of a hall, and what is told of them.
 use Rattle.std.specs.Prelude.{◌≡◌, ◌≢◌, ℕ, List, [], ◌∷◌, ◌++◌, length, if◌then◌else◌, nat_le}
-use Rattle.std.specs.Prelude.{slice_get, String}
+use Rattle.std.specs.Prelude.{map, min, slice_get, String}
 use Rattle.std.specs.Global.{Global}
+use Rattle.desk_talks.specs.Lines.{wait_of}
 use Rattle.surveying.specs.Surveys.{new_survey}
 use Rattle.standings.specs.Reports.{json_line}
 use Rattle.standings.specs.declared.polled.Polled.{Polled}
@@ -35,6 +36,19 @@ pub record IsKept (place : ℕ) (old new : HallDesksOf) : Type 0 where
   pub hall : new.hall ≡ old.hall
   pub others : (other : ℕ) → other ≢ place
       → slice_get new.asked other ≡ slice_get old.asked other
+
+-- the least of these, and at most that
+abbrev pub least_of : ℕ → List ℕ → ℕ
+least_of most [] = most
+least_of most (n ∷ ns) = min n (least_of most ns)
+
+-- in how many milliseconds the survey of each desk is due, if nothing comes
+abbrev pub waits_of : List Asked → ℕ → List ℕ
+waits_of asked now = map (λ a. wait_of a.survey.line now) asked
+
+-- the same of the first of them that is due, and at most a second
+abbrev pub desks_wait : HallDesksOf → ℕ → ℕ
+desks_wait h now = least_of 1000 (waits_of h.asked now)
 
 -- the JSON value of all that is told of the desks, on a line
 abbrev pub IsStatus : HallDesksOf → List ℕ → Type 0

@@ -1,11 +1,15 @@
 //! One desk, and what is told of it.
 
 ghost use Rattle.std.specs.Prelude.{◌≡◌, IfOk, length};
+ghost use Rattle.hall_standings.specs.Halls.{least_of, waits_of};
 ghost use Rattle.hall_standings.specs.Told.{AreTold, IsTold, reply_of, standing_of};
 
 use standings::{Polled, Reply};
 use std::alloc::{AllocError, Global};
 use surveying::{Contact, Survey};
+
+/// Milliseconds until there is something to be done, where no desk is asked.
+const LONGEST_WAIT: u64 = 1000;
 
 /// A desk that is asked.
 #[derive(Drop)]
@@ -50,6 +54,18 @@ fn told_of(asked: &Asked) -> Polled<'_>
         address: &asked.address,
         reply: reply_of(asked.desk, &asked.survey),
     }
+}
+
+/// In how many milliseconds the first of the surveys of these desks is due, if nothing comes, and
+/// at most a second.
+pub(crate) fn soonest(asked: &[Asked], now: u64) -> u64
+    ensures { result ≡ least_of LONGEST_WAIT (waits_of asked.now now) }
+{
+    let mut wait = LONGEST_WAIT;
+    for one in asked {
+        wait = one.survey.wait(now).min(wait);
+    }
+    wait
 }
 
 /// What is told of these desks.

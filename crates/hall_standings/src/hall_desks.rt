@@ -1,10 +1,10 @@
 //! The desks of a hall.
 
 ghost use Rattle.std.specs.Prelude.{◌≡◌, IfOk, OnErr, OnOk, string_bytes};
-ghost use Rattle.hall_standings.specs.Halls.{IsKept, IsStatus, adds, no_desks};
+ghost use Rattle.hall_standings.specs.Halls.{IsKept, IsStatus, adds, desks_wait, no_desks};
 ghost use Rattle.wire.specs.Ranges.{IsDesk};
 
-use crate::asked::{Asked, all_told};
+use crate::asked::{Asked, all_told, soonest};
 use desk_sockets::DeskStream;
 use standings::json_line;
 use std::alloc::{AllocError, Global};
@@ -15,9 +15,6 @@ use surveying::Survey;
 
 /// The most desks that a hall has.
 const MOST_DESKS: usize = 5;
-
-/// Milliseconds until there is something to be done, where no desk is asked.
-const LONGEST_WAIT: u64 = 1000;
 
 /// The desks of a hall, at most five, each asked how it stands once a second.
 ///
@@ -87,13 +84,12 @@ impl HallDesks {
         }
     }
 
-    /// In how many milliseconds something is to be done, if nothing comes.
-    pub fn wait(&self, now: u64) -> u64 {
-        let mut wait = LONGEST_WAIT;
-        for asked in &self.asked {
-            wait = asked.survey.wait(now).min(wait);
-        }
-        wait
+    /// In how many milliseconds something is to be done, if nothing comes: as soon as it is for any
+    /// of the desks, and at most 1,000.
+    pub fn wait(&self, now: u64) -> u64
+        ensures { result ≡ desks_wait self.now now }
+    {
+        soonest(&self.asked, now)
     }
 
     /// How many entries the log of each desk has, by what it said last, in the order in which they
