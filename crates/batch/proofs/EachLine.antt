@@ -9,18 +9,23 @@ use Rattle.wire.specs.declared.frame.What.TheVariants as what
 use Rattle.batch.specs.Asking.{AreKnown, AreOf, Asked, Asks, IsAnswer}
 use Rattle.batch.specs.Asking.{IsAwaited, IsDecided, IsKnown, IsOfAsking, IsOneOf}
 use Rattle.batch.specs.Asking.{IsPutOff, IsTaken, IsTurnedDown}
-use Rattle.batch.specs.Asking.{Tries, ask_of, log_of, submit_of}
-use Rattle.batch.specs.Confirming.{IsAnother, IsConfirmed, IsUnconfirmed}
-use Rattle.batch.specs.Dialing.{Dialed, LetsGo, Place, Standing, asked_so, closed}
+use Rattle.batch.specs.Asking.{IsTakenOf, Tries, ask_of, log_of, submit_of}
+use Rattle.batch.specs.Confirming.{IsAnother, IsConfirmed, IsUnconfirmed, entry_of}
+use Rattle.batch.specs.Dialing.{Dialed, Grows, LetsGo, Place, Standing, asked_so, closed}
 use Rattle.batch.specs.Entering.{EndsAsking, EnteredBy, Hinders, IsCutOff, IsEntered, IsLost}
 use Rattle.batch.specs.Entering.{IsOther, StopsAsking}
 use Rattle.batch.specs.Logs.{AddsSo}
+use Rattle.batch.specs.Watching.{Notice, Telling, Tells, Watched, entries_of, found_by, full_of}
+use Rattle.batch.specs.Watching.{notices_by, notices_of, pending_of}
 use Rattle.batch.specs.declared.asking.Receiver.{Receiver}
 use Rattle.batch.specs.declared.fault.BatchFault.{BatchFault}
 use Rattle.batch.specs.declared.fault.BatchFault.TheVariants as fault
 use Rattle.batch.specs.model.Trying.{AreFor, EndsWaiting, IsFor, IsLastTry, IsTurnedOff}
-use Rattle.batch.specs.model.Trying.{StopsTaking}
-use Rattle.batch.proofs.Going.{adds_by, goes_more}
+use Rattle.batch.specs.model.Trying.{StopsTaking, TellsTries}
+use Rattle.batch.proofs.Going.{adds_by, goes_more, grows_more}
+use Rattle.batch.proofs.Heard.{between, by_none, entries_behind, entries_none, found_same}
+use Rattle.batch.proofs.Heard.{heard_more, log_told, notices_last, notices_then, question_told}
+use Rattle.batch.proofs.Heard.{text_told}
 use Rattle.batch.proofs.Trying.{Ends, all_more, all_weaker, decided_known, for_known}
 use Rattle.batch.proofs.Trying.{put_off_for, put_off_known, turned_down_for}
 
@@ -166,19 +171,41 @@ not_taken f r id text asked h (inr other) = (
 
 -- so it is of what is asked for the text
 pub if_asks_text : (here : Place) (r : Receiver) (id : ℕ) (text : List ℕ) (submit : Frame)
-    (a b : Standing) (result : Result What BatchFault) → submit ≡ submit_of r id text
-    → IfErr result (λ f. Asks here a b (IsTurnedOff f r submit))
-    → IfErr result (λ f. Asks here a b (StopsTaking f r id text))
-if_asks_text here r id text submit a b (Ok answer) is h = tt
-if_asks_text here r id text submit a b (Err f) is h =
-    let k = subst (λ (s : Frame). Asks here a b (IsTurnedOff f r s)) is h in
-    (k.0, k.1, (k.2.0, inl k.2.1))
+    (a b : Standing) (w : Watched) (result : Result What BatchFault) → submit ≡ submit_of r id text
+    → IfErr result (λ f. Asks here a b
+    (λ asked. IsTurnedOff f r submit asked × TellsTries submit w asked))
+    → IfErr result (λ f. Asks here a b (Telling w notices_of (StopsTaking f r id text)))
+if_asks_text here r id text submit a b w (Ok answer) is h = tt
+if_asks_text here r id text submit a b w (Err f) is h =
+    let k = subst (λ (s : Frame). Asks here a b
+    (λ asked. IsTurnedOff f r s asked × TellsTries s w asked)) is h in
+    (k.0, k.1, ((k.2.0.0, inl k.2.0.1), k.2.1 (entry_of id text) refl))
+
+-- and so it is where the text was taken
+pub if_takes_text : (here : Place) (r : Receiver) (id : ℕ) (text : List ℕ) (submit : Frame)
+    (a b : Standing) (w : Watched) (result : Result What BatchFault) → submit ≡ submit_of r id text
+    → IfOk result (λ answer. Asks here a b
+    (λ asked. IsTakenOf r submit answer asked × TellsTries submit w asked))
+    → IfOk result (λ answer. Asks here a b (Telling w notices_of (IsTaken r id text answer)))
+if_takes_text here r id text submit a b w (Ok answer) is h =
+    let k = subst (λ (s : Frame). Asks here a b
+    (λ asked. IsTakenOf r s answer asked × TellsTries s w asked)) is h in
+    (k.0, k.1, (k.2.0, k.2.1 (entry_of id text) refl))
+if_takes_text here r id text submit a b w (Err f) is h = tt
 
 -- the text was not taken
 pub asks_text : {here : Place} (f : BatchFault) (r : Receiver) (id : ℕ) (text : List ℕ)
-    (a b : Standing)
-    → Asks here a b (StopsTaking f r id text) → Asks here a b (StopsAsking f r id text)
-asks_text f r id text a b h = (h.0, h.1, not_taken f r id text h.0 h.2.0 h.2.1)
+    (a b : Standing) (w : Watched)
+    → Asks here a b (Telling w notices_of (StopsTaking f r id text))
+    → Asks here a b (Telling w (notices_by f) (StopsAsking f r id text))
+asks_text f r id text a b w h = (
+  h.0,
+  h.1,
+  (
+    not_taken f r id text h.0 h.2.0.0 h.2.0.1,
+    subst (Tells w) (by_none f h.0 (text_told r id text h.0 h.2.0.0).1) h.2.1,
+  ),
+)
 
 -- it was taken, and then not waited for to the end
 ends_so : (f : BatchFault) (r : Receiver) (id : ℕ) (text : List ℕ) (taken : What)
@@ -204,69 +231,139 @@ ends_so f r id text taken first rest h (inl (known, inr still)) =
 ends_so f r id text taken first rest h (inr (lost, forgotten)) =
     inr (lost, (taken, first, rest, h, forgotten, refl))
 
+-- those that entered the text, and those that asked for its id
+taken_told : (r : Receiver) (id : ℕ) (text : List ℕ) (taken : What) (asked : List Asked)
+    → IsTaken r id text taken asked → (pending_of asked ≡ 0) × (entries_of asked ≡ [])
+taken_told r id text taken asked h =
+    text_told r id text asked
+    (tries_for (IsTurnedDown r (submit_of r id text)) r (submit_of r id text) taken asked
+    (turned_down_for r (submit_of r id text)) h)
+
+awaited_told : (r : Receiver) (id : ℕ) (last : What) (asked : List Asked)
+    → IsAwaited r id last asked → (full_of asked ≡ 0) × (entries_of asked ≡ [])
+awaited_told r id last asked h =
+    question_told r id asked
+    (tries_for (IsPutOff r (ask_of r id)) r (ask_of r id) last asked (put_off_for r (ask_of r id))
+    h.tries)
+
 pub not_awaited : {here : Place} (f : BatchFault) (r : Receiver) (id : ℕ) (text : List ℕ)
-    (taken : What) (a b c : Standing)
-    → Asks here a b (IsTaken r id text taken)
-    → Asks here b c (EndsWaiting f r id)
-    → Asks here a c (StopsAsking f r id text)
-not_awaited f r id text taken a b c h k = (
-  h.0 ++ k.0,
-  goes_more _ a b c h.0 k.0 h.1 k.1,
-  (
-    all_more (IsOneOf r (submit_of r id text) (ask_of r id)) h.0 k.0
-        (taken_for r id text taken h.0 h.2)
-        (all_weaker (IsFor r (ask_of r id)) (IsOneOf r (submit_of r id text) (ask_of r id)) k.0
-        (ask_one r (submit_of r id text) (ask_of r id)) k.2.0),
-    ends_so f r id text taken h.0 k.0 h.2 k.2.1,
-  ),
-)
+    (taken : What) (a b c : Standing) (x y z : Option (List Notice))
+    → Asks here a b (Telling (between x y) notices_of (IsTaken r id text taken))
+    → Asks here b c (Telling (between y z) notices_of (EndsWaiting f r id))
+    → Asks here a c (Telling (between x z) (notices_by f) (StopsAsking f r id text))
+not_awaited f r id text taken a b c x y z h k =
+    let first = taken_told r id text taken h.0 h.2.0 in
+    let rest = question_told r id k.0 k.2.0.0 in (
+      h.0 ++ k.0,
+      goes_more _ a b c h.0 k.0 h.1 k.1,
+      (
+        (
+          all_more (IsOneOf r (submit_of r id text) (ask_of r id)) h.0 k.0
+              (taken_for r id text taken h.0 h.2.0)
+              (all_weaker (IsFor r (ask_of r id)) (IsOneOf r (submit_of r id text) (ask_of r id))
+              k.0 (ask_one r (submit_of r id text) (ask_of r id)) k.2.0.0),
+          ends_so f r id text taken h.0 k.0 h.2.0 k.2.0.1,
+        ),
+        subst (Grows x z) (by_none f (h.0 ++ k.0) (entries_none h.0 k.0 first.1 rest.1))
+            (heard_more x y z h.0 k.0 (notices_then h.0 k.0 first.0 rest.0) h.2.1 k.2.1),
+      ),
+    )
+
+-- it was taken and decided, and so the observer was told
+decided_heard : (r : Receiver) (id : ℕ) (text : List ℕ) (taken last : What)
+    (x y z : Option (List Notice)) (first rest : List Asked)
+    → IsTaken r id text taken first → IsAwaited r id last rest → Grows x y (notices_of first)
+    → Grows y z (notices_of rest) → Grows x z (notices_of (first ++ rest))
+decided_heard r id text taken last x y z first rest h k told more =
+    heard_more x y z first rest
+    (notices_then first rest (taken_told r id text taken first h).0
+    (awaited_told r id last rest k).0) told more
 
 -- it was taken and decided, and the entry in the log is this one
 pub confirmed : {here : Place} (waits : Bool) (r : Receiver) (id : ℕ) (text : List ℕ)
-    (taken last : What) (a b c d : Standing) → waits ≡ true
-    → Asks here a b (IsTaken r id text taken) → Asks here b c (IsAwaited r id last)
-    → Asks here c d (IsConfirmed r id text last)
-    → Asks here a d (EnteredBy waits r id text last)
-confirmed {here} waits r id text taken last a b c d is h k m =
-    subst (λ w. Asks here a d (EnteredBy w r id text last)) (sym is) (
+    (taken last : What) (a b c d : Standing) (x y z u : Option (List Notice)) → waits ≡ true
+    → Asks here a b (Telling (between x y) notices_of (IsTaken r id text taken))
+    → Asks here b c (Telling (between y z) notices_of (IsAwaited r id last))
+    → Asks here c d (Telling (between z u) notices_of (IsConfirmed r id text last))
+    → Asks here a d (Telling (between x u) notices_of (EnteredBy waits r id text last))
+confirmed {here} waits r id text taken last a b c d x y z u is h k m =
+    let log = log_told r m.2.0.pos (Ok m.2.0.answer) m.0 m.2.0.parts in
+    subst (λ w. Asks here a d (Telling (between x u) notices_of (EnteredBy w r id text last)))
+    (sym is) (
       (h.0 ++ k.0) ++ m.0,
       goes_more _ a c d (h.0 ++ k.0) m.0 (goes_more _ a b c h.0 k.0 h.1 k.1) m.1,
-      (taken, h.0, k.0, m.0, h.2, k.2, m.2, refl),
+      (
+        (taken, h.0, k.0, m.0, h.2.0, k.2.0, m.2.0, refl),
+        heard_more x z u (h.0 ++ k.0) m.0 (notices_last (h.0 ++ k.0) m.0 log.0 log.1)
+            (decided_heard r id text taken last x y z h.0 k.0 h.2.0 k.2.0 h.2.1 k.2.1) m.2.1,
+      ),
     )
 
 -- so the text was entered
 pub is_entered : {here : Place} (waits : Bool) (r : Receiver) (id : ℕ) (text : List ℕ)
-    (taken last : What) (a b : Standing) → waits ≡ true
+    (taken last : What) (a b : Standing) (w : Watched) → waits ≡ true
     → IsAnswer (submit_of r id text) taken → IsAnswer (ask_of r id) last × IsDecided last
-    → Asks here a b (IsConfirmed r id text last) → IsEntered waits r id text last
-is_entered waits r id text taken last a b is t answer m =
+    → Asks here a b (Telling w notices_of (IsConfirmed r id text last))
+    → IsEntered waits r id text last
+is_entered waits r id text taken last a b v is t answer m =
     subst (λ w. IsEntered w r id text last) (sym is) (
       taken,
       t,
-      (answer.0, answer.1, (m.2.pos, m.2.stands, m.2.answer, m.2.own)),
+      (answer.0, answer.1, (m.2.0.pos, m.2.0.stands, m.2.0.answer, m.2.0.own)),
     )
+
+unseen : (f : BatchFault) (r : Receiver) (id : ℕ) (text : List ℕ) (taken last : What)
+    (first rest log : List Asked) → IsTaken r id text taken first → IsAwaited r id last rest
+    → IsUnconfirmed f r id text last log → StopsAsking f r id text ((first ++ rest) ++ log)
+unseen f r id text taken last first rest log h k m = (
+  all_more (IsOneOf r (submit_of r id text) (ask_of r id)) (first ++ rest) log
+      (all_more (IsOneOf r (submit_of r id text) (ask_of r id)) first rest
+      (taken_for r id text taken first h) (awaited_for r id text last rest k))
+      (unconfirmed_for f r id text last log m),
+  inl (
+    all_more (IsKnown (ask_of r id)) (first ++ rest) log
+        (all_more (IsKnown (ask_of r id)) first rest (taken_known r id text taken first h)
+        (awaited_known r id last rest k))
+        (unconfirmed_known f r id text last log m),
+    inr (inr (inl (taken, last, first, rest, log, h, k, m, refl))),
+  ),
+)
+
+unseen_heard : (f : BatchFault) (r : Receiver) (id : ℕ) (text : List ℕ) (taken last : What)
+    (x y z u : Option (List Notice)) (first rest log : List Asked)
+    → IsTaken r id text taken first → IsAwaited r id last rest
+    → IsUnconfirmed f r id text last log → Grows x y (notices_of first)
+    → Grows y z (notices_of rest) → Grows z u (notices_by f log)
+    → Grows x u (notices_by f ((first ++ rest) ++ log))
+unseen_heard f r id text taken last x y z u first rest log h k m told more found =
+    let none = log_told r m.pos m.result log m.parts in
+    let same : entries_of ((first ++ rest) ++ log) ≡ entries_of log =
+    entries_behind first rest log (taken_told r id text taken first h).1
+    (awaited_told r id last rest k).1 in
+    let all : notices_by f ((first ++ rest) ++ log)
+    ≡ notices_of (first ++ rest) ++ notices_by f log =
+    ap (λ l. l ++ found_by f ((first ++ rest) ++ log))
+    (notices_last (first ++ rest) log none.0 none.1)
+    ∙ ap (λ l. (notices_of (first ++ rest) ++ notices_of log) ++ l)
+    (found_same f ((first ++ rest) ++ log) log same)
+    ∙ append_assoc (notices_of (first ++ rest)) (notices_of log) (found_by f log) in
+    subst (Grows x u) (sym all)
+    (grows_more x z u (notices_of (first ++ rest)) (notices_by f log)
+    (decided_heard r id text taken last x y z first rest h k told more) found)
 
 -- it was taken and decided, and the entry in the log was not seen to be this one
 pub not_confirmed : {here : Place} (f : BatchFault) (r : Receiver) (id : ℕ) (text : List ℕ)
-    (taken last : What) (a b c d : Standing)
-    → Asks here a b (IsTaken r id text taken) → Asks here b c (IsAwaited r id last)
-    → Asks here c d (IsUnconfirmed f r id text last)
-    → Asks here a d (StopsAsking f r id text)
-not_confirmed f r id text taken last a b c d h k m = (
+    (taken last : What) (a b c d : Standing) (x y z u : Option (List Notice))
+    → Asks here a b (Telling (between x y) notices_of (IsTaken r id text taken))
+    → Asks here b c (Telling (between y z) notices_of (IsAwaited r id last))
+    → Asks here c d (Telling (between z u) (notices_by f) (IsUnconfirmed f r id text last))
+    → Asks here a d (Telling (between x u) (notices_by f) (StopsAsking f r id text))
+not_confirmed f r id text taken last a b c d x y z u h k m = (
   (h.0 ++ k.0) ++ m.0,
   goes_more _ a c d (h.0 ++ k.0) m.0 (goes_more _ a b c h.0 k.0 h.1 k.1) m.1,
   (
-    all_more (IsOneOf r (submit_of r id text) (ask_of r id)) (h.0 ++ k.0) m.0
-        (all_more (IsOneOf r (submit_of r id text) (ask_of r id)) h.0 k.0
-        (taken_for r id text taken h.0 h.2) (awaited_for r id text last k.0 k.2))
-        (unconfirmed_for f r id text last m.0 m.2),
-    inl (
-      all_more (IsKnown (ask_of r id)) (h.0 ++ k.0) m.0
-          (all_more (IsKnown (ask_of r id)) h.0 k.0 (taken_known r id text taken h.0 h.2)
-          (awaited_known r id last k.0 k.2))
-          (unconfirmed_known f r id text last m.0 m.2),
-      inr (inr (inl (taken, last, h.0, k.0, m.0, h.2, k.2, m.2, refl))),
-    ),
+    unseen f r id text taken last h.0 k.0 m.0 h.2.0 k.2.0 m.2.0,
+    unseen_heard f r id text taken last x y z u h.0 k.0 m.0 h.2.0 k.2.0 m.2.0 h.2.1 k.2.1 m.2.1,
   ),
 )
 

@@ -11,30 +11,35 @@ use Rattle.command_file.specs.Commands.{Numbered}
 use Rattle.lines.proofs.Inputs.{part_after}
 use Rattle.wire.specs.declared.frame.What.{What}
 use Rattle.batch.specs.Asking.{Asked, Asks, Goes, IsOfAsking}
-use Rattle.batch.specs.Dialing.{Place, Standing}
+use Rattle.batch.specs.Dialing.{Grows, Place, Standing}
 use Rattle.batch.specs.Entering.{AsksFront, AsksLines, EnteredBy, EntersLine, FailsLine, IsSaid}
-use Rattle.batch.specs.Entering.{IsWhole, SaidBy, Says, StopsAsking, StopsLine, ends_run}
-use Rattle.batch.specs.Entering.{texts_of}
+use Rattle.batch.specs.Entering.{IsWhole, SaidBy, Says, StopsAsking, StopsLine, StopsTelling}
+use Rattle.batch.specs.Entering.{TellsStop, ends_run, texts_of, told_answer}
+use Rattle.batch.specs.Watching.{Notice, line_notices}
 use Rattle.batch.specs.declared.fault.BatchFault.{BatchFault}
 use Rattle.batch.specs.declared.fault.BatchFault.TheVariants as fault
 use Rattle.batch.specs.declared.lines_entered.Batch.{Batch}
-use Rattle.batch.proofs.Going.{goes_more, goes_none}
+use Rattle.batch.proofs.Going.{goes_more, goes_none, grows_more, grows_none}
+use Rattle.batch.proofs.Heard.{between}
 
--- these lines were entered by these requests, and what is said of them is written
+-- these lines were entered by these requests, what is said of them is written, and this is told
 pub record Entered (here : Place) (b : Batch) (lines : List (List ℕ)) (said : List ℕ)
-    (asked : List Asked) (old new : Option (List ℕ)) (from to : Standing) : Type 0 where
+    (asked : List Asked) (notices : List Notice) (old new : Option (List ℕ))
+    (x y : Option (List Notice)) (from to : Standing) : Type 0 where
   pub entered : Says b b.first_id lines said
   pub written : Appends old new said
   pub told : Goes here from to asked
-  pub each : SaidBy b b.first_id lines said asked
+  pub heard : Grows x y notices
+  pub each : SaidBy b b.first_id lines said asked notices
 
-pub none_entered : (here : Place) (b : Batch) (old : Option (List ℕ)) (a : Standing)
-    → Entered here b [] [] [] old old a a
-none_entered here b old a = record {
+pub none_entered : (here : Place) (b : Batch) (old : Option (List ℕ)) (x : Option (List Notice))
+    (a : Standing) → Entered here b [] [] [] [] old old x x a a
+none_entered here b old x a = record {
   entered = refl;
   written = Appends-nil old;
   told = goes_none here a;
-  each = (refl, refl);
+  heard = grows_none x;
+  each = (refl, refl, refl);
 }
 
 says_more : (b : Batch) (id : ℕ) (lines : List (List ℕ)) (line said one : List ℕ)
@@ -56,54 +61,80 @@ says_more b id (l ∷ lines) line said one h next = (
 )
 
 said_more : (b : Batch) (id : ℕ) (lines : List (List ℕ)) (line said : List ℕ) (last : What)
-    (asked one : List Asked)
-    → SaidBy b id lines said asked → EnteredBy b.waits b.receiver (id + length lines) line last one
-    → ends_run b last ≡ false
+    (asked one : List Asked) (notices : List Notice)
+    → SaidBy b id lines said asked notices
+    → EnteredBy b.waits b.receiver (id + length lines) line last one → ends_run b last ≡ false
     → SaidBy b id (lines ++ line ∷ []) (said ++ reply_text last) (asked ++ one)
-said_more b id [] line said last asked one h next on = (
-  last,
-  [],
-  one,
-  [],
-  subst (λ n. EnteredBy b.waits b.receiver n line last one) (omega arith) next,
-  on,
-  (refl, refl),
-  ap (λ x. x ++ reply_text last) h.0 ∙ sym (append-nil (reply_text last)),
-  ap (λ x. x ++ one) h.1 ∙ sym (append-nil one),
-)
-said_more b id (l ∷ lines) line said last asked one h next on = (
-  h.0,
-  h.1 ++ reply_text last,
-  h.2,
-  h.3 ++ one,
-  h.4,
-  h.5,
-  said_more b (id + 1) lines line h.1 last h.3 one h.6
-      (subst (λ n. EnteredBy b.waits b.receiver n line last one) (omega arith) next) on,
-  ap (λ x. x ++ reply_text last) h.7 ∙ append_assoc (reply_text h.0) h.1 (reply_text last),
-  ap (λ x. x ++ one) h.8 ∙ append_assoc h.2 h.3 one,
-)
+    (notices ++ line_notices (id + length lines) line one (told_answer last))
+said_more b id [] line said last asked one notices h next on =
+    let none : id + 0 ≡ id = omega arith in
+    let told = line_notices (id + 0) line one (told_answer last) in (
+      last,
+      [],
+      one,
+      [],
+      [],
+      subst (λ n. EnteredBy b.waits b.receiver n line last one) none next,
+      on,
+      (refl, refl, refl),
+      ap (λ x. x ++ reply_text last) h.0 ∙ sym (append-nil (reply_text last)),
+      ap (λ x. x ++ one) h.1 ∙ sym (append-nil one),
+      ap (λ x. x ++ told) h.2
+          ∙ ap (λ n. line_notices n line one (told_answer last)) none
+          ∙ sym (append-nil (line_notices id line one (told_answer last))),
+    )
+said_more b id (l ∷ lines) line said last asked one notices h next on =
+    let same : id + length (l ∷ lines) ≡ id + 1 + length lines = omega arith in
+    let told = line_notices (id + length (l ∷ lines)) line one (told_answer last) in
+    let first = line_notices id l h.2 (told_answer h.0) in (
+      h.0,
+      h.1 ++ reply_text last,
+      h.2,
+      h.3 ++ one,
+      h.4 ++ told,
+      h.5,
+      h.6,
+      subst (λ n. SaidBy b (id + 1) (lines ++ line ∷ []) (h.1 ++ reply_text last) (h.3 ++ one)
+          (h.4 ++ line_notices n line one (told_answer last))) (sym same)
+          (said_more b (id + 1) lines line h.1 last h.3 one h.4 h.7
+          (subst (λ n. EnteredBy b.waits b.receiver n line last one) same next) on),
+      ap (λ x. x ++ reply_text last) h.8 ∙ append_assoc (reply_text h.0) h.1 (reply_text last),
+      ap (λ x. x ++ one) h.9 ∙ append_assoc h.2 h.3 one,
+      ap (λ x. x ++ told) h.10 ∙ append_assoc first h.4 told,
+    )
 
 -- one more line was entered
 one_more : {here : Place} (b : Batch) (lines : List (List ℕ)) (n : ℕ) (line said : List ℕ)
-    (asked : List Asked) (old new new' : Option (List ℕ)) (from mid to : Standing)
-    → Entered here b lines said asked old new from mid → n ≡ length lines
-    → (e : EntersLine b n line (record { place = here; old = mid; new = to }) new new')
-    → Entered here b (lines ++ line ∷ []) (said ++ reply_text e.last) (asked ++ e.asked.0) old new'
-    from to
-one_more {here} b lines n line said asked old new new' from mid to h count e = record {
-  entered =
-      says_more b b.first_id lines line said (reply_text e.last) h.entered
-      (subst (λ k. IsSaid b (b.first_id + k) line (reply_text e.last)) count
-      (e.last, e.entered, refl));
-  written = Appends-trans old new new' said (reply_text e.last) h.written e.written;
-  told = goes_more here from mid to asked e.asked.0 h.told e.asked.1;
-  each =
-      said_more b b.first_id lines line said e.last asked e.asked.0 h.each
-      (subst (λ k. EnteredBy b.waits b.receiver (b.first_id + k) line e.last e.asked.0) count
-      e.asked.2)
-      e.goes_on;
-}
+    (asked : List Asked) (notices : List Notice) (old new new' : Option (List ℕ))
+    (x y z : Option (List Notice)) (from mid to : Standing)
+    → Entered here b lines said asked notices old new x y from mid → n ≡ length lines
+    → (e : EntersLine b n line (record { place = here; old = mid; new = to }) (between y z) new
+    new')
+    → Entered here b (lines ++ line ∷ []) (said ++ reply_text e.last) (asked ++ e.asked.0)
+    (notices ++ line_notices (b.first_id + n) line e.asked.0 (told_answer e.last)) old new' x z from
+    to
+one_more {here} b lines n line said asked notices old new new' x y z from mid to h count e =
+    record {
+      entered =
+          says_more b b.first_id lines line said (reply_text e.last) h.entered
+          (subst (λ k. IsSaid b (b.first_id + k) line (reply_text e.last)) count
+          (e.last, e.entered, refl));
+      written = Appends-trans old new new' said (reply_text e.last) h.written e.written;
+      told = goes_more here from mid to asked e.asked.0 h.told e.asked.1;
+      heard =
+          grows_more x y z notices
+          (line_notices (b.first_id + n) line e.asked.0 (told_answer e.last)) h.heard e.asked.2.1;
+      each =
+          subst
+          (λ k. SaidBy b b.first_id (lines ++ line ∷ []) (said ++ reply_text e.last)
+          (asked ++ e.asked.0)
+          (notices ++ line_notices (b.first_id + k) line e.asked.0 (told_answer e.last)))
+          (sym count)
+          (said_more b b.first_id lines line said e.last asked e.asked.0 notices h.each
+          (subst (λ k. EnteredBy b.waits b.receiver (b.first_id + k) line e.last e.asked.0) count
+          e.asked.2.0)
+          e.goes_on);
+    }
 
 -- ---- the texts of commands
 
@@ -131,39 +162,44 @@ texts_parted commands i d within =
 
 -- the first commands were entered by some requests
 abbrev pub AreEntered : Place → Batch → List Numbered → ℕ → (old new : Option (List ℕ))
-    → (from to : Standing) → Type 0
-AreEntered here b commands i old new from to =
-    (said : List ℕ) × (asked : List Asked)
-    × Entered here b (texts_of (take i commands)) said asked old new from to
+    → (x y : Option (List Notice)) → (from to : Standing) → Type 0
+AreEntered here b commands i old new x y from to =
+    (said : List ℕ) × (asked : List Asked) × (notices : List Notice)
+    × Entered here b (texts_of (take i commands)) said asked notices old new x y from to
 
 -- one more of them was entered
 pub next_entered : {here : Place} (b : Batch) (commands : List Numbered) (i : ℕ) (c : Numbered)
-    (old new new' : Option (List ℕ)) (from mid to : Standing)
+    (old new new' : Option (List ℕ)) (x y z : Option (List Notice)) (from mid to : Standing)
     → i < length commands → c ≡ get_or commands i c
-    → AreEntered here b commands i old new from mid
-    → EntersLine b i c.text (record { place = here; old = mid; new = to }) new new'
-    → AreEntered here b commands (i + 1) old new' from to
-next_entered {here} b commands i c old new new' from mid to within at h e =
-    let line : c.text ≡ (get_or commands i c).text = ap (λ (x : Numbered). x.text) at in (
+    → AreEntered here b commands i old new x y from mid
+    → EntersLine b i c.text (record { place = here; old = mid; new = to }) (between y z) new new'
+    → AreEntered here b commands (i + 1) old new' x z from to
+next_entered {here} b commands i c old new new' x y z from mid to within at h e =
+    let line : c.text ≡ (get_or commands i c).text = ap (λ (k : Numbered). k.text) at in
+    let told = line_notices (b.first_id + i) c.text e.asked.0 (told_answer e.last) in (
       h.0 ++ reply_text e.last,
       h.1 ++ e.asked.0,
-      subst (λ lines. Entered here b lines (h.0 ++ reply_text e.last) (h.1 ++ e.asked.0) old new'
-          from to)
+      h.2 ++ told,
+      subst (λ lines. Entered here b lines (h.0 ++ reply_text e.last) (h.1 ++ e.asked.0)
+          (h.2 ++ told) old new' x z from to)
           (ap (λ t. texts_of (take i commands) ++ t ∷ []) line
           ∙ sym (texts_more commands i c within))
-          (one_more b (texts_of (take i commands)) i c.text h.0 h.1 old new new' from mid to h.2
-          (texts_count commands i within) e),
+          (one_more b (texts_of (take i commands)) i c.text h.0 h.1 h.2 old new new' x y z from mid
+          to h.3 (texts_count commands i within) e),
     )
 
 -- all lines were entered
 all_entered : {here : Place} (b : Batch) (lines : List (List ℕ)) (said : List ℕ)
-    (asked : List Asked) (old new : Option (List ℕ)) (from to : Standing)
-    → Entered here b lines said asked old new from to
-    → AsksLines (Goes here from to) b lines old new
-all_entered b lines said asked old new from to h = record {
+    (asked : List Asked) (notices : List Notice) (old new : Option (List ℕ))
+    (x y : Option (List Notice)) (from to : Standing)
+    → Entered here b lines said asked notices old new x y from to
+    → AsksLines (Goes here from to) (between x y) b lines old new
+all_entered b lines said asked notices old new x y from to h = record {
   enters = record { said = said; entered = h.entered; written = h.written };
   asked = asked;
   told = h.told;
+  notices = notices;
+  heard = h.heard;
   each = h.each;
 }
 
@@ -186,14 +222,15 @@ whole_after fault.NoMemory old new new' said next h k = tt
 
 -- the next one was not entered, or not told, or refused
 stops_in : {here : Place} (f : BatchFault) (b : Batch) (all lines others : List (List ℕ)) (n : ℕ)
-    (line said : List ℕ) (asked : List Asked) (old new new' : Option (List ℕ))
+    (line said : List ℕ) (asked : List Asked) (notices : List Notice)
+    (old new new' : Option (List ℕ)) (x y z : Option (List Notice))
     (from mid to : Standing) → all ≡ lines ++ line ∷ others
-    → Entered here b lines said asked old new from mid → n ≡ length lines
+    → Entered here b lines said asked notices old new x y from mid → n ≡ length lines
     → FailsLine IsOfAsking f b (b.first_id + n) line new new'
-    → Asks here mid to (StopsAsking f b.receiver (b.first_id + n) line)
-    → AsksFront (Goes here from to) IsOfAsking f b all old new'
-stops_in {here} f b all lines others n line said asked old new new' from mid to parts h count e
-    k =
+    → Asks here mid to (StopsTelling (between y z) f b (b.first_id + n) line)
+    → AsksFront (Goes here from to) (between x z) IsOfAsking f b all old new'
+stops_in {here} f b all lines others n line said asked notices old new new' x y z from mid to parts
+    h count e k =
     record {
       stops = record {
         enters = record {
@@ -212,32 +249,36 @@ stops_in {here} f b all lines others n line said asked old new new' from mid to 
       asked = asked;
       behind = k.0;
       told = goes_more here from mid to asked k.0 h.told k.1;
+      notices = notices;
+      last = k.2.1;
+      heard = grows_more x y z notices k.2.1 h.heard k.2.2;
       each = h.each;
-      next = subst (λ i. StopsAsking f b.receiver (b.first_id + i) line k.0) count k.2;
+      next = subst (λ i. StopsAsking f b.receiver (b.first_id + i) line k.0) count k.2.0;
+      ends = subst (λ i. TellsStop f b (b.first_id + i) line k.0 k.2.1) count k.2.3;
     }
 
 pub stops_at : {here : Place} (f : BatchFault) (b : Batch) (commands : List Numbered) (i : ℕ)
-    (c : Numbered) (old new new' : Option (List ℕ)) (from mid to : Standing)
-    → i < length commands → c ≡ get_or commands i c
-    → AreEntered here b commands i old new from mid
+    (c : Numbered) (old new new' : Option (List ℕ)) (x y z : Option (List Notice))
+    (from mid to : Standing) → i < length commands → c ≡ get_or commands i c
+    → AreEntered here b commands i old new x y from mid
     → FailsLine IsOfAsking f b (b.first_id + i) c.text new new'
-    → Asks here mid to (StopsAsking f b.receiver (b.first_id + i) c.text)
-    → AsksFront (Goes here from to) IsOfAsking f b (texts_of commands) old new'
-stops_at f b commands i c old new new' from mid to within at h e k =
-    let line : c.text ≡ (get_or commands i c).text = ap (λ (x : Numbered). x.text) at in
+    → Asks here mid to (StopsTelling (between y z) f b (b.first_id + i) c.text)
+    → AsksFront (Goes here from to) (between x z) IsOfAsking f b (texts_of commands) old new'
+stops_at f b commands i c old new new' x y z from mid to within at h e k =
+    let line : c.text ≡ (get_or commands i c).text = ap (λ (k : Numbered). k.text) at in
     stops_in f b (texts_of commands) (texts_of (take i commands))
-    (texts_of (drop (suc i) commands)) i c.text h.0 h.1 old new new' from mid to
+    (texts_of (drop (suc i) commands)) i c.text h.0 h.1 h.2 old new new' x y z from mid to
     (texts_parted commands i c within
     ∙ ap (λ t. texts_of (take i commands) ++ t ∷ texts_of (drop (suc i) commands)) (sym line))
-    h.2 (texts_count commands i within) e k
+    h.3 (texts_count commands i within) e k
 
 -- all of the commands were entered
 pub whole_list : {here : Place} (b : Batch) (commands : List Numbered) (i : ℕ)
-    (old new : Option (List ℕ)) (from to : Standing) → i ≡ length commands
-    → AreEntered here b commands i old new from to
-    → AsksLines (Goes here from to) b (texts_of commands) old new
-whole_list {here} b commands i old new from to all h =
+    (old new : Option (List ℕ)) (x y : Option (List Notice)) (from to : Standing)
+    → i ≡ length commands → AreEntered here b commands i old new x y from to
+    → AsksLines (Goes here from to) (between x y) b (texts_of commands) old new
+whole_list {here} b commands i old new x y from to all h =
     let lines : take i commands ≡ commands =
     ap (λ n. take n commands) all ∙ take-length commands in
-    all_entered b (texts_of commands) h.0 h.1 old new from to
-    (subst (λ cs. Entered here b (texts_of cs) h.0 h.1 old new from to) lines h.2)
+    all_entered b (texts_of commands) h.0 h.1 h.2 old new x y from to
+    (subst (λ cs. Entered here b (texts_of cs) h.0 h.1 h.2 old new x y from to) lines h.3)

@@ -1,23 +1,31 @@
 -- Requests that are made one after the other, over connections that are kept.
 use Rattle.std.proofs.Common.{◌++◌, ◌∷◌, [], List, Option, None, Some, refl, sym, ap, ◌∙◌}
 use Rattle.std.proofs.Common.{append_assoc, append-nil, subst}
-use Rattle.batch.specs.Dialing.{Adds, AreMade, Asked, Dialed, Dials, Goes, IsMade, LetsGo, Line}
-use Rattle.batch.specs.Dialing.{Place, Standing, closed}
+use Rattle.batch.specs.Dialing.{Adds, AreMade, Asked, Dialed, Dials, Goes, Grows, IsMade, LetsGo}
+use Rattle.batch.specs.Dialing.{Line, Place, Standing, closed}
+
+-- nothing more is told
+pub grows_none : {A : Type 0} (a : Option (List A)) → Grows a a []
+grows_none None = tt
+grows_none (Some xs) = sym (append-nil xs)
+
+pub grows_more : {A : Type 0} (a b c : Option (List A)) (xs ys : List A) → Grows a b xs
+    → Grows b c ys → Grows a c (xs ++ ys)
+grows_more None None None xs ys h k = tt
+grows_more None None (Some z) xs ys h k = absurd k
+grows_more None (Some y) c xs ys h k = absurd h
+grows_more (Some x) None None xs ys h k = tt
+grows_more (Some x) None (Some z) xs ys h k = absurd k
+grows_more (Some x) (Some y) None xs ys h k = tt
+grows_more (Some x) (Some y) (Some z) xs ys h k =
+    k ∙ ap (λ l. l ++ ys) h ∙ append_assoc x xs ys
 
 pub dials_none : (a : Option (List Dialed)) → Dials a a []
-dials_none None = tt
-dials_none (Some xs) = sym (append-nil xs)
+dials_none a = grows_none a
 
 pub dials_more : (a b c : Option (List Dialed)) (xs ys : List Dialed) → Dials a b xs → Dials b c ys
     → Dials a c (xs ++ ys)
-dials_more None None None xs ys h k = tt
-dials_more None None (Some z) xs ys h k = absurd k
-dials_more None (Some y) c xs ys h k = absurd h
-dials_more (Some x) None None xs ys h k = tt
-dials_more (Some x) None (Some z) xs ys h k = absurd k
-dials_more (Some x) (Some y) None xs ys h k = tt
-dials_more (Some x) (Some y) (Some z) xs ys h k =
-    k ∙ ap (λ l. l ++ ys) h ∙ append_assoc x xs ys
+dials_more a b c xs ys h k = grows_more a b c xs ys h k
 
 made_more : (p : Place) (asked more : List Asked) (a b c : Option Line) (xs ys : List Dialed)
     → AreMade p asked a b xs → AreMade p more b c ys → AreMade p (asked ++ more) a c (xs ++ ys)

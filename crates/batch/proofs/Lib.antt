@@ -4,6 +4,8 @@ pub mod Connections
 pub mod EachLine
 pub mod Entered
 pub mod Going
+pub mod Heard
 pub mod Trying
 pub mod Newest
 pub mod Parts
+pub mod Telling

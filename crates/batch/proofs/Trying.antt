@@ -1,6 +1,6 @@
 -- Requests that are made one after the other.
 use Rattle.std.proofs.Common.{◌≡◌, inl, inr, ◌++◌, ◌∷◌, [], ℕ, List}
-use Rattle.std.proofs.Common.{Result, Ok, Err, IfOk, IfErr, ◌⊎◌, ◌+◌, ◌/◌, ◌<◌, length}
+use Rattle.std.proofs.Common.{Result, Ok, Err, IfErr, ◌⊎◌, ◌+◌, ◌/◌, ◌<◌, length}
 use Rattle.std.proofs.Common.{refl, sym, ap, ◌∙◌, subst, arith}
 use Rattle.std.specs.Prelude.{IsOkAnd}
 use Rattle.std.specs.List.{AllByRecursion}
@@ -39,7 +39,7 @@ all_weaker P Q [] f h = tt
 all_weaker P Q (x ∷ xs) f h = (f x h.0, all_weaker P Q xs f h.1)
 
 -- the last of the tries was answered
-pub tried : {here : Place} (P : Asked → Type 0) (a b c : Standing) (request : Frame)
+unfoldable pub tried : {here : Place} (P : Asked → Type 0) (a b c : Standing) (request : Frame)
     (answer : What)
     → Asks here a b (AllByRecursion P) → Goes here b c (asked_so request (Ok answer) ∷ [])
     → Asks here a c (Tries P request answer)
@@ -49,21 +49,13 @@ tried P a b c request answer h k = (
   record { front = h.0; each = h.2; parts = refl },
 )
 
--- so is the last of them, where it was
-pub if_tried : {here : Place} (P : Asked → Type 0) (a b c : Standing) (request : Frame)
-    (result : Result What BatchFault)
-    → Asks here a b (AllByRecursion P) → Goes here b c (asked_so request result ∷ [])
-    → IfOk result (λ answer. Asks here a c (Tries P request answer))
-if_tried P a b c request (Ok answer) h k = tried P a b c request answer h k
-if_tried P a b c request (Err f) h k = tt
-
 pub told_of : {here : Place} (a b : Standing) (x y : Frame) (r : Result What BatchFault)
     → x ≡ y
     → Goes here a b (asked_so x r ∷ []) → Goes here a b (asked_so y r ∷ [])
 told_of {here} a b x y r = subst (λ z. Goes here a b (asked_so z r ∷ []))
 
 -- it was asked for an id until that was decided
-pub awaits : {here : Place} (r : Receiver) (id : ℕ) (a b c : Standing) (told : What)
+unfoldable pub awaits : {here : Place} (r : Receiver) (id : ℕ) (a b c : Standing) (told : What)
     → Asks here a b (AllByRecursion (IsPutOff r (ask_of r id)))
     → Goes here b c (asked_so (ask_of r id) (Ok told) ∷ []) → IsDecided told
     → Asks here a c (IsAwaited r id told)
@@ -128,7 +120,7 @@ decided_known ask request last h = λ is told answer unknown. cc (h.3, unknown.1
 
 -- ---- how often
 
-counts_more : (P Q : Asked → Type 0) (m n k l i j : ℕ) (xs ys : List Asked) → m + k ≡ i
+pub counts_more : (P Q : Asked → Type 0) (m n k l i j : ℕ) (xs ys : List Asked) → m + k ≡ i
     → n + l ≡ j → Counts P Q m n xs → Counts P Q k l ys → Counts P Q i j (xs ++ ys)
 counts_more P Q m n k l i j [] ys a b h g =
     let e : k ≡ i = omega (arith, h.0, a) in
@@ -148,14 +140,14 @@ counts_of P Q (x ∷ xs) h =
     let e : length (x ∷ xs) ≡ length xs + 1 = omega arith in
     inr (h.0, length xs, e, counts_of P Q xs h.1)
 
-all_of : (P Q : Asked → Type 0) (m n : ℕ) (xs : List Asked) → Counts P Q m n xs
+pub all_of : (P Q : Asked → Type 0) (m n : ℕ) (xs : List Asked) → Counts P Q m n xs
     → AllByRecursion (λ a. P a ⊎ Q a) xs
 all_of P Q m n [] h = tt
 all_of P Q m n (x ∷ xs) (inl h) = (inl h.0, all_of P Q h.1 n xs h.3)
 all_of P Q m n (x ∷ xs) (inr h) = (inr h.0, all_of P Q m h.1 xs h.3)
 
 -- of each of those that were counted
-pub tries_of : {here : Place} (P Q : Asked → Type 0) (m n : ℕ) (a b : Standing)
+unfoldable pub tries_of : {here : Place} (P Q : Asked → Type 0) (m n : ℕ) (a b : Standing)
     → Asks here a b (Counts P Q m n) → Asks here a b (AllByRecursion (λ x. P x ⊎ Q x))
 tries_of P Q m n a b h = (h.0, h.1, all_of P Q m n h.0 h.2)
 
@@ -167,7 +159,7 @@ one_of P Q m n (x ∷ xs) (inl h) some = (x, h.0)
 one_of P Q m n (x ∷ xs) (inr h) some = one_of P Q m h.1 xs h.3 some
 
 -- one more try
-one_counted : {here : Place} (P Q : Asked → Type 0) (m n : ℕ) (a b c : Standing)
+unfoldable pub one_counted : {here : Place} (P Q : Asked → Type 0) (m n : ℕ) (a b c : Standing)
     (one : Asked)
     → Asks here a b (Counts P Q m n) → Goes here b c (one ∷ []) → P one → Asks here a c
     (Counts P Q (m + 1) n)
@@ -197,7 +189,7 @@ goes_on P r tries a b c d one h add is t =
 -- ---- the last of them
 
 -- tries, and then one request
-pub then_last : {here : Place} (P Q : Asked → Type 0) (R : List Asked → Type 0)
+unfoldable pub then_last : {here : Place} (P Q : Asked → Type 0) (R : List Asked → Type 0)
     (a b c : Standing)
     (one : Asked) → ((x : Asked) → P x → Q x) → (h : Asks here a b (AllByRecursion P))
     → Goes here b c (one ∷ []) → Q one → R (h.0 ++ one ∷ [])
@@ -209,8 +201,8 @@ then_last P Q R a b c one f h add is so = (
 )
 
 -- a tick failed after one more try
-pub tick_last : {here : Place} (P : Asked → Type 0) (r : Receiver) (request : Frame) (m n : ℕ)
-    (a b c d : Standing) (one : Asked) (f : BatchFault) (R : List Asked → Type 0)
+unfoldable pub tick_last : {here : Place} (P : Asked → Type 0) (r : Receiver) (request : Frame)
+    (m n : ℕ) (a b c d : Standing) (one : Asked) (f : BatchFault) (R : List Asked → Type 0)
     → ((x : Asked) → P x ⊎ IsTicked r x → IsFor r request x)
     → ((front : List Asked) → AllByRecursion (λ x. P x ⊎ IsTicked r x) front
     → R (front ++ asked_so (tick_of r) (Err f) ∷ []))
@@ -224,8 +216,8 @@ tick_last P r request m n a b c d one f R is_for so h add is tick =
     is_for all tick (inr refl) (so all.0 all.2)
 
 -- the text's last try failed
-pub turned_off : {here : Place} (r : Receiver) (submit : Frame) (f : BatchFault) (m n : ℕ)
-    (a b c : Standing)
+unfoldable pub turned_off : {here : Place} (r : Receiver) (submit : Frame) (f : BatchFault)
+    (m n : ℕ) (a b c : Standing)
     → (f ≡ Asking (Refused Busy) → (m ≡ 10000) × (n ≡ 312))
     → Asks here a b (Counts (IsFull submit) (IsTicked r) m n) → Goes here b c
     (asked_so submit (Err f) ∷ [])
@@ -240,18 +232,6 @@ turned_off r submit f m n a b c enough h add =
     (tries_of (IsFull submit) (IsTicked r) m n a b h) add (inl refl)
     (h.0, asked_so submit (Err f), refl, refl, inr full)
 
--- so it did, where it did
-pub if_turned_off : {here : Place} (r : Receiver) (submit : Frame) (m n : ℕ)
-    (a b c : Standing)
-    (result : Result What BatchFault) → m ≡ 10000 → n ≡ 312
-    → Asks here a b (Counts (IsFull submit) (IsTicked r) m n) → Goes here b c
-    (asked_so submit result ∷ [])
-    → IfErr result (λ f. Asks here a c
-    (λ asked. AreFor r submit asked × IsLastTry f r submit asked))
-if_turned_off r submit m n a b c (Ok answer) x y h add = tt
-if_turned_off r submit m n a b c (Err f) x y h add =
-    turned_off r submit f m n a b c (λ busy. (x, y)) h add
-
 pub tick_last_try : (r : Receiver) (submit : Frame) (f : BatchFault) (front : List Asked)
     → AllByRecursion (IsTurnedDown r submit) front
     → IsLastTry f r submit (front ++ asked_so (tick_of r) (Err f) ∷ [])
@@ -264,7 +244,7 @@ Ends r id f asked =
     ⊎ ((f ≡ fault.Lost) × IsForgotten r id asked)
 
 -- the last of the requests, all else after tries, failed
-last_failed : (r : Receiver) (id : ℕ) (f : BatchFault) (front : List Asked) (request : Frame)
+pub last_failed : (r : Receiver) (id : ℕ) (f : BatchFault) (front : List Asked) (request : Frame)
     (answer : Result What BatchFault)
     → AllByRecursion (IsPutOff r (ask_of r id)) front → answer ≡ Err f
     → IsFor r (ask_of r id) (asked_so request answer)
@@ -280,7 +260,7 @@ last_failed r id f front request answer each failed is_for =
     )
 
 -- one more question failed
-pub asks_failed : {here : Place} (r : Receiver) (id : ℕ) (f : BatchFault) (m n : ℕ)
+unfoldable pub asks_failed : {here : Place} (r : Receiver) (id : ℕ) (f : BatchFault) (m n : ℕ)
     (a b c : Standing)
     (result : Result What BatchFault) → result ≡ Err f
     → Asks here a b (Counts (IsWaiting (ask_of r id)) (IsTicked r) m n)
@@ -293,7 +273,7 @@ asks_failed r id f m n a b c result failed h add =
     (last_failed r id f all.0 (ask_of r id) result all.2 failed (inl refl))
 
 -- it was answered that nothing is known
-pub asks_lost : {here : Place} (r : Receiver) (id m n : ℕ) (a b c : Standing)
+unfoldable pub asks_lost : {here : Place} (r : Receiver) (id m n : ℕ) (a b c : Standing)
     (told : What)
     → IsUnknown told
     → Asks here a b (Counts (IsWaiting (ask_of r id)) (IsTicked r) m n)
@@ -317,7 +297,7 @@ tick_last_asked r id f front each =
     last_failed r id f front (tick_of r) (Err f) each refl (inr refl)
 
 -- it was asked as often as that is done
-pub waits_on : {here : Place} (r : Receiver) (id m n : ℕ) (a b : Standing) → m ≡ 10000 →
+unfoldable pub waits_on : {here : Place} (r : Receiver) (id m n : ℕ) (a b : Standing) → m ≡ 10000 →
     n ≡ 312
     → Asks here a b (Counts (IsWaiting (ask_of r id)) (IsTicked r) m n)
     → Asks here a b (EndsWaiting fault.StillPending r id)

@@ -31,13 +31,16 @@ pub data Dialed : Type 0 where
   Again : Dialed
   Ended : (left new : Option (List ℕ)) → Ending → Dialed
 
--- what became of connections grows by these, in order, where it is told; who tells may stop, and
--- never begins
+-- what is told grows by these, in order, where it is told; who tells may stop, and never begins
+abbrev pub Grows : {A : Type 0} → Option (List A) → Option (List A) → List A → Type 0
+Grows None None more = ⊤
+Grows (Some xs) None more = ⊤
+Grows None (Some ys) more = ⊥
+Grows (Some xs) (Some ys) more = ys ≡ xs ++ more
+
+-- so does what became of connections
 abbrev pub Dials : Option (List Dialed) → Option (List Dialed) → List Dialed → Type 0
-Dials None None more = ⊤
-Dials (Some xs) None more = ⊤
-Dials None (Some ys) more = ⊥
-Dials (Some xs) (Some ys) more = ys ≡ xs ++ more
+Dials old new more = Grows old new more
 
 -- a request, and what came of it
 pub record Asked : Type 0 where

@@ -1,6 +1,6 @@
 -- What entering lines sends and prints.
-use Rattle.std.specs.Prelude.{◌≡◌, ◌⊎◌, ◌+◌, ◌++◌, ◌∷◌, [], ℕ, Bool, true, false, List, length}
-use Rattle.std.specs.Prelude.{◌&&◌, map, Option, Some, None, Result, Ok, Err}
+use Rattle.std.specs.Prelude.{◌≡◌, ◌≢◌, ◌⊎◌, ◌+◌, ◌^◌, ◌≤◌, ◌++◌, ◌∷◌, [], ℕ, Bool, true, false}
+use Rattle.std.specs.Prelude.{◌&&◌, List, length, map, Option, Some, None, Result, Ok, Err}
 use Rattle.std.specs.Io.KnownBytes.{Appends}
 use Rattle.acceptor.specs.Entries.{IsId, IsText}
 use Rattle.client.specs.Printing.{reply_text}
@@ -20,6 +20,7 @@ use Rattle.batch.specs.Asking.{IsUnknown, IsWaiting, Told, ask_of, submit_of, ti
 use Rattle.batch.specs.Confirming.{IsAnother, IsConfirmed, IsDecidedAt, IsEntryAt, IsUnconfirmed}
 use Rattle.batch.specs.Confirming.{entry_of}
 use Rattle.batch.specs.Dialing.{AsksBy, GoesBy, Way}
+use Rattle.batch.specs.Watching.{Begins, Notice, Telling, Tells, Watched, line_notices, notices_by}
 use Rattle.batch.specs.declared.asking.Receiver.{Receiver}
 use Rattle.batch.specs.declared.fault.BatchFault.{BatchFault}
 use Rattle.batch.specs.declared.fault.BatchFault.TheVariants as fault
@@ -158,15 +159,16 @@ EnteredBy true r id text last asked =
 EnteredBy false r id text last asked = IsTaken r id text last asked
 
 -- These requests entered the lines, one line after the other, of which the first has this id, and
--- each further one the next; this is what is printed of the last answers; and none of them ends the
--- run.
-abbrev pub SaidBy : Batch → ℕ → List (List ℕ) → List ℕ → List Asked → Type 0
-SaidBy b id [] said asked = (said ≡ []) × (asked ≡ [])
-SaidBy b id (line ∷ lines) said asked =
-    (last : What) × (more : List ℕ) × (first rest : List Asked)
+-- each further one the next; this is what is printed of the last answers, and what the observer is
+-- told; and none of them ends the run.
+abbrev pub SaidBy : Batch → ℕ → List (List ℕ) → List ℕ → List Asked → List Notice → Type 0
+SaidBy b id [] said asked told = (said ≡ []) × (asked ≡ []) × (told ≡ [])
+SaidBy b id (line ∷ lines) said asked told =
+    (last : What) × (more : List ℕ) × (first rest : List Asked) × (later : List Notice)
     × EnteredBy b.waits b.receiver id line last first × (ends_run b last ≡ false)
-    × SaidBy b (id + 1) lines more rest
+    × SaidBy b (id + 1) lines more rest later
     × (said ≡ reply_text last ++ more) × (asked ≡ first ++ rest)
+    × (told ≡ line_notices id line first (told_answer last) ++ later)
 
 -- The last request failed by this fault. It asked for the id, or was a tick; or it was to enter the
 -- text, and where the desk's queue was full, that was so 10,000 times before.
@@ -226,13 +228,32 @@ StopsAsking f r id text asked =
     × ((AreKnown r id asked × EndsAsking f r id text asked)
     ⊎ ((f ≡ fault.Lost) × IsLost r id text asked))
 
+-- What the observer is told of the line at which entering ends, with this id and these requests:
+-- nothing, where there is no such number of 64 bits; else that it begins, and what is told of its
+-- requests; and where it is the refused line at which the run ends, how it was answered.
+abbrev pub TellsStop : BatchFault → Batch → ℕ → List ℕ → List Asked → List Notice → Type 0
+TellsStop f b id line asked told =
+    ((2 ^ 64 ≤ id) × (told ≡ []))
+    ⊎ (((f ≢ fault.AtRefusal) × (told ≡ Begins id line ∷ notices_by f asked))
+    ⊎ ((f ≡ fault.AtRefusal)
+    × (last : What) × EnteredBy b.waits b.receiver id line last asked × (ends_run b last ≡ true)
+    × (told ≡ line_notices id line asked (told_answer last))))
+
+-- so asking for the line stopped, and so the observer is told
+abbrev pub StopsTelling : Watched → BatchFault → Batch → ℕ → List ℕ → List Asked → Type 0
+StopsTelling v f b id line asked =
+    StopsAsking f b.receiver id line asked
+    × (told : List Notice) × Tells v told × TellsStop f b id line asked told
+
 -- line n, counted from 0, was entered by the requests that were made, its last answer is printed,
--- and that does not end the run
-pub record EntersLine (b : Batch) (n : ℕ) (line : List ℕ) (w : Way) (old new : Option (List ℕ))
-    : Type 0 where
+-- the observer was told of it, and it does not end the run
+pub record EntersLine (b : Batch) (n : ℕ) (line : List ℕ) (w : Way) (v : Watched)
+    (old new : Option (List ℕ)) : Type 0 where
   pub last : What
   pub entered : IsEntered b.waits b.receiver (b.first_id + n) line last
-  pub asked : AsksBy w (EnteredBy b.waits b.receiver (b.first_id + n) line last)
+  pub asked : AsksBy w (Telling v
+      (λ asked. line_notices (b.first_id + n) line asked (told_answer last))
+      (EnteredBy b.waits b.receiver (b.first_id + n) line last))
   pub goes_on : ends_run b last ≡ false
   pub written : Appends old new (reply_text last)
 
@@ -245,37 +266,44 @@ pub record FailsLine (Fails : BatchFault → Type 0) (f : BatchFault) (b : Batch
   pub whole : IsWhole f old new said
   pub stops : StopsLine Fails f b id line said
 
--- each line was entered by the requests that were made, of all of which this is said
-pub record AsksLines (Are : List Asked → Type 0) (b : Batch) (lines : List (List ℕ))
+-- each line was entered by the requests that were made, of all of which this is said, and so the
+-- observer is told
+pub record AsksLines (Are : List Asked → Type 0) (v : Watched) (b : Batch) (lines : List (List ℕ))
     (old new : Option (List ℕ)) : Type 0 where
   pub enters : EntersAll b lines old new
   pub asked : List Asked
   pub told : Are asked
-  pub each : SaidBy b b.first_id lines enters.said asked
+  pub notices : List Notice
+  pub heard : Tells v notices
+  pub each : SaidBy b b.first_id lines enters.said asked notices
 
 -- So were the lines of the front part. What was asked after them was for the next line, with the
--- next id.
-pub record AsksFront (Are : List Asked → Type 0) (Fails : BatchFault → Type 0) (f : BatchFault)
-    (b : Batch) (lines : List (List ℕ)) (old new : Option (List ℕ)) : Type 0 where
+-- next id, and so was what the observer was told after them.
+pub record AsksFront (Are : List Asked → Type 0) (v : Watched) (Fails : BatchFault → Type 0)
+    (f : BatchFault) (b : Batch) (lines : List (List ℕ)) (old new : Option (List ℕ)) : Type 0 where
   pub stops : StopsBy Fails f b lines old new
   pub asked : List Asked
   pub behind : List Asked
   pub told : Are (asked ++ behind)
-  pub each : SaidBy b b.first_id stops.enters.front stops.enters.said asked
+  pub notices : List Notice
+  pub last : List Notice
+  pub heard : Tells v (notices ++ last)
+  pub each : SaidBy b b.first_id stops.enters.front stops.enters.said asked notices
   pub next : StopsAsking f b.receiver (b.first_id + length stops.enters.front) stops.enters.line
       behind
+  pub ends : TellsStop f b (b.first_id + length stops.enters.front) stops.enters.line behind last
 
 -- so it was, of requests that were made in this way
-abbrev pub AsksTo : Result (Unit {0}) BatchFault → Batch → List (List ℕ) → Way
+abbrev pub AsksTo : Result (Unit {0}) BatchFault → Batch → List (List ℕ) → Way → Watched
     → (old new : Option (List ℕ)) → Type 0
-AsksTo (Ok _) b lines w old new = AsksLines (GoesBy w) b lines old new
-AsksTo (Err f) b lines w old new = AsksFront (GoesBy w) IsOfAsking f b lines old new
+AsksTo (Ok _) b lines w v old new = AsksLines (GoesBy w) v b lines old new
+AsksTo (Err f) b lines w v old new = AsksFront (GoesBy w) v IsOfAsking f b lines old new
 
 -- so it was, and nothing else was done with connections
-abbrev pub AsksAll : Batch → List (List ℕ) → Told → (old new : Option (List ℕ)) → Type 0
-AsksAll b lines t old new = AsksLines (Adds t.place t.old t.new) b lines old new
+abbrev pub AsksAll : Batch → List (List ℕ) → Told → Watched → (old new : Option (List ℕ)) → Type 0
+AsksAll b lines t v old new = AsksLines (Adds t.place t.old t.new) v b lines old new
 
-abbrev pub AsksSome : (BatchFault → Type 0) → BatchFault → Batch → List (List ℕ) → Told
+abbrev pub AsksSome : (BatchFault → Type 0) → BatchFault → Batch → List (List ℕ) → Told → Watched
     → (old new : Option (List ℕ)) → Type 0
-AsksSome Fails f b lines t old new =
-    AsksFront (Adds t.place t.old t.new) Fails f b lines old new
+AsksSome Fails f b lines t v old new =
+    AsksFront (Adds t.place t.old t.new) v Fails f b lines old new

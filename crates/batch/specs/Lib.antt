@@ -4,4 +4,5 @@ pub mod Dialing
 pub mod Entering
 pub mod Logs
 pub mod Newest
+pub mod Watching
 pub mod model

@@ -6,6 +6,7 @@ ghost use Rattle.batch.specs.Asking.{IsOfAsking};
 ghost use Rattle.batch.specs.Dialing.{told};
 ghost use Rattle.batch.specs.Entering.{EnteredBy, Hinders, IsEntered, StopsAsking};
 ghost use Rattle.batch.specs.Logs.{AddsSo};
+ghost use Rattle.batch.specs.Watching.{Telling, notices_by, notices_of, watched};
 
 use crate::asking::Receiver;
 use crate::dialing::{Contact, Dial};
@@ -19,7 +20,8 @@ use wire::What;
 /// Enters a text with an id at a desk, and gives the last answer: that it was taken, or, where it
 /// is waited for, what it was answered at which position of the log. It is told to be decided only
 /// where the entry at that position is this id and this text. Requests are made as by
-/// [`enter_lines`](crate::enter_lines).
+/// [`enter_lines`](crate::enter_lines), and the observer is told of each try after which it is
+/// tried again.
 ///
 /// # Errors
 ///
@@ -37,9 +39,11 @@ pub fn enter_command<D: Dial, V: Watch>(
     requires { IsDesk receiver.desk }
     ensures ok { IfOk result (λ last. IsEntered waits receiver id text.now last) }
     ensures asked { IfOk result (λ last. AddsSo (told contact.entry D.dialed dial.old dial.new)
-        (EnteredBy waits receiver id text.now last)) }
+        (Telling (watched V.heard watch.old watch.new) notices_of
+        (EnteredBy waits receiver id text.now last))) }
     ensures err { IfErr result (λ f. AddsSo (told contact.entry D.dialed dial.old dial.new)
-        (StopsAsking f receiver id text.now)) }
+        (Telling (watched V.heard watch.old watch.new) (notices_by f)
+        (StopsAsking f receiver id text.now))) }
     ensures cause { IfErr result (λ f. IsOfAsking f ⊎ Hinders f waits receiver id text.now) }
 {
     let mut held = None;

@@ -8,6 +8,7 @@ ghost use Rattle.batch.specs.Confirming.{HasFirst, IsAnother, IsConfirmed, IsDec
 ghost use Rattle.batch.specs.Confirming.{IsUnconfirmed, entry_of};
 ghost use Rattle.batch.specs.Dialing.{AsksBy};
 ghost use Rattle.batch.specs.declared.asking.Receiver.{Receiver as Desk};
+ghost use Rattle.batch.specs.Watching.{Telling, notices_by, notices_of, watched};
 ghost use Rattle.batch.specs.model.Keeping.{way_of};
 
 use crate::asking::Receiver;
@@ -77,10 +78,12 @@ pub(crate) fn confirm<D: Dial, V: Watch>(
     requires decided { IsDecided told.now }
     ensures ok { OnOk result (AsksBy (way_of D.dialed D.Reader.remaining D.Writer.contents
         contact.entry dial.old dial.new held.old held.new)
-        (IsConfirmed receiver id text.now told.now)) }
+        (Telling (watched V.heard watch.old watch.new) notices_of
+        (IsConfirmed receiver id text.now told.now))) }
     ensures err { IfErr result (λ f. AsksBy (way_of D.dialed D.Reader.remaining D.Writer.contents
         contact.entry dial.old dial.new held.old held.new)
-        (IsUnconfirmed f receiver id text.now told.now)) }
+        (Telling (watched V.heard watch.old watch.new) (notices_by f)
+        (IsUnconfirmed f receiver id text.now told.now))) }
     ensures cause { IfErr result (λ f. IsOfAsking f ⊎ IsAnother f receiver id text.now told.now) }
 {
     let position = position_of(told);

@@ -11,7 +11,8 @@ ghost use Rattle.batch.specs.model.Keeping.{way_of};
 ghost use Rattle.batch.specs.Entering.{EnteredBy, Hinders, IsEntered, IsOther, StopsAsking};
 ghost use Rattle.batch.specs.declared.asking.Receiver.{Receiver as Desk};
 ghost use Rattle.batch.specs.model.Trying.{AreTicks, EndsWaiting, IsTurnedOff, IsUndecided};
-ghost use Rattle.batch.specs.model.Trying.{StopsTaking};
+ghost use Rattle.batch.specs.model.Trying.{StopsTaking, TellsTries};
+ghost use Rattle.batch.specs.Watching.{Telling, Tells, Waits, notices_by, notices_of, watched};
 ghost use Rattle.batch.specs.declared.entering.Fate.TheVariants as fate;
 
 use crate::asking::{Receiver, request_to};
@@ -54,6 +55,7 @@ fn rest_behind<D: Dial, V: Watch>(
         contact.entry dial.old dial.new held.old held.new)
         (asked_so (tick_of receiver) (Err f) ∷ [])) }
     ensures fails { IfErr result IsOfAsking }
+    ensures heard { Tells (watched V.heard watch.old watch.new) (Waits tries ∷ []) }
 {
     watch.waits(tries);
     dial.pause(tries);
@@ -93,10 +95,12 @@ fn asked_until_taken<D: Dial, V: Watch>(
     ensures answer { IfOk result (λ answer. IsAnswer submit.now answer) }
     ensures ok { IfOk result (λ answer. AsksBy (way_of D.dialed D.Reader.remaining D.Writer.contents
         contact.entry dial.old dial.new held.old held.new)
-        (IsTakenOf receiver submit.now answer)) }
+        (λ asked. IsTakenOf receiver submit.now answer asked
+        × TellsTries submit.now (watched V.heard watch.old watch.new) asked)) }
     ensures err { IfErr result (λ f. AsksBy (way_of D.dialed D.Reader.remaining D.Writer.contents
         contact.entry dial.old dial.new held.old held.new)
-        (IsTurnedOff f receiver submit.now)) }
+        (λ asked. IsTurnedOff f receiver submit.now asked
+        × TellsTries submit.now (watched V.heard watch.old watch.new) asked)) }
     ensures fails { IfErr result IsOfAsking }
 {
     for tries in 0..MOST_TRIES {
@@ -154,10 +158,12 @@ fn submitted<D: Dial, V: Watch>(
     ensures answer { IfOk result (λ answer. IsAnswer (submit_of receiver id text.now) answer) }
     ensures ok { IfOk result (λ answer. AsksBy (way_of D.dialed D.Reader.remaining D.Writer.contents
         contact.entry dial.old dial.new held.old held.new)
-        (IsTaken receiver id text.now answer)) }
+        (Telling (watched V.heard watch.old watch.new) notices_of
+        (IsTaken receiver id text.now answer))) }
     ensures err { IfErr result (λ f. AsksBy (way_of D.dialed D.Reader.remaining D.Writer.contents
         contact.entry dial.old dial.new held.old held.new)
-        (StopsTaking f receiver id text.now)) }
+        (Telling (watched V.heard watch.old watch.new) notices_of
+        (StopsTaking f receiver id text.now))) }
     ensures cause { IfErr result
         (λ f. IsOfAsking f ⊎ ((waits : Bool) (r : Desk) → Hinders f waits r id text.now)) }
 {
@@ -207,10 +213,12 @@ fn decided<D: Dial, V: Watch>(
     ensures answer { IfOk result (λ told. IsAnswer (ask_of receiver id) told × IsDecided told) }
     ensures ok { IfOk result (λ told. AsksBy (way_of D.dialed D.Reader.remaining D.Writer.contents
         contact.entry dial.old dial.new held.old held.new)
-        (IsAwaited receiver id told)) }
+        (Telling (watched V.heard watch.old watch.new) notices_of
+        (IsAwaited receiver id told))) }
     ensures err { IfErr result (λ f. AsksBy (way_of D.dialed D.Reader.remaining D.Writer.contents
         contact.entry dial.old dial.new held.old held.new)
-        (EndsWaiting f receiver id)) }
+        (Telling (watched V.heard watch.old watch.new) notices_of
+        (EndsWaiting f receiver id))) }
     ensures cause { IfErr result (λ f. IsOfAsking f ⊎ IsUndecided f receiver id) }
 {
     let question = request_to(receiver, What::Ask { id });
@@ -243,10 +251,12 @@ pub(crate) fn entered<D: Dial, V: Watch>(
     ensures answer { IfOk result (λ last. IsEntered waits receiver id text.now last) }
     ensures ok { IfOk result (λ last. AsksBy (way_of D.dialed D.Reader.remaining D.Writer.contents
         contact.entry dial.old dial.new held.old held.new)
-        (EnteredBy waits receiver id text.now last)) }
+        (Telling (watched V.heard watch.old watch.new) notices_of
+        (EnteredBy waits receiver id text.now last))) }
     ensures err { IfErr result (λ f. AsksBy (way_of D.dialed D.Reader.remaining D.Writer.contents
         contact.entry dial.old dial.new held.old held.new)
-        (StopsAsking f receiver id text.now)) }
+        (Telling (watched V.heard watch.old watch.new) (notices_by f)
+        (StopsAsking f receiver id text.now))) }
     ensures cause { IfErr result (λ f. IsOfAsking f ⊎ Hinders f waits receiver id text.now) }
 {
     if id == 0 || id > GREATEST {

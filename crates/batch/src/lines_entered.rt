@@ -8,8 +8,9 @@ ghost use Rattle.client.specs.Printing.{reply_text};
 ghost use Rattle.batch.specs.Asking.{IsOfAsking};
 ghost use Rattle.batch.specs.Dialing.{AsksBy, told};
 ghost use Rattle.batch.specs.Entering.{AsksAll, AsksSome, AsksTo, EntersAll, EntersLine};
-ghost use Rattle.batch.specs.Entering.{EntersSome, FailsLine, IsOfPrinting, StopsAsking, StopsBy};
+ghost use Rattle.batch.specs.Entering.{EntersSome, FailsLine, IsOfPrinting, StopsBy, StopsTelling};
 ghost use Rattle.batch.specs.Entering.{ends_after, is_refused, texts_of, told_answer};
+ghost use Rattle.batch.specs.Watching.{watched};
 ghost use Rattle.batch.specs.model.Keeping.{way_of};
 
 use crate::asking::Receiver;
@@ -102,12 +103,14 @@ fn enter_line<D: Dial, W: Write, V: Watch>(
     requires { IsDesk batch.receiver.desk }
     ensures ok { OnOk result (EntersLine batch number command.now.text
         (way_of D.dialed D.Reader.remaining D.Writer.contents contact.entry dial.old dial.new
-        held.old held.new) (W.contents writer.old) (W.contents writer.new)) }
+        held.old held.new) (watched V.heard watch.old watch.new)
+        (W.contents writer.old) (W.contents writer.new)) }
     ensures err { IfErr result (λ f. FailsLine IsOfAsking f batch (batch.first_id + number)
         command.now.text (W.contents writer.old) (W.contents writer.new)) }
     ensures asked { IfErr result (λ f. AsksBy (way_of D.dialed D.Reader.remaining D.Writer.contents
         contact.entry dial.old dial.new held.old held.new)
-        (StopsAsking f batch.receiver (batch.first_id + number) command.now.text)) }
+        (StopsTelling (watched V.heard watch.old watch.new) f batch (batch.first_id + number)
+        command.now.text)) }
 {
     let Some(id) = batch.first_id.checked_add(number as u64) else {
         return Err(BatchFault::NoMoreIds);
@@ -149,7 +152,7 @@ fn enter_lines_over<D: Dial, W: Write, V: Watch>(
     ensures { AsksTo result batch (texts_of commands.now)
         (way_of D.dialed D.Reader.remaining D.Writer.contents
         contact.entry dial.old dial.new held.old held.new)
-        (W.contents writer.old) (W.contents writer.new) }
+        (watched V.heard watch.old watch.new) (W.contents writer.old) (W.contents writer.new) }
 {
     for (number, command) in commands.iter().enumerate() {
         enter_line(
@@ -170,7 +173,10 @@ fn enter_lines_over<D: Dial, W: Write, V: Watch>(
 /// Requests are made over one connection, until 64 were made over it or one was not answered; the
 /// next one is made over a new one. Where the desk has ended a connection that was kept, and does
 /// not answer a request, that request is made once more, over a new one. At the end the connection
-/// that is kept is ended. The observer is told how it goes.
+/// that is kept is ended.
+///
+/// The observer is told of each command that it begins, of each try after which it is tried again,
+/// and, once its line is written, how it was answered.
 ///
 /// # Errors
 ///
@@ -197,10 +203,10 @@ pub fn enter_lines<D: Dial, W: Write, V: Watch>(
     ensures cause { IfErr result (λ f. StopsBy IsOfAsking f batch (texts_of commands.now)
         (W.contents writer.old) (W.contents writer.new)) }
     ensures asked { OnOk result (AsksAll batch (texts_of commands.now)
-        (told contact.entry D.dialed dial.old dial.new)
+        (told contact.entry D.dialed dial.old dial.new) (watched V.heard watch.old watch.new)
         (W.contents writer.old) (W.contents writer.new)) }
     ensures asked_so_far { IfErr result (λ f. AsksSome IsOfAsking f batch (texts_of commands.now)
-        (told contact.entry D.dialed dial.old dial.new)
+        (told contact.entry D.dialed dial.old dial.new) (watched V.heard watch.old watch.new)
         (W.contents writer.old) (W.contents writer.new)) }
 {
     let mut held = None;

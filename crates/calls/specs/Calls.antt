@@ -1,10 +1,12 @@
 -- A caller's end of a connection: what it keeps, what it has read, and what it takes.
 use Rattle.std.specs.Prelude.{◌≡◌, ℕ, ◌==◌, ◌&&◌, not, Bool, true, false, List, [], ◌∷◌, ◌++◌}
-use Rattle.std.specs.Prelude.{length, take, min, Option, None, Some, if◌then◌else◌}
+use Rattle.std.specs.Prelude.{length, take, min, Option, None, Some, option_map, if◌then◌else◌}
+use Rattle.seal.specs.declared.fault.SealFault.{SealFault}
+use Rattle.seal.specs.declared.fault.SealFault.TheVariants.{NoMemory}
 use Rattle.seal.specs.Records.{preface_of}
 use Rattle.sealed.specs.declared.calling.Trouble.{Trouble}
 use Rattle.sealed.specs.declared.calling.Trouble.TheVariants as sealed_as
-use Rattle.sealed.specs.Callings.{CallingOf, SendsOn, SendsTo, fresh_calling}
+use Rattle.sealed.specs.Callings.{CallingOf, FailsTo, SendsOn, SendsTo, fresh_calling}
 use Rattle.sealed.specs.Callings as Callings
 use Rattle.sealed.specs.Tunnels.{TunnelOf}
 use Rattle.calls.specs.declared.trouble.CallTrouble.{CallTrouble}
@@ -35,6 +37,10 @@ fresh_call key random = record {
   heard = false;
   output = first_output (calling_of key random);
 }
+
+-- the key that the caller has, if it has one
+abbrev pub own_key : CallOf → Option (List ℕ)
+own_key c = option_map (λ s. s.key) c.calling
 
 -- whether something can be given: always without a key, and with one once the desk's preface came
 abbrev pub is_there : Option TunnelOf → Bool
@@ -77,6 +83,19 @@ GivesBy true bytes count old new =
 -- so many of the bytes are taken, those in front
 abbrev pub Gives : List ℕ → ℕ → CallOf → CallOf → Type 0
 Gives bytes count old new = GivesBy (is_ready old) bytes count old new
+
+-- why none can be taken: without a key for want of memory alone, and with one since those in front
+-- can't be sealed
+abbrev pub FailsBy : Option CallingOf → SealFault → List ℕ → Type 0
+FailsBy None e bytes = e ≡ NoMemory
+FailsBy (Some s) e bytes = FailsTo e bytes s
+
+abbrev pub Fails : SealFault → List ℕ → CallOf → Type 0
+Fails e bytes c = FailsBy c.calling e bytes
+
+pub record FailsToGive (e : SealFault) (bytes : List ℕ) (c : CallOf) : Type 0 where
+  pub ready : is_ready c ≡ true
+  pub fails : Fails e (take (min (length bytes) 16384) bytes) c
 
 -- ---- what was read
 

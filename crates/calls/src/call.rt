@@ -1,8 +1,9 @@
 //! A caller's end of a connection.
 
-ghost use Rattle.std.specs.Prelude.{◌≡◌, ◌≤◌, drop, length, IfOk};
-ghost use Rattle.calls.specs.Calls.{Gives, Receives, Seals, calling_of, end_trouble};
-ghost use Rattle.calls.specs.Calls.{first_output, fresh_call, is_open, sealed_trouble, trouble_of};
+ghost use Rattle.std.specs.Prelude.{◌≡◌, ◌≤◌, drop, length, IfErr, IfOk};
+ghost use Rattle.calls.specs.Calls.{Fails, FailsToGive, Gives, Receives, Seals};
+ghost use Rattle.calls.specs.Calls.{calling_of, end_trouble, first_output, fresh_call};
+ghost use Rattle.calls.specs.Calls.{is_open, own_key, sealed_trouble, trouble_of};
 
 use crate::plain::{FRONT, hold, is_mark, passed};
 use crate::trouble::CallTrouble;
@@ -118,7 +119,9 @@ impl Call {
 
     /// What is sent of bytes that are taken.
     fn seal(&mut self, bytes: &[u8]) -> Result<Vec<u8>, SealFault>
-        ensures { IfOk result (λ sent. Seals bytes.now self.old self.new sent.items) }
+        ensures seals { IfOk result (λ sent. Seals bytes.now self.old self.new sent.items) }
+        ensures fails { IfErr result (λ e. Fails e bytes.now self.old) }
+        ensures key { own_key self.new ≡ own_key self.old }
     {
         match &mut self.calling {
             Some(calling) => {
@@ -135,10 +138,12 @@ impl Call {
     /// Takes the front of the bytes to be sent, at most 16,384, and says how many it took: none as
     /// long as the connection is not open, or something is still to be sent.
     ///
-    /// After an error the connection is to be ended: what was given is not sent. The error is that
-    /// of [`sealed::Calling::seal`].
+    /// After an error the connection is to be ended: what was given is not sent. The error is
+    /// `NoMemory` where memory was refused, and with a key that of [`sealed::Calling::seal`].
     pub fn give(&mut self, bytes: &[u8]) -> Result<usize, SealFault>
-        ensures { IfOk result (λ count. Gives bytes.now count self.old self.new) }
+        ensures gives { IfOk result (λ count. Gives bytes.now count self.old self.new) }
+        ensures fails { IfErr result (λ e. FailsToGive e bytes.now self.old) }
+        ensures key { own_key self.new ≡ own_key self.old }
     {
         if !self.is_open() || !self.output().is_empty() {
             return Ok(0);
@@ -168,7 +173,8 @@ impl Call {
     /// Takes the next piece of what comes, and hands on what the desk said with it. After an error,
     /// that memory was refused, the connection is to be ended.
     pub fn receive(&mut self, piece: &[u8]) -> Result<Vec<u8>, NoMemory>
-        ensures { IfOk result (λ more. Receives piece.now self.old self.new more.items) }
+        ensures receives { IfOk result (λ more. Receives piece.now self.old self.new more.items) }
+        ensures key { own_key self.new ≡ own_key self.old }
     {
         let before = self.front.len();
         hold(&mut self.front, piece);

@@ -1,15 +1,11 @@
 -- What becomes of a connection when it is read or written.
-use Rattle.std.specs.Prelude.{◌≡◌, Bool, true, false, Option, None, Some, is_some}
-use Rattle.calls.specs.Calls.{CallOf}
+use Rattle.std.specs.Prelude.{◌≡◌, ℕ, List, Bool, true, false, Option, None, Some, is_some}
+use Rattle.calls.specs.Calls.{CallOf, own_key}
 use Rattle.desk_talks.specs.declared.dialogue.Came.{Came}
 use Rattle.desk_talks.specs.declared.dialogue.Came.TheVariants as came
 use Rattle.desk_sockets.specs.declared.connection.After.{After}
 use Rattle.desk_sockets.specs.declared.connection.After.TheVariants as after
 use Rattle.desk_sockets.specs.Troubles.{fits}
-
--- whether the call is under a key
-abbrev pub is_keyed : CallOf → Bool
-is_keyed c = is_some c.calling
 
 -- what is to be done after a dialogue took bytes: what is no answer ends the connection
 abbrev pub after_came : Came → After
@@ -24,9 +20,9 @@ is_harmless after.Later = true
 is_harmless (after.Ended None) = true
 is_harmless (after.Ended (Some trouble)) = false
 
--- a connection that goes on is under a key still, or under none still; of one that has ended, what
--- is wrong is what can be wrong
-abbrev pub Follows : After → Bool → CallOf → Type 0
-Follows after.More keyed c = is_keyed c ≡ keyed
-Follows after.Later keyed c = is_keyed c ≡ keyed
-Follows (after.Ended trouble) keyed c = fits keyed trouble ≡ true
+-- a connection that goes on is under this key still, or under none still; of one that has ended,
+-- what is wrong is what can be wrong
+abbrev pub Follows : After → Option (List ℕ) → CallOf → Type 0
+Follows after.More key c = own_key c ≡ key
+Follows after.Later key c = own_key c ≡ key
+Follows (after.Ended trouble) key c = fits (is_some key) trouble ≡ true

@@ -1,5 +1,5 @@
 -- What can be wrong with the keys of the two sides of a connection.
-use Rattle.std.specs.Prelude.{Bool, true, false, not, Option, None, Some}
+use Rattle.std.specs.Prelude.{Bool, true, not, Option, None, Some}
 use Rattle.calls.specs.declared.trouble.CallTrouble.{CallTrouble}
 use Rattle.calls.specs.declared.trouble.CallTrouble.TheVariants.{NoKey, OtherKey, HasKey}
 

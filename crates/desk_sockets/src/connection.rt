@@ -2,7 +2,8 @@
 
 ghost use Rattle.std.specs.Prelude.{◌≡◌, false, true};
 ghost use Rattle.desk_talks.specs.Dialogues.{has_changed};
-ghost use Rattle.desk_sockets.specs.Connections.{Follows, after_came, is_harmless, is_keyed};
+ghost use Rattle.calls.specs.Calls.{own_key};
+ghost use Rattle.desk_sockets.specs.Connections.{Follows, after_came, is_harmless};
 
 use calls::{Call, CallTrouble};
 use desk_talks::{Came, Dialogue};
@@ -132,7 +133,7 @@ impl Connection {
 
     /// Takes bytes that came.
     fn hear<D: Dialogue>(&mut self, dialogue: &mut D, now: u64, piece: &[u8]) -> Reading
-        ensures follows { Follows result.after (is_keyed self.old.call) self.new.call }
+        ensures follows { Follows result.after (own_key self.old.call) self.new.call }
         ensures held { result.changed ≡ false → D.held dialogue.new ≡ D.held dialogue.old }
     {
         let Ok(handed) = self.call.receive(piece) else {
@@ -146,7 +147,7 @@ impl Connection {
 
     /// Reads once what the desk sent.
     fn read_once<D: Dialogue>(&mut self, dialogue: &mut D, now: u64) -> Reading
-        ensures follows { Follows result.after (is_keyed self.old.call) self.new.call }
+        ensures follows { Follows result.after (own_key self.old.call) self.new.call }
         ensures held { result.changed ≡ false → D.held dialogue.new ≡ D.held dialogue.old }
     {
         let mut piece = [0; 4096];
@@ -161,7 +162,7 @@ impl Connection {
 
     /// Reads what the desk sent.
     pub(crate) fn read<D: Dialogue>(&mut self, dialogue: &mut D, now: u64) -> Reading
-        ensures follows { Follows result.after (is_keyed self.old.call) self.new.call }
+        ensures follows { Follows result.after (own_key self.old.call) self.new.call }
         ensures held { result.changed ≡ false → D.held dialogue.new ≡ D.held dialogue.old }
     {
         let mut changed = false;
@@ -192,7 +193,7 @@ impl Connection {
 
     /// Gives the call what the dialogue has to send, as much as it takes. False: it failed.
     fn give<D: Dialogue>(&mut self, dialogue: &mut D) -> bool
-        ensures keyed { result ≡ true → is_keyed self.new.call ≡ is_keyed self.old.call }
+        ensures key { own_key self.new.call ≡ own_key self.old.call }
         ensures held { D.held dialogue.new ≡ D.held dialogue.old }
     {
         match self.call.give(dialogue.output()) {
@@ -206,7 +207,7 @@ impl Connection {
 
     /// Writes once what is to be sent over the call.
     fn write_once(&mut self) -> After
-        ensures { Follows result (is_keyed self.old.call) self.new.call }
+        ensures { Follows result (own_key self.old.call) self.new.call }
     {
         if !self.is_waiting() {
             return After::Later;
@@ -227,7 +228,7 @@ impl Connection {
 
     /// Writes what the dialogue has to send, as much as the connection takes.
     pub(crate) fn write<D: Dialogue>(&mut self, dialogue: &mut D) -> After
-        ensures follows { Follows result (is_keyed self.old.call) self.new.call }
+        ensures follows { Follows result (own_key self.old.call) self.new.call }
         ensures held { D.held dialogue.new ≡ D.held dialogue.old }
     {
         for _write in 0..MOST_TURNS {

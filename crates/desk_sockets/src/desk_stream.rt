@@ -1,7 +1,8 @@
 //! One connection at a time to a desk of a hall.
 
 ghost use Rattle.std.specs.Prelude.{◌≡◌, false, true, is_some, IfSome};
-ghost use Rattle.desk_sockets.specs.Connections.{Follows, is_keyed};
+ghost use Rattle.calls.specs.Calls.{own_key};
+ghost use Rattle.desk_sockets.specs.Connections.{Follows};
 ghost use Rattle.desk_sockets.specs.Streams.{fresh_stream};
 ghost use Rattle.desk_sockets.specs.Troubles.{fits};
 
@@ -52,7 +53,7 @@ pub struct DeskStream<'a, R> {
 impl<'a, R> Model for DeskStream<'a, R> {
     ghost use Rattle.std.specs.Prelude.{◌≡◌, is_some, true};
     ghost use Rattle.std.specs.Option.{ForSome};
-    ghost use Rattle.desk_sockets.specs.Connections.{is_keyed};
+    ghost use Rattle.calls.specs.Calls.{own_key};
     ghost use Rattle.desk_sockets.specs.Streams.{StreamOf, stream};
     ghost use Rattle.desk_sockets.specs.Troubles.{fits};
 
@@ -61,7 +62,7 @@ impl<'a, R> Model for DeskStream<'a, R> {
     ghost view = { λ s. stream s.key s.trouble };
 
     ghost invariant = { λ s. (fits (is_some s.key) s.trouble ≡ true)
-        × ForSome s.connection (λ c. is_keyed c.call ≡ is_some s.key) };
+        × ForSome s.connection (λ c. own_key c.call ≡ s.key) };
 }
 
 impl<'a, R: Net + RandomSource> DeskStream<'a, R> {
@@ -103,7 +104,7 @@ impl<'a, R: Net + RandomSource> DeskStream<'a, R> {
     /// What goes over a new connection, with bytes that are drawn for it. None: the system gives no
     /// random bytes, or no memory.
     fn call(&self) -> Option<Call>
-        ensures { IfSome result (λ call. is_keyed call ≡ is_some self.now.key) }
+        ensures { IfSome result (λ call. own_key call ≡ self.now.key) }
     {
         let mut random = [0; 16];
         match self.source.fill_bytes(&mut random) {
@@ -127,7 +128,7 @@ impl<'a, R: Net + RandomSource> DeskStream<'a, R> {
 
     /// Begins to open a connection to a desk. None: it can't be opened.
     fn connection_to(&self, desk: u8) -> Option<Connection>
-        ensures { IfSome result (λ c. is_keyed c.call ≡ is_some self.now.key) }
+        ensures { IfSome result (λ c. own_key c.call ≡ self.now.key) }
     {
         let call = self.call()?;
         match self.connect(desk) {
@@ -138,7 +139,7 @@ impl<'a, R: Net + RandomSource> DeskStream<'a, R> {
 
     /// Goes on with a connection, unless it has ended; what was wrong is noted, if that is known.
     fn go_on(&mut self, connection: Connection, after: After)
-        requires { Follows after (is_some self.old.key) connection.call }
+        requires { Follows after self.old.key connection.call }
         ensures { self.new.key ≡ self.old.key }
     {
         match after {

@@ -7,6 +7,7 @@ use Rattle.batch.specs.Dialing.{Adds, Told}
 use Rattle.batch.specs.Entering.{AsksAll, AsksSome, EnteredBy, Hinders, IsEntered, StopsAsking}
 use Rattle.batch.specs.Entering.{texts_of, told_answer}
 use Rattle.batch.specs.Logs.{AddsSo}
+use Rattle.batch.specs.Watching.{unheard}
 use Rattle.batch.specs.declared.asking.Receiver.{Receiver}
 use Rattle.batch.specs.declared.fault.BatchFault.{BatchFault}
 use Rattle.batch.specs.declared.lines_entered.Batch.{Batch}
@@ -66,7 +67,7 @@ pub record EntersInput (r : Receiver) (l : Lines) (s : Sides) (t : Told) : Type 
   pub commands : List Numbered
   pub id : ℕ
   pub ready : IsReady l commands id s
-  pub asked : AsksAll (batch_of r l id) (texts_of commands) t s.old s.new
+  pub asked : AsksAll (batch_of r l id) (texts_of commands) t unheard s.old s.new
 
 -- one of the commands is none in any edition, and not all are wanted to be sent
 pub record FindsFault (l : Lines) (commands : List Numbered) : Type 0 where
@@ -101,7 +102,7 @@ FailsInput f r l s t =
     ⊎ ((IsDesk r.desk × IsUnready f l s.had s.left × IsSilent s t)
     ⊎ ((commands : List Numbered) × (id : ℕ) × (e : BatchFault) × IsDesk r.desk
     × IsReady l commands id s × (f ≡ fault_of_batch e)
-    × AsksSome IsOfAsking e (batch_of r l id) (texts_of commands) t s.old s.new))
+    × AsksSome IsOfAsking e (batch_of r l id) (texts_of commands) t unheard s.old s.new))
 
 -- ---- one
 

@@ -6,3 +6,4 @@ pub mod Newest
 pub mod Polling
 pub mod Statuses
 pub mod Watching
+pub mod Keying

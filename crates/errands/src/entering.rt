@@ -1,10 +1,11 @@
 //! Commands entered at a desk: those of an input, or one.
 
-ghost use Rattle.std.specs.Prelude.{◌≡◌, ◌⊎◌, ◌≤◌, None, false, IfErr, IfOk, OnErr, OnOk, length};
+ghost use Rattle.std.specs.Prelude.{◌≡◌, ◌≤◌, None, IfErr, IfOk, OnErr, OnOk, length};
 ghost use Rattle.std.specs.Io.KnownBytes.{Appends};
 ghost use Rattle.batch.specs.Asking.{IsOfAsking};
 ghost use Rattle.batch.specs.Dialing.{told};
 ghost use Rattle.batch.specs.Entering.{AsksAll, AsksSome, texts_of};
+ghost use Rattle.batch.specs.Watching.{unheard};
 ghost use Rattle.errands.specs.Entering.{EntersInput, EntersOne, FailsInput, FailsOne};
 ghost use Rattle.errands.specs.Entering.{IsFirstId, IsGood, IsOfPrinting, IsUngood, meant};
 ghost use Rattle.errands.specs.Entering.{one_text};
@@ -99,10 +100,10 @@ fn enter_good<T: Clock, D: Dial, W: Write, F: Write, H: Reasons>(
     requires desk { IsDesk batch.receiver.desk }
     requires few { length commands.now ≤ 65536 }
     ensures ok { OnOk result (AsksAll batch (texts_of commands.now)
-        (told contact.entry D.dialed dial.old dial.new)
+        (told contact.entry D.dialed dial.old dial.new) unheard
         (W.contents writer.old) (W.contents writer.new)) }
     ensures err { IfErr result (λ f. AsksSome IsOfAsking f batch (texts_of commands.now)
-        (told contact.entry D.dialed dial.old dial.new)
+        (told contact.entry D.dialed dial.old dial.new) unheard
         (W.contents writer.old) (W.contents writer.new)) }
 {
     let count = commands.len() as u32;

@@ -1,6 +1,8 @@
 //! What a desk says over a connection.
 
+ghost use Rattle.std.specs.Prelude.{◌≡◌};
 ghost use Rattle.std.specs.Io.{ReadsAtMost};
+ghost use Rattle.calls.specs.Calls.{own_key};
 
 use crate::endings::{cut_ending, ending_at, trouble_ending};
 use crate::waiting::Wait;
@@ -31,7 +33,9 @@ pub struct Answer<'a> {
 
 impl<'a> Answer<'a> {
     /// What comes over this stream, from the first request on.
-    pub(crate) fn new(alloc: Global, stream: TcpStream, wait: Wait<'a>, call: Call) -> Answer<'a> {
+    pub(crate) fn new(alloc: Global, stream: TcpStream, wait: Wait<'a>, call: Call) -> Answer<'a>
+        ensures { result.call ≡ call }
+    {
         Answer {
             stream,
             wait,
@@ -44,7 +48,8 @@ impl<'a> Answer<'a> {
 
     /// Reads once from the stream, within what is left of the wait.
     fn read_in_time(&mut self, piece: &mut [u8]) -> io::Result<usize>
-        ensures { ReadsAtMost result piece.new }
+        ensures count { ReadsAtMost result piece.new }
+        ensures call { self.new.call ≡ self.old.call }
     {
         let left = self.wait.left()?;
         self.stream.set_read_timeout(Some(left))?;
@@ -54,7 +59,8 @@ impl<'a> Answer<'a> {
     /// Reads once from the stream, and at its end, or where the read fails, notes how the
     /// connection ends.
     pub(crate) fn take(&mut self, piece: &mut [u8]) -> io::Result<usize>
-        ensures { ReadsAtMost result piece.new }
+        ensures count { ReadsAtMost result piece.new }
+        ensures call { self.new.call ≡ self.old.call }
     {
         let cut = cut_ending(self.call.trouble_at_end(), self.heard);
         match self.read_in_time(piece) {
@@ -74,7 +80,9 @@ impl<'a> Answer<'a> {
     }
 
     /// Takes a piece that came, and gives what the desk said with it.
-    pub(crate) fn receive(&mut self, piece: &[u8]) -> io::Result<Vec<u8>> {
+    pub(crate) fn receive(&mut self, piece: &[u8]) -> io::Result<Vec<u8>>
+        ensures { own_key self.new.call ≡ own_key self.old.call }
+    {
         match self.call.receive(piece) {
             Ok(said) => Ok(said),
             Err(_) => Err(io::Error::from(ErrorKind::OutOfMemory)),
@@ -83,7 +91,9 @@ impl<'a> Answer<'a> {
 
     /// Whether nothing more is said, since the keys of the two sides do not fit. How the connection
     /// ends is noted then.
-    pub(crate) fn is_over(&mut self) -> bool {
+    pub(crate) fn is_over(&mut self) -> bool
+        ensures { self.new.call ≡ self.old.call }
+    {
         match self.call.trouble() {
             Some(trouble) => {
                 self.ending = trouble_ending(trouble);

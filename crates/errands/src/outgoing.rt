@@ -1,5 +1,8 @@
 //! Where requests to a desk go.
 
+ghost use Rattle.std.specs.Prelude.{◌≡◌};
+ghost use Rattle.calls.specs.Calls.{own_key};
+
 use calls::Call;
 use std::io;
 use std::io::{ErrorKind, Write};
@@ -15,12 +18,16 @@ pub struct Outgoing {
 
 impl Outgoing {
     /// Requests go over this stream.
-    pub(crate) fn new(stream: TcpStream, call: Call) -> Outgoing {
+    pub(crate) fn new(stream: TcpStream, call: Call) -> Outgoing
+        ensures { result.call ≡ call }
+    {
         Outgoing { stream, call }
     }
 
     /// Sends what waits to be sent.
-    pub(crate) fn send(&mut self) -> io::Result<()> {
+    pub(crate) fn send(&mut self) -> io::Result<()>
+        ensures { own_key self.new.call ≡ own_key self.old.call }
+    {
         self.stream.write_all(self.call.output())?;
         let count = self.call.output().len();
         self.call.sent(count);
@@ -28,7 +35,9 @@ impl Outgoing {
     }
 
     /// Takes a piece of what the desk sends.
-    pub(crate) fn receive(&mut self, piece: &[u8]) -> io::Result<()> {
+    pub(crate) fn receive(&mut self, piece: &[u8]) -> io::Result<()>
+        ensures { own_key self.new.call ≡ own_key self.old.call }
+    {
         match self.call.receive(piece) {
             Ok(_) => Ok(()),
             Err(_) => Err(io::Error::from(ErrorKind::OutOfMemory)),

@@ -236,6 +236,10 @@ impl<'a, T: Clock, F: Write, H: Reasons> Report<'a, T, F, H> {
 }
 
 impl<T: Clock, F: Write, H: Reasons> Watch for Report<'_, T, F, H> {
+    ghost use Rattle.std.specs.Prelude.{None};
+
+    ghost heard = { λ _. None };
+
     fn begins(&mut self, command: &CommandText, id: u64) {
         self.current = Current {
             number: command.number(),

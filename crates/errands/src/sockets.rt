@@ -1,6 +1,10 @@
 //! Connections to desks over TCP, on which a desk is waited for so long for each request and no
 //! longer.
 
+ghost use Rattle.std.specs.Prelude.{◌≡◌, IfOk};
+ghost use Rattle.calls.specs.Calls.{own_key};
+ghost use Rattle.errands.specs.Keying.{AreUnder};
+
 use crate::drawing::drawn_bytes;
 use crate::incoming::Answer;
 use crate::outgoing::Outgoing;
@@ -48,7 +52,9 @@ fn connected(rt: &HostRuntime, address: &str, wait: &Wait<'_>) -> io::Result<Tcp
 }
 
 /// One side of a new connection, of a caller who has this key, or none.
-fn call_of(alloc: Global, key: Option<[u8; 32]>, random: [u8; 16]) -> io::Result<Call> {
+fn call_of(alloc: Global, key: Option<[u8; 32]>, random: [u8; 16]) -> io::Result<Call>
+    ensures { IfOk result (λ call. own_key call ≡ key) }
+{
     match Call::new(alloc, key, random) {
         Ok(call) => Ok(call),
         Err(_) => Err(io::Error::from(ErrorKind::OutOfMemory)),
@@ -57,7 +63,10 @@ fn call_of(alloc: Global, key: Option<[u8; 32]>, random: [u8; 16]) -> io::Result
 
 /// Begins a connection under a key: sends the client's preface and waits for the desk's. Where none
 /// comes, nothing can be sent, and the answer notes how the connection ends.
-fn open(answer: &mut Answer<'_>, outgoing: &mut Outgoing) -> io::Result<()> {
+fn open(answer: &mut Answer<'_>, outgoing: &mut Outgoing) -> io::Result<()>
+    ensures hears { own_key answer.new.call ≡ own_key answer.old.call }
+    ensures says { own_key outgoing.new.call ≡ own_key outgoing.old.call }
+{
     if outgoing.is_open() {
         return Ok(());
     }
@@ -77,6 +86,28 @@ fn open(answer: &mut Answer<'_>, outgoing: &mut Outgoing) -> io::Result<()> {
     Ok(())
 }
 
+/// Opens a connection for a request, under the contact's key, if it has one.
+fn dialed<'a>(rt: &'a HostRuntime, contact: Contact<'_>) -> io::Result<(Answer<'a>, Outgoing)>
+    ensures { IfOk result (λ c. AreUnder contact.entry.key c.0 c.1) }
+{
+    let alloc = rt.alloc();
+    let wait = Wait::new(rt, contact.patience)?;
+    let stream = connected(rt, contact.address, &wait)?;
+    // where it is refused, the request is only slower
+    let _ = stream.set_nodelay(true);
+    stream.set_write_timeout(Some(wait.left()?))?;
+    let random = drawn_bytes(rt)?;
+    let hears = call_of(alloc, contact.key, random)?;
+    let says = call_of(alloc, contact.key, random)?;
+    let mut outgoing = Outgoing::new(stream.try_clone()?, says);
+    let mut answer = Answer::new(alloc, stream, wait, hears);
+    match open(&mut answer, &mut outgoing) {
+        Err(error) if error.kind() == ErrorKind::OutOfMemory => Err(error),
+        // where it failed, the answer knows how the connection ends
+        _ => Ok((answer, outgoing)),
+    }
+}
+
 impl<'a> Dial for Sockets<'a> {
     ghost use Rattle.std.specs.Prelude.{None};
 
@@ -87,22 +118,7 @@ impl<'a> Dial for Sockets<'a> {
     ghost dialed = { λ _. None };
 
     fn dial(&mut self, contact: Contact<'_>) -> io::Result<(Answer<'a>, Outgoing)> {
-        let alloc = self.rt.alloc();
-        let wait = Wait::new(self.rt, contact.patience)?;
-        let stream = connected(self.rt, contact.address, &wait)?;
-        // where it is refused, the request is only slower
-        let _ = stream.set_nodelay(true);
-        stream.set_write_timeout(Some(wait.left()?))?;
-        let random = drawn_bytes(self.rt)?;
-        let hears = call_of(alloc, contact.key, random)?;
-        let says = call_of(alloc, contact.key, random)?;
-        let mut outgoing = Outgoing::new(stream.try_clone()?, says);
-        let mut answer = Answer::new(alloc, stream, wait, hears);
-        match open(&mut answer, &mut outgoing) {
-            Err(error) if error.kind() == ErrorKind::OutOfMemory => Err(error),
-            // where it failed, the answer knows how the connection ends
-            _ => Ok((answer, outgoing)),
-        }
+        dialed(self.rt, contact)
     }
 
     fn again(&mut self, reader: &mut Answer<'a>) {

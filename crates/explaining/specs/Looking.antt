@@ -2,7 +2,7 @@
 use Rattle.std.specs.Prelude.{◌≡◌, ◌⊎◌, ◌≤◌, ◌++◌, ℕ, List, Option, Some, None, IfSome, codes}
 use Rattle.std.specs.Prelude.{option_map}
 use Rattle.std.specs.Borrow.{Bor}
-use Rattle.std.specs.Io.KnownBytes.{Keeps}
+use Rattle.std.specs.Io.KnownBytes.{Appends, Keeps}
 use Rattle.batch.specs.declared.dialing.Contact.{Contact}
 use Rattle.errands.specs.declared.fault.DeskFault.{DeskFault}
 use Rattle.errands.specs.declared.fault.DeskFault.TheVariants as fault
@@ -24,33 +24,32 @@ use Rattle.explaining.specs.Sentences.{finding_text}
 
 -- ---- files
 
+-- what an error of the system tells of a file
+abbrev pub IsOfSystem : FileFinding → Type 0
+IsOfSystem file.NoFolder = Unit {0}
+IsOfSystem file.IsFolder = Unit {0}
+IsOfSystem file.NotPlain = Unit {0}
+IsOfSystem file.NotAllowed = Unit {0}
+IsOfSystem file.Full = Unit {0}
+IsOfSystem _ = ⊥
+
 -- what may be met of a file that a desk is to be served from; where it is not there, it is to be
 -- made
 abbrev pub IsOfDevice : FileFinding → Type 0
-IsOfDevice file.NoFolder = Unit {0}
-IsOfDevice file.IsFolder = Unit {0}
-IsOfDevice file.NotPlain = Unit {0}
-IsOfDevice file.NotAllowed = Unit {0}
 IsOfDevice file.FolderClosed = Unit {0}
 IsOfDevice file.HeldOpen = Unit {0}
-IsOfDevice file.Full = Unit {0}
 IsOfDevice file.HasJournal = Unit {0}
 IsOfDevice file.OpensNow = Unit {0}
-IsOfDevice _ = ⊥
+IsOfDevice what = IsOfSystem what
 
 -- what may be met of a file whose log is to be read
 abbrev pub IsOfReading : FileFinding → Type 0
-IsOfReading file.NoFolder = Unit {0}
 IsOfReading file.NotThere = Unit {0}
-IsOfReading file.IsFolder = Unit {0}
-IsOfReading file.NotPlain = Unit {0}
-IsOfReading file.NotAllowed = Unit {0}
 IsOfReading file.FolderClosed = Unit {0}
 IsOfReading file.LogHeldOpen = Unit {0}
-IsOfReading file.Full = Unit {0}
 IsOfReading file.HasJournal = Unit {0}
 IsOfReading file.OpensNow = Unit {0}
-IsOfReading _ = ⊥
+IsOfReading what = IsOfSystem what
 
 -- what may be met of a file that is no desk's store: what it is, or why it can't be read now
 abbrev pub IsOfDamage : FileFinding → Type 0
@@ -59,12 +58,7 @@ IsOfDamage file.Text = Unit {0}
 IsOfDamage file.NoDatabase = Unit {0}
 IsOfDamage file.LogMissing = Unit {0}
 IsOfDamage file.NotWhole = Unit {0}
-IsOfDamage file.NoFolder = Unit {0}
-IsOfDamage file.IsFolder = Unit {0}
-IsOfDamage file.NotPlain = Unit {0}
-IsOfDamage file.NotAllowed = Unit {0}
-IsOfDamage file.Full = Unit {0}
-IsOfDamage _ = ⊥
+IsOfDamage what = IsOfSystem what
 
 -- something of this kind was met of the file at this path, or nothing
 abbrev pub IsOfFile : Bor (List ℕ) → (FileFinding → Type 0) → Option Finding → Type 0
@@ -163,13 +157,17 @@ IsFound f matter found = IsFoundBy (of_key f) f matter found
 abbrev pub line_of : Finding → List ℕ
 line_of found = finding_text found ++ codes "\n"
 
--- the line is written, or, where it cannot be, a front part of it; nothing is written where nothing
--- was met
+-- the line is written, and nothing where nothing was met
 abbrev pub IsTold : Option Finding → (old new : Option (List ℕ)) → Type 0
 IsTold None old new = Keeps old new
-IsTold (Some found) old new = AppendsPart old new (line_of found)
+IsTold (Some found) old new = Appends old new (line_of found)
 
 -- so a fault is explained
 abbrev pub IsExplained : DeskFault → About → (old new : Option (List ℕ)) → Type 0
 IsExplained f matter old new =
     (found : Option Finding) × IsFound f matter found × IsTold found old new
+
+-- something was met, and of the line that says it a front part is written
+abbrev pub IsCutShort : DeskFault → About → (old new : Option (List ℕ)) → Type 0
+IsCutShort f matter old new =
+    (found : Finding) × IsFound f matter (Some found) × AppendsPart old new (line_of found)

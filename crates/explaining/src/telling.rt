@@ -3,7 +3,7 @@
 ghost use Rattle.std.specs.Prelude.{◌≡◌, OnErr, OnOk, true};
 ghost use Rattle.std.specs.Io.KnownBytes.{Appends};
 ghost use Rattle.lines.specs.Bytes.{AppendsPart};
-ghost use Rattle.explaining.specs.Looking.{IsExplained, line_of};
+ghost use Rattle.explaining.specs.Looking.{IsCutShort, IsExplained, line_of};
 
 use crate::findings::Finding;
 use crate::looking::found;
@@ -36,17 +36,30 @@ fn tell<F: Write>(alloc: Global, faults: &mut F, finding: Finding<'_>) -> Result
 }
 
 /// Looks again after a fault of a program that asked a desk, served one or read a file, and writes
-/// one line that says what was met and what to do. Where there is nothing to say, none is written,
-/// and where the line cannot be written, a front part of it is. The fault's own line and the exit
-/// status are not its concern.
+/// one line that says what was met and what to do. Where there is nothing to say, none is written.
+/// The fault's own line and the exit status are not its concern.
 ///
 /// The looking can take as long as the desk is waited for, and opens a file or a connection of its
 /// own. It changes nothing in a store and enters nothing at a desk. To see whether the disk has
 /// room, a file of 64 KiB is made beside the store and taken away again.
-pub fn explain<F: Write>(rt: &HostRuntime, faults: &mut F, fault: DeskFault, about: About<'_>)
-    ensures { IsExplained fault about.entry (F.contents faults.old) (F.contents faults.new) }
+///
+/// # Errors
+///
+/// `WriteFailed` where the line can't be written, or memory is refused: a front part of it is
+/// written.
+pub fn explain<F: Write>(
+    rt: &HostRuntime,
+    faults: &mut F,
+    fault: DeskFault,
+    about: About<'_>,
+) -> Result<(), WriteFailed>
+    ensures ok { OnOk result
+        (IsExplained fault about.entry (F.contents faults.old) (F.contents faults.new)) }
+    ensures err { OnErr result
+        (IsCutShort fault about.entry (F.contents faults.old) (F.contents faults.new)) }
 {
-    if let Some(finding) = found(rt, fault, about) {
-        let _ = tell(rt.alloc(), faults, finding);
+    match found(rt, fault, about) {
+        Some(finding) => tell(rt.alloc(), faults, finding),
+        None => Ok(()),
     }
 }

@@ -1,6 +1,6 @@
 //! The clients of a desk, over the connections of the simulation.
 
-ghost use Rattle.std.specs.Prelude.{◌≤◌, ◌<◌};
+ghost use Rattle.std.specs.Prelude.{◌<◌};
 
 use crate::conns::{Gone, Side};
 use crate::inspector::Inspector;
@@ -167,7 +167,7 @@ impl Clients for GuestSockets<'_> {
             return Ready::Waits;
         }
         if let Some(number) = self.agenda.pop() {
-            return Ready::Client { number };
+            return Ready::Peer { number };
         }
         self.in_round = false;
         self.rounds = self.rounds.saturating_add(1);

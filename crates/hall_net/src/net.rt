@@ -1,7 +1,7 @@
 //! All connections between the machines.
 
 ghost use Rattle.std.specs.Prelude.{length};
-ghost use Rattle.multiplex.specs.Happenings.{CountsGiven, CountsTaken};
+ghost use Rattle.polled.specs.Counts.{CountsGiven, CountsTaken};
 
 use crate::conns::{Conn, Gone, Side};
 use crate::paths::Paths;

@@ -1,7 +1,7 @@
 //! A connection from a machine to a desk, without a key.
 
 ghost use Rattle.std.specs.Prelude.{length};
-ghost use Rattle.multiplex.specs.Happenings.{CountsTaken};
+ghost use Rattle.polled.specs.Counts.{CountsTaken};
 
 use crate::conns::{Gone, Side};
 use crate::net::Net;

@@ -5,7 +5,7 @@
 //! open once the desk's preface came, and, where it isn't known who answers, the answer.
 
 ghost use Rattle.std.specs.Prelude.{◌≢◌, [], length};
-ghost use Rattle.multiplex.specs.Happenings.{CountsTaken};
+ghost use Rattle.polled.specs.Counts.{CountsTaken};
 
 use crate::call_sockets::{CallSocket, Said, Sent};
 use crate::net::Net;

@@ -6,8 +6,8 @@ use Rattle.std.specs.declared.net.SocketAddr.{SocketAddr}
 use Rattle.links.specs.Links.{LinkState, pending, after_sent}
 use Rattle.links.specs.Histories.{Step, Sent}
 use Rattle.mio_sockets.specs.Wiring.{Wired, Line, IsSameDesk, Drives, Goes, told, told_all}
-use Rattle.multiplex.specs.Happenings.{Tells}
-use Rattle.multiplex.proofs.Telling.{Tells-as, Tells-nil, Tells-trans}
+use Rattle.polled.specs.Telling.{Tells}
+use Rattle.polled.proofs.Telling.{Tells-as, Tells-nil, Tells-trans}
 use Rattle.mio_sockets.specs.Wiring.{KeepsLine, Took, told_bytes}
 
 goes_both : (a b c : LinkState) (ss ts : List Step) → Goes a ss b → Goes b ts c

@@ -8,7 +8,7 @@ use Rattle.links.specs.Histories.{Step}
 use Rattle.mio_sockets.specs.Keeping.{AreSettled, IsSettled}
 use Rattle.mio_sockets.specs.Wiring.{Wired, Line, IsDriven, AreDriven, KeepsLine, KeepsLines}
 use Rattle.mio_sockets.specs.Wiring.{told_all, told_each}
-use Rattle.multiplex.proofs.Telling.{Tells-as, Tells-nil, Tells-trans}
+use Rattle.polled.proofs.Telling.{Tells-as, Tells-nil, Tells-trans}
 
 -- the first so many links were driven, and the others are as before
 pub record SoFar (x y : Option (List Wired)) (old new : List Line) (i : ℕ) : Type 0 where

@@ -9,8 +9,8 @@ use Rattle.links.specs.declared.stages.Stage.TheVariants.{Opening, Open}
 use Rattle.links.specs.declared.stages.Stage.TheVariants as stage
 use Rattle.mio_sockets.specs.Looking.{Look, LookAtAll, Looks, LooksAs, LooksIn}
 use Rattle.mio_sockets.specs.Wiring.{Line}
-use Rattle.multiplex.specs.Happenings.{Tells}
-use Rattle.multiplex.proofs.Telling.{Tells-trans}
+use Rattle.polled.specs.Telling.{Tells}
+use Rattle.polled.proofs.Telling.{Tells-trans}
 use Rattle.mio_sockets.proofs.Each.{after_there, same_there}
 
 -- this was seen, and the connection was closed for it

@@ -11,7 +11,7 @@ use Rattle.std.proofs.lemmas.Iterator.Adapters.{position_from-zero}
 use Rattle.std.specs.List.{AllByRecursion, position_from}
 use Rattle.std.specs.Prelude.{position}
 use Rattle.mio_sockets.specs.Wiring.{Line, TakesFrame, KeepsLine, PushesTo, Wired, has_number}
-use Rattle.multiplex.proofs.Telling.{Tells-nil}
+use Rattle.polled.proofs.Telling.{Tells-nil}
 
 is_number : (a b : ℕ) → (a == b) ≡ true → a ≡ b
 is_number a b h =

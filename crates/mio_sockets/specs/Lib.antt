@@ -1,7 +1,6 @@
-pub mod Tokens
-pub mod Outcomes
-pub mod Agendas
+pub mod Coming
 pub mod Wiring
 pub mod Waiting
 pub mod Keeping
+pub mod Keying
 pub mod Looking

@@ -4,7 +4,7 @@ use Rattle.links.specs.Links.{LinkState, after_ended, after_failed, after_opened
 use Rattle.links.specs.declared.stages.Stage.{Stage}
 use Rattle.links.specs.declared.stages.Stage.TheVariants.{Closed, Paused, Opening, Open}
 use Rattle.mio_sockets.specs.Wiring.{Line}
-use Rattle.multiplex.specs.Happenings.{Tells}
+use Rattle.polled.specs.Telling.{Tells}
 use Rattle.mio_sockets.specs.declared.wires.Heard.{Heard}
 use Rattle.mio_sockets.specs.declared.wires.Heard.TheVariants as heard_is
 use Rattle.mio_sockets.specs.declared.wires.Opening.{Opening as Opened}

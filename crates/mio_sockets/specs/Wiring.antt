@@ -5,9 +5,9 @@ use Rattle.std.specs.Prelude.{take}
 use Rattle.std.specs.Prelude.{Option, None, Some, Bool, true, false}
 use Rattle.std.specs.List.{AllByRecursion}
 use Rattle.std.specs.declared.net.SocketAddr.{SocketAddr}
-use Rattle.multiplex.specs.Happenings.{Tells}
-use Rattle.multiplex.specs.declared.clients.Taken.{Taken}
-use Rattle.multiplex.specs.declared.clients.Taken.TheVariants as taken_is
+use Rattle.polled.specs.Telling.{Tells}
+use Rattle.polled.specs.declared.answers.Taken.{Taken}
+use Rattle.polled.specs.declared.answers.Taken.TheVariants as taken_is
 use Rattle.links.specs.declared.stages.Pushed.TheVariants as push
 use Rattle.links.specs.Links.{LinkState, Pushes, new_link}
 use Rattle.links.specs.Histories.{Step, Push, Opened, Sent, Ended, Steps}

@@ -1,28 +1,25 @@
 //! The clients of a desk over TCP.
 
-ghost use Rattle.std.specs.Prelude.{◌≡◌, ◌≤◌, length, true, false};
-ghost use Rattle.std.specs.List.Sorted.{IsNonDecreasing};
-ghost use Rattle.multiplex.specs.Happenings.{CountsGiven, CountsTaken};
-ghost use Rattle.mio_sockets.specs.Agendas.{GoesOn, IsOver, NamesNext, round};
+ghost use Rattle.std.specs.Prelude.{◌≡◌, false, length, true, IfOk};
+ghost use Rattle.mio_sockets.specs.Coming.{LetsIn};
+ghost use Rattle.polled.specs.Counts.{CountsGiven, CountsTaken};
+ghost use Rattle.polled_sockets.specs.Agendas.{NamesNext};
+ghost use Rattle.polled_sockets.specs.Sockets.{IsFresh, OthersStay, SameElse};
+ghost use Rattle.polled_sockets.specs.Sockets.{SameStay, is_full, stays};
 
-use crate::agenda::Agenda;
-use crate::guests::{Guests, MOST_ENDING, MOST_OPEN};
-use crate::outcomes::accepted_by;
 use crate::random::drawn;
-use crate::tokens::{Source, client_token, listener_token, source_of};
-use mio::net::{TcpListener, TcpStream};
-use mio::{Events, Interest, Poll, Registry};
+use mio::Registry;
 use multiplex::{Accepted, Clients, Given, Ready, Taken};
+use polled_sockets::PeerSockets;
 use std::alloc::Global;
 use std::io;
 use std::marker::Model;
 use std::net::{Net, SocketAddr};
 use std::random::RandomSource;
-use std::time::{Clock, Duration, Instant};
+use std::time::Clock;
 
-/// How many sockets that are ready are told of at once: all clients, the listener, and the other
-/// desks.
-const MOST_READY: usize = MOST_OPEN + MOST_ENDING + 8;
+/// The most connections that are open at once.
+const MOST_OPEN: usize = 512;
 
 /// The clients of a desk over TCP, and one poll that tells which of their sockets is ready.
 ///
@@ -30,71 +27,34 @@ const MOST_READY: usize = MOST_OPEN + MOST_ENDING + 8;
 /// more comes, and what it still sends is read and dropped, for two seconds at most, so that what
 /// it was sent isn't lost by a reset.
 ///
-/// A contract sees whether a round was begun and isn't over, and what of it is still to be named.
+/// A contract sees how many connections may be open at once, which ones are, whether a round was
+/// begun and isn't over, and what of it is still to be named.
 #[derive(Drop)]
 pub struct SocketClients<'a, R> {
     system: &'a R,
-    poll: Poll,
-    events: Events,
-    listener: TcpListener,
-    guests: Guests,
-    agenda: Agenda,
-    /// Whether a round was begun, of which more may be to be named.
-    in_round: bool,
-    /// When the first round was over.
-    start: Option<Instant>,
-    /// When the last round was over, in milliseconds after the first one.
-    now: u64,
-    /// Whether the system had no more sockets for the client that waited last.
-    scarce: bool,
-    /// Whether the system isn't asked to tell when somebody waits.
-    deaf: bool,
+    peers: PeerSockets<'a, R>,
 }
 
 impl<'a, R> Model for SocketClients<'a, R> {
-    ghost use Rattle.mio_sockets.specs.Agendas.{RoundOf, round};
+    ghost use Rattle.std.specs.Prelude.{◌≤◌};
+    ghost use Rattle.polled_sockets.specs.Sockets.{SocketsOf};
 
-    ghost Value = { RoundOf };
+    ghost Value = { SocketsOf };
 
-    ghost view = { λ s. round s.in_round s.agenda };
-}
+    ghost view = { λ s. s.peers };
 
-/// Puts onto the agenda which clients are ready, and reads on of those whose connection is ending.
-fn note_all(events: &Events, registry: &Registry, guests: &mut Guests, agenda: &mut Agenda) {
-    for event in events.iter() {
-        match source_of(event.token()) {
-            Source::Listener => agenda.add_listener(),
-            Source::Desk => {}
-            Source::Client { number } => {
-                if guests.is_open(number) {
-                    let _noted = agenda.add(number);
-                } else {
-                    guests.hear_ending(registry, number);
-                }
-            }
-        }
-    }
+    ghost invariant = { λ s. s.peers.most ≤ 512 };
 }
 
 impl<'a, R: Net + Clock> SocketClients<'a, R> {
-    /// Listens at this address.
-    pub fn listen(runtime: &'a R, alloc: Global, address: SocketAddr) -> io::Result<Self> {
-        let mut listener = TcpListener::bind(runtime, address)?;
-        let poll = Poll::new(runtime)?;
-        poll.registry()
-            .register(&mut listener, listener_token(), Interest::READABLE)?;
+    /// Listens at this address. At most 512 connections are open at once. No round was begun.
+    pub fn listen(runtime: &'a R, alloc: Global, address: SocketAddr) -> io::Result<Self>
+        ensures { IfOk result (IsFresh 512) }
+    {
+        let peers = PeerSockets::listen(runtime, alloc, address, MOST_OPEN)?;
         Ok(SocketClients {
             system: runtime,
-            poll,
-            events: Events::with_capacity(alloc, MOST_READY)?,
-            listener,
-            guests: Guests::new(alloc)?,
-            agenda: Agenda::new(alloc, MOST_READY)?,
-            in_round: false,
-            start: None,
-            now: 0,
-            scarce: false,
-            deaf: false,
+            peers,
         })
     }
 }
@@ -102,133 +62,13 @@ impl<'a, R: Net + Clock> SocketClients<'a, R> {
 impl<R: Clock + RandomSource> SocketClients<'_, R> {
     /// Where it listens; the port is the system's choice where that of `listen` was 0.
     pub fn address(&self) -> io::Result<SocketAddr> {
-        self.listener.local_addr()
+        self.peers.address()
     }
 
-    /// Another owner of the poll's sockets, for the connections to the other desks. Where one of
-    /// them is ready, a round is over.
+    /// Another owner of the poll's sockets, for the connections to the other desks, under
+    /// `polled_sockets::own_token`. Where one of them is ready, a round is over.
     pub fn registry(&self) -> io::Result<Registry> {
-        self.poll.registry().try_clone()
-    }
-
-    /// How many sockets of clients there are: at most 512 of open connections, and 64 of those that
-    /// are ending.
-    pub fn sockets(&self) -> usize
-        ensures { result ≤ 576 }
-    {
-        self.guests.len()
-    }
-
-    /// Asks the system to tell when somebody waits.
-    fn listen_on(&mut self)
-        ensures { self.new ≡ self.old }
-    {
-        let registry = self.poll.registry();
-        let asked = registry.reregister(&mut self.listener, listener_token(), Interest::READABLE);
-        self.deaf = asked.is_err();
-    }
-
-    /// Begins a round: waits until something is ready, so many milliseconds at most. False: the
-    /// system doesn't tell it.
-    fn begin_round(&mut self, wait: u64) -> bool
-        requires { self.old.begun ≡ false }
-        ensures begun { self.new.begun ≡ result }
-        ensures order { IsNonDecreasing self.new.left.numbers }
-    {
-        self.agenda.begin();
-        let timeout = Some(Duration::from_millis(wait));
-        if self.poll.poll(&mut self.events, timeout).is_err() {
-            self.agenda.order();
-            return false;
-        }
-        let registry = self.poll.registry();
-        note_all(&self.events, registry, &mut self.guests, &mut self.agenda);
-        self.agenda.order();
-        if self.deaf && self.events.is_empty() {
-            self.listen_on();
-        }
-        self.in_round = true;
-        true
-    }
-
-    /// How many milliseconds have gone since the first round was over.
-    fn time(&mut self) -> io::Result<u64>
-        ensures { self.new ≡ self.old }
-    {
-        let start = match self.start {
-            Some(start) => start,
-            None => Instant::now(self.system)?,
-        };
-        self.start = Some(start);
-        let millis = start.elapsed(self.system)?.as_millis();
-        Ok(u64::try_from(millis).unwrap_or(u64::MAX))
-    }
-
-    /// Ends a round.
-    fn end_round(&mut self) -> Ready
-        ensures over { IsOver result }
-        ensures round { self.new ≡ round false self.old.left }
-    {
-        self.in_round = false;
-        match self.time() {
-            Ok(now) => {
-                self.now = now;
-                self.guests.close_late(now);
-                Ready::Round { now }
-            }
-            Err(_) => Ready::Failed,
-        }
-    }
-
-    /// Names what comes next in the round, or ends it.
-    fn name_next(&mut self) -> Ready
-        requires { self.old.begun ≡ true }
-        ensures { GoesOn result self.old.left self.new }
-    {
-        match self.agenda.next() {
-            Some(ready) => ready,
-            None => self.end_round(),
-        }
-    }
-
-    /// Takes the client that waits. Where the system has no more sockets, those of connections that
-    /// are ending are given up for it.
-    fn take(&mut self) -> io::Result<TcpStream>
-        ensures { self.new ≡ self.old }
-    {
-        match self.listener.accept() {
-            Ok((stream, _)) => Ok(stream),
-            Err(error) => {
-                if accepted_by(&error) == Accepted::Full && self.guests.close_ending() {
-                    let (stream, _) = self.listener.accept()?;
-                    return Ok(stream);
-                }
-                Err(error)
-            }
-        }
-    }
-
-    /// Lets the client in that waits, with new random bytes. Where the system gives none, the
-    /// client isn't let in.
-    fn let_in(&mut self, number: u64) -> Accepted
-        ensures { self.new ≡ self.old }
-    {
-        if self.guests.is_full() || client_token(number).is_none() {
-            return Accepted::Full;
-        }
-        match self.take() {
-            Ok(stream) => {
-                let Ok(random) = drawn(self.system) else {
-                    return Accepted::Nobody;
-                };
-                if self.guests.enter(self.poll.registry(), number, stream) {
-                    Accepted::Came { random }
-                } else {
-                    Accepted::Full
-                }
-            }
-            Err(error) => accepted_by(&error),
-        }
+        self.peers.registry()
     }
 }
 
@@ -244,57 +84,63 @@ impl<R: Clock + RandomSource> Clients for SocketClients<'_, R> {
     /// A round is begun where the last one is over. First of a round is named that somebody waits,
     /// then the clients in the order of their numbers, and then it is over.
     fn ready(&mut self, wait: u64) -> Ready
-        ensures { NamesNext result self.old self.new }
+        ensures named { NamesNext result self.old.round self.new.round }
+        ensures most { self.new.most ≡ self.old.most }
+        ensures staying { SameStay self.old self.new }
     {
-        if !self.in_round && !self.begin_round(wait) {
-            return Ready::Failed;
-        }
-        self.name_next()
+        self.peers.ready(wait)
     }
 
-    // The system tells anew that somebody waits once it is asked anew. Where it has no more sockets
-    // and no client can be let go, it is asked once it has nothing else to tell, so that nobody
-    // asks again and again.
+    /// The random bytes are new. Where the system gives none, the client isn't let in. Where as many
+    /// connections are open as may be, nobody is.
     fn accept(&mut self, number: u64) -> Accepted
-        ensures { self.new ≡ self.old }
+        ensures full { is_full self.old ≡ true → result ≡ Accepted.Full }
+        ensures came { LetsIn result (stays self.old number) (stays self.new number) }
+        ensures others { OthersStay number self.old self.new }
+        ensures same { SameElse self.old self.new }
     {
-        let accepted = self.let_in(number);
-        self.scarce = accepted == Accepted::Full;
-        if self.scarce && self.guests.is_empty() {
-            self.deaf = true;
-        } else {
-            self.listen_on();
+        match self.peers.accept(number) {
+            polled::Accepted::Nobody => Accepted::Nobody,
+            polled::Accepted::Full => Accepted::Full,
+            polled::Accepted::Came => match drawn(self.system) {
+                Ok(random) => Accepted::Came { random },
+                Err(_) => {
+                    self.peers.close(number);
+                    Accepted::Nobody
+                }
+            },
         }
-        accepted
     }
 
     fn read(&mut self, number: u64, buffer: &mut [u8; 4096]) -> Given
         ensures count { CountsGiven (length buffer.new) result }
-        ensures round { self.new ≡ self.old }
+        ensures closed { stays self.old number ≡ false → result ≡ Given.Broke }
+        ensures same { self.new ≡ self.old }
     {
-        self.guests.read(number, buffer)
+        self.peers.read(number, buffer)
     }
 
     fn write(&mut self, number: u64, bytes: &[u8]) -> Taken
         ensures count { CountsTaken (length bytes.now) result }
-        ensures round { self.new ≡ self.old }
+        ensures closed { stays self.old number ≡ false → result ≡ Taken.Broke }
+        ensures same { self.new ≡ self.old }
     {
-        self.guests.write(number, bytes)
+        self.peers.write(number, bytes)
     }
 
     fn watch(&mut self, number: u64, writes: bool) -> bool
-        ensures { self.new ≡ self.old }
+        ensures closed { stays self.old number ≡ false → result ≡ false }
+        ensures staying { SameStay self.old self.new }
+        ensures same { SameElse self.old self.new }
     {
-        self.guests.watch(self.poll.registry(), number, writes)
+        self.peers.watch(number, writes)
     }
 
     fn close(&mut self, number: u64)
-        ensures { self.new ≡ self.old }
+        ensures ended { stays self.new number ≡ false }
+        ensures others { OthersStay number self.old self.new }
+        ensures same { SameElse self.old self.new }
     {
-        self.guests
-            .end(self.poll.registry(), number, self.now, self.scarce);
-        if self.deaf {
-            self.listen_on();
-        }
+        self.peers.close(number);
     }
 }

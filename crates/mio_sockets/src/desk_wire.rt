@@ -7,14 +7,16 @@
 //! With a key a connection counts as open once the desk's preface came, and, where it isn't known
 //! who answers, the answer to the question. So a desk that has another key is never reached.
 
-ghost use Rattle.std.specs.Prelude.{◌≢◌, [], length};
-ghost use Rattle.multiplex.specs.Happenings.{CountsTaken};
+ghost use Rattle.std.specs.Prelude.{◌≡◌, ◌≢◌, [], length, None};
+ghost use Rattle.std.specs.Result.{result_ok};
+ghost use Rattle.polled.specs.Counts.{CountsTaken};
+ghost use Rattle.mio_sockets.specs.Keying.{key_of, wire_key};
 
 use crate::asking::Asking;
 use crate::keyed_stream::{Came, KeyedStream};
-use crate::outcomes::taken_by;
 use crate::wires::{Heard, Opening, Trouble};
 use multiplex::Taken;
+use polled_sockets::taken_by;
 use std::io;
 use std::io::ErrorKind;
 
@@ -40,7 +42,9 @@ fn of_system(kind: ErrorKind) -> Trouble {
 }
 
 /// Sends what is to be sent at the front of a connection.
-fn send(stream: &mut KeyedStream) -> Result<(), Trouble> {
+fn send(stream: &mut KeyedStream) -> Result<(), Trouble>
+    ensures { key_of stream.new ≡ key_of stream.old }
+{
     match stream.send() {
         Ok(_) => Ok(()),
         Err(error) => Err(of_system(error.kind())),
@@ -49,7 +53,9 @@ fn send(stream: &mut KeyedStream) -> Result<(), Trouble> {
 
 /// Reads what comes at the front of a connection. Where the desk has ended it without a word,
 /// though it was to be asked, it has another key, or none.
-fn listen(stream: &mut KeyedStream, asking: Asking, asks: bool) -> Result<(), Trouble> {
+fn listen(stream: &mut KeyedStream, asking: Asking, asks: bool) -> Result<(), Trouble>
+    ensures { key_of stream.new ≡ key_of stream.old }
+{
     let came = stream.hear(asking);
     if let Some(trouble) = stream.trouble() {
         return Err(Trouble::Key { trouble });
@@ -65,7 +71,9 @@ fn listen(stream: &mut KeyedStream, asking: Asking, asks: bool) -> Result<(), Tr
 }
 
 /// Gives the question, once it may be given.
-fn ask(stream: &mut KeyedStream, asking: Asking) -> Result<(), Trouble> {
+fn ask(stream: &mut KeyedStream, asking: Asking) -> Result<(), Trouble>
+    ensures { key_of stream.new ≡ key_of stream.old }
+{
     if !stream.may_ask() {
         return Ok(());
     }
@@ -80,7 +88,9 @@ fn ask(stream: &mut KeyedStream, asking: Asking) -> Result<(), Trouble> {
 
 impl DeskWire {
     /// No connection yet. `sealed`: there is a key.
-    pub(crate) fn new(asking: Asking, sealed: bool) -> DeskWire {
+    pub(crate) fn new(asking: Asking, sealed: bool) -> DeskWire
+        ensures { result.stream ≡ None }
+    {
         DeskWire {
             asking,
             stream: None,
@@ -97,7 +107,9 @@ impl DeskWire {
     }
 
     /// Has a connection that was begun, or could not be. False: it could not be.
-    pub(crate) fn begin(&mut self, connected: io::Result<KeyedStream>) -> bool {
+    pub(crate) fn begin(&mut self, connected: io::Result<KeyedStream>) -> bool
+        ensures { self.new.stream ≡ result_ok connected }
+    {
         self.foreign = false;
         match connected {
             Ok(stream) => {
@@ -114,7 +126,9 @@ impl DeskWire {
     }
 
     /// Notes that it isn't known any more who answers, since this went wrong.
-    fn fail(&mut self, trouble: Trouble) {
+    fn fail(&mut self, trouble: Trouble)
+        ensures { self.new.stream ≡ self.old.stream }
+    {
         self.known = false;
         if let Trouble::Key { .. } = trouble {
             self.doubted = true;
@@ -123,7 +137,9 @@ impl DeskWire {
     }
 
     /// Notes who answered, once somebody has.
-    fn note_answer(&mut self) {
+    fn note_answer(&mut self)
+        ensures { wire_key self.new ≡ wire_key self.old }
+    {
         let Some(stream) = &mut self.stream else {
             return;
         };
@@ -134,7 +150,9 @@ impl DeskWire {
     }
 
     /// Whether the connection is open, once it is there, or what went wrong.
-    fn is_open(&mut self) -> Result<bool, Trouble> {
+    fn is_open(&mut self) -> Result<bool, Trouble>
+        ensures { wire_key self.new ≡ wire_key self.old }
+    {
         let Some(stream) = &mut self.stream else {
             return Err(of_system(ErrorKind::NotFound));
         };
@@ -155,7 +173,9 @@ impl DeskWire {
     }
 
     /// What has become of the connection, which was begun.
-    pub(crate) fn opening(&mut self) -> Opening {
+    pub(crate) fn opening(&mut self) -> Opening
+        ensures { wire_key self.new ≡ wire_key self.old }
+    {
         let open = self.is_open();
         self.note_answer();
         match open {
@@ -174,7 +194,8 @@ impl DeskWire {
     /// Writes as much of the bytes as the connection takes without waiting.
     pub(crate) fn write(&mut self, bytes: &[u8]) -> Taken
         requires { bytes.now ≢ [] }
-        ensures { CountsTaken (length bytes.now) result }
+        ensures count { CountsTaken (length bytes.now) result }
+        ensures key { wire_key self.new ≡ wire_key self.old }
     {
         let taken = match &mut self.stream {
             Some(stream) => taken_by(stream.write(bytes)),
@@ -189,7 +210,9 @@ impl DeskWire {
     }
 
     /// Reads what comes, and drops it. What the desk said first tells who answers.
-    fn listen_on(&mut self) -> Heard {
+    fn listen_on(&mut self) -> Heard
+        ensures { wire_key self.new ≡ wire_key self.old }
+    {
         let Some(stream) = &mut self.stream else {
             return Heard::Broke;
         };
@@ -209,7 +232,9 @@ impl DeskWire {
     }
 
     /// Hears what comes on the connection, which is open.
-    pub(crate) fn hear(&mut self) -> Heard {
+    pub(crate) fn hear(&mut self) -> Heard
+        ensures { wire_key self.new ≡ wire_key self.old }
+    {
         let heard = if self.foreign {
             Heard::Nothing
         } else {
@@ -224,7 +249,9 @@ impl DeskWire {
     }
 
     /// Closes the connection, if there is one.
-    pub(crate) fn close(&mut self) {
+    pub(crate) fn close(&mut self)
+        ensures { self.new.stream ≡ None }
+    {
         self.stream = None;
     }
 }

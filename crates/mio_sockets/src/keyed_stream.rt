@@ -1,11 +1,12 @@
 //! A connection to another desk, with a key or without one.
 
-ghost use Rattle.std.specs.Prelude.{◌≢◌, ◌≤◌, [], length, IfOk};
+ghost use Rattle.std.specs.Prelude.{◌≡◌, ◌≢◌, ◌≤◌, [], length, is_some, IfOk};
+ghost use Rattle.calls.specs.Calls.{own_key};
 
 use crate::asking::Asking;
-use crate::outcomes::is_waiting;
 use calls::{Call, CallTrouble};
 use mio::net::TcpStream;
+use polled_sockets::is_waiting;
 use std::io;
 use std::io::{ErrorKind, Read, Write};
 
@@ -34,6 +35,7 @@ pub(crate) struct KeyedStream {
     call: Call,
     /// Whether there is a key.
     sealed: bool,
+    ghost keyed: { sealed ≡ is_some (own_key call) },
     /// Whether a byte of a sealed frame was taken that doesn't count yet.
     owes: bool,
     /// Whether the question was given that tells who answers.
@@ -45,8 +47,11 @@ pub(crate) struct KeyedStream {
 }
 
 impl KeyedStream {
-    /// A connection that was begun.
-    pub(crate) fn new(stream: TcpStream, call: Call, sealed: bool) -> KeyedStream {
+    /// A connection that was begun. `sealed`: there is a key.
+    pub(crate) fn new(stream: TcpStream, call: Call, sealed: bool) -> KeyedStream
+        requires { sealed ≡ is_some (own_key call) }
+        ensures { result.call ≡ call }
+    {
         KeyedStream {
             stream,
             call,
@@ -87,7 +92,9 @@ impl KeyedStream {
     }
 
     /// Whether the right desk answered: told once, after something came that a desk said.
-    pub(crate) fn take_answer(&mut self) -> Option<bool> {
+    pub(crate) fn take_answer(&mut self) -> Option<bool>
+        ensures { own_key self.new.call ≡ own_key self.old.call }
+    {
         self.answer.take()
     }
 
@@ -103,7 +110,9 @@ impl KeyedStream {
     }
 
     /// Gives a question that tells who answers.
-    pub(crate) fn ask(&mut self, question: &[u8]) -> io::Result<()> {
+    pub(crate) fn ask(&mut self, question: &[u8]) -> io::Result<()>
+        ensures { own_key self.new.call ≡ own_key self.old.call }
+    {
         match self.call.give(question) {
             Ok(count) => {
                 self.asked = count > 0;
@@ -114,7 +123,9 @@ impl KeyedStream {
     }
 
     /// Writes what is to be sent, and says whether all of it was taken. No call waits.
-    pub(crate) fn send(&mut self) -> io::Result<bool> {
+    pub(crate) fn send(&mut self) -> io::Result<bool>
+        ensures { own_key self.new.call ≡ own_key self.old.call }
+    {
         for _write in 0..MOST_CALLS {
             let output = self.call.output();
             if output.is_empty() {
@@ -133,7 +144,8 @@ impl KeyedStream {
     /// Seals the front of the bytes and writes it, and says how many bytes count as taken.
     fn write_sealed(&mut self, bytes: &[u8]) -> io::Result<usize>
         requires { bytes.now ≢ [] }
-        ensures { IfOk result (λ count. count ≤ length bytes.now) }
+        ensures count { IfOk result (λ count. count ≤ length bytes.now) }
+        ensures key { own_key self.new.call ≡ own_key self.old.call }
     {
         if self.owes {
             self.owes = false;
@@ -153,7 +165,8 @@ impl KeyedStream {
     /// waits.
     pub(crate) fn write(&mut self, bytes: &[u8]) -> io::Result<usize>
         requires { bytes.now ≢ [] }
-        ensures { IfOk result (λ count. count ≤ length bytes.now) }
+        ensures count { IfOk result (λ count. count ≤ length bytes.now) }
+        ensures key { own_key self.new.call ≡ own_key self.old.call }
     {
         if !self.send()? {
             return Ok(0);
@@ -166,7 +179,9 @@ impl KeyedStream {
 
     /// Takes a piece of what came. What the desk said first tells who answers. False: it doesn't
     /// fit under the key, or memory was refused.
-    fn take(&mut self, piece: &[u8], asking: Asking) -> bool {
+    fn take(&mut self, piece: &[u8], asking: Asking) -> bool
+        ensures { own_key self.new.call ≡ own_key self.old.call }
+    {
         let Ok(more) = self.call.receive(piece) else {
             return false;
         };
@@ -178,7 +193,9 @@ impl KeyedStream {
     }
 
     /// Reads what comes from a desk, and drops it. No call waits.
-    pub(crate) fn hear(&mut self, asking: Asking) -> Came {
+    pub(crate) fn hear(&mut self, asking: Asking) -> Came
+        ensures { own_key self.new.call ≡ own_key self.old.call }
+    {
         let mut piece = [0; 4096];
         for _read in 0..MOST_CALLS {
             match self.stream.read(&mut piece) {

@@ -2,19 +2,16 @@
 //! other desks, over one poll that tells which of them is ready. No socket makes anybody wait.
 #![tactic(auto)]
 
-mod agenda;
 mod asking;
 mod clients;
 mod desk_links;
 mod desk_wire;
-mod guests;
+mod hall_wires;
 mod keyed_stream;
 mod neighbour;
-mod outcomes;
 mod random;
 mod socket_wires;
 mod tellings;
-mod tokens;
 mod wires;
 
 pub use clients::SocketClients;

@@ -8,7 +8,7 @@ ghost use Rattle.mio_sockets.specs.Keeping.{IsSettled, Writes, left_in};
 ghost use Rattle.mio_sockets.specs.Looking.{Looks, LooksAs, LooksIn};
 ghost use Rattle.mio_sockets.specs.Waiting.{quiet_in, wait_in};
 ghost use Rattle.mio_sockets.specs.Wiring.{IsSameDesk, IsStored, KeepsLine, TakesFrame};
-ghost use Rattle.multiplex.specs.Happenings.{Tells};
+ghost use Rattle.polled.specs.Telling.{Tells};
 ghost use Rattle.mio_sockets.specs.Wiring.{new_line};
 
 use crate::wires::{Heard, Opening, Wires};

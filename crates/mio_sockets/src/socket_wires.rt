@@ -1,31 +1,42 @@
 //! The connections to the other desks over TCP.
 
-use crate::asking::Asking;
-use crate::desk_wire::DeskWire;
+ghost use Rattle.std.specs.Prelude.{◌≡◌, ◌≢◌, [], length, IfOk};
+ghost use Rattle.polled.specs.Counts.{CountsTaken};
+ghost use Rattle.mio_sockets.specs.Keying.{key_of, wires_of};
+
+use crate::hall_wires::HallWires;
 use crate::keyed_stream::KeyedStream;
 use crate::random::drawn;
-use crate::tokens::desk_token;
 use crate::wires::{Heard, Opening, Trouble, Wires};
 use calls::Call;
 use mio::net::TcpStream;
 use mio::{Interest, Registry};
 use multiplex::Taken;
+use polled_sockets::own_token;
 use std::alloc::Global;
 use std::io;
-use std::io::ErrorKind;
+use std::marker::Model;
 use std::net::{Net, SocketAddr};
 use std::random::RandomSource;
 
 /// Connections to the desks 1 to 5 over TCP, whose sockets a poll tells of. With a key they are
-/// sealed, and each has new random bytes.
+/// sealed under it, and each has new random bytes.
+///
+/// A contract sees the key.
 #[derive(Drop)]
 pub struct SocketWires<'a, R> {
     system: &'a R,
     alloc: Global,
     registry: Registry,
-    key: Option<[u8; 32]>,
-    /// The connection to each desk, in the place of the desk's number.
-    desks: [DeskWire; 6],
+    wires: HallWires,
+}
+
+impl<'a, R> Model for SocketWires<'a, R> {
+    ghost use Rattle.mio_sockets.specs.Keying.{WiresOf};
+
+    ghost Value = { WiresOf };
+
+    ghost view = { λ w. w.wires };
 }
 
 impl<'a, R: Net + RandomSource> SocketWires<'a, R> {
@@ -37,31 +48,34 @@ impl<'a, R: Net + RandomSource> SocketWires<'a, R> {
         registry: Registry,
         hall: u32,
         key: Option<[u8; 32]>,
-    ) -> SocketWires<'a, R> {
-        let wire = |desk: u8| DeskWire::new(Asking { alloc, hall, desk }, key.is_some());
+    ) -> SocketWires<'a, R>
+        ensures { result ≡ wires_of key }
+    {
         SocketWires {
             system,
             alloc,
             registry,
-            key,
-            desks: [wire(0), wire(1), wire(2), wire(3), wire(4), wire(5)],
+            wires: HallWires::new(alloc, hall, key),
         }
     }
 
     /// A connection that is being opened.
-    fn connect(&self, desk: u8, address: SocketAddr) -> io::Result<KeyedStream> {
-        let random = match self.key {
+    fn connect(&self, desk: u8, address: SocketAddr) -> io::Result<KeyedStream>
+        ensures { IfOk result (λ stream. key_of stream ≡ self.now.key) }
+    {
+        let key = self.wires.key();
+        let random = match key {
             Some(_) => drawn(self.system)?,
             None => [0; 16],
         };
-        let call = Call::new(self.alloc, self.key, random)?;
+        let call = Call::new(self.alloc, key, random)?;
         let mut stream = TcpStream::connect(self.system, address)?;
         // It only makes frames slower where it is refused.
         let _ = stream.set_nodelay(true);
         let interest = Interest::READABLE | Interest::WRITABLE;
         self.registry
-            .register(&mut stream, desk_token(desk), interest)?;
-        Ok(KeyedStream::new(stream, call, self.key.is_some()))
+            .register(&mut stream, own_token(desk), interest)?;
+        Ok(KeyedStream::new(stream, call, key.is_some()))
     }
 }
 
@@ -73,47 +87,40 @@ impl<R: Net + RandomSource> Wires for SocketWires<'_, R> {
 
     ghost looked = { λ _. None };
 
-    fn begin(&mut self, desk: u8, address: SocketAddr) -> bool {
+    fn begin(&mut self, desk: u8, address: SocketAddr) -> bool
+        ensures { self.new ≡ self.old }
+    {
         let connected = self.connect(desk, address);
-        match self.desks.get_mut(usize::from(desk)) {
-            Some(wire) => wire.begin(connected),
-            None => false,
-        }
+        self.wires.begin(desk, connected)
     }
 
-    fn opening(&mut self, desk: u8) -> Opening {
-        match self.desks.get_mut(usize::from(desk)) {
-            Some(wire) => wire.opening(),
-            None => Opening::Failed,
-        }
+    fn opening(&mut self, desk: u8) -> Opening
+        ensures { self.new ≡ self.old }
+    {
+        self.wires.opening(desk)
     }
 
-    fn write(&mut self, desk: u8, bytes: &[u8]) -> Taken {
-        match self.desks.get_mut(usize::from(desk)) {
-            Some(wire) => wire.write(bytes),
-            None => Taken::Broke,
-        }
+    fn write(&mut self, desk: u8, bytes: &[u8]) -> Taken
+        requires { bytes.now ≢ [] }
+        ensures count { CountsTaken (length bytes.now) result }
+        ensures key { self.new ≡ self.old }
+    {
+        self.wires.write(desk, bytes)
     }
 
-    fn hear(&mut self, desk: u8) -> Heard {
-        match self.desks.get_mut(usize::from(desk)) {
-            Some(wire) => wire.hear(),
-            None => Heard::Broke,
-        }
+    fn hear(&mut self, desk: u8) -> Heard
+        ensures { self.new ≡ self.old }
+    {
+        self.wires.hear(desk)
     }
 
     fn trouble(&self, desk: u8) -> Trouble {
-        match self.desks.get(usize::from(desk)) {
-            Some(wire) => wire.trouble(),
-            None => Trouble::System {
-                kind: ErrorKind::NotFound,
-            },
-        }
+        self.wires.trouble(desk)
     }
 
-    fn close(&mut self, desk: u8) {
-        if let Some(wire) = self.desks.get_mut(usize::from(desk)) {
-            wire.close();
-        }
+    fn close(&mut self, desk: u8)
+        ensures { self.new ≡ self.old }
+    {
+        self.wires.close(desk);
     }
 }

@@ -1,10 +1,10 @@
 //! The connections to the other desks.
 
 ghost use Rattle.std.specs.Prelude.{◌≢◌, [], ◌∷◌, List, Option, length};
-ghost use Rattle.multiplex.specs.Happenings.{CountsTaken};
+ghost use Rattle.polled.specs.Counts.{CountsTaken};
 ghost use Rattle.mio_sockets.specs.Looking.{Listened, Look, Looked};
 ghost use Rattle.mio_sockets.specs.Wiring.{Began, Closed, Wired, taken};
-ghost use Rattle.multiplex.specs.Happenings.{Tells};
+ghost use Rattle.polled.specs.Telling.{Tells};
 
 use calls::CallTrouble;
 use multiplex::Taken;

@@ -6,13 +6,13 @@ use Rattle.std.proofs.Common.{Option, None, Some, Bool, true, false, arith, IsTr
 use Rattle.std.proofs.lemmas.Bool.{eqb-false, ltb-false}
 use Rattle.std.proofs.lemmas.List.{reverse-append}
 use Rattle.std.specs.Prelude.{map}
-use Rattle.multiplex.specs.Happenings.{Tells}
+use Rattle.polled.specs.Telling.{Tells}
 use Rattle.multiplex.specs.Musts.{Accepts, Admits, Attends, IsMove, MakesPlace}
 use Rattle.multiplex.specs.Musts.{AsksUntil, Ends, Follows, GoesOn, Musts, NoneIsSilent, Stand}
 use Rattle.multiplex.specs.Musts.{ends_of, has_more, joined, left_at, wait_by}
 use Rattle.multiplex.specs.Requests.{Asks, Request, Accepting, Closing, Waited, Watching}
 use Rattle.multiplex.specs.declared.clients.Accepted.TheVariants as accepted_is
-use Rattle.multiplex.specs.declared.clients.Ready.{Ready}
+use Rattle.polled.specs.declared.answers.Ready.{Ready}
 use Rattle.multiplex.specs.declared.ends.Over.{Over}
 use Rattle.multiplex.specs.declared.ends.Why.{Why}
 use Rattle.multiplex.specs.declared.table.Guest.{Guest}
@@ -23,7 +23,7 @@ use Rattle.multiplex.specs.model.Asking.{IsEndsOf, MayClose}
 use Rattle.multiplex.specs.model.Tables.{has_number, is_silent}
 use Rattle.multiplex.proofs.Placed.{all_as, nowhere}
 use Rattle.multiplex.proofs.Shutting.{at_place}
-use Rattle.multiplex.proofs.Telling.{Tells-as, Tells-nil, Tells-trans}
+use Rattle.polled.proofs.Telling.{Tells-as, Tells-nil, Tells-trans}
 use Rattle.multiplex.proofs.Visits.{About}
 
 pub asks_none : {C : Type 0} (requests : C → Option (List Request)) (c : C)

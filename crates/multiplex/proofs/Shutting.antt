@@ -9,7 +9,8 @@ use Rattle.wire.specs.declared.values.Version.{Version}
 use Rattle.guarded.specs.Guarding.{fresh_guard}
 use Rattle.sealed.specs.declared.callers.Doors.{Doors}
 use Rattle.std.specs.List.{AllByRecursion}
-use Rattle.multiplex.specs.Happenings.{Happened, Tells, Came, Closed, Full}
+use Rattle.polled.specs.Telling.{Tells}
+use Rattle.multiplex.specs.Happenings.{Happened, Came, Closed, Full}
 use Rattle.multiplex.specs.Passing.{Change, Changes, Comes, Lobby, NoSocket, Shut, TurnedAway}
 use Rattle.multiplex.specs.Passing.{Enters, IsCause, Settled, guest, lobby, told_change}
 use Rattle.multiplex.specs.declared.ends.Over.{Over}
@@ -25,7 +26,8 @@ use Rattle.multiplex.specs.model.Scenes.{lobby_of}
 use Rattle.multiplex.specs.model.Tables.{AreKept, IsKept, IsLongestAt, KeepsAll, KeepsKept}
 use Rattle.multiplex.specs.model.Tables.{MakesRoom, is_silent}
 use Rattle.multiplex.proofs.Placed.{all_back, all_both, all_front}
-use Rattle.multiplex.proofs.Telling.{Tells-as, Tells-trans, changes_told_both}
+use Rattle.polled.proofs.Telling.{Tells-as, Tells-trans}
+use Rattle.multiplex.proofs.Telling.{changes_told_both}
 
 pub lobby_same : {gs hs : List Guest} {n m s t : ℕ} {w v : OwnTicks} {o p : Option Over}
     → gs ≡ hs → n ≡ m → s ≡ t → w ≡ v → o ≡ p → lobby gs n s w o ≡ lobby hs m t v p

@@ -12,7 +12,8 @@ use Rattle.serving.specs.OwnTicks.{sides_alone, unanswered}
 use Rattle.serving.specs.Sessions.{outside}
 use Rattle.store.specs.declared.home.Home.{Home}
 use Rattle.wire.specs.declared.values.Version.{Version}
-use Rattle.multiplex.specs.Happenings.{Happened, Tells, Named, Round}
+use Rattle.polled.specs.Telling.{Tells}
+use Rattle.multiplex.specs.Happenings.{Happened, Named, Round}
 use Rattle.multiplex.specs.Passing.{Change, Changed, Clock, IsStop, Lobby, Pass, Room, Step, Stops}
 use Rattle.multiplex.specs.Passing.{Ticked, TicksBy, empty_lobby, first_ticks, lobby, shown}
 use Rattle.multiplex.specs.Passing.{ticks_after, ticks_at, told_all, told_change, told_over}
@@ -27,7 +28,8 @@ use Rattle.multiplex.specs.Scenes.{Scene, Serves, in_room, scene}
 use Rattle.multiplex.specs.model.Scenes.{room_of, told_changes}
 use Rattle.multiplex.specs.model.Ticks.{Desks, HasTicked, MayTick, desks}
 use Rattle.multiplex.proofs.Shutting.{lobby_same}
-use Rattle.multiplex.proofs.Telling.{Tells-as, Tells-nil, Tells-trans, all_told_both}
+use Rattle.polled.proofs.Telling.{Tells-as, Tells-nil, Tells-trans}
+use Rattle.multiplex.proofs.Telling.{all_told_both}
 
 pub Pass-trans : {V : Type 0} {way : Way V} (home : Home) (t : Terms) (a m b : Room way)
     (ss rs : List Step) → Pass home t a ss m → Pass home t m rs b → Pass home t a (ss ++ rs) b

@@ -1,28 +1,9 @@
 -- What is told, one after the other.
-use Rattle.std.proofs.Common.{◌≡◌, refl, sym, ap, subst, ◌∙◌, ℕ, List, [], ◌∷◌, ◌++◌, append_assoc}
-use Rattle.std.proofs.Common.{append-nil, Option, None, Some}
+use Rattle.std.proofs.Common.{◌≡◌, refl, sym, ap, ◌∙◌, ℕ, List, [], ◌∷◌, ◌++◌, append_assoc}
 use Rattle.serving.specs.TurnLaw.{Came, Began, Rested, Took, Turn}
-use Rattle.multiplex.specs.Happenings.{Gave, Tells, Took as TookSome}
+use Rattle.multiplex.specs.Happenings.{Gave, Took as TookSome}
 use Rattle.multiplex.specs.Passing.{Step, told, told_all, told_change, told_turns, Change}
 use Rattle.multiplex.specs.model.Scenes.{told_changes}
-
-pub Tells-nil : {A : Type 0} (a : Option (List A)) → Tells a a []
-Tells-nil None = tt
-Tells-nil (Some xs) = sym (append-nil xs)
-
-pub Tells-trans : {A : Type 0} (a b c : Option (List A)) (xs ys : List A) → Tells a b xs
-    → Tells b c ys → Tells a c (xs ++ ys)
-Tells-trans None b None xs ys h k = tt
-Tells-trans (Some ks) b None xs ys h k = tt
-Tells-trans None None (Some cs) xs ys h k = absurd k
-Tells-trans None (Some bs) (Some cs) xs ys h k = absurd h
-Tells-trans (Some ks) None (Some cs) xs ys h k = absurd k
-Tells-trans {A} (Some ks) (Some bs) (Some cs) xs ys h k =
-    k ∙ ap (λ (t : List A). t ++ ys) h ∙ append_assoc ks xs ys
-
-pub Tells-as : {A : Type 0} (a b : Option (List A)) (xs ys : List A) → xs ≡ ys → Tells a b xs
-    → Tells a b ys
-Tells-as {A} a b xs ys is h = subst (λ (t : List A). Tells a b t) is h
 
 pub turns_both : (k : ℕ) (ts us : List Turn)
     → told_turns k (ts ++ us) ≡ told_turns k ts ++ told_turns k us

@@ -3,6 +3,7 @@ use Rattle.std.proofs.Common.{◌≡◌, ◌≢◌, refl, sym, ap, subst, ◌∙
 use Rattle.std.proofs.Common.{append_assoc, length, take, drop, get_or, set, suc, Option, None}
 use Rattle.std.proofs.Common.{Some}
 use Rattle.std.proofs.Common.{true, false, position, arith, ◌<◌}
+use Rattle.std.specs.Vec.{with_item}
 use Rattle.std.proofs.lemmas.Bool.{eqb-false, eqb-true}
 use Rattle.std.proofs.lemmas.List.Quantifiers.{position-Some}
 use Rattle.std.proofs.lemmas.List.{set_split}
@@ -12,7 +13,8 @@ use Rattle.serving.specs.TurnLaw.{Turn}
 use Rattle.guarded.specs.GuardTurns.{Follow}
 use Rattle.store.specs.declared.home.Home.{Home}
 use Rattle.wire.specs.declared.values.Version.{Version}
-use Rattle.multiplex.specs.Happenings.{Happened, Tells, Closed}
+use Rattle.polled.specs.Telling.{Tells}
+use Rattle.multiplex.specs.Happenings.{Happened, Closed}
 use Rattle.multiplex.specs.Passing.{Changed, Lobby, Stray, Takes, Visit, lobby}
 use Rattle.multiplex.specs.Passing.{over_after, over_by, staying, told_turns, told_why}
 use Rattle.multiplex.specs.declared.ends.Over.{Over}
@@ -28,7 +30,7 @@ use Rattle.multiplex.specs.model.Tables.{AreKept, IsKept, has_number}
 use Rattle.multiplex.specs.model.Visiting.{place_at}
 use Rattle.multiplex.proofs.Placed.{all_as, all_back, all_both, all_front, nowhere, split_at}
 use Rattle.multiplex.proofs.Shutting.{all_but, lobby_same}
-use Rattle.multiplex.proofs.Telling.{Tells-as, Tells-nil, Tells-trans}
+use Rattle.polled.proofs.Telling.{Tells-as, Tells-nil, Tells-trans}
 
 -- ---- nobody has the number
 
@@ -290,4 +292,37 @@ stands home wire k table place old found is kept =
       within = here.0;
       number = eqb-true old.number k (subst (λ z. has_number k z ≡ true) (sym is) here.1);
       same = both.0.wire;
+    }
+
+-- that client, and the table about it before its turns and behind them
+pub record Met (wire : Version) (k : ℕ) (table : Table) (place : ℕ) (old new : Guest) : Type 0 where
+  pub before : List Guest
+  pub after : List Guest
+  pub split : About table place old new before after
+  pub number : old.number ≡ k
+  pub same : old.talk.talk.wire ≡ wire
+
+pub met : (home : Home) (wire : Version) (k : ℕ) (table : Table) (place : ℕ) (old new : Guest)
+    → position (has_number k) table.guests.items ≡ Some place
+    → old ≡ get_or table.guests.items place old → AreKept home wire table.guests.items
+    → Met wire k table place old new
+met home wire k table place old new found is kept =
+    let at = stands home wire k table place old found is kept in
+    let split = about table place old new at.within is in
+    record {
+      before = split.0;
+      after = split.1;
+      split = split.2;
+      number = at.number;
+      same = at.same;
+    }
+
+-- the table with the client behind its turns
+abbrev pub turned : Table → ℕ → Guest → Table
+turned table place new =
+    record {
+      guests = with_item table.guests place new;
+      next = table.next;
+      time = table.time;
+      own = table.own;
     }

@@ -15,14 +15,16 @@ use Rattle.guarded.specs.Guarding.{Advances, Answers, Guarding, IsDone, IsFree, 
 use Rattle.guarded.specs.Guarding.{WantsRead, after_sent, moment}
 use Rattle.guarded.specs.GuardTurns.{Follow, Place}
 use Rattle.wire.specs.declared.fault.WireFault.{WireFault}
-use Rattle.multiplex.specs.Happenings.{Happened, Tells, Gave, Took}
+use Rattle.polled.specs.Telling.{Tells}
+use Rattle.multiplex.specs.Happenings.{Happened, Gave, Took}
 use Rattle.multiplex.specs.Passing.{IsFate, Settled, pieces, told_turns, told_why}
 use Rattle.multiplex.specs.declared.ends.Why.{Why}
 use Rattle.multiplex.specs.declared.ends.Why.TheVariants as why
 use Rattle.multiplex.specs.model.Visiting.{Goes, Moves, Reads, Sends, SettledOrDone, Spot}
 use Rattle.multiplex.specs.model.Visiting.{broken}
 use Rattle.multiplex.specs.model.Visiting.{place_at, spot}
-use Rattle.multiplex.proofs.Telling.{Tells-as, Tells-nil, Tells-trans, turns_both}
+use Rattle.polled.proofs.Telling.{Tells-as, Tells-nil, Tells-trans}
+use Rattle.multiplex.proofs.Telling.{turns_both}
 
 pub Follow-trans : {V : Type 0} {way : Way V} (a m b : Place way) (ts us : List Turn)
     → Follow a ts m → Follow m us b → Follow a (ts ++ us) b

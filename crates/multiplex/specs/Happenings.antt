@@ -1,14 +1,13 @@
 -- What comes of many clients, where it is told.
-use Rattle.std.specs.Prelude.{◌≡◌, ◌≤◌, ℕ, Bool, true, false, List, [], ◌∷◌, ◌++◌, take}
-use Rattle.std.specs.Prelude.{Option, None, Some, ⊤}
-use Rattle.multiplex.specs.declared.clients.Ready.{Ready}
-use Rattle.multiplex.specs.declared.clients.Ready.TheVariants as ready_is
+use Rattle.std.specs.Prelude.{ℕ, Bool, true, false, List, [], ◌∷◌, take}
+use Rattle.polled.specs.declared.answers.Ready.{Ready}
+use Rattle.polled.specs.declared.answers.Ready.TheVariants as ready_is
 use Rattle.multiplex.specs.declared.clients.Accepted.{Accepted}
 use Rattle.multiplex.specs.declared.clients.Accepted.TheVariants as accepted_is
-use Rattle.multiplex.specs.declared.clients.Given.{Given}
-use Rattle.multiplex.specs.declared.clients.Given.TheVariants as given_is
-use Rattle.multiplex.specs.declared.clients.Taken.{Taken}
-use Rattle.multiplex.specs.declared.clients.Taken.TheVariants as taken_is
+use Rattle.polled.specs.declared.answers.Given.{Given}
+use Rattle.polled.specs.declared.answers.Given.TheVariants as given_is
+use Rattle.polled.specs.declared.answers.Taken.{Taken}
+use Rattle.polled.specs.declared.answers.Taken.TheVariants as taken_is
 
 -- A client is named by the number under which it was accepted.
 pub data Happened : Type 0 where
@@ -31,16 +30,9 @@ pub data Happened : Type 0 where
   -- the system doesn't tell what is ready any more
   Failed : Happened
 
--- what happened grows by these, in order; who tells it may stop, and never begins
-abbrev pub Tells : {A : Type 0} → Option (List A) → Option (List A) → List A → Type 0
-Tells None None more = ⊤
-Tells (Some xs) None more = ⊤
-Tells None (Some ys) more = ⊥
-Tells (Some xs) (Some ys) more = ys ≡ xs ++ more
-
 abbrev pub ready : Ready → List Happened
 ready ready_is.Waits = []
-ready (ready_is.Client k) = Named k ∷ []
+ready (ready_is.Peer k) = Named k ∷ []
 ready (ready_is.Round now) = Round now ∷ []
 ready ready_is.Failed = Failed ∷ []
 
@@ -69,15 +61,3 @@ watched k false = Broke k ∷ []
 
 abbrev pub closed : ℕ → List Happened
 closed k = Closed k ∷ []
-
--- a read gives at least one byte, and at most as many as the buffer holds
-abbrev pub CountsGiven : ℕ → Given → Type 0
-CountsGiven most (given_is.Bytes count) = (1 ≤ count) × (count ≤ most)
-CountsGiven most given_is.Later = Unit {0}
-CountsGiven most given_is.Ended = Unit {0}
-CountsGiven most given_is.Broke = Unit {0}
-
-abbrev pub CountsTaken : ℕ → Taken → Type 0
-CountsTaken most (taken_is.Bytes count) = (1 ≤ count) × (count ≤ most)
-CountsTaken most taken_is.Later = Unit {0}
-CountsTaken most taken_is.Broke = Unit {0}

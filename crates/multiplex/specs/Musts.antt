@@ -5,12 +5,12 @@ use Rattle.std.specs.Prelude.{Option, None, Some, Bool, true, false, IfSome}
 use Rattle.std.specs.List.{AllByRecursion}
 use Rattle.multiplex.specs.Requests.{Request, Waited, Accepting, Reading, Writing, Watching}
 use Rattle.multiplex.specs.Requests.{Closing}
-use Rattle.multiplex.specs.declared.clients.Ready.{Ready}
-use Rattle.multiplex.specs.declared.clients.Ready.TheVariants as ready_is
+use Rattle.polled.specs.declared.answers.Ready.{Ready}
+use Rattle.polled.specs.declared.answers.Ready.TheVariants as ready_is
 use Rattle.multiplex.specs.declared.clients.Accepted.{Accepted}
 use Rattle.multiplex.specs.declared.clients.Accepted.TheVariants as accepted_is
-use Rattle.multiplex.specs.declared.clients.Given.{Given}
-use Rattle.multiplex.specs.declared.clients.Taken.{Taken}
+use Rattle.polled.specs.declared.answers.Given.{Given}
+use Rattle.polled.specs.declared.answers.Taken.{Taken}
 use Rattle.multiplex.specs.declared.ends.Over.{Over}
 use Rattle.multiplex.specs.declared.ends.Over.TheVariants as over_is
 use Rattle.multiplex.specs.declared.own_ticks.OwnTicks.{OwnTicks}
@@ -134,7 +134,7 @@ pub record EndsRound (t : Terms) (now : ℕ) (over : Option Over) (new : Table)
 abbrev pub Follows : Terms → Option Over → Table → Table → Option (List ℕ) → Ready → List Request
     → Type 0
 Follows t over old new kept ready_is.Waits more = Admits t over old more
-Follows t over old new kept (ready_is.Client k) more =
+Follows t over old new kept (ready_is.Peer k) more =
     Attends k old.guests.items new.guests.items more
 Follows t over old new kept (ready_is.Round now) more = EndsRound t now over new kept
 Follows t over old new kept ready_is.Failed more = (over ≡ Some over_is.Failed) × (more ≡ [])

@@ -15,7 +15,8 @@ use Rattle.serving.specs.OwnTicks.{Ticks, TicksInPart, unanswered}
 use Rattle.serving.specs.TurnLaw.{Came as CameIn, Began, Rested, Took as TookOf, Turn}
 use Rattle.ticking.specs.Ticking.{Look, Ticking, after, is_due, look, new_ticker}
 use Rattle.multiplex.specs.Happenings.{Happened, Round, Came, Full, Named, Gave, Took, Ended, Broke}
-use Rattle.multiplex.specs.Happenings.{Closed, Failed, Tells}
+use Rattle.polled.specs.Telling.{Tells}
+use Rattle.multiplex.specs.Happenings.{Closed, Failed}
 use Rattle.multiplex.specs.declared.ends.ServedEach.{ServedEach}
 use Rattle.multiplex.specs.declared.ends.Over.{Over}
 use Rattle.multiplex.specs.declared.ends.Over.TheVariants as over

@@ -1,24 +1,14 @@
 //! Many clients at once, over sockets that never make anybody wait.
 
 ghost use Rattle.std.specs.Prelude.{◌≢◌, [], ◌∷◌, List, Option, length};
-ghost use Rattle.multiplex.specs.Happenings.{Happened, Tells, accepted, closed, given, ready};
-ghost use Rattle.multiplex.specs.Happenings.{CountsGiven, CountsTaken, taken, watched};
+ghost use Rattle.polled.specs.Counts.{CountsGiven, CountsTaken};
+ghost use Rattle.polled.specs.Telling.{Tells};
+ghost use Rattle.multiplex.specs.Happenings.{Happened, accepted, closed, given, ready, taken};
+ghost use Rattle.multiplex.specs.Happenings.{watched};
 ghost use Rattle.multiplex.specs.Requests.{Request, Waited, Accepting, Reading, Writing, Watching};
 ghost use Rattle.multiplex.specs.Requests.{Closing};
 
-/// What can be done next without waiting.
-#[derive(Clone, Copy, PartialEq, Eq, Debug)]
-pub enum Ready {
-    /// A client may wait to be accepted.
-    Waits,
-    /// The client with this number may have something to be read, may take bytes, or has gone.
-    Client { number: u64 },
-    /// A round is over: each socket that was ready has been named. It is so many milliseconds after
-    /// the first round.
-    Round { now: u64 },
-    /// The system doesn't tell what is ready any more.
-    Failed,
-}
+use polled::{Given, Ready, Taken};
 
 /// What came of accepting a client.
 #[derive(Clone, Copy, PartialEq, Eq, Debug)]
@@ -29,30 +19,6 @@ pub enum Accepted {
     Nobody,
     /// The system has no more sockets.
     Full,
-}
-
-/// What came of a read.
-#[derive(Clone, Copy, PartialEq, Eq, Debug)]
-pub enum Given {
-    /// So many bytes were read, at least 1.
-    Bytes { count: usize },
-    /// There is nothing to be read now.
-    Later,
-    /// The client has sent all that it will send.
-    Ended,
-    /// The read failed.
-    Broke,
-}
-
-/// What came of a write.
-#[derive(Clone, Copy, PartialEq, Eq, Debug)]
-pub enum Taken {
-    /// So many of the bytes were taken, at least 1.
-    Bytes { count: usize },
-    /// The client can take nothing now.
-    Later,
-    /// The write failed.
-    Broke,
 }
 
 /// The clients of a desk, each by the number under which it was accepted, and their sockets. No

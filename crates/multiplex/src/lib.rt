@@ -12,9 +12,10 @@ mod steps;
 mod table;
 mod turns;
 
-pub use clients::{Accepted, Clients, Given, Ready, Taken};
+pub use clients::{Accepted, Clients};
 pub use driven::Rounds;
 pub use ends::{Over, ServedEach, Why};
 pub use links::Links;
+pub use polled::{Given, Ready, Taken};
 pub use serving_each::serve_each;
 pub use table::Terms;

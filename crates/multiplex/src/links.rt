@@ -1,7 +1,7 @@
 //! The other desks of a hall, over links that never make anybody wait.
 
 ghost use Rattle.std.specs.Prelude.{◌≡◌, ◌∷◌, [], ℕ, List, Option};
-ghost use Rattle.multiplex.specs.Happenings.{Tells};
+ghost use Rattle.polled.specs.Telling.{Tells};
 
 use serving::Peers;
 

@@ -10,13 +10,14 @@ ghost use Rattle.multiplex.specs.model.Tables.{AreKept, KeepsAll};
 ghost use Rattle.multiplex.specs.model.Scenes.{Does, DoesRound};
 ghost use Rattle.multiplex.specs.Scenes.{Serves, scene};
 
-use crate::clients::{Clients, Ready};
+use crate::clients::Clients;
 use crate::ends::{Over, ServedEach};
 use crate::links::Links;
 use crate::own_ticks::OwnTicks;
 use crate::steps::{admit, let_all_go, let_go, visit};
 use crate::table::{Table, Terms};
 use answers::Desk;
+use polled::Ready;
 use std::alloc::Global;
 use ticking::Period;
 
@@ -87,7 +88,7 @@ pub(crate) fn step<D: Desk, C: Clients, L: Links>(
 {
     match clients.ready(wait_of(links, &table.own, table.time)) {
         Ready::Waits => admit(alloc, table, terms, clients, node),
-        Ready::Client { number } => visit(table, terms, number, clients, node, links),
+        Ready::Peer { number } => visit(table, terms, number, clients, node, links),
         Ready::Round { now } => end_round(alloc, table, terms, now, clients, node, links),
         Ready::Failed => Some(Over::Failed),
     }

@@ -9,10 +9,11 @@ ghost use Rattle.multiplex.specs.model.Asking.{AsksMove, AsksSome, BeginsWithMov
 ghost use Rattle.multiplex.specs.model.Visiting.{Goes, Moves, Reads, Sends, SettledOrDone, TalksOn};
 ghost use Rattle.multiplex.specs.model.Visiting.{broken, spot};
 
-use crate::clients::{Clients, Given, Taken};
+use crate::clients::Clients;
 use crate::ends::Why;
 use answers::Desk;
 use guarded::Guard;
+use polled::{Given, Taken};
 use serving::Peers;
 
 /// Writes once what is to be sent. False: the write failed.

@@ -2,11 +2,7 @@
 //! anybody wait.
 #![tactic(auto)]
 
-mod agenda;
 mod browser_sockets;
-mod outcomes;
-mod streams;
-mod tokens;
 
 pub use browser_sockets::BrowserSockets;
-pub use tokens::own_token;
+pub use polled_sockets::own_token;

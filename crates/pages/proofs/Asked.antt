@@ -2,23 +2,23 @@
 use Rattle.std.proofs.Common.{◌≡◌, ◌+◌, refl, sym, ap, subst, ◌∙◌, ℕ, List, [], ◌∷◌, ◌++◌, Option}
 use Rattle.std.proofs.Common.{append_assoc, append-nil, length, length-append}
 use Rattle.pages.specs.Asking.{AsksSteps, StepsBy}
-use Rattle.pages.specs.Happenings.{Tells}
+use Rattle.polled.specs.Telling.{Tells}
 use Rattle.pages.specs.Musts.{AsksRound, Ends, GoesOn, joined}
 use Rattle.pages.specs.Requests.{Asks, Request}
 use Rattle.pages.specs.declared.table.Step.TheVariants as step_is
 use Rattle.pages.specs.declared.table.Table.{Table}
-use Rattle.pages.proofs.Moving.{Tells-none, Tells-then}
+use Rattle.polled.proofs.Telling.{Tells-nil, Tells-trans}
 
 module _ {C : Type 0} (requests : C → Option (List Request)) where
   pub asks_none : (c : C) (P : List Request → Type 0) → P [] → Asks requests c c P
-  asks_none c P p = ([], Tells-none (requests c), p)
+  asks_none c P p = ([], Tells-nil (requests c), p)
 
   pub asks_both : (c between later : C) (P Q R : List Request → Type 0)
       → ((xs ys : List Request) → P xs → Q ys → R (xs ++ ys))
       → Asks requests c between P → Asks requests between later Q → Asks requests c later R
   asks_both c between later P Q R both h k = (
     h.0 ++ k.0,
-    Tells-then (requests c) (requests between) (requests later) h.0 k.0 h.1 k.1,
+    Tells-trans (requests c) (requests between) (requests later) h.0 k.0 h.1 k.1,
     both h.0 k.0 h.2 k.2,
   )
 
@@ -33,7 +33,7 @@ module _ {C : Type 0} (requests : C → Option (List Request)) where
       → Asks requests c later Q
   asks_after c between later one P Q more told h = (
     one ∷ h.0,
-    Tells-then (requests c) (requests between) (requests later) (one ∷ []) h.0 told h.1,
+    Tells-trans (requests c) (requests between) (requests later) (one ∷ []) h.0 told h.1,
     more h.0 h.2,
   )
 

@@ -12,7 +12,10 @@ use Rattle.pages.specs.Requests.{Closing, Request}
 use Rattle.pages.specs.declared.table.Browser.{Browser}
 use Rattle.pages.specs.declared.table.Table.{Table}
 
-map_both : (xs ys : List ℕ) → map Closing (xs ++ ys) ≡ map Closing xs ++ map Closing ys
+abbrev closed : List ℕ → List Request
+closed ks = map Closing ks
+
+map_both : (xs ys : List ℕ) → closed (xs ++ ys) ≡ closed xs ++ closed ys
 map_both [] ys = refl
 map_both (x ∷ xs) ys = ap (λ (t : List Request). Closing x ∷ t) (map_both xs ys)
 

@@ -1,27 +1,15 @@
 -- What moves at one browser, one move after the other.
-use Rattle.std.proofs.Common.{◌≡◌, ◌≢◌, ℕ, List, [], ◌∷◌, ◌++◌, Option, Some, None, Bool, true}
+use Rattle.std.proofs.Common.{◌≡◌, ◌≢◌, ℕ, List, [], ◌∷◌, ◌++◌, Option, Bool, true}
 use Rattle.std.proofs.Common.{if◌then◌else◌, ◌==◌, subst, refl, sym, ap, ◌∙◌, append_assoc}
 use Rattle.std.proofs.Common.{append-nil, length, take, ◌≤◌}
 use Rattle.std.proofs.lemmas.Grind.{flat_map-append}
 use Rattle.std.proofs.lemmas.List.{take-take}
 use Rattle.std.proofs.lemmas.Bool.{ne_eqb, eq-eqb}
 use Rattle.http_server.specs.History.{History}
-use Rattle.pages.specs.Happenings.{Happened, Gave, Ended, Took, Tells, gave, took, gave_at, took_at}
+use Rattle.polled.specs.Telling.{Tells}
+use Rattle.pages.specs.Happenings.{Happened, Gave, Ended, Took, gave, took, gave_at, took_at}
 use Rattle.pages.specs.Turns.{Hears, Moves, Moved}
-
-pub Tells-none : {A : Type 0} (a : Option (List A)) → Tells a a []
-Tells-none None = tt
-Tells-none (Some xs) = sym (append-nil xs)
-
-pub Tells-then : {A : Type 0} (a b c : Option (List A)) (xs ys : List A) → Tells a b xs
-    → Tells b c ys → Tells a c (xs ++ ys)
-Tells-then None None None xs ys x y = tt
-Tells-then None None (Some cs) xs ys x y = absurd y
-Tells-then None (Some bs) c xs ys x y = absurd x
-Tells-then (Some ws) b None xs ys x y = tt
-Tells-then (Some ws) None (Some cs) xs ys x y = absurd y
-Tells-then {A} (Some ws) (Some bs) (Some cs) xs ys x y =
-    y ∙ ap (λ (t : List A). t ++ ys) x ∙ append_assoc ws xs ys
+use Rattle.polled.proofs.Telling.{Tells-nil, Tells-trans}
 
 pub gave-append : (k : ℕ) (xs ys : List Happened) → gave k (xs ++ ys) ≡ gave k xs ++ gave k ys
 gave-append k xs ys = flat_map-append (gave_at k) xs ys
@@ -72,7 +60,7 @@ Moved-none k goes a b old new told received sent =
 pub Moved-same : (k : ℕ) (goes : Bool) (a : Option (List Happened)) (old new : History)
     → new.received ≡ old.received → new.sent ≡ old.sent → Moved k goes a a old new
 Moved-same k goes a old new received sent =
-    Moved-none k goes a a old new (Tells-none a) received sent
+    Moved-none k goes a a old new (Tells-nil a) received sent
 
 pub Moved-then : (k : ℕ) (goes : Bool) (a b c : Option (List Happened)) (old mid new : History)
     → Moved k true a b old mid → Moved k goes b c mid new → Moved k goes a c old new
@@ -81,7 +69,7 @@ Moved-then k goes a b c old mid new x y =
     let first : Moves k x.0 old mid [] = subst (λ (t : List ℕ). Moves k x.0 old mid t) none x.3 in (
       x.0 ++ y.0,
       y.1,
-      Tells-then a b c x.0 y.0 x.2 y.2,
+      Tells-trans a b c x.0 y.0 x.2 y.2,
       Moves-then k x.0 y.0 old mid new y.1 first y.3,
       y.4,
     )

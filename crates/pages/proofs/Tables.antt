@@ -8,13 +8,16 @@ use Rattle.http_server.specs.declared.connection.Connection.{Connection}
 use Rattle.http_server.specs.Connection.{config_of, history}
 use Rattle.http_server.specs.declared.state.Config.{Config}
 use Rattle.http_server.specs.History.{History, IsServed, new_history}
+use Rattle.polled.specs.Telling.{Tells}
 use Rattle.pages.specs.declared.table.Browser.{Browser}
+use Rattle.pages.specs.declared.table.Table.{Table}
 use Rattle.pages.specs.Browsers.{IsUntold}
 use Rattle.pages.specs.Handed.{EachIsAnswered, IsMovedAsTold}
 use Rattle.pages.specs.Happenings.{Happened, Came, closed, gave, took}
-use Rattle.pages.specs.Kept.{AreKept, IsOpen, IsTold, Places}
+use Rattle.pages.specs.Kept.{AreKept, Holds, IsOpen, IsTold, Places, places_of}
 use Rattle.pages.specs.Turns.{Moved, Turn, history_at}
-use Rattle.pages.proofs.Keeping.{AreKept-fewer, AreKept-turn, IsOpen-turn, IsQuiet, new_is_served}
+use Rattle.pages.proofs.Keeping.{AreKept-fewer, AreKept-same, AreKept-turn, IsOpen-turn, IsQuiet}
+use Rattle.pages.proofs.Keeping.{new_is_served}
 
 pub quiet_none : IsQuiet []
 quiet_none k = (refl, refl)
@@ -123,3 +126,12 @@ pub each_is_answered : (config : Config) (a : Option (List Happened)) (f : Place
     (ts : List Turn) → AreKept config a f next ts → EachIsAnswered config a ts
 each_is_answered config a f next ts x =
     λ k. record { served = x.served k; moved = moved_as_told a ts next k x.told }
+
+-- ---- where the sockets tell nothing
+
+pub holds_on : {C : Type 0} (happened : C → Option (List Happened)) (t : Table C) (sockets : C)
+    → Tells (happened t.sockets) (happened sockets) [] → Holds happened t
+    → AreKept t.terms.config (happened sockets) (places_of t) t.next t.turns.items
+holds_on happened t sockets told held =
+    AreKept-same t.terms.config (happened t.sockets) (happened sockets) [] (places_of t) t.next
+    t.turns.items told quiet_none held

@@ -9,9 +9,9 @@ use Rattle.pages.specs.Musts.{GoesOn, IsAt, IsGone, IsIn, IsLongest, IsMove, IsS
 use Rattle.pages.specs.Musts.{WasLate, came_by, has_failed, has_more, is_in_round, is_late_at}
 use Rattle.pages.specs.Musts.{is_offer, joined}
 use Rattle.pages.specs.Requests.{Request, Reading, Watching, Closing}
-use Rattle.pages.specs.declared.sockets.Given.{Given}
-use Rattle.pages.specs.declared.sockets.Ready.{Ready}
-use Rattle.pages.specs.declared.sockets.Ready.TheVariants as ready_is
+use Rattle.polled.specs.declared.answers.Given.{Given}
+use Rattle.polled.specs.declared.answers.Ready.{Ready}
+use Rattle.polled.specs.declared.answers.Ready.TheVariants as ready_is
 use Rattle.pages.specs.declared.table.Browser.{Browser}
 use Rattle.pages.specs.declared.table.Step.{Step}
 use Rattle.pages.specs.declared.table.Step.TheVariants as step

@@ -1,12 +1,11 @@
 -- What comes of the sockets of browsers, where it is told.
-use Rattle.std.specs.Prelude.{◌≡◌, ◌≤◌, ℕ, ◌==◌, if◌then◌else◌, List, [], ◌∷◌, ◌++◌, take, flat_map}
-use Rattle.std.specs.Prelude.{Option, None, Some, ⊤}
-use Rattle.pages.specs.declared.sockets.Accepted.{Accepted}
-use Rattle.pages.specs.declared.sockets.Accepted.TheVariants as accepted_is
-use Rattle.pages.specs.declared.sockets.Given.{Given}
-use Rattle.pages.specs.declared.sockets.Given.TheVariants as given_is
-use Rattle.pages.specs.declared.sockets.Taken.{Taken}
-use Rattle.pages.specs.declared.sockets.Taken.TheVariants as taken_is
+use Rattle.std.specs.Prelude.{ℕ, ◌==◌, if◌then◌else◌, List, [], ◌∷◌, take, flat_map}
+use Rattle.polled.specs.declared.answers.Accepted.{Accepted}
+use Rattle.polled.specs.declared.answers.Accepted.TheVariants as accepted_is
+use Rattle.polled.specs.declared.answers.Given.{Given}
+use Rattle.polled.specs.declared.answers.Given.TheVariants as given_is
+use Rattle.polled.specs.declared.answers.Taken.{Taken}
+use Rattle.polled.specs.declared.answers.Taken.TheVariants as taken_is
 
 -- A browser is named by the number under which it was accepted.
 pub data Happened : Type 0 where
@@ -18,13 +17,6 @@ pub data Happened : Type 0 where
   Took : ℕ → List ℕ → Happened
   -- its connection was ended
   Closed : ℕ → Happened
-
--- what is told grows by these, in order; who tells it may stop, and never begins
-abbrev pub Tells : {A : Type 0} → Option (List A) → Option (List A) → List A → Type 0
-Tells None None more = ⊤
-Tells (Some xs) None more = ⊤
-Tells None (Some ys) more = ⊥
-Tells (Some xs) (Some ys) more = ys ≡ xs ++ more
 
 abbrev pub accepted : ℕ → Accepted → List Happened
 accepted k accepted_is.Came = Came k ∷ []
@@ -46,18 +38,6 @@ taken k taken_is.Broke bytes = []
 
 abbrev pub closed : ℕ → List Happened
 closed k = Closed k ∷ []
-
--- a read gives at least one byte, and at most as many as the buffer holds
-abbrev pub CountsGiven : ℕ → Given → Type 0
-CountsGiven most (given_is.Bytes count) = (1 ≤ count) × (count ≤ most)
-CountsGiven most given_is.Later = Unit {0}
-CountsGiven most given_is.Ended = Unit {0}
-CountsGiven most given_is.Broke = Unit {0}
-
-abbrev pub CountsTaken : ℕ → Taken → Type 0
-CountsTaken most (taken_is.Bytes count) = (1 ≤ count) × (count ≤ most)
-CountsTaken most taken_is.Later = Unit {0}
-CountsTaken most taken_is.Broke = Unit {0}
 
 -- ---- of one browser
 

@@ -11,14 +11,14 @@ use Rattle.http_server.specs.History.{History, IsDone, Rests, new_history}
 use Rattle.pages.specs.Kept.{Places, places_of}
 use Rattle.pages.specs.Requests.{Request, Waited, Accepting, Reading, Writing, Watching, Closing}
 use Rattle.pages.specs.Waiting.{after, is_late, is_longer, waits}
-use Rattle.pages.specs.declared.sockets.Accepted.{Accepted}
-use Rattle.pages.specs.declared.sockets.Accepted.TheVariants as accepted_is
-use Rattle.pages.specs.declared.sockets.Given.{Given}
-use Rattle.pages.specs.declared.sockets.Given.TheVariants as given_is
-use Rattle.pages.specs.declared.sockets.Ready.{Ready}
-use Rattle.pages.specs.declared.sockets.Ready.TheVariants as ready_is
-use Rattle.pages.specs.declared.sockets.Taken.{Taken}
-use Rattle.pages.specs.declared.sockets.Taken.TheVariants as taken_is
+use Rattle.polled.specs.declared.answers.Accepted.{Accepted}
+use Rattle.polled.specs.declared.answers.Accepted.TheVariants as accepted_is
+use Rattle.polled.specs.declared.answers.Given.{Given}
+use Rattle.polled.specs.declared.answers.Given.TheVariants as given_is
+use Rattle.polled.specs.declared.answers.Ready.{Ready}
+use Rattle.polled.specs.declared.answers.Ready.TheVariants as ready_is
+use Rattle.polled.specs.declared.answers.Taken.{Taken}
+use Rattle.polled.specs.declared.answers.Taken.TheVariants as taken_is
 use Rattle.pages.specs.declared.table.Browser.{Browser}
 use Rattle.pages.specs.declared.table.Table.{Table}
 use Rattle.pages.specs.declared.waiting.Turned.{Turned}
@@ -255,7 +255,7 @@ IsFresh t = (t.browsers.entries ≡ []) × (t.next ≡ 0) × (t.now ≡ 0)
 -- what is to be done, by what is ready
 abbrev pub Follows : {C : Type 0} → Ready → Table C → Table C → List Request → Type 0
 Follows ready_is.Waits old new more = Admits old new more × (new.now ≡ old.now)
-Follows (ready_is.Browser k) old new more =
+Follows (ready_is.Peer k) old new more =
     Attends k old new more × (new.now ≡ old.now) × (new.next ≡ old.next)
 Follows (ready_is.Round now) old new more =
     EndsRound now old new more × (new.next ≡ old.next)
@@ -272,7 +272,7 @@ pub record Musts {C : Type 0} (wait : ℕ) (ready : Ready) (old new : Table C)
 -- a step after which the round goes on
 abbrev pub is_in_round : Ready → Bool
 is_in_round ready_is.Waits = true
-is_in_round (ready_is.Browser k) = true
+is_in_round (ready_is.Peer k) = true
 is_in_round (ready_is.Round now) = false
 is_in_round ready_is.Failed = false
 

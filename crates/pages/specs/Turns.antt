@@ -7,7 +7,8 @@ use Rattle.http_server.specs.declared.response.Response.{Response}
 use Rattle.http_server.specs.Connection.{history}
 use Rattle.http_server.specs.Exchange.{Calls}
 use Rattle.http_server.specs.History.{History, new_history}
-use Rattle.pages.specs.Happenings.{Happened, Tells, gave, took}
+use Rattle.polled.specs.Telling.{Tells}
+use Rattle.pages.specs.Happenings.{Happened, gave, took}
 
 -- ---- one browser
 

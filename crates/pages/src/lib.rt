@@ -9,5 +9,6 @@ mod turns;
 mod waiting;
 
 pub use browsers::Browsers;
-pub use sockets::{Accepted, Given, Ready, Sockets, Taken};
+pub use polled::{Accepted, Given, Ready, Taken};
+pub use sockets::Sockets;
 pub use table::Terms;

@@ -1,59 +1,13 @@
 //! What the sockets of browsers are: they never make anybody wait.
 
 ghost use Rattle.std.specs.Prelude.{◌≢◌, [], ◌∷◌, List, Option, length};
-ghost use Rattle.pages.specs.Happenings.{CountsGiven, CountsTaken, Happened, Tells};
-ghost use Rattle.pages.specs.Happenings.{accepted, closed, given, taken};
+ghost use Rattle.polled.specs.Counts.{CountsGiven, CountsTaken};
+ghost use Rattle.polled.specs.Telling.{Tells};
+ghost use Rattle.pages.specs.Happenings.{Happened, accepted, closed, given, taken};
 ghost use Rattle.pages.specs.Requests.{Request, Waited, Accepting, Reading, Writing, Watching};
 ghost use Rattle.pages.specs.Requests.{Closing};
 
-/// What can be done next without waiting.
-#[derive(Clone, Copy, PartialEq, Eq, Debug)]
-pub enum Ready {
-    /// A browser may wait to be accepted.
-    Waits,
-    /// The browser with this number may have something to be read, may take bytes, or has gone.
-    Browser { number: u64 },
-    /// A round is over: each socket that was ready has been named. It is so many milliseconds after
-    /// the first round.
-    Round { now: u64 },
-    /// The system doesn't tell what is ready any more.
-    Failed,
-}
-
-/// What came of accepting a browser.
-#[derive(Clone, Copy, PartialEq, Eq, Debug)]
-pub enum Accepted {
-    /// A browser came.
-    Came,
-    /// None waits, or the one that waited has gone.
-    Nobody,
-    /// The system has no more sockets.
-    Full,
-}
-
-/// What came of a read.
-#[derive(Clone, Copy, PartialEq, Eq, Debug)]
-pub enum Given {
-    /// So many bytes were read, at least 1.
-    Bytes { count: usize },
-    /// There is nothing to be read now.
-    Later,
-    /// The browser has sent all that it will send.
-    Ended,
-    /// The read failed.
-    Broke,
-}
-
-/// What came of a write.
-#[derive(Clone, Copy, PartialEq, Eq, Debug)]
-pub enum Taken {
-    /// So many of the bytes were taken, at least 1.
-    Bytes { count: usize },
-    /// The browser can take nothing now.
-    Later,
-    /// The write failed.
-    Broke,
-}
+use polled::{Accepted, Given, Ready, Taken};
 
 /// The sockets of browsers, each by the number under which it was accepted. No call but `ready`
 /// waits.

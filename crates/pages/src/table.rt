@@ -3,11 +3,12 @@
 ghost use Rattle.std.specs.Prelude.{◌≡◌, ◌<◌, ◌-◌, ◌^◌, [], ◌∷◌, IfOk, IsFalse, IsTrue};
 ghost use Rattle.pages.specs.Requests.{Closing};
 
-use crate::sockets::{Accepted, Ready, Sockets};
+use crate::sockets::Sockets;
 use crate::turns::take_turn;
 use crate::waiting::Waiting;
 use http_server::{Config, Connection, Log, Service};
 use indexmap::IndexMap;
+use polled::{Accepted, Ready};
 use std::alloc::{AllocError, Global};
 use std::hash::RandomState;
 
@@ -62,7 +63,7 @@ impl<C: Sockets> Table<C> {
     ghost use Rattle.pages.specs.Musts.{Accepts, Admits, AsksRound, Attends, EndsRound, GivesPlace};
     ghost use Rattle.pages.specs.Musts.{LetsLongestGo, MakesRoom};
     ghost use Rattle.pages.specs.Requests.{Asks};
-    ghost use Rattle.pages.specs.declared.sockets.Accepted.TheVariants as accepted_is;
+    ghost use Rattle.polled.specs.declared.answers.Accepted.TheVariants as accepted_is;
 
     /// None has come yet.
     pub(crate) fn new(
@@ -318,7 +319,7 @@ impl<C: Sockets> Table<C> {
                 self.admit();
                 Step::GoesOn
             }
-            Ready::Browser { number } => {
+            Ready::Peer { number } => {
                 self.visit(number, service);
                 Step::GoesOn
             }

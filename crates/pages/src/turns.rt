@@ -9,9 +9,10 @@ ghost use Rattle.pages.specs.Requests.{Asks};
 ghost use Rattle.pages.specs.Turns.{Hears, Moved};
 ghost use Rattle.pages.specs.Waiting.{goes_on};
 
-use crate::sockets::{Given, Sockets, Taken};
+use crate::sockets::Sockets;
 use crate::waiting::Turned;
 use http_server::{Connection, Service};
+use polled::{Given, Taken};
 
 /// Writes once what is to be sent. False: the write failed.
 fn send<C: Sockets>(number: u64, connection: &mut Connection, sockets: &mut C) -> bool

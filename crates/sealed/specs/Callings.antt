@@ -2,13 +2,14 @@
 use Rattle.std.specs.Prelude.{◌≡◌, ℕ, Bool, true, false, List, [], ◌++◌, Option, None, Some}
 use Rattle.seal.specs.declared.channel.Direction.TheVariants.{ToClient, ToServer}
 use Rattle.seal.specs.declared.fault.OpenFault.{OpenFault}
+use Rattle.seal.specs.declared.fault.SealFault.{SealFault}
 use Rattle.seal.specs.Records.{key_of}
 use Rattle.seal.specs.Sealing.{Sealing}
 use Rattle.sealed.specs.declared.calling.Trouble.{Trouble}
 use Rattle.sealed.specs.declared.calling.Trouble.TheVariants.{NoKey, OtherKey}
 use Rattle.sealed.specs.Fronts.{IsPrefaced, IsShort, IsUnsealed}
 use Rattle.sealed.specs.Trials.{Hands, ReadsAll, SealsOver, comes_by}
-use Rattle.sealed.specs.Tunnels.{TunnelOf, channel_of}
+use Rattle.sealed.specs.Tunnels.{FailsAll, TunnelOf, channel_of}
 
 -- ---- what is handed on of what came, by its bytes alone
 
@@ -84,6 +85,11 @@ SendsOn None (Some u) = u.sealer ≡ first_sealing u
 SendsOn (Some t) None = ⊥
 SendsOn (Some t) (Some u) = u.sealer ≡ t.sealer
 
+-- the key and the random bytes are the same
+pub record IsSameCaller (old new : CallingOf) : Type 0 where
+  pub key : new.key ≡ old.key
+  pub random : new.random ≡ old.random
+
 -- the key and the random bytes are the same; and whatever came and was handed on before, with this
 -- piece these bytes more are
 pub record Receives (piece : List ℕ) (old new : CallingOf) (more : List ℕ) : Type 0 where
@@ -102,3 +108,11 @@ SendsBy (Some t) bytes old new sent =
 
 abbrev pub SendsTo : List ℕ → CallingOf → CallingOf → List ℕ → Type 0
 SendsTo bytes old new sent = SendsBy old.tunnel bytes old new sent
+
+-- why nothing is sent: before the desk's preface came nothing fails, since nothing is sealed
+abbrev pub FailsBy : Option TunnelOf → SealFault → List ℕ → Type 0
+FailsBy None e bytes = ⊥
+FailsBy (Some t) e bytes = FailsAll e bytes t.sealer
+
+abbrev pub FailsTo : SealFault → List ℕ → CallingOf → Type 0
+FailsTo e bytes c = FailsBy c.tunnel e bytes

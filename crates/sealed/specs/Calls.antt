@@ -1,6 +1,8 @@
 -- A desk's side of a connection: what it keeps, and what it has read.
 use Rattle.std.specs.Prelude.{◌≡◌, ℕ, Bool, true, false, List, [], ◌++◌, Option, None, Some}
 use Rattle.std.specs.Prelude.{IsSome, option_map}
+use Rattle.seal.specs.declared.fault.SealFault.{SealFault}
+use Rattle.seal.specs.declared.fault.SealFault.TheVariants.{NoMemory as Starved}
 use Rattle.sealed.specs.declared.callers.Caller.{Caller}
 use Rattle.sealed.specs.declared.callers.Caller.TheVariants.{Anyone, Passer}
 use Rattle.sealed.specs.declared.callers.Caller.TheVariants as caller
@@ -12,7 +14,8 @@ use Rattle.sealed.specs.declared.callers.Refusal.{Refusal}
 use Rattle.sealed.specs.declared.callers.Refusal.TheVariants.{Unsealed, NoMemory}
 use Rattle.sealed.specs.Admitting.{comes_under, goes_under}
 use Rattle.sealed.specs.Fronts.{IsPrefaced, IsShort, IsUnsealed}
-use Rattle.sealed.specs.Trials.{SealsFor, TrialOf, Tries, comes_by, entry_by, goes_by, over}
+use Rattle.sealed.specs.Trials.{FailsFor, SealsFor, TrialOf, Tries, comes_by, entry_by, goes_by}
+use Rattle.sealed.specs.Trials.{over}
 
 -- what the desk asks for, its random bytes, the bytes that are held until it is known what the
 -- stream is, who is let pass without a key, the keys that a sealed stream is tried with, and why
@@ -154,3 +157,15 @@ SendsBy (Some t) bytes old new sent =
 
 abbrev pub Sends : List ℕ → CalledOf → CalledOf → List ℕ → Type 0
 Sends bytes old new sent = SendsBy old.trial bytes old new sent
+
+-- why nothing is sent: to whoever is let pass for want of memory alone, and to nobody never
+abbrev pub FailsPlain : Option Caller → SealFault → Type 0
+FailsPlain None e = ⊥
+FailsPlain (Some c) e = e ≡ Starved
+
+abbrev pub FailsBy : Option TrialOf → SealFault → List ℕ → CalledOf → Type 0
+FailsBy None e bytes c = FailsPlain c.passing e
+FailsBy (Some t) e bytes c = FailsFor e bytes t
+
+abbrev pub Fails : SealFault → List ℕ → CalledOf → Type 0
+Fails e bytes c = FailsBy c.trial e bytes c

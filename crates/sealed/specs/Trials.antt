@@ -4,13 +4,14 @@ use Rattle.std.specs.Prelude.{Option, None, Some, IfSome, IsSome, option_map}
 use Rattle.seal.specs.declared.channel.Channel.{Channel}
 use Rattle.seal.specs.declared.channel.Direction.TheVariants.{ToServer}
 use Rattle.seal.specs.declared.fault.OpenFault.{OpenFault}
+use Rattle.seal.specs.declared.fault.SealFault.{SealFault}
 use Rattle.seal.specs.Records.{key_of}
 use Rattle.seal.specs.Sealing.{Sealing}
 use Rattle.seal.specs.Streams.{HandsOn, Reads}
 use Rattle.sealed.specs.declared.callers.Holder.{Holder}
 use Rattle.sealed.specs.declared.callers.Holder.TheVariants.{Hall, Entry}
 use Rattle.sealed.specs.declared.callers.Locks.{Locks}
-use Rattle.sealed.specs.Tunnels.{SealsAll, TunnelOf, fresh_tunnel}
+use Rattle.sealed.specs.Tunnels.{FailsAll, SealsAll, TunnelOf, fresh_tunnel}
 
 -- ---- what is handed on of a stream, by its bytes alone
 
@@ -127,3 +128,16 @@ SealsAs (Some Entry) bytes old new sent = SealsEntry old.entry bytes old new sen
 
 abbrev pub SealsFor : List ℕ → TrialOf → TrialOf → List ℕ → Type 0
 SealsFor bytes old new sent = SealsAs old.holder bytes old new sent
+
+-- and why they can't be: nothing fails as long as no key is chosen, since nothing is sealed
+abbrev pub FailsEntry : Option TunnelOf → SealFault → List ℕ → Type 0
+FailsEntry None e bytes = ⊥
+FailsEntry (Some t) e bytes = FailsAll e bytes t.sealer
+
+abbrev pub FailsAs : Option Holder → SealFault → List ℕ → TrialOf → Type 0
+FailsAs None e bytes t = ⊥
+FailsAs (Some Hall) e bytes t = FailsAll e bytes t.hall.sealer
+FailsAs (Some Entry) e bytes t = FailsEntry t.entry e bytes
+
+abbrev pub FailsFor : SealFault → List ℕ → TrialOf → Type 0
+FailsFor e bytes t = FailsAs t.holder e bytes t

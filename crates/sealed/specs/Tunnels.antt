@@ -1,5 +1,7 @@
 -- A sealed connection under one key.
-use Rattle.std.specs.Prelude.{◌≡◌, ℕ, ◌+◌, ◌-◌, ◌*◌, ◌<◌, ◌≤◌, List, [], length, None}
+use Rattle.std.specs.Prelude.{◌≡◌, ℕ, ◌+◌, ◌-◌, ◌*◌, ◌^◌, ◌<◌, ◌≤◌, List, [], length, None}
+use Rattle.seal.specs.declared.fault.SealFault.{SealFault}
+use Rattle.seal.specs.declared.fault.SealFault.TheVariants.{BadLength, NoNumber, NoMemory}
 use Rattle.seal.specs.declared.channel.Channel.{Channel}
 use Rattle.seal.specs.declared.channel.Direction.{Direction}
 use Rattle.seal.specs.declared.channel.Direction.TheVariants.{ToServer, ToClient}
@@ -41,3 +43,10 @@ pub record AreFew (bytes : List ℕ) (old new : Sealing) : Type 0 where
   pub grown : old.number ≤ new.number
   pub enough : length bytes ≤ 16384 * (new.number - old.number)
   pub few : 16384 * (new.number - old.number) < length bytes + 16384
+
+-- why bytes can't be sealed: more records are needed than there are numbers left, the last of which
+-- is 2^64 - 2; or memory is refused
+abbrev pub FailsAll : SealFault → List ℕ → Sealing → Type 0
+FailsAll BadLength bytes s = ⊥
+FailsAll NoNumber bytes s = 16384 * (2 ^ 64 - 1 - s.number) < length bytes
+FailsAll NoMemory bytes s = Unit {0}

@@ -1,8 +1,8 @@
 //! A desk's side of a connection.
 
-ghost use Rattle.std.specs.Prelude.{◌≡◌, ◌≢◌, [], None, Some, IfOk, IsSome, OnErr, OnOk};
+ghost use Rattle.std.specs.Prelude.{◌≡◌, ◌≢◌, [], None, Some, IfErr, IfOk, IsSome, OnErr, OnOk};
 ghost use Rattle.seal.specs.Records.{preface_of};
-ghost use Rattle.sealed.specs.Calls.{IsSameDesk, KeepsCaller, Receives, Sends, caller_of};
+ghost use Rattle.sealed.specs.Calls.{Fails, IsSameDesk, KeepsCaller, Receives, Sends, caller_of};
 ghost use Rattle.sealed.specs.Calls.{first_passing, fresh_called, is_over, is_sealed};
 ghost use Rattle.sealed.specs.Sent.{KeepsSent};
 ghost use Rattle.sealed.specs.model.Steps.{OpensAfter, Passes};
@@ -263,9 +263,12 @@ impl Called {
     /// What is sent of bytes: these themselves to whoever calls without a key, and records of them
     /// to a holder of one. As long as nobody calls nothing is sent.
     ///
-    /// After an error nothing more can be sent, since the number of a record is left out.
+    /// `NoMemory` where memory was refused, and to a holder of a key `NoNumber` where more records
+    /// are needed than there are numbers left. Then nothing more can be sent, since the number of a
+    /// record is left out.
     pub fn seal(&mut self, bytes: &[u8]) -> Result<Vec<u8>, SealFault>
         ensures sends { IfOk result (λ sent. Sends bytes.now self.old self.new sent.items) }
+        ensures fails { IfErr result (λ e. Fails e bytes.now self.old) }
         ensures same { IsSameDesk self.old self.new }
     {
         if let Some(trial) = &mut self.trial {

@@ -1,8 +1,9 @@
 //! The side of whoever calls a desk, with a key.
 
-ghost use Rattle.std.specs.Prelude.{◌≡◌, ◌↔◌, false, IfOk, IsSome, IsTrue, None};
+ghost use Rattle.std.specs.Prelude.{◌≡◌, ◌↔◌, false, IfErr, IfOk, IsSome, IsTrue, None};
 ghost use Rattle.seal.specs.Records.{preface_of};
-ghost use Rattle.sealed.specs.Callings.{Receives, SendsTo, fresh_calling, trouble_of};
+ghost use Rattle.sealed.specs.Callings.{FailsTo, IsSameCaller, Receives, SendsTo};
+ghost use Rattle.sealed.specs.Callings.{fresh_calling, trouble_of};
 ghost use Rattle.sealed.specs.model.Opening.{OpensTo};
 
 use crate::front::{Front, PREFACE, front_of, hold};
@@ -103,7 +104,9 @@ impl Calling {
 
     /// Opens the connection, after a preface with these random bytes.
     fn open(&mut self, server: &[u8; 16], rest: &[u8]) -> Result<Vec<u8>, NoMemory>
-        ensures { IfOk result (λ more. OpensTo server.now rest.now self.old self.new more.items) }
+        ensures opens { IfOk result
+            (λ more. OpensTo server.now rest.now self.old self.new more.items) }
+        ensures same { IsSameCaller self.old self.new }
     {
         let key = connection_key(&self.key, &self.random, server);
         let mut tunnel = Tunnel::new(self.alloc, key, Direction::ToClient)?;
@@ -116,7 +119,8 @@ impl Calling {
     fn begin(&mut self, piece: &[u8]) -> Result<Vec<u8>, NoMemory>
         requires unknown { self.old.unsealed ≡ false }
         requires closed { self.old.tunnel ≡ None }
-        ensures { IfOk result (λ more. Receives piece.now self.old self.new more.items) }
+        ensures receives { IfOk result (λ more. Receives piece.now self.old self.new more.items) }
+        ensures same { IsSameCaller self.old self.new }
     {
         let added = hold(&mut self.front, piece);
         let rest = &piece[added..];
@@ -136,7 +140,8 @@ impl Calling {
     /// Takes the next piece of what comes, and hands on the bytes of the records that are whole now
     /// and fit. Where memory is refused, the connection is to be ended.
     pub fn receive(&mut self, piece: &[u8]) -> Result<Vec<u8>, NoMemory>
-        ensures { IfOk result (λ more. Receives piece.now self.old self.new more.items) }
+        ensures receives { IfOk result (λ more. Receives piece.now self.old self.new more.items) }
+        ensures same { IsSameCaller self.old self.new }
     {
         if let Some(tunnel) = &mut self.tunnel {
             let handed = tunnel.feed(piece)?;
@@ -150,9 +155,12 @@ impl Calling {
 
     /// What is sent of bytes. Before the desk's preface came nothing is sent.
     ///
-    /// An error is that of [`Tunnel::seal`]: nothing more can be sent.
+    /// `NoMemory` where memory was refused, and `NoNumber` where more records are needed than there
+    /// are numbers left of 2^64 - 1. Then nothing more can be sent, since a number is left out.
     pub fn seal(&mut self, bytes: &[u8]) -> Result<Vec<u8>, SealFault>
-        ensures { IfOk result (λ sent. SendsTo bytes.now self.old self.new sent.items) }
+        ensures sends { IfOk result (λ sent. SendsTo bytes.now self.old self.new sent.items) }
+        ensures fails { IfErr result (λ e. FailsTo e bytes.now self.old) }
+        ensures same { IsSameCaller self.old self.new }
     {
         let Some(tunnel) = &mut self.tunnel else {
             return Ok(Vec::new(self.alloc));

@@ -1,7 +1,8 @@
 //! A sealed stream at a desk, whose first record tells under which of two keys it is.
 
-ghost use Rattle.std.specs.Prelude.{◌≡◌, ◌++◌, ℕ, List, IfOk, None};
-ghost use Rattle.sealed.specs.Trials.{IsSameTrial, SealsFor, Tries, entry_of, fresh_trial, over};
+ghost use Rattle.std.specs.Prelude.{◌≡◌, ◌++◌, ℕ, List, IfErr, IfOk, None};
+ghost use Rattle.sealed.specs.Trials.{FailsFor, IsSameTrial, SealsFor, Tries, entry_of};
+ghost use Rattle.sealed.specs.Trials.{fresh_trial, over};
 
 use crate::callers::{Holder, Locks};
 use crate::tunnel::Tunnel;
@@ -157,7 +158,8 @@ impl Trial {
     /// What is sent of bytes under the hall's key.
     fn seal_hall(&mut self, bytes: &[u8]) -> Result<Vec<u8>, SealFault>
         requires { self.old.holder ≡ Some Holder.Hall }
-        ensures { IfOk result (λ sent. SealsFor bytes.now self.old self.new sent.items) }
+        ensures seals { IfOk result (λ sent. SealsFor bytes.now self.old self.new sent.items) }
+        ensures fails { IfErr result (λ e. FailsFor e bytes.now self.old) }
     {
         let sent = self.hall.seal(self.alloc, bytes)?;
         Ok(sent)
@@ -166,7 +168,8 @@ impl Trial {
     /// What is sent of bytes under the entry key.
     fn seal_entry(&mut self, bytes: &[u8]) -> Result<Vec<u8>, SealFault>
         requires { self.old.holder ≡ Some Holder.Entry }
-        ensures { IfOk result (λ sent. SealsFor bytes.now self.old self.new sent.items) }
+        ensures seals { IfOk result (λ sent. SealsFor bytes.now self.old self.new sent.items) }
+        ensures fails { IfErr result (λ e. FailsFor e bytes.now self.old) }
     {
         let Some(entry) = &mut self.entry else {
             return Ok(Vec::new(self.alloc));
@@ -176,9 +179,10 @@ impl Trial {
     }
 
     /// What is sent of bytes, under the key that the stream is sealed under. Until that is known
-    /// nothing is sent.
+    /// nothing is sent, and nothing fails. An error is that of [`Tunnel::seal`].
     pub fn seal(&mut self, bytes: &[u8]) -> Result<Vec<u8>, SealFault>
-        ensures { IfOk result (λ sent. SealsFor bytes.now self.old self.new sent.items) }
+        ensures seals { IfOk result (λ sent. SealsFor bytes.now self.old self.new sent.items) }
+        ensures fails { IfErr result (λ e. FailsFor e bytes.now self.old) }
     {
         match self.holder {
             Some(Holder::Hall) => self.seal_hall(bytes),

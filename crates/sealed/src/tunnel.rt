@@ -1,8 +1,8 @@
 //! A sealed connection under one key, as one of its sides has it.
 
-ghost use Rattle.std.specs.Prelude.{◌≡◌, [], IfOk, OnErr, OnOk, Option, None};
+ghost use Rattle.std.specs.Prelude.{◌≡◌, IfErr, IfOk, OnErr, OnOk, Option};
 ghost use Rattle.seal.specs.Streams.{Fed};
-ghost use Rattle.sealed.specs.Tunnels.{AreFew, SealsAll, fresh_tunnel, opposite};
+ghost use Rattle.sealed.specs.Tunnels.{AreFew, FailsAll, SealsAll, fresh_tunnel, opposite};
 
 use seal::{Channel, Direction, NoMemory, OpenFault, Opener, SealFault, Sealer};
 use std::alloc::Global;
@@ -80,12 +80,13 @@ impl Tunnel {
     /// The records of bytes that are to be sent: as many of 16,384 bytes as there are, and one of
     /// the rest.
     ///
-    /// `NoMemory` where memory was refused, and `NoNumber` once 2^64 - 1 records were sealed. Then
-    /// nothing more can be sent, since a number is left out.
+    /// `NoMemory` where memory was refused, and `NoNumber` where more records are needed than there
+    /// are numbers left of 2^64 - 1. Then nothing more can be sent, since a number is left out.
     pub fn seal(&mut self, alloc: Global, bytes: &[u8]) -> Result<Vec<u8>, SealFault>
         ensures sealed { IfOk result
             (λ sent. SealsAll bytes.now self.old.sealer self.new.sealer sent.items) }
         ensures few { OnOk result (AreFew bytes.now self.old.sealer self.new.sealer) }
+        ensures fails { IfErr result (λ e. FailsAll e bytes.now self.old.sealer) }
         ensures opener { self.new.opener ≡ self.old.opener }
     {
         let mut sent = Vec::new(alloc);

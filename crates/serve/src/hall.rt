@@ -1,12 +1,16 @@
 //! The sockets of a desk that serves: its clients, and the links to the other desks of its hall.
 
-ghost use Rattle.std.specs.Prelude.{IfOk, IfErr, IfSome, map};
+ghost use Rattle.std.specs.Prelude.{◌≡◌, IfOk, IfErr, IfSome, map};
+ghost use Rattle.mio_sockets.specs.Keying.{wires_of};
 ghost use Rattle.serve.specs.Addresses.{AreFoundFor, IsFoundFor, IsNoAddress, LeadTo};
+ghost use Rattle.serve.specs.Keys.{hall_key};
 ghost use Rattle.serve.specs.Printing.{IsOfListener};
 
+use crate::doors::hall_key;
 use crate::fault::ServeFault;
 use crate::twins::twins_in;
 use mio_sockets::{DeskLinks, SocketClients, SocketLinks, SocketWires};
+use sealed::Doors;
 use service::Service;
 use std::alloc::{AllocError, Global};
 use std::io;
@@ -112,17 +116,18 @@ fn tell_missing<W: Write>(
     lines.flush()
 }
 
-/// The links to the other desks, whose sockets the poll of the clients tells of. They speak under
-/// the hall's key, where there is one. Where lines about other desks are wanted, it says which two
+/// The links to the other desks, whose sockets the poll of the clients tells of. Where the desk has
+/// keys, they speak under the hall's. Where lines about other desks are wanted, it says which two
 /// have one address, and of which no address was found.
 pub fn links_to<'r>(
     rt: &'r HostRuntime,
     service: Service<'_>,
-    key: Option<[u8; 32]>,
+    doors: Doors,
     clients: &SocketClients<'r, HostRuntime>,
 ) -> Result<SocketLinks<'r, HostRuntime, Stderr>, ServeFault>
     ensures links { IfOk result
         (λ links. LeadTo (map (λ t. t.now) service.entry.addresses.now) links.lines) }
+    ensures key { IfOk result (λ links. links.wires ≡ wires_of (hall_key doors)) }
     ensures err { IfErr result IsOfListener }
 {
     let registry = match clients.registry() {
@@ -143,7 +148,7 @@ pub fn links_to<'r>(
     match DeskLinks::new(
         rt.alloc(),
         &addresses,
-        SocketWires::new(rt, rt.alloc(), registry, service.hall, key),
+        SocketWires::new(rt, rt.alloc(), registry, service.hall, hall_key(doors)),
         lines,
     ) {
         Ok(links) => Ok(links),

@@ -9,7 +9,7 @@ ghost use Rattle.serve.specs.Serves.{RunsKept, ServesNode, ServesThere, ends_by,
 ghost use Rattle.serve.specs.Serves.{terms_of};
 
 use crate::closing::{Close, close_node};
-use crate::doors::{doors_of, hall_key};
+use crate::doors::doors_of;
 use crate::fault::{ServeFault, fault_of_open};
 use crate::hall::{links_to, listen};
 use crate::home::home_of;
@@ -127,7 +127,7 @@ fn serve_there<K: Keeper + Drop, W: Write>(
         Ok(clients) => clients,
         Err(fault) => return Err(fault),
     };
-    let mut links = match links_to(rt, service, hall_key(doors), &clients) {
+    let mut links = match links_to(rt, service, doors, &clients) {
         Ok(links) => links,
         Err(fault) => return Err(fault),
     };

@@ -81,9 +81,9 @@ impl Clients for Script {
             Coming::Another => Ready::Waits,
             Coming::Gives(number, piece) => {
                 self.piece = piece;
-                Ready::Client { number }
+                Ready::Peer { number }
             }
-            Coming::Takes(number) => Ready::Client { number },
+            Coming::Takes(number) => Ready::Peer { number },
             Coming::Time(now) => Ready::Round { now },
         }
     }

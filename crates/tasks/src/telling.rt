@@ -1,4 +1,5 @@
-//! What is said of a fault: its line, and after it why it came.
+//! What is said of a fault: its line, and after it why it came. Of a second line that can't be
+//! written, no more is said.
 
 ghost use Rattle.std.specs.Prelude.{◌≡◌};
 ghost use Rattle.errands.specs.Statuses.{status_of};
@@ -23,7 +24,7 @@ pub(crate) fn tell_asked<F: Write>(
 {
     let status = tell_asking(faults, fault, contact);
     if is_wanted(rt, explains) {
-        explain(rt, faults, fault, about);
+        let _ = explain(rt, faults, fault, about);
     }
     status
 }
@@ -48,7 +49,7 @@ pub fn tell_missing<F: Write>(
             "no desk of the hall answers: `desk status` says of each why"
         );
     } else if is_wanted(rt, explains) {
-        explain(rt, faults, fault, About::Finding);
+        let _ = explain(rt, faults, fault, About::Finding);
     }
     status
 }
@@ -71,7 +72,7 @@ pub fn tell_service<F: Write>(
     };
     if is_wanted(rt, explains) {
         let store = service.store;
-        explain(rt, faults, fault, About::Serving { store, address });
+        let _ = explain(rt, faults, fault, About::Serving { store, address });
     }
     status
 }
@@ -88,7 +89,7 @@ pub fn tell_log<F: Write>(
 {
     let status = tell(faults, fault);
     if is_wanted(rt, explains) {
-        explain(rt, faults, fault, About::Log { store });
+        let _ = explain(rt, faults, fault, About::Log { store });
     }
     status
 }

@@ -2,13 +2,16 @@
 use Rattle.std.specs.Prelude.{◌≡◌, ◌⊎◌, ◌+◌, ◌/◌, ◌++◌, ◌∷◌, [], ℕ, List, length, Err}
 use Rattle.std.specs.List.{AllByRecursion}
 use Rattle.wire.specs.declared.frame.Frame.{Frame}
+use Rattle.acceptor.specs.declared.entry.Entry.{Entry}
 use Rattle.wire.specs.declared.frame.What.{What}
+use Rattle.wire.specs.declared.frame.What.TheVariants as what
 use Rattle.client.specs.declared.fault.ClientFault.TheVariants.{Refused}
 use Rattle.wire.specs.declared.values.ClientRefusal.TheVariants.{Busy}
 use Rattle.batch.specs.Asking.{AreAllTries, AreKnown, Asked, IsAnswer, IsForgotten, IsFull}
 use Rattle.batch.specs.Asking.{IsPending, IsTicked, IsUnknown, IsWaiting, ask_of, submit_of}
 use Rattle.batch.specs.Asking.{tick_of}
 use Rattle.batch.specs.Entering.{IsOther}
+use Rattle.batch.specs.Watching.{Tells, Watched, notices_of}
 use Rattle.batch.specs.declared.fault.BatchFault.{BatchFault}
 use Rattle.batch.specs.declared.fault.BatchFault.TheVariants as fault
 use Rattle.batch.specs.declared.asking.Receiver.{Receiver}
@@ -56,6 +59,11 @@ EndsWaiting f r id asked =
 -- each request was this one, or a tick, and the last one failed by this fault
 abbrev pub IsTurnedOff : BatchFault → Receiver → Frame → List Asked → Type 0
 IsTurnedOff f r submit asked = AreFor r submit asked × IsLastTry f r submit asked
+
+-- so much is told of the tries of a request that enters a text
+abbrev pub TellsTries : Frame → Watched → List Asked → Type 0
+TellsTries submit w asked =
+    (entry : Entry) → submit.what ≡ what.Submit entry → Tells w (notices_of asked)
 
 -- so it was of the request that enters the text, or the fault is none of a request
 abbrev pub StopsTaking : BatchFault → Receiver → ℕ → List ℕ → List Asked → Type 0

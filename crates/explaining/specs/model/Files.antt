@@ -1,15 +1,7 @@
 -- What the parts of looking again at a file may meet.
 use Rattle.explaining.specs.declared.findings.FileFinding.{FileFinding}
 use Rattle.explaining.specs.declared.findings.FileFinding.TheVariants as file
-
--- what an error of the system tells
-abbrev pub IsOfSystem : FileFinding → Type 0
-IsOfSystem file.NoFolder = Unit {0}
-IsOfSystem file.IsFolder = Unit {0}
-IsOfSystem file.NotPlain = Unit {0}
-IsOfSystem file.NotAllowed = Unit {0}
-IsOfSystem file.Full = Unit {0}
-IsOfSystem _ = ⊥
+use Rattle.explaining.specs.Looking.{IsOfSystem}
 
 -- why no file is at a path
 abbrev pub IsOfPath : FileFinding → Type 0

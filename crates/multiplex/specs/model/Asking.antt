@@ -3,8 +3,8 @@ use Rattle.std.specs.Prelude.{◌≡◌, ◌⊎◌, ℕ, List, [], ◌∷◌, �
 use Rattle.std.specs.Prelude.{Option, None, Some, true}
 use Rattle.multiplex.specs.Musts.{IsMove, ends_of, has_more}
 use Rattle.multiplex.specs.Requests.{Request, Reading, Writing, Watching, Closing}
-use Rattle.multiplex.specs.declared.clients.Given.{Given}
-use Rattle.multiplex.specs.declared.clients.Taken.{Taken}
+use Rattle.polled.specs.declared.answers.Given.{Given}
+use Rattle.polled.specs.declared.answers.Taken.{Taken}
 use Rattle.multiplex.specs.declared.ends.Why.{Why}
 use Rattle.multiplex.specs.declared.table.Guest.{Guest}
 

@@ -6,7 +6,8 @@ use Rattle.serving.specs.Making.{speaking}
 use Rattle.guarded.specs.Guarding.{fresh_guard}
 use Rattle.store.specs.declared.home.Home.{Home}
 use Rattle.wire.specs.declared.values.Version.{Version}
-use Rattle.multiplex.specs.Happenings.{Happened, Tells, Closed, Named, Round}
+use Rattle.polled.specs.Telling.{Tells}
+use Rattle.multiplex.specs.Happenings.{Happened, Closed, Named, Round}
 use Rattle.multiplex.specs.Passing.{Change, Changes, Lobby, Pass, Room, Step, Takes, guest, lobby}
 use Rattle.multiplex.specs.Passing.{over_by, told, told_all, told_change}
 use Rattle.multiplex.specs.declared.ends.Over.{Over}

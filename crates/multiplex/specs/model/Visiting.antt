@@ -9,7 +9,8 @@ use Rattle.serving.specs.TurnLaw.{Turn}
 use Rattle.guarded.specs.Guarding.{Guarding, IsDone, Receives, WantsRead, after_sent}
 use Rattle.guarded.specs.GuardTurns.{Follow, Place}
 use Rattle.wire.specs.declared.values.Version.{Version}
-use Rattle.multiplex.specs.Happenings.{Happened, Tells, Gave, Took, Broke}
+use Rattle.polled.specs.Telling.{Tells}
+use Rattle.multiplex.specs.Happenings.{Happened, Gave, Took, Broke}
 use Rattle.multiplex.specs.Passing.{IsFate, Settled, pieces, told_why, told_turns}
 use Rattle.multiplex.specs.declared.ends.Why.{Why}
 use Rattle.multiplex.specs.declared.ends.Why.TheVariants as why

@@ -3,7 +3,8 @@ use Rattle.client.specs.declared.fault.ClientFault.TheVariants.{NoAnswer}
 use Rattle.wire.specs.declared.frame.Frame.{Frame}
 use Rattle.batch.specs.Asking.{IsAnswer}
 use Rattle.batch.specs.declared.fault.BatchFault.TheVariants.{AnotherCommand, Asking}
-use Rattle.batch.proofs.Confirmed.{confirms, unconfirmed}
+use Rattle.batch.proofs.Confirmed.{another_found, confirms, nothing_found, unconfirmed}
+use Rattle.batch.proofs.Going.{grows_none}
 use Rattle.batch.proofs.Trying.{fails_by}
 use Rattle.batch.proofs.confirming.confirm.Goals as goal
 
@@ -12,21 +13,22 @@ returns-in_err-answer-clause-err g c =
     let f = c.in_err-answer.field-0.0 in
     fails_by _ c.from_residual.result f (search rules)
     (unconfirmed f c.args.receiver c.args.id c.args.text.now c.args.told.now (Err f)
-    c.position_of-position.result c.log_request-request.result _ _
+    c.position_of-position.result c.log_request-request.result _ _ _
+    (nothing_found f f c.args.receiver c.position_of-position.result _)
     c.log_request-request.ensures.request c.position_of-position.ensures.at
     c.in_err-answer.ensures.told refl)
 
 pub returns-in_default-clause-err : goal.returns-in_default-clause-err
 returns-in_default-clause-err g c =
     unconfirmed (Asking NoAnswer) c.args.receiver c.args.id c.args.text.now c.args.told.now
-    (Ok c.in_ok-answer.answer) c.position_of-position.result c.log_request-request.result _ _
-    c.log_request-request.ensures.request c.position_of-position.ensures.at
+    (Ok c.in_ok-answer.answer) c.position_of-position.result c.log_request-request.result _ _ _
+    (grows_none _) c.log_request-request.ensures.request c.position_of-position.ensures.at
     c.in_ok-answer.ensures.told (inr (refl, c.in_default.ensures.none))
 
 pub returns-then-is_this-clause-ok : goal.returns-then-is_this-clause-ok
 returns-then-is_this-clause-ok g c =
     confirms c.args.receiver c.args.id c.args.text.now c.args.told.now c.in_ok-answer.answer
-    c.position_of-position.result c.log_request-request.result c.in-Some.entry.now _ _
+    c.position_of-position.result c.log_request-request.result c.in-Some.entry.now _ _ _
     c.log_request-request.ensures.request c.position_of-position.ensures.at
     c.in_ok-answer.ensures.told c.in_ok-answer.ensures.answered c.in-Some.ensures.some
     (c.is_this.ensures.yes c.if-is_this.true)
@@ -34,7 +36,9 @@ returns-then-is_this-clause-ok g c =
 pub returns-clause-err : goal.returns-clause-err
 returns-clause-err g c =
     unconfirmed AnotherCommand c.args.receiver c.args.id c.args.text.now c.args.told.now
-    (Ok c.in_ok-answer.answer) c.position_of-position.result c.log_request-request.result _ _
+    (Ok c.in_ok-answer.answer) c.position_of-position.result c.log_request-request.result _ _ _
+    (another_found c.args.receiver c.position_of-position.result c.in_ok-answer.answer
+    c.in-Some.entry.now _ _ c.in-Some.ensures.some c.finds_another.ensures)
     c.log_request-request.ensures.request c.position_of-position.ensures.at
     c.in_ok-answer.ensures.told
     (inl (

@@ -1,13 +1,12 @@
-use Rattle.std.proofs.Common.{◌≡◌, ◌⊎◌, ◌+◌, ◌∙◌, [], ap, false, inl, inr, refl, subst, sym, true}
+use Rattle.std.proofs.Common.{◌≡◌, ◌⊎◌, ◌+◌, ◌^◌, ◌≤◌, ◌∙◌, ap, false, inr, refl, subst, sym, true}
 use Rattle.std.proofs.Common.{rules}
 use Rattle.wire.specs.Ranges.{IsId}
 use Rattle.batch.specs.declared.fault.BatchFault.TheVariants as fault
 use Rattle.batch.specs.Dialing.{place_of}
 use Rattle.batch.specs.Asking.{IsOfAsking}
 use Rattle.batch.specs.Entering.{Hinders, IsEntered, ends_after, ends_run}
-use Rattle.batch.proofs.Asked.{entered_so, enters_line, printed_part, printing_other, refused}
-use Rattle.batch.proofs.Asked.{stops_so, unprinted, unsaid_so}
-use Rattle.batch.proofs.Going.{goes_none}
+use Rattle.batch.proofs.Asked.{beyond_so, enters_line, printed_part, refused, refused_so}
+use Rattle.batch.proofs.Asked.{stops_so, unprinted, unprinted_so}
 use Rattle.batch.proofs.Trying.{fails_by}
 use Rattle.batch.proofs.lines_entered.enter_line.Goals as goal
 
@@ -20,7 +19,9 @@ returns-in_default-clause-err g c =
 
 pub returns-in_default-clause-asked : goal.returns-in_default-clause-asked
 returns-in_default-clause-asked g c =
-    ([], goes_none (place_of c.args.contact) _, (tt, inl (tt, inr (inr (inr tt)))))
+    let id = c.args.batch.first_id + c.args.number in
+    let beyond : 2 ^ 64 ≤ id = search rules in
+    beyond_so (place_of c.args.contact) c.args.batch id c.args.command.now.text _ _ beyond
 
 pub returns-in_err-answer-clause-err : goal.returns-in_err-answer-clause-err
 returns-in_err-answer-clause-err g c =
@@ -36,8 +37,8 @@ returns-in_err-answer-clause-asked g c =
     let id : c.in-Some.id ≡ c.args.batch.first_id + c.args.number = search rules in
     let f = c.in_err-answer.field-0.0 in
     fails_by _ c.from_residual.result f (search rules)
-    (stops_so c.args.batch.receiver c.in-Some.id _ _ _ _ _ f id c.text.ensures
-    c.in_err-answer.ensures.err)
+    (stops_so c.args.batch c.in-Some.id _ _ _ _ _ _ _ _ f id c.text.ensures
+    c.in_err-answer.ensures.cause c.begins.ensures c.in_err-answer.ensures.err)
 
 pub returns-in_err-print_answer-clause-err : goal.returns-in_err-print_answer-clause-err
 returns-in_err-print_answer-clause-err g c =
@@ -56,8 +57,8 @@ returns-in_err-print_answer-clause-asked g c =
     let id : c.in-Some.id ≡ c.args.batch.first_id + c.args.number = search rules in
     let f = c.in_err-print_answer.field-0.0 in
     fails_by _ c.from_residual-in_err-print_answer.result f (search rules)
-    (unsaid_so c.args.batch c.in-Some.id _ _ _ c.in_ok-answer.answer _ _ f id c.text.ensures
-    (printing_other f c.in_err-print_answer.ensures.fault) c.in_ok-answer.ensures.ok)
+    (unprinted_so c.args.batch c.in-Some.id _ _ _ c.in_ok-answer.answer _ _ _ _ _ f id
+    c.text.ensures c.in_err-print_answer.ensures.fault c.begins.ensures c.in_ok-answer.ensures.ok)
 
 pub returns-then-ends-clause-err : goal.returns-then-ends-clause-err
 returns-then-ends-clause-err g c =
@@ -74,8 +75,13 @@ returns-then-ends-clause-err g c =
 pub returns-then-ends-clause-asked : goal.returns-then-ends-clause-asked
 returns-then-ends-clause-asked g c =
     let id : c.in-Some.id ≡ c.args.batch.first_id + c.args.number = search rules in
-    unsaid_so c.args.batch c.in-Some.id _ _ _ c.in_ok-answer.answer _ _ fault.AtRefusal id
-    c.text.ensures tt c.in_ok-answer.ensures.ok
+    let b = c.args.batch in
+    let ends : ends_run b c.in_ok-answer.answer ≡ true =
+    ap (ends_after b) (sym c.told_answer-said.ensures) ∙ sym c.ends_after-ends.ensures
+    ∙ c.if-ends.true in
+    refused_so b c.in-Some.id _ _ _ c.in_ok-answer.answer _ _ _ _ _ _ c.told_answer-said.result id
+    c.text.ensures c.told_answer-said.ensures ends c.begins.ensures c.in_ok-answer.ensures.ok
+    c.entered-2.ensures
 
 pub returns-clause-ok : goal.returns-clause-ok
 returns-clause-ok g c =
@@ -84,10 +90,9 @@ returns-clause-ok g c =
     let on : ends_run b c.in_ok-answer.answer ≡ false =
     ap (ends_after b) (sym c.told_answer-said.ensures) ∙ sym c.ends_after-ends.ensures
     ∙ c.if-ends.false in
-    enters_line b c.in-Some.id c.args.number c.args.command.now.text c.in_ok-answer.answer _ _ _ _
-    id
+    enters_line b c.in-Some.id c.args.number _ c.args.command.now.text c.in_ok-answer.answer _ _ _
+    _ _ _ c.told_answer-said.result _ _ id c.text.ensures c.told_answer-said.ensures
     (subst (λ t. IsEntered b.waits b.receiver c.in-Some.id t c.in_ok-answer.answer)
     c.text.ensures c.in_ok-answer.ensures.answer)
-    (entered_so c.args.batch c.in-Some.id _ _ c.in_ok-answer.answer _ _ c.text.ensures
-    c.in_ok-answer.ensures.ok)
-    on c.in_ok-print_answer.ensures.ok
+    c.begins.ensures c.in_ok-answer.ensures.ok c.entered-2.ensures on
+    c.in_ok-print_answer.ensures.ok

@@ -1,7 +1,7 @@
 use Rattle.std.proofs.Common.{refl, ap, inr, List, ◌++◌}
 use Rattle.multiplex.specs.Requests.{Request}
 use Rattle.multiplex.proofs.Shutting.{lobby_same}
-use Rattle.multiplex.proofs.Telling.{Tells-trans}
+use Rattle.polled.proofs.Telling.{Tells-trans}
 use Rattle.multiplex.proofs.Stepping.{serves_all, serves_none}
 use Rattle.multiplex.proofs.serving_each.serve_each.Goals as goal
 

@@ -6,7 +6,7 @@ use Rattle.multiplex.specs.model.Scenes.{Does}
 use Rattle.multiplex.specs.model.Tables.{AreKept}
 use Rattle.multiplex.proofs.Stepping.{does_both, does_stop, is_empty}
 use Rattle.multiplex.proofs.Asked.{steps_more, until_here, until_step}
-use Rattle.multiplex.proofs.Telling.{Tells-nil}
+use Rattle.polled.proofs.Telling.{Tells-nil}
 use Rattle.multiplex.proofs.serving_each.serve_rounds.Goals as goal
 
 pub returns-then-table-terms-clause-does : goal.returns-then-table-terms-clause-does

@@ -1,4 +1,4 @@
-use Rattle.multiplex.specs.declared.clients.Ready.TheVariants as ready_is
+use Rattle.polled.specs.declared.answers.Ready.TheVariants as ready_is
 use Rattle.multiplex.specs.declared.ends.Over.TheVariants as over
 use Rattle.multiplex.proofs.Asked.{musts_ask}
 use Rattle.multiplex.proofs.Shutting.{alters_both, alters_none}
@@ -18,12 +18,12 @@ returns-in-Waits-clause-does g c =
     c.in-Waits.ensures.told)
     c.admit.ensures.alters)
 
-pub returns-in-Client-clause-does : goal.returns-in-Client-clause-does
-returns-in-Client-clause-does g c =
+pub returns-in-Peer-clause-does : goal.returns-in-Peer-clause-does
+returns-in-Peer-clause-does g c =
     does_answer g.D.Desk g.L.Peers g.C.Clients.happened (g.D.Desk.home_of c.args.node.now)
-    c.args.terms c.in-Client.number c.visit.result c.args.table.now c.visit.new.table
+    c.args.terms c.in-Peer.number c.visit.result c.args.table.now c.visit.new.table
     c.args.node.now c.visit.new.node c.args.links.now c.visit.new.peers c.args.clients.now
-    c.ready.new.self c.visit.new.clients c.in-Client.ensures.told c.visit.ensures.answers
+    c.ready.new.self c.visit.new.clients c.in-Peer.ensures.told c.visit.ensures.answers
 
 pub returns-in-Round-clause-does : goal.returns-in-Round-clause-does
 returns-in-Round-clause-does g c =
@@ -47,12 +47,12 @@ returns-in-Waits-clause-asks g c =
     c.admit.ensures.asks.0 c.wait_of.ensures c.in-Waits.ensures.requests
     c.admit.ensures.asks.1 c.admit.ensures.asks.2
 
-pub returns-in-Client-clause-asks : goal.returns-in-Client-clause-asks
-returns-in-Client-clause-asks g c =
+pub returns-in-Peer-clause-asks : goal.returns-in-Peer-clause-asks
+returns-in-Peer-clause-asks g c =
     musts_ask g.C.Clients.requests g.L.Links.due g.L.Links.kept c.args.terms c.visit.result
     c.args.table.now c.visit.new.table c.args.links.now c.visit.new.peers c.args.clients.now
-    c.ready.new.self c.visit.new.clients c.wait_of.result (ready_is.Client c.in-Client.number)
-    c.visit.ensures.asks.0 c.wait_of.ensures c.in-Client.ensures.requests
+    c.ready.new.self c.visit.new.clients c.wait_of.result (ready_is.Peer c.in-Peer.number)
+    c.visit.ensures.asks.0 c.wait_of.ensures c.in-Peer.ensures.requests
     c.visit.ensures.asks.1 c.visit.ensures.asks.2
 
 pub returns-in-Round-clause-asks : goal.returns-in-Round-clause-asks

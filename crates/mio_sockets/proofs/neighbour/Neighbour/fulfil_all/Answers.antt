@@ -1,6 +1,6 @@
 use Rattle.std.proofs.Common.{[]}
 use Rattle.mio_sockets.proofs.Driving.{both}
-use Rattle.multiplex.proofs.Telling.{Tells-trans}
+use Rattle.polled.proofs.Telling.{Tells-trans}
 use Rattle.mio_sockets.proofs.neighbour.Neighbour.fulfil_all.Goals as goal
 
 pub returns-then-not-done-clause-keeps : goal.returns-then-not-done-clause-keeps

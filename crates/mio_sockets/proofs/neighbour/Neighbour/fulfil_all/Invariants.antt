@@ -1,7 +1,7 @@
 use Rattle.std.proofs.Common.{[]}
 use Rattle.mio_sockets.specs.Keeping.{left_in}
 use Rattle.mio_sockets.specs.Wiring.{KeepsLine}
-use Rattle.multiplex.specs.Happenings.{Tells}
+use Rattle.polled.specs.Telling.{Tells}
 use Rattle.mio_sockets.proofs.neighbour.Neighbour.fulfil_all.Given as goal
 
 -- the link was driven so far

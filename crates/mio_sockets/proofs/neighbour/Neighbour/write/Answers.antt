@@ -2,7 +2,7 @@ use Rattle.std.proofs.Common.{[], refl}
 use Rattle.links.specs.Histories as step
 use Rattle.links.specs.Links.{pending}
 use Rattle.mio_sockets.proofs.Driving.{calls, sends}
-use Rattle.multiplex.proofs.Telling.{Tells-nil}
+use Rattle.polled.proofs.Telling.{Tells-nil}
 use Rattle.mio_sockets.proofs.neighbour.Neighbour.write.Goals as goal
 
 pub returns-then-is_empty-clause-keeps : goal.returns-then-is_empty-clause-keeps

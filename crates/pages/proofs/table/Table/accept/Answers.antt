@@ -3,10 +3,10 @@ use Rattle.pages.specs.Happenings.{Came}
 use Rattle.pages.specs.Kept.{places_of}
 use Rattle.pages.specs.Musts.{Accepts}
 use Rattle.pages.specs.Requests.{Accepting}
-use Rattle.pages.specs.declared.sockets.Accepted.TheVariants as accepted_is
+use Rattle.polled.specs.declared.answers.Accepted.TheVariants as accepted_is
 use Rattle.pages.proofs.Asked.{asks_after}
 use Rattle.pages.proofs.Keeping.{AreKept-same}
-use Rattle.pages.proofs.Tables.{quiet_came, quiet_none}
+use Rattle.pages.proofs.Tables.{holds_on, quiet_came}
 use Rattle.pages.proofs.table.Table.accept.Goals as goal
 
 pub returns-in-Came-clause-kept : goal.returns-in-Came-clause-kept
@@ -20,18 +20,12 @@ returns-in-Came-clause-kept g c = λ held.
 
 pub returns-in-Nobody-clause-kept : goal.returns-in-Nobody-clause-kept
 returns-in-Nobody-clause-kept g c = λ held.
-    let t = c.args.self.now in
-    let happened = g.C.Sockets.happened in
-    AreKept-same t.terms.config (happened t.sockets) (happened c.accept.new.self) []
-    (places_of t) t.next t.turns.items c.in-Nobody.ensures.told quiet_none held
+    holds_on g.C.Sockets.happened c.args.self.now c.accept.new.self c.in-Nobody.ensures.told held
 
 pub returns-in-Full-clause-kept : goal.returns-in-Full-clause-kept
 returns-in-Full-clause-kept g c = λ held.
-    let t = c.args.self.now in
-    let happened = g.C.Sockets.happened in
     c.let_longest_go.ensures.kept
-    (AreKept-same t.terms.config (happened t.sockets) (happened c.accept.new.self) []
-    (places_of t) t.next t.turns.items c.in-Full.ensures.told quiet_none held)
+    (holds_on g.C.Sockets.happened c.args.self.now c.accept.new.self c.in-Full.ensures.told held)
 
 pub returns-in-Came-clause-asks : goal.returns-in-Came-clause-asks
 returns-in-Came-clause-asks g c =

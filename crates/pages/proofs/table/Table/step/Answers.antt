@@ -1,51 +1,37 @@
-use Rattle.std.proofs.Common.{[], ap, refl}
+use Rattle.std.proofs.Common.{ap, refl}
 use Rattle.pages.specs.Asking.{StepsBy}
-use Rattle.pages.specs.Kept.{places_of}
 use Rattle.pages.specs.Requests.{Waited}
-use Rattle.pages.specs.declared.sockets.Ready.TheVariants as ready_is
+use Rattle.polled.specs.declared.answers.Ready.TheVariants as ready_is
 use Rattle.pages.specs.declared.table.Step.TheVariants as step_is
 use Rattle.pages.proofs.Asked.{asks_after}
 use Rattle.pages.proofs.Answering.{Answers-same}
-use Rattle.pages.proofs.Keeping.{AreKept-same}
 use Rattle.pages.proofs.Placing.{admits_from, attends_from, ends_from}
-use Rattle.pages.proofs.Tables.{quiet_none}
+use Rattle.pages.proofs.Tables.{holds_on}
 use Rattle.pages.proofs.table.Table.step.Goals as goal
 
 pub returns-in-Waits-clause-kept : goal.returns-in-Waits-clause-kept
 returns-in-Waits-clause-kept g c = λ held.
-    let t = c.args.self.now in
-    let happened = g.C.Sockets.happened in
     c.admit.ensures.kept
-    (AreKept-same t.terms.config (happened t.sockets) (happened c.ready.new.self) []
-    (places_of t) t.next t.turns.items c.ready.ensures.told quiet_none held)
+    (holds_on g.C.Sockets.happened c.args.self.now c.ready.new.self c.ready.ensures.told held)
 
 pub returns-in-Waits-clause-answers : goal.returns-in-Waits-clause-answers
 returns-in-Waits-clause-answers g c = λ held.
     Answers-same g.S.Service.answers _ _ _ _ refl (ap (λ log. log.items) c.admit.ensures.turns)
 
-pub returns-in-Browser-clause-kept : goal.returns-in-Browser-clause-kept
-returns-in-Browser-clause-kept g c = λ held.
-    let t = c.args.self.now in
-    let happened = g.C.Sockets.happened in
+pub returns-in-Peer-clause-kept : goal.returns-in-Peer-clause-kept
+returns-in-Peer-clause-kept g c = λ held.
     c.visit.ensures.kept
-    (AreKept-same t.terms.config (happened t.sockets) (happened c.ready.new.self) []
-    (places_of t) t.next t.turns.items c.ready.ensures.told quiet_none held)
+    (holds_on g.C.Sockets.happened c.args.self.now c.ready.new.self c.ready.ensures.told held)
 
-pub returns-in-Browser-clause-answers : goal.returns-in-Browser-clause-answers
-returns-in-Browser-clause-answers g c = λ held.
-    let t = c.args.self.now in
-    let happened = g.C.Sockets.happened in
+pub returns-in-Peer-clause-answers : goal.returns-in-Peer-clause-answers
+returns-in-Peer-clause-answers g c = λ held.
     c.visit.ensures.answers
-    (AreKept-same t.terms.config (happened t.sockets) (happened c.ready.new.self) []
-    (places_of t) t.next t.turns.items c.ready.ensures.told quiet_none held)
+    (holds_on g.C.Sockets.happened c.args.self.now c.ready.new.self c.ready.ensures.told held)
 
 pub returns-in-Round-clause-kept : goal.returns-in-Round-clause-kept
 returns-in-Round-clause-kept g c = λ held.
-    let t = c.args.self.now in
-    let happened = g.C.Sockets.happened in
     c.end_round.ensures.kept
-    (AreKept-same t.terms.config (happened t.sockets) (happened c.ready.new.self) []
-    (places_of t) t.next t.turns.items c.ready.ensures.told quiet_none held)
+    (holds_on g.C.Sockets.happened c.args.self.now c.ready.new.self c.ready.ensures.told held)
 
 pub returns-in-Round-clause-answers : goal.returns-in-Round-clause-answers
 returns-in-Round-clause-answers g c = λ held.
@@ -54,10 +40,7 @@ returns-in-Round-clause-answers g c = λ held.
 
 pub returns-in-Failed-clause-kept : goal.returns-in-Failed-clause-kept
 returns-in-Failed-clause-kept g c = λ held.
-    let t = c.args.self.now in
-    let happened = g.C.Sockets.happened in
-    AreKept-same t.terms.config (happened t.sockets) (happened c.ready.new.self) []
-    (places_of t) t.next t.turns.items c.ready.ensures.told quiet_none held
+    holds_on g.C.Sockets.happened c.args.self.now c.ready.new.self c.ready.ensures.told held
 
 pub returns-in-Failed-clause-answers : goal.returns-in-Failed-clause-answers
 returns-in-Failed-clause-answers g c = λ held.
@@ -82,16 +65,16 @@ returns-in-Waits-clause-asks g c =
     ))
     c.in-Waits.ensures.requests c.admit.ensures.asks
 
-pub returns-in-Browser-clause-asks : goal.returns-in-Browser-clause-asks
-returns-in-Browser-clause-asks g c =
+pub returns-in-Peer-clause-asks : goal.returns-in-Peer-clause-asks
+returns-in-Peer-clause-asks g c =
     let t = c.args.self.now in
     let new = c.visit.new.self in
     let wait = c.args.wait in
-    let k = c.in-Browser.number in
+    let k = c.in-Peer.number in
     asks_after g.C.Sockets.requests t.sockets c.ready.new.self new.sockets
-    (Waited wait (ready_is.Browser k)) _ (StepsBy wait step_is.GoesOn t new)
+    (Waited wait (ready_is.Peer k)) _ (StepsBy wait step_is.GoesOn t new)
     (λ ys h. (
-      ready_is.Browser k,
+      ready_is.Peer k,
       refl,
       record {
         terms = c.visit.ensures.terms;
@@ -104,7 +87,7 @@ returns-in-Browser-clause-asks g c =
         );
       },
     ))
-    c.in-Browser.ensures.requests c.visit.ensures.asks
+    c.in-Peer.ensures.requests c.visit.ensures.asks
 
 pub returns-in-Round-clause-asks : goal.returns-in-Round-clause-asks
 returns-in-Round-clause-asks g c =

@@ -2,7 +2,7 @@ use Rattle.std.proofs.Common.{◌+◌, false, inl, nat_eq, refl}
 use Rattle.indexmap.specs.IndexMap.{get}
 use Rattle.pages.specs.Kept.{places_of}
 use Rattle.pages.specs.Musts.{GivesPlace}
-use Rattle.pages.specs.declared.sockets.Accepted.TheVariants as accepted_is
+use Rattle.polled.specs.declared.answers.Accepted.TheVariants as accepted_is
 use Rattle.pages.specs.declared.table.Browser.{Browser}
 use Rattle.pages.proofs.Asked.{asks_none}
 use Rattle.pages.proofs.Keeping.{AreKept-came, AreKept-fewer, AreKept-more, IsOpen-new}

@@ -5,8 +5,8 @@ use Rattle.sealed.specs.model.Opening.{OpensTo}
 use Rattle.sealed.proofs.Reaching.{receives_first, receives_unsealed}
 use Rattle.sealed.proofs.calling.Calling.begin.Goals as goal
 
-pub returns-in-Unsealed : goal.returns-in-Unsealed
-returns-in-Unsealed c =
+pub returns-in-Unsealed-clause-receives : goal.returns-in-Unsealed-clause-receives
+returns-in-Unsealed-clause-receives c =
     let was = c.self.inside in
     let piece = c.args.piece.now in
     let old : CallingOf = record {
@@ -26,8 +26,9 @@ returns-in-Unsealed c =
     (receives_unsealed old mid new piece c.hold-added.result closed unknown closed refl refl refl
     c.hold-added.ensures.held front))
 
-pub returns-in_ok-handed-in-Sealed : goal.returns-in_ok-handed-in-Sealed
-returns-in_ok-handed-in-Sealed c =
+pub returns-in_ok-handed-in-Sealed-clause-receives :
+    goal.returns-in_ok-handed-in-Sealed-clause-receives
+returns-in_ok-handed-in-Sealed-clause-receives c =
     let was = c.self.inside in
     let piece = c.args.piece.now in
     let added = c.hold-added.result in
@@ -46,7 +47,7 @@ returns-in_ok-handed-in-Sealed c =
     let closed = rw (← c.self.view_is) at c.requires.closed in
     let front = rw c.deref.ensures.value at c.in-Sealed.ensures in
     let opens = subst (λ (s : List ℕ). OpensTo server s mid new more) (take_rest piece added)
-    c.in_ok-handed-in-Sealed.ensures in
+    c.in_ok-handed-in-Sealed.ensures.opens in
     rw (← c.self.view_is)
     (receives_first old mid new piece server more added closed unknown refl refl
     c.hold-added.ensures.held front.0 front.1 opens)

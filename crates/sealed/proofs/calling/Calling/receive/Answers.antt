@@ -3,8 +3,8 @@ use Rattle.sealed.specs.Callings.{CallingOf}
 use Rattle.sealed.proofs.Reaching.{receives_more}
 use Rattle.sealed.proofs.calling.Calling.receive.Goals as goal
 
-pub returns-in-Some : goal.returns-in-Some
-returns-in-Some c =
+pub returns-in-Some-clause-receives : goal.returns-in-Some-clause-receives
+returns-in-Some-clause-receives c =
     let was = c.self.inside in
     let old : CallingOf = record {
       key = was.key;

@@ -3,8 +3,8 @@ use Rattle.sealed.specs.declared.callers.Holder.{Holder}
 use Rattle.sealed.specs.Trials.{SealsAs, TrialOf}
 use Rattle.sealed.proofs.trial.Trial.seal_hall.Goals as goal
 
-pub returns : goal.returns
-returns c =
+pub returns-clause-seals : goal.returns-clause-seals
+returns-clause-seals c =
     let was = c.self.inside in
     let old : TrialOf = record { hall = was.hall; entry = was.entry; holder = was.holder } in
     let new : TrialOf =

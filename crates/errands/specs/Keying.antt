@@ -1,0 +1,10 @@
+-- Under which key a desk is asked.
+use Rattle.std.specs.Prelude.{◌≡◌, ℕ, List, Option}
+use Rattle.calls.specs.Calls.{own_key}
+use Rattle.errands.specs.declared.incoming.Answer.{Answer}
+use Rattle.errands.specs.declared.outgoing.Outgoing.{Outgoing}
+
+-- both sides of a connection are under this key, or under none
+pub record AreUnder (key : Option (List ℕ)) (answer : Answer) (outgoing : Outgoing) : Type 0 where
+  pub hears : own_key answer.call ≡ key
+  pub says : own_key outgoing.call ≡ key

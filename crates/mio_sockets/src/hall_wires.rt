@@ -1,0 +1,125 @@
+//! The connections to the desks of a hall, all of them under one key.
+
+ghost use Rattle.std.specs.Prelude.{◌≡◌, ◌≢◌, [], length, IfOk};
+ghost use Rattle.polled.specs.Counts.{CountsTaken};
+ghost use Rattle.mio_sockets.specs.Keying.{key_of, wires_of};
+
+use crate::asking::Asking;
+use crate::desk_wire::DeskWire;
+use crate::keyed_stream::KeyedStream;
+use crate::wires::{Heard, Opening, Trouble};
+use multiplex::Taken;
+use std::alloc::Global;
+use std::io;
+use std::io::ErrorKind;
+use std::marker::Model;
+
+/// The places for connections. Place 0 is nobody's.
+const PLACES: usize = 6;
+
+/// The connections to the desks 1 to 5 of a hall, one at most to each. All are under the hall's
+/// key, or under none where it has none. A contract sees the key.
+#[derive(Drop)]
+pub(crate) struct HallWires {
+    key: Option<[u8; 32]>,
+    /// The connection to each desk, in the place of the desk's number.
+    desks: [DeskWire; PLACES],
+}
+
+impl Model for HallWires {
+    ghost use Rattle.mio_sockets.specs.Keying.{AreUnder, WiresOf, wires_of};
+
+    ghost Value = { WiresOf };
+
+    ghost view = { λ w. wires_of w.key };
+
+    ghost invariant = { λ w. AreUnder w.key w.desks };
+}
+
+impl HallWires {
+    /// No connections yet to the desks of this hall, which has this key, or none.
+    pub(crate) fn new(alloc: Global, hall: u32, key: Option<[u8; 32]>) -> HallWires
+        ensures { result ≡ wires_of key }
+    {
+        let wire = |desk: u8| DeskWire::new(Asking { alloc, hall, desk }, key.is_some());
+        HallWires {
+            key,
+            desks: [wire(0), wire(1), wire(2), wire(3), wire(4), wire(5)],
+        }
+    }
+
+    /// The key of the hall, if it has one.
+    pub(crate) fn key(&self) -> Option<[u8; 32]>
+        ensures { result ≡ self.now.key }
+    {
+        self.key
+    }
+
+    /// Has a connection to a desk that was begun, or could not be. False: it could not be, or there
+    /// is no such desk.
+    pub(crate) fn begin(&mut self, desk: u8, connected: io::Result<KeyedStream>) -> bool
+        requires { IfOk connected (λ stream. key_of stream ≡ self.old.key) }
+        ensures { self.new ≡ self.old }
+    {
+        let place = usize::from(desk);
+        if place >= PLACES {
+            return false;
+        }
+        self.desks[place].begin(connected)
+    }
+
+    /// What has become of the connection to this desk, which was begun.
+    pub(crate) fn opening(&mut self, desk: u8) -> Opening
+        ensures { self.new ≡ self.old }
+    {
+        let place = usize::from(desk);
+        if place >= PLACES {
+            return Opening::Failed;
+        }
+        self.desks[place].opening()
+    }
+
+    /// Writes as much of the bytes as the connection to this desk takes without waiting.
+    pub(crate) fn write(&mut self, desk: u8, bytes: &[u8]) -> Taken
+        requires { bytes.now ≢ [] }
+        ensures count { CountsTaken (length bytes.now) result }
+        ensures key { self.new ≡ self.old }
+    {
+        let place = usize::from(desk);
+        if place >= PLACES {
+            return Taken::Broke;
+        }
+        self.desks[place].write(bytes)
+    }
+
+    /// Hears what comes on the connection to this desk.
+    pub(crate) fn hear(&mut self, desk: u8) -> Heard
+        ensures { self.new ≡ self.old }
+    {
+        let place = usize::from(desk);
+        if place >= PLACES {
+            return Heard::Broke;
+        }
+        self.desks[place].hear()
+    }
+
+    /// What went wrong last with a connection to this desk.
+    pub(crate) fn trouble(&self, desk: u8) -> Trouble {
+        match self.desks.get(usize::from(desk)) {
+            Some(wire) => wire.trouble(),
+            None => Trouble::System {
+                kind: ErrorKind::NotFound,
+            },
+        }
+    }
+
+    /// Closes the connection to this desk, if there is one.
+    pub(crate) fn close(&mut self, desk: u8)
+        ensures { self.new ≡ self.old }
+    {
+        let place = usize::from(desk);
+        if place < PLACES {
+            self.desks[place].close();
+        }
+    }
+}

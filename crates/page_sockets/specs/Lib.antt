@@ -1,4 +1,0 @@
-pub mod Tokens
-pub mod Outcomes
-pub mod Agendas
-pub mod Streams

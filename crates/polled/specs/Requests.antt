@@ -1,0 +1,29 @@
+-- What is asked of sockets, and what comes of it, where that is told.
+use Rattle.std.specs.Prelude.{ℕ, Bool, List, Option}
+use Rattle.polled.specs.Telling.{Tells}
+use Rattle.polled.specs.declared.answers.Ready.{Ready}
+use Rattle.polled.specs.declared.answers.Given.{Given}
+use Rattle.polled.specs.declared.answers.Taken.{Taken}
+
+-- A peer is named by the number under which it is accepted. What comes of that (A) may be more than
+-- that it came.
+pub data Asked (A : Type 0) : Type 0 where
+  -- what is ready next, for which it is waited so many milliseconds at most
+  Waited : ℕ → Ready → Asked A
+  -- the peer that waits, to be accepted under this number
+  Accepting : ℕ → A → Asked A
+  -- bytes of this peer
+  Reading : ℕ → Given → Asked A
+  -- that this peer take so many bytes
+  Writing : ℕ → ℕ → Taken → Asked A
+  -- that this peer be named when it can take bytes (true), or be read from (false); the system does
+  -- so, or refuses
+  Watching : ℕ → Bool → Bool → Asked A
+  -- that this peer's connection be ended
+  Closing : ℕ → Asked A
+
+-- these were asked, in order, and are such as is said
+abbrev pub Asks : {A C : Type 0} → (C → Option (List (Asked A))) → C → C
+    → (List (Asked A) → Type 0) → Type 0
+Asks {A} requests c later P =
+    (asked : List (Asked A)) × Tells (requests c) (requests later) asked × P asked

@@ -1,0 +1,6 @@
+//! What can be done with sockets without waiting, over a poll that tells which of them is ready.
+#![tactic(auto)]
+
+mod answers;
+
+pub use answers::{Accepted, Given, Ready, Taken};

@@ -1,0 +1,5 @@
+pub mod Tokens
+pub mod Outcomes
+pub mod Agendas
+pub mod Streams
+pub mod Sockets
