@@ -91,8 +91,8 @@ impl<R: Clock + RandomSource> Clients for SocketClients<'_, R> {
         self.peers.ready(wait)
     }
 
-    /// The random bytes are new. Where the system gives none, the client isn't let in. Where as many
-    /// connections are open as may be, nobody is.
+    /// The random bytes are new. Where the system gives none, the client isn't let in. Where as
+    /// many connections are open as may be, nobody is.
     fn accept(&mut self, number: u64) -> Accepted
         ensures full { is_full self.old ≡ true → result ≡ Accepted.Full }
         ensures came { LetsIn result (stays self.old number) (stays self.new number) }

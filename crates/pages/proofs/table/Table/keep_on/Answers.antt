@@ -32,8 +32,8 @@ pub returns-clause-kept : goal.returns-clause-kept
 returns-clause-kept g c = λ own held.
     let t = c.args.self.now in
     let b = g.C.Sockets.happened c.watch.new.self in
-    AreKept-fewer t.terms.config b (places_of t) (λ q. get nat_eq c.insert.new.self q) t.next t.turns.items
-    (same_places t.browsers c.insert.new.self c.in-Err.ensures.err)
+    AreKept-fewer t.terms.config b (places_of t) (λ q. get nat_eq c.insert.new.self q) t.next
+    t.turns.items (same_places t.browsers c.insert.new.self c.in-Err.ensures.err)
     (holds_on g.C.Sockets.happened t c.watch.new.self c.watch.ensures.told held)
 
 pub returns-then-not-watch-clause-asks : goal.returns-then-not-watch-clause-asks
