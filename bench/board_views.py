@@ -1,10 +1,10 @@
 #!/usr/bin/env python3
-"""What `views_runs` has to print of the board: a second program of the definitions.
+"""What tests/pages has to print of the board: a second program of the definitions.
 
-    for it in board table; do bench/${it}_views.py < crates/views_runs/stdin; done
+    for it in board table; do bench/${it}_views.py < tests/pages/cases/views.in; done
 
-is what crates/views_runs/stdout holds. Reads the lines that are for the board, of which
-src/board_pages.rt of crates/views_runs says how they are written. The sheets come from
+is what tests/pages/cases/views.out holds. Reads the lines that are for the board, of which
+tests/pages/board_pages.rt.txt says how they are written. The sheets come from
 bench/rules.py, which shares nothing with the crates. Standard library only.
 """
 

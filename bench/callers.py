@@ -1,10 +1,11 @@
 #!/usr/bin/env python3
-"""What `sealed_runs` has to print, worked out by Python's own HMAC and the rules of sealed streams.
+"""What `callers` of tests/bytes has to print, worked out by Python's own HMAC and the rules of
+sealed streams.
 
-    bench/callers.py < crates/sealed_runs/stdin      prints what crates/sealed_runs/stdout has to be
+    bench/callers.py < tests/bytes/cases/callers.in      prints what callers.out there has to be
 
 A second program, which shares nothing with the crates: it looks at a whole stream at once. It draws
-the streams of seeds by the same numbers (SplitMix64). crates/sealed_runs/src/main.rt says what the
+the streams of seeds by the same numbers (SplitMix64). tests/bytes/callers.rt.txt says what the
 lines ask for. Standard library only.
 """
 

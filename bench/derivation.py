@@ -1,12 +1,12 @@
 #!/usr/bin/env python3
-"""What `derivation_runs` has to print, worked out by the rules alone.
+"""What `derivations` of tests/meets has to print, worked out by the rules alone.
 
-    bench/derivation.py < crates/derivation_runs/stdin
+    bench/derivation.py < tests/meets/cases/derivations.in
 
-It prints what crates/derivation_runs/stdout has to be.
+It prints what tests/meets/cases/derivations.out has to be.
 
 A second program over bench/rules.py and bench/stickers.py, which share nothing with the crates.
-crates/derivation_runs/src/main.rt says what its lines ask for. Of each card every order of its
+tests/meets/derivations.rt.txt says what its lines ask for. Of each card every order of its
 corrections is tried on a copy of the meet: that which is printed has to be one of those in which
 all commands are done and the values end as the card's. Standard library only.
 """

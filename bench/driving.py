@@ -1,9 +1,8 @@
 """What the benchmarks of a desk's store share: drivers that are built, and SQLite to set beside
 them.
 
-A driver is a small program over the repository's crates. Its text is bench/drivers/NAME.rt.txt,
-which is no source of the repository: it is proved and built in a temporary copy of the crates below
-it, and the program stays in bench/out.
+A driver is a small program over the repository's crates. Its text is bench/drivers/NAME.rt.txt. It
+is built without a proof, as scripts/unproved.py says, and the program stays in bench/out.
 """
 
 import os
@@ -15,94 +14,19 @@ import tempfile
 import time
 from pathlib import Path
 
-BENCH = Path(__file__).resolve().parent
-TOP = BENCH.parent
-OUT = BENCH / "out"
-PARTS = ("src", "specs", "proofs")
+TOP = Path(__file__).resolve().parent.parent
+OUT = TOP / "bench/out"
+sys.dont_write_bytecode = True
+sys.path.append(str(TOP / "scripts"))
+import unproved
 
 
 # --- the drivers ---------------------------------------------------------------------------------
 
 
-def listed():
-    """What each crate of the repository stands on, by crates.txt."""
-    lines = [line.partition("#")[0].partition(":")
-             for line in (TOP / "crates.txt").read_text().splitlines()]
-    return {name.split()[0]: (f"{name}:{below}", below.split()) for name, _,
-            below in lines if name.strip()}
-
-
-def crates_below(names):
-    """These crates of the repository and all that they stand on, lowest first."""
-    lines, found = listed(), []
-
-    def add(name):
-        if name in lines and name not in found:
-            for below in lines[name][1]:
-                add(below)
-            found.append(name)
-
-    for name in names:
-        add(name)
-    return found
-
-
-def is_newer(program, names):
-    """Whether the program is there, and no source is newer."""
-    if not os.access(program, os.X_OK):
-        return False
-    sources = [BENCH / "drivers" / f"{program.name}.rt.txt"]
-    sources += [file for name in names for part in PARTS
-                for file in (TOP / "crates" / name / part).rglob("*")]
-    return all(file.stat().st_mtime <= program.stat().st_mtime for file in sources)
-
-
-def run_rt(words, folder, log):
-    with open(log, "ab") as to:
-        return subprocess.run(["rt", *words], cwd=folder, stdin=subprocess.DEVNULL, stdout=to,
-                              stderr=to).returncode
-
-
-def build(program, on):
-    name, below = program.name, crates_below(on)
-    if not shutil.which("rt"):
-        sys.exit(f"{name}: the toolchain's command rt is not on the path")
-    log = OUT / f"{name}.log"
-    OUT.mkdir(exist_ok=True)
-    log.write_bytes(b"")
-    program.unlink(missing_ok=True)
-    # a library that was built before and has not changed is not built again
-    if run_rt(["lib"], TOP / "crates" / below[-1], log):
-        sys.exit(f"the crate {below[-1]} was not built: see {log}")
-    with tempfile.TemporaryDirectory(prefix="desk-bench-") as folder:
-        root = Path(folder)
-        for crate in below:
-            for part in (*PARTS, "out/rlib"):
-                if (TOP / "crates" / crate / part).is_dir():
-                    shutil.copytree(TOP / "crates" / crate / part, root / "crates" / crate / part)
-        source = root / "crates" / name / "src/main.rt"
-        source.parent.mkdir(parents=True)
-        shutil.copyfile(BENCH / "drivers" / f"{name}.rt.txt", source)
-        lines = [listed()[crate][0] for crate in below] + [f"{name}: {' '.join(on)}"]
-        (root / "crates.txt").write_text("".join(line + "\n" for line in lines))
-        shutil.copyfile(TOP / "HANDLES", root / "HANDLES")
-        # the driver itself is run too: with no words it says which it takes, and that is no verdict
-        run_rt(["run"], source.parent.parent, log)
-        built = source.parent.parent / "out" / name
-        if not built.is_file():
-            sys.exit(f"the driver {name} was not proved and built: see {log}")
-        shutil.copy(built, program)
-
-
-def driver(name, on):
-    """The program of this driver, which stands on these crates: proved and built first, where need
-    be."""
-    program = OUT / name
-    if not is_newer(program, crates_below(on)):
-        print(f"proving and building {name} first, once: seconds where the crates below it are "
-              "built, else many minutes", file=sys.stderr, flush=True)
-        build(program, on)
-    return program
+def driver(name):
+    """The program of this driver, which is built first where need be."""
+    return unproved.program(name)
 
 
 def numbers(program, *words):

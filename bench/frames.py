@@ -1,10 +1,10 @@
 #!/usr/bin/env python3
-"""What `wire_runs` has to print, worked out by the rules of frames alone.
+"""What `frames` of tests/bytes has to print, worked out by the rules of frames alone.
 
-    bench/frames.py < crates/wire_runs/stdin          prints what crates/wire_runs/stdout has to be
+    bench/frames.py < tests/bytes/cases/frames.in          prints what frames.out there has to be
 
 A second program, written from docs/FORMATS.md and sharing nothing with the crates: it looks at a
-whole stream at once where it can. crates/wire_runs/src/main.rt says what the lines ask for; a frame
+whole stream at once where it can. tests/bytes/frames.rt.txt says what the lines ask for; a frame
 is printed as Rust's `Debug` does. Standard library only.
 """
 
@@ -30,7 +30,7 @@ CODES = ("Unread", "Repeat", "UnknownCompetitor", "NameTaken", "RoundUnknown", "
 # versions 1 and 2 have none of the codes after Unfinished
 CODES_OF_1 = CODES[:22]
 REFUSALS = ("Busy", "LogFull", "BallotsSpent", "NoMemory", "Down", "NotThere", "NoSuchRound",
-            "Foreign")
+            "Foreign", "NotAllowed")
 STYLES = ("Text", "Table")
 ROLES = ("Idle", "Gathering", "Proposing", "Leading")
 

@@ -1,10 +1,10 @@
 #!/usr/bin/env python3
 """What is read of a hall's file: a second program of the definition.
 
-    bench/hall_file.py < crates/hall_file_runs/stdin > crates/hall_file_runs/stdout
+    bench/hall_file.py < tests/bytes/cases/hall_files.in > tests/bytes/cases/hall_files.out
 
-Reads the cases of crates/hall_file_runs, whose src/main.rt says how they are written, and writes
-what the program has to print for them. TOML is read by Python's tomllib.
+Reads the cases, of which tests/bytes/hall_files.rt.txt says how they are written, and writes what
+the program has to print for them. TOML is read by Python's tomllib.
 """
 
 import os.path
@@ -14,7 +14,7 @@ import tomllib
 import unicodedata
 from pathlib import Path
 
-DATA = Path(__file__).parent.parent / "crates/hall_file_runs/data"
+DATA = Path(__file__).parent.parent / "tests/bytes/cases/hall_files.data"
 PADDED = b'hall = 7\ndesks = ["a:1", "b:2", "c:3"]\n#'
 NOT_TOML = "line 2: not TOML: key with no value, expected `=`"
 

@@ -1,12 +1,12 @@
 #!/usr/bin/env python3
-"""What `results_runs` has to print, worked out by the rules alone.
+"""What `results` of tests/meets has to print, worked out by the rules alone.
 
-    bench/results.py < crates/results_runs/stdin
+    bench/results.py < tests/meets/cases/results.in
 
-It prints what crates/results_runs/stdout has to be.
+It prints what tests/meets/cases/results.out has to be.
 
 A second program over bench/rules.py and bench/stickers.py, which share nothing with the crates.
-crates/results_runs/src/main.rt says what its lines ask for; values are printed as Rust's `Debug`
+tests/meets/results.rt.txt says what its lines ask for; values are printed as Rust's `Debug`
 does. Standard library only.
 """
 

@@ -6,7 +6,7 @@
     bench/results_json.py random FROM TO stdin|stdout
 
 `meet` prints the results of the meet that the commands make. `cases` prints the last part of the
-input of the program `file_runs` and what it has to print for it, and `random` that of random meets.
+input of `files` of tests/bytes and what it has to print for it, and `random` that of random meets.
 It is written from the definition (docs/FORMATS.md) over Python's `json` and the meets of
 bench/rules.py, and uses nothing of the crates.
 """

@@ -1,10 +1,11 @@
 #!/usr/bin/env python3
-"""What `seal_runs` has to print, worked out by Python's own HMAC and the rules of sealed streams.
+"""What `seals` of tests/bytes has to print, worked out by Python's own HMAC and the rules of
+sealed streams.
 
-    bench/seals.py < crates/seal_runs/stdin          prints what crates/seal_runs/stdout has to be
+    bench/seals.py < tests/bytes/cases/seals.in          prints what seals.out there has to be
 
 A second program, which shares nothing with the crates: it looks at a whole stream at once where it
-can. crates/seal_runs/src/main.rt says what the lines ask for. Standard library only.
+can. tests/bytes/seals.rt.txt says what the lines ask for. Standard library only.
 """
 
 import hashlib

@@ -1,5 +1,5 @@
 #!/usr/bin/env python3
-"""What the stored run of `desk_runs` has to print of its random streams, by a second program.
+"""What `stores` of tests/desk_files has to print of its random streams, by a second program.
 
     bench/streams.py FIRST COUNT
 

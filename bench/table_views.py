@@ -1,11 +1,11 @@
 #!/usr/bin/env python3
-"""What `views_runs` has to print of the score table: a second program of the pages' definitions.
+"""What tests/pages has to print of the score table: a second program of the pages' definitions.
 
-    bench/table_views.py < crates/views_runs/stdin
+    bench/table_views.py < tests/pages/cases/views.in
 
-is the latter part of crates/views_runs/stdout; bench/board_views.py says how all is made. Reads the
-lines that are for the score table, of which src/main.rt of crates/views_runs says how they are
-written. The results come from bench/rules.py, which shares nothing with the crates. Standard
+is the latter part of tests/pages/cases/views.out; bench/board_views.py says how all is made. Reads
+the lines that are for the score table, of which tests/pages/main.rt.txt says how they are written.
+The results come from bench/rules.py, which shares nothing with the crates. Standard
 library only.
 """
 

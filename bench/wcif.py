@@ -6,14 +6,14 @@
     bench/wcif.py big
 
 `lines` prints the command lines of a file, or `fault: ` and a text for each fault. `cases` prints
-the first part of the input of the program `file_runs`, its imports, and what it has to print for
+the first part of the input of `files` of tests/bytes, its imports, and what it has to print for
 them: the files of examples/wcif and small changes of them. `big` prints examples/wcif/large.json. It
 is written from the definition of what a desk holds (docs/FORMATS.md) and uses nothing of the
 repository.
 
     for it in wcif wcif_results results_json; do bench/$it.py cases stdin; done
 
-is the whole input of `file_runs`, and with `stdout` what it has to print.
+is the whole input of `files` of tests/bytes, and with `stdout` what it has to print.
 """
 
 import json

@@ -7,7 +7,7 @@
 
 `file` prints the file with the results of the meet that the commands make, or a line `fault: ` for
 each thing of the meet that the file has no place for. `cases` prints the exports of the input of
-the program `file_runs` and what it has to print for them, and `random` those of random meets and
+`files` of tests/bytes and what it has to print for them, and `random` those of random meets and
 files. It is written from the definition (docs/FORMATS.md) over Python's `json` and the meets of
 bench/rules.py, and uses nothing of the crates.
 """

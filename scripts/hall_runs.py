@@ -1,5 +1,5 @@
 #!/usr/bin/env python3
-"""Prints lines for `hall_runs`: scripts/hall_runs.py FIRST COUNT.
+"""Prints lines for the program of tests/simulator: scripts/hall_runs.py FIRST COUNT.
 
 Of each seed the number of desks, the hazards and their weights are drawn, so that a run can be
 found again by its seed alone: a quarter of the runs have one kind of hazard, a quarter have all of

@@ -28,9 +28,16 @@ def count(text):
     return int(text)
 
 
-def built(crate):
-    """Where the program of a crate stands once it is built."""
+def proved(crate):
+    """Where the program of a crate stands once it is proved and built."""
     return str(TOP / "crates" / crate / "out" / crate)
+
+
+def built(crate):
+    """Where the program of a crate stands that a script runs: the proved one, or one of the folder
+    DESK_PROGRAMS, where the environment names one, as `./check --quick` does."""
+    folder = os.environ.get("DESK_PROGRAMS")
+    return os.path.join(folder, crate) if folder else proved(crate)
 
 
 class Words(argparse.ArgumentParser):

@@ -6,8 +6,8 @@ use Rattle.errands.specs.declared.fault.DeskFault.{DeskFault}
 use Rattle.errands.specs.declared.fault.DeskFault.TheVariants as fault
 use Rattle.hall_file.specs.Halls.{folder_of, key_text}
 use Rattle.hall_file.specs.declared.hall_file.HallFile.{HallFile}
-use Rattle.key_file.specs.KeyFiles.{IsSpelt}
-use Rattle.key_file.specs.declared.fault.KeyFileFault.{KeyFileFault}
+use Rattle.keys.specs.key_file.KeyFiles.{IsSpelt}
+use Rattle.keys.specs.declared.key_file.fault.KeyFileFault.{KeyFileFault}
 use Rattle.lines.specs.declared.fault.RunFault.TheVariants as run
 
 -- the path of a hall's file, and that of a key's file, where one is given

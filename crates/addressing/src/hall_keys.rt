@@ -6,7 +6,7 @@ ghost use Rattle.addressing.specs.Seeking.{no_memory};
 
 use errands::DeskFault;
 use hall_file::{HallFile, key_path};
-use key_file::read_key_at;
+use keys::key_file::read_key_at;
 use lines::RunFault;
 use std::alloc::{AllocError, Global};
 use std::rt::Files;

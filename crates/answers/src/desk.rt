@@ -8,7 +8,7 @@ ghost use Rattle.acceptor.specs.declared.message.Message.{Message as MessageValu
 ghost use Rattle.learner.specs.declared.event.DeskEvent.{DeskEvent as EventValue};
 ghost use Rattle.learner.specs.Steps.{step, IsDesk};
 ghost use Rattle.answers.specs.Answers.{told, sheet_at, NoSheetAt};
-ghost use Rattle.roles.specs.declared.fault.NodeFault.{NodeFault as Refusal};
+ghost use Rattle.replica.specs.declared.roles.fault.NodeFault.{NodeFault as Refusal};
 ghost use Rattle.learner.specs.Ranges.{IsReal};
 ghost use Rattle.replica.specs.Handles.{Takes};
 ghost use Rattle.replica.specs.Lengths.{told_after};
@@ -24,7 +24,7 @@ use formats::Event as EventOf;
 use learner::event::DeskEvent;
 use learner::log::Log;
 use proposer::role::Role;
-use roles::NodeFault;
+use replica::roles::NodeFault;
 use sheets::Style;
 use store::home::Home;
 

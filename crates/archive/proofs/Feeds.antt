@@ -16,8 +16,8 @@ use Rattle.cube.specs.declared.moves.Kind.TheVariants.{Face, Block, Turn}
 use Rattle.cube.specs.declared.moves.Quarter.{Quarter}
 use Rattle.cube.specs.declared.moves.Quarter.TheVariants.{Clockwise, Half, Anticlockwise}
 use Rattle.cube.specs.declared.moves.Move.{Move}
-use Rattle.notation.specs.Tokens.{side_letter, axis_letter, stem, mark, token}
-use Rattle.notation.specs.Notation.{spelling as moves_text}
+use Rattle.cube.specs.notation.Tokens.{side_letter, axis_letter, stem, mark, token}
+use Rattle.cube.specs.notation.Notation.{spelling as moves_text}
 use Rattle.formats.specs.declared.events.Event.{Event}
 use Rattle.formats.specs.declared.events.Event.TheVariants.{Cube3, Cube2, Cube4, Cube5, Cube6}
 use Rattle.formats.specs.declared.events.Event.TheVariants.{Cube7, Blind3, FewestMoves, OneHanded}

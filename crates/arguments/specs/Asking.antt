@@ -22,8 +22,8 @@ use Rattle.arguments.specs.Arguments.{flag_rule, last_value_rule, located_argume
 use Rattle.arguments.specs.Arguments.{option_rule, optional_rule, optional_value_rule}
 use Rattle.arguments.specs.Arguments.{optional_values_rule, required_flag_rule, several}
 use Rattle.arguments.specs.Arguments.{value_rule, values_rule, wait_seconds_rule}
-use Rattle.service.specs.declared.Making.TheVariants.{AsNeeded}
-use Rattle.service.specs.declared.Service.{Service}
+use Rattle.hall_file.specs.declared.service.Making.TheVariants.{AsNeeded}
+use Rattle.hall_file.specs.declared.service.Service.{Service}
 use Rattle.arguments.specs.declared.places.Desks.{Desks}
 use Rattle.arguments.specs.declared.places.Desks.TheVariants as desks
 use Rattle.arguments.specs.declared.places.Place.{Place}

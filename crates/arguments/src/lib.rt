@@ -7,7 +7,7 @@ mod enter;
 mod enter_lines;
 mod export;
 mod hall;
-mod hall_file;
+mod hall_files;
 mod import;
 mod key;
 mod laws;

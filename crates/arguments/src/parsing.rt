@@ -10,7 +10,7 @@ use crate::enter::enter_command;
 use crate::enter_lines::enter_lines_command;
 use crate::export::export_command;
 use crate::hall::hall_command;
-use crate::hall_file::hall_file_command;
+use crate::hall_files::hall_file_command;
 use crate::import::import_command;
 use crate::key::key_command;
 use crate::log::log_command;

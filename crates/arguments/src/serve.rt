@@ -15,8 +15,8 @@ use crate::values::{
 };
 use clap::builder::ValueParser;
 use clap::{Arg, ArgAction, ArgMatches, Command};
+use hall_file::service::{Making, Service};
 use replay_arguments::{flag, flag_at, text_at, value, with_argument};
-use service::{Making, Service};
 use std::alloc::{AllocError, Global};
 use wire::Version;
 

@@ -7,7 +7,7 @@ use Rattle.std.proofs.Math.Seq.{split_at, take-length}
 use Rattle.std.proofs.KnownBytes.{Appends-trans, Appends-nil}
 use Rattle.std.specs.Io.KnownBytes.{Appends}
 use Rattle.client.specs.Printing.{reply_text}
-use Rattle.command_file.specs.Commands.{Numbered}
+use Rattle.lines.specs.command_file.Commands.{Numbered}
 use Rattle.lines.proofs.Inputs.{part_after}
 use Rattle.wire.specs.declared.frame.What.{What}
 use Rattle.batch.specs.Asking.{Asked, Asks, Goes, IsOfAsking}

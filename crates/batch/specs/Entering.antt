@@ -5,7 +5,7 @@ use Rattle.std.specs.Io.KnownBytes.{Appends}
 use Rattle.acceptor.specs.Entries.{IsId, IsText}
 use Rattle.client.specs.Printing.{reply_text}
 use Rattle.client.specs.declared.fault.ClientFault.TheVariants.{Refused}
-use Rattle.command_file.specs.Commands.{Numbered}
+use Rattle.lines.specs.command_file.Commands.{Numbered}
 use Rattle.lines.specs.Bytes.{AppendsPart}
 use Rattle.texts.specs.declared.answer.Answer.{Answer}
 use Rattle.texts.specs.declared.answer.Answer.TheVariants as said

@@ -20,7 +20,7 @@ use crate::fault::BatchFault;
 use crate::keeping::{Held, let_go};
 use crate::watching::Watch;
 use client::reply_text;
-use command_file::CommandText;
+use lines::command_file::CommandText;
 use lines::write_text;
 use std::alloc::Global;
 use std::io::Write;

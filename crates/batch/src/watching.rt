@@ -4,7 +4,7 @@ ghost use Rattle.std.specs.Prelude.{◌∷◌, [], List, Option};
 ghost use Rattle.batch.specs.Watching.{Another, Begins, Entered, Notice, Tells, Waits, watched};
 
 use acceptor::entry::Entry;
-use command_file::CommandText;
+use lines::command_file::CommandText;
 use texts::Answer;
 
 /// Is told how commands are entered, one after the other. Nothing depends on what it does.

@@ -5,7 +5,7 @@ use crate::serving::{End, MOST_BROWSERS, Order, serve};
 use clap::builder::ValueParser;
 use clap::{Arg, ArgMatches, Command, Error};
 use command_line::borrowed;
-use hall_options::{
+use hall_file::hall_options::{
     Mistake, address_at, hall_of, number_at, option, tell, tell_mistake, tell_parse_error,
     tell_system, with_desks,
 };

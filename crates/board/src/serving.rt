@@ -5,7 +5,7 @@ ghost use Rattle.following.specs.Following.{IsPlace};
 use crate::program::PROGRAM;
 use board_service::BoardService;
 use desk_sockets::{DeskStream, Kept};
-use hall_options::FoundHall;
+use hall_file::hall_options::FoundHall;
 use hall_standings::{AskedDesks, AskedStream, HallDesks, stream_to};
 use http_server::Config;
 use mio::Registry;

@@ -12,7 +12,7 @@ use Rattle.rounds.specs.Tables.{Entrant, Table, entrant, place}
 use Rattle.texts.specs.declared.command.Command.{Command}
 use Rattle.texts.specs.declared.command.RoundId.{RoundId}
 use Rattle.texts.specs.declared.command.Settings.{Settings}
-use Rattle.board_page.specs.Escaped.{escaped}
+use Rattle.markup.specs.board_page.Escaped.{escaped}
 use Rattle.board_rounds.specs.Rounds.{below, heading}
 use Rattle.board_rounds.specs.Rows.{attempt_words, cell, line_end, place_words, result_cells}
 use Rattle.round_words.specs.Words.{round_name, round_words, state_words}

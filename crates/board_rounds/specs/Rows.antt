@@ -19,7 +19,7 @@ use Rattle.sheets.specs.Sheet.{best_text, name_text}
 use Rattle.texts.specs.declared.command.Command.{Command}
 use Rattle.texts.specs.declared.command.Settings.{Settings}
 use Rattle.board_rounds.specs.Counting.{is_left_out}
-use Rattle.board_page.specs.Escaped.{escaped}
+use Rattle.markup.specs.board_page.Escaped.{escaped}
 
 -- ---- texts
 

@@ -9,8 +9,8 @@ ghost use Rattle.board_rounds.specs.Rows.{person_cells, place_words, result_cell
 
 use crate::counting::is_left_out;
 use attempts::{NoMemory, Unit, Value, print_value, push_decimal};
-use board_page::push_escaped;
 use formats::{Advance, Averaged, Format, print_average};
+use markup::board_page::push_escaped;
 use std::alloc::Global;
 
 /// Adds a cell with a text that HTML reads as it is.

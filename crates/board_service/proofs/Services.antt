@@ -3,8 +3,8 @@ use Rattle.std.proofs.Common.{◌≡◌, ℕ, List, Option, Some, sym, subst}
 use Rattle.http.specs.declared.request.Request.{Request}
 use Rattle.http_server.specs.declared.response.Response.{Response}
 use Rattle.mirroring.specs.Mirrorings.{MirroringOf}
-use Rattle.page_replies.specs.declared.page.Page.{Page}
-use Rattle.page_replies.specs.Replies.{Replies}
+use Rattle.markup.specs.declared.replies.page.Page.{Page}
+use Rattle.markup.specs.replies.Replies.{Replies}
 use Rattle.board_views.specs.Views.{IsPageAt}
 use Rattle.board_service.specs.declared.shelf.Shelf.{Shelf}
 use Rattle.hall_standings.specs.Halls.{HallDesksOf}

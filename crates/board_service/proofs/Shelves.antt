@@ -9,7 +9,7 @@ use Rattle.acceptor.specs.declared.entry.Entry.{Entry}
 use Rattle.indexmap.specs.IndexMap.{IndexMap, Updates, get_by_text}
 use Rattle.desk_sockets.specs.declared.desk_stream.Kept.{Kept}
 use Rattle.desk_sockets.specs.declared.desk_stream.Kept.TheVariants as kept
-use Rattle.page_replies.specs.declared.page.Page.{Page}
+use Rattle.markup.specs.declared.replies.page.Page.{Page}
 use Rattle.board_views.specs.Views.{IsPageAt}
 use Rattle.board_service.specs.declared.shelf.Shelf.{Shelf}
 use Rattle.board_service.specs.Shelves.{AreAllAt, HasNone, IsRefreshed, Puts}

@@ -8,8 +8,8 @@ use Rattle.http_uri.specs.Uri.{uri_path}
 use Rattle.http1.specs.Fields.{Header}
 use Rattle.http_server.specs.declared.response.Response.{Response}
 use Rattle.http_server.specs.Response.{IsResponse}
-use Rattle.page_replies.specs.declared.page.Page.{Page}
-use Rattle.page_replies.specs.Replies.{Replies, is_read, no_store}
+use Rattle.markup.specs.declared.replies.page.Page.{Page}
+use Rattle.markup.specs.replies.Replies.{Replies, is_read, no_store}
 use Rattle.board_views.specs.Views.{IsPageAt}
 use Rattle.mirroring.specs.Mirrorings.{MirroringOf}
 use Rattle.hall_standings.specs.Halls.{HallDesksOf, IsStatus, desks_wait}

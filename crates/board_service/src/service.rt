@@ -15,8 +15,8 @@ use desk_sockets::{DeskStream, Kept};
 use hall_standings::HallDesks;
 use http::Request;
 use http_server::{Response, Service};
+use markup::replies::{Page, is_read, reply};
 use mirroring::Mirroring;
-use page_replies::{Page, is_read, reply};
 use std::alloc::{AllocError, Global};
 use std::marker::Model;
 use std::net::Net;
@@ -177,7 +177,7 @@ impl BoardService {
 impl Service for BoardService {
     ghost use Rattle.board_service.specs.Services.{Answers};
 
-    // The response is that of `page_replies::reply` for the page that stands at the request's path
+    // The response is that of `markup::replies::reply` for the page that stands at the request's path
     // as the mirror is, or says how the desks stand, and nothing changes.
     ghost answers = { Answers };
 

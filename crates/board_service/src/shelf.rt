@@ -5,7 +5,7 @@ ghost use Rattle.indexmap.specs.IndexMap.{index_map_len};
 
 use desk_sockets::Kept;
 use indexmap::IndexMap;
-use page_replies::Page;
+use markup::replies::Page;
 use std::alloc::{AllocError, Global};
 
 /// The most pages that are kept.

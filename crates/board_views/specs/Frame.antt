@@ -1,6 +1,6 @@
 -- The frame of a page of HTML: what stands before, between and after its rounds.
 use Rattle.std.specs.Prelude.{ℕ, List, [], ◌∷◌, ◌++◌, codes}
-use Rattle.board_page.specs.Escaped.{escaped}
+use Rattle.markup.specs.board_page.Escaped.{escaped}
 
 unfoldable pub head : List ℕ → List ℕ
 head title =

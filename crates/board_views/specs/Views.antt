@@ -3,8 +3,8 @@ use Rattle.std.specs.Prelude.{◌≡◌, ◌⊎◌, ℕ, List, [], length, flat_
 use Rattle.std.specs.Prelude.{if◌then◌else◌, Option, None, Some}
 use Rattle.acceptor.specs.declared.entry.Entry.{Entry}
 use Rattle.http_header.specs.FieldValue.{plain_value}
-use Rattle.page_replies.specs.declared.page.Page.{Page}
-use Rattle.page_replies.specs.Tags.{tag_text}
+use Rattle.markup.specs.declared.replies.page.Page.{Page}
+use Rattle.markup.specs.replies.Tags.{tag_text}
 use Rattle.commands.specs.Accepted.{name_of, round_of}
 use Rattle.texts.specs.declared.command.Command.{Command}
 use Rattle.texts.specs.declared.command.RoundId.{RoundId}

@@ -4,7 +4,7 @@ ghost use Rattle.std.specs.Prelude.{◌≡◌, ◌++◌, OnOk, IfOk};
 ghost use Rattle.board_views.specs.Frame.{framed, head, inside, links, opening};
 
 use acceptor::NoMemory;
-use board_page::push_escaped;
+use markup::board_page::push_escaped;
 use std::alloc::Global;
 
 const HEAD: &[u8] = b"\

@@ -2,7 +2,7 @@
 
 ghost use Rattle.std.specs.Prelude.{◌≡◌, IfOk, length};
 ghost use Rattle.http_header.specs.FieldValue.{plain_value};
-ghost use Rattle.page_replies.specs.Tags.{tag_text};
+ghost use Rattle.markup.specs.replies.Tags.{tag_text};
 ghost use Rattle.board_views.specs.Paths.{StandsAt};
 ghost use Rattle.board_views.specs.Views.{kind_of, keeping_of, position_of, IsPageOf, IsPageAt};
 
@@ -11,8 +11,8 @@ use crate::paths::View;
 use acceptor::NoMemory;
 use bytes::Bytes;
 use http::HeaderValue;
+use markup::replies::{Page, entity_tag};
 use mirror::Mirror;
-use page_replies::{Page, entity_tag};
 use std::alloc::{AllocError, Global};
 
 /// What the body of a view is, as a browser is told.

@@ -8,7 +8,7 @@ use Rattle.formats.specs.declared.advance.Advance.TheVariants.{Final, Percent, T
 use Rattle.formats.specs.declared.events.Event.{Event}
 use Rattle.formats.specs.declared.events.Format.{Format}
 use Rattle.formats.specs.Events.{event_of_name, format_named, unit_of}
-use Rattle.notation.specs.Notation.{Spells as SpellsMoves}
+use Rattle.cube.specs.notation.Notation.{Spells as SpellsMoves}
 use Rattle.texts.specs.declared.command.Command.{Command}
 use Rattle.texts.specs.declared.command.Command.TheVariants as command
 use Rattle.texts.specs.declared.command.Entered.TheVariants as entered

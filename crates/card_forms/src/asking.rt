@@ -2,7 +2,7 @@
 
 ghost use Rattle.std.specs.Prelude.{◌≡◌, ◌↔◌, codes, Err, IfOk, None, Some};
 ghost use Rattle.card_forms.specs.Asking.{Asks, FieldsAsk, IsAsked, IsCommandText, field};
-ghost use Rattle.notation.specs.Notation.{Spells as SpellsMoves};
+ghost use Rattle.cube.specs.notation.Notation.{Spells as SpellsMoves};
 ghost use Rattle.card_forms.specs.Cards.{form_id_of};
 ghost use Rattle.card_forms.specs.Pairs.{value_of};
 
@@ -15,7 +15,7 @@ use crate::command_text::CommandText;
 use crate::form_id::FormId;
 use crate::pairs::Pairs;
 use crate::reading::trimmed;
-use notation::{Moves, ReadFault};
+use cube::notation::{Moves, ReadFault};
 use std::alloc::{AllocError, Global};
 use texts::{Command, CommandFault, Name, print, read};
 
@@ -63,7 +63,7 @@ fn rename(alloc: Global, pairs: &Pairs) -> Result<Command, FieldFault>
 fn moves_of(alloc: Global, pairs: &Pairs) -> Result<Moves, FieldFault>
     ensures { IfOk result (λ moves. SpellsMoves (field (codes "moves") pairs.now) moves) }
 {
-    match notation::read(alloc, trimmed(pairs.value("moves"))) {
+    match cube::notation::read(alloc, trimmed(pairs.value("moves"))) {
         Ok(moves) => Ok(moves),
         Err(ReadFault::NoMemory) => Err(FieldFault::NoMemory),
         Err(_) => Err(FieldFault::Wrong {

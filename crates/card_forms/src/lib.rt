@@ -30,6 +30,3 @@ pub use items::{Item, Outcome, Reason, Recent, State};
 pub use pairs::{Pair, Pairs};
 pub use reading::{card_of, number_of};
 pub use typed::{Fields, Typed};
-
-#[cfg(test)]
-mod tests;

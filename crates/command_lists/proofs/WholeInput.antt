@@ -1,7 +1,7 @@
 -- An input of known bytes that is read to its end, or as far as the limits allow.
 use Rattle.std.proofs.Common.{◌≡◌, ℕ, List, [], ◌++◌, Option, None, Some, sym, ap, ◌∙◌, refl}
 use Rattle.std.proofs.Common.{append-nil, true, false}
-use Rattle.command_file.specs.Commands.{Numbered, ReadsCommands, StopsReading, commands_of}
+use Rattle.lines.specs.command_file.Commands.{Numbered, ReadsCommands, StopsReading, commands_of}
 use Rattle.command_lists.specs.Lists.{IsReadFrom, fit, shorts, texts_in}
 use Rattle.lines.specs.Lines.{is_within}
 use Rattle.lines.specs.Reading.{IsAbove}

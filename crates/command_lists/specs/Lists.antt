@@ -1,7 +1,7 @@
 -- Commands that are sent together, from lines.
 use Rattle.std.specs.Prelude.{◌≡◌, ℕ, nat_le, if◌then◌else◌, List, [], ◌∷◌, ◌++◌, length}
 use Rattle.std.specs.Prelude.{Option, None, Some}
-use Rattle.command_file.specs.Commands.{Numbered, commands_of}
+use Rattle.lines.specs.command_file.Commands.{Numbered, commands_of}
 use Rattle.lines.specs.Lines.{is_within}
 
 -- the texts of commands after others; none where one has more than 600 bytes

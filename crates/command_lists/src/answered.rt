@@ -9,11 +9,11 @@ ghost use Rattle.mirror.specs.Answered.{answers_after};
 
 use card_forms::{CommandText, CommandTexts, FormId};
 use card_queue::command_entries;
-use code_meanings::meaning_of;
 use foretelling::foretell;
 use itoa::Buffer;
 use learner::log::Log;
 use std::alloc::{AllocError, Global};
+use texts::meanings::meaning_of;
 use texts::{Answer, Code};
 
 /// What each of these commands would be answered after a log, where they are entered one after the

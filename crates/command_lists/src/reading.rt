@@ -5,14 +5,14 @@ ghost use Rattle.std.specs.Option.{option_map};
 ghost use Rattle.command_lists.specs.Lists.{IsReadFrom, fit, shorts};
 
 use card_forms::{CommandText, CommandTexts};
-use command_file::read_commands;
 use lines::RunFault;
+use lines::command_file::read_commands;
 use std::alloc::{AllocError, Global};
 
 /// The texts of these commands. None where one has more than 600 bytes.
 fn shorts(
     alloc: Global,
-    commands: &[command_file::CommandText],
+    commands: &[lines::command_file::CommandText],
 ) -> Result<Option<Vec<CommandText>>, AllocError>
     ensures { IfOk result (λ texts. option_map (λ t. t.items) texts ≡ shorts [] commands.now) }
 {

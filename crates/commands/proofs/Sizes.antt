@@ -13,7 +13,7 @@ use Rattle.std.proofs.lemmas.List.{length-map}
 use Rattle.std.proofs.lemmas.List.Sums.{length-filter, count_by-le-length}
 use Rattle.std.proofs.Math.Nat.{div-mul-le_self}
 use Rattle.cube.specs.declared.moves.Move.{Move}
-use Rattle.notation.specs.Notation.{is_turn, turn_count}
+use Rattle.cube.specs.notation.Notation.{is_turn, turn_count}
 use Rattle.attempts.specs.declared.Fm.TheVariants as fm
 use Rattle.fmc_check.specs.Fewest.{is_solution, result_of}
 use Rattle.attempts.specs.declared.Value.{Value}

@@ -1,3 +1,4 @@
 pub mod Stickers
 pub mod Turns
 pub mod model
+pub mod notation

@@ -5,6 +5,7 @@
 mod laws;
 mod layers;
 mod moves;
+pub mod notation;
 mod pieces;
 mod turning;
 

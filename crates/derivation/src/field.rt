@@ -14,8 +14,8 @@ use crate::standing::Standing;
 use attempts::{NoMemory, Value};
 use commands::{Meet, is_wrong, lacks_scramble, settled};
 use cube::Move;
+use cube::notation::Moves;
 use formats::unit_of;
-use notation::Moves;
 use std::alloc::Global;
 use texts::{AttemptEntry, Command, Entered, RoundId, Settings, print};
 

@@ -12,17 +12,17 @@ use Rattle.exports.specs.declared.fault.ResultsFault.{ResultsFault}
 use Rattle.exports.specs.declared.fault.ResultsFault.TheVariants as results
 use Rattle.exports.specs.declared.logs.LogFault.{LogFault as ExportsLogFault}
 use Rattle.exports.specs.declared.logs.LogFault.TheVariants as log
-use Rattle.imports.specs.Printing.{status_of as status_of_import}
-use Rattle.imports.specs.declared.fault.ImportsFault.{ImportsFault}
-use Rattle.imports.specs.declared.fault.ImportsFault.TheVariants as imported
-use Rattle.key_file.specs.declared.fault.KeyFileFault.{KeyFileFault}
-use Rattle.key_file.specs.declared.fault.KeyFileFault.TheVariants as key
+use Rattle.exports.specs.imports.Printing.{status_of as status_of_import}
+use Rattle.exports.specs.declared.imports.fault.ImportsFault.{ImportsFault}
+use Rattle.exports.specs.declared.imports.fault.ImportsFault.TheVariants as imported
+use Rattle.keys.specs.declared.key_file.fault.KeyFileFault.{KeyFileFault}
+use Rattle.keys.specs.declared.key_file.fault.KeyFileFault.TheVariants as key
 use Rattle.lines.specs.declared.fault.RunFault.{RunFault}
 use Rattle.lines.specs.declared.fault.RunFault.TheVariants as run
 use Rattle.sqlite.specs.Recovery.{Image}
-use Rattle.stored_log.specs.StoredLogs.{FailsLog, PrintsLogPart}
-use Rattle.stored_log.specs.declared.fault.LogFault.{LogFault}
-use Rattle.stored_log.specs.declared.fault.LogFault.TheVariants as stored
+use Rattle.desk_file.specs.stored_log.StoredLogs.{FailsLog, PrintsLogPart}
+use Rattle.desk_file.specs.declared.stored_log.fault.LogFault.{LogFault}
+use Rattle.desk_file.specs.declared.stored_log.fault.LogFault.TheVariants as stored
 use Rattle.wcif.specs.declared.file.FileFault.TheVariants as file
 use Rattle.wcif_results.specs.declared.exporting.ExportFault.TheVariants as export
 

@@ -4,9 +4,9 @@ use Rattle.std.specs.Io.KnownBytes.{Keeps}
 use Rattle.errands.specs.Statuses.{status_of}
 use Rattle.errands.specs.declared.fault.DeskFault.{DeskFault}
 use Rattle.errands.specs.declared.fault.DeskFault.TheVariants as fault
-use Rattle.key_file.specs.KeyFiles.{PrintsSomeKey}
-use Rattle.key_file.specs.declared.fault.MakeFault.{MakeFault}
-use Rattle.key_file.specs.declared.fault.MakeFault.TheVariants as making
+use Rattle.keys.specs.key_file.KeyFiles.{PrintsSomeKey}
+use Rattle.keys.specs.declared.key_file.fault.MakeFault.{MakeFault}
+use Rattle.keys.specs.declared.key_file.fault.MakeFault.TheVariants as making
 use Rattle.lines.specs.declared.fault.RunFault.TheVariants as run
 
 -- the fault of a key that is not made

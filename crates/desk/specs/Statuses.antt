@@ -15,9 +15,9 @@ use Rattle.hall.specs.Halls.{run_of as hall_run_of}
 use Rattle.hall_file.specs.Halls.{Says, texts_of}
 use Rattle.hall_file.specs.declared.hall_file.HallFile.{HallFile}
 use Rattle.batch.specs.Dialing.{Dialed}
-use Rattle.imports.specs.Printing.{FailsImport, PrintsImport}
-use Rattle.imports.specs.Printing.{status_of as status_of_import}
-use Rattle.imports.specs.declared.fault.ImportsFault.{ImportsFault}
+use Rattle.exports.specs.imports.Printing.{FailsImport, PrintsImport}
+use Rattle.exports.specs.imports.Printing.{status_of as status_of_import}
+use Rattle.exports.specs.declared.imports.fault.ImportsFault.{ImportsFault}
 use Rattle.exports.specs.Files.{FailsExport, PrintsExport}
 use Rattle.exports.specs.Results.{FailsResults, PrintsResults}
 use Rattle.exports.specs.Statuses.{export_status, results_status}
@@ -27,13 +27,13 @@ use Rattle.wcif.specs.declared.options.Options.{Options}
 use Rattle.replay.specs.Apart.{Told}
 use Rattle.standings.specs.declared.forms.Form.{Form}
 use Rattle.standings.specs.declared.forms.Form.TheVariants as form
-use Rattle.stored_log.specs.StoredLogs.{PrintsLog, PrintsLogPart}
-use Rattle.stored_log.specs.declared.fault.LogFault.{LogFault}
-use Rattle.stored_log.specs.declared.fault.LogFault.TheVariants as stored
+use Rattle.desk_file.specs.stored_log.StoredLogs.{PrintsLog, PrintsLogPart}
+use Rattle.desk_file.specs.declared.stored_log.fault.LogFault.{LogFault}
+use Rattle.desk_file.specs.declared.stored_log.fault.LogFault.TheVariants as stored
 use Rattle.serve.specs.Printing.{Prints, PrintsAt, output}
 use Rattle.serve.specs.declared.fault.ServeFault.{ServeFault}
 use Rattle.serve.specs.declared.fault.ServeFault.TheVariants as serve
-use Rattle.service.specs.declared.Service.{Service}
+use Rattle.hall_file.specs.declared.service.Service.{Service}
 use Rattle.arguments.specs.Asking.{Asks}
 use Rattle.errands.specs.Statuses.{status_of}
 use Rattle.errands.specs.declared.fault.DeskFault.{DeskFault}

@@ -5,7 +5,7 @@ ghost use Rattle.std.specs.Io.KnownBytes.{Keeps};
 ghost use Rattle.desk.specs.Keys.{EndsKey, IsMade, IsUnmade, fault_of_making};
 
 use errands::DeskFault;
-use key_file::{MakeFault, make_key, make_key_at};
+use keys::key_file::{MakeFault, make_key, make_key_at};
 use lines::RunFault;
 use std::io::Write;
 use tasks::tell_missing;

@@ -15,16 +15,16 @@ use addressing::print_hall_file;
 use arguments::{Asked, Task, parse, task_of};
 use batch::{Dial, RoundSheet};
 use command_line::borrowed;
+use desk_file::stored_log::{LogFault, write_stored_log};
 use errands::DeskFault;
+use exports::imports::{print_file, tell_import};
 use fault_lines::{run_replay, tell_bad_number, tell_fault, tell_parse_error, tell_run};
 use hall::hall;
-use imports::{print_file, tell_import};
 use lines::RunFault;
 use replay_arguments::ReplayTask;
 use sqlite::Unknown;
 use standings::Form;
 use std::io::{Read, Write};
-use stored_log::{LogFault, write_stored_log};
 use tasks::{
     Watching, carry_at, copy_log_at, enter_at, enter_lines_at, newest_at, status_at, tell_log,
     tell_missing,

@@ -3,6 +3,7 @@
 
 mod fault;
 mod opening;
+pub mod stored_log;
 
 pub use fault::fault_of_load;
 pub use opening::{make_keeper, open_file, open_keeper, open_keeper_there};

@@ -6,11 +6,11 @@ use Rattle.sealed.specs.Callings.{CallingOf}
 use Rattle.sealed.specs.Callings as Callings
 use Rattle.sealed.specs.declared.calling.Trouble.{Trouble}
 use Rattle.sealed.specs.declared.calling.Trouble.TheVariants as sealed_as
-use Rattle.calls.specs.declared.trouble.CallTrouble.{CallTrouble}
-use Rattle.calls.specs.declared.trouble.CallTrouble.TheVariants.{HasKey, OtherKey}
-use Rattle.calls.specs.Calls.{CallOf, end_by, end_trouble, fresh_call, is_there, own_key}
-use Rattle.calls.specs.Calls.{sealed_trouble, silent_trouble, trouble_by, trouble_of}
-use Rattle.calls.specs.Plain.{is_mark}
+use Rattle.sealed.specs.declared.ends.trouble.CallTrouble.{CallTrouble}
+use Rattle.sealed.specs.declared.ends.trouble.CallTrouble.TheVariants.{HasKey, OtherKey}
+use Rattle.sealed.specs.ends.Calls.{CallOf, end_by, end_trouble, fresh_call, is_there, own_key}
+use Rattle.sealed.specs.ends.Calls.{sealed_trouble, silent_trouble, trouble_by, trouble_of}
+use Rattle.sealed.specs.ends.Plain.{is_mark}
 use Rattle.desk_sockets.specs.declared.connection.After.{After}
 use Rattle.desk_sockets.specs.declared.connection.After.TheVariants as after
 use Rattle.desk_sockets.specs.Connections.{Follows, is_harmless}

@@ -1,6 +1,6 @@
 -- What becomes of a connection when it is read or written.
 use Rattle.std.specs.Prelude.{◌≡◌, ℕ, List, Bool, true, false, Option, None, Some, is_some}
-use Rattle.calls.specs.Calls.{CallOf, own_key}
+use Rattle.sealed.specs.ends.Calls.{CallOf, own_key}
 use Rattle.desk_talks.specs.declared.dialogue.Came.{Came}
 use Rattle.desk_talks.specs.declared.dialogue.Came.TheVariants as came
 use Rattle.desk_sockets.specs.declared.connection.After.{After}

@@ -1,6 +1,6 @@
 -- What a contract sees of a connection to a desk.
 use Rattle.std.specs.Prelude.{ℕ, List, Option, None}
-use Rattle.calls.specs.declared.trouble.CallTrouble.{CallTrouble}
+use Rattle.sealed.specs.declared.ends.trouble.CallTrouble.{CallTrouble}
 
 -- the key, if there is one, and what was wrong with the last connection
 pub record StreamOf : Type 0 where

@@ -1,7 +1,7 @@
 -- What can be wrong with the keys of the two sides of a connection.
 use Rattle.std.specs.Prelude.{Bool, true, not, Option, None, Some}
-use Rattle.calls.specs.declared.trouble.CallTrouble.{CallTrouble}
-use Rattle.calls.specs.declared.trouble.CallTrouble.TheVariants.{NoKey, OtherKey, HasKey}
+use Rattle.sealed.specs.declared.ends.trouble.CallTrouble.{CallTrouble}
+use Rattle.sealed.specs.declared.ends.trouble.CallTrouble.TheVariants.{NoKey, OtherKey, HasKey}
 
 -- whoever has a key can be told that a desk has none, or another one; whoever has none, that a desk
 -- has one

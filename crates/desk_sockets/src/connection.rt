@@ -2,12 +2,12 @@
 
 ghost use Rattle.std.specs.Prelude.{◌≡◌, false, true};
 ghost use Rattle.desk_talks.specs.Dialogues.{has_changed};
-ghost use Rattle.calls.specs.Calls.{own_key};
+ghost use Rattle.sealed.specs.ends.Calls.{own_key};
 ghost use Rattle.desk_sockets.specs.Connections.{Follows, after_came, is_harmless};
 
-use calls::{Call, CallTrouble};
 use desk_talks::{Came, Dialogue};
 use mio::net::TcpStream;
+use sealed::ends::{Call, CallTrouble};
 use std::io;
 use std::io::{ErrorKind, Read, Write};
 

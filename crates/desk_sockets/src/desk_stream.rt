@@ -1,16 +1,16 @@
 //! One connection at a time to a desk of a hall.
 
 ghost use Rattle.std.specs.Prelude.{◌≡◌, false, true, is_some, IfSome};
-ghost use Rattle.calls.specs.Calls.{own_key};
+ghost use Rattle.sealed.specs.ends.Calls.{own_key};
 ghost use Rattle.desk_sockets.specs.Connections.{Follows};
 ghost use Rattle.desk_sockets.specs.Streams.{fresh_stream};
 ghost use Rattle.desk_sockets.specs.Troubles.{fits};
 
 use crate::connection::{After, Connection};
-use calls::{Call, CallTrouble};
 use desk_talks::{Dialogue, Wish};
 use mio::net::TcpStream;
 use mio::{Interest, Registry, Token};
+use sealed::ends::{Call, CallTrouble};
 use std::alloc::Global;
 use std::io;
 use std::io::ErrorKind;
@@ -53,7 +53,7 @@ pub struct DeskStream<'a, R> {
 impl<'a, R> Model for DeskStream<'a, R> {
     ghost use Rattle.std.specs.Prelude.{◌≡◌, is_some, true};
     ghost use Rattle.std.specs.Option.{ForSome};
-    ghost use Rattle.calls.specs.Calls.{own_key};
+    ghost use Rattle.sealed.specs.ends.Calls.{own_key};
     ghost use Rattle.desk_sockets.specs.Streams.{StreamOf, stream};
     ghost use Rattle.desk_sockets.specs.Troubles.{fits};
 

@@ -4,5 +4,5 @@
 mod connection;
 mod desk_stream;
 
-pub use calls::CallTrouble;
 pub use desk_stream::{DeskStream, Kept};
+pub use sealed::ends::CallTrouble;

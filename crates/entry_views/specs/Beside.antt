@@ -1,8 +1,8 @@
 -- The round beside the card: its cells are the fields of the sheet's table.
 use Rattle.std.specs.Prelude.{◌≡◌, ℕ, List, [], ◌∷◌, ◌++◌, codes, decimal, flat_map, get_or, drop}
 use Rattle.std.specs.Prelude.{Option, None, Some}
-use Rattle.board_page.specs.Escaped.{escaped}
-use Rattle.board_page.specs.Table.{cell, heading, AreRecordsOf}
+use Rattle.markup.specs.board_page.Escaped.{escaped}
+use Rattle.markup.specs.board_page.Table.{cell, heading, AreRecordsOf}
 use Rattle.formats.specs.declared.events.Format.{Format}
 use Rattle.rounds.specs.Tables.{Table}
 use Rattle.round_counts.specs.Counts.{counts, progress_in}

@@ -5,7 +5,7 @@ use Rattle.attempts.specs.declared.Unit.{Unit as Measure}
 use Rattle.attempts.specs.declared.Unit.TheVariants.{Time, Moves, Multi}
 use Rattle.attempts.specs.declared.Value.{Value}
 use Rattle.attempts.specs.Texts.{value_text}
-use Rattle.board_page.specs.Escaped.{escaped}
+use Rattle.markup.specs.board_page.Escaped.{escaped}
 use Rattle.derivation.specs.Cards.{values_of}
 use Rattle.formats.specs.declared.events.Format.{Format}
 use Rattle.rounds.specs.Tables.{Table}

@@ -5,3 +5,4 @@ pub mod Card
 pub mod Beside
 pub mod Origin
 pub mod Page
+pub mod paper

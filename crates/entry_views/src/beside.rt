@@ -1,17 +1,17 @@
 //! The round beside the card.
 
 ghost use Rattle.std.specs.Prelude.{◌≡◌, ◌++◌, OnOk, drop, flat_map, map};
-ghost use Rattle.board_page.specs.Adding.{Adds};
-ghost use Rattle.board_page.specs.Table.{cell};
+ghost use Rattle.markup.specs.board_page.Adding.{Adds};
+ghost use Rattle.markup.specs.board_page.Table.{cell};
 ghost use Rattle.csv.specs.Records.{fields_of};
 ghost use Rattle.entry_views.specs.Beside.{class_of, count_line, line};
 ghost use Rattle.entry_views.specs.Beside.{line_start, number_cell, number_link, progress_at};
 ghost use Rattle.entry_views.specs.Beside.{section_head, table_start, table_text, IsBeside};
 
 use acceptor::NoMemory;
-use board_page::{field_at, push_cell, push_each_heading, records_of};
 use csv::ByteRecord;
 use formats::Format;
+use markup::board_page::{field_at, push_cell, push_each_heading, records_of};
 use markup::{Piece, push_pieces};
 use round_counts::{Counts, Opened, Progress, counts_of, progress_of};
 use round_words::{push_round_name, push_round_words};

@@ -2,7 +2,7 @@
 
 ghost use Rattle.std.specs.Prelude.{◌≡◌, ◌++◌, [], OnOk, flat_map, option_map, unwrap_or};
 ghost use Rattle.std.specs.Prelude.{slice_get};
-ghost use Rattle.board_page.specs.Escaped.{escaped};
+ghost use Rattle.markup.specs.board_page.Escaped.{escaped};
 ghost use Rattle.entry_views.specs.Fields.{competitor_of, field, field_start, filled, name_if};
 ghost use Rattle.entry_views.specs.Fields.{notes_of, number_field, number_text};
 ghost use Rattle.entry_views.specs.Fields.{standing_filled, standing_of, standing_text};
@@ -11,9 +11,9 @@ use crate::draft::Draft;
 use crate::notes::{Note, push_notes};
 use acceptor::NoMemory;
 use attempts::{Unit, Value};
-use board_page::push_escaped;
 use card_forms::Typed;
 use commands::Meet;
+use markup::board_page::push_escaped;
 use markup::{Piece, push_pieces};
 use round_words::push_value;
 use rounds::RoundTable;

@@ -9,6 +9,7 @@ mod leaving;
 mod notes;
 mod origin;
 mod page;
+pub mod paper;
 
 pub use draft::Draft;
 pub use notes::Note;

@@ -4,8 +4,8 @@ use Rattle.std.specs.declared.io.ErrorKind.{ErrorKind}
 use Rattle.std.specs.declared.io.ErrorKind.TheVariants as kind
 use Rattle.batch.specs.declared.dialing.Ending.{Ending}
 use Rattle.batch.specs.declared.dialing.Ending.TheVariants as ending
-use Rattle.calls.specs.declared.trouble.CallTrouble.{CallTrouble}
-use Rattle.calls.specs.declared.trouble.CallTrouble.TheVariants as trouble
+use Rattle.sealed.specs.declared.ends.trouble.CallTrouble.{CallTrouble}
+use Rattle.sealed.specs.declared.ends.trouble.CallTrouble.TheVariants as trouble
 
 -- the keys of the two sides do not fit
 abbrev pub trouble_ending : CallTrouble → Ending

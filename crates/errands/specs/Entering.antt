@@ -12,9 +12,9 @@ use Rattle.batch.specs.declared.asking.Receiver.{Receiver}
 use Rattle.batch.specs.declared.fault.BatchFault.{BatchFault}
 use Rattle.batch.specs.declared.lines_entered.Batch.{Batch}
 use Rattle.client.specs.Printing.{reply_text}
-use Rattle.code_meanings.specs.Meanings.{meaning_of}
-use Rattle.command_file.specs.Commands.{Numbered, ReadsCommands, StopsReading}
-use Rattle.command_file.specs.Faults.{first_fault}
+use Rattle.texts.specs.meanings.Meanings.{meaning_of}
+use Rattle.lines.specs.command_file.Commands.{Numbered, ReadsCommands, StopsReading}
+use Rattle.lines.specs.command_file.Faults.{first_fault}
 use Rattle.lines.specs.Bytes.{AppendsPart, Sides}
 use Rattle.lines.specs.declared.fault.RunFault.{RunFault}
 use Rattle.lines.specs.declared.fault.RunFault.TheVariants as run

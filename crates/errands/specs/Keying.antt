@@ -1,6 +1,6 @@
 -- Under which key a desk is asked.
 use Rattle.std.specs.Prelude.{◌≡◌, ℕ, List, Option}
-use Rattle.calls.specs.Calls.{own_key}
+use Rattle.sealed.specs.ends.Calls.{own_key}
 use Rattle.errands.specs.declared.incoming.Answer.{Answer}
 use Rattle.errands.specs.declared.outgoing.Outgoing.{Outgoing}
 

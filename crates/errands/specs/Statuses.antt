@@ -3,8 +3,8 @@ use Rattle.std.specs.Prelude.{◌++◌, ℕ, List, codes, decimal}
 use Rattle.client.specs.declared.fault.ClientFault.{ClientFault}
 use Rattle.client.specs.declared.fault.ClientFault.TheVariants as client
 use Rattle.fault_lines.specs.Statuses.{status_of_run}
-use Rattle.key_file.specs.declared.fault.KeyFileFault.{KeyFileFault}
-use Rattle.key_file.specs.declared.fault.KeyFileFault.TheVariants as key
+use Rattle.keys.specs.declared.key_file.fault.KeyFileFault.{KeyFileFault}
+use Rattle.keys.specs.declared.key_file.fault.KeyFileFault.TheVariants as key
 use Rattle.lines.specs.declared.fault.RunFault.TheVariants as run
 use Rattle.batch.specs.declared.dialing.Contact.{Contact}
 use Rattle.batch.specs.declared.fault.BatchFault.{BatchFault}

@@ -4,7 +4,7 @@ ghost use Rattle.std.specs.Prelude.{◌≡◌};
 ghost use Rattle.errands.specs.Endings.{cut_ending, ending_at, trouble_ending};
 
 use batch::Ending;
-use calls::CallTrouble;
+use sealed::ends::CallTrouble;
 use std::io::ErrorKind;
 
 /// How a connection ends on which the two sides' keys do not fit.

@@ -21,14 +21,14 @@ use crate::report::{Progress, Report};
 use arguments::Lines;
 use batch::{Batch, BatchFault, Contact, Dial, Receiver, enter_command, enter_lines, told_answer};
 use client::reply_text;
-use code_meanings::meaning_of;
-use command_file::{CommandText, first_fault, read_commands};
+use lines::command_file::{CommandText, first_fault, read_commands};
 use lines::{RunFault, write_text};
 use std::alloc::{AllocError, Global};
 use std::io::{Read, Write};
 use std::random::RandomSource;
 use std::time::Clock;
 use texts::Answer;
+use texts::meanings::meaning_of;
 use wire::What;
 
 /// The id of the first of so many commands: the one that is given, or one that is drawn.

@@ -6,9 +6,9 @@ ghost use Rattle.errands.specs.Statuses.{key_status, status_of, store_back, stor
 use batch::{BatchFault, Contact};
 use client::{ClientFault, refusal_name};
 use fault_lines::status_of_run;
-use key_file::KeyFileFault;
+use hall_file::service::Service;
+use keys::key_file::KeyFileFault;
 use lines::RunFault;
-use service::Service;
 use std::fmt;
 use std::io::Write;
 use wire::ClientRefusal;

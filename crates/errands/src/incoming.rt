@@ -2,12 +2,12 @@
 
 ghost use Rattle.std.specs.Prelude.{◌≡◌};
 ghost use Rattle.std.specs.Io.{ReadsAtMost};
-ghost use Rattle.calls.specs.Calls.{own_key};
+ghost use Rattle.sealed.specs.ends.Calls.{own_key};
 
 use crate::endings::{cut_ending, ending_at, trouble_ending};
 use crate::waiting::Wait;
 use batch::Ending;
-use calls::Call;
+use sealed::ends::Call;
 use std::alloc::Global;
 use std::io;
 use std::io::{Cursor, ErrorKind, Read};

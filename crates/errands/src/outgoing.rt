@@ -1,9 +1,9 @@
 //! Where requests to a desk go.
 
 ghost use Rattle.std.specs.Prelude.{◌≡◌};
-ghost use Rattle.calls.specs.Calls.{own_key};
+ghost use Rattle.sealed.specs.ends.Calls.{own_key};
 
-use calls::Call;
+use sealed::ends::Call;
 use std::io;
 use std::io::{ErrorKind, Write};
 use std::net::TcpStream;

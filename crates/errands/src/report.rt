@@ -4,7 +4,7 @@ use crate::reasons::Reasons;
 use crate::timing::{a_minute, is_due, seconds_left};
 use acceptor::entry::Entry;
 use batch::Watch;
-use command_file::CommandText;
+use lines::command_file::CommandText;
 use std::alloc::Global;
 use std::io::Write;
 use std::time::{Clock, Instant};

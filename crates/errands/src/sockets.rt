@@ -2,7 +2,7 @@
 //! longer.
 
 ghost use Rattle.std.specs.Prelude.{◌≡◌, IfOk};
-ghost use Rattle.calls.specs.Calls.{own_key};
+ghost use Rattle.sealed.specs.ends.Calls.{own_key};
 ghost use Rattle.errands.specs.Keying.{AreUnder};
 
 use crate::drawing::drawn_bytes;
@@ -10,7 +10,7 @@ use crate::incoming::Answer;
 use crate::outgoing::Outgoing;
 use crate::waiting::Wait;
 use batch::{Contact, Dial, Ending};
-use calls::Call;
+use sealed::ends::Call;
 use std::alloc::Global;
 use std::io::ErrorKind;
 use std::net::{TcpStream, ToSocketAddrs};

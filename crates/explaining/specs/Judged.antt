@@ -6,7 +6,7 @@ use Rattle.std.specs.declared.io.ErrorKind.{ErrorKind}
 use Rattle.std.specs.declared.io.ErrorKind.TheVariants as kind
 use Rattle.errands.specs.declared.fault.DeskFault.{DeskFault}
 use Rattle.errands.specs.declared.fault.DeskFault.TheVariants as fault
-use Rattle.key_file.specs.declared.fault.KeyFileFault.TheVariants as key_file
+use Rattle.keys.specs.declared.key_file.fault.KeyFileFault.TheVariants as key_file
 use Rattle.wire.specs.declared.frame.Frame.{Frame}
 use Rattle.wire.specs.declared.frame.What.{What}
 use Rattle.wire.specs.declared.frame.What.TheVariants as what

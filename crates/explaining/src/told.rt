@@ -9,7 +9,7 @@ use crate::findings::{
     AddressFinding, CommandCount, DeskName, FileFinding, Finding, KeyFinding, OtherDesk,
 };
 use errands::DeskFault;
-use key_file::KeyFileFault;
+use keys::key_file::KeyFileFault;
 use std::io::ErrorKind;
 use wire::{Frame, What};
 

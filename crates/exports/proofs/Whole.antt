@@ -6,10 +6,10 @@ use Rattle.std.specs.Prelude.{Result, Err, IfErr}
 use Rattle.std.proofs.lemmas.Bool.Decides.{nat_tests}
 use Rattle.std.proofs.KnownBytes.{Keeps-refl}
 use Rattle.commands.specs.History.{History}
-use Rattle.imports.proofs.Whole.{all_of}
-use Rattle.imports.specs.Printing.{IsFront}
-use Rattle.imports.specs.declared.reading.ReadFault.{ReadFault}
-use Rattle.imports.specs.declared.reading.ReadFault.TheVariants as read
+use Rattle.exports.proofs.imports.Whole.{all_of}
+use Rattle.exports.specs.imports.Printing.{IsFront}
+use Rattle.exports.specs.declared.imports.reading.ReadFault.{ReadFault}
+use Rattle.exports.specs.declared.imports.reading.ReadFault.TheVariants as read
 use Rattle.lines.specs.Lines.{is_within}
 use Rattle.wcif.specs.Files.{most_bytes}
 use Rattle.wcif_results.specs.Files.{ExportFails}

@@ -3,3 +3,4 @@ pub mod Logs
 pub mod Results
 pub mod Statuses
 pub mod model
+pub mod imports

@@ -5,9 +5,9 @@ use Rattle.std.specs.List.{list_any}
 use Rattle.commands.specs.Accepted.{round_of}
 use Rattle.commands.specs.History.{History, history}
 use Rattle.formats.specs.Events.{all_events}
-use Rattle.imports.specs.Printing.{IsFront}
-use Rattle.imports.specs.declared.reading.ReadFault.{ReadFault}
-use Rattle.imports.specs.declared.reading.ReadFault.TheVariants as read
+use Rattle.exports.specs.imports.Printing.{IsFront}
+use Rattle.exports.specs.declared.imports.reading.ReadFault.{ReadFault}
+use Rattle.exports.specs.declared.imports.reading.ReadFault.TheVariants as read
 use Rattle.lines.specs.Bytes.{HasLeft}
 use Rattle.lines.specs.Lines.{is_within, lines_of}
 use Rattle.lines.specs.declared.fault.RunFault.{RunFault}

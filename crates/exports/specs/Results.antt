@@ -3,7 +3,7 @@ use Rattle.std.specs.Prelude.{◌≡◌, ℕ, List, [], ◌∷◌, ◌++◌, Opt
 use Rattle.std.specs.Io.KnownBytes.{Appends, Keeps}
 use Rattle.commands.specs.History.{History}
 use Rattle.lines.specs.Bytes.{AppendsPart}
-use Rattle.results_json.specs.Meets.{meet_json}
+use Rattle.wcif_results.specs.results_json.Meets.{meet_json}
 use Rattle.texts.specs.declared.command.Command.{Command}
 use Rattle.wcif_results.specs.Files.{IsTextOf}
 use Rattle.exports.specs.Logs.{LogFails, ReadsMeet}

@@ -4,9 +4,9 @@ ghost use Rattle.std.specs.Prelude.{IfErr, IfOk, None, OnOk};
 ghost use Rattle.exports.specs.Files.{FailsExport, IsFilledLine, IsUnfilled, PrintsExport};
 
 use crate::fault::ExportsFault;
+use crate::imports::{ReadFault, read_bytes};
 use crate::logs::{opens_any, read_log};
 use commands::Meet;
-use imports::{ReadFault, read_bytes};
 use lines::write_text;
 use std::alloc::Global;
 use std::fs::File;

@@ -4,6 +4,7 @@
 
 mod fault;
 mod files;
+pub mod imports;
 mod logs;
 mod results;
 

@@ -7,9 +7,9 @@ ghost use Rattle.exports.specs.Logs.{is_whole, opens_any};
 ghost use Rattle.exports.specs.declared.logs.LogFault.TheVariants as log_fault;
 ghost use Rattle.exports.specs.model.Applying.{AppliesAll, AppliesNotAll};
 
+use crate::imports::{ReadFault, read_bytes};
 use commands::Meet;
 use formats::Event;
-use imports::{ReadFault, read_bytes};
 use lines::{LineReader, RunFault};
 use std::alloc::{AllocError, Global};
 use std::io::Read;

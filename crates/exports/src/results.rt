@@ -8,9 +8,9 @@ use crate::fault::ResultsFault;
 use crate::logs::read_log;
 use commands::Meet;
 use lines::write_text;
-use results_json::results_text;
 use std::alloc::Global;
 use std::io::{Read, Write};
+use wcif_results::results_json::results_text;
 
 /// The JSON of the results of a meet, and a line feed.
 fn results_line(alloc: Global, meet: &Meet) -> Result<Vec<u8>, ResultsFault>

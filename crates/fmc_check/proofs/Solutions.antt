@@ -8,7 +8,7 @@ use Rattle.std.specs.Cmp.Derive.{both_true}
 use Rattle.cube.specs.declared.moves.Colour.{Colour}
 use Rattle.cube.specs.declared.moves.Move.{Move}
 use Rattle.cube.specs.Turns.{after, first_arrangement, IsSolved}
-use Rattle.notation.specs.Notation.{turn_count}
+use Rattle.cube.specs.notation.Notation.{turn_count}
 use Rattle.attempts.specs.declared.Fm.{Fm}
 use Rattle.attempts.specs.declared.Fm.TheVariants.{Moves, Dnf}
 use Rattle.fmc_check.specs.Fewest.{final, Solves, is_solved, is_solution, result_of, TestsSolved}

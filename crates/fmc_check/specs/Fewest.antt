@@ -7,7 +7,7 @@ use Rattle.cube.specs.declared.moves.Colour.{Colour}
 use Rattle.cube.specs.declared.moves.Move.{Move}
 use Rattle.cube.specs.Stickers.{Zero, Sticker, sticker_on, stickers, side_of}
 use Rattle.cube.specs.Turns.{after, first_arrangement, colour_at, code, IsSolved}
-use Rattle.notation.specs.Notation.{turn_count}
+use Rattle.cube.specs.notation.Notation.{turn_count}
 use Rattle.attempts.specs.declared.Fm.{Fm}
 use Rattle.attempts.specs.declared.Fm.TheVariants.{Moves, Dnf}
 

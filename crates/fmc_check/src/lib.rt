@@ -3,16 +3,16 @@
 
 ghost use Rattle.std.specs.Prelude.{◌≡◌, ◌≤◌, ◌↔◌, IsTrue, length};
 ghost use Rattle.cube.specs.Turns.{after};
-ghost use Rattle.notation.specs.Notation.{turn_count};
+ghost use Rattle.cube.specs.notation.Notation.{turn_count};
 ghost use Rattle.attempts.specs.Attempts.{IsResult};
 ghost use Rattle.fmc_check.specs.Fewest.{Solves, result_of};
 
 mod laws;
 
 pub use attempts::Fm;
+use cube::notation::count;
 use cube::{Cube, Move};
 pub use laws::{solution_is_tested, solved_is_tested};
-use notation::count;
 
 /// The most moves that a solution may have, rotations included (WCA Regulations, article E).
 pub const MOST_MOVES: usize = 80;

@@ -5,7 +5,7 @@ use Rattle.std.proofs.Common.{append_assoc, length-append, subst}
 use Rattle.std.specs.Prelude.{Result, Ok, Err, OnOk, OnErr, IfErr}
 use Rattle.std.proofs.KnownBytes.{Appends-trans, Appends-nil}
 use Rattle.std.specs.Io.KnownBytes.{Appends}
-use Rattle.world.specs.WorldValues.{WorldValue, extended}
+use Rattle.hall.specs.world.WorldValues.{WorldValue, extended}
 use Rattle.lines.specs.Bytes.{Writes, AppendsPart, HasLeft}
 use Rattle.lines.specs.Lines.{lines_of, lines_read}
 use Rattle.lines.specs.Reading.{Reading, nothing_read, HasGiven, GivesLine, GivesFault, Gives}

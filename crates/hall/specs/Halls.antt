@@ -5,7 +5,7 @@ use Rattle.std.specs.List.{range_with_len}
 use Rattle.std.specs.Io.KnownBytes.{Appends, IsAtEnd}
 use Rattle.learner.specs.declared.event.WorldEvent.{WorldEvent}
 use Rattle.learner.specs.Worlds.{after, log_of}
-use Rattle.world.specs.WorldValues.{last_fault}
+use Rattle.hall.specs.world.WorldValues.{last_fault}
 use Rattle.lines.specs.Lines.{whole_lines, is_within, lines_read}
 use Rattle.lines.specs.Bytes.{HasLeft, AppendsPart, Sides}
 use Rattle.lines.specs.declared.fault.RunFault.{RunFault}

@@ -10,9 +10,10 @@ use Rattle.acceptor.specs.declared.message.Body.{Body}
 use Rattle.acceptor.specs.declared.message.Body.TheVariants.{Prepare, Promise, Accept, Accepted}
 use Rattle.acceptor.specs.declared.message.Body.TheVariants.{Nack, Behind, Decided}
 use Rattle.acceptor.specs.declared.message.Message.{Message}
-use Rattle.roles.specs.declared.fault.NodeFault.{NodeFault}
-use Rattle.roles.specs.declared.fault.NodeFault.TheVariants.{Busy, LogFull, BallotsSpent, NoMemory}
-use Rattle.roles.specs.declared.fault.NodeFault.TheVariants.{Down}
+use Rattle.replica.specs.declared.roles.fault.NodeFault.{NodeFault}
+use Rattle.replica.specs.declared.roles.fault.NodeFault.TheVariants.{Busy, LogFull, BallotsSpent}
+use Rattle.replica.specs.declared.roles.fault.NodeFault.TheVariants.{NoMemory}
+use Rattle.replica.specs.declared.roles.fault.NodeFault.TheVariants.{Down}
 
 -- a number as a field: a space and the number in decimal
 abbrev pub number_field : ℕ → List ℕ

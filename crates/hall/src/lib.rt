@@ -5,6 +5,7 @@
 mod printing;
 mod running;
 mod scripts;
+pub mod world;
 
 pub use lines::{RunFault, lines_are_parted};
 pub use running::hall;

@@ -9,7 +9,7 @@ use acceptor::ballot::Ballot;
 use acceptor::entry::Entry;
 use acceptor::message::{Body, Message, Report};
 use itoa::Buffer;
-use roles::NodeFault;
+use replica::roles::NodeFault;
 
 /// Adds a number in decimal.
 fn push_number(out: &mut Vec<u8>, number: u64) -> Result<(), NoMemory>

@@ -5,20 +5,20 @@ ghost use Rattle.std.specs.Prelude.{IsErrOf};
 ghost use Rattle.learner.specs.declared.event.WorldEvent.{WorldEvent};
 ghost use Rattle.lines.specs.Bytes.{AppendsPart, sides};
 ghost use Rattle.std.specs.Io.KnownBytes.{Appends};
-ghost use Rattle.world.specs.WorldValues.{extended};
+ghost use Rattle.hall.specs.world.WorldValues.{extended};
 ghost use Rattle.hall.specs.Texts.{log_text};
 ghost use Rattle.hall.specs.Halls.{event_text, logs_text, RunsAll, RunsPart};
 ghost use Rattle.hall.specs.model.Running.{HandlesLine, EndsBy, DoesScript, StopsScript, IsStopped};
 
 use crate::printing::{push_entry, push_messages, push_refusal};
 use crate::scripts::event_of;
+use crate::world::{World, WorldFault};
 use acceptor::NoMemory;
 use learner::event::WorldEvent;
 use learner::log::Log;
 use lines::{LineReader, RunFault, write_long, write_out};
 use std::alloc::Global;
 use std::io::{Read, Write};
-use world::{World, WorldFault};
 
 /// Does an event, and adds what is printed for it.
 fn happen(

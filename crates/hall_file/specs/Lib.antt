@@ -6,3 +6,4 @@ pub mod Next
 pub mod Halls
 pub mod Opening
 pub mod Laws
+pub mod hall_options

@@ -6,12 +6,14 @@ mod fault;
 mod file;
 mod folder;
 mod hall_file;
+pub mod hall_options;
 mod laws;
 mod line;
 mod making;
 mod members;
 mod opening;
 mod printing;
+pub mod service;
 
 pub use address::is_address;
 pub use fault::{DesksFault, DesksStop, HallFault, HallNumberFault, KeyFault, Member};

@@ -9,8 +9,8 @@ use Rattle.learner.specs.Steps.{Done, step}
 use Rattle.learner.specs.declared.event.DeskEvent.{DeskEvent}
 use Rattle.proposer.specs.declared.fault.Refusal.{Refusal}
 use Rattle.proposer.specs.declared.fault.Refusal.TheVariants as refusal
-use Rattle.roles.specs.declared.fault.NodeFault.{NodeFault}
-use Rattle.roles.specs.declared.fault.NodeFault.TheVariants as fault
+use Rattle.replica.specs.declared.roles.fault.NodeFault.{NodeFault}
+use Rattle.replica.specs.declared.roles.fault.NodeFault.TheVariants as fault
 use Rattle.serving.specs.Nodes.{Fate, Goes, Starves, Breaks, by_step, by_fate, reply}
 use Rattle.serving.specs.Serving.{Act, Called, Pushed, Answered, waiting_after, to_others}
 use Rattle.store.specs.declared.home.Home.{Home}

@@ -20,14 +20,14 @@ use Rattle.learner.specs.Steps.{Done, IsDesk, is_desk, step}
 use Rattle.learner.specs.Worlds.{World, put, world_after, at_desk, nth_sent, delivered, restart_at}
 use Rattle.learner.specs.Worlds.{happens}
 use Rattle.store.specs.declared.keeper.Keeper.{Ghosts}
-use Rattle.world.proofs.Places.{put_same}
-use Rattle.roles.specs.declared.fault.NodeFault.{NodeFault}
-use Rattle.roles.specs.declared.fault.NodeFault.TheVariants.{Down}
+use Rattle.hall.proofs.world.Places.{put_same}
+use Rattle.replica.specs.declared.roles.fault.NodeFault.{NodeFault}
+use Rattle.replica.specs.declared.roles.fault.NodeFault.TheVariants.{Down}
 use Rattle.replica.specs.Nodes.{NodeValue}
 use Rattle.replica.specs.Handles.{Handles, step_at}
 use Rattle.replica.specs.Stores.{HoldsBeforeOrAfter}
 use Rattle.hall_laws.proofs.Putting.{put_here, put_put}
-use Rattle.roles.specs.Opening.{opened}
+use Rattle.replica.specs.roles.Opening.{opened}
 use Rattle.replica.specs.Opens.{Opens}
 use Rattle.hall_laws.specs.Stops.{AnswerIsEvent, OpeningsAreRestarts, Answered, Stopped, receiver}
 use Rattle.hall_laws.specs.Stops.{place, goes_on, IsEventAt, IsNext, with_desk, CallsAreHappenings}

@@ -7,8 +7,8 @@ use Rattle.acceptor.specs.declared.entry.Entry.{Entry}
 use Rattle.acceptor.specs.declared.message.Message.{Message}
 use Rattle.learner.specs.declared.event.DeskEvent.{DeskEvent}
 use Rattle.learner.specs.declared.event.DeskEvent.TheVariants.{Submit, Start, Deliver}
-use Rattle.roles.specs.declared.fault.NodeFault.{NodeFault}
-use Rattle.roles.specs.declared.fault.NodeFault.TheVariants as fault
+use Rattle.replica.specs.declared.roles.fault.NodeFault.{NodeFault}
+use Rattle.replica.specs.declared.roles.fault.NodeFault.TheVariants as fault
 use Rattle.serving.specs.Serving.{Act, Called, Pushed, Answered, Service, first_fate, reply_to}
 use Rattle.serving.specs.Serving.{call, in_front, from_own, to_others, push_all, waits, deliver}
 use Rattle.serving.specs.Serving.{settle_by, settle, grew, start_if_grown, take as take_event}

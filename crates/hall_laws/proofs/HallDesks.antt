@@ -18,9 +18,9 @@ use Rattle.replica.specs.Handles.{Handles, step_at}
 use Rattle.replica.specs.Nodes.{NodeValue}
 use Rattle.replica.specs.Opens.{Opens}
 use Rattle.replica.specs.Stores.{HoldsDesk, HoldsStep, HoldsBeforeOrAfter}
-use Rattle.roles.specs.Opening.{opened}
-use Rattle.roles.specs.declared.fault.NodeFault.{NodeFault}
-use Rattle.roles.specs.declared.fault.NodeFault.TheVariants.{Down}
+use Rattle.replica.specs.roles.Opening.{opened}
+use Rattle.replica.specs.declared.roles.fault.NodeFault.{NodeFault}
+use Rattle.replica.specs.declared.roles.fault.NodeFault.TheVariants.{Down}
 use Rattle.serving.specs.Connection.{Begun, Sides, serve_frame}
 use Rattle.serving.specs.Making.{Call, Lead, Way, Makes, calls_of}
 use Rattle.serving.specs.Serving.{Act}

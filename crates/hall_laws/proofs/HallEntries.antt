@@ -8,7 +8,7 @@ use Rattle.acceptor.specs.declared.message.Message.{Message}
 use Rattle.answers.specs.Seen.{Seen}
 use Rattle.learner.specs.declared.event.DeskEvent.{DeskEvent}
 use Rattle.learner.specs.declared.event.DeskEvent.TheVariants.{Submit, Start, Tick, Deliver}
-use Rattle.roles.specs.declared.fault.NodeFault.{NodeFault}
+use Rattle.replica.specs.declared.roles.fault.NodeFault.{NodeFault}
 use Rattle.serving.specs.Asking.{request, is_ours, ours, strange}
 use Rattle.serving.specs.Connection.{asked, Begun, serve_frame}
 use Rattle.serving.specs.Making.{Call, calls_of}

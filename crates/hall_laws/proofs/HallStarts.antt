@@ -10,8 +10,8 @@ use Rattle.learner.specs.Steps.{Done, step}
 use Rattle.learner.specs.declared.event.DeskEvent.{DeskEvent}
 use Rattle.learner.specs.declared.event.DeskEvent.TheVariants.{Submit, Start, Tick, Deliver}
 use Rattle.proposer.specs.declared.fault.Refusal.{Refusal}
-use Rattle.roles.specs.declared.fault.NodeFault.{NodeFault}
-use Rattle.roles.specs.declared.fault.NodeFault.TheVariants.{Down}
+use Rattle.replica.specs.declared.roles.fault.NodeFault.{NodeFault}
+use Rattle.replica.specs.declared.roles.fault.NodeFault.TheVariants.{Down}
 use Rattle.serving.specs.Making.{Call, calls_of}
 use Rattle.serving.specs.Nodes.{Fate, Goes, Starves, Breaks, by_fate, by_step, reply}
 use Rattle.serving.specs.Serving.{Act, Called, Service, answer_out, begun, call, enter, entered_by}

@@ -12,8 +12,8 @@ use Rattle.learner.specs.declared.event.DeskEvent.TheVariants.{Submit, Start, Ti
 use Rattle.learner.specs.Worlds.{nth_sent}
 use Rattle.store.specs.declared.home.Home.{Home}
 use Rattle.store.specs.declared.keeper.Keeper.{Ghosts}
-use Rattle.roles.specs.declared.fault.NodeFault.{NodeFault}
-use Rattle.roles.specs.declared.fault.NodeFault.TheVariants as fault
+use Rattle.replica.specs.declared.roles.fault.NodeFault.{NodeFault}
+use Rattle.replica.specs.declared.roles.fault.NodeFault.TheVariants as fault
 use Rattle.answers.specs.Seen.{Seen}
 use Rattle.serving.specs.Connection.{asked, Begun, serve_frame, serve_frames}
 use Rattle.serving.specs.Making.{Call, calls_of}

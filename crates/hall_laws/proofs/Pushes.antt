@@ -7,8 +7,8 @@ use Rattle.acceptor.specs.declared.entry.Entry.{Entry}
 use Rattle.answers.specs.Seen.{Seen}
 use Rattle.learner.specs.declared.event.DeskEvent.{DeskEvent}
 use Rattle.learner.specs.declared.event.DeskEvent.TheVariants.{Submit, Tick, Deliver}
-use Rattle.roles.specs.declared.fault.NodeFault.{NodeFault}
-use Rattle.roles.specs.declared.fault.NodeFault.TheVariants as fault
+use Rattle.replica.specs.declared.roles.fault.NodeFault.{NodeFault}
+use Rattle.replica.specs.declared.roles.fault.NodeFault.TheVariants as fault
 use Rattle.serving.specs.Nodes.{Fate}
 use Rattle.serving.specs.Serving.{Act, Service, to_others, waiting_after, reply_to, call, begun}
 use Rattle.serving.specs.Serving.{tell}

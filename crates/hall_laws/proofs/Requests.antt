@@ -9,8 +9,8 @@ use Rattle.answers.specs.Seen.{Seen}
 use Rattle.learner.specs.Steps.{done, idle, on_body, is_heeded}
 use Rattle.learner.specs.declared.event.DeskEvent.{DeskEvent}
 use Rattle.learner.specs.declared.event.DeskEvent.TheVariants.{Submit, Start, Deliver}
-use Rattle.roles.specs.declared.fault.NodeFault.{NodeFault}
-use Rattle.roles.specs.declared.fault.NodeFault.TheVariants as fault
+use Rattle.replica.specs.declared.roles.fault.NodeFault.{NodeFault}
+use Rattle.replica.specs.declared.roles.fault.NodeFault.TheVariants as fault
 use Rattle.serving.specs.Nodes.{Fate, Goes, Starves, Breaks, by_step, by_fate, reply}
 use Rattle.serving.specs.Serving.{Act, Called, Answered, Service, waiting_after, first_fate}
 use Rattle.serving.specs.Serving.{reply_to, call, to_others, waits, settle_by, settle, take}

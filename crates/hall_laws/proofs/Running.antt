@@ -20,8 +20,8 @@ use Rattle.store.specs.declared.keeper.Keeper.{Ghosts}
 use Rattle.hall_laws.specs.Stops.{Happening, Answered, real_run, goes_on, with_desk, IsEventAt}
 use Rattle.hall_laws.specs.Stops.{CallsAreHappenings}
 use Rattle.hall_laws.proofs.Putting.{put_here, put_put}
-use Rattle.world.proofs.Places.{put_same}
-use Rattle.roles.specs.declared.fault.NodeFault.{NodeFault}
+use Rattle.hall.proofs.world.Places.{put_same}
+use Rattle.replica.specs.declared.roles.fault.NodeFault.{NodeFault}
 use Rattle.wire.specs.declared.frame.What.{What}
 use Rattle.wire.specs.declared.frame.What.TheVariants as what
 use Rattle.wire.specs.declared.values.ClientRefusal.TheVariants as refusal

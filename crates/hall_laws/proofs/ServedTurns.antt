@@ -25,7 +25,7 @@ use Rattle.progress.specs.Turns.{to_itself, said, says_itself, Settled, settled,
 use Rattle.progress.specs.Turns.{turn}
 use Rattle.proposer.specs.declared.fault.Refusal.{Refusal}
 use Rattle.proposer.specs.declared.fault.Refusal.TheVariants.{Busy, LogFull, BallotsSpent}
-use Rattle.roles.specs.Faults.{refused_as}
+use Rattle.replica.specs.roles.Faults.{refused_as}
 use Rattle.serving.specs.Asking.{ours, request, strange}
 use Rattle.serving.specs.Making.{calls_of}
 use Rattle.serving.specs.Nodes.{Reply, by_step, reply}

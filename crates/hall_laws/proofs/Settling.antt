@@ -7,8 +7,8 @@ use Rattle.acceptor.specs.declared.message.Message.{Message}
 use Rattle.answers.specs.Seen.{Seen}
 use Rattle.learner.specs.declared.event.DeskEvent.{DeskEvent}
 use Rattle.learner.specs.declared.event.DeskEvent.TheVariants.{Start, Deliver}
-use Rattle.roles.specs.declared.fault.NodeFault.{NodeFault}
-use Rattle.roles.specs.declared.fault.NodeFault.TheVariants as fault
+use Rattle.replica.specs.declared.roles.fault.NodeFault.{NodeFault}
+use Rattle.replica.specs.declared.roles.fault.NodeFault.TheVariants as fault
 use Rattle.serving.specs.Serving.{Act, Called, Pushed, Service, waiting_after, answered, first_fate}
 use Rattle.serving.specs.Serving.{later_fates, reply_to, call, in_front, from_own, to_others}
 use Rattle.serving.specs.Serving.{push_all, waits, deliver, settle_by, settle, grew, start_if_grown}

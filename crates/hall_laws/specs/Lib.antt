@@ -9,3 +9,4 @@ pub mod HallProgress
 pub mod HallGoing
 pub mod HallServing
 pub mod Copying
+pub mod mirrors

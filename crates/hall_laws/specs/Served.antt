@@ -21,7 +21,7 @@ use Rattle.store.specs.declared.keeper.Keeper.{Ghosts}
 use Rattle.wire.specs.declared.frame.What.TheVariants as what
 use Rattle.wire.specs.declared.values.SheetStyle.{SheetStyle as Style}
 use Rattle.answers.specs.Answers.{sheet_at}
-use Rattle.roles.specs.declared.fault.NodeFault.{NodeFault}
+use Rattle.replica.specs.declared.roles.fault.NodeFault.{NodeFault}
 
 -- the messages that an answer hands out
 abbrev pub handed_out : Result (List Message) NodeFault → List Message

@@ -17,13 +17,13 @@ use Rattle.learner.specs.Desks.{Desk}
 use Rattle.learner.specs.Steps.{IsDesk, step}
 use Rattle.learner.specs.Worlds.{World, new_world, put, at_desk, nth_sent, restart_at, happens, run}
 use Rattle.learner.specs.Worlds.{after}
-use Rattle.roles.specs.declared.fault.NodeFault.{NodeFault}
-use Rattle.roles.specs.declared.fault.NodeFault.TheVariants.{Down}
+use Rattle.replica.specs.declared.roles.fault.NodeFault.{NodeFault}
+use Rattle.replica.specs.declared.roles.fault.NodeFault.TheVariants.{Down}
 use Rattle.replica.specs.Nodes.{NodeValue}
 use Rattle.store.specs.declared.keeper.Keeper.{Ghosts}
 use Rattle.replica.specs.Handles.{Takes, Handles}
 use Rattle.replica.specs.Opens.{Opens}
-use Rattle.roles.specs.Opening.{opened}
+use Rattle.replica.specs.roles.Opening.{opened}
 
 -- What happens among real desks: a call that is answered; or one in which its desk stops, or a save
 -- fails, with the change in the store or without it. Such a desk hands nothing out, and does

@@ -1,6 +1,6 @@
 -- Lists of entrants.
 use Rattle.std.specs.Prelude.{ℕ, List, [], ◌∷◌, ◌++◌, codes, decimal, filter, flat_map}
-use Rattle.board_page.specs.Escaped.{escaped}
+use Rattle.markup.specs.board_page.Escaped.{escaped}
 use Rattle.rounds.specs.Tables.{Table, standings}
 use Rattle.round_counts.specs.Counts.{has_progress}
 use Rattle.round_counts.specs.declared.progress.Progress.{Progress}

@@ -1,6 +1,6 @@
 -- Forms that send commands.
 use Rattle.std.specs.Prelude.{ℕ, List, [], ◌∷◌, ◌++◌, codes, decimal}
-use Rattle.board_page.specs.Escaped.{escaped}
+use Rattle.markup.specs.board_page.Escaped.{escaped}
 use Rattle.round_words.specs.Words.{round_name}
 use Rattle.texts.specs.declared.command.RoundId.{RoundId}
 use Rattle.markup.specs.Pieces.{joined}

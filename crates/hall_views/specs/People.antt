@@ -3,7 +3,7 @@ use Rattle.std.specs.Prelude.{◌≡◌, ◌≤◌, ◌<◌, ℕ, IsSome, if◌t
 use Rattle.std.specs.Prelude.{decimal, flat_map, get_or, is_some, length, Option, None, Some}
 use Rattle.std.specs.Prelude.{option_map, unwrap_or}
 use Rattle.std.specs.List.{range_with_len}
-use Rattle.board_page.specs.Escaped.{escaped}
+use Rattle.markup.specs.board_page.Escaped.{escaped}
 use Rattle.commands.specs.Accepted.{name_of, round_of}
 use Rattle.formats.specs.declared.events.Event.{Event}
 use Rattle.formats.specs.Events.{all_events, event_name}

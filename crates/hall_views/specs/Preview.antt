@@ -1,8 +1,8 @@
 -- The page that shows which commands would be entered.
 use Rattle.std.specs.Prelude.{ℕ, ◌-◌, Bool, true, false, if◌then◌else◌, nat_lt, List, [], ◌∷◌, ◌++◌}
 use Rattle.std.specs.Prelude.{codes, count_by, decimal, flat_map, get_or, length}
-use Rattle.board_page.specs.Escaped.{escaped}
-use Rattle.code_meanings.specs.Meanings.{meaning_of}
+use Rattle.markup.specs.board_page.Escaped.{escaped}
+use Rattle.texts.specs.meanings.Meanings.{meaning_of}
 use Rattle.texts.specs.declared.answer.Answer.{Answer}
 use Rattle.texts.specs.declared.answer.Answer.TheVariants.{Done, Refused}
 use Rattle.texts.specs.declared.answer.Code.{Code}

@@ -1,6 +1,6 @@
 -- The page of a form that asks for no command.
 use Rattle.std.specs.Prelude.{ℕ, List, [], ◌∷◌, ◌++◌, codes, length}
-use Rattle.board_page.specs.Escaped.{escaped}
+use Rattle.markup.specs.board_page.Escaped.{escaped}
 use Rattle.markup.specs.Pieces.{joined}
 use Rattle.table_views.specs.declared.around.Around.{Around}
 use Rattle.table_views.specs.Frame.{top, bottom}

@@ -1,12 +1,12 @@
 -- The scrambles of fewest moves.
 use Rattle.std.specs.Prelude.{ℕ, Bool, true, false, if◌then◌else◌, nat_le, List, [], ◌∷◌, ◌++◌}
 use Rattle.std.specs.Prelude.{codes, decimal, get_or, Option, None, Some}
-use Rattle.board_page.specs.Escaped.{escaped}
+use Rattle.markup.specs.board_page.Escaped.{escaped}
 use Rattle.commands.specs.Accepted.{scramble_of}
 use Rattle.cube.specs.declared.moves.Move.{Move}
 use Rattle.formats.specs.declared.events.Event.{Event}
 use Rattle.formats.specs.declared.events.Event.TheVariants.{FewestMoves}
-use Rattle.notation.specs.Notation.{spelling}
+use Rattle.cube.specs.notation.Notation.{spelling}
 use Rattle.texts.specs.declared.command.Command.{Command}
 use Rattle.texts.specs.declared.command.RoundId.{RoundId}
 use Rattle.markup.specs.Pieces.{joined}

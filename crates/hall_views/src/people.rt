@@ -2,7 +2,7 @@
 
 ghost use Rattle.std.specs.Prelude.{◌≡◌, ◌++◌, IfOk, OnOk, flat_map};
 ghost use Rattle.std.specs.Option.{option_copied};
-ghost use Rattle.board_page.specs.Adding.{Adds};
+ghost use Rattle.markup.specs.board_page.Adding.{Adds};
 ghost use Rattle.hall_views.specs.People.{competitor_in, competitor_line, competitor_start};
 ghost use Rattle.hall_views.specs.People.{competitors, IsProposed};
 ghost use Rattle.hall_views.specs.People.{entering, entered_if, entered_in, event_word};

@@ -11,10 +11,10 @@ use crate::forms::id_at;
 use crate::lines::{push_line, push_lines_form};
 use acceptor::NoMemory;
 use card_forms::FormId;
-use code_meanings::meaning_of;
 use markup::{Piece, push_pieces};
 use std::alloc::Global;
 use table_views::{Around, push_bottom, push_top};
+use texts::meanings::meaning_of;
 use texts::{Answer, Code};
 
 /// A command, and what it would be answered.

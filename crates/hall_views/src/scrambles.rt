@@ -123,7 +123,7 @@ fn push_standing(
     ensures { OnOk result (out.new.items
         ≡ out.old.items ++ standing_scramble mends moves.now token.now form id attempt) }
 {
-    let text = notation::print(*out.allocator(), moves)?;
+    let text = cube::notation::print(*out.allocator(), moves)?;
     push_shown(out, attempt, &text)?;
     push_rescrambling(out, mends, &text, token, form, id, attempt)
 }

@@ -2,6 +2,7 @@
 //! ends early.
 #![tactic(auto)]
 
+pub mod command_file;
 mod fault;
 mod line_reader;
 mod writing;

@@ -1,6 +1,6 @@
 -- Pages of HTML from pieces.
 use Rattle.std.specs.Prelude.{ℕ, List, [], ◌∷◌, ◌++◌, decimal, flat_map}
-use Rattle.board_page.specs.Escaped.{escaped}
+use Rattle.markup.specs.board_page.Escaped.{escaped}
 use Rattle.markup.specs.declared.pieces.Piece.{Piece}
 use Rattle.markup.specs.declared.pieces.Piece.TheVariants.{Html, Text, Number}
 

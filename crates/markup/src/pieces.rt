@@ -3,7 +3,7 @@
 ghost use Rattle.std.specs.Prelude.{◌≡◌, ◌++◌, OnOk, decimal};
 ghost use Rattle.markup.specs.Pieces.{piece_text, text_of};
 
-use board_page::push_escaped;
+use crate::board_page::push_escaped;
 use itoa::Buffer;
 use std::alloc::AllocError;
 

@@ -1,7 +1,7 @@
 -- Under which key the connections to the other desks are.
 use Rattle.std.specs.Prelude.{◌≡◌, ℕ, List, Option, IfSome, option_map}
 use Rattle.std.specs.List.{AllByRecursion}
-use Rattle.calls.specs.Calls.{own_key}
+use Rattle.sealed.specs.ends.Calls.{own_key}
 use Rattle.mio_sockets.specs.declared.desk_wire.DeskWire.{DeskWire}
 use Rattle.mio_sockets.specs.declared.keyed_stream.KeyedStream.{KeyedStream}
 

@@ -3,14 +3,14 @@
 ghost use Rattle.std.specs.Prelude.{◌≡◌, false, length, true, IfOk};
 ghost use Rattle.mio_sockets.specs.Coming.{LetsIn};
 ghost use Rattle.polled.specs.Counts.{CountsGiven, CountsTaken};
-ghost use Rattle.polled_sockets.specs.Agendas.{NamesNext};
-ghost use Rattle.polled_sockets.specs.Sockets.{IsFresh, OthersStay, SameElse};
-ghost use Rattle.polled_sockets.specs.Sockets.{SameStay, is_full, stays};
+ghost use Rattle.polled.specs.sockets.Agendas.{NamesNext};
+ghost use Rattle.polled.specs.sockets.Sockets.{IsFresh, OthersStay, SameElse};
+ghost use Rattle.polled.specs.sockets.Sockets.{SameStay, is_full, stays};
 
 use crate::random::drawn;
 use mio::Registry;
 use multiplex::{Accepted, Clients, Given, Ready, Taken};
-use polled_sockets::PeerSockets;
+use polled::sockets::PeerSockets;
 use std::alloc::Global;
 use std::io;
 use std::marker::Model;
@@ -37,7 +37,7 @@ pub struct SocketClients<'a, R> {
 
 impl<'a, R> Model for SocketClients<'a, R> {
     ghost use Rattle.std.specs.Prelude.{◌≤◌};
-    ghost use Rattle.polled_sockets.specs.Sockets.{SocketsOf};
+    ghost use Rattle.polled.specs.sockets.Sockets.{SocketsOf};
 
     ghost Value = { SocketsOf };
 
@@ -66,7 +66,7 @@ impl<R: Clock + RandomSource> SocketClients<'_, R> {
     }
 
     /// Another owner of the poll's sockets, for the connections to the other desks, under
-    /// `polled_sockets::own_token`. Where one of them is ready, a round is over.
+    /// `polled::sockets::own_token`. Where one of them is ready, a round is over.
     pub fn registry(&self) -> io::Result<Registry> {
         self.peers.registry()
     }

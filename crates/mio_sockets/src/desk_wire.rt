@@ -16,7 +16,7 @@ use crate::asking::Asking;
 use crate::keyed_stream::{Came, KeyedStream};
 use crate::wires::{Heard, Opening, Trouble};
 use multiplex::Taken;
-use polled_sockets::taken_by;
+use polled::sockets::taken_by;
 use std::io;
 use std::io::ErrorKind;
 

@@ -1,12 +1,12 @@
 //! A connection to another desk, with a key or without one.
 
 ghost use Rattle.std.specs.Prelude.{◌≡◌, ◌≢◌, ◌≤◌, [], length, is_some, IfOk};
-ghost use Rattle.calls.specs.Calls.{own_key};
+ghost use Rattle.sealed.specs.ends.Calls.{own_key};
 
 use crate::asking::Asking;
-use calls::{Call, CallTrouble};
 use mio::net::TcpStream;
-use polled_sockets::is_waiting;
+use polled::sockets::is_waiting;
+use sealed::ends::{Call, CallTrouble};
 use std::io;
 use std::io::{ErrorKind, Read, Write};
 

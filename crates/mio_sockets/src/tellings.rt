@@ -1,8 +1,8 @@
 //! The lines about other desks.
 
 use crate::wires::Trouble;
-use calls::CallTrouble;
 use links::Notice;
+use sealed::ends::CallTrouble;
 use std::io;
 use std::io::Write;
 use std::net::SocketAddr;

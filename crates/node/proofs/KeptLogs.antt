@@ -27,8 +27,8 @@ use Rattle.answers.specs.Answers.{texts, told, told_at, told_by}
 use Rattle.answers.specs.declared.answers.Told.TheVariants.{Done}
 use Rattle.answers.proofs.Prefixes.{texts_after}
 use Rattle.replica.specs.Handles.{Handles}
-use Rattle.roles.specs.declared.fault.NodeFault.{NodeFault}
-use Rattle.roles.specs.declared.fault.NodeFault.TheVariants.{Down}
+use Rattle.replica.specs.declared.roles.fault.NodeFault.{NodeFault}
+use Rattle.replica.specs.declared.roles.fault.NodeFault.TheVariants.{Down}
 use Rattle.replica.specs.Nodes.{NodeValue}
 use Rattle.store.specs.declared.keeper.Keeper.{Ghosts}
 use Rattle.node.specs.declared.kept_meet.KeptMeet.{KeptMeet}

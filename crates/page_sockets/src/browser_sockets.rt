@@ -2,13 +2,13 @@
 
 ghost use Rattle.std.specs.Prelude.{◌≡◌, false, length, true, IfOk};
 ghost use Rattle.polled.specs.Counts.{CountsGiven, CountsTaken};
-ghost use Rattle.polled_sockets.specs.Agendas.{NamesNext};
-ghost use Rattle.polled_sockets.specs.Sockets.{IsFresh, LetsIn, OthersStay, SameElse};
-ghost use Rattle.polled_sockets.specs.Sockets.{SameStay, is_full, stays};
+ghost use Rattle.polled.specs.sockets.Agendas.{NamesNext};
+ghost use Rattle.polled.specs.sockets.Sockets.{IsFresh, LetsIn, OthersStay, SameElse};
+ghost use Rattle.polled.specs.sockets.Sockets.{SameStay, is_full, stays};
 
 use mio::Registry;
 use pages::{Accepted, Given, Ready, Sockets, Taken};
-use polled_sockets::PeerSockets;
+use polled::sockets::PeerSockets;
 use std::alloc::Global;
 use std::io;
 use std::marker::Model;
@@ -29,7 +29,7 @@ pub struct BrowserSockets<'a, R> {
 }
 
 impl<'a, R> Model for BrowserSockets<'a, R> {
-    ghost use Rattle.polled_sockets.specs.Sockets.{SocketsOf};
+    ghost use Rattle.polled.specs.sockets.Sockets.{SocketsOf};
 
     ghost Value = { SocketsOf };
 

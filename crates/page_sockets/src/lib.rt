@@ -5,4 +5,4 @@
 mod browser_sockets;
 
 pub use browser_sockets::BrowserSockets;
-pub use polled_sockets::own_token;
+pub use polled::sockets::own_token;

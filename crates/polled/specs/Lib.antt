@@ -1,3 +1,4 @@
 pub mod Counts
 pub mod Telling
 pub mod Requests
+pub mod sockets

@@ -2,5 +2,6 @@
 #![tactic(auto)]
 
 mod answers;
+pub mod sockets;
 
 pub use answers::{Accepted, Given, Ready, Taken};

@@ -8,7 +8,7 @@ use Rattle.acceptor.specs.declared.stored.Vote.{Vote}
 use Rattle.learner.specs.Contents.{ListHolds, VoteHolds}
 use Rattle.learner.specs.Ranges.{DeskIsInRange, VoteIsPlaced, IsReal}
 use Rattle.store.specs.Ranges.{IsFit, VoteIsFit}
-use Rattle.roles.specs.Opening.{opened}
+use Rattle.replica.specs.roles.Opening.{opened}
 
 any_entry : (log : List Entry) → ListHolds (λ e. ⊤) log
 any_entry [] = tt

@@ -12,10 +12,10 @@ use Rattle.proposer.specs.declared.plan.Plan.{Plan}
 use Rattle.learner.specs.declared.event.DeskEvent.TheVariants.{Deliver}
 use Rattle.learner.specs.Desks.{Desk}
 use Rattle.learner.specs.Steps.{Done, done, idle, is_heeded, on_body, step}
-use Rattle.roles.specs.declared.fault.NodeFault.{NodeFault}
-use Rattle.roles.specs.declared.fault.NodeFault.TheVariants as fault
-use Rattle.roles.specs.Faults.{refused_as, fault_of}
-use Rattle.roles.specs.model.RunningDesks.{RunningDesk}
+use Rattle.replica.specs.declared.roles.fault.NodeFault.{NodeFault}
+use Rattle.replica.specs.declared.roles.fault.NodeFault.TheVariants as fault
+use Rattle.replica.specs.roles.Faults.{refused_as, fault_of}
+use Rattle.replica.specs.roles.model.RunningDesks.{RunningDesk}
 use Rattle.replica.specs.Handles.{Takes}
 use Rattle.replica.specs.Stores.{HoldsBeforeOrAfter}
 use Rattle.replica.specs.model.Planning.{IsPlanned}

@@ -16,9 +16,9 @@ use Rattle.learner.specs.Ranges.{AreInRange}
 use Rattle.learner.specs.Steps.{Done, is_heeded, on_body, step}
 use Rattle.store.specs.declared.home.Home.{Home}
 use Rattle.store.specs.declared.keeper.Keeper.{Ghosts}
-use Rattle.roles.specs.declared.fault.NodeFault.{NodeFault}
-use Rattle.roles.specs.declared.fault.NodeFault.TheVariants.{Down}
-use Rattle.roles.specs.Faults.{refused_as}
+use Rattle.replica.specs.declared.roles.fault.NodeFault.{NodeFault}
+use Rattle.replica.specs.declared.roles.fault.NodeFault.TheVariants.{Down}
+use Rattle.replica.specs.roles.Faults.{refused_as}
 use Rattle.replica.specs.Lengths.{told_after}
 use Rattle.replica.specs.Nodes.{NodeValue}
 use Rattle.replica.specs.Stores.{HoldsDesk, HoldsStep}

@@ -8,7 +8,7 @@ use Rattle.acceptor.specs.declared.message.Message.{Message}
 use Rattle.learner.specs.declared.event.DeskEvent.{DeskEvent}
 use Rattle.learner.specs.declared.event.DeskEvent.TheVariants.{Submit, Start, Tick, Deliver}
 use Rattle.learner.specs.Steps.{is_heeded}
-use Rattle.roles.specs.declared.fault.NodeFault.{NodeFault}
+use Rattle.replica.specs.declared.roles.fault.NodeFault.{NodeFault}
 use Rattle.store.specs.declared.home.Home.{Home}
 
 -- how many entries the sender's log has at least, by what it says: a Behind says how many there

@@ -4,3 +4,4 @@ pub mod Lengths
 pub mod Handles
 pub mod Opens
 pub mod model
+pub mod roles

@@ -3,7 +3,7 @@ use Rattle.std.specs.Prelude.{◌≡◌, ◌≢◌, ◌<◌, false, IsTrue}
 use Rattle.store.specs.declared.fault.LoadFault.{LoadFault}
 use Rattle.store.specs.declared.fault.LoadFault.TheVariants.{Device, NoMemory}
 use Rattle.store.specs.declared.keeper.Keeper.{Ghosts}
-use Rattle.roles.specs.Opening.{opened}
+use Rattle.replica.specs.roles.Opening.{opened}
 use Rattle.replica.specs.Lengths.{nothing_told}
 use Rattle.replica.specs.Nodes.{NodeValue}
 use Rattle.replica.specs.Stores.{HasKept, HoldsDesk, HoldsNoOther, KeepsStill}

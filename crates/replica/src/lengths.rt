@@ -5,9 +5,9 @@ ghost use Rattle.std.specs.List.{AllByRecursion};
 ghost use Rattle.learner.specs.Steps.{IsDesk, is_in_range};
 ghost use Rattle.replica.specs.Lengths.{heard, length_told, raised, told_by};
 
+use crate::roles::heeding::is_heeded;
 use acceptor::message::{Body, Message};
 use learner::event::DeskEvent;
-use roles::heeding::is_heeded;
 use store::home::Home;
 
 /// How many entries the log of the sender has at least, by what it says, where its fields are in

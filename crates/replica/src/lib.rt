@@ -9,7 +9,8 @@ mod entries;
 mod handling;
 mod lengths;
 mod replica;
+pub mod roles;
 
+pub use crate::roles::NodeFault;
 pub use learner::event::DeskEvent;
 pub use replica::Replica;
-pub use roles::NodeFault;

@@ -12,8 +12,8 @@ use Rattle.cube.specs.declared.moves.Kind.TheVariants.{Face, Block, Turn}
 use Rattle.cube.specs.declared.moves.Quarter.{Quarter}
 use Rattle.cube.specs.declared.moves.Quarter.TheVariants.{Clockwise, Half, Anticlockwise}
 use Rattle.cube.specs.declared.moves.Move.{Move}
-use Rattle.notation.specs.Notation.{Spells}
-use Rattle.notation.specs.Tokens.{token}
+use Rattle.cube.specs.notation.Notation.{Spells}
+use Rattle.cube.specs.notation.Tokens.{token}
 use Rattle.texts.specs.Fields.{move_by}
 use Rattle.attempts.specs.declared.Unit.TheVariants.{Moves}
 use Rattle.texts.proofs.Cuts.{and-true}

@@ -1,7 +1,7 @@
 -- What is read of a field is what it spells.
 use Rattle.std.proofs.Common.{◌^◌, ◌<◌, ◌≤◌, nat_le, IfOk}
 use Rattle.std.proofs.lemmas.Str.Parse.{digits_value_short}
-use Rattle.notation.specs.Notation.{Spells as SpellsMoves}
+use Rattle.cube.specs.notation.Notation.{Spells as SpellsMoves}
 use Rattle.texts.proofs.Numerals.{own}
 use Rattle.texts.specs.Spelling.{IsEntered}
 use Rattle.scorecard.specs.Spelling.{AreDigits, IsPenalty, IsFilledSeconds, IsMinutesSeconds}
@@ -17,7 +17,7 @@ use Rattle.std.proofs.lemmas.Bool.Decides.{nat_tests}
 use Rattle.cube.specs.declared.moves.Move.{Move}
 use Rattle.attempts.specs.declared.Unit.{Unit as Measure}
 use Rattle.attempts.specs.declared.Unit.TheVariants.{Time, Moves, Multi}
-use Rattle.notation.proofs.Scanning.{spells_once}
+use Rattle.cube.proofs.notation.Scanning.{spells_once}
 use Rattle.texts.specs.declared.command.Entered.{Entered}
 use Rattle.texts.specs.declared.command.Entered.TheVariants as entered
 use Rattle.scorecard.specs.declared.fault.CardFault.{CardFault}

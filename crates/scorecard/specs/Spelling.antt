@@ -9,7 +9,7 @@ use Rattle.std.specs.List.{list_all, list_any, prefix_len, suffix_len}
 use Rattle.attempts.specs.declared.Unit.{Unit as Measure}
 use Rattle.attempts.specs.declared.Unit.TheVariants.{Time, Moves, Multi}
 use Rattle.cube.specs.declared.moves.Move.{Move}
-use Rattle.notation.specs.Notation.{Spells as SpellsMoves}
+use Rattle.cube.specs.notation.Notation.{Spells as SpellsMoves}
 use Rattle.texts.specs.Numerals.{digits_value}
 use Rattle.texts.specs.declared.command.Entered.{Entered}
 use Rattle.texts.specs.declared.command.Entered.TheVariants as entered

@@ -5,7 +5,7 @@ ghost use Rattle.scorecard.specs.Spelling.{mended};
 ghost use Rattle.scorecard.specs.Reading.{ReadsSolution};
 
 use crate::fault::CardFault;
-use notation::ReadFault;
+use cube::notation::ReadFault;
 use std::alloc::{AllocError, Global};
 use texts::Entered;
 
@@ -37,7 +37,7 @@ pub fn solution_of(alloc: Global, bytes: &[u8]) -> Result<Entered, CardFault>
     ensures { ReadsSolution bytes.now result }
 {
     let text = mended(alloc, bytes)?;
-    match notation::read(alloc, &text) {
+    match cube::notation::read(alloc, &text) {
         Ok(moves) => Ok(Entered::Solution { moves }),
         Err(ReadFault::NoMemory) => Err(CardFault::NoMemory),
         Err(_) => Err(CardFault::NotMoves),

@@ -7,7 +7,7 @@ use card_queue::JournalFault;
 use clap::builder::ValueParser;
 use clap::{Arg, ArgAction, ArgMatches, Command, Error};
 use command_line::borrowed;
-use hall_options::{
+use hall_file::hall_options::{
     Mistake, address_at, hall_of, option, tell, tell_mistake, tell_parse_error, tell_system,
     with_desks,
 };

@@ -8,7 +8,7 @@ use crate::program::PROGRAM;
 use crate::sending::Sending;
 use card_queue::Stepped;
 use desk_sockets::{DeskStream, Kept};
-use hall_options::FoundHall;
+use hall_file::hall_options::FoundHall;
 use hall_standings::{AskedDesks, stream_to};
 use mio::Registry;
 use mirroring::Stage;

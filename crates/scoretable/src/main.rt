@@ -13,7 +13,7 @@ mod serving;
 
 use arguments::run_given;
 use command_line::given;
-use hall_options::tell_no_arguments;
+use hall_file::hall_options::tell_no_arguments;
 use program::PROGRAM;
 use std::process::ExitCode;
 

@@ -7,7 +7,7 @@ use crate::desks_side::{DesksSide, count_of};
 use crate::drawing::{drawn_ids, drawn_token};
 use crate::hosts::hosts_of;
 use crate::journal_file::{JournalFile, Opened};
-use hall_options::FoundHall;
+use hall_file::hall_options::FoundHall;
 use http_server::Config;
 use mirroring::Mirroring;
 use page_sockets::BrowserSockets;

@@ -7,3 +7,4 @@ pub mod Sent
 pub mod Callings
 pub mod Laws
 pub mod model
+pub mod ends

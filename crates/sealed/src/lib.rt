@@ -9,6 +9,7 @@
 mod called;
 mod callers;
 mod calling;
+pub mod ends;
 mod front;
 pub mod laws;
 mod trial;

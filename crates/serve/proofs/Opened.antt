@@ -18,8 +18,8 @@ use Rattle.serve.specs.Printing.{IsAllowed, IsOfListener, Output, home_of}
 use Rattle.serve.specs.Serves.{FailsDesk, FailsKept, FailsServing, IsRun, RunsDesk}
 use Rattle.serve.specs.Serves.{RunsKept, Serves, Turn, resting, turn_of}
 use Rattle.serve.specs.declared.fault.ServeFault.{ServeFault}
-use Rattle.service.specs.declared.Making.{Making}
-use Rattle.service.specs.declared.Service.{Service}
+use Rattle.hall_file.specs.declared.service.Making.{Making}
+use Rattle.hall_file.specs.declared.service.Service.{Service}
 
 -- what the desk has that is opened over a keeper is what this one kept
 opened_on : {K : Type 0} (k : KeeperOf K) (how : Making) (files : Image) (home : Home)

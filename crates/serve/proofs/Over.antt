@@ -22,7 +22,7 @@ use Rattle.serve.specs.Serves.{FailsServing, HasServed, IsCutOff, Serves, Serves
 use Rattle.serve.specs.Serves.{period_of, served_to, terms_of, turn_of, with_clients}
 use Rattle.serve.specs.declared.fault.ServeFault.{ServeFault}
 use Rattle.serve.specs.declared.fault.ServeFault.TheVariants as fault
-use Rattle.service.specs.declared.Service.{Service}
+use Rattle.hall_file.specs.declared.service.Service.{Service}
 
 few_of : (s : Service) (count : ℕ) → count ≤ most_of s.connections → IsFew count s
 few_of s count few = by s.connections few

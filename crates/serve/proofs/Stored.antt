@@ -6,9 +6,9 @@ use Rattle.desk_file.specs.Files.{KeepsFirst}
 use Rattle.store.specs.Ranges.{IsHome}
 use Rattle.store.specs.declared.home.Home.{Home}
 use Rattle.store.specs.declared.keeper.Keeper.{Ghosts as KeeperOf}
-use Rattle.service.specs.declared.Making.{Making}
-use Rattle.service.specs.declared.Making.TheVariants as making
-use Rattle.service.specs.declared.Service.{Service}
+use Rattle.hall_file.specs.declared.service.Making.{Making}
+use Rattle.hall_file.specs.declared.service.Making.TheVariants as making
+use Rattle.hall_file.specs.declared.service.Service.{Service}
 use Rattle.serve.specs.Addresses.{AreApart, HasTwins}
 use Rattle.serve.specs.Files.{KeepsFor}
 use Rattle.serve.specs.Keys.{IsKeyed, LacksKey}

@@ -10,7 +10,7 @@ use Rattle.serve.specs.Printing.{output}
 use Rattle.serve.specs.Serves.{FailsServing, FailsThere, period_of, resting, terms_of, turn}
 use Rattle.serve.specs.Serves.{unheard}
 use Rattle.serve.specs.declared.fault.ServeFault.{ServeFault}
-use Rattle.service.specs.declared.Service.{Service}
+use Rattle.hall_file.specs.declared.service.Service.{Service}
 
 abbrev FailsOn : {K X : Type 0} → KeeperOf K → WriteOf X → Terms → Option ℕ → NodeValue K
     → NodeValue K → (before after : X) → ServeFault → Type 0

@@ -5,11 +5,11 @@ use Rattle.acceptor.specs.declared.stored.Stored.{Stored}
 use Rattle.sqlite.specs.Recovery.{Image}
 use Rattle.desk_file.specs.Files.{HeldAs, HeldBy, IsMadeIn, StandsIn}
 use Rattle.replica.specs.Nodes.{NodeValue}
-use Rattle.roles.specs.Opening.{opened}
+use Rattle.replica.specs.roles.Opening.{opened}
 use Rattle.store.specs.declared.home.Home.{Home}
 use Rattle.store.specs.declared.keeper.Keeper.{Ghosts}
-use Rattle.service.specs.declared.Making.{Making}
-use Rattle.service.specs.declared.Making.TheVariants as making
+use Rattle.hall_file.specs.declared.service.Making.{Making}
+use Rattle.hall_file.specs.declared.service.Making.TheVariants as making
 
 -- What the two files held of a desk that is opened with this state and this log. As it is needed:
 -- its tables had them, or there was no table yet and they are the first ones. Where a store has to

@@ -1,12 +1,12 @@
 -- The keys of a desk, and what it asks of its clients by them.
 use Rattle.std.specs.Prelude.{◌≡◌, ◌≢◌, ◌⊎◌, ℕ, true, false, List, Option, None, Some, IsNone}
 use Rattle.std.specs.Prelude.{IsSome}
-use Rattle.key_file.specs.KeyFiles.{HasKey}
+use Rattle.keys.specs.key_file.KeyFiles.{HasKey}
 use Rattle.sealed.specs.declared.callers.Doors.{Doors}
 use Rattle.sealed.specs.declared.callers.Doors.TheVariants.{Open, Locked}
 use Rattle.serve.specs.declared.fault.ServeFault.{ServeFault}
 use Rattle.serve.specs.declared.fault.ServeFault.TheVariants as fault
-use Rattle.service.specs.declared.Service.{Service}
+use Rattle.hall_file.specs.declared.service.Service.{Service}
 
 -- where there is no hall's key, no entry key is asked for, and nobody without a key is let in
 abbrev pub IsKeyed : Service → Type 0

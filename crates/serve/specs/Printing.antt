@@ -11,9 +11,9 @@ use Rattle.serve.specs.Addresses.{AreApart, HasTwins, IsNoAddress}
 use Rattle.serve.specs.Keys.{IsKeyed, IsOfKeys, LacksKey}
 use Rattle.serve.specs.declared.fault.ServeFault.{ServeFault}
 use Rattle.serve.specs.declared.fault.ServeFault.TheVariants as fault
-use Rattle.service.specs.declared.Making.{Making}
-use Rattle.service.specs.declared.Making.TheVariants as making
-use Rattle.service.specs.declared.Service.{Service}
+use Rattle.hall_file.specs.declared.service.Making.{Making}
+use Rattle.hall_file.specs.declared.service.Making.TheVariants as making
+use Rattle.hall_file.specs.declared.service.Service.{Service}
 
 -- which desk it is, of how many, and how long its log is
 abbrev pub first_line : Home → ℕ → List ℕ

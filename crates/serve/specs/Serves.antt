@@ -27,7 +27,7 @@ use Rattle.serve.specs.Printing.{Hinders, IsOfListener, Output, first_line, both
 use Rattle.serve.specs.Printing.{output}
 use Rattle.serve.specs.declared.fault.ServeFault.{ServeFault}
 use Rattle.serve.specs.declared.fault.ServeFault.TheVariants as fault
-use Rattle.service.specs.declared.Service.{Service}
+use Rattle.hall_file.specs.declared.service.Service.{Service}
 
 -- how many clients may come: as many as were asked for, or, where that wasn't said, as many as can
 -- be counted

@@ -5,9 +5,9 @@ ghost use Rattle.serve.specs.Keys.{AreDoors, IsEntry, IsKey, IsOfEntry, IsOfKeyF
 ghost use Rattle.serve.specs.Keys.{hall_key};
 
 use crate::fault::ServeFault;
-use key_file::read_key_at;
+use hall_file::service::Service;
+use keys::key_file::read_key_at;
 use sealed::{Doors, Locks};
-use service::Service;
 
 /// The key that the file at this path has.
 fn key_at(rt: &HostRuntime, path: &str) -> Result<[u8; 32], ServeFault>

@@ -3,7 +3,7 @@
 ghost use Rattle.std.specs.Prelude.{◌≡◌};
 ghost use Rattle.serve.specs.Printing.{IsOfStore, opening_fault};
 
-use key_file::KeyFileFault;
+use keys::key_file::KeyFileFault;
 use store::fault::OpenFault;
 
 /// Why a desk does not serve, or ends early.

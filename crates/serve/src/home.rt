@@ -8,7 +8,7 @@ ghost use Rattle.serve.specs.Printing.{IsAllowed, IsOfFile, IsRefused, home_of, 
 
 use crate::fault::ServeFault;
 use crate::twins::twins_in;
-use service::{Making, Service};
+use hall_file::service::{Making, Service};
 use store::home::Home;
 
 /// Whether it is said that the store is opened or made, as a hall's file does.

@@ -13,5 +13,5 @@ mod telling;
 mod twins;
 
 pub use fault::ServeFault;
+pub use hall_file::service::{Making, Service};
 pub use running::{serve, serve_node};
-pub use service::{Making, Service};

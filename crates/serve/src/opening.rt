@@ -9,7 +9,7 @@ ghost use Rattle.serve.specs.Printing.{IsOfOpening, IsOfStore, refusal_of};
 use crate::fault::{ServeFault, fault_of_open};
 use crate::hall::unknown_in;
 use desk_file::{make_keeper, open_keeper, open_keeper_there};
-use service::{Making, Service};
+use hall_file::service::{Making, Service};
 use sqlite::{FileFrom, FileStore, Start};
 use std::fs;
 use std::io::ErrorKind;

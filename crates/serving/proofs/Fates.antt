@@ -14,10 +14,11 @@ use Rattle.serving.specs.declared.calls.Answer.{Answer}
 use Rattle.serving.specs.Answering.{answer_of}
 use Rattle.serving.specs.Serving.{waiting_after}
 use Rattle.store.specs.declared.home.Home.{Home}
-use Rattle.roles.specs.declared.fault.NodeFault.{NodeFault}
-use Rattle.roles.specs.declared.fault.NodeFault.TheVariants.{Busy, LogFull, BallotsSpent, NoMemory}
-use Rattle.roles.specs.declared.fault.NodeFault.TheVariants.{Down}
-use Rattle.roles.specs.Faults.{refused_as}
+use Rattle.replica.specs.declared.roles.fault.NodeFault.{NodeFault}
+use Rattle.replica.specs.declared.roles.fault.NodeFault.TheVariants.{Busy, LogFull, BallotsSpent}
+use Rattle.replica.specs.declared.roles.fault.NodeFault.TheVariants.{NoMemory}
+use Rattle.replica.specs.declared.roles.fault.NodeFault.TheVariants.{Down}
+use Rattle.replica.specs.roles.Faults.{refused_as}
 use Rattle.replica.specs.Handles.{Takes}
 use Rattle.replica.specs.Lengths.{told_by, told_after}
 use Rattle.answers.specs.Seen.{Seen}

@@ -12,8 +12,8 @@ use Rattle.formats.specs.declared.events.Event.{Event}
 use Rattle.answers.specs.Answers.{told, sheet_at}
 use Rattle.answers.specs.declared.answers.Told.{Told}
 use Rattle.answers.specs.declared.answers.Told.TheVariants as tells
-use Rattle.roles.specs.declared.fault.NodeFault.{NodeFault}
-use Rattle.roles.specs.declared.fault.NodeFault.TheVariants as fault
+use Rattle.replica.specs.declared.roles.fault.NodeFault.{NodeFault}
+use Rattle.replica.specs.declared.roles.fault.NodeFault.TheVariants as fault
 use Rattle.sheets.specs.declared.Style.{Style as SheetStyle}
 use Rattle.sheets.specs.declared.Style.TheVariants as layout
 use Rattle.wire.specs.Numbers.{state_in}

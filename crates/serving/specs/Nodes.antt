@@ -6,9 +6,9 @@ use Rattle.learner.specs.declared.event.DeskEvent.{DeskEvent}
 use Rattle.answers.specs.Seen.{Seen}
 use Rattle.learner.specs.Steps.{Done, step}
 use Rattle.replica.specs.Lengths.{told_by}
-use Rattle.roles.specs.Faults.{refused_as}
-use Rattle.roles.specs.declared.fault.NodeFault.{NodeFault}
-use Rattle.roles.specs.declared.fault.NodeFault.TheVariants.{NoMemory, Down}
+use Rattle.replica.specs.roles.Faults.{refused_as}
+use Rattle.replica.specs.declared.roles.fault.NodeFault.{NodeFault}
+use Rattle.replica.specs.declared.roles.fault.NodeFault.TheVariants.{NoMemory, Down}
 use Rattle.store.specs.declared.home.Home.{Home}
 
 -- what happens to a call: it is taken as the protocol has it, memory is refused, or the device

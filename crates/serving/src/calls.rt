@@ -8,7 +8,7 @@ use acceptor::NoMemory;
 use acceptor::message::Message;
 use answers::Desk;
 use learner::event::DeskEvent;
-use roles::NodeFault;
+use replica::roles::NodeFault;
 use std::collections::VecDeque;
 
 /// How the node answered.

@@ -13,7 +13,7 @@ use crate::session::Session;
 use acceptor::NoMemory;
 use answers::{Desk, SheetFault, Told};
 use formats::Event;
-use roles::NodeFault;
+use replica::roles::NodeFault;
 use sheets::fits_in_a_frame;
 use wire::{
     Bytes, ClientRefusal as Refusal, CommandState, Frame, SheetStyle as Style, Version, What,

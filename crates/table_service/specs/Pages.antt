@@ -14,8 +14,8 @@ use Rattle.hall_views.specs.People.{IsPeoplePage}
 use Rattle.hall_views.specs.Person.{person_page}
 use Rattle.hall_views.specs.Rounds.{rounds_page}
 use Rattle.origins.specs.Changes.{IsLastChange}
-use Rattle.paper_views.specs.Scorecards.{IsScorecards}
-use Rattle.paper_views.specs.Wall.{IsWallSheet}
+use Rattle.entry_views.specs.paper.Scorecards.{IsScorecards}
+use Rattle.entry_views.specs.paper.Wall.{IsWallSheet}
 use Rattle.table_views.specs.declared.around.Around.{Around}
 use Rattle.table_views.specs.Logs.{accepted_in}
 use Rattle.texts.specs.declared.command.RoundId.{RoundId}

@@ -12,9 +12,9 @@ use crate::reading::{Asked, View, asked_at};
 use bytes::Bytes;
 use card_queue::CardQueue;
 use entry_views::Draft;
+use entry_views::paper::{scorecards, wall_sheet};
 use hall_views::{import_page, overview, people_page, person_page, rounds_page};
 use http::Request;
-use paper_views::{scorecards, wall_sheet};
 use std::alloc::{AllocError, Global};
 use table_views::Around;
 

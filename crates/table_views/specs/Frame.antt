@@ -1,6 +1,6 @@
 -- The frame of every page.
 use Rattle.std.specs.Prelude.{ℕ, List, [], ◌∷◌, ◌++◌, codes}
-use Rattle.board_page.specs.Escaped.{escaped}
+use Rattle.markup.specs.board_page.Escaped.{escaped}
 use Rattle.markup.specs.Pieces.{joined}
 use Rattle.table_views.specs.declared.desks.Desks.{Desks}
 use Rattle.table_views.specs.Bar.{bar}

@@ -1,6 +1,6 @@
 -- Why something was refused, in words.
 use Rattle.std.specs.Prelude.{ℕ, List, [], ◌∷◌, codes, decimal}
-use Rattle.code_meanings.specs.Meanings.{meaning_of}
+use Rattle.texts.specs.meanings.Meanings.{meaning_of}
 use Rattle.derivation.specs.declared.fault.CardFault.{CardFault}
 use Rattle.derivation.specs.declared.fault.CardFault.TheVariants as fault
 use Rattle.markup.specs.Pieces.{joined}

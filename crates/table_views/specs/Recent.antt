@@ -2,7 +2,7 @@
 use Rattle.std.specs.Prelude.{ℕ, zero, suc, ◌-◌, ◌/◌, List, [], ◌∷◌, ◌++◌, codes, decimal}
 use Rattle.std.specs.Prelude.{flat_map, length}
 use Rattle.std.specs.Prelude.{count_by, Option, None, Some}
-use Rattle.board_page.specs.Escaped.{escaped}
+use Rattle.markup.specs.board_page.Escaped.{escaped}
 use Rattle.card_forms.specs.declared.cards.CardForm.{CardForm}
 use Rattle.card_forms.specs.declared.items.Item.{Item}
 use Rattle.card_forms.specs.declared.items.Item.TheVariants as item

@@ -1,13 +1,13 @@
 //! Competitors.
 
 ghost use Rattle.std.specs.Prelude.{◌≡◌, ◌++◌, OnOk};
-ghost use Rattle.board_page.specs.Escaped.{escaped};
+ghost use Rattle.markup.specs.board_page.Escaped.{escaped};
 ghost use Rattle.scorecard.specs.Spelling.{trimmed};
 ghost use Rattle.table_views.specs.People.{number_in, name_in};
 
 use acceptor::NoMemory;
-use board_page::push_escaped;
 use commands::Meet;
+use markup::board_page::push_escaped;
 use texts::number_between;
 
 /// The bytes without the white space around them.

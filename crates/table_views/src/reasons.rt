@@ -5,9 +5,9 @@ ghost use Rattle.table_views.specs.Reasons.{card_words, reason_words, with_field
 
 use acceptor::NoMemory;
 use card_forms::Reason;
-use code_meanings::meaning_of;
 use derivation::CardFault;
 use markup::{Piece, push_pieces};
+use texts::meanings::meaning_of;
 
 /// Adds what is said of an attempt.
 fn push_field<'a>(

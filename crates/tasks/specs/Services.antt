@@ -1,9 +1,9 @@
 -- What is asked of a desk that is to serve the hall of a file.
 use Rattle.std.specs.Prelude.{◌≡◌, ℕ, Bool, true, false, List, Option, map, option_map}
 use Rattle.arguments.specs.declared.task.HallService.{HallService}
-use Rattle.service.specs.declared.Making.{Making}
-use Rattle.service.specs.declared.Making.TheVariants as making
-use Rattle.service.specs.declared.Service.{Service}
+use Rattle.hall_file.specs.declared.service.Making.{Making}
+use Rattle.hall_file.specs.declared.service.Making.TheVariants as making
+use Rattle.hall_file.specs.declared.service.Service.{Service}
 
 -- `--new` makes a store, and without it one has to be there
 abbrev pub making_of : (makes : Bool) → Making

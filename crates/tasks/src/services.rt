@@ -4,7 +4,7 @@ ghost use Rattle.std.specs.Prelude.{◌≡◌, map, option_map};
 ghost use Rattle.tasks.specs.Services.{IsServiceOf, making_of};
 
 use arguments::HallService;
-use service::{Making, Service};
+use hall_file::service::{Making, Service};
 
 /// Whether the store is made, or has to be there.
 fn making_of(makes: bool) -> Making

@@ -7,7 +7,7 @@ ghost use Rattle.errands.specs.Statuses.{status_of};
 use batch::Contact;
 use errands::{DeskFault, tell, tell_asking, tell_serving};
 use explaining::{About, explain, is_wanted};
-use service::Service;
+use hall_file::service::Service;
 use std::io::Write;
 
 /// Says of a fault of a desk that was asked why it came, and returns the exit status. A second line

@@ -15,10 +15,10 @@ use Rattle.cube.specs.declared.moves.Kind.TheVariants.{Face, Block, Turn}
 use Rattle.cube.specs.declared.moves.Quarter.{Quarter}
 use Rattle.cube.specs.declared.moves.Quarter.TheVariants.{Clockwise, Half, Anticlockwise}
 use Rattle.cube.specs.declared.moves.Move.{Move}
-use Rattle.notation.specs.declared.reading.ReadFault.{ReadFault}
-use Rattle.notation.specs.declared.reading.ReadFault.TheVariants.{NoMemory}
-use Rattle.notation.specs.Tokens.{token}
-use Rattle.notation.specs.Notation.{Spells, IsUnlessNoMemory, spelling as moves_text}
+use Rattle.cube.specs.declared.notation.reading.ReadFault.{ReadFault}
+use Rattle.cube.specs.declared.notation.reading.ReadFault.TheVariants.{NoMemory}
+use Rattle.cube.specs.notation.Tokens.{token}
+use Rattle.cube.specs.notation.Notation.{Spells, IsUnlessNoMemory, spelling as moves_text}
 use Rattle.texts.specs.Names.{has_single_spaces}
 use Rattle.texts.specs.Spelling.{AreMoves}
 use Rattle.texts.specs.Fields.{every_move, move_by, move_of, all_of, at_most_400, moves_of}

@@ -4,7 +4,7 @@ use Rattle.std.proofs.Common.{◌≡◌, ℕ, ◌≤◌, List, [], ◌∷◌, �
 use Rattle.std.proofs.Common.{Option, Some, Ok, Err, refl, subst, arith}
 use Rattle.std.proofs.lemmas.List.{append-nil}
 use Rattle.cube.specs.declared.moves.Move.{Move}
-use Rattle.notation.specs.Notation.{spelling as moves_text}
+use Rattle.cube.specs.notation.Notation.{spelling as moves_text}
 use Rattle.formats.specs.declared.events.Event.{Event}
 use Rattle.formats.specs.declared.events.Format.{Format}
 use Rattle.formats.specs.Events.{event_name, format_name}

@@ -5,7 +5,7 @@ use Rattle.std.proofs.Common.{subst, arith, append_assoc, take-append-drop}
 use Rattle.std.specs.Option.{option_map, option_and_then}
 use Rattle.std.proofs.lemmas.Bool.Decides.{nat_tests}
 use Rattle.cube.specs.declared.moves.Move.{Move}
-use Rattle.notation.specs.Notation.{spelling as moves_text}
+use Rattle.cube.specs.notation.Notation.{spelling as moves_text}
 use Rattle.texts.specs.declared.command.Entered.{Entered}
 use Rattle.texts.specs.declared.command.Entered.TheVariants.{Time, Solution, Multi, Dnf, Dns}
 use Rattle.texts.specs.Spelling.{IsWithin, IsEntered, entered_text}

@@ -11,7 +11,7 @@ use Rattle.cube.specs.declared.moves.Kind.TheVariants.{Face, Block, Turn}
 use Rattle.cube.specs.declared.moves.Quarter.{Quarter}
 use Rattle.cube.specs.declared.moves.Quarter.TheVariants.{Clockwise, Half, Anticlockwise}
 use Rattle.cube.specs.declared.moves.Move.{Move}
-use Rattle.notation.specs.Tokens.{token}
+use Rattle.cube.specs.notation.Tokens.{token}
 use Rattle.formats.specs.declared.advance.Advance.{Advance}
 use Rattle.formats.specs.declared.advance.Advance.TheVariants.{Final, Top, Percent}
 use Rattle.formats.specs.declared.events.Event.{Event}

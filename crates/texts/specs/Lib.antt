@@ -10,3 +10,4 @@ pub mod SecondEdition
 pub mod Spelling
 pub mod WorkedTexts
 pub mod model
+pub mod meanings

@@ -5,7 +5,7 @@ use Rattle.std.specs.Prelude.{Option, None, Some}
 use Rattle.std.specs.List.{join_with_byte}
 use Rattle.formats.specs.Events.{event_name, format_name, last_round}
 use Rattle.cube.specs.declared.moves.Move.{Move}
-use Rattle.notation.specs.Notation.{spelling as moves_text}
+use Rattle.cube.specs.notation.Notation.{spelling as moves_text}
 use Rattle.formats.specs.declared.advance.Advance.{Advance}
 use Rattle.formats.specs.declared.advance.Advance.TheVariants.{Final, Top, Percent}
 use Rattle.texts.specs.declared.command.Command.{Command}

@@ -2,8 +2,8 @@
 
 ghost use Rattle.std.specs.Prelude.{◌≡◌};
 
+use cube::notation::Moves;
 use formats::{Advance, Event, Format};
-use notation::Moves;
 use std::marker::Model;
 
 /// A competitor's name, as bytes of text.

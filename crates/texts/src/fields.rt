@@ -10,8 +10,8 @@ ghost use Rattle.texts.specs.model.Returned.{MayBeSolution};
 use crate::command::Entered;
 use crate::names::has_single_spaces;
 use crate::numbers::{u8_between, u16_between, u32_between};
+use cube::notation::{Moves, NoMemory, ReadFault, printed_is_spelled};
 use formats::{Advance, MOST_ENTRANTS};
-use notation::{Moves, NoMemory, ReadFault, printed_is_spelled};
 use std::alloc::Global;
 
 /// The last edition that commands name.
@@ -125,7 +125,7 @@ pub fn moves_of(alloc: Global, bytes: &[u8]) -> Result<Option<Moves>, NoMemory>
 {
     printed_is_spelled();
     if has_single_spaces(bytes) {
-        match notation::read(alloc, bytes) {
+        match cube::notation::read(alloc, bytes) {
             Ok(moves) => Ok(Some(moves)),
             Err(fault) => match fault {
                 ReadFault::NoMemory => Err(NoMemory),

@@ -5,6 +5,7 @@ mod answer;
 mod command;
 mod editions;
 mod fields;
+pub mod meanings;
 mod names;
 mod numbers;
 mod printing;

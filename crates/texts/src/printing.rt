@@ -2,7 +2,7 @@
 
 ghost use Rattle.std.specs.Prelude.{◌≡◌, ◌++◌, ◌∷◌, [], IfOk, OnOk, codes, decimal};
 ghost use Rattle.formats.specs.Events.{event_name, format_name};
-ghost use Rattle.notation.specs.Notation.{spelling as moves_text};
+ghost use Rattle.cube.specs.notation.Notation.{spelling as moves_text};
 ghost use Rattle.texts.specs.Spelling.{cutoff_text, limit_text, advance_text, entered_text};
 ghost use Rattle.texts.specs.Spelling.{entry_words, further, settings_words, spelling};
 ghost use Rattle.texts.specs.declared.command.Command.TheVariants.{Register as RegisterOf};
@@ -99,7 +99,7 @@ pub fn print_advance(alloc: Global, advance: Advance) -> Result<Vec<u8>, NoMemor
 fn push_moves(alloc: Global, out: &mut Vec<u8>, moves: &[Move]) -> Result<(), NoMemory>
     ensures { OnOk result (out.new.items ≡ out.old.items ++ moves_text moves.now) }
 {
-    let text = notation::print(alloc, moves)?;
+    let text = cube::notation::print(alloc, moves)?;
     out.extend_from_slice(&text)
 }
 

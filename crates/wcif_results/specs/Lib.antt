@@ -8,3 +8,4 @@ pub mod MultiBlind
 pub mod Results
 pub mod Written
 pub mod model
+pub mod results_json

@@ -11,6 +11,7 @@ mod meet_rounds;
 mod nesting;
 mod reading;
 mod results;
+pub mod results_json;
 
 pub use encoding::{attempt_result, average_result, best_result};
 pub use exporting::{ExportFault, export};

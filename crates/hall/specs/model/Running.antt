@@ -3,7 +3,7 @@ use Rattle.std.specs.Prelude.{◌≡◌, ◌⊎◌, ℕ, Bool, true, false, ◌&
 use Rattle.std.specs.Prelude.{◌++◌, Option}
 use Rattle.std.specs.Io.KnownBytes.{Appends, IsAtEnd}
 use Rattle.learner.specs.declared.event.WorldEvent.{WorldEvent}
-use Rattle.world.specs.WorldValues.{WorldValue, extended}
+use Rattle.hall.specs.world.WorldValues.{WorldValue, extended}
 use Rattle.lines.specs.Lines.{is_within, lines_read}
 use Rattle.lines.specs.Bytes.{AppendsPart, HasLeft, Sides}
 use Rattle.lines.specs.declared.fault.RunFault.{RunFault}

@@ -8,8 +8,8 @@ use Rattle.proposer.specs.declared.plan.Plan.{Plan}
 use Rattle.learner.specs.declared.event.DeskEvent.{DeskEvent}
 use Rattle.learner.specs.Desks.{Desk}
 use Rattle.learner.specs.Steps.{Done, done, step}
-use Rattle.roles.specs.declared.fault.NodeFault.{NodeFault}
-use Rattle.roles.specs.model.RunningDesks.{RunningDesk}
+use Rattle.replica.specs.declared.roles.fault.NodeFault.{NodeFault}
+use Rattle.replica.specs.roles.model.RunningDesks.{RunningDesk}
 use Rattle.store.specs.declared.home.Home.{Home}
 use Rattle.store.specs.declared.keeper.Keeper.{Ghosts}
 use Rattle.replica.specs.Handles.{IsIgnored, Takes, step_at}

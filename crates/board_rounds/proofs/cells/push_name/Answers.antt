@@ -1,6 +1,6 @@
 use Rattle.std.proofs.Common.{codes, decimal, ◌∙◌}
-use Rattle.board_page.proofs.Steps.{five_parts}
-use Rattle.board_page.specs.Escaped.{escaped}
+use Rattle.markup.proofs.board_page.Steps.{five_parts}
+use Rattle.markup.specs.board_page.Escaped.{escaped}
 use Rattle.board_rounds.specs.Rows.{name_cell}
 use Rattle.board_rounds.proofs.cells.push_name.Goals as goal
 

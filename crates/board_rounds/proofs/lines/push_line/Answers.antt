@@ -1,6 +1,6 @@
 use Rattle.std.proofs.Common.{◌++◌, ◌∙◌, ap}
 use Rattle.formats.specs.Events.{unit_of}
-use Rattle.board_page.proofs.Steps.{five_parts}
+use Rattle.markup.proofs.board_page.Steps.{five_parts}
 use Rattle.board_rounds.proofs.EntrantLines.{line_of_row}
 use Rattle.board_rounds.proofs.lines.push_line.Goals as goal
 

@@ -1,5 +1,5 @@
 use Rattle.std.proofs.Common.{◌++◌, ◌∙◌, ap, codes, sym}
-use Rattle.board_page.proofs.Steps.{two_parts}
+use Rattle.markup.proofs.board_page.Steps.{two_parts}
 use Rattle.sheets.proofs.Ranges.{range_more}
 use Rattle.board_rounds.specs.Persons.{attempt_after}
 use Rattle.board_rounds.specs.Rows.{attempt_words}

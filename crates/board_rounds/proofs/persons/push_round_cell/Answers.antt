@@ -1,5 +1,5 @@
 use Rattle.std.proofs.Common.{codes}
-use Rattle.board_page.proofs.Steps.{five_parts}
+use Rattle.markup.proofs.board_page.Steps.{five_parts}
 use Rattle.board_rounds.specs.Persons.{round_cell}
 use Rattle.round_words.specs.Words.{round_name, round_words}
 use Rattle.board_rounds.proofs.persons.push_round_cell.Goals as goal

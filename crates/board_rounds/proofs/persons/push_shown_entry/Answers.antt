@@ -1,5 +1,5 @@
 use Rattle.std.proofs.Common.{◌++◌, ◌∙◌, ap}
-use Rattle.board_page.proofs.Steps.{five_parts}
+use Rattle.markup.proofs.board_page.Steps.{five_parts}
 use Rattle.board_rounds.specs.Rows.{cell}
 use Rattle.board_rounds.proofs.EntrantLines.{entry_of_row}
 use Rattle.board_rounds.proofs.persons.push_shown_entry.Goals as goal

@@ -1,6 +1,6 @@
 use Rattle.std.proofs.Common.{codes}
-use Rattle.board_page.proofs.Steps.{three_parts}
-use Rattle.board_page.specs.Escaped.{escaped}
+use Rattle.markup.proofs.board_page.Steps.{three_parts}
+use Rattle.markup.specs.board_page.Escaped.{escaped}
 use Rattle.board_rounds.specs.Persons.{person_start}
 use Rattle.board_rounds.proofs.persons.push_start.Goals as goal
 

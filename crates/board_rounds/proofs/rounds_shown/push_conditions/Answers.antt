@@ -1,5 +1,5 @@
 use Rattle.std.proofs.Common.{codes}
-use Rattle.board_page.proofs.Steps.{five_parts}
+use Rattle.markup.proofs.board_page.Steps.{five_parts}
 use Rattle.board_rounds.specs.Rounds.{conditions}
 use Rattle.round_words.specs.Words.{settings_words, state_words}
 use Rattle.board_rounds.proofs.rounds_shown.push_conditions.Goals as goal

@@ -1,5 +1,5 @@
 use Rattle.std.proofs.Common.{codes}
-use Rattle.board_page.proofs.Steps.{three_parts}
+use Rattle.markup.proofs.board_page.Steps.{three_parts}
 use Rattle.board_rounds.specs.Rounds.{headings, table_start}
 use Rattle.board_rounds.proofs.rounds_shown.push_table_start.Goals as goal
 

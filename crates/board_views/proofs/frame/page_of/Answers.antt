@@ -1,5 +1,5 @@
 use Rattle.std.proofs.Common.{[]}
-use Rattle.board_page.proofs.Steps.{five_parts}
+use Rattle.markup.proofs.board_page.Steps.{five_parts}
 use Rattle.board_views.specs.Frame.{end, head, inside, links, opening}
 use Rattle.board_views.proofs.frame.page_of.Goals as goal
 

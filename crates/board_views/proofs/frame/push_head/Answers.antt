@@ -1,6 +1,6 @@
 use Rattle.std.proofs.Common.{◌++◌, codes}
-use Rattle.board_page.specs.Escaped.{escaped}
-use Rattle.board_page.proofs.Steps.{three_parts}
+use Rattle.markup.specs.board_page.Escaped.{escaped}
+use Rattle.markup.proofs.board_page.Steps.{three_parts}
 use Rattle.board_views.specs.Frame.{head}
 use Rattle.board_views.proofs.frame.push_head.Goals as goal
 

@@ -1,5 +1,5 @@
 use Rattle.std.proofs.Common.{codes}
-use Rattle.board_page.proofs.Steps.{three_parts}
+use Rattle.markup.proofs.board_page.Steps.{three_parts}
 use Rattle.board_views.specs.Frame.{links}
 use Rattle.board_views.proofs.frame.push_links.Goals as goal
 

@@ -1,6 +1,6 @@
 use Rattle.std.proofs.Common.{codes}
-use Rattle.board_page.specs.Escaped.{escaped}
-use Rattle.board_page.proofs.Steps.{five_parts}
+use Rattle.markup.specs.board_page.Escaped.{escaped}
+use Rattle.markup.proofs.board_page.Steps.{five_parts}
 use Rattle.board_views.specs.Frame.{opening}
 use Rattle.board_views.proofs.frame.push_opening.Goals as goal
 

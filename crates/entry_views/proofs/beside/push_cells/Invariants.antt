@@ -1,6 +1,6 @@
 use Rattle.std.proofs.Common.{◌≡◌, ◌++◌, drop, flat_map}
 use Rattle.csv.specs.Records.{fields_of}
-use Rattle.board_page.specs.Table.{cell}
+use Rattle.markup.specs.board_page.Table.{cell}
 use Rattle.entry_views.proofs.beside.push_cells.Given as goal
 
 -- what was written, and what is written for the fields that are left, is the whole

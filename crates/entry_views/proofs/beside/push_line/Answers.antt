@@ -1,6 +1,6 @@
 use Rattle.std.proofs.Common.{◌++◌, ◌∙◌, ap, codes, drop, flat_map}
-use Rattle.board_page.specs.Table.{cell}
-use Rattle.board_page.proofs.Steps.{five_parts}
+use Rattle.markup.specs.board_page.Table.{cell}
+use Rattle.markup.proofs.board_page.Steps.{five_parts}
 use Rattle.csv.specs.Records.{fields_of}
 use Rattle.table_views.specs.People.{number_in}
 use Rattle.entry_views.specs.Beside.{field_in, line, line_start, number_cell, progress_at}

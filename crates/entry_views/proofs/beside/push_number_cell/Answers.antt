@@ -1,5 +1,5 @@
 use Rattle.std.proofs.Common.{codes}
-use Rattle.board_page.proofs.Steps.{three_parts}
+use Rattle.markup.proofs.board_page.Steps.{three_parts}
 use Rattle.round_words.specs.Words.{round_name}
 use Rattle.entry_views.specs.Beside.{number_link}
 use Rattle.entry_views.proofs.beside.push_number_cell.Goals as goal

@@ -1,6 +1,6 @@
 use Rattle.std.proofs.Common.{◌++◌, ◌∙◌, ap, codes, map, refl}
 use Rattle.csv.specs.Records.{fields_of}
-use Rattle.board_page.proofs.Steps.{three_parts}
+use Rattle.markup.proofs.board_page.Steps.{three_parts}
 use Rattle.entry_views.specs.Beside.{section, section_head, table_text}
 use Rattle.entry_views.proofs.beside.push_round.Goals as goal
 

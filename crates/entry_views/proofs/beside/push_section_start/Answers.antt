@@ -1,5 +1,5 @@
 use Rattle.std.proofs.Common.{◌++◌, ◌∙◌, ap, codes}
-use Rattle.board_page.proofs.Steps.{three_parts, two_parts}
+use Rattle.markup.proofs.board_page.Steps.{three_parts, two_parts}
 use Rattle.round_counts.specs.Counts.{counts}
 use Rattle.round_words.specs.Words.{round_words}
 use Rattle.entry_views.specs.Beside.{count_line, section_start}

@@ -2,7 +2,7 @@ use Rattle.std.proofs.Common.{◌≡◌, ◌++◌, ◌∷◌, ◌∙◌, List, a
 use Rattle.std.proofs.Common.{subst, sym}
 use Rattle.std.proofs.lemmas.List.{append-nil}
 use Rattle.csv.specs.Records.{Row, fields_of}
-use Rattle.board_page.proofs.Steps.{first_and_rest, no_items, rest_whole, three_parts}
+use Rattle.markup.proofs.board_page.Steps.{first_and_rest, no_items, rest_whole, three_parts}
 use Rattle.entry_views.specs.Beside.{line, table_start, table_text}
 use Rattle.entry_views.proofs.beside.push_table.Goals as goal
 

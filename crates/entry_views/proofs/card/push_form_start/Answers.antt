@@ -1,6 +1,6 @@
 use Rattle.std.proofs.Common.{◌++◌, ◌∙◌, ap, arith, codes, drop, flat_map, get_or, sym}
 use Rattle.std.proofs.lemmas.List.{get_or_read}
-use Rattle.board_page.proofs.Steps.{rest_whole, six_parts}
+use Rattle.markup.proofs.board_page.Steps.{rest_whole, six_parts}
 use Rattle.formats.specs.Events.{unit_of}
 use Rattle.table_views.specs.Hidden.{hidden}
 use Rattle.entry_views.specs.Card.{round_value, rules_of_form, spare}

@@ -1,5 +1,5 @@
 use Rattle.std.proofs.Common.{codes}
-use Rattle.board_page.proofs.Steps.{five_parts}
+use Rattle.markup.proofs.board_page.Steps.{five_parts}
 use Rattle.round_words.specs.Words.{round_words, settings_words}
 use Rattle.entry_views.proofs.card.push_head.Goals as goal
 

@@ -1,5 +1,5 @@
 use Rattle.std.proofs.Common.{codes}
-use Rattle.board_page.proofs.Steps.{three_parts}
+use Rattle.markup.proofs.board_page.Steps.{three_parts}
 use Rattle.round_words.specs.Words.{round_name}
 use Rattle.entry_views.specs.Card.{round_value}
 use Rattle.entry_views.proofs.card.push_round_value.Goals as goal

@@ -1,6 +1,6 @@
 use Rattle.std.proofs.Common.{◌-◌, ◌++◌, ◌∙◌, ap, codes, flat_map}
 use Rattle.std.proofs.lemmas.Result.{on_ok_weaker}
-use Rattle.board_page.proofs.Steps.{six_parts, two_parts, when_ok}
+use Rattle.markup.proofs.board_page.Steps.{six_parts, two_parts, when_ok}
 use Rattle.entry_views.specs.Fields.{field, field_start, filled, notes_of, standing_text}
 use Rattle.entry_views.specs.Notes.{note_at}
 use Rattle.entry_views.proofs.fields.push_field.Goals as goal

@@ -1,4 +1,4 @@
-use Rattle.board_page.proofs.Steps.{one_field_more}
+use Rattle.markup.proofs.board_page.Steps.{one_field_more}
 use Rattle.entry_views.specs.Fields.{field}
 use Rattle.entry_views.proofs.fields.push_fields.Goals as goal
 

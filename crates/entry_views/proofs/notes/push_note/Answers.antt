@@ -1,6 +1,6 @@
 use Rattle.std.proofs.Common.{codes}
 use Rattle.std.proofs.lemmas.Result.{on_ok_weaker}
-use Rattle.board_page.proofs.Steps.{three_parts, when_ok}
+use Rattle.markup.proofs.board_page.Steps.{three_parts, when_ok}
 use Rattle.entry_views.specs.Notes.{note_line, note_words}
 use Rattle.entry_views.proofs.notes.push_note.Goals as goal
 

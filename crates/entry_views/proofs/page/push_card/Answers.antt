@@ -1,5 +1,5 @@
 use Rattle.std.proofs.Common.{◌++◌, ◌∙◌, ap, drop, flat_map, get_or}
-use Rattle.board_page.proofs.Steps.{six_parts}
+use Rattle.markup.proofs.board_page.Steps.{six_parts}
 use Rattle.commands.specs.History.{History}
 use Rattle.table_views.specs.Logs.{accepted_in}
 use Rattle.entry_views.specs.Card.{card_fields, card_head, form_end, form_start, spare}

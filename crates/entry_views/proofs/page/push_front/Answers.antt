@@ -1,5 +1,5 @@
 use Rattle.std.proofs.Common.{ℕ, List, ◌++◌, ◌∙◌, ap, codes, length}
-use Rattle.board_page.proofs.Steps.{three_parts}
+use Rattle.markup.proofs.board_page.Steps.{three_parts}
 use Rattle.commands.specs.History.{History}
 use Rattle.round_words.specs.Words.{round_words}
 use Rattle.rounds.specs.Tables.{Table}

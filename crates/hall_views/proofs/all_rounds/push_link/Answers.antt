@@ -1,6 +1,6 @@
 use Rattle.std.proofs.Common.{codes, ◌++◌}
 use Rattle.std.proofs.lemmas.Result.{on_ok_weaker}
-use Rattle.board_page.proofs.Steps.{three_parts, two_parts}
+use Rattle.markup.proofs.board_page.Steps.{three_parts, two_parts}
 use Rattle.round_words.specs.Words.{round_name}
 use Rattle.hall_views.specs.Overview.{link_cell, link_end}
 use Rattle.hall_views.proofs.all_rounds.push_link.Goals as goal

@@ -1,6 +1,6 @@
 use Rattle.std.proofs.Common.{ap, codes, ◌++◌, ◌∙◌}
 use Rattle.std.proofs.lemmas.Result.{on_ok_weaker}
-use Rattle.board_page.proofs.Steps.{six_parts, two_parts, when_ok}
+use Rattle.markup.proofs.board_page.Steps.{six_parts, two_parts, when_ok}
 use Rattle.round_counts.specs.Counts.{counts}
 use Rattle.hall_views.specs.Overview.{count_cells, link_cell, round_line, row_head, state_cell}
 use Rattle.hall_views.proofs.all_rounds.push_row.Goals as goal

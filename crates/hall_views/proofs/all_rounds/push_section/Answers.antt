@@ -1,6 +1,6 @@
 use Rattle.std.proofs.Common.{codes, flat_map}
 use Rattle.std.proofs.lemmas.Result.{on_ok_weaker}
-use Rattle.board_page.proofs.Steps.{three_parts, when_ok}
+use Rattle.markup.proofs.board_page.Steps.{three_parts, when_ok}
 use Rattle.formats.specs.Events.{all_events}
 use Rattle.hall_views.specs.Overview.{event_lines, section}
 use Rattle.hall_views.proofs.all_rounds.push_section.Goals as goal

@@ -1,6 +1,6 @@
 use Rattle.std.proofs.Common.{codes, flat_map, length, ◌++◌}
 use Rattle.std.proofs.lemmas.Result.{on_ok_weaker}
-use Rattle.board_page.proofs.Steps.{three_parts, two_parts}
+use Rattle.markup.proofs.board_page.Steps.{three_parts, two_parts}
 use Rattle.hall_views.specs.Closing.{list_through, these_go_on, tie}
 use Rattle.hall_views.specs.Entrants.{entrant_line}
 use Rattle.hall_views.proofs.closing.push_list_through.Goals as goal

@@ -1,6 +1,6 @@
 use Rattle.std.proofs.Common.{codes, ◌++◌}
 use Rattle.std.proofs.lemmas.Result.{on_ok_weaker}
-use Rattle.board_page.proofs.Steps.{three_parts, two_parts}
+use Rattle.markup.proofs.board_page.Steps.{three_parts, two_parts}
 use Rattle.hall_views.specs.Editions.{edition_form}
 use Rattle.hall_views.specs.Forms.{button, form_start, unseen}
 use Rattle.hall_views.proofs.editions.push_edition_form.Goals as goal

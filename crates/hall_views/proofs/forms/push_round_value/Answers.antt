@@ -1,6 +1,6 @@
 use Rattle.std.proofs.Common.{codes}
 use Rattle.std.proofs.lemmas.Result.{on_ok_weaker}
-use Rattle.board_page.proofs.Steps.{three_parts, when_ok}
+use Rattle.markup.proofs.board_page.Steps.{three_parts, when_ok}
 use Rattle.round_words.specs.Words.{round_name}
 use Rattle.hall_views.specs.Forms.{round_value}
 use Rattle.hall_views.proofs.forms.push_round_value.Goals as goal

@@ -1,6 +1,6 @@
 use Rattle.std.proofs.Common.{ap, get_or, ℕ, ◌++◌, ◌∙◌}
 use Rattle.std.proofs.lemmas.Result.{on_ok_weaker}
-use Rattle.board_page.proofs.Steps.{five_parts}
+use Rattle.markup.proofs.board_page.Steps.{five_parts}
 use Rattle.table_views.specs.Hidden.{hidden}
 use Rattle.hall_views.specs.Importing.{file_end, file_start, import_section, lines_end}
 use Rattle.hall_views.proofs.importing.push_section.Goals as goal

@@ -1,6 +1,6 @@
 use Rattle.std.proofs.Common.{codes}
 use Rattle.std.proofs.lemmas.Result.{on_ok_weaker}
-use Rattle.board_page.proofs.Steps.{three_parts}
+use Rattle.markup.proofs.board_page.Steps.{three_parts}
 use Rattle.table_views.specs.Hidden.{hidden}
 use Rattle.hall_views.specs.Lines.{lines_form, lines_rest}
 use Rattle.hall_views.proofs.lines.push_lines_form.Goals as goal

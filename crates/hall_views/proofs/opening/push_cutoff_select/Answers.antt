@@ -1,6 +1,6 @@
 use Rattle.std.proofs.Common.{[], List, ap, codes, flat_map, take, ℕ, ◌++◌, ◌∙◌, ◌∷◌}
 use Rattle.std.proofs.lemmas.Result.{on_ok_weaker}
-use Rattle.board_page.proofs.Steps.{three_parts, two_parts}
+use Rattle.markup.proofs.board_page.Steps.{three_parts, two_parts}
 use Rattle.hall_views.proofs.Tails.{same_after}
 use Rattle.hall_views.specs.Forms.{text_field}
 use Rattle.hall_views.specs.Opening.{border_text, cutoff_choice, cutoff_select, most_attempts}

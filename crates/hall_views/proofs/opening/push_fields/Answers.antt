@@ -1,6 +1,6 @@
 use Rattle.std.proofs.Common.{None}
 use Rattle.std.proofs.lemmas.Result.{on_ok_weaker}
-use Rattle.board_page.proofs.Steps.{two_parts}
+use Rattle.markup.proofs.board_page.Steps.{two_parts}
 use Rattle.hall_views.specs.Opening.{advance_fields, opening_fields, rule_fields}
 use Rattle.hall_views.proofs.opening.push_fields.Goals as goal
 

@@ -1,6 +1,6 @@
 use Rattle.std.proofs.Common.{List, ap, codes, ℕ, ◌++◌, ◌∙◌}
 use Rattle.std.proofs.lemmas.Result.{on_ok_weaker}
-use Rattle.board_page.proofs.Steps.{five_parts}
+use Rattle.markup.proofs.board_page.Steps.{five_parts}
 use Rattle.hall_views.specs.Forms.{button, form_start, path_of, round_value}
 use Rattle.hall_views.specs.Opening.{opening, opening_fields, opening_head}
 use Rattle.hall_views.proofs.opening.push_opening.Goals as goal

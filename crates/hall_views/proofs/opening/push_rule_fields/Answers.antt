@@ -1,6 +1,6 @@
 use Rattle.std.proofs.Common.{codes, flat_map}
 use Rattle.std.proofs.lemmas.Result.{on_ok_weaker}
-use Rattle.board_page.proofs.Steps.{five_parts}
+use Rattle.markup.proofs.board_page.Steps.{five_parts}
 use Rattle.formats.specs.Events.{unit_of}
 use Rattle.hall_views.specs.Opening.{cutoff_fields, format_choice, formats, limit_field}
 use Rattle.hall_views.specs.Opening.{rule_fields}

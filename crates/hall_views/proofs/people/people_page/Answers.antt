@@ -1,5 +1,5 @@
 use Rattle.std.proofs.Common.{List, [], ap, codes, length, ℕ, ◌++◌, ◌∙◌}
-use Rattle.board_page.proofs.Steps.{three_parts, two_parts}
+use Rattle.markup.proofs.board_page.Steps.{three_parts, two_parts}
 use Rattle.commands.specs.History.{History}
 use Rattle.table_views.specs.Frame.{bottom, top}
 use Rattle.table_views.specs.Logs.{accepted_in}

@@ -1,6 +1,6 @@
 use Rattle.std.proofs.Common.{codes, flat_map, ◌++◌}
 use Rattle.std.proofs.lemmas.Result.{on_ok_weaker}
-use Rattle.board_page.proofs.Steps.{six_parts, two_parts}
+use Rattle.markup.proofs.board_page.Steps.{six_parts, two_parts}
 use Rattle.formats.specs.Events.{all_events}
 use Rattle.hall_views.specs.Forms.{button, form_start, text_field}
 use Rattle.hall_views.specs.People.{entering, open_choice}

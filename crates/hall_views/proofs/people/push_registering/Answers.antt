@@ -1,6 +1,6 @@
 use Rattle.std.proofs.Common.{List, ap, codes, decimal, ℕ, ◌++◌, ◌∙◌}
 use Rattle.std.proofs.lemmas.Result.{on_ok_weaker}
-use Rattle.board_page.proofs.Steps.{five_parts}
+use Rattle.markup.proofs.board_page.Steps.{five_parts}
 use Rattle.hall_views.specs.Forms.{button, form_start, text_field}
 use Rattle.hall_views.specs.People.{registering}
 use Rattle.hall_views.proofs.people.push_registering.Goals as goal

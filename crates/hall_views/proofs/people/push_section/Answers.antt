@@ -1,7 +1,7 @@
 use Rattle.std.proofs.Common.{◌≡◌, ◌++◌, ◌∙◌, ℕ, List, ap, codes, get_or, refl, subst}
 use Rattle.std.proofs.lemmas.Result.{on_ok_weaker}
-use Rattle.board_page.specs.Adding.{Adds}
-use Rattle.board_page.proofs.Steps.{six_parts, when_ok}
+use Rattle.markup.specs.board_page.Adding.{Adds}
+use Rattle.markup.proofs.board_page.Steps.{six_parts, when_ok}
 use Rattle.commands.specs.History.{History}
 use Rattle.table_views.specs.declared.around.Around.{Around}
 use Rattle.table_views.specs.Logs.{accepted_in}

@@ -1,6 +1,6 @@
 use Rattle.std.proofs.Common.{codes}
 use Rattle.std.proofs.lemmas.Result.{on_ok_weaker}
-use Rattle.board_page.proofs.Steps.{five_parts, when_ok}
+use Rattle.markup.proofs.board_page.Steps.{five_parts, when_ok}
 use Rattle.round_words.specs.Words.{round_name, round_words}
 use Rattle.hall_views.specs.Person.{leave_button}
 use Rattle.hall_views.proofs.person.push_leave_button.Goals as goal

@@ -1,6 +1,6 @@
 use Rattle.std.proofs.Common.{List, ap, get_or, ℕ, ◌++◌, ◌∙◌}
 use Rattle.std.proofs.lemmas.Result.{on_ok_weaker}
-use Rattle.board_page.proofs.Steps.{two_parts}
+use Rattle.markup.proofs.board_page.Steps.{two_parts}
 use Rattle.commands.specs.History.{History}
 use Rattle.table_views.specs.Logs.{accepted_in}
 use Rattle.hall_views.proofs.Tails.{same_after}

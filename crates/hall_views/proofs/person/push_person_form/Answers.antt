@@ -1,6 +1,6 @@
 use Rattle.std.proofs.Common.{List, ap, codes, decimal, ℕ, ◌++◌, ◌∙◌}
 use Rattle.std.proofs.lemmas.Result.{on_ok_weaker}
-use Rattle.board_page.proofs.Steps.{two_parts}
+use Rattle.markup.proofs.board_page.Steps.{two_parts}
 use Rattle.hall_views.proofs.Tails.{same_after}
 use Rattle.hall_views.specs.Forms.{form_start, person_path, unseen}
 use Rattle.hall_views.specs.Person.{person_form}

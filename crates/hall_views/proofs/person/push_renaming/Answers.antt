@@ -1,6 +1,6 @@
 use Rattle.std.proofs.Common.{codes, ◌++◌}
 use Rattle.std.proofs.lemmas.Result.{on_ok_weaker}
-use Rattle.board_page.proofs.Steps.{three_parts, two_parts}
+use Rattle.markup.proofs.board_page.Steps.{three_parts, two_parts}
 use Rattle.hall_views.specs.Forms.{button, text_field}
 use Rattle.hall_views.specs.Person.{person_form, renaming}
 use Rattle.hall_views.proofs.person.push_renaming.Goals as goal

@@ -1,6 +1,6 @@
 use Rattle.std.proofs.Common.{ap, codes, flat_map, ◌++◌, ◌∙◌}
 use Rattle.std.proofs.lemmas.Result.{on_ok_weaker}
-use Rattle.board_page.proofs.Steps.{five_parts, when_ok}
+use Rattle.markup.proofs.board_page.Steps.{five_parts, when_ok}
 use Rattle.commands.specs.History.{History}
 use Rattle.formats.specs.Events.{all_events}
 use Rattle.table_views.specs.Logs.{accepted_in}

@@ -1,6 +1,6 @@
 use Rattle.std.proofs.Common.{codes, ◌++◌}
 use Rattle.std.proofs.lemmas.Result.{on_ok_weaker}
-use Rattle.board_page.proofs.Steps.{three_parts, two_parts, when_ok}
+use Rattle.markup.proofs.board_page.Steps.{three_parts, two_parts, when_ok}
 use Rattle.hall_views.specs.Person.{person_form, withdrawing}
 use Rattle.hall_views.proofs.person.push_withdrawing.Goals as goal
 

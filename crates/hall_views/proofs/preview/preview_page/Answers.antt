@@ -1,5 +1,5 @@
 use Rattle.std.proofs.Common.{List, [], ap, codes, length, ℕ, ◌++◌, ◌∙◌}
-use Rattle.board_page.proofs.Steps.{three_parts}
+use Rattle.markup.proofs.board_page.Steps.{three_parts}
 use Rattle.table_views.specs.Frame.{bottom, top}
 use Rattle.hall_views.specs.Preview.{preview_page, preview_section}
 use Rattle.hall_views.proofs.preview.preview_page.Goals as goal

@@ -1,6 +1,6 @@
 use Rattle.std.proofs.Common.{codes, flat_map, ◌++◌}
 use Rattle.std.proofs.lemmas.Result.{on_ok_weaker}
-use Rattle.board_page.proofs.Steps.{three_parts, two_parts}
+use Rattle.markup.proofs.board_page.Steps.{three_parts, two_parts}
 use Rattle.hall_views.specs.Lines.{lines_form}
 use Rattle.hall_views.specs.Preview.{enter_words, entered_all, entered_line, sent_line}
 use Rattle.hall_views.proofs.preview.push_entered_all.Goals as goal

@@ -1,6 +1,6 @@
 use Rattle.std.proofs.Common.{ap, codes, get_or, ℕ, ◌++◌, ◌∙◌}
 use Rattle.std.proofs.lemmas.Result.{on_ok_weaker}
-use Rattle.board_page.proofs.Steps.{three_parts, two_parts, when_ok}
+use Rattle.markup.proofs.board_page.Steps.{three_parts, two_parts, when_ok}
 use Rattle.hall_views.specs.Preview.{entered_list, lists, refused_list, told}
 use Rattle.hall_views.proofs.preview.push_lists.Goals as goal
 

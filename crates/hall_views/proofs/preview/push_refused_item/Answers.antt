@@ -1,5 +1,5 @@
 use Rattle.std.proofs.Common.{List, [], ap, codes, ℕ, ◌++◌, ◌∙◌, ◌∷◌}
-use Rattle.board_page.specs.Escaped.{escaped}
+use Rattle.markup.specs.board_page.Escaped.{escaped}
 use Rattle.markup.specs.Pieces.{joined}
 use Rattle.hall_views.proofs.Tails.{same_after}
 use Rattle.hall_views.proofs.preview.push_refused_item.Goals as goal

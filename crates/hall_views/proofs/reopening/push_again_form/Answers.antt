@@ -1,6 +1,6 @@
 use Rattle.std.proofs.Common.{List, ap, codes, ℕ, ◌++◌, ◌∙◌}
 use Rattle.std.proofs.lemmas.Result.{on_ok_weaker}
-use Rattle.board_page.proofs.Steps.{three_parts, two_parts}
+use Rattle.markup.proofs.board_page.Steps.{three_parts, two_parts}
 use Rattle.hall_views.specs.Forms.{button, form_start, path_of, round_value}
 use Rattle.hall_views.specs.Reopening.{again_form}
 use Rattle.hall_views.proofs.reopening.push_again_form.Goals as goal

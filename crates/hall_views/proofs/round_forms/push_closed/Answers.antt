@@ -1,6 +1,6 @@
 use Rattle.std.proofs.Common.{ap, codes, ◌++◌, ◌∙◌}
 use Rattle.std.proofs.lemmas.Result.{on_ok_weaker}
-use Rattle.board_page.proofs.Steps.{three_parts, two_parts}
+use Rattle.markup.proofs.board_page.Steps.{three_parts, two_parts}
 use Rattle.commands.specs.History.{History}
 use Rattle.rounds.specs.Tables.{Table}
 use Rattle.table_views.specs.Logs.{accepted_in}

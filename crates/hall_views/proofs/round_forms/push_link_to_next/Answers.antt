@@ -1,6 +1,6 @@
 use Rattle.std.proofs.Common.{codes}
 use Rattle.std.proofs.lemmas.Result.{on_ok_weaker}
-use Rattle.board_page.proofs.Steps.{three_parts, when_ok}
+use Rattle.markup.proofs.board_page.Steps.{three_parts, when_ok}
 use Rattle.round_words.specs.Words.{round_name}
 use Rattle.hall_views.specs.Rounds.{link_to_next}
 use Rattle.hall_views.proofs.round_forms.push_link_to_next.Goals as goal

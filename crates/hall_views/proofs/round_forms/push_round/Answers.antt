@@ -1,6 +1,6 @@
 use Rattle.std.proofs.Common.{◌++◌, ◌∙◌, ap, codes}
 use Rattle.std.proofs.lemmas.Result.{on_ok_weaker}
-use Rattle.board_page.proofs.Steps.{five_parts, when_ok}
+use Rattle.markup.proofs.board_page.Steps.{five_parts, when_ok}
 use Rattle.commands.specs.Accepted.{round_by}
 use Rattle.commands.specs.History.{History}
 use Rattle.round_words.specs.Words.{round_name}

@@ -1,6 +1,6 @@
 use Rattle.std.proofs.Common.{◌++◌, ◌∙◌, ap, codes}
 use Rattle.std.proofs.lemmas.Result.{on_ok_weaker}
-use Rattle.board_page.proofs.Steps.{three_parts, when_ok}
+use Rattle.markup.proofs.board_page.Steps.{three_parts, when_ok}
 use Rattle.commands.specs.Accepted.{round_by}
 use Rattle.hall_views.specs.Rounds.{called, round_head}
 use Rattle.hall_views.proofs.round_forms.push_round_head.Goals as goal

@@ -1,6 +1,6 @@
 use Rattle.std.proofs.Common.{[], codes, flat_map, ◌∷◌}
 use Rattle.std.proofs.lemmas.Result.{on_ok_weaker}
-use Rattle.board_page.proofs.Steps.{three_parts, when_ok}
+use Rattle.markup.proofs.board_page.Steps.{three_parts, when_ok}
 use Rattle.hall_views.specs.Rounds.{event_head, link_in, row_of}
 use Rattle.hall_views.proofs.round_forms.push_row.Goals as goal
 

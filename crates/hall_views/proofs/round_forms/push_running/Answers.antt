@@ -1,5 +1,5 @@
 use Rattle.std.proofs.lemmas.Result.{on_ok_weaker}
-use Rattle.board_page.proofs.Steps.{two_parts}
+use Rattle.markup.proofs.board_page.Steps.{two_parts}
 use Rattle.formats.specs.Events.{attempts_of}
 use Rattle.rounds.specs.Tables.{Table}
 use Rattle.texts.specs.declared.command.Settings.{Settings}

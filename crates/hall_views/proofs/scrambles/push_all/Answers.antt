@@ -1,6 +1,6 @@
 use Rattle.std.proofs.Common.{ap, codes, get_or, ℕ, ◌++◌, ◌∙◌}
 use Rattle.std.proofs.lemmas.Result.{on_ok_weaker}
-use Rattle.board_page.proofs.Steps.{three_parts, two_parts}
+use Rattle.markup.proofs.board_page.Steps.{three_parts, two_parts}
 use Rattle.hall_views.proofs.Tails.{same_after}
 use Rattle.hall_views.specs.Scrambles.{all_scrambles, scramble_if}
 use Rattle.hall_views.proofs.scrambles.push_all.Goals as goal

@@ -1,6 +1,6 @@
 use Rattle.std.proofs.Common.{List, ap, codes, decimal, ℕ, ◌++◌, ◌∙◌}
 use Rattle.std.proofs.lemmas.Result.{on_ok_weaker}
-use Rattle.board_page.proofs.Steps.{five_parts}
+use Rattle.markup.proofs.board_page.Steps.{five_parts}
 use Rattle.hall_views.specs.Forms.{button, form_start, path_of, round_value, text_field}
 use Rattle.hall_views.specs.Scrambles.{scramble_form}
 use Rattle.hall_views.proofs.scrambles.push_scramble_form.Goals as goal

@@ -1,7 +1,7 @@
 use Rattle.std.proofs.Common.{List, ap, ℕ, ◌++◌, ◌∙◌}
 use Rattle.std.proofs.lemmas.Result.{on_ok_weaker}
-use Rattle.board_page.proofs.Steps.{two_parts}
-use Rattle.notation.specs.Notation.{spelling}
+use Rattle.markup.proofs.board_page.Steps.{two_parts}
+use Rattle.cube.specs.notation.Notation.{spelling}
 use Rattle.hall_views.proofs.Tails.{same_after}
 use Rattle.hall_views.specs.Scrambles.{rescrambling, scramble_shown, standing_scramble}
 use Rattle.hall_views.proofs.scrambles.push_standing.Goals as goal

@@ -1,7 +1,7 @@
 use Rattle.std.proofs.Common.{codes}
 use Rattle.std.proofs.lemmas.Result.{on_ok_weaker}
-use Rattle.board_page.proofs.Steps.{five_parts, when_ok}
-use Rattle.board_page.specs.Escaped.{escaped}
+use Rattle.markup.proofs.board_page.Steps.{five_parts, when_ok}
+use Rattle.markup.specs.board_page.Escaped.{escaped}
 use Rattle.round_words.specs.Words.{round_name}
 use Rattle.table_views.specs.People.{name_in}
 use Rattle.hall_views.specs.Entrants.{entrant_line, link_middle}

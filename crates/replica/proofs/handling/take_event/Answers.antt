@@ -1,7 +1,7 @@
 use Rattle.std.proofs.Common.{ap}
 use Rattle.learner.specs.declared.event.DeskEvent.TheVariants.{Submit, Start, Tick, Deliver}
 use Rattle.learner.specs.Steps.{step}
-use Rattle.roles.specs.model.RunningDesks.{RunningDesk}
+use Rattle.replica.specs.roles.model.RunningDesks.{RunningDesk}
 use Rattle.replica.proofs.Taking.{takes_refused, takes_as, left_as}
 use Rattle.replica.proofs.handling.take_event.Goals as goal
 

@@ -1,5 +1,5 @@
 use Rattle.std.proofs.Common.{rules, ◌≡◌, ◌++◌, refl}
-use Rattle.roles.specs.declared.fault.NodeFault.TheVariants.{Down}
+use Rattle.replica.specs.declared.roles.fault.NodeFault.TheVariants.{Down}
 use Rattle.serving.proofs.Fates.{AreInRange-append, messages_in_range, calls_so, loses_so}
 use Rattle.serving.proofs.Fates.{keeps_waiting}
 use Rattle.serving.proofs.Parts.{given_err}

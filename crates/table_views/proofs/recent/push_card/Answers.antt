@@ -1,5 +1,5 @@
 use Rattle.std.proofs.Common.{◌++◌, ◌∙◌, ap, codes, flat_map}
-use Rattle.board_page.proofs.Steps.{six_parts}
+use Rattle.markup.proofs.board_page.Steps.{six_parts}
 use Rattle.round_words.specs.Words.{round_name}
 use Rattle.table_views.specs.Recent.{attempt_typed, card_link}
 use Rattle.table_views.proofs.recent.push_card.Goals as goal

@@ -1,5 +1,5 @@
 use Rattle.std.proofs.Common.{◌++◌, ◌∙◌, ap}
-use Rattle.board_page.proofs.Steps.{one_field_more}
+use Rattle.markup.proofs.board_page.Steps.{one_field_more}
 use Rattle.table_views.specs.Recent.{recent_line}
 use Rattle.table_views.proofs.recent.push_lines.Goals as goal
 

@@ -1,5 +1,5 @@
 use Rattle.std.proofs.Common.{◌++◌, ◌∙◌, ap, codes}
-use Rattle.board_page.proofs.Steps.{three_parts}
+use Rattle.markup.proofs.board_page.Steps.{three_parts}
 use Rattle.round_words.specs.Words.{round_name}
 use Rattle.table_views.specs.People.{number_in}
 use Rattle.table_views.specs.Recent.{competitor}

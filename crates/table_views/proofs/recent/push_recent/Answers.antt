@@ -1,5 +1,5 @@
 use Rattle.std.proofs.Common.{codes, flat_map}
-use Rattle.board_page.proofs.Steps.{three_parts}
+use Rattle.markup.proofs.board_page.Steps.{three_parts}
 use Rattle.table_views.specs.Recent.{recent_line}
 use Rattle.table_views.proofs.recent.push_recent.Goals as goal
 

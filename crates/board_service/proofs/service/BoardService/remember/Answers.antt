@@ -1,6 +1,6 @@
 use Rattle.std.proofs.Common.{Option, string_bytes, subst}
 use Rattle.board_views.specs.Views.{IsPageAt}
-use Rattle.page_replies.specs.declared.page.Page.{Page}
+use Rattle.markup.specs.declared.replies.page.Page.{Page}
 use Rattle.board_service.proofs.Services.{stands_within}
 use Rattle.board_service.proofs.Shelves.{put_is_at}
 use Rattle.board_service.proofs.service.BoardService.remember.Goals as goal

@@ -1,5 +1,5 @@
 use Rattle.std.specs.Prelude.{◌≡◌, false}
-use Rattle.calls.specs.Calls.{own_key}
+use Rattle.sealed.specs.ends.Calls.{own_key}
 use Rattle.desk_sockets.proofs.connection.Connection.read.Given as goal
 
 abbrev pub invariant-loop-read : goal.invariant-loop-read

@@ -1,8 +1,0 @@
-use Rattle.std.proofs.Common.{◌≡◌, ◌++◌, drop}
-use Rattle.board_page.specs.Escaped.{escaped}
-use Rattle.board_page.proofs.escaping.push_escaped.Given as goal
-
--- what was written, and what is written for the bytes that are left, is the whole
-abbrev pub invariant-loop-byte : goal.invariant-loop-byte
-invariant-loop-byte l =
-    l.out.items ++ escaped (drop l.byte-index l.text) ≡ l.initial.out.items ++ escaped l.text

@@ -1,0 +1,44 @@
+//! Why a stored log is not written.
+
+ghost use Rattle.std.specs.Prelude.{◌≡◌};
+ghost use Rattle.lines.specs.declared.fault.RunFault.TheVariants as run_fault;
+ghost use Rattle.desk_file.specs.stored_log.StoredLogs.{IsOfFile, opening_fault};
+
+use lines::RunFault;
+use store::fault::OpenFault;
+
+/// Why a stored log is not written, or not whole.
+#[derive(Clone, Copy, Debug, PartialEq, Eq)]
+pub enum LogFault {
+    /// What the file holds is no desk's store, whole and in its ranges.
+    Damaged,
+    /// The file is not there, cannot be opened or read, or another program has it open.
+    Device,
+    /// A write failed.
+    Write,
+    /// Memory ran out.
+    NoMemory,
+}
+
+/// The fault of a file that was not opened as a desk's store, or not loaded.
+pub fn fault_of_open(fault: OpenFault) -> LogFault
+    ensures same { result ≡ opening_fault fault }
+    ensures of_file { IsOfFile result }
+{
+    match fault {
+        OpenFault::WrongDesk | OpenFault::Damaged => LogFault::Damaged,
+        OpenFault::Device => LogFault::Device,
+        OpenFault::NoMemory => LogFault::NoMemory,
+    }
+}
+
+/// The fault of lines that were not written.
+pub fn fault_of_run(fault: RunFault) -> LogFault
+    ensures write { fault ≡ run_fault.Write → result ≡ LogFault.Write }
+    ensures memory { fault ≡ run_fault.NoMemory → result ≡ LogFault.NoMemory }
+{
+    match fault {
+        RunFault::NoMemory => LogFault::NoMemory,
+        _ => LogFault::Write,
+    }
+}

@@ -1,0 +1,51 @@
+-- What is printed of a competition's file, and what its faults leave.
+use Rattle.std.specs.Prelude.{◌≡◌, ℕ, ◌+◌, List, take, Option, None, Some}
+use Rattle.std.specs.Io.KnownBytes.{Appends, Keeps}
+use Rattle.lines.specs.Bytes.{AppendsPart, HasLeft}
+use Rattle.wcif.specs.Files.{FileFails, SetsUp, most_bytes}
+use Rattle.wcif.specs.Lines.{lines}
+use Rattle.wcif.specs.declared.file.FileFault.{FileFault}
+use Rattle.wcif.specs.declared.file.FileFault.TheVariants as file
+use Rattle.texts.specs.declared.command.Command.{Command}
+use Rattle.wcif.specs.declared.options.Options.{Options}
+use Rattle.exports.specs.declared.imports.fault.ImportsFault.{ImportsFault}
+use Rattle.exports.specs.declared.imports.fault.ImportsFault.TheVariants as fault
+
+-- all bytes that a reader has, where it tells them, or one more than a file may have
+abbrev pub IsFront : Option (List ℕ) → List ℕ → Type 0
+IsFront None bytes = Unit {0}
+IsFront (Some all) bytes = bytes ≡ take (most_bytes + 1) all
+
+-- the bytes set up a competition, and its commands were written, one a line
+abbrev pub PrintsImport : Options → (had old new : Option (List ℕ)) → Type 0
+PrintsImport options had old new =
+    (bytes : List ℕ) × (made : List Command) × HasLeft had bytes × SetsUp options bytes made
+    × Appends old new (lines made)
+
+-- a front part of those lines was written
+abbrev pub PrintsPart : Options → (had old new : Option (List ℕ)) → Type 0
+PrintsPart options had old new =
+    (bytes : List ℕ) × (made : List Command) × HasLeft had bytes × SetsUp options bytes made
+    × AppendsPart old new (lines made)
+
+-- the bytes give no commands for this reason
+abbrev pub GivesNone : FileFault → Options → Option (List ℕ) → Type 0
+GivesNone f options had = (bytes : List ℕ) × HasLeft had bytes × FileFails options bytes f
+
+-- what each fault says of the bytes, and leaves: nothing is written but where a write fails
+abbrev pub FailsImport : ImportsFault → Options → (had old new : Option (List ℕ)) → Type 0
+FailsImport fault.Read options had old new = Keeps old new
+FailsImport (fault.File f) options had old new = GivesNone f options had × Keeps old new
+FailsImport fault.Write options had old new = PrintsPart options had old new
+FailsImport fault.NoMemory options had old new = Keeps old new
+
+-- 3 where the file gives no commands, 4 where a device failed, 5 where memory ran out
+abbrev pub status_of : ImportsFault → ℕ
+status_of fault.Read = 4
+status_of (fault.File file.TooLong) = 3
+status_of (fault.File (file.NotJson e)) = 3
+status_of (fault.File file.TooDeep) = 3
+status_of (fault.File (file.Refused found)) = 3
+status_of (fault.File file.NoMemory) = 5
+status_of fault.Write = 4
+status_of fault.NoMemory = 5

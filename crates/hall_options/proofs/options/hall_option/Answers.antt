@@ -1,9 +1,0 @@
-use Rattle.std.proofs.lemmas.Result.{IfOk-weaker}
-use Rattle.hall_options.proofs.Building.{needs}
-use Rattle.hall_options.proofs.options.hall_option.Goals as goal
-
-pub returns : goal.returns
-returns c =
-    let plain = rw c.unsigned-number.ensures at c.option.ensures in
-    IfOk-weaker c.requires_arg.result _ _ (λ r adds. needs _ c.option.result r _ plain adds)
-    c.requires_arg.ensures

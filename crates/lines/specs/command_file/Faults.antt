@@ -1,0 +1,110 @@
+-- What is wrong with a line that is no command, in words.
+use Rattle.std.specs.Prelude.{ℕ, ◌-◌, Bool, ◌==◌, ◌&&◌, ◌||◌, nat_lt, nat_le, not, zero, suc}
+use Rattle.std.specs.Prelude.{if◌then◌else◌, List, [], ◌∷◌, ◌++◌, length, take, map, codes}
+use Rattle.std.specs.Prelude.{decimal, slice_get, slice_index, Option, None, Some, option_map}
+use Rattle.std.specs.Prelude.{Result, Ok, Err}
+use Rattle.std.specs.Option.{option_and_then}
+use Rattle.texts.specs.Fields.{cut}
+use Rattle.texts.specs.Reading.{command_of}
+use Rattle.texts.specs.declared.command.Command.{Command}
+use Rattle.texts.specs.declared.reading.CommandFault.{CommandFault}
+use Rattle.texts.specs.declared.reading.CommandFault.TheVariants as fault
+use Rattle.lines.specs.command_file.Commands.{Numbered}
+use Rattle.lines.specs.command_file.FieldNames.{field_form, field_name, fields_of, is_rest}
+use Rattle.lines.specs.declared.command_file.field_kind.FieldKind.{FieldKind}
+
+-- ---- what is shown of a text
+
+-- a control character is shown as a question mark
+abbrev pub shown_byte : ℕ → ℕ
+shown_byte b = if nat_lt b 32 || b == 127 then 63 else b
+
+-- it is not the first byte of a character in UTF-8
+abbrev pub is_within_char : ℕ → Bool
+is_within_char b = nat_le 128 b && nat_lt b 192
+
+-- 40 bytes of a long text are shown, or up to 3 fewer where a character would be cut
+abbrev pub border_of : List ℕ → ℕ
+border_of text =
+    if not (is_within_char (slice_index text 40)) then 40
+    else if not (is_within_char (slice_index text 39)) then 39
+    else if not (is_within_char (slice_index text 38)) then 38
+    else 37
+
+abbrev pub shown : List ℕ → List ℕ
+shown text =
+    if nat_le (length text) 40 then map shown_byte text
+    else map shown_byte (take (border_of text) text) ++ codes ".."
+
+-- ---- the fields of a text
+
+-- what is left of a text after so many fields, of which its word is the first, where so many and a
+-- space are there
+abbrev pub left_after : ℕ → List ℕ → Option (List ℕ)
+left_after zero text = Some text
+left_after (suc n) text = option_and_then (λ bytes. (cut 32 bytes).1) (left_after n text)
+
+-- the field with an index: all that is left, or up to the next space
+abbrev pub field_at : Bool → ℕ → List ℕ → Option (List ℕ)
+field_at rest index text =
+    option_map (λ left. if rest then left else (cut 32 left).0) (left_after index text)
+
+-- what stands in front of the first space
+abbrev pub word_of : List ℕ → List ℕ
+word_of text = (cut 32 text).0
+
+-- what the field with an index, counted from 1, is by the text's word; none after the last one
+abbrev pub kind_at : ℕ → List ℕ → Option FieldKind
+kind_at index text = slice_get (fields_of (word_of text)) (index - 1)
+
+-- ---- what is wrong
+
+unfoldable pub quoted : List ℕ → List ℕ
+quoted text = codes "'" ++ shown text ++ codes "'"
+
+abbrev pub named : FieldKind → List ℕ
+named kind = codes "the " ++ field_name kind
+
+abbrev pub misspelt_text : FieldKind → List ℕ → List ℕ
+misspelt_text kind bytes = codes " " ++ quoted bytes ++ codes " is no " ++ field_form kind
+
+-- it is missing, or empty, or misspelt
+abbrev pub field_text : FieldKind → Option (List ℕ) → List ℕ
+field_text kind None = named kind ++ codes " is missing"
+field_text kind (Some bytes) =
+    named kind ++ (if length bytes == 0 then codes " is empty" else misspelt_text kind bytes)
+
+-- what stands after the last field
+abbrev pub extra_text : Option (List ℕ) → List ℕ
+extra_text None = codes "a field is missing"
+extra_text (Some left) = quoted left ++ codes " is one field too many"
+
+abbrev pub kind_text : Option FieldKind → ℕ → List ℕ → List ℕ
+kind_text None index text = extra_text (left_after index text)
+kind_text (Some kind) index text = field_text kind (field_at (is_rest kind) index text)
+
+abbrev pub index_text : ℕ → List ℕ → List ℕ
+index_text index text = kind_text (kind_at index text) index text
+
+abbrev pub unknown_text : List ℕ → List ℕ
+unknown_text text = quoted (word_of text) ++ codes " is no command, as ENT 333 17"
+
+abbrev pub fault_text : List ℕ → CommandFault → List ℕ
+fault_text text fault.TooLong = codes "the text has more than 600 bytes"
+fault_text text fault.NotACommand = unknown_text text
+fault_text text (fault.BadField index) = index_text index text
+fault_text text fault.NoMemory = []
+
+-- the number of the line, and what is wrong with its text
+abbrev pub line_text : Numbered → CommandFault → List ℕ
+line_text c f = codes "line " ++ decimal c.number ++ codes ": " ++ fault_text c.text f
+
+-- what is said of a command that was read so, where the later ones come to this
+abbrev pub or_fault : Numbered → Result Command CommandFault → Option (List ℕ) → Option (List ℕ)
+or_fault c (Ok command) later = later
+or_fault c (Err f) later = Some (line_text c f)
+
+-- what is said of the first one that is no command in any edition
+abbrev pub first_fault : List Numbered → Option (List ℕ)
+first_fault [] = None
+first_fault (c ∷ commands) = or_fault c (command_of c.text) (first_fault commands)

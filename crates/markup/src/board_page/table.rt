@@ -1,0 +1,107 @@
+//! The records of a sheet's table, and their fields in HTML.
+
+ghost use Rattle.std.specs.Prelude.{◌≡◌, ◌++◌, [], get_or, map, flat_map, IfOk, OnOk};
+ghost use Rattle.csv.specs.Records.{fields_of};
+ghost use Rattle.markup.specs.board_page.Table.{cell, heading, line, line_start, AreRecordsOf};
+
+use crate::board_page::escaping::push_escaped;
+use csv::{ByteRecord, ReaderBuilder};
+use std::alloc::{AllocError, Global};
+
+/// The records of a text of comma-separated values, as a reader of CSV reads them. A record may
+/// have any number of fields, so that the reader fails only where memory runs out.
+pub fn records_of(alloc: Global, text: &[u8]) -> Result<Vec<ByteRecord>, AllocError>
+    ensures { IfOk result (λ rows. AreRecordsOf text.now (map fields_of rows.items)) }
+{
+    let rdr = ReaderBuilder::new()
+        .has_headers(false)
+        .flexible(true)
+        .from_reader(alloc, text);
+    let mut rows = Vec::new(alloc);
+    for row in rdr.into_byte_records() {
+        let Ok(row) = row else {
+            return Err(AllocError);
+        };
+        rows.push(row)?;
+    }
+    Ok(rows)
+}
+
+/// The field of a record at a place, counted from 0; an empty one where it has none there.
+pub fn field_at(row: &ByteRecord, place: usize) -> &[u8]
+    ensures { result.now ≡ get_or (fields_of row.now) place [] }
+{
+    match row.get(place) {
+        Some(field) => field,
+        None => &[],
+    }
+}
+
+fn push_heading(out: &mut Vec<u8>, field: &[u8]) -> Result<(), AllocError>
+    ensures { OnOk result (out.new.items ≡ out.old.items ++ heading field.now) }
+{
+    out.extend_from_slice(b"<th scope=\"col\">")?;
+    push_escaped(out, field)?;
+    out.extend_from_slice(b"</th>")?;
+    Ok(())
+}
+
+/// Adds a field as a cell of a table.
+pub fn push_cell(out: &mut Vec<u8>, field: &[u8]) -> Result<(), AllocError>
+    ensures { OnOk result (out.new.items ≡ out.old.items ++ cell field.now) }
+{
+    out.extend_from_slice(b"<td>")?;
+    push_escaped(out, field)?;
+    out.extend_from_slice(b"</td>")?;
+    Ok(())
+}
+
+/// Adds a heading of a column for each field of a record.
+pub fn push_each_heading(out: &mut Vec<u8>, row: &ByteRecord) -> Result<(), AllocError>
+    ensures { OnOk result (out.new.items ≡ out.old.items ++ flat_map heading (fields_of row.now)) }
+{
+    for place in 0..row.len() {
+        push_heading(out, field_at(row, place))?;
+    }
+    Ok(())
+}
+
+/// Adds a cell for each field.
+fn push_each_cell(out: &mut Vec<u8>, row: &ByteRecord) -> Result<(), AllocError>
+    ensures { OnOk result (out.new.items ≡ out.old.items ++ flat_map cell (fields_of row.now)) }
+{
+    for place in 0..row.len() {
+        push_cell(out, field_at(row, place))?;
+    }
+    Ok(())
+}
+
+fn push_line_start(out: &mut Vec<u8>, class: &[u8]) -> Result<(), AllocError>
+    ensures { OnOk result (out.new.items ≡ out.old.items ++ line_start class.now) }
+{
+    out.extend_from_slice(b"<tr class=\"")?;
+    push_escaped(out, class)?;
+    out.extend_from_slice(b"\">")?;
+    Ok(())
+}
+
+/// Adds the line of a record, whose class is its last field.
+fn push_line(out: &mut Vec<u8>, row: &ByteRecord) -> Result<(), AllocError>
+    ensures { OnOk result (out.new.items ≡ out.old.items ++ line (fields_of row.now)) }
+{
+    push_line_start(out, field_at(row, row.len().saturating_sub(1)))?;
+    push_each_cell(out, row)?;
+    out.extend_from_slice(b"</tr>\n")?;
+    Ok(())
+}
+
+/// Adds a line of a table for each record, with a cell for each field; its class is the last field.
+pub fn push_lines(out: &mut Vec<u8>, rows: &[ByteRecord]) -> Result<(), AllocError>
+    ensures { OnOk result (out.new.items
+        ≡ out.old.items ++ flat_map line (map fields_of rows.now)) }
+{
+    for row in rows {
+        push_line(out, row)?;
+    }
+    Ok(())
+}

@@ -1,6 +1,0 @@
-//! What a mirror prints is what the desks of a hall print.
-#![tactic(auto)]
-
-mod laws;
-
-pub use laws::mirrors_print_what_desks_print;

@@ -1,6 +1,0 @@
-use Rattle.std.proofs.Common.{◌≡◌, drop, false}
-use Rattle.page_replies.specs.Tags.{is_listed}
-use Rattle.page_replies.proofs.tags.is_listed.Given as goal
-
-abbrev pub invariant-loop-i : goal.invariant-loop-i
-invariant-loop-i l = is_listed l.quoted (drop l.i l.value) l.tag ≡ is_listed false l.value l.tag

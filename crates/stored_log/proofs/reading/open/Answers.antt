@@ -1,8 +1,0 @@
-use Rattle.sqlite.specs.Files.{file_state}
-use Rattle.stored_log.proofs.Opened.{found}
-use Rattle.stored_log.proofs.reading.open.Goals as goal
-
-pub returns-in-Ok-clause-found : goal.returns-in-Ok-clause-found
-returns-in-Ok-clause-found g c clean =
-    let fresh = c.in-Ok.ensures.opened clean in
-    found _ (file_state c.in-Ok.conn) fresh.0 fresh.1 (c.in-Ok.ensures.found clean)

@@ -1,8 +1,0 @@
-//! The log of a stopped desk's file, as the lines that a replay reads.
-#![tactic(auto)]
-
-mod fault;
-mod reading;
-
-pub use fault::LogFault;
-pub use reading::write_stored_log;

@@ -1,0 +1,133 @@
+-- The tokens of what is written, from the values that were written.
+use Rattle.std.proofs.Common.{◌≡◌, refl, sym, ap, ◌∙◌, ℕ, Bool, List, [], ◌∷◌, ◌++◌, codes, decimal}
+use Rattle.std.proofs.Common.{flat_map, append_assoc, cond, true, false, Bor, Option, Some}
+use Rattle.std.specs.Option.{option_map}
+use Rattle.std.specs.Str.{IsUtf8, is_utf8}
+use Rattle.std.proofs.lemmas.Str.{is_utf8-from_IsUtf8, IsUtf8-from_is_utf8}
+use Rattle.json.specs.Json.{Json, null as no_json, string as string_json}
+use Rattle.json.specs.Token.{Token, begin_array, begin_object, end_object, key, number, string}
+use Rattle.json.specs.Token.{boolean, null}
+use Rattle.json.specs.Tree.{json_tokens, items_tokens, members_tokens}
+use Rattle.json.specs.Value.{items_of}
+use Rattle.attempts.specs.declared.Value.{Value}
+use Rattle.attempts.specs.declared.Unit.{Unit as Measure}
+use Rattle.commands.specs.Accepted.{name_of}
+use Rattle.formats.specs.declared.events.Event.{Event}
+use Rattle.formats.specs.declared.results.Averaged.{Averaged}
+use Rattle.formats.specs.Events.{event_name, format_name}
+use Rattle.rounds.specs.declared.table.Row.{Row}
+use Rattle.rounds.specs.Rows.{IsRow}
+use Rattle.rounds.specs.Tables.{Entrant, Table, place, standings}
+use Rattle.sheets.specs.Sheet.{is_marked}
+use Rattle.texts.specs.declared.command.Command.{Command}
+use Rattle.texts.specs.declared.command.Settings.{Settings}
+use Rattle.wcif_results.specs.Results.{ranking_json}
+use Rattle.wcif_results.specs.results_json.Entrants.{entrant_json, entrant_list, entrants_json}
+use Rattle.wcif_results.specs.results_json.Meets.{event_list}
+use Rattle.wcif_results.specs.results_json.Rounds.{later_members, round_json, round_list, unit_name}
+use Rattle.wcif_results.specs.results_json.Values.{advance_json, average_json, best_json}
+use Rattle.wcif_results.specs.results_json.Values.{cutoff_json}
+use Rattle.wcif_results.specs.results_json.Values.{limit_json, name_json, values_json}
+
+-- the tokens of a name that is UTF-8, and of bytes that are not
+pub name_tokens : (bytes text : List ℕ) → text ≡ bytes → IsUtf8 bytes
+    → string text ∷ [] ≡ json_tokens (name_json (Some bytes))
+name_tokens bytes text is h =
+    ap (λ t. string t ∷ []) is
+    ∙ sym (ap (λ b. json_tokens (cond b (string_json bytes) no_json)) (is_utf8-from_IsUtf8 bytes h))
+
+pub no_name_tokens : (bytes : List ℕ) → ¬ (IsUtf8 bytes)
+    → null ∷ [] ≡ json_tokens (name_json (Some bytes))
+no_name_tokens bytes not = step (is_utf8 bytes) refl
+  where
+    step : (b : Bool) → is_utf8 bytes ≡ b
+        → null ∷ [] ≡ json_tokens (cond b (string_json bytes) no_json)
+    step true is = absurd (not (IsUtf8-from_is_utf8 bytes is))
+    step false is = refl
+
+-- the tokens of an entrant with these parts
+abbrev row_of : ℕ → Option (List ℕ) → List Value → ℕ → Averaged → Bool → List Token
+row_of n name vs place average marked =
+    begin_object ∷ key (codes "number") ∷ number (decimal n) ∷ key (codes "name")
+    ∷ (json_tokens (name_json name) ++ (key (codes "place")
+    ∷ (json_tokens (ranking_json vs place) ++ (key (codes "attempts")
+    ∷ (json_tokens (values_json vs) ++ (key (codes "best")
+    ∷ (json_tokens (best_json vs) ++ (key (codes "average")
+    ∷ (json_tokens (average_json average) ++ (key (codes "advances") ∷ boolean marked
+    ∷ end_object ∷ []))))))))))
+
+pub row_tokens : (cs : List Command) (settings : Settings) (t : Table) (n : ℕ) (e : Entrant)
+    (row : Row) → IsRow t n e row → (name : Option (Bor (List ℕ)))
+    → option_map (λ s. s.now) name ≡ name_of cs n
+    → (marked : Bool) → marked ≡ is_marked settings t n
+    → row_of n (option_map (λ s. s.now) name) row.values.now row.place row.average marked
+    ≡ json_tokens (entrant_json cs settings t n e)
+unfolding entrant_json
+row_tokens cs settings t n e row is name named marked mark =
+    ap (λ x. row_of n x row.values.now row.place row.average marked) named
+    ∙ ap (λ m. row_of n (name_of cs n) row.values.now row.place row.average m) mark
+    ∙ ap (λ vs. row_of n (name_of cs n) vs row.place row.average (is_marked settings t n))
+    is.values
+    ∙ ap (λ p. row_of n (name_of cs n) e.values p row.average (is_marked settings t n)) is.place
+    ∙ ap (λ a. row_of n (name_of cs n) e.values (place t e) a (is_marked settings t n)) is.average
+
+pub entrants_tokens : (cs : List Command) (settings : Settings) (t : Table) (ns : List ℕ)
+    → ns ≡ standings t
+    → begin_array ∷ items_tokens (items_of (flat_map (entrant_list cs settings t) ns))
+    ≡ json_tokens (entrants_json cs settings t)
+unfolding entrants_json
+entrants_tokens cs settings t ns is =
+    ap (λ (ms : List ℕ). begin_array
+    ∷ items_tokens (items_of (flat_map (entrant_list cs settings t) ms))) is
+
+-- the tokens of a round's later members, with these parts
+abbrev later_of : List Command → Settings → Table → (format unit : List ℕ) → Bool → List Token
+later_of cs settings t format unit closed =
+    key (codes "format") ∷ string format ∷ key (codes "unit") ∷ string unit
+    ∷ key (codes "closed") ∷ boolean closed ∷ key (codes "cutoff")
+    ∷ (json_tokens (cutoff_json settings.cutoff) ++ (key (codes "limit")
+    ∷ (json_tokens (limit_json settings.limit) ++ (key (codes "advance")
+    ∷ (json_tokens (advance_json settings.advance) ++ (key (codes "results")
+    ∷ (json_tokens (entrants_json cs settings t) ++ end_object ∷ [])))))))
+
+pub later_tokens : (cs : List Command) (settings : Settings) (t : Table) (format : List ℕ)
+    → format ≡ format_name settings.format → (unit : List ℕ) (what : Measure)
+    → unit ≡ unit_name what → what ≡ t.unit → (closed : Bool) → closed ≡ t.is_closed
+    → later_of cs settings t format unit closed ≡ members_tokens (later_members cs (settings, t))
+later_tokens cs settings t format formed unit what named measured closed is =
+    ap (λ x. later_of cs settings t x unit closed) formed
+    ∙ ap (λ x. later_of cs settings t (format_name settings.format) x closed)
+    (named ∙ ap unit_name measured)
+    ∙ ap (λ x. later_of cs settings t (format_name settings.format) (unit_name t.unit) x) is
+
+pub round_tokens : (cs : List Command) (event : Event) (n : ℕ) (settings : Settings) (t : Table)
+    (name : List ℕ) → name ≡ event_name event
+    → begin_object ∷ key (codes "event") ∷ string name ∷ key (codes "round") ∷ number (decimal n)
+    ∷ members_tokens (later_members cs (settings, t))
+    ≡ json_tokens (round_json cs event n (settings, t))
+unfolding round_json
+round_tokens cs event n settings t name is =
+    ap (λ x. begin_object ∷ key (codes "event") ∷ string x ∷ key (codes "round")
+    ∷ number (decimal n) ∷ members_tokens (later_members cs (settings, t))) is
+
+-- the tokens of one list after the other
+both : (xs ys : List Json)
+    → flat_map json_tokens xs ++ flat_map json_tokens ys ≡ flat_map json_tokens (xs ++ ys)
+both [] ys = refl
+both (x ∷ xs) ys =
+    append_assoc (json_tokens x) (flat_map json_tokens xs) (flat_map json_tokens ys)
+    ∙ ap (λ ts. json_tokens x ++ ts) (both xs ys)
+
+pub event_tokens : (cs : List Command) (event : Event)
+    → flat_map json_tokens (round_list cs event 1) ++ (flat_map json_tokens (round_list cs event 2)
+    ++ (flat_map json_tokens (round_list cs event 3)
+    ++ flat_map json_tokens (round_list cs event 4)))
+    ≡ flat_map json_tokens (event_list cs event)
+event_tokens cs event =
+    let first = round_list cs event 1 in
+    let second = round_list cs event 2 in
+    let third = round_list cs event 3 in
+    let fourth = round_list cs event 4 in
+    ap (λ ts. flat_map json_tokens first ++ (flat_map json_tokens second ++ ts)) (both third fourth)
+    ∙ ap (λ ts. flat_map json_tokens first ++ ts) (both second (third ++ fourth))
+    ∙ both first (second ++ (third ++ fourth))

@@ -1,5 +1,0 @@
-use Rattle.world.proofs.Agreeing.{desks_agree}
-use Rattle.world.proofs.laws.headline.Goals as goal
-
-pub returns : goal.returns
-returns c = desks_agree c.logs_agree.ensures c.logs_are_submitted.ensures
