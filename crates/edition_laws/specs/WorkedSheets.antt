@@ -1,6 +1,5 @@
--- Worked sheets of editions 1 and 2, by hand. The frozen definitions share with the living ones how
--- values, averages and settings are printed, and who is in which place: these sheets say what they
--- were.
+-- Worked sheets of editions 1 and 2, from commands, by hand: what every later program prints of
+-- these lists.
 use Rattle.std.specs.Prelude.{◌≡◌, ℕ, List, [], ◌∷◌, ◌++◌, codes, Option, Some, None}
 use Rattle.cube.specs.declared.moves.Side.TheVariants.{U, R}
 use Rattle.cube.specs.declared.moves.Kind.TheVariants.{Face}
@@ -20,8 +19,7 @@ use Rattle.texts.specs.declared.command.Entered.{Entered}
 use Rattle.texts.specs.declared.command.Entered.TheVariants as entered
 use Rattle.texts.specs.declared.command.Settings.{Settings}
 use Rattle.sheets.specs.declared.Style.TheVariants as style
-use Rattle.sheets.specs.FirstEdition.{sheet as first_sheet}
-use Rattle.sheets.specs.SecondEdition.{sheet as second_sheet}
+use Rattle.sheets.specs.Sheet.{sheet}
 
 abbrev pub settings_of : Format → Option (ℕ × ℕ) → Option ℕ → Advance → Settings
 settings_of form cutoff limit advance =
@@ -141,13 +139,19 @@ multi_table =
     ++ codes "1,1,Ann Li,-,9/9 58:19,9/9 58:19,no\n"
     ++ codes "2,2,Bo Ek,-,DNF,DNF,no\n"
 
+abbrev pub moves_table : List ℕ
+moves_table =
+    codes "place,number,name,average,best,1,2,3,advances\n"
+    ++ codes "1,1,Ann Li,1.67,1,1,2,2,no\n"
+
 pub record PrintsWorkedSheets : Type 0 where
-  pub open_as_text : first_sheet style.Text open_round Cube3 1 11 ≡ Some open_text
-  pub open_as_table : first_sheet style.Table open_round Cube3 1 11 ≡ Some open_table
-  pub closed_as_text : first_sheet style.Text closed_round Cube3 1 20 ≡ Some closed_text
-  pub closed_as_table : first_sheet style.Table closed_round Cube3 1 20 ≡ Some closed_table
-  pub moves_as_text : first_sheet style.Text moves_round FewestMoves 1 9 ≡ Some moves_sheet
-  pub second_as_text : second_sheet style.Text closed_round Cube3 1 20 ≡ Some closed_text
-  pub second_as_table : second_sheet style.Table closed_round Cube3 1 20 ≡ Some closed_table
-  pub multi_as_text : second_sheet style.Text multi_round MultiBlind 1 8 ≡ Some multi_text
-  pub multi_as_table : second_sheet style.Table multi_round MultiBlind 1 8 ≡ Some multi_table
+  pub open_as_text : sheet style.Text open_round Cube3 1 11 ≡ Some open_text
+  pub open_as_table : sheet style.Table open_round Cube3 1 11 ≡ Some open_table
+  pub closed_as_text : sheet style.Text closed_round Cube3 1 20 ≡ Some closed_text
+  pub closed_as_table : sheet style.Table closed_round Cube3 1 20 ≡ Some closed_table
+  pub moves_as_text : sheet style.Text moves_round FewestMoves 1 9 ≡ Some moves_sheet
+  pub moves_as_table : sheet style.Table moves_round FewestMoves 1 9 ≡ Some moves_table
+  pub multi_as_text : sheet style.Text multi_round MultiBlind 1 8 ≡ Some multi_text
+  pub multi_as_table : sheet style.Table multi_round MultiBlind 1 8 ≡ Some multi_table
+  -- a round that was not opened has no sheet
+  pub no_round : sheet style.Text open_round Cube3 2 11 ≡ None

@@ -2,7 +2,10 @@
 
 ghost use Rattle.edition_laws.specs.NextInTurn.{TakesWhoIsNext};
 ghost use Rattle.edition_laws.specs.SheetsAsBefore.{PrintsAsBefore};
+ghost use Rattle.edition_laws.specs.WorkedAnswers.{AnswersWorkedDays};
 ghost use Rattle.edition_laws.specs.WorkedDays.{MendsWorkedDays};
+ghost use Rattle.edition_laws.specs.WorkedMending.{MendsWorkedRounds};
+ghost use Rattle.edition_laws.specs.WorkedRounds.{WorksRounds};
 ghost use Rattle.edition_laws.specs.WorkedSheets.{PrintsWorkedSheets};
 
 /// A law: a round that is opened again, and then closed with nothing between, has the sheet of
@@ -22,7 +25,23 @@ pub fn worked_days()
     ensures { MendsWorkedDays }
 {}
 
-/// Worked sheets of editions 1 and 2, as their own definitions have them.
+/// Worked answers: what texts are answered in each edition that has them, with each code and the
+/// order of checks.
+pub fn worked_answers()
+    ensures { AnswersWorkedDays }
+{}
+
+/// Worked sheets of editions 1 and 2: what is printed of accepted commands.
 pub fn worked_sheets()
     ensures { PrintsWorkedSheets }
+{}
+
+/// Worked rounds of editions 1 and 2, from texts to sheets: values, places and who advances.
+pub fn worked_rounds()
+    ensures { WorksRounds }
+{}
+
+/// Worked rounds of edition 3, from texts to sheets: what mends mistakes in them.
+pub fn mended_rounds()
+    ensures { MendsWorkedRounds }
 {}

@@ -1,0 +1,56 @@
+use Rattle.std.proofs.Common.{refl}
+use Rattle.std.specs.Char.{encode_utf8}
+use Rattle.std.specs.Fmt.{digits}
+use Rattle.std.specs.Str.{chars, is_utf8}
+use Rattle.ucd_table.specs.Rows.{value_in}
+use Rattle.ucd_category.specs.GeneralCategory.{general_category}
+use Rattle.ucd_category.specs.GeneralCategoryRows.{general_category_rows}
+use Rattle.csv.specs.Writing.{escaped, fields_text, is_blank}
+use Rattle.cube.specs.Turns.{turned}
+use Rattle.fmc_check.specs.Fewest.{is_solved, is_solution, result_of}
+use Rattle.formats.specs.Events.{event_of_name, format_named}
+use Rattle.texts.specs.Fields.{cut, number_between, name_of, new_name_of, move_of, moves_of}
+use Rattle.texts.specs.Fields.{entered_of}
+use Rattle.texts.specs.Names.{is_clear_name}
+use Rattle.texts.specs.Reading as reading
+use Rattle.commands.specs.Accepted.{round_in}
+use Rattle.commands.specs.History.{after, entry_refusal}
+use Rattle.sheets.specs.Sheet.{entrant_line, entrant_record}
+use Rattle.edition_laws.proofs.laws.worked_rounds.Goals as goal
+
+pub returns : goal.returns
+unfolding
+    digits encode_utf8 chars is_utf8 value_in general_category general_category_rows
+    event_of_name format_named cut number_between name_of new_name_of move_of moves_of entered_of
+    is_clear_name reading.command_of reading.register_of reading.round_of reading.open_of
+    reading.enter_of reading.scramble_of reading.entry_of reading.attempt_of reading.correct_of
+    reading.strike_of reading.set_advance_of reading.close_of reading.set_edition_of
+    reading.rename_of reading.set_round_of reading.rescramble_of reading.withdraw_of
+    reading.reopen_of round_in after entry_refusal
+    turned is_solved is_solution result_of
+    entrant_line entrant_record escaped fields_text is_blank
+returns c =
+    record {
+      long_answers = refl;
+      long_printed = refl;
+      five_answers = refl;
+      five_printed = refl;
+      five_as_table = refl;
+      solutions_answers = refl;
+      solutions_printed = refl;
+      solutions_as_table = refl;
+      blindfolded_answers = refl;
+      blindfolded_printed = refl;
+      tied_answers = refl;
+      tied_printed = refl;
+      next_printed = refl;
+      percent = refl;
+      three_quarters = refl;
+      too_few = refl;
+      after_7 = refl;
+      after_8 = refl;
+      after_15 = refl;
+      after_16 = refl;
+      after_99 = refl;
+      after_100 = refl;
+    }

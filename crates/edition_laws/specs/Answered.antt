@@ -1,0 +1,38 @@
+-- Lists of texts with what each is answered, and what is printed after them. A worked day is such a
+-- list, written by hand from the rules.
+use Rattle.std.specs.Prelude.{◌≡◌, ℕ, suc, List, [], ◌∷◌, map, length, Option, Some, None}
+use Rattle.formats.specs.declared.events.Event.{Event}
+use Rattle.texts.specs.declared.answer.Answer.{Answer}
+use Rattle.texts.specs.declared.answer.Code.{Code}
+use Rattle.commands.specs.History.{History, nothing, answer_of, answer_to, after, history}
+use Rattle.sheets.specs.declared.Style.{Style}
+use Rattle.sheets.specs.Sheet.{sheet}
+
+-- a text, and the code of its refusal where it is refused
+abbrev pub Row : Type 0
+Row = List ℕ × Option Code
+
+abbrev pub done : List ℕ → Row
+done text = (text, None)
+
+abbrev pub refused : Code → List ℕ → Row
+refused why text = (text, Some why)
+
+-- the texts as entries: their ids count on from a number
+abbrev pub entries : ℕ → List Row → List (ℕ × List ℕ)
+entries id [] = []
+entries id (row ∷ rows) = (id, row.0) ∷ entries (suc id) rows
+
+-- what entries are answered, one after the other
+abbrev pub answers : History → List (ℕ × List ℕ) → List Answer
+answers h [] = []
+answers h (entry ∷ later) = answer_to h entry.0 entry.1 ∷ answers (after h entry.0 entry.1) later
+
+-- each text of a list that begins with nothing is answered as its row says
+abbrev pub IsAnswered : List Row → Type 0
+IsAnswered rows = answers nothing (entries 1 rows) ≡ map (λ row. answer_of row.1) rows
+
+-- the sheet of a round after all these texts
+abbrev pub printed : Style → List Row → Event → ℕ → Option (List ℕ)
+printed style rows event round =
+    sheet style (history (entries 1 rows)).accepted event round (length rows)
