@@ -220,11 +220,12 @@ moves {K} k law n d desks h first old ss w v j r events t turned owned a mine up
 works_along : {K : Type 0} (k : Ghosts K) (n d : ℕ) (desks : List ℕ) (h : Hall K)
     (first : List (HallStep K)) (old : World) (ss : List (HallStep K)) (w : World) (j : ℕ)
     (r : Request) → CanServe k n d desks h first → Along k n d desks h first old ss w → Has desks j
-    → IsOwnRequest k (hall_after h ss) r
+    → IsOwnRequest k d desks (length (hall_after h first).sent) (hall_after h ss) j r
     → (y : Station K) × IsServedTo k r ((hall_after h ss).desks j) y
 works_along {K} k n d desks h first old ss w j r can a has asks =
     subst (λ (zs : List (HallStep K)). IsHallRun k n h zs
-    → ((hall_after h zs).desks j).node.is_down ≡ false → IsOwnRequest k (hall_after h zs) r
+    → ((hall_after h zs).desks j).node.is_down ≡ false
+    → IsOwnRequest k d desks (length (hall_after h first).sent) (hall_after h zs) j r
     → (y : Station K) × IsServedTo k r ((hall_after h zs).desks j) y) (sym a.later)
     (λ run up own. can.works a.turns a.more j r a.own run has up own) a.run (a.up j has) asks
 
@@ -249,7 +250,7 @@ tick_moves : {K : Type 0} (k : Ghosts K) → CallsAreHappenings k → (n d : ℕ
     (events_of_turn k d (hall_after h ss) DeskTicks)
 tick_moves k law n d desks h first old ss w can a mine has =
     let x = (hall_after h ss).desks d in
-    let y = works_along k n d desks h first old ss w d Ticked can a has (inl refl) in
+    let y = works_along k n d desks h first old ss w d Ticked can a has (inl (refl, refl)) in
     moves k law n d desks h first old ss w (turn n w d Tick) d Ticked
     (events_of_turn k d (hall_after h ss) DeskTicks) DeskTicks refl tt a mine (a.up d has)
     (tick_turn (home_at k x).hall n d w x.node.told mine) y.0 y.1
@@ -328,7 +329,8 @@ message_moves {K} k law n d desks h first old ss w i m major can a late is from 
     go : (at : ℕ) × (length (hall_after h first).sent < at)
         × (nth_sent ((hall_after h first).sent ++ a.new) at ≡ Some m)
         → Comes k n d desks h first old ss (turn n w m.to (Deliver m))
-    go q = made (works_along k n d desks h first old ss w m.to r can a to (inr (m, refl)))
+    go q = made (works_along k n d desks h first old ss w m.to r can a to
+        (inr (q.0, m, q.1, sent, from, refl, refl)))
       where
         sent : nth_sent g.sent q.0 ≡ Some m
         sent = subst (λ (z : List Message). nth_sent z q.0 ≡ Some m) (sym a.here) q.2

@@ -31,3 +31,8 @@ pub mod ServedTurns
 pub mod HallServing
 pub mod HallDeciding
 pub mod HallCopies
+pub mod Contents
+pub mod Memory
+pub mod MemoryServes
+pub mod HallSound
+pub mod HallMemory

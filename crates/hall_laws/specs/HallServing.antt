@@ -68,10 +68,25 @@ AreOwnTurns {K} k d desks start h steps (t ∷ ts) more =
 
 -- ---- the premises
 
--- a Tick, or what the frame of a message asks
-abbrev pub IsOwnRequest : {K : Type 0} → Ghosts K → Hall K → Request → Type 0
-IsOwnRequest k h r =
-    (r ≡ Ticked) ⊎ ((m : Message) × (r ≡ asked_of k (h.desks m.to) (frame_of k h m)))
+-- such a turn asks this of desk j: a Tick, where it is desk d; or what the frame of a message asks
+-- that was handed out after the first `start`, from one of these desks to desk j
+abbrev pub IsOwnRequest : {K : Type 0} → Ghosts K → ℕ → List ℕ → ℕ → Hall K → ℕ → Request → Type 0
+IsOwnRequest k d desks start h j r =
+    ((j ≡ d) × (r ≡ Ticked))
+    ⊎ ((at : ℕ) × (m : Message) × (start < at) × (nth_sent h.sent at ≡ Some m)
+    × Has desks m.from × (m.to ≡ j) × (r ≡ asked_of k (h.desks j) (frame_of k h m)))
+
+-- as long as only such turns are taken from now on, memory and stores of these desks do what the
+-- next such turn asks of them
+abbrev pub ServeOwnTurns : {K : Type 0} → Ghosts K → ℕ → ℕ → List ℕ → Hall K → List (HallStep K)
+    → Type 0
+ServeOwnTurns {K} k n d desks h steps =
+    (turns : List OwnTurn) (more : List (HallStep K)) (j : ℕ) (r : Request)
+    → AreOwnTurns k d desks (length (hall_after h steps).sent) h steps turns more
+    → IsHallRun k n h (steps ++ more) → Has desks j
+    → ((hall_after h (steps ++ more)).desks j).node.is_down ≡ false
+    → IsOwnRequest k d desks (length (hall_after h steps).sent) (hall_after h (steps ++ more)) j r
+    → (y : Station K) × IsServedTo k r ((hall_after h (steps ++ more)).desks j) y
 
 -- These desks are up. And as long as only such turns are taken from now on, their memory and their
 -- stores do what they are asked, and what they hand out to each other is in the ranges of its
@@ -79,12 +94,7 @@ IsOwnRequest k h r =
 pub record CanServe {K : Type 0} (k : Ghosts K) (n d : ℕ) (desks : List ℕ) (h : Hall K)
     (steps : List (HallStep K)) : Type 0 where
   pub up : (j : ℕ) → Has desks j → ((hall_after h steps).desks j).node.is_down ≡ false
-  pub works : (turns : List OwnTurn) (more : List (HallStep K)) (j : ℕ) (r : Request)
-      → AreOwnTurns k d desks (length (hall_after h steps).sent) h steps turns more
-      → IsHallRun k n h (steps ++ more) → Has desks j
-      → ((hall_after h (steps ++ more)).desks j).node.is_down ≡ false
-      → IsOwnRequest k (hall_after h (steps ++ more)) r
-      → (y : Station K) × IsServedTo k r ((hall_after h (steps ++ more)).desks j) y
+  pub works : ServeOwnTurns k n d desks h steps
   pub frames : (turns : List OwnTurn) (more : List (HallStep K)) (at : ℕ) (m : Message)
       → AreOwnTurns k d desks (length (hall_after h steps).sent) h steps turns more
       → IsHallRun k n h (steps ++ more) → length (hall_after h steps).sent < at

@@ -10,3 +10,5 @@ pub mod HallGoing
 pub mod HallServing
 pub mod Copying
 pub mod mirrors
+pub mod Memory
+pub mod Gathering

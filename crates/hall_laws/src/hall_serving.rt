@@ -1,5 +1,6 @@
 //! What a majority of desks that serve decides by itself.
 
+ghost use Rattle.hall_laws.specs.Gathering.{GathersAndServes};
 ghost use Rattle.hall_laws.specs.HallServing.{ServingDecides};
 
 use crate::stops::{calls_are_happenings, stops_make_a_run};
@@ -26,3 +27,11 @@ pub fn majorities_decide<K: Keeper>()
     stops_make_a_run();
     no_serving_desk_is_stuck();
 }
+
+/// What `majorities_decide` asks of memory and stores can be met where it matters: at a desk that
+/// gathers promises. Of three desks over keepers that never fail, desk 1 was given an entry, has
+/// made a ballot and has promised it. However a majority with it goes on from there by turns of its
+/// own, whichever Tick or message comes next, there is what it leads its desk to.
+pub fn gathering_desks_serve()
+    ensures { GathersAndServes }
+{}

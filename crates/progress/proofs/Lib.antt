@@ -19,3 +19,4 @@ pub mod TurnPromises
 pub mod TurnBallots
 pub mod TurnRoles
 pub mod TurnQueue
+pub mod Tangle

@@ -1,0 +1,242 @@
+-- In a hall of desks over keepers that never fail, what a turn leads to is sound: each desk works,
+-- and each entry in it and in what was sent fits in a frame.
+use Rattle.std.proofs.Common.{◌≡◌, refl, sym, ap, subst, ◌∙◌, ℕ, zero, suc, Bool, true, false}
+use Rattle.std.proofs.Common.{eqb, inl, inr, List, [], ◌∷◌, ◌++◌, Some, Result, Ok, Err}
+use Rattle.std.proofs.lemmas.Bool.{eqb-true, eqb-false}
+use Rattle.std.specs.Prelude.{IsOk, OnErr}
+use Rattle.acceptor.specs.declared.entry.Entry.{Entry}
+use Rattle.acceptor.specs.declared.message.Message.{Message}
+use Rattle.learner.specs.Contents.{BodyHolds, DeskHolds, MessagesHold}
+use Rattle.learner.specs.Ranges.{IsReal, DeskIsInRange, DoneIsInRange}
+use Rattle.learner.specs.Steps.{IsDesk, step}
+use Rattle.learner.specs.Worlds.{World, nth_sent}
+use Rattle.learner.specs.declared.event.DeskEvent.{DeskEvent}
+use Rattle.learner.specs.declared.event.DeskEvent.TheVariants.{Submit, Start, Tick, Deliver}
+use Rattle.learner.proofs.Contents.{messages_append, message_at}
+use Rattle.learner.proofs.InRange.{step_in_range}
+use Rattle.replica.specs.Handles.{Handles, Takes, IsInFrame}
+use Rattle.replica.specs.Nodes.{NodeValue}
+use Rattle.replica.specs.declared.roles.fault.NodeFault.{NodeFault}
+use Rattle.replica.specs.declared.roles.fault.NodeFault.TheVariants.{Down}
+use Rattle.serving.specs.Making.{Call, Lead, calls_of, speaking}
+use Rattle.serving.specs.Connection.{asked, Begun, serve_frame}
+use Rattle.serving.specs.Serving.{Act}
+use Rattle.serving.specs.TurnLaw.{Place}
+use Rattle.connections.specs.Connections.{TurnOf, place_of}
+use Rattle.store.specs.declared.home.Home.{Home}
+use Rattle.hall_laws.specs.Arriving.{delivers}
+use Rattle.hall_laws.specs.HallRuns.{Station, Hall, home_at, seen_of, connections, OnlyAt}
+use Rattle.hall_laws.specs.HallRuns.{IsTakenIn}
+use Rattle.hall_laws.specs.HallRuns.{TakesTurn, TicksItself, TurnWasSent}
+use Rattle.hall_laws.specs.Memory.{Memory, memory}
+use Rattle.hall_laws.specs.OwnMessages.{WereSentTo}
+use Rattle.hall_laws.specs.Served.{IsSentTo, AreSentTo, handed_out, all_handed_out}
+use Rattle.hall_laws.proofs.Contents.{EventHolds, DoneHolds, step_holds}
+use Rattle.hall_laws.proofs.HallDesks.{turn_does, Does}
+use Rattle.hall_laws.proofs.HallEntries.{tick_takes_none}
+use Rattle.hall_laws.proofs.HallSteps.{Matches}
+use Rattle.hall_laws.proofs.Memory.{Works}
+use Rattle.hall_laws.proofs.MemoryServes.{NoDown}
+use Rattle.hall_laws.proofs.OwnMessages.{front_sent, one_frame}
+use Rattle.hall_laws.proofs.ServedTurns.{home_of}
+
+-- ---- a desk
+
+pub record SoundAt (home : Home) (x : NodeValue Memory) : Type 0 where
+  pub at : x.keeper.home ≡ home
+  pub works : Works x
+  pub holds : DeskHolds IsInFrame (IsReal home.desks) x.desk
+  pub range : DeskIsInRange home.desks x.desk
+
+abbrev Fit : ℕ → List Message → Type 0
+Fit n ms = MessagesHold IsInFrame (IsReal n) ms
+
+-- what the event brings fits
+event_fits : (n d : ℕ) (sent : List Message) (event : DeskEvent) → IsSentTo d sent event
+    → Fit n sent → ((e : Entry) → event ≡ Submit e → IsInFrame e) → EventHolds IsInFrame n event
+event_fits n d sent (Submit e) was fit given = given e refl
+event_fits n d sent Start was fit given = tt
+event_fits n d sent Tick was fit given = tt
+event_fits n d sent (Deliver m) was fit given = go was.0 was.1
+  where
+    go : (k : ℕ) → nth_sent sent k ≡ Some m → BodyHolds IsInFrame (IsReal n) m.body
+    go zero is = absurd cc
+    go (suc k) is = message_at IsInFrame (IsReal n) sent k m fit is
+
+-- after a call
+sound_call : (home : Home) → IsDesk home.desks home.desk → (sent : List Message) (c : Call)
+    (x z : NodeValue Memory) → Handles memory x c.event c.answer z → ¬ (c.answer ≡ Err Down)
+    → IsSentTo home.desk sent c.event → Fit home.desks sent
+    → ((e : Entry) → IsTakenIn e (c ∷ []) → IsInFrame e) → SoundAt home x
+    → SoundAt home z × Fit home.desks (handed_out c.answer)
+sound_call home ours sent c x z h up was fit taken s = go c.answer refl
+  where
+    z_up : (b : Bool) → z.is_down ≡ b → z.is_down ≡ false
+    z_up false is = is
+    z_up true is = absurd (up (h.down.1 is))
+
+    works : Works z
+    works =
+        let held = h.stored (z_up z.is_down refl) tt in
+        record {
+          up = z_up z.is_down refl;
+          stored = sym held.holds.0;
+          log = sym held.holds.1;
+        }
+
+    at : z.keeper.home ≡ home
+    at = h.home ∙ s.at
+
+    go : (r : Result (List Message) NodeFault) → c.answer ≡ r
+        → SoundAt home z × Fit home.desks (handed_out c.answer)
+    go (Ok ms) is =
+        let ok : step x.keeper.home.desks x.keeper.home.desk x.desk c.event
+        ≡ Ok (record { desk = z.desk; messages = ms })
+        = (subst (λ r. Takes (step x.keeper.home.desks x.keeper.home.desk x.desk c.event)
+        x.keeper.home.desks x.keeper.home.desk x.desk z.desk r) is (h.takes s.works.up)).ok in
+        let stepped : step home.desks home.desk x.desk c.event
+        ≡ Ok (record { desk = z.desk; messages = ms })
+        = subst (λ (u : Home). step u.desks u.desk x.desk c.event
+        ≡ Ok (record { desk = z.desk; messages = ms })) s.at ok in
+        let fine = event_fits home.desks home.desk sent c.event was fit
+        (λ e same. taken e (inl (same, ok_is ms is))) in
+        let holds = subst (λ r. DoneHolds IsInFrame home.desks r) stepped
+        (step_holds IsInFrame home.desks home.desk x.desk c.event ours s.holds fine) in
+        let range = subst (λ r. DoneIsInRange home.desks home.desk r) stepped
+        (step_in_range home.desks home.desk x.desk c.event ours s.range) in (
+          record { at = at; works = works; holds = holds.0; range = range.0 },
+          subst (λ r. Fit home.desks (handed_out r)) (sym is) holds.1,
+        )
+      where
+        ok_is : (ms : List Message) → c.answer ≡ Ok ms → IsOk c.answer
+        ok_is ms same = subst (λ r. IsOk r) (sym same) refl
+    go (Err why) is =
+        let same : z.desk ≡ x.desk
+        = subst (λ r. OnErr r (z.desk ≡ x.desk)) is (h.takes s.works.up).err in (
+          record {
+            at = at;
+            works = works;
+            holds = subst (λ u. DeskHolds IsInFrame (IsReal home.desks) u) (sym same) s.holds;
+            range = subst (λ u. DeskIsInRange home.desks u) (sym same) s.range;
+          },
+          subst (λ r. Fit home.desks (handed_out r)) (sym is) tt,
+        )
+
+-- after calls
+sound_calls : (home : Home) → IsDesk home.desks home.desk → (sent : List Message)
+    (calls : List Call) (x y : NodeValue Memory) → Lead (Handles memory) x calls y → NoDown calls
+    → AreSentTo home.desk sent calls → Fit home.desks sent
+    → ((e : Entry) → IsTakenIn e calls → IsInFrame e) → SoundAt home x
+    → SoundAt home y × Fit home.desks (all_handed_out calls)
+sound_calls home ours sent [] x y lead up was fit taken s =
+    (subst (λ (u : NodeValue Memory). SoundAt home u) lead s, tt)
+sound_calls home ours sent (c ∷ cs) x y lead up was fit taken s =
+    let one = sound_call home ours sent c x lead.0 lead.1 up.0 was.0 fit
+    (λ e has. taken e (first e has)) s in
+    let rest = sound_calls home ours (sent ++ handed_out c.answer) cs lead.0 y lead.2 up.1 was.1
+    (messages_append IsInFrame (IsReal home.desks) sent (handed_out c.answer) fit one.1)
+    (λ e has. taken e (inr has)) one.0 in (
+      rest.0,
+      messages_append IsInFrame (IsReal home.desks) (handed_out c.answer) (all_handed_out cs) one.1
+          rest.1,
+    )
+  where
+    first : (e : Entry) → IsTakenIn e (c ∷ []) → IsTakenIn e (c ∷ cs)
+    first e (inl is) = inl is
+    first e (inr none) = absurd none
+
+-- ---- a hall
+
+pub record Sound (hall n : ℕ) (h : Hall Memory) : Type 0 where
+  pub desks : (d : ℕ) → IsDesk n d → SoundAt (home_of hall n d) (h.desks d).node
+  pub sent : MessagesHold IsInFrame (IsReal n) h.sent
+
+moved : (hall n d : ℕ) (acts : List Act) (h g : Hall Memory) → Sound hall n h → OnlyAt d acts h g
+    → SoundAt (home_of hall n d) (g.desks d).node → Fit n (all_handed_out (calls_of acts))
+    → Sound hall n g
+moved hall n d acts h g s only own fit = record {
+  desks = λ j ours. go j ours (eqb j d) refl;
+  sent =
+      subst (λ ms. Fit n ms) (sym only.sent)
+      (messages_append IsInFrame (IsReal n) h.sent (all_handed_out (calls_of acts)) s.sent fit);
+}
+  where
+    go : (j : ℕ) → IsDesk n j → (b : Bool) → eqb j d ≡ b
+        → SoundAt (home_of hall n j) (g.desks j).node
+    go j ours true is =
+        subst (λ z. SoundAt (home_of hall n z) (g.desks z).node) (sym (eqb-true j d is)) own
+    go j ours false is =
+        subst (λ (x : Station Memory). SoundAt (home_of hall n j) x.node)
+        (sym (only.others j (eqb-false j d is))) (s.desks j ours)
+
+pub sound_turn : (hall n d : ℕ) (t : TurnOf) (acts : List Act) (h g : Hall Memory) (w : World)
+    → Matches memory n h w → TakesTurn memory n d t acts h g → NoDown (calls_of acts)
+    → ((e : Entry) → IsTakenIn e (calls_of acts) → IsInFrame e) → Sound hall n h → Sound hall n g
+sound_turn hall n d t acts h g w m step up taken s =
+    moved hall n d acts h g s step.only all.0 all.1
+  where
+    x : Station Memory
+    x = h.desks d
+
+    y : Station Memory
+    y = g.desks d
+
+    a : Place (speaking (Handles memory) x.wire)
+    a = place_of (connections memory x.wire x) t.number
+
+    b : Place (speaking (Handles memory) x.wire)
+    b = place_of (connections memory x.wire y) t.number
+
+    own : SoundAt (home_of hall n d) x.node
+    own = s.desks d step.ours
+
+    talk_home : (x.talks t.number).home ≡ home_at memory x
+    talk_home = (m.here d step.ours).talks t.number
+
+    does : Does t.turn a b acts h.sent
+    does =
+        turn_does t.turn a b acts h.sent step.turn.turn step.done
+        (subst (λ z. TurnWasSent z h.sent t.turn) (sym talk_home) step.brings)
+
+    sent : AreSentTo d h.sent (calls_of acts)
+    sent =
+        subst (λ z. AreSentTo z h.sent (calls_of acts))
+        (ap (λ u. u.desk) talk_home ∙ ap (λ u. u.desk) own.at) does.were_sent
+
+    all : SoundAt (home_of hall n d) y.node × Fit n (all_handed_out (calls_of acts))
+    all =
+        sound_calls (home_of hall n d) step.ours h.sent (calls_of acts) x.node y.node does.lead up
+        sent s.sent taken own
+
+pub sound_tick : (hall n d : ℕ) (one : Begun) (acts : List Act) (h g : Hall Memory)
+    → TicksItself memory n d one acts h g → NoDown (calls_of acts) → Sound hall n h
+    → Sound hall n g
+sound_tick hall n d one acts h g step up s =
+    moved hall n d acts h g s step.only all.0 all.1
+  where
+    x : Station Memory
+    x = h.desks d
+
+    y : Station Memory
+    y = g.desks d
+
+    own : SoundAt (home_of hall n d) x.node
+    own = s.desks d step.ours
+
+    brings : WereSentTo (home_at memory x).desk h.sent (delivers (asked (home_at memory x) one))
+    brings =
+        subst (λ r. WereSentTo (home_at memory x).desk h.sent (delivers r)) (sym step.asked) tt
+
+    sent : AreSentTo d h.sent (calls_of acts)
+    sent =
+        subst (λ u. AreSentTo u h.sent (calls_of acts)) (ap (λ u. u.desk) own.at)
+        (front_sent (home_at memory x).desk h.sent
+        (serve_frame (home_at memory x) (seen_of x.node) one).acts acts step.rest step.parts
+        (one_frame (home_at memory x) (seen_of x.node) h.sent one brings))
+
+    all : SoundAt (home_of hall n d) y.node × Fit n (all_handed_out (calls_of acts))
+    all =
+        sound_calls (home_of hall n d) step.ours h.sent (calls_of acts) x.node y.node
+        step.made.calls up sent s.sent
+        (λ e has. absurd (tick_takes_none (home_at memory x) (seen_of x.node) one acts step.rest e
+        step.asked step.parts has)) own

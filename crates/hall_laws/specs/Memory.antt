@@ -1,0 +1,26 @@
+-- A keeper of a kind that never fails: it remembers what it is given. So what is said of keepers of
+-- any kind can be met.
+use Rattle.std.specs.Prelude.{◌≡◌, false, List}
+use Rattle.acceptor.specs.declared.entry.Entry.{Entry}
+use Rattle.acceptor.specs.declared.stored.Stored.{Stored}
+use Rattle.store.specs.declared.home.Home.{Home}
+use Rattle.store.specs.declared.keeper.Keeper.{Ghosts}
+
+pub record Memory : Type 0 where
+  pub home : Home
+  pub stored : Stored
+  pub log : List Entry
+
+-- it holds what it remembers and nothing else, and no premise on files is needed
+abbrev pub memory : Ghosts Memory
+memory = record {
+  is_honest = λ m. Unit {0};
+  may_hold = λ m s log. (s ≡ m.stored) × (log ≡ m.log);
+  may_break = λ m. ⊥;
+  keeps = λ m s log. (s ≡ m.stored) × (log ≡ m.log);
+  is_down = λ m. false;
+  failures_of = λ m. 0;
+  home_of = λ m. m.home;
+  save_gives = λ m change result after. Unit {0};
+  load_gives = λ m result after. Unit {0};
+}
