@@ -218,15 +218,6 @@ def wire_of(options):
     return [word for at, word in enumerate(options) if "--wire" in options[max(at - 1, 0):at + 1]]
 
 
-def free_ports(count):
-    """Ports of loopback that nobody listens at."""
-    listeners = [socket.create_server(("127.0.0.1", 0)) for _ in range(count)]
-    ports = [listener.getsockname()[1] for listener in listeners]
-    for listener in listeners:
-        listener.close()
-    return ports
-
-
 def processor_seconds(pid):
     """The processor time of a program so far, in programs and in the system."""
     fields = Path(f"/proc/{pid}/stat").read_text().rpartition(")")[2].split()
@@ -242,7 +233,7 @@ class Hall:
                  key=None):
         self.folder, self.front, self.options, self.key = Path(folder), front, options, key
         self.programs = dict(enumerate(programs, 1))
-        self.addresses = addresses or [f"127.0.0.1:{port}" for port in free_ports(len(programs))]
+        self.addresses = addresses or running.free_addresses(len(programs))
         self.running = {}
         self.folder.mkdir(parents=True, exist_ok=True)
 

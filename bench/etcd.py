@@ -8,6 +8,7 @@ import subprocess
 import time
 
 import desks
+import running
 
 NODES = 3
 
@@ -54,7 +55,7 @@ class Nodes:
     """Three nodes with their files in a folder."""
 
     def __init__(self, folder):
-        ports = desks.free_ports(2 * NODES)
+        ports = running.free_ports(2 * NODES)
         self.ports = ports[:NODES]
         peers = [f"http://127.0.0.1:{port}" for port in ports[NODES:]]
         cluster = ",".join(f"n{at}={peer}" for at, peer in enumerate(peers))

@@ -15,6 +15,7 @@ import subprocess
 import time
 import urllib.parse
 
+import running
 import wcif
 from desks import Fault, expect
 
@@ -90,7 +91,7 @@ class Machine:
         with open(folder / "said.txt", "ab") as said:
             process = subprocess.Popen(self.words(script, folder), stdin=subprocess.DEVNULL,
                                        stdout=said, stderr=subprocess.STDOUT,
-                                       start_new_session=True)
+                                       start_new_session=True, preexec_fn=running.heed_signals)
         self.started.append(process)
         return process, folder / "said.txt"
 

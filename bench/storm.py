@@ -17,6 +17,7 @@ import threading
 import time
 
 import desks
+import running
 
 INSIDE, YES = "DESK_INSIDE_A_NETWORK", "yes"  # set for a script in namespaces of its own
 BRIDGE, FRONT = "hall", "10.77.0"
@@ -99,7 +100,7 @@ class OneMachine:
     can_cut = False
 
     def __init__(self, numbers):
-        self.addresses = [f"127.0.0.1:{port}" for port in desks.free_ports(len(numbers))]
+        self.addresses = running.free_addresses(len(numbers))
 
     def front(self, desk):
         return []

@@ -7,11 +7,18 @@ the script with one line on standard error and status 2.
 
 import argparse
 import os
+import random
 import shutil
+import signal
+import socket
 import sys
 from pathlib import Path
 
 TOP = Path(__file__).resolve().parent.parent
+# ports below those that the system gives to whoever asks for any
+PORTS = range(10_000, 32_768)
+# what keeps the ports that this script was given
+kept = []
 
 
 def program(path):
@@ -38,6 +45,37 @@ def built(crate):
     DESK_PROGRAMS, where the environment names one, as `./check --quick` does."""
     folder = os.environ.get("DESK_PROGRAMS")
     return os.path.join(folder, crate) if folder else proved(crate)
+
+
+def free_ports(count):
+    """Ports of loopback that nobody listens at. No other script here is given them while this one
+    runs: where a desk is away, another hall's desk at its address would be taken for it."""
+    found = []
+    while len(found) < count:
+        port, keeper = random.choice(PORTS), socket.socket(socket.AF_UNIX)
+        try:
+            # a name that no file has, and that goes with this process
+            keeper.bind(f"\0a port of desk's checks: {port}")
+            socket.create_server(("127.0.0.1", port)).close()
+        except OSError:
+            keeper.close()
+            continue
+        kept.append(keeper)
+        found.append(port)
+    return found
+
+
+def free_addresses(count):
+    """Addresses of such ports."""
+    return [f"127.0.0.1:{port}" for port in free_ports(count)]
+
+
+def heed_signals():
+    """Lets signals end a program that is started with this as its first step, even where whoever
+    started this script ignores them, as `nohup` and a shell's `&` do: a program begins with what
+    its starter ignores."""
+    for number in (signal.SIGTERM, signal.SIGINT, signal.SIGHUP):
+        signal.signal(number, signal.SIG_DFL)
 
 
 class Words(argparse.ArgumentParser):

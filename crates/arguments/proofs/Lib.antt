@@ -1,3 +1,3 @@
 pub mod Alike
-pub mod Bound
 pub mod Found
+pub mod Tables

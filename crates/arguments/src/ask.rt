@@ -1,15 +1,12 @@
 //! The subcommand `ask`: its arguments and its help.
 
-ghost use Rattle.std.specs.Prelude.{codes, IfOk, IfSome};
-ghost use Rattle.clap.specs.Words.{found_of, rows_of};
-ghost use Rattle.arguments.specs.Arguments.{IsCommand};
-ghost use Rattle.arguments.specs.Asking.{ask_arguments, IsRequest};
+ghost use Rattle.std.specs.Prelude.{◌≡◌, IfOk};
+ghost use Rattle.clap.specs.Words.{app_of, with_subcommand};
+ghost use Rattle.arguments.specs.Asking.{ask_arguments};
 
-use crate::places::errand_command;
-use crate::task::Request;
-use crate::values::{id_at, id_value};
-use clap::{ArgMatches, Command};
-use replay_arguments::with_argument;
+use crate::described::{Argument, Subcommand, Takes, VALUE, with_described};
+use crate::places::ERRAND;
+use clap::Command;
 use std::alloc::{AllocError, Global};
 
 const ABOUT: &str = "Asks a desk what happened to a command.";
@@ -26,19 +23,28 @@ Prints one of these lines:
 Exit status: 0 answered; 2 invalid arguments, or help; 3 bad desk number, bad hall file, a key that
 is refused, or refused NAME; 4 cannot connect, cannot write, or no answer; 5 no memory.";
 
-/// The subcommand `ask`, as the parser knows it.
-pub fn ask_command<'a>(alloc: Global) -> Result<Command<'a>, AllocError>
-    ensures { IfOk result (λ command. IsCommand command ask_arguments) }
-{
-    let command = errand_command(alloc, "ask", ABOUT, AFTER)?;
-    with_argument(command, id_value(alloc))
-}
+/// The subcommand `ask`.
+const ASK: Subcommand<'static> = Subcommand {
+    name: "ask",
+    about: ABOUT,
+    after: AFTER,
+    common: &ERRAND,
+    own: &[Argument {
+        id: "id",
+        name: "ID",
+        help: "The command's id, 1 to 9223372036854775807",
+        takes: Takes::Number {
+            low: 1,
+            high: 9_223_372_036_854_775_807,
+        },
+        ..VALUE
+    }],
+};
 
-/// What the arguments of `ask` ask for.
-pub fn asked_id(found: &ArgMatches<'_>) -> Option<Request>
-    ensures { IfSome result
-        (λ request. IsRequest request (codes "ask") (rows_of (found_of found.now))) }
+/// The command with the subcommand `ask`.
+pub fn with_ask<'a>(alloc: Global, command: Command<'a>) -> Result<Command<'a>, AllocError>
+    ensures { IfOk result
+        (λ c. app_of c ≡ with_subcommand (app_of command.entry) ask_arguments.top) }
 {
-    let id = id_at(found, "id")?;
-    Some(Request::Ask { id })
+    with_described(alloc, command, &ASK)
 }

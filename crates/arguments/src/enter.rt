@@ -1,16 +1,15 @@
 //! The subcommand `enter`: its arguments and its help.
 
-ghost use Rattle.std.specs.Prelude.{codes, IfOk, IfSome};
-ghost use Rattle.clap.specs.Words.{found_of, rows_of};
-ghost use Rattle.arguments.specs.Arguments.{IsCommand};
-ghost use Rattle.arguments.specs.Asking.{enter_arguments, IsEntered, IsTask};
+ghost use Rattle.std.specs.Prelude.{◌≡◌, codes, IfOk, IfSome};
+ghost use Rattle.clap.specs.Words.{app_of, found_of, rows_of, with_subcommand};
+ghost use Rattle.arguments.specs.Asking.{enter_arguments, IsTask};
 
-use crate::places::{errand_command, placed};
+use crate::described::{Argument, FLAG, Subcommand, VALUE, with_described};
+use crate::places::{ERRAND, placed};
 use crate::task::Task;
-use crate::values::{id_at, last_value};
-use clap::builder::ValueParser;
+use crate::values::id_at;
 use clap::{ArgMatches, Command};
-use replay_arguments::{flag, flag_at, text_at, value, with_argument};
+use replay_arguments::{flag_at, text_at};
 use std::alloc::{AllocError, Global};
 
 const ABOUT: &str = "Enters a command at a desk, so that the desks of its hall agree on it.";
@@ -26,40 +25,40 @@ Exit status: 0 taken, or with --wait decided; 2 invalid arguments, or help; 3 ba
 hall file, a key that is refused, text too long, still pending, command lost, another command's id,
 or refused NAME; 4 cannot connect, cannot write, or no answer; 5 no memory.";
 
-/// The subcommand `enter`, as the parser knows it.
-pub fn enter_command<'a>(alloc: Global) -> Result<Command<'a>, AllocError>
-    ensures { IfOk result (λ command. IsCommand command enter_arguments) }
-{
-    let command = errand_command(alloc, "enter", ABOUT, AFTER)?;
-    let wait = flag(alloc, "wait", "Wait for the command until it is decided");
-    let command = with_argument(command, wait)?;
-    let first = value(
-        alloc,
-        "first",
-        "ID|TEXT",
-        "The command's id, 1 to 9223372036854775807, or the command itself",
-        ValueParser::string(),
-    );
-    let command = with_argument(command, first)?;
-    let second = last_value(
-        alloc,
-        "second",
-        "TEXT",
-        "After an id the command, as 'ENT 333 1', at most 600 bytes",
-        ValueParser::string(),
-    );
-    with_argument(command, second)
-}
+/// The subcommand `enter`.
+const ENTER: Subcommand<'static> = Subcommand {
+    name: "enter",
+    about: ABOUT,
+    after: AFTER,
+    common: &ERRAND,
+    own: &[
+        Argument {
+            id: "wait",
+            help: "Wait for the command until it is decided",
+            ..FLAG
+        },
+        Argument {
+            id: "first",
+            name: "ID|TEXT",
+            help: "The command's id, 1 to 9223372036854775807, or the command itself",
+            ..VALUE
+        },
+        Argument {
+            id: "second",
+            name: "TEXT",
+            help: "After an id the command, as 'ENT 333 1', at most 600 bytes",
+            required: false,
+            ..VALUE
+        },
+    ],
+};
 
-/// The id, or none, and the command.
-fn entered<'a>(found: &ArgMatches<'a>) -> Option<(Option<u64>, &'a str)>
-    ensures { IfSome result
-        (λ e. IsEntered e.0 e.1.now (rows_of (found_of found.now))) }
+/// The command with the subcommand `enter`.
+pub fn with_enter<'a>(alloc: Global, command: Command<'a>) -> Result<Command<'a>, AllocError>
+    ensures { IfOk result
+        (λ c. app_of c ≡ with_subcommand (app_of command.entry) enter_arguments.top) }
 {
-    match found.get_str("second") {
-        Some(text) => Some((Some(id_at(found, "first")?), text)),
-        None => Some((None, text_at(found, "first")?)),
-    }
+    with_described(alloc, command, &ENTER)
 }
 
 /// What the arguments of `enter` ask for.
@@ -68,13 +67,27 @@ pub fn enter_of<'a>(found: &ArgMatches<'a>) -> Option<Task<'a>>
         (λ task. IsTask task (codes "enter") (rows_of (found_of found.now))) }
 {
     let (place, patience) = placed(found)?;
-    let (id, text) = entered(found)?;
     let waits = flag_at(found, "wait");
-    Some(Task::Enter {
-        place,
-        patience,
-        id,
-        text,
-        waits,
-    })
+    match found.get_str("second") {
+        Some(text) => {
+            let id = Some(id_at(found, "first")?);
+            Some(Task::Enter {
+                place,
+                patience,
+                id,
+                text,
+                waits,
+            })
+        }
+        None => {
+            let text = text_at(found, "first")?;
+            Some(Task::Enter {
+                place,
+                patience,
+                id: None,
+                text,
+                waits,
+            })
+        }
+    }
 }

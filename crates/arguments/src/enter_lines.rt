@@ -1,15 +1,15 @@
 //! The subcommand `enter-lines`: its arguments and its help.
 
-ghost use Rattle.std.specs.Prelude.{codes, IfOk, IfSome};
-ghost use Rattle.clap.specs.Words.{found_of, rows_of};
-ghost use Rattle.arguments.specs.Arguments.{IsCommand};
-ghost use Rattle.arguments.specs.Asking.{lines_arguments, AreLines, IsTask};
+ghost use Rattle.std.specs.Prelude.{◌≡◌, codes, IfOk, IfSome};
+ghost use Rattle.clap.specs.Words.{app_of, found_of, rows_of, with_subcommand};
+ghost use Rattle.arguments.specs.Asking.{lines_arguments, IsTask};
 
-use crate::places::{errand_command, placed};
+use crate::described::{Argument, FLAG, OPTION, Subcommand, Takes, with_described};
+use crate::places::{ERRAND, placed};
 use crate::task::{Lines, Task};
-use crate::values::{optional_id_at, optional_number};
+use crate::values::optional_id_at;
 use clap::{ArgMatches, Command};
-use replay_arguments::{flag, flag_at, with_argument};
+use replay_arguments::flag_at;
 use std::alloc::{AllocError, Global};
 
 const ABOUT: &str = "Enters the commands of standard input at a desk, one a line.";
@@ -32,50 +32,52 @@ file, a key that is refused, input too long, text too long, no more ids, still p
 stopped at a refusal, or refused NAME; 4 cannot read, cannot connect, cannot write, or no answer; 5
 no memory.";
 
-/// The subcommand `enter-lines`, as the parser knows it.
-pub fn enter_lines_command<'a>(alloc: Global) -> Result<Command<'a>, AllocError>
-    ensures { IfOk result (λ command. IsCommand command lines_arguments) }
-{
-    let command = errand_command(alloc, "enter-lines", ABOUT, AFTER)?;
-    let first_id = optional_number(
-        alloc,
-        "first-id",
-        "ID",
-        "The id of the first line, 1 to 9223372036854775807; without it a random one",
-        1,
-        9_223_372_036_854_775_807,
-    );
-    let command = with_argument(command, first_id)?;
-    let wait = flag(alloc, "wait", "Wait for each command until it is decided");
-    let command = with_argument(command, wait)?;
-    let progress = flag(alloc, "progress", "Say on standard error how far it is");
-    let command = with_argument(command, progress)?;
-    let stop = flag(
-        alloc,
-        "stop-at-refusal",
-        "End at the first command that is refused",
-    );
-    let command = with_argument(command, stop)?;
-    let all = flag(alloc, "send-all", "Send lines that are no commands, too");
-    with_argument(command, all)
-}
+/// The subcommand `enter-lines`.
+const ENTER_LINES: Subcommand<'static> = Subcommand {
+    name: "enter-lines",
+    about: ABOUT,
+    after: AFTER,
+    common: &ERRAND,
+    own: &[
+        Argument {
+            id: "first-id",
+            name: "ID",
+            help: "The id of the first line, 1 to 9223372036854775807; without it a random one",
+            takes: Takes::Number {
+                low: 1,
+                high: 9_223_372_036_854_775_807,
+            },
+            ..OPTION
+        },
+        Argument {
+            id: "wait",
+            help: "Wait for each command until it is decided",
+            ..FLAG
+        },
+        Argument {
+            id: "progress",
+            help: "Say on standard error how far it is",
+            ..FLAG
+        },
+        Argument {
+            id: "stop-at-refusal",
+            help: "End at the first command that is refused",
+            ..FLAG
+        },
+        Argument {
+            id: "send-all",
+            help: "Send lines that are no commands, too",
+            ..FLAG
+        },
+    ],
+};
 
-/// How the lines are entered.
-fn lines_at(found: &ArgMatches<'_>) -> Option<Lines>
-    ensures { IfSome result (λ lines. AreLines lines (rows_of (found_of found.now))) }
+/// The command with the subcommand `enter-lines`.
+pub fn with_enter_lines<'a>(alloc: Global, command: Command<'a>) -> Result<Command<'a>, AllocError>
+    ensures { IfOk result
+        (λ c. app_of c ≡ with_subcommand (app_of command.entry) lines_arguments.top) }
 {
-    let first_id = optional_id_at(found, "first-id")?;
-    let waits = flag_at(found, "wait");
-    let progress = flag_at(found, "progress");
-    let stops_at_refusal = flag_at(found, "stop-at-refusal");
-    let sends_all = flag_at(found, "send-all");
-    Some(Lines {
-        first_id,
-        waits,
-        progress,
-        stops_at_refusal,
-        sends_all,
-    })
+    with_described(alloc, command, &ENTER_LINES)
 }
 
 /// What the arguments of `enter-lines` ask for.
@@ -84,7 +86,18 @@ pub fn lines_of<'a>(found: &ArgMatches<'a>) -> Option<Task<'a>>
         (λ task. IsTask task (codes "enter-lines") (rows_of (found_of found.now))) }
 {
     let (place, patience) = placed(found)?;
-    let lines = lines_at(found)?;
+    let first_id = optional_id_at(found, "first-id")?;
+    let waits = flag_at(found, "wait");
+    let progress = flag_at(found, "progress");
+    let stops_at_refusal = flag_at(found, "stop-at-refusal");
+    let sends_all = flag_at(found, "send-all");
+    let lines = Lines {
+        first_id,
+        waits,
+        progress,
+        stops_at_refusal,
+        sends_all,
+    };
     Some(Task::EnterLines {
         place,
         patience,

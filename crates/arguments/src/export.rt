@@ -1,14 +1,14 @@
 //! The subcommand `export`: its arguments and its help.
 
-ghost use Rattle.std.specs.Prelude.{codes, IfOk, IfSome};
-ghost use Rattle.clap.specs.Words.{found_of, rows_of};
-ghost use Rattle.arguments.specs.Arguments.{IsCommand};
+ghost use Rattle.std.specs.Prelude.{◌≡◌, codes, IfOk, IfSome};
+ghost use Rattle.clap.specs.Words.{app_of, found_of, rows_of, with_subcommand};
 ghost use Rattle.arguments.specs.Asking.{export_arguments, IsTask};
 
-use crate::import::wcif_option;
+use crate::described::{Subcommand, with_described};
+use crate::import::WCIF;
 use crate::task::Task;
 use clap::{ArgMatches, Command};
-use replay_arguments::{plain_command, text_at, with_argument};
+use replay_arguments::text_at;
 use std::alloc::{AllocError, Global};
 
 const ABOUT: &str = "Prints a competition's WCIF file with the results of each round.";
@@ -26,12 +26,21 @@ Exit status: 0 the file was printed; 2 invalid arguments, or help; 3 input too l
 off, the log opens no round, or FILE is invalid or does not fit the log; 4 cannot read, cannot read
 FILE, or cannot write; 5 no memory.";
 
-/// The subcommand `export`, as the parser knows it.
-pub fn export_command<'a>(alloc: Global) -> Result<Command<'a>, AllocError>
-    ensures { IfOk result (λ command. IsCommand command export_arguments) }
+/// The subcommand `export`.
+const EXPORT: Subcommand<'static> = Subcommand {
+    name: "export",
+    about: ABOUT,
+    after: AFTER,
+    common: &[],
+    own: &[WCIF],
+};
+
+/// The command with the subcommand `export`.
+pub fn with_export<'a>(alloc: Global, command: Command<'a>) -> Result<Command<'a>, AllocError>
+    ensures { IfOk result
+        (λ c. app_of c ≡ with_subcommand (app_of command.entry) export_arguments.top) }
 {
-    let command = plain_command(alloc, "export", ABOUT, AFTER);
-    with_argument(command, wcif_option(alloc))
+    with_described(alloc, command, &EXPORT)
 }
 
 /// What the arguments of `export` ask for.

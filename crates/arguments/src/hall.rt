@@ -1,15 +1,13 @@
 //! The subcommand `hall`: its arguments and its help.
 
-ghost use Rattle.std.specs.Prelude.{codes, IfOk, IfSome};
-ghost use Rattle.clap.specs.Words.{found_of, rows_of};
-ghost use Rattle.arguments.specs.Arguments.{IsCommand};
+ghost use Rattle.std.specs.Prelude.{◌≡◌, codes, IfOk, IfSome};
+ghost use Rattle.clap.specs.Words.{app_of, found_of, rows_of, with_subcommand};
 ghost use Rattle.arguments.specs.Asking.{hall_arguments, IsTask};
 
+use crate::described::{Argument, Subcommand, Takes, VALUE, with_described};
 use crate::task::Task;
 use crate::values::byte_at;
-use clap::builder::ValueParser;
 use clap::{ArgMatches, Command};
-use replay_arguments::{plain_command, value, with_argument};
 use std::alloc::{AllocError, Global};
 
 const ABOUT: &str = "Runs a hall of desks from a script and prints what they send and decide.";
@@ -33,19 +31,27 @@ refuses the event of line N. At the end it gets the logs of the desks, a line fo
 Exit status: 0 the script was run; 2 invalid arguments, or help; 3 bad number of desks, bad line N,
 or input too long; 4 cannot read, or cannot write; 5 no memory.";
 
-/// The subcommand `hall`, as the parser knows it.
-pub fn hall_command<'a>(alloc: Global) -> Result<Command<'a>, AllocError>
-    ensures { IfOk result (λ command. IsCommand command hall_arguments) }
+/// The subcommand `hall`.
+const HALL: Subcommand<'static> = Subcommand {
+    name: "hall",
+    about: ABOUT,
+    after: SCRIPT,
+    common: &[],
+    own: &[Argument {
+        id: "desks",
+        name: "DESKS",
+        help: "How many desks there are, 3 or 5",
+        takes: Takes::Number { low: 0, high: 255 },
+        ..VALUE
+    }],
+};
+
+/// The command with the subcommand `hall`.
+pub fn with_hall<'a>(alloc: Global, command: Command<'a>) -> Result<Command<'a>, AllocError>
+    ensures { IfOk result
+        (λ c. app_of c ≡ with_subcommand (app_of command.entry) hall_arguments.top) }
 {
-    let command = plain_command(alloc, "hall", ABOUT, SCRIPT);
-    let desks = value(
-        alloc,
-        "desks",
-        "DESKS",
-        "How many desks there are, 3 or 5",
-        ValueParser::unsigned(0, 255),
-    );
-    with_argument(command, desks)
+    with_described(alloc, command, &HALL)
 }
 
 /// What the arguments of `hall` ask for.

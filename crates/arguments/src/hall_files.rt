@@ -1,16 +1,14 @@
 //! The subcommand `hall-file`: its arguments and its help.
 
-ghost use Rattle.std.specs.Prelude.{codes, IfOk, IfSome};
-ghost use Rattle.clap.specs.Words.{found_of, rows_of};
-ghost use Rattle.arguments.specs.Arguments.{IsCommand};
+ghost use Rattle.std.specs.Prelude.{◌≡◌, codes, IfOk, IfSome};
+ghost use Rattle.clap.specs.Words.{app_of, found_of, rows_of, with_subcommand};
 ghost use Rattle.arguments.specs.Asking.{hall_file_arguments, IsTask};
 
-use crate::serve::address_value;
+use crate::described::{Argument, OPTION, Subcommand, Takes, with_described};
+use crate::serve::ADDRESSES;
 use crate::task::Task;
-use crate::values::{four_bytes_at, option};
-use clap::builder::ValueParser;
+use crate::values::four_bytes_at;
 use clap::{ArgMatches, Command};
-use replay_arguments::{plain_command, with_argument};
 use std::alloc::{AllocError, Global};
 
 const ABOUT: &str = "Prints a file that describes a hall, as --config takes it.";
@@ -23,20 +21,34 @@ need no --hall, --desk and --to in the folder of that file.
 Exit status: 0 the file was printed; 2 invalid arguments, or help; 3 bad hall file (another number
 of ADDRs, an ADDR that is no address, or one that is there twice); 4 cannot write; 5 no memory.";
 
-/// The subcommand `hall-file`, as the parser knows it.
-pub fn hall_file_command<'a>(alloc: Global) -> Result<Command<'a>, AllocError>
-    ensures { IfOk result (λ command. IsCommand command hall_file_arguments) }
+/// The subcommand `hall-file`.
+const HALL_FILE: Subcommand<'static> = Subcommand {
+    name: "hall-file",
+    about: ABOUT,
+    after: AFTER,
+    common: &[],
+    own: &[
+        Argument {
+            id: "hall",
+            name: "H",
+            help: "The hall's number, 0 to 4294967295",
+            takes: Takes::Number {
+                low: 0,
+                high: 4_294_967_295,
+            },
+            required: true,
+            ..OPTION
+        },
+        ADDRESSES,
+    ],
+};
+
+/// The command with the subcommand `hall-file`.
+pub fn with_hall_file<'a>(alloc: Global, command: Command<'a>) -> Result<Command<'a>, AllocError>
+    ensures { IfOk result
+        (λ c. app_of c ≡ with_subcommand (app_of command.entry) hall_file_arguments.top) }
 {
-    let command = plain_command(alloc, "hall-file", ABOUT, AFTER);
-    let hall = option(
-        alloc,
-        "hall",
-        "H",
-        "The hall's number, 0 to 4294967295",
-        ValueParser::unsigned(0, 4_294_967_295),
-    );
-    let command = with_argument(command, hall)?;
-    with_argument(command, address_value(alloc))
+    with_described(alloc, command, &HALL_FILE)
 }
 
 /// What the arguments of `hall-file` ask for.

@@ -1,18 +1,16 @@
 //! The subcommand `import`: its arguments and its help.
 
-ghost use Rattle.std.specs.Prelude.{◌≡◌, false, codes, IfOk, IfSome, Option};
+ghost use Rattle.std.specs.Prelude.{◌≡◌, false, codes, IfOk, IfSome, Some};
 ghost use Rattle.clap.specs.Words.{found_of, rows_of, rule_of};
-ghost use Rattle.clap.specs.declared.builder.value_parser.ValueParser.{ValueParser};
-ghost use Rattle.arguments.specs.Arguments.{IsCommand, IsOneOf, any_text, option_rule};
-ghost use Rattle.arguments.specs.Arguments.{optional_value_rule};
+ghost use Rattle.arguments.specs.Arguments.{IsCommand, optional_value_rule};
 ghost use Rattle.arguments.specs.Asking.{ImportParsers, IsLimits, IsNames, IsTask};
-ghost use Rattle.arguments.specs.Asking.{import_arguments, as_single, with_id};
+ghost use Rattle.arguments.specs.Asking.{import_arguments};
 
+use crate::described::{Argument, OPTION, Subcommand, made_subcommand};
 use crate::task::Task;
-use crate::values::{option, optional_value};
 use clap::builder::ValueParser;
 use clap::{Arg, ArgMatches, Command};
-use replay_arguments::{plain_command, text_at, with_argument};
+use replay_arguments::{text_at, value, with_argument};
 use std::alloc::{AllocError, Global};
 use wcif::{CumulativeLimits, Options, SameNames};
 
@@ -31,54 +29,38 @@ attempt`.
 Exit status: 0 the commands were printed; 2 invalid arguments, or help; 3 the file gives no
 commands; 4 cannot read FILE, or cannot write; 5 no memory.";
 
+/// The option `--wcif`, which has to be given.
+pub const WCIF: Argument<'static> = Argument {
+    id: "wcif",
+    help: "The competition's file",
+    required: true,
+    ..OPTION
+};
+
+/// The subcommand `import` with the first of its arguments.
+const IMPORT: Subcommand<'static> = Subcommand {
+    name: "import",
+    about: ABOUT,
+    after: AFTER,
+    common: &[],
+    own: &[WCIF],
+};
+
 /// The text that is accepted after `--cumulative`.
 static LIMITS: [&str; 1] = ["as-single"];
 
 /// The text that is accepted after `--same-names`.
 static NAMES: [&str; 1] = ["id"];
 
-/// The option `--cumulative`.
-fn limits_option<'a>(alloc: Global) -> Arg<'a>
-    ensures rule { (parser : Option ValueParser) × IsOneOf parser as_single
-        × (rule_of result ≡ optional_value_rule (codes "cumulative") parser) }
+/// An option with one of these texts.
+fn way<'a>(alloc: Global, id: &'a str, help: &'a str, texts: &'a [&'a str]) -> Arg<'a>
+    ensures rule { rule_of result
+        ≡ optional_value_rule id.entry.now (Some (ValueParser.Names texts.entry)) }
     ensures local { result.global ≡ false }
 {
-    optional_value(
-        alloc,
-        "cumulative",
-        "WAY",
-        "A time limit for several attempts together becomes the limit of each",
-        ValueParser::from(LIMITS.as_slice()),
-    )
-}
-
-/// The option `--same-names`.
-fn names_option<'a>(alloc: Global) -> Arg<'a>
-    ensures rule { (parser : Option ValueParser) × IsOneOf parser with_id
-        × (rule_of result ≡ optional_value_rule (codes "same-names") parser) }
-    ensures local { result.global ≡ false }
-{
-    optional_value(
-        alloc,
-        "same-names",
-        "WAY",
-        "Each of several persons with one name gets his WCA ID behind it",
-        ValueParser::from(NAMES.as_slice()),
-    )
-}
-
-/// The option `--wcif`, which has to be given.
-pub fn wcif_option<'a>(alloc: Global) -> Arg<'a>
-    ensures rule { rule_of result ≡ option_rule (codes "wcif") any_text }
-    ensures local { result.global ≡ false }
-{
-    option(
-        alloc,
-        "wcif",
-        "FILE",
-        "The competition's file",
-        ValueParser::string(),
-    )
+    value(alloc, id, "WAY", help, ValueParser::from(texts))
+        .required(false)
+        .long(id)
 }
 
 /// The subcommand `import`, as the parser knows it.
@@ -86,10 +68,21 @@ pub fn import_command<'a>(alloc: Global) -> Result<Command<'a>, AllocError>
     ensures { IfOk result
         (λ command. (p : ImportParsers) × IsCommand command (import_arguments p)) }
 {
-    let command = plain_command(alloc, "import", ABOUT, AFTER);
-    let command = with_argument(command, wcif_option(alloc))?;
-    let command = with_argument(command, limits_option(alloc))?;
-    with_argument(command, names_option(alloc))
+    let command = made_subcommand(alloc, &IMPORT)?;
+    let limits = way(
+        alloc,
+        "cumulative",
+        "A time limit for several attempts together becomes the limit of each",
+        LIMITS.as_slice(),
+    );
+    let command = with_argument(command, limits)?;
+    let names = way(
+        alloc,
+        "same-names",
+        "Each of several persons with one name gets his WCA ID behind it",
+        NAMES.as_slice(),
+    );
+    with_argument(command, names)
 }
 
 /// What becomes of time limits for several attempts together.

@@ -1,15 +1,13 @@
 //! The subcommand `key`: its arguments and its help.
 
-ghost use Rattle.std.specs.Prelude.{codes, IfOk, IfSome};
-ghost use Rattle.clap.specs.Words.{found_of, rows_of};
-ghost use Rattle.arguments.specs.Arguments.{IsCommand};
+ghost use Rattle.std.specs.Prelude.{◌≡◌, codes, IfOk, IfSome};
+ghost use Rattle.clap.specs.Words.{app_of, found_of, rows_of, with_subcommand};
 ghost use Rattle.arguments.specs.Asking.{key_arguments, IsTask};
 
+use crate::described::{Argument, OPTION, Subcommand, with_described};
 use crate::task::Task;
-use crate::values::{given_text, optional_value};
-use clap::builder::ValueParser;
+use crate::values::given_text;
 use clap::{ArgMatches, Command};
-use replay_arguments::{plain_command, with_argument};
 use std::alloc::{AllocError, Global};
 
 const ABOUT: &str = "Makes a key for a hall: 64 hexadecimal digits, at random.";
@@ -27,19 +25,25 @@ a USB stick, and then `chmod 600` of the copy. `desk serve --help` says what its
 Exit status: 0 the key was made; 2 invalid arguments, or help; 3 key file is there; 4 cannot read
 (there are no random numbers), or cannot write; 5 no memory.";
 
-/// The subcommand `key`, as the parser knows it.
-pub fn key_command<'a>(alloc: Global) -> Result<Command<'a>, AllocError>
-    ensures { IfOk result (λ command. IsCommand command key_arguments) }
+/// The subcommand `key`.
+const KEY: Subcommand<'static> = Subcommand {
+    name: "key",
+    about: ABOUT,
+    after: AFTER,
+    common: &[],
+    own: &[Argument {
+        id: "file",
+        help: "The file that is made; without it the key is printed",
+        ..OPTION
+    }],
+};
+
+/// The command with the subcommand `key`.
+pub fn with_key<'a>(alloc: Global, command: Command<'a>) -> Result<Command<'a>, AllocError>
+    ensures { IfOk result
+        (λ c. app_of c ≡ with_subcommand (app_of command.entry) key_arguments.top) }
 {
-    let command = plain_command(alloc, "key", ABOUT, AFTER);
-    let file = optional_value(
-        alloc,
-        "file",
-        "FILE",
-        "The file that is made; without it the key is printed",
-        ValueParser::string(),
-    );
-    with_argument(command, file)
+    with_described(alloc, command, &KEY)
 }
 
 /// What the arguments of `key` ask for.

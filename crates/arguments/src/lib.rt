@@ -3,6 +3,7 @@
 #![tactic(auto)]
 
 mod ask;
+mod described;
 mod enter;
 mod enter_lines;
 mod export;

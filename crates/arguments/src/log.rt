@@ -1,16 +1,15 @@
 //! The subcommand `log`: its arguments and its help.
 
-ghost use Rattle.std.specs.Prelude.{◌≡◌, false, codes, IfOk, IfSome};
-ghost use Rattle.clap.specs.Words.{found_of, rows_of, rule_of};
-ghost use Rattle.arguments.specs.Arguments.{IsCommand, any_text, bound, optional_value_rule};
+ghost use Rattle.std.specs.Prelude.{◌≡◌, codes, IfOk, IfSome};
+ghost use Rattle.clap.specs.Words.{app_of, found_of, rows_of, with_subcommand};
 ghost use Rattle.arguments.specs.Asking.{log_arguments, IsTask};
 
-use crate::places::{errand_command, placed};
+use crate::described::{Argument, OPTION, Subcommand, Takes, with_described};
+use crate::places::{ERRAND, placed};
 use crate::task::Task;
-use crate::values::{excluding, number_or, optional_number, optional_value, without};
-use clap::builder::ValueParser;
-use clap::{Arg, ArgMatches, Command};
-use replay_arguments::{text_at, with_argument};
+use crate::values::{number_or, without};
+use clap::{ArgMatches, Command};
+use replay_arguments::text_at;
 use std::alloc::{AllocError, Global};
 
 const ABOUT: &str = "Prints the log of a desk as the lines that `desk replay` reads.";
@@ -27,77 +26,61 @@ a key that is refused, damaged store (FILE is not a valid store of a desk), or r
 device (FILE does not exist, cannot be opened, or another program has it open), cannot connect, no
 answer, or cannot write; 5 no memory.";
 
-/// The option `--store`, which comes without a desk that runs.
-fn store_option<'a>(alloc: Global) -> Result<Arg<'a>, AllocError>
-    ensures rule { IfOk result (λ r.
-        rule_of r ≡ bound (optional_value_rule (codes "store") any_text)) }
-    ensures local { IfOk result (λ r. r.global ≡ false) }
+/// The subcommand `log`.
+const LOG: Subcommand<'static> = Subcommand {
+    name: "log",
+    about: ABOUT,
+    after: AFTER,
+    common: &ERRAND,
+    own: &[
+        Argument {
+            id: "store",
+            help: "The file of a desk that is stopped",
+            without: &["config", "hall", "key", "desk", "to", "patience", "from"],
+            ..OPTION
+        },
+        Argument {
+            id: "from",
+            name: "POSITION",
+            help: "The first position that is printed, 0 to 65536; without this option 0",
+            takes: Takes::Number {
+                low: 0,
+                high: 65_536,
+            },
+            ..OPTION
+        },
+    ],
+};
+
+/// The command with the subcommand `log`.
+pub fn with_log<'a>(alloc: Global, command: Command<'a>) -> Result<Command<'a>, AllocError>
+    ensures { IfOk result
+        (λ c. app_of c ≡ with_subcommand (app_of command.entry) log_arguments.top) }
 {
-    let store = optional_value(
-        alloc,
-        "store",
-        "FILE",
-        "The file of a desk that is stopped",
-        ValueParser::string(),
-    );
-    let others = ["config", "hall", "key", "desk", "to", "patience", "from"];
-    excluding(store, &others)
+    with_described(alloc, command, &LOG)
 }
 
-/// The subcommand `log`, as the parser knows it.
-pub fn log_command<'a>(alloc: Global) -> Result<Command<'a>, AllocError>
-    ensures { IfOk result (λ command. IsCommand command log_arguments) }
-{
-    let command = errand_command(alloc, "log", ABOUT, AFTER)?;
-    let command = with_argument(command, store_option(alloc)?)?;
-    let from = optional_number(
-        alloc,
-        "from",
-        "POSITION",
-        "The first position that is printed, 0 to 65536; without this option 0",
-        0,
-        65_536,
-    );
-    with_argument(command, from)
-}
-
-/// The log of a stopped desk.
-fn stored<'a>(found: &ArgMatches<'a>) -> Option<Task<'a>>
+/// What the arguments of `log` ask for: the log of a desk that runs, or of a stopped one.
+pub fn log_of<'a>(found: &ArgMatches<'a>) -> Option<Task<'a>>
     ensures { IfSome result
         (λ task. IsTask task (codes "log") (rows_of (found_of found.now))) }
 {
+    if found.get_str("store").is_none() {
+        without(found, "store")?;
+        let (place, patience) = placed(found)?;
+        let from = number_or(found, "from", 0)?;
+        if from > 65_536 {
+            return None;
+        }
+        return Some(Task::CopyLog {
+            place,
+            patience,
+            from,
+        });
+    }
     let store = text_at(found, "store")?;
     without(found, "config")?;
     without(found, "hall")?;
     without(found, "to")?;
     Some(Task::Log { store })
-}
-
-/// The log of a desk that runs.
-fn copied<'a>(found: &ArgMatches<'a>) -> Option<Task<'a>>
-    ensures { IfSome result
-        (λ task. IsTask task (codes "log") (rows_of (found_of found.now))) }
-{
-    without(found, "store")?;
-    let (place, patience) = placed(found)?;
-    let from = number_or(found, "from", 0)?;
-    if from > 65_536 {
-        return None;
-    }
-    Some(Task::CopyLog {
-        place,
-        patience,
-        from,
-    })
-}
-
-/// What the arguments of `log` ask for.
-pub fn log_of<'a>(found: &ArgMatches<'a>) -> Option<Task<'a>>
-    ensures { IfSome result
-        (λ task. IsTask task (codes "log") (rows_of (found_of found.now))) }
-{
-    match found.get_str("store") {
-        Some(_) => stored(found),
-        None => copied(found),
-    }
 }

@@ -1,13 +1,13 @@
 //! The subcommand `results`: its arguments and its help.
 
-ghost use Rattle.std.specs.Prelude.{codes, IfOk, IfSome};
-ghost use Rattle.clap.specs.Words.{found_of, rows_of};
-ghost use Rattle.arguments.specs.Arguments.{IsCommand};
+ghost use Rattle.std.specs.Prelude.{◌≡◌, codes, IfOk, IfSome};
+ghost use Rattle.clap.specs.Words.{app_of, found_of, rows_of, with_subcommand};
 ghost use Rattle.arguments.specs.Asking.{results_arguments, IsTask};
 
+use crate::described::{Argument, FLAG, Subcommand, with_described};
 use crate::task::Task;
 use clap::{ArgMatches, Command};
-use replay_arguments::{flag, flag_at, plain_command, with_argument};
+use replay_arguments::flag_at;
 use std::alloc::{AllocError, Global};
 
 const ABOUT: &str = "Prints the results of all rounds as JSON.";
@@ -21,13 +21,26 @@ Schema.
 Exit status: 0 the results were printed; 2 invalid arguments, or help; 3 input too long, or the log
 is cut off; 4 cannot read, or cannot write; 5 no memory.";
 
-/// The subcommand `results`, as the parser knows it.
-pub fn results_command<'a>(alloc: Global) -> Result<Command<'a>, AllocError>
-    ensures { IfOk result (λ command. IsCommand command results_arguments) }
+/// The subcommand `results`.
+const RESULTS: Subcommand<'static> = Subcommand {
+    name: "results",
+    about: ABOUT,
+    after: AFTER,
+    common: &[],
+    own: &[Argument {
+        id: "json",
+        help: "Print JSON, the one form that there is",
+        required: true,
+        ..FLAG
+    }],
+};
+
+/// The command with the subcommand `results`.
+pub fn with_results<'a>(alloc: Global, command: Command<'a>) -> Result<Command<'a>, AllocError>
+    ensures { IfOk result
+        (λ c. app_of c ≡ with_subcommand (app_of command.entry) results_arguments.top) }
 {
-    let command = plain_command(alloc, "results", ABOUT, AFTER);
-    let json = flag(alloc, "json", "Print JSON, the one form that there is").required(true);
-    with_argument(command, json)
+    with_described(alloc, command, &RESULTS)
 }
 
 /// What the arguments of `results` ask for.

@@ -1,22 +1,17 @@
 //! The subcommand `serve`: its arguments and its help.
 
-ghost use Rattle.std.specs.Prelude.{◌≡◌, false, codes, IfOk, IfSome};
-ghost use Rattle.clap.specs.Words.{found_of, rows_of, rule_of};
-ghost use Rattle.arguments.specs.Arguments.{IsCommand, IsNumberOr, any_text, bound, flag_rule};
-ghost use Rattle.arguments.specs.Arguments.{optional_value_rule, optional_values_rule};
-ghost use Rattle.arguments.specs.Arguments.{option_rule, numbers, values_rule};
+ghost use Rattle.std.specs.Prelude.{◌≡◌, codes, IfOk, IfSome};
+ghost use Rattle.clap.specs.Words.{app_of, found_of, rows_of, with_subcommand};
+ghost use Rattle.arguments.specs.Arguments.{IsNumberOr};
 ghost use Rattle.arguments.specs.Asking.{serve_arguments, wire_number, IsTask};
 
-use crate::places::{explain_flag, hall_at, hall_file_at, located_command};
+use crate::described::{Argument, FLAG, OPTION, Subcommand, Takes, VALUE, with_described};
+use crate::places::{CONFIG, EXPLAIN, HALL, KEY, hall_at, hall_file_at};
 use crate::task::{HallService, Task};
-use crate::values::{
-    byte_at, excluding, given_text, number_or, option, optional_at, optional_number,
-    optional_value, requiring,
-};
-use clap::builder::ValueParser;
-use clap::{Arg, ArgAction, ArgMatches, Command};
+use crate::values::{byte_at, given_text, number_or, optional_at};
+use clap::{ArgMatches, Command};
 use hall_file::service::{Making, Service};
-use replay_arguments::{flag, flag_at, text_at, value, with_argument};
+use replay_arguments::{flag_at, text_at};
 use std::alloc::{AllocError, Global};
 use wire::Version;
 
@@ -56,146 +51,121 @@ host, a key's file that is refused, no store, store there already, wrong desk, o
 store device (FILE cannot be opened, or another program has it open), store down (a write to it
 failed), cannot listen, or cannot write; 5 no memory.";
 
-/// The value ADDR, which may be given more than once.
-pub fn address_value<'a>(alloc: Global) -> Arg<'a>
-    ensures rule { rule_of result ≡ values_rule (codes "addr") any_text }
-    ensures local { result.global ≡ false }
-{
-    value(
-        alloc,
-        "addr",
-        "ADDR",
-        "Where each desk listens, desk 1 first",
-        ValueParser::string(),
-    )
-    .action(ArgAction::Append)
-}
+/// The values ADDR.
+pub const ADDRESSES: Argument<'static> = Argument {
+    id: "addr",
+    name: "ADDR",
+    help: "Where each desk listens, desk 1 first",
+    takes: Takes::Texts,
+    ..VALUE
+};
 
-/// The value ADDR, which may be given more than once, and comes with the number of a hall.
-fn addresses_value<'a>(alloc: Global) -> Result<Arg<'a>, AllocError>
-    ensures rule { IfOk result (λ r.
-        rule_of r ≡ bound (optional_values_rule (codes "addr") any_text)) }
-    ensures local { IfOk result (λ r. r.global ≡ false) }
-{
-    let others = ["hall"];
-    requiring(address_value(alloc).required(false), &others)
-}
+/// The subcommand `serve`.
+const SERVE: Subcommand<'static> = Subcommand {
+    name: "serve",
+    about: ABOUT,
+    after: AFTER,
+    common: &[
+        Argument {
+            without: &["hall", "addr"],
+            ..CONFIG
+        },
+        Argument {
+            needs: &["addr"],
+            ..HALL
+        },
+        KEY,
+    ],
+    own: &[
+        Argument {
+            id: "desk",
+            name: "D",
+            help: "The desk's number, 1 to 5",
+            takes: Takes::Number { low: 0, high: 255 },
+            required: true,
+            ..OPTION
+        },
+        Argument {
+            id: "store",
+            help: "The desk's file",
+            required: true,
+            ..OPTION
+        },
+        Argument {
+            id: "new",
+            help: "Make the desk's file, which must not be there",
+            without: &["hall"],
+            ..FLAG
+        },
+        Argument {
+            id: "patience",
+            name: "SECONDS",
+            help: "How long a client may be silent, 1 to 86400; without this option 30",
+            takes: Takes::Number {
+                low: 1,
+                high: 86_400,
+            },
+            ..OPTION
+        },
+        Argument {
+            id: "connections",
+            name: "K",
+            help: "Ends after so many connections, 1 to 1000000; without this option it goes on",
+            takes: Takes::Number {
+                low: 1,
+                high: 1_000_000,
+            },
+            ..OPTION
+        },
+        Argument {
+            id: "wire",
+            name: "VERSION",
+            help: "The version of the frames for the other desks, 1 or 2; without this option 1",
+            takes: Takes::Number { low: 1, high: 2 },
+            ..OPTION
+        },
+        Argument {
+            id: "tick",
+            name: "MILLISECONDS",
+            help: "\
+How long until a Tick of the desk's own, 100 to 60000; without it 1000, with --hall none",
+            takes: Takes::Number {
+                low: 100,
+                high: 60_000,
+            },
+            ..OPTION
+        },
+        Argument {
+            id: "quiet",
+            help: "Says nothing of desks that cannot be reached",
+            ..FLAG
+        },
+        Argument {
+            id: "entry-key",
+            help: "The file with a second key: whoever has it may enter and ask, and nothing else",
+            ..OPTION
+        },
+        Argument {
+            id: "open-sheets",
+            help: "\
+Lets whoever has no key ask for sheets, answers, the log and how the desk stands",
+            ..FLAG
+        },
+        EXPLAIN,
+        Argument {
+            required: false,
+            needs: &["hall"],
+            ..ADDRESSES
+        },
+    ],
+};
 
-/// The option `--desk`, which has to be given.
-fn desk_option<'a>(alloc: Global) -> Arg<'a>
-    ensures rule { rule_of result ≡ option_rule (codes "desk") (numbers 0 255) }
-    ensures local { result.global ≡ false }
+/// The command with the subcommand `serve`.
+pub fn with_serve<'a>(alloc: Global, command: Command<'a>) -> Result<Command<'a>, AllocError>
+    ensures { IfOk result
+        (λ c. app_of c ≡ with_subcommand (app_of command.entry) serve_arguments.top) }
 {
-    option(
-        alloc,
-        "desk",
-        "D",
-        "The desk's number, 1 to 5",
-        ValueParser::unsigned(0, 255),
-    )
-}
-
-/// The option `--store`.
-fn store_option<'a>(alloc: Global) -> Arg<'a>
-    ensures rule { rule_of result ≡ option_rule (codes "store") any_text }
-    ensures local { result.global ≡ false }
-{
-    option(
-        alloc,
-        "store",
-        "FILE",
-        "The desk's file",
-        ValueParser::string(),
-    )
-}
-
-/// The option `--entry-key`.
-fn entry_key_option<'a>(alloc: Global) -> Arg<'a>
-    ensures rule { rule_of result ≡ optional_value_rule (codes "entry-key") any_text }
-    ensures local { result.global ≡ false }
-{
-    optional_value(
-        alloc,
-        "entry-key",
-        "FILE",
-        "The file with a second key: whoever has it may enter and ask, and nothing else",
-        ValueParser::string(),
-    )
-}
-
-/// The flag `--new`, which comes without the number of a hall.
-fn new_flag<'a>(alloc: Global) -> Result<Arg<'a>, AllocError>
-    ensures rule { IfOk result (λ r. rule_of r ≡ bound (flag_rule (codes "new"))) }
-    ensures local { IfOk result (λ r. r.global ≡ false) }
-{
-    let new = flag(
-        alloc,
-        "new",
-        "Make the desk's file, which must not be there",
-    );
-    let others = ["hall"];
-    excluding(new, &others)
-}
-
-/// The subcommand `serve`, as the parser knows it.
-pub fn serve_command<'a>(alloc: Global) -> Result<Command<'a>, AllocError>
-    ensures { IfOk result (λ command. IsCommand command serve_arguments) }
-{
-    let command = located_command(alloc, "serve", ABOUT, AFTER, "addr")?;
-    let command = with_argument(command, desk_option(alloc))?;
-    let command = with_argument(command, store_option(alloc))?;
-    let command = with_argument(command, new_flag(alloc)?)?;
-    let patience = optional_number(
-        alloc,
-        "patience",
-        "SECONDS",
-        "How long a client may be silent, 1 to 86400; without this option 30",
-        1,
-        86_400,
-    );
-    let command = with_argument(command, patience)?;
-    let connections = optional_number(
-        alloc,
-        "connections",
-        "K",
-        "Ends after so many connections, 1 to 1000000; without this option it goes on",
-        1,
-        1_000_000,
-    );
-    let command = with_argument(command, connections)?;
-    let wire = optional_number(
-        alloc,
-        "wire",
-        "VERSION",
-        "The version of the frames for the other desks, 1 or 2; without this option 1",
-        1,
-        2,
-    );
-    let command = with_argument(command, wire)?;
-    let tick = optional_number(
-        alloc,
-        "tick",
-        "MILLISECONDS",
-        "How long until a Tick of the desk's own, 100 to 60000; without it 1000, with --hall none",
-        100,
-        60_000,
-    );
-    let command = with_argument(command, tick)?;
-    let quiet = flag(
-        alloc,
-        "quiet",
-        "Says nothing of desks that cannot be reached",
-    );
-    let command = with_argument(command, quiet)?;
-    let command = with_argument(command, entry_key_option(alloc))?;
-    let open_sheets = flag(
-        alloc,
-        "open-sheets",
-        "Lets whoever has no key ask for sheets, answers, the log and how the desk stands",
-    );
-    let command = with_argument(command, open_sheets)?;
-    let command = with_argument(command, explain_flag(alloc))?;
-    with_argument(command, addresses_value(alloc)?)
+    with_described(alloc, command, &SERVE)
 }
 
 /// The value of VERSION, or version 1 where it is not given.
@@ -210,66 +180,25 @@ fn wire_at(found: &ArgMatches<'_>) -> Option<Version>
     }
 }
 
-/// A desk of a hall at addresses.
-fn service_of<'m, 'a: 'm>(found: &'m ArgMatches<'a>) -> Option<Task<'m>>
+/// What the arguments of `serve` ask for: a desk of a hall at addresses, or of a file's hall.
+pub fn serve_of<'m, 'a: 'm>(found: &'m ArgMatches<'a>) -> Option<Task<'m>>
     ensures { IfSome result
         (λ task. IsTask task (codes "serve") (rows_of (found_of found.now))) }
 {
-    let hall = hall_at(found)?;
-    let desk = byte_at(found, "desk")?;
-    let store = text_at(found, "store")?;
-    let patience = number_or(found, "patience", PATIENCE)?;
-    let connections = optional_at(found, "connections")?;
-    let wire = wire_at(found)?;
-    let tick = optional_at(found, "tick")?;
-    let quiet = flag_at(found, "quiet");
-    let key = given_text(found, "key");
-    let entry_key = given_text(found, "entry-key");
-    let open_sheets = flag_at(found, "open-sheets");
-    let addresses = found.get_strs("addr")?;
-    let makes = flag_at(found, "new");
-    if makes {
-        return None;
-    }
-    Some(Task::Serve {
-        service: Service {
-            hall,
-            desk,
-            store,
-            making: Making::AsNeeded,
-            patience,
-            connections,
-            wire,
-            tick,
-            quiet,
-            key,
-            entry_key,
-            open_sheets,
-            addresses,
-        },
-    })
-}
-
-/// A desk of the hall that a file describes.
-fn hall_service_of<'a>(found: &ArgMatches<'a>) -> Option<Task<'a>>
-    ensures { IfSome result
-        (λ task. IsTask task (codes "serve") (rows_of (found_of found.now))) }
-{
-    let file = hall_file_at(found, "addr")?;
     let desk = byte_at(found, "desk")?;
     let store = text_at(found, "store")?;
     let makes = flag_at(found, "new");
     let patience = number_or(found, "patience", PATIENCE)?;
     let connections = optional_at(found, "connections")?;
     let wire = wire_at(found)?;
-    let tick = number_or(found, "tick", TICK)?;
     let quiet = flag_at(found, "quiet");
     let key = given_text(found, "key");
     let entry_key = given_text(found, "entry-key");
     let open_sheets = flag_at(found, "open-sheets");
-    Some(Task::ServeHall {
-        file,
-        wanted: HallService {
+    if found.get_str("hall").is_none() {
+        let file = hall_file_at(found, "addr")?;
+        let tick = number_or(found, "tick", TICK)?;
+        let wanted = HallService {
             desk,
             store,
             makes,
@@ -281,17 +210,29 @@ fn hall_service_of<'a>(found: &ArgMatches<'a>) -> Option<Task<'a>>
             key,
             entry_key,
             open_sheets,
-        },
-    })
-}
-
-/// What the arguments of `serve` ask for.
-pub fn serve_of<'m, 'a: 'm>(found: &'m ArgMatches<'a>) -> Option<Task<'m>>
-    ensures { IfSome result
-        (λ task. IsTask task (codes "serve") (rows_of (found_of found.now))) }
-{
-    match found.get_str("hall") {
-        Some(_) => service_of(found),
-        None => hall_service_of(found),
+        };
+        return Some(Task::ServeHall { file, wanted });
     }
+    if makes {
+        return None;
+    }
+    let hall = hall_at(found)?;
+    let tick = optional_at(found, "tick")?;
+    let addresses = found.get_strs("addr")?;
+    let service = Service {
+        hall,
+        desk,
+        store,
+        making: Making::AsNeeded,
+        patience,
+        connections,
+        wire,
+        tick,
+        quiet,
+        key,
+        entry_key,
+        open_sheets,
+        addresses,
+    };
+    Some(Task::Serve { service })
 }

@@ -1,16 +1,15 @@
 //! The subcommand `status`: its arguments and its help.
 
-ghost use Rattle.std.specs.Prelude.{codes, IfOk, IfSome};
-ghost use Rattle.clap.specs.Words.{found_of, rows_of};
-ghost use Rattle.arguments.specs.Arguments.{IsCommand};
+ghost use Rattle.std.specs.Prelude.{◌≡◌, codes, IfOk, IfSome};
+ghost use Rattle.clap.specs.Words.{app_of, found_of, rows_of, with_subcommand};
 ghost use Rattle.arguments.specs.Asking.{status_arguments, IsTask};
 
-use crate::places::{
-    addresses_option, desks_at, explain_flag, located_command, patience_at, patience_option,
-};
+use crate::described::{Argument, FLAG, OPTION, Subcommand, Takes, with_described};
+use crate::places::{CONFIG, EXPLAIN, HALL, KEY, PATIENCE, PATIENCE_OPTION, desks_at};
 use crate::task::Task;
+use crate::values::number_or;
 use clap::{ArgMatches, Command};
-use replay_arguments::{flag, flag_at, with_argument};
+use replay_arguments::flag_at;
 use std::alloc::{AllocError, Global};
 
 const ABOUT: &str = "Asks the desks of a hall how they stand, and says what that means.";
@@ -25,22 +24,42 @@ Exit status: 0 a majority answered, and none lacks a command; 1 a majority answe
 these lacks commands; 2 invalid arguments, or help; 3 no majority answered, or FILE is no hall's
 file; 4 cannot write; 5 no memory.";
 
-/// The subcommand `status`, as the parser knows it.
-pub fn status_command<'a>(alloc: Global) -> Result<Command<'a>, AllocError>
-    ensures { IfOk result (λ command. IsCommand command status_arguments) }
+/// The subcommand `status`.
+const STATUS: Subcommand<'static> = Subcommand {
+    name: "status",
+    about: ABOUT,
+    after: AFTER,
+    common: &[CONFIG, HALL, KEY],
+    own: &[
+        Argument {
+            id: "to",
+            name: "ADDR",
+            help: "The addresses of the desks, one to five, desk 1 first, with --hall",
+            takes: Takes::FewTexts,
+            needs: &["hall"],
+            ..OPTION
+        },
+        PATIENCE_OPTION,
+        Argument {
+            id: "json",
+            help: "Print one JSON object on a line",
+            ..FLAG
+        },
+        Argument {
+            id: "watch",
+            help: "Ask and print again each second, until it is ended",
+            ..FLAG
+        },
+        EXPLAIN,
+    ],
+};
+
+/// The command with the subcommand `status`.
+pub fn with_status<'a>(alloc: Global, command: Command<'a>) -> Result<Command<'a>, AllocError>
+    ensures { IfOk result
+        (λ c. app_of c ≡ with_subcommand (app_of command.entry) status_arguments.top) }
 {
-    let command = located_command(alloc, "status", ABOUT, AFTER, "to")?;
-    let command = with_argument(command, addresses_option(alloc)?)?;
-    let command = with_argument(command, patience_option(alloc))?;
-    let json = flag(alloc, "json", "Print one JSON object on a line");
-    let command = with_argument(command, json)?;
-    let watch = flag(
-        alloc,
-        "watch",
-        "Ask and print again each second, until it is ended",
-    );
-    let command = with_argument(command, watch)?;
-    with_argument(command, explain_flag(alloc))
+    with_described(alloc, command, &STATUS)
 }
 
 /// What the arguments of `status` ask for.
@@ -49,7 +68,7 @@ pub fn status_of<'m, 'a: 'm>(found: &'m ArgMatches<'a>) -> Option<Task<'m>>
         (λ task. IsTask task (codes "status") (rows_of (found_of found.now))) }
 {
     let desks = desks_at(found)?;
-    let patience = patience_at(found)?;
+    let patience = number_or(found, "patience", PATIENCE)?;
     let json = flag_at(found, "json");
     let watches = flag_at(found, "watch");
     Some(Task::Status {

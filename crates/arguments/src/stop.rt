@@ -1,9 +1,11 @@
 //! The subcommand `stop`: its arguments and its help.
 
-ghost use Rattle.std.specs.Prelude.{codes, IfOk};
-ghost use Rattle.arguments.specs.Arguments.{IsCommand, errand_arguments};
+ghost use Rattle.std.specs.Prelude.{◌≡◌, codes, IfOk};
+ghost use Rattle.clap.specs.Words.{app_of, with_subcommand};
+ghost use Rattle.arguments.specs.Arguments.{errand_arguments};
 
-use crate::places::errand_command;
+use crate::described::{Subcommand, with_described};
+use crate::places::ERRAND;
 use clap::Command;
 use std::alloc::{AllocError, Global};
 
@@ -15,9 +17,19 @@ The desk answers and ends. Its file stays, and it can be started again. Prints `
 Exit status: 0 done; 2 invalid arguments, or help; 3 bad desk number, bad hall file, a key that is
 refused, or refused NAME; 4 cannot connect, cannot write, or no answer; 5 no memory.";
 
-/// The subcommand `stop`, as the parser knows it.
-pub fn stop_command<'a>(alloc: Global) -> Result<Command<'a>, AllocError>
-    ensures { IfOk result (λ command. IsCommand command (errand_arguments (codes "stop"))) }
+/// The subcommand `stop`.
+const STOP: Subcommand<'static> = Subcommand {
+    name: "stop",
+    about: ABOUT,
+    after: AFTER,
+    common: &ERRAND,
+    own: &[],
+};
+
+/// The command with the subcommand `stop`.
+pub fn with_stop<'a>(alloc: Global, command: Command<'a>) -> Result<Command<'a>, AllocError>
+    ensures { IfOk result (λ c. app_of c
+        ≡ with_subcommand (app_of command.entry) (errand_arguments (codes "stop")).top) }
 {
-    errand_command(alloc, "stop", ABOUT, AFTER)
+    with_described(alloc, command, &STOP)
 }

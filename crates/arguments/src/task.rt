@@ -4,7 +4,6 @@ ghost use Rattle.std.specs.Prelude.{◌≡◌, codes, IfSome};
 ghost use Rattle.clap.specs.Words.{found_of, rows_of, subcommand_rows_of};
 ghost use Rattle.arguments.specs.Asking.{Finds, FindsExplain, IsRequest, IsTask};
 
-use crate::ask::asked_id;
 use crate::enter::enter_of;
 use crate::enter_lines::lines_of;
 use crate::export::export_of;
@@ -18,6 +17,7 @@ use crate::results::results_of;
 use crate::serve::serve_of;
 use crate::sheet::sheet_of;
 use crate::status::status_of;
+use crate::values::id_at;
 use clap::ArgMatches;
 use formats::Event;
 use hall_file::service::Service;
@@ -185,33 +185,16 @@ pub struct Asked<'a> {
     pub explains: bool,
 }
 
-/// The number, where four bytes hold it.
-pub fn of_four_bytes(number: u64) -> Option<u32>
-    ensures { IfSome result (λ n. n ≡ number) }
-{
-    if number > 4_294_967_295 {
-        return None;
-    }
-    Some(number as u32)
-}
-
-/// The number, where a byte holds it.
-pub fn of_one_byte(number: u64) -> Option<u8>
-    ensures { IfSome result (λ n. n ≡ number) }
-{
-    if number > 255 {
-        return None;
-    }
-    Some(number as u8)
-}
-
 /// The request of a subcommand's arguments, where the subcommand makes one.
 fn request_of(name: &str, found: &ArgMatches<'_>) -> Option<Request>
     ensures { IfSome result
         (λ request. IsRequest request name.now (rows_of (found_of found.now))) }
 {
     match name {
-        "ask" => asked_id(found),
+        "ask" => {
+            let id = id_at(found, "id")?;
+            Some(Request::Ask { id })
+        }
         "tick" => Some(Request::Tick),
         "stop" => Some(Request::Stop),
         _ => None,
@@ -245,6 +228,21 @@ fn replayed<'a>(found: &ArgMatches<'a>) -> Option<Task<'a>>
     })
 }
 
+/// The task of the arguments of a subcommand that runs a desk or asks one.
+fn desk_task<'m, 'a: 'm>(name: &str, found: &'m ArgMatches<'a>) -> Option<Task<'m>>
+    ensures { IfSome result (λ task. IsTask task name.now (rows_of (found_of found.now))) }
+{
+    match name {
+        "serve" => serve_of(found),
+        "status" => status_of(found),
+        "enter" => enter_of(found),
+        "enter-lines" => lines_of(found),
+        "log" => log_of(found),
+        "sheet" => sheet_of(found),
+        _ => carried(name, found),
+    }
+}
+
 /// The task of a subcommand's arguments.
 fn task_named<'m, 'a: 'm>(name: &str, found: &'m ArgMatches<'a>) -> Option<Task<'m>>
     ensures { IfSome result (λ task. IsTask task name.now (rows_of (found_of found.now))) }
@@ -257,13 +255,7 @@ fn task_named<'m, 'a: 'm>(name: &str, found: &'m ArgMatches<'a>) -> Option<Task<
         "hall" => hall_of(found),
         "hall-file" => hall_file_of(found),
         "key" => key_of(found),
-        "serve" => serve_of(found),
-        "status" => status_of(found),
-        "enter" => enter_of(found),
-        "enter-lines" => lines_of(found),
-        "log" => log_of(found),
-        "sheet" => sheet_of(found),
-        _ => carried(name, found),
+        _ => desk_task(name, found),
     }
 }
 

@@ -1,17 +1,20 @@
 //! The arguments of the program, and how it ends.
 
-use crate::program::PROGRAM;
-use crate::serving::{End, MOST_BROWSERS, Order, serve};
+use board_service::{End, PROGRAM, serve};
 use clap::builder::ValueParser;
-use clap::{Arg, ArgMatches, Command, Error};
+use clap::{ArgMatches, Command, Error};
 use command_line::borrowed;
 use hall_file::hall_options::{
-    Mistake, address_at, hall_of, number_at, option, tell, tell_mistake, tell_parse_error,
-    tell_system, with_desks,
+    FoundHall, Mistake, address_at, hall_of, number_at, option, tell, tell_mistake,
+    tell_parse_error, tell_system, with_desks,
 };
-use page_sockets::BrowserSockets;
+use hall_standings::Hall;
+use http_server::Config;
+use page_sockets::browsers_at;
+use pages::Terms;
 use std::alloc::{AllocError, Global};
 use std::io::Write;
+use std::net::SocketAddr;
 
 const ABOUT: &str = "Keeps up with a hall's log, and serves its sheets as pages for browsers.";
 
@@ -43,69 +46,57 @@ Exit status: 2 invalid arguments, or help or the version; 3 FILE describes no ha
 file gives no key; 4 an invalid address, cannot listen, cannot go on, or two desks told different
 entries; 5 no memory. Standard error gets a line that says why.";
 
-/// The program without its options, as the parser knows it.
-fn plain_command<'a>(alloc: Global) -> Command<'a> {
-    Command::new(alloc, PROGRAM)
-        .about(ABOUT)
-        .version(VERSION)
-        .after_help(AFTER)
-}
+/// The most browsers whose connections are open at once. With those that are ending, and with the
+/// desk's, a program has no more than 1,024 files open, which is the usual limit.
+const MOST_BROWSERS: usize = 800;
 
-/// The option where browsers find it.
-fn listen_option<'a>(alloc: Global) -> Arg<'a> {
-    let help = "Where browsers find the board, as 127.0.0.1:8080";
-    option(alloc, "listen", "ADDR", help, ValueParser::string()).required(true)
-}
+/// The most bytes of a request's head, and of its body.
+const LONGEST_REQUEST: usize = 8_192;
 
-/// The option of the title.
-fn title_option<'a>(alloc: Global) -> Arg<'a> {
-    let help = "The title of the pages; without this option Results";
-    option(alloc, "title", "TEXT", help, ValueParser::string())
-}
-
-/// The option that says how long it waits for a browser.
-fn patience_option<'a>(alloc: Global) -> Arg<'a> {
-    let help = "How long to wait for a browser, 1 to 3600; without this option 10";
-    let parser = ValueParser::unsigned(1, 3600);
-    option(alloc, "patience", "SECONDS", help, parser)
+/// What the board is to do.
+#[derive(Drop)]
+struct Order {
+    /// The hall, with one to five desks.
+    hall: FoundHall,
+    title: String,
+    listen: SocketAddr,
+    /// How long a browser is waited for, in seconds.
+    patience: u64,
 }
 
 /// The program, as the parser knows it.
 fn command<'a>(alloc: Global) -> Result<Command<'a>, AllocError> {
-    with_desks(alloc, plain_command(alloc))?
-        .arg(listen_option(alloc))?
-        .arg(title_option(alloc))?
-        .arg(patience_option(alloc))
-}
-
-/// The title of the pages.
-fn title_of<'a>(alloc: Global, found: &ArgMatches<'_>) -> Result<String, Mistake<'a>> {
-    match String::from_str(alloc, found.get_str("title").unwrap_or(TITLE)) {
-        Ok(title) => Ok(title),
-        Err(_) => Err(Mistake::NoMemory),
-    }
-}
-
-/// How many seconds the board waits for a browser.
-fn patience_of<'a>(found: &ArgMatches<'_>) -> Result<u64, Mistake<'a>> {
-    if found.get_str("patience").is_none() {
-        return Ok(PATIENCE);
-    }
-    number_at(found, "patience")
+    let plain = Command::new(alloc, PROGRAM)
+        .about(ABOUT)
+        .version(VERSION)
+        .after_help(AFTER);
+    let listen = "Where browsers find the board, as 127.0.0.1:8080";
+    let title = "The title of the pages; without this option Results";
+    let patience = "How long to wait for a browser, 1 to 3600; without this option 10";
+    let seconds = ValueParser::unsigned(1, 3600);
+    with_desks(alloc, plain)?
+        .arg(option(alloc, "listen", "ADDR", listen, ValueParser::string()).required(true))?
+        .arg(option(alloc, "title", "TEXT", title, ValueParser::string()))?
+        .arg(option(alloc, "patience", "SECONDS", patience, seconds))
 }
 
 /// What the arguments ask for.
 fn order_of<'a>(rt: &HostRuntime, found: &ArgMatches<'a>) -> Result<Order, Mistake<'a>> {
-    let patience = patience_of(found)?;
+    let mut patience = PATIENCE;
+    if found.get_str("patience").is_some() {
+        patience = number_at(found, "patience")?;
+    }
     let hall = hall_of(rt, found)?;
     let listen = address_at(rt, found, "listen")?;
-    let title = title_of(rt.alloc(), found)?;
-    Ok(Order {
-        hall,
-        title,
-        listen,
-        patience,
-    })
+    match String::from_str(rt.alloc(), found.get_str("title").unwrap_or(TITLE)) {
+        Ok(title) => Ok(Order {
+            hall,
+            title,
+            listen,
+            patience,
+        }),
+        Err(_) => Err(Mistake::NoMemory),
+    }
 }
 
 /// Listens and serves until the system fails, and returns the status.
@@ -115,11 +106,30 @@ fn run_order<W: Write, F: Write>(
     writer: &mut W,
     faults: &mut F,
 ) -> u8 {
-    let sockets = match BrowserSockets::listen(rt, rt.alloc(), order.listen, MOST_BROWSERS) {
-        Ok(sockets) => sockets,
+    let Order {
+        hall,
+        title,
+        listen,
+        patience,
+    } = order;
+    let mut config = Config::default();
+    config.limits.max_head_len = LONGEST_REQUEST;
+    config.max_body_len = LONGEST_REQUEST;
+    let terms = Terms {
+        most: MOST_BROWSERS,
+        patience: patience.saturating_mul(1000),
+        config,
+    };
+    let browsers = match browsers_at(rt, rt.alloc(), listen, terms) {
+        Ok(browsers) => browsers,
         Err(error) => return tell_system(faults, PROGRAM, &error, "cannot listen"),
     };
-    match serve(rt, order, sockets, writer) {
+    let asked = Hall {
+        number: hall.hall,
+        addresses: &hall.desks,
+        key: hall.key,
+    };
+    match serve(rt, rt.alloc(), asked, title, browsers, writer, faults) {
         Ok(End::Failed) => tell(faults, PROGRAM, "cannot go on", 4),
         Ok(End::Broken) => tell(faults, PROGRAM, BROKEN, 4),
         Err(error) => tell_system(faults, PROGRAM, &error, "cannot go on"),

@@ -3,13 +3,11 @@
 #![tactic(auto)]
 
 mod arguments;
-mod program;
-mod serving;
 
 use arguments::run_given;
+use board_service::PROGRAM;
 use command_line::given;
 use hall_file::hall_options::tell_no_arguments;
-use program::PROGRAM;
 use std::process::ExitCode;
 
 fn main(rt: HostRuntime) -> ExitCode {

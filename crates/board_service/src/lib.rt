@@ -3,7 +3,9 @@
 #![tactic(auto)]
 
 mod service;
+mod serving;
 mod shelf;
 mod status;
 
 pub use service::BoardService;
+pub use serving::{End, PROGRAM, serve};

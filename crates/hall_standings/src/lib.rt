@@ -9,4 +9,4 @@ mod streams;
 
 pub use asked_stream::AskedStream;
 pub use hall_desks::HallDesks;
-pub use streams::{AskedDesks, stream_to};
+pub use streams::{AskedDesks, Hall, count_desks, stream_to};

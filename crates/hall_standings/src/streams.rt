@@ -1,6 +1,6 @@
 //! The connections to the desks that are asked.
 
-ghost use Rattle.std.specs.Prelude.{◌≡◌, ◌≤◌, IfOk};
+ghost use Rattle.std.specs.Prelude.{◌≡◌, ◌≤◌, IfOk, length};
 ghost use Rattle.desk_sockets.specs.Streams.{fresh_stream};
 ghost use Rattle.wire.specs.Ranges.{IsDesk};
 
@@ -16,6 +16,17 @@ use std::random::RandomSource;
 
 /// The number of the first of the program's own sockets that are the desks'.
 const FIRST_SOCKET: u8 = 10;
+
+/// A hall whose desks are asked.
+#[derive(Clone, Copy)]
+pub struct Hall<'a> {
+    /// The number of the hall.
+    pub number: u32,
+    /// The address of desk 1, of desk 2 and so on, where it is known: one to five.
+    pub addresses: &'a [Option<SocketAddr>],
+    /// The hall's key, if it has one.
+    pub key: Option<[u8; 32]>,
+}
 
 /// The desks of a hall that are asked how they stand, and a connection to each of them.
 #[derive(Drop)]
@@ -34,6 +45,20 @@ fn printed(alloc: Global, address: SocketAddr) -> Result<String, AllocError> {
 fn address_of(addresses: &[Option<SocketAddr>], desk: u8) -> Option<SocketAddr> {
     let place = usize::from(desk).checked_sub(1)?;
     *addresses.get(place)?
+}
+
+/// How many desks a hall with these addresses has, of which there are one to five.
+pub fn count_desks(addresses: &[Option<SocketAddr>]) -> u8
+    ensures desk { IsDesk result }
+    ensures count { IsDesk (length addresses.now) → result ≡ length addresses.now }
+{
+    match addresses.len() {
+        0 | 1 => 1,
+        2 => 2,
+        3 => 3,
+        4 => 4,
+        _ => 5,
+    }
 }
 
 /// A connection to one of the desks at these addresses, under the hall's key, if it has one.

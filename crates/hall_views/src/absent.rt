@@ -1,27 +1,26 @@
 //! The form that enters DNS for those who never came.
 
-ghost use Rattle.std.specs.Prelude.{◌≡◌, ◌++◌, ◌*◌, IfOk, OnOk, flat_map, length, take};
-ghost use Rattle.round_counts.specs.Counts.{numbers_in};
-ghost use Rattle.hall_views.specs.Absent.{dns_form, dns_form_if, dns_line, dns_lines, dns_of};
-ghost use Rattle.hall_views.specs.Absent.{dns_text, dns_told, first_attempts, never_came};
+ghost use Rattle.std.specs.Prelude.{◌≡◌, ◌++◌, ◌*◌, IfOk, OnOk};
+ghost use Rattle.hall_views.specs.Absent.{dns_form, dns_lines, dns_of};
+ghost use Rattle.hall_views.specs.Absent.{dns_told, first_attempts, never_came};
 
 use crate::forms::{id_at, path_of};
 use crate::lines::{push_line, push_lines_form};
 use acceptor::NoMemory;
 use card_forms::FormId;
-use formats::Format;
 use markup::{Piece, push_pieces};
 use round_counts::{Opened, Progress, allotted, numbers_in, numbers_with};
 use std::alloc::{AllocError, Global};
 use table_views::Around;
 use texts::{AttemptEntry, Command, Entered, RoundId, print};
 
-/// The first so many attempts of a format.
-fn first_numbers(format: Format, count: u8) -> &'static [u8]
-    ensures { result.now ≡ take count (numbers_in format) }
+/// The attempts that are allotted to somebody who has none.
+fn first_attempts(round: Opened<'_>) -> &'static [u8]
+    ensures { result.now ≡ first_attempts (round.entry.settings, round.entry.table.now) }
 {
+    let format = round.settings.format;
     let all = numbers_in(format);
-    let count = usize::from(count);
+    let count = usize::from(allotted(format, round.table.cutoff(), &[]));
     if count < all.len() {
         &all[..count]
     } else {
@@ -29,59 +28,19 @@ fn first_numbers(format: Format, count: u8) -> &'static [u8]
     }
 }
 
-/// The attempts that are allotted to somebody who has none.
-fn first_attempts(round: Opened<'_>) -> &'static [u8]
-    ensures { result.now ≡ first_attempts (round.entry.settings, round.entry.table.now) }
-{
-    let format = round.settings.format;
-    first_numbers(format, allotted(format, round.table.cutoff(), &[]))
-}
-
-/// The text of the command that enters DNS for an attempt.
-fn dns_text(alloc: Global, id: RoundId, number: u16, attempt: u8) -> Result<Vec<u8>, NoMemory>
-    ensures { IfOk result (λ text. text.items ≡ dns_text id number attempt) }
-{
-    print(
-        alloc,
-        &Command::Attempt(AttemptEntry {
-            id,
-            attempt,
-            number,
-            outcome: Entered::Dns,
-        }),
-    )
-}
-
-/// Adds the command that enters DNS for an attempt.
-fn push_dns(out: &mut Vec<u8>, id: RoundId, number: u16, attempt: u8) -> Result<(), NoMemory>
-    ensures { OnOk result (out.new.items ≡ out.old.items ++ dns_line id number attempt) }
-{
-    let text = dns_text(*out.allocator(), id, number, attempt)?;
-    push_line(out, &text)
-}
-
 /// Adds the commands of one competitor.
 fn push_dns_of(out: &mut Vec<u8>, id: RoundId, number: u16, attempts: &[u8]) -> Result<(), NoMemory>
     ensures { OnOk result (out.new.items ≡ out.old.items ++ dns_of id attempts.now number) }
 {
     for attempt in attempts {
-        push_dns(out, id, number, *attempt)?;
-    }
-    Ok(())
-}
-
-/// Adds the commands of these competitors.
-fn push_dns_lines(
-    out: &mut Vec<u8>,
-    id: RoundId,
-    numbers: &[u16],
-    attempts: &[u8],
-) -> Result<(), NoMemory>
-    ensures { OnOk result (out.new.items
-        ≡ out.old.items ++ dns_lines id attempts.now numbers.now) }
-{
-    for number in numbers {
-        push_dns_of(out, id, *number, attempts)?;
+        let entry = AttemptEntry {
+            id,
+            attempt: *attempt,
+            number,
+            outcome: Entered::Dns,
+        };
+        let text = print(*out.allocator(), &Command::Attempt(entry))?;
+        push_line(out, &text)?;
     }
     Ok(())
 }
@@ -96,13 +55,19 @@ fn dns_lines(
     ensures { IfOk result (λ lines. lines.items ≡ dns_lines id attempts.now numbers.now) }
 {
     let mut lines = Vec::new(alloc);
-    push_dns_lines(&mut lines, id, numbers, attempts)?;
+    for number in numbers {
+        push_dns_of(&mut lines, id, *number, attempts)?;
+    }
     Ok(lines)
 }
 
-fn push_told(out: &mut Vec<u8>, count: usize) -> Result<(), NoMemory>
-    ensures { OnOk result (out.new.items ≡ out.old.items ++ dns_told count) }
+/// Adds how many commands are sent, one for each of so many attempts of each of so many people.
+fn push_count(out: &mut Vec<u8>, people: usize, attempts: usize) -> Result<(), NoMemory>
+    ensures { OnOk result (out.new.items ≡ out.old.items ++ dns_told (people * attempts)) }
 {
+    let Some(count) = people.checked_mul(attempts) else {
+        return Err(AllocError);
+    };
     push_pieces(
         out,
         &[
@@ -115,16 +80,6 @@ be in ",
             Piece::Html(b"the list: enter DNS on the cards of the others then.</p>\n"),
         ],
     )
-}
-
-/// Adds how many commands are sent, one for each of so many attempts of each of so many people.
-fn push_count(out: &mut Vec<u8>, people: usize, attempts: usize) -> Result<(), NoMemory>
-    ensures { OnOk result (out.new.items ≡ out.old.items ++ dns_told (people * attempts)) }
-{
-    match people.checked_mul(attempts) {
-        Some(count) => push_told(out, count),
-        None => Err(AllocError),
-    }
 }
 
 /// Adds the form that enters DNS for these attempts of these competitors.
@@ -152,25 +107,6 @@ fn push_dns_form(
     )
 }
 
-/// Adds that form, where there is somebody.
-fn push_dns_form_if(
-    out: &mut Vec<u8>,
-    token: &[u8],
-    form: FormId,
-    id: RoundId,
-    numbers: &[u16],
-    attempts: &[u8],
-) -> Result<(), NoMemory>
-    ensures { OnOk result (out.new.items
-        ≡ out.old.items ++ dns_form_if token.now form id numbers.now attempts.now) }
-{
-    if numbers.is_empty() {
-        Ok(())
-    } else {
-        push_dns_form(out, token, form, id, numbers, attempts)
-    }
-}
-
 /// Adds the form that enters DNS for all who have no attempt; nothing where there is nobody.
 pub(crate) fn push_never_came(
     out: &mut Vec<u8>,
@@ -183,12 +119,9 @@ pub(crate) fn push_never_came(
 {
     let alloc = *out.allocator();
     let absent = numbers_with(alloc, round.table, round.settings.format, Progress::Absent)?;
-    push_dns_form_if(
-        out,
-        around.token,
-        id_at(around.ids, 16),
-        id,
-        &absent,
-        first_attempts(round),
-    )
+    if absent.is_empty() {
+        return Ok(());
+    }
+    let form = id_at(around.ids, 16);
+    push_dns_form(out, around.token, form, id, &absent, first_attempts(round))
 }

@@ -1,36 +1,23 @@
 //! The page of all rounds.
 
 ghost use Rattle.std.specs.Prelude.{◌≡◌, ◌++◌, IfOk, OnOk, flat_map};
-ghost use Rattle.commands.specs.Accepted.{round_by};
-ghost use Rattle.hall_views.specs.Overview.{count_cells, event_lines, link_cell, link_end};
-ghost use Rattle.hall_views.specs.Overview.{overview, round_in, round_line, row_head, row_if};
+ghost use Rattle.hall_views.specs.Overview.{event_lines, link_cell};
+ghost use Rattle.hall_views.specs.Overview.{overview, round_in, round_line};
 ghost use Rattle.hall_views.specs.Overview.{section, state_cell};
 
+use crate::pages::{push_end, start_page};
 use acceptor::NoMemory;
 use commands::Meet;
-use formats::{Advance, Event};
+use formats::Event;
 use markup::{Piece, push_pieces};
-use round_counts::{Counts, Opened, counts_of, round_opened};
+use round_counts::{Opened, counts_of, round_opened};
 use round_words::{push_round_name, push_round_words};
 use std::alloc::Global;
-use table_views::{Around, push_bottom, push_recent, push_top};
+use table_views::Around;
 use texts::RoundId;
 
 /// The rounds that an event can have.
 const ROUNDS: [u8; 4] = [1, 2, 3, 4];
-
-fn push_link_end(out: &mut Vec<u8>, words: &[u8]) -> Result<(), NoMemory>
-    ensures { OnOk result (out.new.items ≡ out.old.items ++ link_end words.now) }
-{
-    push_pieces(
-        out,
-        &[
-            Piece::Html(b"\">"),
-            Piece::Html(words),
-            Piece::Html(b"</a></td>"),
-        ],
-    )
-}
 
 /// Adds a link to what stands of a round under a path.
 fn push_link(out: &mut Vec<u8>, path: &[u8], id: RoundId, words: &[u8]) -> Result<(), NoMemory>
@@ -40,7 +27,14 @@ fn push_link(out: &mut Vec<u8>, path: &[u8], id: RoundId, words: &[u8]) -> Resul
     out.extend_from_slice(b"<td><a href=\"")?;
     out.extend_from_slice(path)?;
     push_round_name(out, id)?;
-    push_link_end(out, words)
+    push_pieces(
+        out,
+        &[
+            Piece::Html(b"\">"),
+            Piece::Html(words),
+            Piece::Html(b"</a></td>"),
+        ],
+    )
 }
 
 /// Adds whether a round is closed.
@@ -54,9 +48,18 @@ fn push_state(out: &mut Vec<u8>, closed: bool) -> Result<(), NoMemory>
     }
 }
 
-fn push_counts(out: &mut Vec<u8>, counts: Counts) -> Result<(), NoMemory>
-    ensures { OnOk result (out.new.items ≡ out.old.items ++ count_cells counts) }
+/// Adds the line of a round that was opened.
+fn push_row(out: &mut Vec<u8>, id: RoundId, round: Opened<'_>) -> Result<(), NoMemory>
+    ensures { OnOk result (out.new.items ≡ out.old.items ++ round_line id
+        (round.entry.settings, round.entry.table.now)) }
 {
+    let counts = counts_of(round.table, round.settings.format)?;
+    out.extend_from_slice(b"<tr><th scope=\"row\"><a href=\"/card/")?;
+    push_round_name(out, id)?;
+    out.extend_from_slice(b"\">")?;
+    push_round_words(out, id, round.settings.advance)?;
+    out.extend_from_slice(b"</a></th>")?;
+    push_state(out, round.table.is_closed())?;
     push_pieces(
         out,
         &[
@@ -68,44 +71,11 @@ fn push_counts(out: &mut Vec<u8>, counts: Counts) -> Result<(), NoMemory>
             Piece::Number(counts.begun as u64),
             Piece::Html(b" in the middle</td>"),
         ],
-    )
-}
-
-/// Adds a link to a round's cards.
-fn push_row_head(out: &mut Vec<u8>, id: RoundId, advance: Advance) -> Result<(), NoMemory>
-    ensures { OnOk result (out.new.items ≡ out.old.items ++ row_head id advance) }
-{
-    out.extend_from_slice(b"<tr><th scope=\"row\"><a href=\"/card/")?;
-    push_round_name(out, id)?;
-    out.extend_from_slice(b"\">")?;
-    push_round_words(out, id, advance)?;
-    out.extend_from_slice(b"</a></th>")
-}
-
-/// Adds the line of a round that was opened.
-fn push_row(out: &mut Vec<u8>, id: RoundId, round: Opened<'_>) -> Result<(), NoMemory>
-    ensures { OnOk result (out.new.items ≡ out.old.items ++ round_line id
-        (round.entry.settings, round.entry.table.now)) }
-{
-    let counts = counts_of(round.table, round.settings.format)?;
-    push_row_head(out, id, round.settings.advance)?;
-    push_state(out, round.table.is_closed())?;
-    push_counts(out, counts)?;
+    )?;
     push_link(out, b"/rounds?round=", id, b"open and close")?;
     push_link(out, b"/wall/", id, b"sheet for the wall")?;
     push_link(out, b"/scorecards/", id, b"scorecards")?;
     out.extend_from_slice(b"</tr>\n")
-}
-
-/// Adds the line of a round, where it was opened.
-fn push_round(out: &mut Vec<u8>, meet: &Meet, id: RoundId) -> Result<(), NoMemory>
-    ensures { OnOk result (out.new.items
-        ≡ out.old.items ++ row_if id (round_by meet.now.accepted id)) }
-{
-    match round_opened(meet, id) {
-        Some(round) => push_row(out, id, round),
-        None => Ok(()),
-    }
 }
 
 /// Adds a line for each of these rounds of an event that was opened.
@@ -114,14 +84,13 @@ fn push_event(out: &mut Vec<u8>, meet: &Meet, event: Event, rounds: &[u8]) -> Re
         ≡ out.old.items ++ flat_map (round_in meet.now.accepted event) rounds.now) }
 {
     for round in rounds {
-        push_round(
-            out,
-            meet,
-            RoundId {
-                event,
-                round: *round,
-            },
-        )?;
+        let id = RoundId {
+            event,
+            round: *round,
+        };
+        if let Some(opened) = round_opened(meet, id) {
+            push_row(out, id, opened)?;
+        }
     }
     Ok(())
 }
@@ -152,22 +121,8 @@ fn push_section(out: &mut Vec<u8>, meet: &Meet) -> Result<(), NoMemory>
 pub fn overview(alloc: Global, around: &Around<'_>) -> Result<Vec<u8>, NoMemory>
     ensures { IfOk result (λ page. page.items ≡ overview around.entry.now) }
 {
-    let mut page = Vec::new(alloc);
-    push_top(
-        &mut page,
-        around.desks,
-        around.mirror.len(),
-        b"hall",
-        b"Score table",
-    )?;
+    let mut page = start_page(alloc, around, b"Score table")?;
     push_section(&mut page, around.mirror.meet())?;
-    push_recent(
-        &mut page,
-        around.mirror.meet(),
-        around.desks,
-        around.now,
-        around.recent,
-    )?;
-    push_bottom(&mut page)?;
+    push_end(&mut page, around)?;
     Ok(page)
 }

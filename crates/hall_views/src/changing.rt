@@ -2,7 +2,6 @@
 
 ghost use Rattle.std.specs.Prelude.{◌≡◌, ◌++◌, OnOk};
 ghost use Rattle.hall_views.specs.Changing.{changing, early_words, settings_form};
-ghost use Rattle.hall_views.specs.Changing.{settings_form_if};
 
 use crate::editions::mends;
 use crate::forms::{id_at, path_of, push_button, push_form, push_round_value};
@@ -39,25 +38,6 @@ fn push_settings_form(
     push_button(out, b"Change format, cutoff and limit")
 }
 
-/// Adds that form, unless somebody has an attempt.
-fn push_settings_form_if(
-    out: &mut Vec<u8>,
-    attempted: bool,
-    token: &[u8],
-    form: FormId,
-    id: RoundId,
-    settings: Settings,
-) -> Result<(), NoMemory>
-    ensures { OnOk result (out.new.items
-        ≡ out.old.items ++ settings_form_if attempted token.now form id settings) }
-{
-    if attempted {
-        Ok(())
-    } else {
-        push_settings_form(out, token, form, id, settings)
-    }
-}
-
 /// What edition 3 would allow in an open round.
 fn early_words(event: Event, attempted: bool) -> &'static [u8]
     ensures { result.now ≡ early_words event attempted }
@@ -87,10 +67,11 @@ pub(crate) fn push_changing(
         (round.entry.settings, round.entry.table.now)) }
 {
     let attempted = round.table.is_attempted(1);
-    if mends(around.mirror.meet()) {
-        let form = id_at(around.ids, 5);
-        push_settings_form_if(out, attempted, around.token, form, id, round.settings)
-    } else {
-        out.extend_from_slice(early_words(id.event, attempted))
+    if !mends(around.mirror.meet()) {
+        return out.extend_from_slice(early_words(id.event, attempted));
     }
+    if attempted {
+        return Ok(());
+    }
+    push_settings_form(out, around.token, id_at(around.ids, 5), id, round.settings)
 }

@@ -1,11 +1,11 @@
 //! The forms of a round that is open: who goes on, and closing it.
 
-ghost use Rattle.std.specs.Prelude.{◌≡◌, ◌++◌, IfOk, OnOk};
+ghost use Rattle.std.specs.Prelude.{◌≡◌, ◌++◌, OnOk};
 ghost use Rattle.advancement.specs.Advancing.{advancing, quota};
 ghost use Rattle.rounds.specs.Tables.{started};
-ghost use Rattle.hall_views.specs.Closing.{change, close, close_text, closing_line, closing_told};
+ghost use Rattle.hall_views.specs.Closing.{change, close, closing_told};
 ghost use Rattle.hall_views.specs.Closing.{closing_words, list_through, open_round};
-ghost use Rattle.hall_views.specs.Closing.{these_go_on, through, tie};
+ghost use Rattle.hall_views.specs.Closing.{through, tie};
 
 use crate::absent::push_never_came;
 use crate::changing::push_changing;
@@ -21,16 +21,8 @@ use formats::Advance;
 use markup::{Piece, push_pieces};
 use round_counts::Opened;
 use rounds::RoundTable;
-use std::alloc::Global;
 use table_views::Around;
 use texts::{Command, RoundId, print};
-
-/// The text of the command that closes a round.
-fn close_text(alloc: Global, id: RoundId) -> Result<Vec<u8>, NoMemory>
-    ensures { IfOk result (λ text. text.items ≡ close_text id) }
-{
-    print(alloc, &Command::Close { id })
-}
 
 /// Adds that a tie keeps people out, where fewer go on than could.
 fn push_tie(out: &mut Vec<u8>, through: usize, most: u16) -> Result<(), NoMemory>
@@ -51,19 +43,6 @@ fn push_tie(out: &mut Vec<u8>, through: usize, most: u16) -> Result<(), NoMemory
     )
 }
 
-fn push_count(out: &mut Vec<u8>, count: usize) -> Result<(), NoMemory>
-    ensures { OnOk result (out.new.items ≡ out.old.items ++ these_go_on count) }
-{
-    push_pieces(
-        out,
-        &[
-            Piece::Html(b"<h2>Who goes on, as it stands: "),
-            Piece::Number(count as u64),
-            Piece::Html(b"</h2>\n<ol>\n"),
-        ],
-    )
-}
-
 /// Adds these as those who go on, of whom there could be so many.
 fn push_list_through(
     out: &mut Vec<u8>,
@@ -75,7 +54,14 @@ fn push_list_through(
     ensures { OnOk result (out.new.items
         ≡ out.old.items ++ list_through meet.now.accepted id numbers.now most) }
 {
-    push_count(out, numbers.len())?;
+    push_pieces(
+        out,
+        &[
+            Piece::Html(b"<h2>Who goes on, as it stands: "),
+            Piece::Number(numbers.len() as u64),
+            Piece::Html(b"</h2>\n<ol>\n"),
+        ],
+    )?;
     push_entrants(out, meet, id, numbers)?;
     out.extend_from_slice(b"</ol>\n")?;
     push_tie(out, numbers.len(), most)
@@ -146,10 +132,11 @@ opened."
     }
 }
 
-/// Adds what becomes of the round, and the command that is sent.
-fn push_closing_line(out: &mut Vec<u8>, mends: bool, text: &[u8]) -> Result<(), NoMemory>
-    ensures { OnOk result (out.new.items ≡ out.old.items ++ closing_line mends text.now) }
+/// Adds the command that closes the round, which is sent as it is shown.
+fn push_told(out: &mut Vec<u8>, mends: bool, text: &[u8]) -> Result<(), NoMemory>
+    ensures { OnOk result (out.new.items ≡ out.old.items ++ closing_told mends text.now) }
 {
+    push_unseen(out, b"text", text)?;
     push_pieces(
         out,
         &[
@@ -160,14 +147,6 @@ fn push_closing_line(out: &mut Vec<u8>, mends: bool, text: &[u8]) -> Result<(), 
             Piece::Html(b"</code></p>\n"),
         ],
     )
-}
-
-/// Adds the command that closes the round, which is sent as it is shown.
-fn push_told(out: &mut Vec<u8>, mends: bool, text: &[u8]) -> Result<(), NoMemory>
-    ensures { OnOk result (out.new.items ≡ out.old.items ++ closing_told mends text.now) }
-{
-    push_unseen(out, b"text", text)?;
-    push_closing_line(out, mends, text)
 }
 
 /// Adds the form that closes the round.
@@ -182,7 +161,7 @@ fn push_close(
     ensures { OnOk result (out.new.items
         ≡ out.old.items ++ close mends token.now form id back.now) }
 {
-    let text = close_text(*out.allocator(), id)?;
+    let text = print(*out.allocator(), &Command::Close { id })?;
     out.extend_from_slice(b"<h2>Close the round</h2>\n")?;
     push_form(out, token, form, b"CLOSE", back)?;
     push_round_value(out, id)?;

@@ -127,30 +127,14 @@ pub(crate) fn push_choice<'a>(
     )
 }
 
-/// Adds the path of the page of a round's forms.
-fn push_path(out: &mut Vec<u8>, id: RoundId) -> Result<(), NoMemory>
-    ensures { OnOk result (out.new.items ≡ out.old.items ++ path_of id) }
-{
-    out.extend_from_slice(b"/rounds?round=")?;
-    push_round_name(out, id)
-}
-
 /// The path of the page of a round's forms.
 pub(crate) fn path_of(alloc: Global, id: RoundId) -> Result<Vec<u8>, NoMemory>
     ensures { IfOk result (λ path. path.items ≡ path_of id) }
 {
     let mut path = Vec::new(alloc);
-    push_path(&mut path, id)?;
+    path.extend_from_slice(b"/rounds?round=")?;
+    push_round_name(&mut path, id)?;
     Ok(path)
-}
-
-fn push_person_path(out: &mut Vec<u8>, number: u16) -> Result<(), NoMemory>
-    ensures { OnOk result (out.new.items ≡ out.old.items ++ person_path number) }
-{
-    push_pieces(
-        out,
-        &[Piece::Html(b"/person/"), Piece::Number(number as u64)],
-    )
 }
 
 /// The path of the page of a competitor.
@@ -158,7 +142,10 @@ pub(crate) fn person_path(alloc: Global, number: u16) -> Result<Vec<u8>, NoMemor
     ensures { IfOk result (λ path. path.items ≡ person_path number) }
 {
     let mut path = Vec::new(alloc);
-    push_person_path(&mut path, number)?;
+    push_pieces(
+        &mut path,
+        &[Piece::Html(b"/person/"), Piece::Number(number as u64)],
+    )?;
     Ok(path)
 }
 

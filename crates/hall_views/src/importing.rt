@@ -1,13 +1,13 @@
 //! The page that takes a competition's file, or lines of commands.
 
 ghost use Rattle.std.specs.Prelude.{◌≡◌, ◌++◌, IfOk, OnOk};
-ghost use Rattle.hall_views.specs.Importing.{file_end, file_start, import_page, import_section};
-ghost use Rattle.hall_views.specs.Importing.{lines_end};
+ghost use Rattle.hall_views.specs.Importing.{import_page, import_section};
 
 use crate::forms::id_at;
+use crate::pages::{push_end, start_page};
 use acceptor::NoMemory;
 use std::alloc::Global;
-use table_views::{Around, push_bottom, push_hidden, push_recent, push_top};
+use table_views::{Around, push_hidden};
 
 const FILE_START: &[u8] = b"\
 <section><h1>From a file or from lines</h1>
@@ -34,36 +34,15 @@ const LINES_END: &[u8] = b"\
 <button>Look at them</button></form></section>
 ";
 
-#[tactic(auto, unfolding(crate::specs::Importing::file_start))]
-fn push_file_start(out: &mut Vec<u8>) -> Result<(), NoMemory>
-    ensures { OnOk result (out.new.items ≡ out.old.items ++ file_start) }
-{
-    out.extend_from_slice(FILE_START)
-}
-
-#[tactic(auto, unfolding(crate::specs::Importing::file_end))]
-fn push_file_end(out: &mut Vec<u8>) -> Result<(), NoMemory>
-    ensures { OnOk result (out.new.items ≡ out.old.items ++ file_end) }
-{
-    out.extend_from_slice(FILE_END)
-}
-
-#[tactic(auto, unfolding(crate::specs::Importing::lines_end))]
-fn push_lines_end(out: &mut Vec<u8>) -> Result<(), NoMemory>
-    ensures { OnOk result (out.new.items ≡ out.old.items ++ lines_end) }
-{
-    out.extend_from_slice(LINES_END)
-}
-
 /// Adds the two forms.
 fn push_section(out: &mut Vec<u8>, around: &Around<'_>) -> Result<(), NoMemory>
     ensures { OnOk result (out.new.items ≡ out.old.items ++ import_section around.entry.now) }
 {
-    push_file_start(out)?;
+    out.extend_from_slice(FILE_START)?;
     push_hidden(out, around.token, id_at(around.ids, 0))?;
-    push_file_end(out)?;
+    out.extend_from_slice(FILE_END)?;
     push_hidden(out, around.token, id_at(around.ids, 1))?;
-    push_lines_end(out)
+    out.extend_from_slice(LINES_END)
 }
 
 /// The page that takes a competition's file, to `/import`, or lines of commands, to `/lines`. Both
@@ -71,22 +50,8 @@ fn push_section(out: &mut Vec<u8>, around: &Around<'_>) -> Result<(), NoMemory>
 pub fn import_page(alloc: Global, around: &Around<'_>) -> Result<Vec<u8>, NoMemory>
     ensures { IfOk result (λ page. page.items ≡ import_page around.entry.now) }
 {
-    let mut page = Vec::new(alloc);
-    push_top(
-        &mut page,
-        around.desks,
-        around.mirror.len(),
-        b"hall",
-        b"From a file or from lines",
-    )?;
+    let mut page = start_page(alloc, around, b"From a file or from lines")?;
     push_section(&mut page, around)?;
-    push_recent(
-        &mut page,
-        around.mirror.meet(),
-        around.desks,
-        around.now,
-        around.recent,
-    )?;
-    push_bottom(&mut page)?;
+    push_end(&mut page, around)?;
     Ok(page)
 }

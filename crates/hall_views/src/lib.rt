@@ -10,6 +10,7 @@ mod forms;
 mod importing;
 mod lines;
 mod opening;
+mod pages;
 mod people;
 mod person;
 mod preview;

@@ -1,7 +1,7 @@
 //! The form that sends several commands, one a line.
 
 ghost use Rattle.std.specs.Prelude.{◌≡◌, ◌++◌, OnOk};
-ghost use Rattle.hall_views.specs.Lines.{line, lines_form, lines_rest};
+ghost use Rattle.hall_views.specs.Lines.{line, lines_form};
 
 use acceptor::NoMemory;
 use card_forms::FormId;
@@ -16,15 +16,21 @@ pub(crate) fn push_line(out: &mut Vec<u8>, text: &[u8]) -> Result<(), NoMemory>
     out.extend_from_slice(text)
 }
 
-fn push_lines_rest<'a>(
+/// Adds a form that sends these lines of commands, each after a break, and shows them before. After
+/// it the browser goes to the path `back`; its button says these words.
+pub(crate) fn push_lines_form<'a>(
     out: &mut Vec<u8>,
+    token: &[u8],
+    id: FormId,
     back: &'a [u8],
     lines: &'a [u8],
     words: &'a [u8],
 ) -> Result<(), NoMemory>
     ensures { OnOk result (out.new.items
-        ≡ out.old.items ++ lines_rest back.now lines.now words.now) }
+        ≡ out.old.items ++ lines_form token.now id back.now lines.now words.now) }
 {
+    out.extend_from_slice(b"<form method=\"post\" action=\"/commands\" autocomplete=\"off\">\n")?;
+    push_hidden(out, token, id)?;
     push_pieces(
         out,
         &[
@@ -38,22 +44,4 @@ fn push_lines_rest<'a>(
             Piece::Html(b"</button></form>\n"),
         ],
     )
-}
-
-/// Adds a form that sends these lines of commands, each after a break, and shows them before. After
-/// it the browser goes to the path `back`; its button says these words.
-pub(crate) fn push_lines_form(
-    out: &mut Vec<u8>,
-    token: &[u8],
-    id: FormId,
-    back: &[u8],
-    lines: &[u8],
-    words: &[u8],
-) -> Result<(), NoMemory>
-    ensures { OnOk result (out.new.items
-        ≡ out.old.items ++ lines_form token.now id back.now lines.now words.now) }
-{
-    out.extend_from_slice(b"<form method=\"post\" action=\"/commands\" autocomplete=\"off\">\n")?;
-    push_hidden(out, token, id)?;
-    push_lines_rest(out, back, lines, words)
 }

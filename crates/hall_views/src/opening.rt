@@ -1,12 +1,12 @@
 //! The form that opens a round.
 
-ghost use Rattle.std.specs.Prelude.{◌≡◌, ◌++◌, IfOk, OnOk, Some, flat_map};
+ghost use Rattle.std.specs.Prelude.{◌≡◌, ◌++◌, IfOk, OnOk, flat_map};
 ghost use Rattle.formats.specs.Events.{unit_of};
 ghost use Rattle.hall_views.specs.Opening.{advance_choices, advance_fields, advance_options};
 ghost use Rattle.hall_views.specs.Opening.{after_mark, amount_of, border_text, cutoff_choice};
 ghost use Rattle.hall_views.specs.Opening.{cutoff_fields, rule_fields};
 ghost use Rattle.hall_views.specs.Opening.{cutoff_select, format_choice, format_mark, limit_field};
-ghost use Rattle.hall_views.specs.Opening.{most_attempts, opening, opening_fields, opening_head};
+ghost use Rattle.hall_views.specs.Opening.{most_attempts, opening, opening_head};
 ghost use Rattle.hall_views.specs.Opening.{proposed_limit};
 
 use crate::forms::{digits_of, path_of, push_button, push_form, push_round_value, push_text_field};
@@ -90,20 +90,6 @@ fn after_mark(cutoff: Option<(u8, u32)>, attempts: u8) -> &'static [u8]
     }
 }
 
-fn push_after(out: &mut Vec<u8>, cutoff: Option<(u8, u32)>, attempts: u8) -> Result<(), NoMemory>
-    ensures { OnOk result (out.new.items ≡ out.old.items ++ cutoff_choice cutoff attempts) }
-{
-    push_pieces(
-        out,
-        &[
-            Piece::Html(b"<option"),
-            Piece::Html(after_mark(cutoff, attempts)),
-            Piece::Number(attempts as u64),
-            Piece::Html(b"</option>\n"),
-        ],
-    )
-}
-
 fn push_each_after(
     out: &mut Vec<u8>,
     cutoff: Option<(u8, u32)>,
@@ -113,7 +99,15 @@ fn push_each_after(
         ≡ out.old.items ++ flat_map (cutoff_choice cutoff) attempts.now) }
 {
     for number in attempts {
-        push_after(out, cutoff, *number)?;
+        push_pieces(
+            out,
+            &[
+                Piece::Html(b"<option"),
+                Piece::Html(after_mark(cutoff, *number)),
+                Piece::Number(*number as u64),
+                Piece::Html(b"</option>\n"),
+            ],
+        )?;
     }
     Ok(())
 }
@@ -263,36 +257,23 @@ pub(crate) fn push_rule_fields(
     push_limit(out, event, limit)
 }
 
-/// Adds the fields of the form that opens a round.
-fn push_fields(out: &mut Vec<u8>, event: Event, proposal: Proposal) -> Result<(), NoMemory>
-    ensures { OnOk result (out.new.items ≡ out.old.items ++ opening_fields event proposal) }
-{
-    push_rule_fields(out, event, proposal.format, None, proposal.limit)?;
-    push_advance(out, proposal.advance)
-}
-
-fn push_come(out: &mut Vec<u8>, come: u16) -> Result<(), NoMemory>
-    ensures { OnOk result (out.new.items ≡ out.old.items ++ opening_head (Some come)) }
-{
-    push_pieces(
-        out,
-        &[
-            Piece::Html(b"<h2>Open the round</h2>\n<p>"),
-            Piece::Number(come as u64),
-            Piece::Html(
-                b" come into this round. What is chosen here is proposed, after the round before: ",
-            ),
-            Piece::Html(b"change what you like.</p>\n"),
-        ],
-    )
-}
-
 /// Adds that what the form has is proposed, and how many come into the round.
 fn push_head(out: &mut Vec<u8>, come: Option<u16>) -> Result<(), NoMemory>
     ensures { OnOk result (out.new.items ≡ out.old.items ++ opening_head come) }
 {
     match come {
-        Some(come) => push_come(out, come),
+        Some(come) => push_pieces(
+            out,
+            &[
+                Piece::Html(b"<h2>Open the round</h2>\n<p>"),
+                Piece::Number(come as u64),
+                Piece::Html(
+                    b" come into this round. What is chosen here is proposed, after the round \
+before: ",
+                ),
+                Piece::Html(b"change what you like.</p>\n"),
+            ],
+        ),
         None => out.extend_from_slice(
             b"<h2>Open the round</h2>\n<p>What is chosen here is proposed: \
 change what you like.</p>\n",
@@ -314,6 +295,7 @@ pub(crate) fn push_opening(
     push_head(out, proposal.come)?;
     push_form(out, token, form, b"OPEN", &back)?;
     push_round_value(out, id)?;
-    push_fields(out, id.event, proposal)?;
+    push_rule_fields(out, id.event, proposal.format, None, proposal.limit)?;
+    push_advance(out, proposal.advance)?;
     push_button(out, b"Open the round")
 }

@@ -3,13 +3,14 @@
 ghost use Rattle.std.specs.Prelude.{◌≡◌, ◌++◌, IfOk, OnOk, flat_map};
 ghost use Rattle.std.specs.Option.{option_copied};
 ghost use Rattle.markup.specs.board_page.Adding.{Adds};
-ghost use Rattle.hall_views.specs.People.{competitor_in, competitor_line, competitor_start};
+ghost use Rattle.hall_views.specs.People.{competitor_in, competitor_line};
 ghost use Rattle.hall_views.specs.People.{competitors, IsProposed};
-ghost use Rattle.hall_views.specs.People.{entering, entered_if, entered_in, event_word};
+ghost use Rattle.hall_views.specs.People.{entering, entered_in};
 ghost use Rattle.hall_views.specs.People.{open_choice, open_if, registering, IsPeoplePage};
-ghost use Rattle.hall_views.specs.People.{section_start, IsSection};
+ghost use Rattle.hall_views.specs.People.{IsSection};
 
 use crate::forms::{digits_of, id_at, push_button, push_choice, push_form, push_text_field};
+use crate::pages::{push_end, start_page};
 use acceptor::NoMemory;
 use card_forms::FormId;
 use commands::Meet;
@@ -18,7 +19,7 @@ use markup::{Piece, push_pieces};
 use round_words::event_words;
 use rounds::RoundTable;
 use std::alloc::Global;
-use table_views::{Around, push_bottom, push_recent, push_top};
+use table_views::Around;
 
 /// The greatest number of a competitor.
 const LAST_NUMBER: u16 = 9_999;
@@ -35,44 +36,6 @@ fn free_number(meet: &Meet) -> u16
     LAST_NUMBER
 }
 
-fn push_event_word(out: &mut Vec<u8>, event: Event) -> Result<(), NoMemory>
-    ensures { OnOk result (out.new.items ≡ out.old.items ++ event_word event) }
-{
-    push_pieces(
-        out,
-        &[Piece::Html(b" "), Piece::Html(event.name().as_bytes())],
-    )
-}
-
-/// Adds an event, if a competitor is in this round of it.
-fn push_entered_if(
-    out: &mut Vec<u8>,
-    table: Option<&RoundTable>,
-    number: u16,
-    event: Event,
-) -> Result<(), NoMemory>
-    ensures { OnOk result (out.new.items ≡ out.old.items
-        ++ entered_if number event (option_copied table.entry)) }
-{
-    match table {
-        Some(table) if table.place(number).is_some() => push_event_word(out, event),
-        _ => Ok(()),
-    }
-}
-
-/// Adds an event, if a competitor is in its first round.
-fn push_entered_in(
-    out: &mut Vec<u8>,
-    meet: &Meet,
-    number: u16,
-    event: Event,
-) -> Result<(), NoMemory>
-    ensures { OnOk result (out.new.items
-        ≡ out.old.items ++ entered_in meet.now.accepted number event) }
-{
-    push_entered_if(out, meet.round(event, 1), number, event)
-}
-
 /// Adds the events in whose first round a competitor is.
 pub(crate) fn push_entered(
     out: &mut Vec<u8>,
@@ -84,14 +47,21 @@ pub(crate) fn push_entered(
         ≡ out.old.items ++ flat_map (entered_in meet.now.accepted number) events.now) }
 {
     for event in events {
-        push_entered_in(out, meet, number, *event)?;
+        let first = meet.round(*event, 1);
+        match first {
+            Some(table) if table.place(number).is_some() => push_pieces(
+                out,
+                &[Piece::Html(b" "), Piece::Html(event.name().as_bytes())],
+            )?,
+            _ => {}
+        }
     }
     Ok(())
 }
 
-fn push_competitor_start<'a>(out: &mut Vec<u8>, number: u16, name: &'a [u8]) -> Result<(), NoMemory>
+fn push_competitor(out: &mut Vec<u8>, meet: &Meet, number: u16, name: &[u8]) -> Result<(), NoMemory>
     ensures { OnOk result (out.new.items
-        ≡ out.old.items ++ competitor_start number name.now) }
+        ≡ out.old.items ++ competitor_line meet.now.accepted number name.now) }
 {
     push_pieces(
         out,
@@ -104,14 +74,7 @@ fn push_competitor_start<'a>(out: &mut Vec<u8>, number: u16, name: &'a [u8]) -> 
             Piece::Text(name),
             Piece::Html(b"</a></td><td>"),
         ],
-    )
-}
-
-fn push_competitor(out: &mut Vec<u8>, meet: &Meet, number: u16, name: &[u8]) -> Result<(), NoMemory>
-    ensures { OnOk result (out.new.items
-        ≡ out.old.items ++ competitor_line meet.now.accepted number name.now) }
-{
-    push_competitor_start(out, number, name)?;
+    )?;
     push_entered(out, meet, number, &Event::ALL)?;
     out.extend_from_slice(b"</td></tr>\n")
 }
@@ -204,23 +167,15 @@ fn push_entering(out: &mut Vec<u8>, meet: &Meet, token: &[u8], form: FormId) -> 
     push_button(out, b"Enter")
 }
 
-/// Adds a link to the page that takes a file.
-#[tactic(auto, unfolding(crate::specs::People::section_start))]
-fn push_section_start(out: &mut Vec<u8>) -> Result<(), NoMemory>
-    ensures { OnOk result (out.new.items ≡ out.old.items ++ section_start) }
-{
-    out.extend_from_slice(
-        b"<section><h1>Competitors</h1>\n<p><a href=\"/import\">\
-From a competition's file or from lines</a></p>\n",
-    )
-}
-
 /// Adds the section of competitors.
 fn push_section(out: &mut Vec<u8>, around: &Around<'_>) -> Result<(), NoMemory>
     ensures { OnOk result (Adds out.old.items out.new.items (IsSection around.entry.now)) }
 {
     let meet = around.mirror.meet();
-    push_section_start(out)?;
+    out.extend_from_slice(
+        b"<section><h1>Competitors</h1>\n<p><a href=\"/import\">\
+From a competition's file or from lines</a></p>\n",
+    )?;
     push_registering(out, around.token, id_at(around.ids, 0), free_number(meet))?;
     push_entering(out, meet, around.token, id_at(around.ids, 1))?;
     out.extend_from_slice(
@@ -235,22 +190,8 @@ fn push_section(out: &mut Vec<u8>, around: &Around<'_>) -> Result<(), NoMemory>
 pub fn people_page(alloc: Global, around: &Around<'_>) -> Result<Vec<u8>, NoMemory>
     ensures { IfOk result (λ page. IsPeoplePage around.entry.now page.items) }
 {
-    let mut page = Vec::new(alloc);
-    push_top(
-        &mut page,
-        around.desks,
-        around.mirror.len(),
-        b"hall",
-        b"Competitors",
-    )?;
+    let mut page = start_page(alloc, around, b"Competitors")?;
     push_section(&mut page, around)?;
-    push_recent(
-        &mut page,
-        around.mirror.meet(),
-        around.desks,
-        around.now,
-        around.recent,
-    )?;
-    push_bottom(&mut page)?;
+    push_end(&mut page, around)?;
     Ok(page)
 }

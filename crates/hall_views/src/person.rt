@@ -3,15 +3,16 @@
 ghost use Rattle.std.specs.Prelude.{◌≡◌, ◌++◌, IfOk, OnOk, flat_map, option_map};
 ghost use Rattle.hall_views.specs.Editions.{edition_form};
 ghost use Rattle.hall_views.specs.Forms.{person_path};
-ghost use Rattle.hall_views.specs.Person.{leave_button, leave_buttons, leave_event, leave_if};
-ghost use Rattle.hall_views.specs.Person.{leave_in, leave_round, mending, mending_or_edition};
-ghost use Rattle.hall_views.specs.Person.{page_of, person_form, person_head, person_page};
+ghost use Rattle.hall_views.specs.Person.{leave_button, leave_event};
+ghost use Rattle.hall_views.specs.Person.{leave_in, mending, mending_or_edition};
+ghost use Rattle.hall_views.specs.Person.{page_of, person_form, person_page};
 ghost use Rattle.hall_views.specs.Person.{person_section, renaming, withdrawing, withdrawing_if};
 
 use crate::editions::{mends, push_edition_form};
 use crate::forms::{
     digits_of, id_at, person_path, push_button, push_form, push_text_field, push_unseen,
 };
+use crate::pages::{push_end, start_page};
 use crate::people::push_entered;
 use crate::round_forms::ROUNDS;
 use acceptor::NoMemory;
@@ -19,10 +20,10 @@ use card_forms::FormId;
 use commands::Meet;
 use formats::{Advance, Event};
 use markup::{Piece, push_pieces};
-use round_counts::{Opened, round_opened};
+use round_counts::round_opened;
 use round_words::{push_round_name, push_round_words};
 use std::alloc::Global;
-use table_views::{Around, may_leave, push_bottom, push_recent, push_top};
+use table_views::{Around, may_leave};
 use texts::RoundId;
 
 /// Adds the beginning of a form for a competitor, whose number it carries unseen.
@@ -70,37 +71,6 @@ fn push_leave_button(out: &mut Vec<u8>, id: RoundId, advance: Advance) -> Result
     out.extend_from_slice(b"</button>\n")
 }
 
-/// Adds that button, if the round was opened and the competitor can withdraw from it.
-fn push_leave_if(
-    out: &mut Vec<u8>,
-    number: u16,
-    id: RoundId,
-    round: Option<Opened<'_>>,
-) -> Result<(), NoMemory>
-    ensures { OnOk result (out.new.items ≡ out.old.items ++ leave_if number id
-        (option_map (λ r. (r.settings, r.table.now)) round.entry)) }
-{
-    match round {
-        Some(round) if may_leave(round.table, number) => {
-            push_leave_button(out, id, round.settings.advance)
-        }
-        _ => Ok(()),
-    }
-}
-
-/// Adds the button of a round, if the competitor can withdraw from it.
-fn push_leave_round(
-    out: &mut Vec<u8>,
-    meet: &Meet,
-    number: u16,
-    id: RoundId,
-) -> Result<(), NoMemory>
-    ensures { OnOk result (out.new.items
-        ≡ out.old.items ++ leave_round meet.now.accepted number id) }
-{
-    push_leave_if(out, number, id, round_opened(meet, id))
-}
-
 /// Adds the buttons of these rounds of an event.
 fn push_leave_event(
     out: &mut Vec<u8>,
@@ -113,41 +83,34 @@ fn push_leave_event(
         ≡ out.old.items ++ flat_map (leave_in meet.now.accepted number event) rounds.now) }
 {
     for round in rounds {
-        push_leave_round(
-            out,
-            meet,
-            number,
-            RoundId {
-                event,
-                round: *round,
-            },
-        )?;
+        let id = RoundId {
+            event,
+            round: *round,
+        };
+        match round_opened(meet, id) {
+            Some(opened) if may_leave(opened.table, number) => {
+                push_leave_button(out, id, opened.settings.advance)?;
+            }
+            _ => {}
+        }
     }
     Ok(())
 }
 
-/// Adds the buttons of these events.
-fn push_leave_events(
-    out: &mut Vec<u8>,
+/// The buttons of all rounds of these events from which a competitor can withdraw.
+fn leave_buttons(
+    alloc: Global,
     meet: &Meet,
     number: u16,
     events: &[Event],
-) -> Result<(), NoMemory>
-    ensures { OnOk result (out.new.items
-        ≡ out.old.items ++ flat_map (leave_event meet.now.accepted number) events.now) }
-{
-    for event in events {
-        push_leave_event(out, meet, number, *event, &ROUNDS)?;
-    }
-    Ok(())
-}
-
-/// The buttons of all rounds from which a competitor can withdraw.
-fn leave_buttons(alloc: Global, meet: &Meet, number: u16) -> Result<Vec<u8>, NoMemory>
-    ensures { IfOk result (λ buttons. buttons.items ≡ leave_buttons meet.now.accepted number) }
+) -> Result<Vec<u8>, NoMemory>
+    ensures { IfOk result (λ buttons. buttons.items
+        ≡ flat_map (leave_event meet.now.accepted number) events.now) }
 {
     let mut buttons = Vec::new(alloc);
-    push_leave_events(&mut buttons, meet, number, &Event::ALL)?;
+    for event in events {
+        push_leave_event(&mut buttons, meet, number, *event, &ROUNDS)?;
+    }
     Ok(buttons)
 }
 
@@ -200,7 +163,7 @@ fn push_mending(
     ensures { OnOk result (out.new.items
         ≡ out.old.items ++ mending around.entry.now number name.now) }
 {
-    let buttons = leave_buttons(*out.allocator(), around.mirror.meet(), number)?;
+    let buttons = leave_buttons(*out.allocator(), around.mirror.meet(), number, &Event::ALL)?;
     push_renaming(out, around.token, id_at(around.ids, 0), number, name)?;
     push_withdrawing_if(out, around.token, id_at(around.ids, 1), number, &buttons)
 }
@@ -231,21 +194,6 @@ fn push_mending_or_edition(
     }
 }
 
-fn push_head(out: &mut Vec<u8>, number: u16, name: &[u8]) -> Result<(), NoMemory>
-    ensures { OnOk result (out.new.items ≡ out.old.items ++ person_head number name.now) }
-{
-    push_pieces(
-        out,
-        &[
-            Piece::Html(b"<section><h1 dir=\"auto\">"),
-            Piece::Text(name),
-            Piece::Html(b"</h1>\n<p>Number "),
-            Piece::Number(number as u64),
-            Piece::Html(b", events:"),
-        ],
-    )
-}
-
 /// Adds the section of a competitor.
 fn push_section(
     out: &mut Vec<u8>,
@@ -256,7 +204,16 @@ fn push_section(
     ensures { OnOk result (out.new.items
         ≡ out.old.items ++ person_section around.entry.now number name.now) }
 {
-    push_head(out, number, name)?;
+    push_pieces(
+        out,
+        &[
+            Piece::Html(b"<section><h1 dir=\"auto\">"),
+            Piece::Text(name),
+            Piece::Html(b"</h1>\n<p>Number "),
+            Piece::Number(number as u64),
+            Piece::Html(b", events:"),
+        ],
+    )?;
     push_entered(out, around.mirror.meet(), number, &Event::ALL)?;
     out.extend_from_slice(b"</p>\n")?;
     push_mending_or_edition(out, around, number, name)?;
@@ -272,23 +229,9 @@ fn page_of(
 ) -> Result<Vec<u8>, NoMemory>
     ensures { IfOk result (λ page. page.items ≡ page_of around.entry.now number name.now) }
 {
-    let mut page = Vec::new(alloc);
-    push_top(
-        &mut page,
-        around.desks,
-        around.mirror.len(),
-        b"hall",
-        b"Competitor",
-    )?;
+    let mut page = start_page(alloc, around, b"Competitor")?;
     push_section(&mut page, around, number, name)?;
-    push_recent(
-        &mut page,
-        around.mirror.meet(),
-        around.desks,
-        around.now,
-        around.recent,
-    )?;
-    push_bottom(&mut page)?;
+    push_end(&mut page, around)?;
     Ok(page)
 }
 

@@ -1,19 +1,19 @@
 //! The page that shows which commands would be entered.
 
-ghost use Rattle.std.specs.Prelude.{◌≡◌, ◌++◌, IfOk, OnOk, codes, count_by, flat_map};
-ghost use Rattle.hall_views.specs.Lines.{lines_form};
-ghost use Rattle.hall_views.specs.Preview.{enter_words, entered_all, entered_item, entered_line};
+ghost use Rattle.std.specs.Prelude.{◌≡◌, ◌++◌, IfOk, OnOk, count_by, flat_map};
+ghost use Rattle.hall_views.specs.Preview.{enter_words, entered_all, entered_line};
 ghost use Rattle.hall_views.specs.Preview.{entered_list, is_entered, lists, preview_page};
-ghost use Rattle.hall_views.specs.Preview.{preview_section, refused_if, refused_item, refused_line};
-ghost use Rattle.hall_views.specs.Preview.{refused_list, sent_line, told, would_enter};
+ghost use Rattle.hall_views.specs.Preview.{preview_section, refused_item, refused_line};
+ghost use Rattle.hall_views.specs.Preview.{refused_list, sent_line, would_enter};
 
 use crate::forms::id_at;
 use crate::lines::{push_line, push_lines_form};
+use crate::pages::start_page;
 use acceptor::NoMemory;
 use card_forms::FormId;
 use markup::{Piece, push_pieces};
 use std::alloc::Global;
-use table_views::{Around, push_bottom, push_top};
+use table_views::{Around, push_bottom};
 use texts::meanings::meaning_of;
 use texts::{Answer, Code};
 
@@ -42,21 +42,6 @@ fn count_entered(tried: &[Tried<'_>]) -> usize
     tried.iter().filter(|one| is_entered(one.answer)).count()
 }
 
-fn push_told(out: &mut Vec<u8>, entered: usize, refused: usize) -> Result<(), NoMemory>
-    ensures { OnOk result (out.new.items ≡ out.old.items ++ told entered refused) }
-{
-    push_pieces(
-        out,
-        &[
-            Piece::Html(b"<section><h1>What would be entered</h1>\n<p class=\"told\">"),
-            Piece::Number(entered as u64),
-            Piece::Html(b" commands would be entered, and "),
-            Piece::Number(refused as u64),
-            Piece::Html(b" would not.</p>\n"),
-        ],
-    )
-}
-
 /// Adds a command that would be refused, and why.
 fn push_refused_item<'a>(out: &mut Vec<u8>, text: &'a [u8], code: Code) -> Result<(), NoMemory>
     ensures { OnOk result (out.new.items ≡ out.old.items ++ refused_item text.now code) }
@@ -73,22 +58,14 @@ fn push_refused_item<'a>(out: &mut Vec<u8>, text: &'a [u8], code: Code) -> Resul
     )
 }
 
-/// Adds a command, if it would be refused.
-fn push_refused_line(out: &mut Vec<u8>, text: &[u8], answer: Answer) -> Result<(), NoMemory>
-    ensures { OnOk result (out.new.items ≡ out.old.items ++ refused_if text.now answer) }
-{
-    match answer {
-        Answer::Done => Ok(()),
-        Answer::Refused(code) => push_refused_item(out, text, code),
-    }
-}
-
 /// Adds those of the commands that would be refused, each with why.
 fn push_refused_lines(out: &mut Vec<u8>, tried: &[Tried<'_>]) -> Result<(), NoMemory>
     ensures { OnOk result (out.new.items ≡ out.old.items ++ flat_map refused_line tried.now) }
 {
     for one in tried {
-        push_refused_line(out, one.text, one.answer)?;
+        if let Answer::Refused(code) = one.answer {
+            push_refused_item(out, one.text, code)?;
+        }
     }
     Ok(())
 }
@@ -106,56 +83,21 @@ fn push_refused(out: &mut Vec<u8>, refused: usize, tried: &[Tried<'_>]) -> Resul
     out.extend_from_slice(b"</ol>\n")
 }
 
-fn push_entered_item<'a>(out: &mut Vec<u8>, text: &'a [u8]) -> Result<(), NoMemory>
-    ensures { OnOk result (out.new.items ≡ out.old.items ++ entered_item text.now) }
-{
-    push_pieces(
-        out,
-        &[
-            Piece::Html(b"<li><code>"),
-            Piece::Text(text),
-            Piece::Html(b"</code></li>\n"),
-        ],
-    )
-}
-
-/// Adds a command, if it would be entered.
-fn push_entered_line(out: &mut Vec<u8>, one: Tried<'_>) -> Result<(), NoMemory>
-    ensures { OnOk result (out.new.items ≡ out.old.items ++ entered_line one.entry) }
-{
-    if is_entered(one.answer) {
-        push_entered_item(out, one.text)
-    } else {
-        Ok(())
-    }
-}
-
 /// Adds those of the commands that would be entered.
 fn push_entered_lines(out: &mut Vec<u8>, tried: &[Tried<'_>]) -> Result<(), NoMemory>
     ensures { OnOk result (out.new.items ≡ out.old.items ++ flat_map entered_line tried.now) }
 {
     for one in tried {
-        push_entered_line(out, *one)?;
-    }
-    Ok(())
-}
-
-/// Adds a line of the form, if its command would be entered.
-fn push_sent_line(out: &mut Vec<u8>, one: Tried<'_>) -> Result<(), NoMemory>
-    ensures { OnOk result (out.new.items ≡ out.old.items ++ sent_line one.entry) }
-{
-    if is_entered(one.answer) {
-        push_line(out, one.text)
-    } else {
-        Ok(())
-    }
-}
-
-fn push_sent_lines(out: &mut Vec<u8>, tried: &[Tried<'_>]) -> Result<(), NoMemory>
-    ensures { OnOk result (out.new.items ≡ out.old.items ++ flat_map sent_line tried.now) }
-{
-    for one in tried {
-        push_sent_line(out, *one)?;
+        if is_entered(one.answer) {
+            push_pieces(
+                out,
+                &[
+                    Piece::Html(b"<li><code>"),
+                    Piece::Text(one.text),
+                    Piece::Html(b"</code></li>\n"),
+                ],
+            )?;
+        }
     }
     Ok(())
 }
@@ -165,21 +107,12 @@ fn sent_lines(alloc: Global, tried: &[Tried<'_>]) -> Result<Vec<u8>, NoMemory>
     ensures { IfOk result (λ lines. lines.items ≡ flat_map sent_line tried.now) }
 {
     let mut lines = Vec::new(alloc);
-    push_sent_lines(&mut lines, tried)?;
+    for one in tried {
+        if is_entered(one.answer) {
+            push_line(&mut lines, one.text)?;
+        }
+    }
     Ok(lines)
-}
-
-fn push_words(out: &mut Vec<u8>, count: usize) -> Result<(), NoMemory>
-    ensures { OnOk result (out.new.items ≡ out.old.items ++ enter_words count) }
-{
-    push_pieces(
-        out,
-        &[
-            Piece::Html(b"Enter these "),
-            Piece::Number(count as u64),
-            Piece::Html(b" commands"),
-        ],
-    )
 }
 
 /// What the button of the form says.
@@ -187,24 +120,15 @@ fn enter_words(alloc: Global, count: usize) -> Result<Vec<u8>, NoMemory>
     ensures { IfOk result (λ words. words.items ≡ enter_words count) }
 {
     let mut words = Vec::new(alloc);
-    push_words(&mut words, count)?;
+    push_pieces(
+        &mut words,
+        &[
+            Piece::Html(b"Enter these "),
+            Piece::Number(count as u64),
+            Piece::Html(b" commands"),
+        ],
+    )?;
     Ok(words)
-}
-
-/// Adds the form that enters those of the commands that would be entered.
-fn push_entering(
-    out: &mut Vec<u8>,
-    token: &[u8],
-    id: FormId,
-    entered: usize,
-    tried: &[Tried<'_>],
-) -> Result<(), NoMemory>
-    ensures { OnOk result (out.new.items ≡ out.old.items ++ lines_form token.now id
-        (codes "/import") (flat_map sent_line tried.now) (enter_words entered)) }
-{
-    let lines = sent_lines(*out.allocator(), tried)?;
-    let words = enter_words(*out.allocator(), entered)?;
-    push_lines_form(out, token, id, b"/import", &lines, &words)
 }
 
 /// Adds those that would be entered, and the form that enters them.
@@ -218,10 +142,12 @@ fn push_entered_all(
     ensures { OnOk result (out.new.items
         ≡ out.old.items ++ entered_all token.now id entered tried.now) }
 {
+    let lines = sent_lines(*out.allocator(), tried)?;
+    let words = enter_words(*out.allocator(), entered)?;
     out.extend_from_slice(b"<h2>To enter</h2>\n<ol>\n")?;
     push_entered_lines(out, tried)?;
     out.extend_from_slice(b"</ol>\n")?;
-    push_entering(out, token, id, entered, tried)
+    push_lines_form(out, token, id, b"/import", &lines, &words)
 }
 
 /// Adds those that would be entered, and the form that enters them, where there are any.
@@ -253,7 +179,16 @@ fn push_lists(
     ensures { OnOk result (out.new.items
         ≡ out.old.items ++ lists around.entry.now entered refused tried.now) }
 {
-    push_told(out, entered, refused)?;
+    push_pieces(
+        out,
+        &[
+            Piece::Html(b"<section><h1>What would be entered</h1>\n<p class=\"told\">"),
+            Piece::Number(entered as u64),
+            Piece::Html(b" commands would be entered, and "),
+            Piece::Number(refused as u64),
+            Piece::Html(b" would not.</p>\n"),
+        ],
+    )?;
     push_refused(out, refused, tried)?;
     push_entered(out, around.token, id_at(around.ids, 0), entered, tried)?;
     out.extend_from_slice(
@@ -286,14 +221,7 @@ pub fn preview_page(
 ) -> Result<Vec<u8>, NoMemory>
     ensures { IfOk result (λ page. page.items ≡ preview_page around.entry.now tried.now) }
 {
-    let mut page = Vec::new(alloc);
-    push_top(
-        &mut page,
-        around.desks,
-        around.mirror.len(),
-        b"hall",
-        b"What would be entered",
-    )?;
+    let mut page = start_page(alloc, around, b"What would be entered")?;
     push_section(&mut page, around, tried)?;
     push_bottom(&mut page)?;
     Ok(page)

@@ -1,18 +1,16 @@
 //! What is proposed for a round that is to be opened.
 
-ghost use Rattle.std.specs.Prelude.{◌≡◌, ◌≤◌, ◌<◌, ◌-◌, IfOk, option_map};
-ghost use Rattle.std.specs.List.{list_any, range_with_len};
+ghost use Rattle.std.specs.Prelude.{◌≡◌, ◌≤◌, IfOk};
 ghost use Rattle.commands.specs.Accepted.{competitors_of, has_too_few, round_of};
 ghost use Rattle.hall_views.specs.Proposal.{first_proposal, is_last, proposed, proposed_advance};
-ghost use Rattle.hall_views.specs.Proposal.{proposed_after, proposed_for, round_before};
 
 use acceptor::NoMemory;
 use advancement::{advancing, later_rounds, quota};
 use commands::Meet;
 use formats::{Advance, Format};
-use round_counts::{Opened, round_opened};
+use round_counts::round_opened;
 use std::alloc::Global;
-use texts::{RoundId, Settings};
+use texts::RoundId;
 
 /// As many come into a final at most, where more rounds are allowed.
 const MOST_IN_FINAL: u16 = 16;
@@ -42,39 +40,18 @@ fn first_proposal() -> Proposal
     }
 }
 
-/// The round before one that is not the first.
-fn round_before(id: RoundId) -> RoundId
-    requires { 1 ≤ id.round }
-    ensures { result ≡ round_before id }
-{
-    RoundId {
-        event: id.event,
-        round: id.round - 1,
-    }
-}
-
-/// How many competitors a round has; nobody where it was not opened.
-fn competitors_of(round: Option<Opened<'_>>) -> u16
-    ensures { result ≡ competitors_of
-        (option_map (λ r. (r.settings, r.table.now)) round.entry) }
-{
-    match round {
-        Some(round) => round.table.started(),
-        None => 0,
-    }
-}
-
-/// How many competitors a round of an event has.
+/// How many competitors a round of an event has; nobody where it was not opened.
 fn competitors_in(meet: &Meet, id: RoundId, earlier: u8) -> u16
     ensures { result ≡ competitors_of (round_of meet.now.accepted id.event earlier) }
 {
-    competitors_of(round_opened(
-        meet,
-        RoundId {
-            event: id.event,
-            round: earlier,
-        },
-    ))
+    let earlier = RoundId {
+        event: id.event,
+        round: earlier,
+    };
+    match round_opened(meet, earlier) {
+        Some(round) => round.table.started(),
+        None => 0,
+    }
 }
 
 /// Whether the competitors of an earlier round do not allow the rounds up to the one after this.
@@ -109,34 +86,6 @@ fn proposed_advance(last: bool, come: u16) -> Advance
     }
 }
 
-/// What is proposed after a round of these settings from which so many go on.
-fn proposed_for(last: bool, come: u16, settings: Settings) -> Proposal
-    ensures { result ≡ proposed_for last come settings }
-{
-    Proposal {
-        format: Some(settings.format),
-        limit: settings.limit,
-        advance: proposed_advance(last, come),
-        come: Some(come),
-    }
-}
-
-/// What is proposed after a round.
-fn proposed_after(
-    alloc: Global,
-    last: bool,
-    round: Option<Opened<'_>>,
-) -> Result<Proposal, NoMemory>
-    ensures { IfOk result (λ proposal. proposal ≡ proposed_after last
-        (option_map (λ r. (r.settings, r.table.now)) round.entry)) }
-{
-    let Some(round) = round else {
-        return Ok(first_proposal());
-    };
-    let through = advancing(alloc, round.table, round.settings.advance)?;
-    Ok(proposed_for(last, through.len() as u16, round.settings))
-}
-
 /// What is proposed for a round that is to be opened: for a first round the first format that the
 /// event allows, ten minutes, and that it is the final; for a later one what held in the round
 /// before, and that it is the final where at most 16 come into it or no other round may follow.
@@ -146,6 +95,20 @@ pub(crate) fn proposed(alloc: Global, meet: &Meet, id: RoundId) -> Result<Propos
     if id.round <= 1 {
         return Ok(first_proposal());
     }
-    let before = round_opened(meet, round_before(id));
-    proposed_after(alloc, is_last(meet, id), before)
+    let before = RoundId {
+        event: id.event,
+        round: id.round - 1,
+    };
+    let last = is_last(meet, id);
+    let Some(round) = round_opened(meet, before) else {
+        return Ok(first_proposal());
+    };
+    let through = advancing(alloc, round.table, round.settings.advance)?;
+    let come = through.len() as u16;
+    Ok(Proposal {
+        format: Some(round.settings.format),
+        limit: round.settings.limit,
+        advance: proposed_advance(last, come),
+        come: Some(come),
+    })
 }

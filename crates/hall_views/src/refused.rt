@@ -3,10 +3,11 @@
 ghost use Rattle.std.specs.Prelude.{◌≡◌, ◌++◌, IfOk, OnOk};
 ghost use Rattle.hall_views.specs.Refused.{faults, faults_page, refusal, refused_page};
 
+use crate::pages::start_page;
 use acceptor::NoMemory;
 use markup::{Piece, push_pieces};
 use std::alloc::Global;
-use table_views::{Around, push_bottom, push_top};
+use table_views::{Around, push_bottom};
 
 /// Adds why, with a link back.
 fn push_refusal<'a>(out: &mut Vec<u8>, back: &'a [u8], why: &'a [u8]) -> Result<(), NoMemory>
@@ -33,14 +34,7 @@ pub fn refused_page(
 ) -> Result<Vec<u8>, NoMemory>
     ensures { IfOk result (λ page. page.items ≡ refused_page around.entry.now back.now why.now) }
 {
-    let mut page = Vec::new(alloc);
-    push_top(
-        &mut page,
-        around.desks,
-        around.mirror.len(),
-        b"hall",
-        b"Not sent",
-    )?;
+    let mut page = start_page(alloc, around, b"Not sent")?;
     push_refusal(&mut page, back, why)?;
     push_bottom(&mut page)?;
     Ok(page)
@@ -72,14 +66,7 @@ pub fn faults_page(
 ) -> Result<Vec<u8>, NoMemory>
     ensures { IfOk result (λ page. page.items ≡ faults_page around.entry.now back.now faults.now) }
 {
-    let mut page = Vec::new(alloc);
-    push_top(
-        &mut page,
-        around.desks,
-        around.mirror.len(),
-        b"hall",
-        b"Not entered",
-    )?;
+    let mut page = start_page(alloc, around, b"Not entered")?;
     push_faults(&mut page, back, faults)?;
     push_bottom(&mut page)?;
     Ok(page)

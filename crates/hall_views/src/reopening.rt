@@ -1,7 +1,7 @@
 //! The form that opens a closed round again.
 
 ghost use Rattle.std.specs.Prelude.{◌≡◌, ◌++◌, OnOk};
-ghost use Rattle.hall_views.specs.Reopening.{again, again_form, again_or_told, is_followed};
+ghost use Rattle.hall_views.specs.Reopening.{again, again_form, is_followed};
 
 use crate::editions::mends;
 use crate::forms::{id_at, path_of, push_button, push_form, push_round_value};
@@ -43,20 +43,8 @@ fn push_again_form(
     push_button(out, b"Open it again")
 }
 
-/// Adds the form in edition 3; before it, what edition 3 would allow.
-fn push_again_or_told(out: &mut Vec<u8>, around: &Around<'_>, id: RoundId) -> Result<(), NoMemory>
-    ensures { OnOk result (out.new.items ≡ out.old.items ++ again_or_told around.entry.now id) }
-{
-    if mends(around.mirror.meet()) {
-        push_again_form(out, around.token, id_at(around.ids, 0), id)
-    } else {
-        out.extend_from_slice(
-            b"<p>With <a href=\"/rounds\">edition 3</a> it could be opened again.</p>\n",
-        )
-    }
-}
-
-/// Adds the form that opens a closed round again, unless the next one is opened.
+/// Adds the form that opens a closed round again, unless the next one is opened: in edition 3;
+/// before it, what edition 3 would allow.
 pub(crate) fn push_again(
     out: &mut Vec<u8>,
     around: &Around<'_>,
@@ -64,9 +52,14 @@ pub(crate) fn push_again(
 ) -> Result<(), NoMemory>
     ensures { OnOk result (out.new.items ≡ out.old.items ++ again around.entry.now id) }
 {
-    if is_followed(around.mirror.meet(), id) {
-        Ok(())
-    } else {
-        push_again_or_told(out, around, id)
+    let meet = around.mirror.meet();
+    if is_followed(meet, id) {
+        return Ok(());
     }
+    if mends(meet) {
+        return push_again_form(out, around.token, id_at(around.ids, 0), id);
+    }
+    out.extend_from_slice(
+        b"<p>With <a href=\"/rounds\">edition 3</a> it could be opened again.</p>\n",
+    )
 }

@@ -1,22 +1,23 @@
 //! The page that opens and closes rounds.
 
 ghost use Rattle.std.specs.Prelude.{◌≡◌, ◌++◌, IfOk, OnOk, flat_map, get_or, option_map};
-ghost use Rattle.commands.specs.Accepted.{is_final, leads_on, round_by};
+ghost use Rattle.commands.specs.Accepted.{is_final, round_by};
 ghost use Rattle.table_views.specs.Logs.{accepted_in};
 ghost use Rattle.hall_views.specs.Opening.{opening};
 ghost use Rattle.hall_views.specs.Proposal.{proposed};
-ghost use Rattle.hall_views.specs.Rounds.{all_section, closed_forms, edition_section, event_head};
-ghost use Rattle.hall_views.specs.Rounds.{event_row, forms_if, inside, is_next, link_if, link_rest};
-ghost use Rattle.hall_views.specs.Rounds.{next_link, opened_forms, round_head, round_link};
+ghost use Rattle.hall_views.specs.Rounds.{all_section, closed_forms, edition_section};
+ghost use Rattle.hall_views.specs.Rounds.{event_row, forms_if, inside, is_next};
+ghost use Rattle.hall_views.specs.Rounds.{next_link, opened_forms};
 ghost use Rattle.hall_views.specs.Rounds.{round_section, rounds_page, state_of, state_words};
 ghost use Rattle.hall_views.specs.Rounds.{called, closed_or_open_forms, link};
-ghost use Rattle.hall_views.specs.Rounds.{link_after, link_in, link_to_next, numbered, row_of};
+ghost use Rattle.hall_views.specs.Rounds.{link_after, link_in, link_to_next, row_of};
 ghost use Rattle.hall_views.specs.Rounds.{running_forms, unopened_forms};
 
 use crate::closing::{push_open_round, push_through};
 use crate::editions::{mends, push_edition_form};
 use crate::forms::id_at;
 use crate::opening::push_opening;
+use crate::pages::{push_end, start_page};
 use crate::proposal::proposed;
 use crate::reopening::push_again;
 use crate::scrambles::push_scrambles;
@@ -27,14 +28,14 @@ use markup::{Piece, push_pieces};
 use round_counts::{Opened, round_opened};
 use round_words::{event_words, push_round_name, push_round_words, push_settings};
 use std::alloc::Global;
-use table_views::{Around, push_bottom, push_recent, push_top};
+use table_views::Around;
 use texts::RoundId;
 
 /// The rounds that an event can have.
 pub(crate) const ROUNDS: [u8; 4] = [1, 2, 3, 4];
 
 /// How far a round is that has forms.
-#[derive(Clone, Copy, Debug, PartialEq, Eq)]
+#[derive(Clone, Copy)]
 pub(crate) enum State {
     Closed,
     Open,
@@ -51,16 +52,6 @@ fn is_final(advance: Advance) -> bool
     }
 }
 
-/// Whether a round may follow this one: it is closed, and no final.
-fn leads_on(round: Option<Opened<'_>>) -> bool
-    ensures { result ≡ leads_on (option_map (λ r. (r.settings, r.table.now)) round.entry) }
-{
-    match round {
-        Some(round) => round.table.is_closed() && !is_final(round.settings.advance),
-        None => false,
-    }
-}
-
 /// Whether a round can be opened, as far as the rounds before it go: it is an event's first, or the
 /// one before it is closed and is not the final.
 fn is_next(meet: &Meet, id: RoundId) -> bool
@@ -73,7 +64,10 @@ fn is_next(meet: &Meet, id: RoundId) -> bool
         event: id.event,
         round: id.round - 1,
     };
-    leads_on(round_opened(meet, before))
+    match round_opened(meet, before) {
+        Some(round) => round.table.is_closed() && !is_final(round.settings.advance),
+        None => false,
+    }
 }
 
 /// What is said of a round that was opened, or can be.
@@ -100,47 +94,22 @@ fn state_words(state: State) -> &'static [u8]
     }
 }
 
-fn push_link_rest(out: &mut Vec<u8>, round: u8, words: &[u8]) -> Result<(), NoMemory>
-    ensures { OnOk result (out.new.items ≡ out.old.items ++ link_rest round words.now) }
-{
-    push_pieces(
-        out,
-        &[
-            Piece::Html(b"\">Round "),
-            Piece::Number(round as u64),
-            Piece::Html(b"</a>: "),
-            Piece::Html(words),
-            Piece::Html(b"</td>"),
-        ],
-    )
-}
-
 /// Adds a link to the forms of a round that is so far.
 fn push_link(out: &mut Vec<u8>, id: RoundId, words: &[u8]) -> Result<(), NoMemory>
     ensures { OnOk result (out.new.items ≡ out.old.items ++ link id words.now) }
 {
     out.extend_from_slice(b"<td><a href=\"/rounds?round=")?;
     push_round_name(out, id)?;
-    push_link_rest(out, id.round, words)
-}
-
-/// Adds a link to the forms of a round, if it has any.
-fn push_link_if(out: &mut Vec<u8>, id: RoundId, state: Option<State>) -> Result<(), NoMemory>
-    ensures { OnOk result (out.new.items ≡ out.old.items ++ link_if id state) }
-{
-    match state {
-        Some(state) => push_link(out, id, state_words(state)),
-        None => Ok(()),
-    }
-}
-
-/// Adds a link to the forms of a round, if it was opened or can be.
-fn push_round_link(out: &mut Vec<u8>, meet: &Meet, id: RoundId) -> Result<(), NoMemory>
-    ensures { OnOk result (out.new.items
-        ≡ out.old.items ++ round_link meet.now.accepted id) }
-{
-    let state = state_of(round_opened(meet, id), is_next(meet, id));
-    push_link_if(out, id, state)
+    push_pieces(
+        out,
+        &[
+            Piece::Html(b"\">Round "),
+            Piece::Number(id.round as u64),
+            Piece::Html(b"</a>: "),
+            Piece::Html(words),
+            Piece::Html(b"</td>"),
+        ],
+    )
 }
 
 /// Adds links to the forms of these rounds of an event.
@@ -149,20 +118,20 @@ fn push_links(out: &mut Vec<u8>, meet: &Meet, event: Event, rounds: &[u8]) -> Re
         ≡ out.old.items ++ flat_map (link_in meet.now.accepted event) rounds.now) }
 {
     for round in rounds {
-        push_round_link(
-            out,
-            meet,
-            RoundId {
-                event,
-                round: *round,
-            },
-        )?;
+        let id = RoundId {
+            event,
+            round: *round,
+        };
+        if let Some(state) = state_of(round_opened(meet, id), is_next(meet, id)) {
+            push_link(out, id, state_words(state))?;
+        }
     }
     Ok(())
 }
 
-fn push_event_head(out: &mut Vec<u8>, event: Event) -> Result<(), NoMemory>
-    ensures { OnOk result (out.new.items ≡ out.old.items ++ event_head event) }
+/// Adds the row of an event.
+fn push_row(out: &mut Vec<u8>, meet: &Meet, event: Event) -> Result<(), NoMemory>
+    ensures { OnOk result (out.new.items ≡ out.old.items ++ row_of meet.now.accepted event) }
 {
     push_pieces(
         out,
@@ -171,35 +140,21 @@ fn push_event_head(out: &mut Vec<u8>, event: Event) -> Result<(), NoMemory>
             Piece::Html(event_words(event).as_bytes()),
             Piece::Html(b"</th>"),
         ],
-    )
-}
-
-/// Adds the row of an event.
-fn push_row(out: &mut Vec<u8>, meet: &Meet, event: Event) -> Result<(), NoMemory>
-    ensures { OnOk result (out.new.items ≡ out.old.items ++ row_of meet.now.accepted event) }
-{
-    push_event_head(out, event)?;
+    )?;
     push_links(out, meet, event, &ROUNDS)?;
     out.extend_from_slice(b"</tr>\n")
 }
 
-/// Adds the row of an event, where the edition has it.
-fn push_event(out: &mut Vec<u8>, meet: &Meet, event: Event) -> Result<(), NoMemory>
-    ensures { OnOk result (out.new.items ≡ out.old.items ++ event_row meet.now.accepted event) }
-{
-    if event.edition() > meet.edition() {
-        Ok(())
-    } else {
-        push_row(out, meet, event)
-    }
-}
-
+/// Adds the rows of those of the events that the edition has.
 fn push_events(out: &mut Vec<u8>, meet: &Meet, events: &[Event]) -> Result<(), NoMemory>
     ensures { OnOk result (out.new.items
         ≡ out.old.items ++ flat_map (event_row meet.now.accepted) events.now) }
 {
     for event in events {
-        push_event(out, meet, *event)?;
+        if event.edition() > meet.edition() {
+            continue;
+        }
+        push_row(out, meet, *event)?;
     }
     Ok(())
 }
@@ -357,19 +312,6 @@ fn push_forms(out: &mut Vec<u8>, around: &Around<'_>, id: RoundId) -> Result<(),
     }
 }
 
-fn push_numbered(out: &mut Vec<u8>, id: RoundId) -> Result<(), NoMemory>
-    ensures { OnOk result (out.new.items ≡ out.old.items ++ numbered id) }
-{
-    push_pieces(
-        out,
-        &[
-            Piece::Html(event_words(id.event).as_bytes()),
-            Piece::Html(b", Round "),
-            Piece::Number(id.round as u64),
-        ],
-    )
-}
-
 /// Adds what a round is called: by its number, until it is opened.
 fn push_called(out: &mut Vec<u8>, id: RoundId, round: Option<Opened<'_>>) -> Result<(), NoMemory>
     ensures { OnOk result (out.new.items ≡ out.old.items ++ called id
@@ -377,24 +319,24 @@ fn push_called(out: &mut Vec<u8>, id: RoundId, round: Option<Opened<'_>>) -> Res
 {
     match round {
         Some(round) => push_round_words(out, id, round.settings.advance),
-        None => push_numbered(out, id),
+        None => push_pieces(
+            out,
+            &[
+                Piece::Html(event_words(id.event).as_bytes()),
+                Piece::Html(b", Round "),
+                Piece::Number(id.round as u64),
+            ],
+        ),
     }
-}
-
-fn push_round_head(out: &mut Vec<u8>, meet: &Meet, id: RoundId) -> Result<(), NoMemory>
-    ensures { OnOk result (out.new.items
-        ≡ out.old.items ++ round_head id (round_by meet.now.accepted id)) }
-{
-    out.extend_from_slice(b"<section><h1>")?;
-    push_called(out, id, round_opened(meet, id))?;
-    out.extend_from_slice(b"</h1>\n<p><a href=\"/card/")
 }
 
 /// Adds the section of a round.
 fn push_round(out: &mut Vec<u8>, around: &Around<'_>, id: RoundId) -> Result<(), NoMemory>
     ensures { OnOk result (out.new.items ≡ out.old.items ++ round_section around.entry.now id) }
 {
-    push_round_head(out, around.mirror.meet(), id)?;
+    out.extend_from_slice(b"<section><h1>")?;
+    push_called(out, id, round_opened(around.mirror.meet(), id))?;
+    out.extend_from_slice(b"</h1>\n<p><a href=\"/card/")?;
     push_round_name(out, id)?;
     out.extend_from_slice(b"\">its cards</a></p>\n")?;
     push_forms(out, around, id)?;
@@ -423,22 +365,8 @@ pub fn rounds_page(
 ) -> Result<Vec<u8>, NoMemory>
     ensures { IfOk result (λ page. page.items ≡ rounds_page around.entry.now round) }
 {
-    let mut page = Vec::new(alloc);
-    push_top(
-        &mut page,
-        around.desks,
-        around.mirror.len(),
-        b"hall",
-        b"Open and close rounds",
-    )?;
+    let mut page = start_page(alloc, around, b"Open and close rounds")?;
     push_inside(&mut page, around, round)?;
-    push_recent(
-        &mut page,
-        around.mirror.meet(),
-        around.desks,
-        around.now,
-        around.recent,
-    )?;
-    push_bottom(&mut page)?;
+    push_end(&mut page, around)?;
     Ok(page)
 }

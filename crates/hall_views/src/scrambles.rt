@@ -3,8 +3,8 @@
 ghost use Rattle.std.specs.Prelude.{◌≡◌, ◌++◌, ◌≤◌, OnOk};
 ghost use Rattle.formats.specs.Events.{attempts_of};
 ghost use Rattle.hall_views.specs.Scrambles.{scramble_at, scramble_form, scramble_if};
-ghost use Rattle.hall_views.specs.Scrambles.{all_scrambles, rescrambling, scramble_shown};
-ghost use Rattle.hall_views.specs.Scrambles.{scrambles, setting, standing_scramble};
+ghost use Rattle.hall_views.specs.Scrambles.{all_scrambles, rescrambling};
+ghost use Rattle.hall_views.specs.Scrambles.{scrambles, standing_scramble};
 
 use crate::editions::mends;
 use crate::forms::{
@@ -18,22 +18,6 @@ use formats::{Event, Format, attempts_of};
 use markup::{Piece, push_pieces};
 use table_views::Around;
 use texts::RoundId;
-
-/// Adds the scramble that an attempt has.
-fn push_shown(out: &mut Vec<u8>, attempt: u8, text: &[u8]) -> Result<(), NoMemory>
-    ensures { OnOk result (out.new.items ≡ out.old.items ++ scramble_shown attempt text.now) }
-{
-    push_pieces(
-        out,
-        &[
-            Piece::Html(b"<p>Scramble "),
-            Piece::Number(attempt as u64),
-            Piece::Html(b": <code>"),
-            Piece::Text(text),
-            Piece::Html(b"</code></p>\n"),
-        ],
-    )
-}
 
 /// What a form with a scramble says.
 #[derive(Clone, Copy)]
@@ -66,24 +50,6 @@ fn push_scramble_form(
     push_text_field(out, b"attempt", b"Scramble of attempt", &digits)?;
     push_text_field(out, b"moves", b"moves", wording.moves)?;
     push_button(out, wording.button)
-}
-
-/// Adds the form that sets the scramble of an attempt.
-fn push_setting(
-    out: &mut Vec<u8>,
-    token: &[u8],
-    form: FormId,
-    id: RoundId,
-    attempt: u8,
-) -> Result<(), NoMemory>
-    ensures { OnOk result (out.new.items ≡ out.old.items ++ setting token.now form id attempt) }
-{
-    let wording = Wording {
-        command: b"SCR",
-        moves: b"",
-        button: b"Set the scramble",
-    };
-    push_scramble_form(out, wording, token, form, id, attempt)
 }
 
 /// Adds the form that changes the scramble of an attempt from these moves, in edition 3.
@@ -124,7 +90,16 @@ fn push_standing(
         ≡ out.old.items ++ standing_scramble mends moves.now token.now form id attempt) }
 {
     let text = cube::notation::print(*out.allocator(), moves)?;
-    push_shown(out, attempt, &text)?;
+    push_pieces(
+        out,
+        &[
+            Piece::Html(b"<p>Scramble "),
+            Piece::Number(attempt as u64),
+            Piece::Html(b": <code>"),
+            Piece::Text(&text),
+            Piece::Html(b"</code></p>\n"),
+        ],
+    )?;
     push_rescrambling(out, mends, &text, token, form, id, attempt)
 }
 
@@ -143,7 +118,14 @@ fn push_scramble(
 {
     match meet.scramble(id.event, id.round, attempt) {
         Some(moves) => push_standing(out, mends(meet), moves, token, form, id, attempt),
-        None => push_setting(out, token, form, id, attempt),
+        None => {
+            let wording = Wording {
+                command: b"SCR",
+                moves: b"",
+                button: b"Set the scramble",
+            };
+            push_scramble_form(out, wording, token, form, id, attempt)
+        }
     }
 }
 

@@ -1,7 +1,7 @@
 //! Who of a round has not done all attempts.
 
 ghost use Rattle.std.specs.Prelude.{◌≡◌, ◌++◌, OnOk, flat_map};
-ghost use Rattle.hall_views.specs.Entrants.{entrant_line, link_middle, list_of, unfinished};
+ghost use Rattle.hall_views.specs.Entrants.{entrant_line, list_of, unfinished};
 
 use acceptor::NoMemory;
 use commands::Meet;
@@ -11,9 +11,13 @@ use round_words::push_round_name;
 use table_views::push_name;
 use texts::RoundId;
 
-fn push_link_middle(out: &mut Vec<u8>, number: u16) -> Result<(), NoMemory>
-    ensures { OnOk result (out.new.items ≡ out.old.items ++ link_middle number) }
+/// Adds an entrant, with a link to the entrant's card.
+fn push_entrant(out: &mut Vec<u8>, meet: &Meet, id: RoundId, number: u16) -> Result<(), NoMemory>
+    ensures { OnOk result (out.new.items
+        ≡ out.old.items ++ entrant_line meet.now.accepted id number) }
 {
+    out.extend_from_slice(b"<li><a href=\"/card/")?;
+    push_round_name(out, id)?;
     push_pieces(
         out,
         &[
@@ -23,17 +27,7 @@ fn push_link_middle(out: &mut Vec<u8>, number: u16) -> Result<(), NoMemory>
             Piece::Number(number as u64),
             Piece::Html(b"</b> <bdi>"),
         ],
-    )
-}
-
-/// Adds an entrant, with a link to the entrant's card.
-fn push_entrant(out: &mut Vec<u8>, meet: &Meet, id: RoundId, number: u16) -> Result<(), NoMemory>
-    ensures { OnOk result (out.new.items
-        ≡ out.old.items ++ entrant_line meet.now.accepted id number) }
-{
-    out.extend_from_slice(b"<li><a href=\"/card/")?;
-    push_round_name(out, id)?;
-    push_link_middle(out, number)?;
+    )?;
     push_name(out, meet, number)?;
     out.extend_from_slice(b"</bdi></a></li>\n")
 }

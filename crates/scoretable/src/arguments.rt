@@ -1,20 +1,21 @@
 //! The arguments of the program, and how it ends.
 
-use crate::journal_file::{FileFault, open_journal};
-use crate::program::PROGRAM;
-use crate::serving::{End, MOST_BROWSERS, Order, serve};
 use card_queue::JournalFault;
 use clap::builder::ValueParser;
 use clap::{Arg, ArgAction, ArgMatches, Command, Error};
 use command_line::borrowed;
 use hall_file::hall_options::{
-    Mistake, address_at, hall_of, option, tell, tell_mistake, tell_parse_error, tell_system,
-    with_desks,
+    FoundHall, Mistake, address_at, hall_of, option, tell, tell_mistake, tell_parse_error,
+    tell_system, with_desks,
 };
-use page_sockets::BrowserSockets;
+use hall_standings::Hall;
+use http_server::Config;
+use page_sockets::browsers_at;
+use pages::Terms;
 use std::alloc::{AllocError, Global};
 use std::io::Write;
 use std::net::SocketAddr;
+use table_service::{End, FileFault, Opened, PROGRAM, open_journal, serve};
 
 const ABOUT: &str = "Takes scorecards in a browser, and enters them at the desks of a hall.";
 
@@ -46,48 +47,47 @@ gives no key, or the journal is damaged; 4 an invalid address, the journal canno
 listen, cannot go on, or two desks told different entries; 5 no memory. Standard error gets a line
 that says why.";
 
-/// The program without its options, as the parser knows it.
-fn plain_command<'a>(alloc: Global) -> Command<'a> {
-    Command::new(alloc, PROGRAM)
-        .about(ABOUT)
-        .version(VERSION)
-        .after_help(AFTER)
-}
+/// The most browsers whose connections are open at once. With the longest bodies they take half a
+/// GiB.
+const MOST_BROWSERS: usize = 64;
 
-/// The option where browsers find it.
-fn listen_option<'a>(alloc: Global) -> Arg<'a> {
-    let help = "Where browsers find the score table, as 127.0.0.1:8081";
-    option(alloc, "listen", "ADDR", help, ValueParser::string()).required(true)
-}
+/// How long a browser is waited for, in milliseconds.
+const PATIENCE: u64 = 10_000;
 
-/// The option of the title.
-fn title_option<'a>(alloc: Global) -> Arg<'a> {
-    let help = "The title of the sheets on paper; without this option Results";
-    option(alloc, "title", "TEXT", help, ValueParser::string())
-}
+/// The most bytes of a request's head.
+const LONGEST_HEAD: usize = 16_384;
 
-/// The option of the journal.
-fn journal_option<'a>(alloc: Global) -> Arg<'a> {
-    let help = "The file that keeps what was entered; without this option scoretable.journal";
-    option(alloc, "journal", "FILE", help, ValueParser::string())
-}
+/// The most bytes of a request's body, 8 MiB: a competition's file with a thousand persons.
+const LONGEST_BODY: usize = 8_388_608;
 
-/// The option that opens it to a network.
-fn open_option<'a>(alloc: Global) -> Arg<'a> {
-    let help = "Lets ADDR be one that other machines reach";
-    Arg::new(alloc, "open-network")
-        .long("open-network")
-        .help(help)
-        .action(ArgAction::SetTrue)
+/// What the score table is to do.
+#[derive(Drop)]
+struct Order {
+    /// The hall, with one to five desks.
+    hall: FoundHall,
+    title: String,
+    listen: SocketAddr,
+    journal: Opened,
 }
 
 /// The program, as the parser knows it.
 fn command<'a>(alloc: Global) -> Result<Command<'a>, AllocError> {
-    with_desks(alloc, plain_command(alloc))?
-        .arg(listen_option(alloc))?
-        .arg(title_option(alloc))?
-        .arg(journal_option(alloc))?
-        .arg(open_option(alloc))
+    let plain = Command::new(alloc, PROGRAM)
+        .about(ABOUT)
+        .version(VERSION)
+        .after_help(AFTER);
+    let listen = "Where browsers find the score table, as 127.0.0.1:8081";
+    let title = "The title of the sheets on paper; without this option Results";
+    let journal = "The file that keeps what was entered; without this option scoretable.journal";
+    let open = Arg::new(alloc, "open-network")
+        .long("open-network")
+        .help("Lets ADDR be one that other machines reach")
+        .action(ArgAction::SetTrue);
+    with_desks(alloc, plain)?
+        .arg(option(alloc, "listen", "ADDR", listen, ValueParser::string()).required(true))?
+        .arg(option(alloc, "title", "TEXT", title, ValueParser::string()))?
+        .arg(option(alloc, "journal", "FILE", journal, ValueParser::string()))?
+        .arg(open)
 }
 
 /// Why the arguments give no order.
@@ -114,31 +114,19 @@ impl<'a> From<Mistake<'a>> for Refusal<'a> {
     }
 }
 
-/// Where browsers are to find it.
-fn listen_at<'a>(rt: &HostRuntime, found: &ArgMatches<'_>) -> Result<SocketAddr, Refusal<'a>> {
-    let address = address_at(rt, found, "listen")?;
-    if address.ip().is_unspecified() {
-        return Err(Refusal::Nameless);
-    }
-    if !address.ip().is_loopback() && !found.get_flag("open-network") {
-        return Err(Refusal::Open);
-    }
-    Ok(address)
-}
-
-/// The title of the sheets on paper.
-fn title_of<'a>(alloc: Global, found: &ArgMatches<'_>) -> Result<String, Mistake<'a>> {
-    match String::from_str(alloc, found.get_str("title").unwrap_or(TITLE)) {
-        Ok(title) => Ok(title),
-        Err(_) => Err(Mistake::NoMemory),
-    }
-}
-
 /// What the arguments ask for. The journal is opened last.
 fn order_of<'a>(rt: &HostRuntime, found: &ArgMatches<'a>) -> Result<Order, Refusal<'a>> {
     let hall = hall_of(rt, found)?;
-    let listen = listen_at(rt, found)?;
-    let title = title_of(rt.alloc(), found)?;
+    let listen = address_at(rt, found, "listen")?;
+    if listen.ip().is_unspecified() {
+        return Err(Refusal::Nameless);
+    }
+    if !listen.ip().is_loopback() && !found.get_flag("open-network") {
+        return Err(Refusal::Open);
+    }
+    let Ok(title) = String::from_str(rt.alloc(), found.get_str("title").unwrap_or(TITLE)) else {
+        return Err(Refusal::Wrong(Mistake::NoMemory));
+    };
     let path = found.get_str("journal").unwrap_or(JOURNAL);
     match open_journal(rt, path, 0) {
         Ok(journal) => Ok(Order {
@@ -149,19 +137,6 @@ fn order_of<'a>(rt: &HostRuntime, found: &ArgMatches<'a>) -> Result<Order, Refus
         }),
         Err(fault) => Err(Refusal::Journal(path, fault)),
     }
-}
-
-/// Says why the journal can't be used, and returns the status.
-fn tell_journal<F: Write>(faults: &mut F, path: &str, fault: FileFault) -> u8 {
-    let status = match fault {
-        FileFault::Unread(JournalFault::NoMemory) => {
-            return tell(faults, PROGRAM, "no memory", 5);
-        }
-        FileFault::Unread(JournalFault::Damaged { .. }) => 3,
-        FileFault::System | FileFault::InUse | FileFault::TooLong => 4,
-    };
-    let _ = writeln!(faults, "{PROGRAM}: {path}: {fault}");
-    status
 }
 
 /// Says why the arguments give no order, and returns the status.
@@ -176,7 +151,16 @@ fn tell_refusal<F: Write>(faults: &mut F, refusal: Refusal<'_>) -> u8 {
             let why = "--listen has to name the one address that browsers are to use";
             tell(faults, PROGRAM, why, 4)
         }
-        Refusal::Journal(path, fault) => tell_journal(faults, path, fault),
+        Refusal::Journal(_, FileFault::Unread(JournalFault::NoMemory)) => {
+            tell(faults, PROGRAM, "no memory", 5)
+        }
+        Refusal::Journal(path, fault) => {
+            let _ = writeln!(faults, "{PROGRAM}: {path}: {fault}");
+            match fault {
+                FileFault::Unread(_) => 3,
+                FileFault::System | FileFault::InUse | FileFault::TooLong => 4,
+            }
+        }
     }
 }
 
@@ -187,17 +171,35 @@ fn run_order<W: Write, F: Write>(
     writer: &mut W,
     faults: &mut F,
 ) -> u8 {
-    if order.journal.journal.cut {
-        let _ = writeln!(
-            faults,
-            "{PROGRAM}: the journal's last line was cut off: left out"
-        );
+    let alloc = rt.alloc();
+    let Order {
+        hall,
+        title,
+        listen,
+        journal,
+    } = order;
+    if journal.journal.cut {
+        let why = "the journal's last line was cut off: left out";
+        let _ = writeln!(faults, "{PROGRAM}: {why}");
     }
-    let sockets = match BrowserSockets::listen(rt, rt.alloc(), order.listen, MOST_BROWSERS) {
-        Ok(sockets) => sockets,
+    let mut config = Config::default();
+    config.limits.max_head_len = LONGEST_HEAD;
+    config.max_body_len = LONGEST_BODY;
+    let terms = Terms {
+        most: MOST_BROWSERS,
+        patience: PATIENCE,
+        config,
+    };
+    let browsers = match browsers_at(rt, alloc, listen, terms) {
+        Ok(browsers) => browsers,
         Err(error) => return tell_system(faults, PROGRAM, &error, "cannot listen"),
     };
-    match serve(rt, order, sockets, writer) {
+    let asked = Hall {
+        number: hall.hall,
+        addresses: &hall.desks,
+        key: hall.key,
+    };
+    match serve(rt, alloc, asked, title, journal, browsers, writer, faults) {
         Ok(End::Failed) => tell(faults, PROGRAM, "cannot go on", 4),
         Ok(End::Broken) => tell(faults, PROGRAM, BROKEN, 4),
         Err(error) => tell_system(faults, PROGRAM, &error, "cannot go on"),

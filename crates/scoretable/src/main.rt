@@ -3,19 +3,12 @@
 #![tactic(auto)]
 
 mod arguments;
-mod desks_side;
-mod drawing;
-mod hosts;
-mod journal_file;
-mod program;
-mod sending;
-mod serving;
 
 use arguments::run_given;
 use command_line::given;
 use hall_file::hall_options::tell_no_arguments;
-use program::PROGRAM;
 use std::process::ExitCode;
+use table_service::PROGRAM;
 
 fn main(rt: HostRuntime) -> ExitCode {
     let mut output = rt.stdout();

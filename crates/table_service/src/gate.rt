@@ -1,11 +1,10 @@
 //! Which requests are from the program's own pages.
 
 ghost use Rattle.std.specs.Prelude.{◌≡◌, codes, map, string_bytes};
-ghost use Rattle.table_service.specs.Gate.{are_hosts, are_origins, has_some, has_token, is_host};
+ghost use Rattle.table_service.specs.Gate.{are_hosts, are_origins, is_host};
 ghost use Rattle.table_service.specs.Gate.{is_origin, is_own, values_in};
 
 use bytes::Bytes;
-use card_forms::Pairs;
 use http::{Request, header};
 
 /// Whether a value is one of the hosts.
@@ -25,13 +24,6 @@ fn is_origin(hosts: &[String], value: &[u8]) -> bool
     ensures { result ≡ is_origin (map string_bytes hosts.now) value.now }
 {
     value.len() >= 7 && value.starts_with(b"http://") && is_host(hosts, &value[7..])
-}
-
-/// Whether a request names a host.
-fn names_host(request: &Request<Bytes>) -> bool
-    ensures { result ≡ has_some (values_in (codes "host") request.now) }
-{
-    request.headers().get(header::HOST).is_some()
 }
 
 /// Whether all hosts that a request names are the program's own.
@@ -65,12 +57,7 @@ fn origins_are_own(hosts: &[String], request: &Request<Bytes>) -> bool
 pub(crate) fn is_own(hosts: &[String], request: &Request<Bytes>) -> bool
     ensures { result ≡ is_own (map string_bytes hosts.now) request.now }
 {
-    names_host(request) && hosts_are_own(hosts, request) && origins_are_own(hosts, request)
-}
-
-/// Whether a form carries the token.
-pub(crate) fn has_token(pairs: &Pairs, token: &[u8]) -> bool
-    ensures { result ≡ has_token token.now pairs.now }
-{
-    pairs.value("token") == token
+    request.headers().get(header::HOST).is_some()
+        && hosts_are_own(hosts, request)
+        && origins_are_own(hosts, request)
 }

@@ -1,6 +1,6 @@
 //! Commands that are looked at before they are sent: from lines, or from a competition's file.
 
-ghost use Rattle.std.specs.Prelude.{◌≡◌, ◌++◌, ◌∷◌, [], IfOk, OnOk, get_or, length, map};
+ghost use Rattle.std.specs.Prelude.{◌≡◌, IfOk, get_or, length, map};
 ghost use Rattle.std.specs.Option.{option_copied};
 ghost use Rattle.table_service.specs.Lists.{LooksAt, Previews, paired, tried_as};
 ghost use Rattle.table_service.specs.Imports.{PlansFile, PlansImport, PlansParts, boundary_in};
@@ -23,20 +23,6 @@ use wcif::{CumulativeLimits, Options, SameNames};
 /// The page that commands are sent from.
 const PLACE: &[u8] = b"/import";
 
-/// Puts a text with its answer after the others.
-fn push_tried<'a>(
-    tried: &mut Vec<Tried<'a>>,
-    text: &'a CommandText,
-    answer: Answer,
-) -> Result<(), AllocError>
-    ensures { OnOk result (map tried_as tried.new.items
-        ≡ map tried_as tried.old.items ++ (text.now, answer) ∷ []) }
-{
-    let text = text.as_bytes();
-    tried.push(Tried { text, answer })?;
-    Ok(())
-}
-
 /// Each text with its answer.
 fn tried_of<'a>(
     alloc: Global,
@@ -48,7 +34,10 @@ fn tried_of<'a>(
 {
     let mut tried = Vec::new(alloc);
     for (place, text) in texts.iter().enumerate() {
-        push_tried(&mut tried, text, answers[place])?;
+        tried.push(Tried {
+            text: text.as_bytes(),
+            answer: answers[place],
+        })?;
     }
     Ok(tried)
 }

@@ -1,13 +1,11 @@
 //! What is to be done for a request of one of the program's own pages.
 
 ghost use Rattle.std.specs.Prelude.{◌≡◌, IfOk};
-ghost use Rattle.table_service.specs.Sent.{PlansOwn, PlansPairs, PlansPost, PlansSent};
-ghost use Rattle.table_service.specs.Sent.{PlansSentLines};
+ghost use Rattle.table_service.specs.Sent.{PlansOwn, PlansPost, PlansSent};
 ghost use Rattle.table_service.specs.Requests.{is_post, is_read};
 
 use crate::commanding::plan_command;
 use crate::entering::plan_card;
-use crate::gate::has_token;
 use crate::listing::plan_list;
 use crate::looking::{look, plan_import};
 use crate::plan::{Plan, Problem};
@@ -33,25 +31,6 @@ fn is_post(request: &Request<Bytes>) -> bool
     request.method().as_str() == "POST"
 }
 
-/// What is to be done for the pairs of lines that are sent to a path.
-fn plan_sent_lines(
-    alloc: Global,
-    queue: &CardQueue,
-    around: &Around<'_>,
-    path: &str,
-    pairs: &Pairs,
-) -> Result<Plan, AllocError>
-    ensures { IfOk result (PlansSentLines around.entry.now queue.now path.now pairs.now) }
-{
-    if path == "/commands" {
-        plan_list(alloc, queue, around, pairs)
-    } else if path == "/lines" {
-        look(alloc, around, pairs.value("lines"))
-    } else {
-        Ok(Plan::problem(Problem::Method))
-    }
-}
-
 /// What is to be done for the pairs that are sent to a path.
 fn plan_sent(
     alloc: Global,
@@ -66,25 +45,12 @@ fn plan_sent(
         plan_card(alloc, queue, around, pairs)
     } else if path == "/command" {
         plan_command(alloc, queue, around, pairs)
+    } else if path == "/commands" {
+        plan_list(alloc, queue, around, pairs)
+    } else if path == "/lines" {
+        look(alloc, around, pairs.value("lines"))
     } else {
-        plan_sent_lines(alloc, queue, around, path, pairs)
-    }
-}
-
-/// What is to be done for a form of pairs that is sent.
-fn plan_pairs(
-    alloc: Global,
-    queue: &CardQueue,
-    around: &Around<'_>,
-    request: &Request<Bytes>,
-) -> Result<Plan, AllocError>
-    ensures { IfOk result (PlansPairs around.entry.now queue.now request.now) }
-{
-    let pairs = Pairs::read(alloc, request.body())?;
-    if has_token(&pairs, around.token) {
-        plan_sent(alloc, queue, around, request.uri().path(), &pairs)
-    } else {
-        Ok(Plan::problem(Problem::Foreign))
+        Ok(Plan::problem(Problem::Method))
     }
 }
 
@@ -97,10 +63,15 @@ fn plan_post(
 ) -> Result<Plan, AllocError>
     ensures { IfOk result (PlansPost around.entry.now queue.now request.now) }
 {
-    if request.uri().path() == "/import" {
-        plan_import(alloc, around, request)
+    let path = request.uri().path();
+    if path == "/import" {
+        return plan_import(alloc, around, request);
+    }
+    let pairs = Pairs::read(alloc, request.body())?;
+    if pairs.value("token") == around.token {
+        plan_sent(alloc, queue, around, path, &pairs)
     } else {
-        plan_pairs(alloc, queue, around, request)
+        Ok(Plan::problem(Problem::Foreign))
     }
 }
 

@@ -2,7 +2,7 @@
 
 ghost use Rattle.std.specs.Prelude.{◌≡◌, IfOk};
 ghost use Rattle.table_service.specs.Asked.{asked_at, card_asked, fixed, in_folder, number_below};
-ghost use Rattle.table_service.specs.Asked.{round_below, rounds_asked};
+ghost use Rattle.table_service.specs.Asked.{round_below};
 
 use card_forms::{Pairs, number_of, round_of};
 use std::alloc::{AllocError, Global};
@@ -81,14 +81,6 @@ fn fixed(path: &[u8]) -> Option<Asked>
     }
 }
 
-/// The page that opens and closes rounds, for a query.
-fn rounds_asked(alloc: Global, query: &[u8]) -> Result<Asked, AllocError>
-    ensures { IfOk result (λ asked. asked ≡ rounds_asked query.now) }
-{
-    let pairs = Pairs::read(alloc, query)?;
-    Ok(Asked::Page(View::Rounds(round_of(pairs.value("round")))))
-}
-
 /// The page of a card of a round, for a query.
 fn card_asked(alloc: Global, query: &[u8], round: RoundId) -> Result<Asked, AllocError>
     ensures { IfOk result (λ asked. asked ≡ card_asked query.now round) }
@@ -133,8 +125,9 @@ pub(crate) fn asked_at(
         return Ok(Some(asked));
     }
     if path == b"/rounds".as_slice() {
-        let asked = rounds_asked(alloc, query)?;
-        return Ok(Some(asked));
+        let pairs = Pairs::read(alloc, query)?;
+        let round = round_of(pairs.value("round"));
+        return Ok(Some(Asked::Page(View::Rounds(round))));
     }
     in_folder(alloc, path, query)
 }

@@ -3,7 +3,7 @@
 ghost use Rattle.std.specs.Prelude.{◌≡◌, ◌++◌, ◌∷◌, [], IsTrue, OnOk};
 ghost use Rattle.http_header.specs.FieldValue.{is_visible_text};
 ghost use Rattle.http_server.specs.Response.{IsBlank, fields_of};
-ghost use Rattle.table_service.specs.Replies.{IsProblem, Sees, Writes, kind, line_of, security};
+ghost use Rattle.table_service.specs.Replies.{IsProblem, Writes, kind, line_of, security};
 ghost use Rattle.table_service.specs.Replies.{status_of};
 
 use crate::plan::{Problem, Reply, Shown};
@@ -89,32 +89,6 @@ pub(crate) fn tell_problem(response: &mut Response, problem: Problem) -> Result<
     )
 }
 
-/// A page.
-fn tell_page(response: &mut Response, status: Shown, page: Vec<u8>) -> Result<(), AllocError>
-    requires { IsBlank response.old }
-    ensures { OnOk result (Writes (Reply.Html status page) response.new) }
-{
-    response.status = match status {
-        Shown::Asked => StatusCode::OK,
-        Shown::Wrong => StatusCode::UNPROCESSABLE_ENTITY,
-    };
-    tell(response, "text/html; charset=utf-8", Bytes::from_vec(page)?)
-}
-
-/// Where to go on.
-fn see(response: &mut Response, location: Vec<u8>) -> Result<(), AllocError>
-    requires { IsBlank response.old }
-    ensures { OnOk result (Sees location.items response.new) }
-{
-    response.status = StatusCode::SEE_OTHER;
-    secure(response)?;
-    match HeaderValue::from_vec(location) {
-        Ok(location) => response.add_header(header::LOCATION, location),
-        Err(HeaderValueError::OutOfMemory) => Err(AllocError),
-        Err(HeaderValueError::Invalid) => Ok(()),
-    }
-}
-
 /// Fills a response.
 pub(crate) fn write(response: &mut Response, reply: Reply) -> Result<(), AllocError>
     requires { IsBlank response.old }
@@ -122,7 +96,13 @@ pub(crate) fn write(response: &mut Response, reply: Reply) -> Result<(), AllocEr
 {
     match reply {
         Reply::Text(problem) => tell_problem(response, problem),
-        Reply::Html { status, page } => tell_page(response, status, page),
+        Reply::Html { status, page } => {
+            response.status = match status {
+                Shown::Asked => StatusCode::OK,
+                Shown::Wrong => StatusCode::UNPROCESSABLE_ENTITY,
+            };
+            tell(response, "text/html; charset=utf-8", Bytes::from_vec(page)?)
+        }
         Reply::Style => tell(
             response,
             "text/css; charset=utf-8",
@@ -133,6 +113,14 @@ pub(crate) fn write(response: &mut Response, reply: Reply) -> Result<(), AllocEr
             "text/javascript; charset=utf-8",
             Bytes::from_static(script().as_bytes()),
         ),
-        Reply::SeeOther { location } => see(response, location),
+        Reply::SeeOther { location } => {
+            response.status = StatusCode::SEE_OTHER;
+            secure(response)?;
+            match HeaderValue::from_vec(location) {
+                Ok(location) => response.add_header(header::LOCATION, location),
+                Err(HeaderValueError::OutOfMemory) => Err(AllocError),
+                Err(HeaderValueError::Invalid) => Ok(()),
+            }
+        }
     }
 }

@@ -1,5 +1,12 @@
 //! What a score table is told when it is started.
 
+ghost use Rattle.std.specs.Prelude.{◌≡◌, IfOk};
+
+use std::alloc::Global;
+use std::io;
+use std::net::SocketAddr;
+use std::random::RandomSource;
+
 /// What a score table is told when it is started.
 #[derive(Drop)]
 pub struct Setup {
@@ -11,4 +18,36 @@ pub struct Setup {
     /// What each form carries so that it is taken: drawn at random, so that no foreign page knows
     /// it.
     pub token: String,
+}
+
+impl Setup {
+    /// That of a table at this address: on this machine, its name is a host too. The token is 128
+    /// random bits.
+    pub fn new<R: RandomSource>(
+        source: &R,
+        alloc: Global,
+        address: SocketAddr,
+        title: String,
+    ) -> io::Result<Setup>
+        ensures { IfOk result (λ s. s.title ≡ title) }
+    {
+        let mut hosts = Vec::new(alloc);
+        hosts.push(format!(in alloc; "{address}")?)?;
+        if address.ip().is_loopback() {
+            let port = address.port();
+            hosts.push(format!(in alloc; "localhost:{port}")?)?;
+        }
+        let mut first = [0; 8];
+        let mut last = [0; 8];
+        source.fill_bytes(&mut first)?;
+        source.fill_bytes(&mut last)?;
+        let first = u64::from_be_bytes(first);
+        let last = u64::from_be_bytes(last);
+        let token = format!(in alloc; "{first:016x}{last:016x}")?;
+        Ok(Setup {
+            title,
+            hosts,
+            token,
+        })
+    }
 }

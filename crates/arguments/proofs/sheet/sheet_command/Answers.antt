@@ -1,10 +1,14 @@
-use Rattle.std.proofs.Common.{◌∙◌, ap, Some, codes}
+use Rattle.std.proofs.Common.{codes}
 use Rattle.std.proofs.lemmas.Result.{IfOk-weaker}
-use Rattle.arguments.specs.Arguments.{last_value_rule}
-use Rattle.replay_arguments.proofs.Building.{added, added_last}
+use Rattle.replay_arguments.proofs.Building.{added}
+use Rattle.clap.specs.Words.{App, with_rule}
+use Rattle.arguments.specs.Arguments.{csv_rule, last_value_rule, numbers}
+use Rattle.arguments.specs.Tables.{described_app, with_arguments}
+use Rattle.arguments.proofs.Tables.{grown}
 use Rattle.arguments.proofs.sheet.sheet_command.Goals as goal
 
 pub returns : goal.returns
+unfolding described_app with_arguments
 returns c =
     let event = c.event_value.ensures.rule in
     let round = c.round_value.ensures.rule in
@@ -15,14 +19,12 @@ returns c =
     let two =
     added c.in_ok-command-2.command c.in_ok-command-3.command _ c.round_value.result _ one round.2
     c.in_ok-command-3.ensures.app c.in_ok-command-3.ensures.local in
-    let three =
-    added c.in_ok-command-3.command c.in_ok-command-4.command _ c.last_value-position.result _ two
-    (c.last_value-position.ensures.rule
-    ∙ ap (λ p. last_value_rule (codes "position") (Some p)) c.unsigned.ensures)
-    c.in_ok-command-4.ensures.app c.in_ok-command-4.ensures.local in
-    IfOk-weaker c.with_argument-4.result _ _ (λ command made. (
+    let last : App → App =
+    λ app. with_rule (with_rule app (last_value_rule (codes "position") (numbers 0 4294967295)))
+    csv_rule in
+    IfOk-weaker c.with_arguments.result _ _ (λ command made. (
       record { events = event.0; rounds = round.0; named = event.1; numbered = round.1 },
       made,
     ))
-    (added_last c.with_argument-4.result c.in_ok-command-4.command _ c.csv_flag.result _ three
-    c.csv_flag.ensures.rule c.with_argument-4.ensures.app c.with_argument-4.ensures.local)
+    (grown c.with_arguments.result c.in_ok-command-3.command _ last two
+    c.with_arguments.ensures.app c.with_arguments.ensures.local)

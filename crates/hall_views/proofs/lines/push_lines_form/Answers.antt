@@ -8,9 +8,9 @@ use Rattle.hall_views.proofs.lines.push_lines_form.Goals as goal
 pub returns : goal.returns
 unfolding lines_form
 returns c =
-    on_ok_weaker c.push_lines_rest.result
+    on_ok_weaker c.push_pieces.result
     (three_parts c.args.out.now.items
     (codes "<form method=\"post\" action=\"/commands\" autocomplete=\"off\">\n")
     (hidden c.args.token.now c.args.id)
     (lines_rest c.args.back.now c.args.lines.now c.args.words.now) _ _ _
-    c.in_ok-extend_from_slice.ensures.items c.in_ok-push_hidden.ensures) c.push_lines_rest.ensures
+    c.in_ok-extend_from_slice.ensures.items c.in_ok-push_hidden.ensures) c.push_pieces.ensures

@@ -16,7 +16,7 @@ adds_section around proposed first old new is =
     (section around proposed, (proposed, first, refl), is)
 
 pub returns : goal.returns
-unfolding section
+unfolding section section_start
 returns c =
     let out = c.args.out.now.items in
     let around = c.args.around.now in
@@ -32,13 +32,13 @@ returns c =
     let all = competitors accepted 9999 in
     let head =
     codes "<table><thead><tr><th>number</th><th>name</th><th>events</th></tr></thead><tbody>\n" in
-    on_ok_weaker c.extend_from_slice-2.result (adds_section around proposed first out _)
-    (on_ok_weaker c.extend_from_slice-2.result
+    on_ok_weaker c.extend_from_slice-3.result (adds_section around proposed first out _)
+    (on_ok_weaker c.extend_from_slice-3.result
     (six_parts out section_start registers enters head all
     (codes "</tbody></table></section>\n") _ _ _ _ _ _
-    c.in_ok-push_section_start.ensures
+    c.in_ok-extend_from_slice.ensures.items
     (c.in_ok-push_registering.ensures
-    ∙ ap (λ (form : ℕ). c.push_section_start.new.out.items ++ registering token form proposed)
+    ∙ ap (λ (form : ℕ). c.extend_from_slice.new.self.items ++ registering token form proposed)
     c.id_at.ensures)
     (c.in_ok-push_entering.ensures
     ∙ ap
@@ -47,9 +47,9 @@ returns c =
     c.meet-meet.ensures
     ∙ ap (λ (form : ℕ). c.push_registering.new.out.items ++ entering accepted token form)
     c.id_at-2.ensures)
-    c.in_ok-extend_from_slice.ensures.items
+    c.in_ok-extend_from_slice-2.ensures.items
     (c.in_ok-push_competitors.ensures
     ∙ ap
-    (λ (h : History). c.extend_from_slice.new.self.items ++ competitors h.accepted 9999)
+    (λ (h : History). c.extend_from_slice-2.new.self.items ++ competitors h.accepted 9999)
     c.meet-meet.ensures))
-    (when_ok _ _ _ _ c.extend_from_slice-2.ensures.items))
+    (when_ok _ _ _ _ c.extend_from_slice-3.ensures.items))

@@ -19,10 +19,10 @@ returns c =
     on_ok_weaker c.extend_from_slice-2.result
     (five_parts out (person_head number name) (flat_map (entered_in accepted number) all_events)
     (codes "</p>\n") (mending_or_edition around number name) (codes "</section>\n") _ _ _ _ _
-    c.in_ok-push_head.ensures
+    c.in_ok-push_pieces.ensures
     (c.in_ok-push_entered.ensures
     ∙ ap
-    (λ (h : History). c.push_head.new.out.items
+    (λ (h : History). c.push_pieces.new.out.items
     ++ flat_map (entered_in h.accepted number) all_events) c.meet.ensures)
     c.in_ok-extend_from_slice.ensures.items c.in_ok-push_mending_or_edition.ensures)
     (when_ok _ _ _ _ c.extend_from_slice-2.ensures.items)

@@ -1,0 +1,28 @@
+use Rattle.std.proofs.Common.{◌∙◌, Bool, codes, refl, subst, sym}
+use Rattle.clap.specs.Words.{found_of, rows_of}
+use Rattle.clap.proofs.WalkLemmas.{raw_values-rows}
+use Rattle.arguments.specs.Arguments.{IsFlag}
+use Rattle.arguments.proofs.serve.serve_of.Goals as goal
+
+pub returns : goal.returns
+returns c =
+    let f = found_of c.args.found.now in
+    let given : Bool → Type 0 = λ is_set. IsFlag (codes "new") (rows_of f) is_set in (
+      refl,
+      record {
+        hall = c.in_ok-hall.ensures;
+        desk = c.in_ok-desk.ensures;
+        store = c.in_ok-store.ensures;
+        making = refl;
+        patience = c.in_ok-patience.ensures;
+        connections = c.in_ok-connections.ensures;
+        wire = c.in_ok-wire.ensures;
+        tick = c.in_ok-tick-2.ensures;
+        quiet = c.flag_at-quiet.ensures;
+        key = c.given_text-key.ensures;
+        entry_key = c.given_text-entry_key.ensures;
+        open_sheets = c.flag_at-open_sheets.ensures;
+        addresses = sym (raw_values-rows f (codes "addr")) ∙ sym c.in_ok-addresses.ensures;
+      },
+      subst given c.if-makes.false c.flag_at-makes.ensures,
+    )

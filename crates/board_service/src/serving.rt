@@ -1,0 +1,86 @@
+//! The board: browsers are answered, and the mirror is kept up, as sockets become ready.
+
+use crate::service::BoardService;
+use desk_sockets::{DeskStream, Kept};
+use hall_standings::{AskedDesks, AskedStream, Hall, count_desks, stream_to};
+use mirroring::Mirroring;
+use page_sockets::{BrowserSockets, address_of, registry_of, round, say_where};
+use pages::Browsers;
+use std::alloc::Global;
+use std::io;
+use std::io::Write;
+use std::net::Net;
+use std::random::RandomSource;
+use std::time::Clock;
+
+/// The name of the program.
+pub const PROGRAM: &str = "board";
+
+/// Milliseconds that sockets are waited for at most.
+const LONGEST_WAIT: u64 = 250;
+
+/// Why the board ended.
+#[derive(Clone, Copy, PartialEq, Eq, Debug)]
+pub enum End {
+    /// The system doesn't tell what is ready any more.
+    Failed,
+    /// Two desks of the hall told different entries for one position.
+    Broken,
+}
+
+/// Serves until it can't go on, over the connection to the desk that is asked for its log, and
+/// those to the desks that are asked how they stand. Says what is wrong with their keys.
+fn serve_on<R: Net + RandomSource + Clock + Drop, F: Write>(
+    browsers: &mut Browsers<BrowserSockets<'_, R>>,
+    service: &mut BoardService,
+    followed: &mut DeskStream<'_, R>,
+    asked: &mut Vec<AskedStream<'_, R>>,
+    faults: &mut F,
+) -> End {
+    let mut now = 0;
+    for _round in 0..u64::MAX {
+        let wait = service.wait(now).min(LONGEST_WAIT);
+        let Some(after) = round(browsers, service, wait) else {
+            return End::Failed;
+        };
+        now = after;
+        for place in 0..asked.len() {
+            if let Some(one) = asked.get_mut(place) {
+                service.keep_desk(place, &mut one.stream, now);
+                one.tell(faults, PROGRAM);
+            }
+        }
+        if service.keep(followed, now) == Kept::Broken {
+            return End::Broken;
+        }
+    }
+    End::Failed
+}
+
+/// Says where it listens, and serves the pages of a hall under this title to these browsers until
+/// it can't go on. What is wrong with the key of a desk is said on a line of `faults`.
+pub fn serve<'a, R: Net + RandomSource + Clock + Drop, W: Write, F: Write>(
+    runtime: &'a R,
+    alloc: Global,
+    hall: Hall<'_>,
+    title: String,
+    browsers: &mut Browsers<BrowserSockets<'a, R>>,
+    writer: &mut W,
+    faults: &mut F,
+) -> io::Result<End> {
+    let address = address_of(browsers)?;
+    let registry = registry_of(browsers)?;
+    let AskedDesks { desks, mut streams } = AskedDesks::new(
+        runtime,
+        alloc,
+        &registry,
+        hall.number,
+        hall.addresses,
+        hall.key,
+    )?;
+    let mut followed = stream_to(runtime, alloc, &registry, 0, hall.addresses, hall.key)?;
+    let mirroring = Mirroring::new(alloc, hall.number, count_desks(hall.addresses))?;
+    let mut service = BoardService::new(alloc, title, mirroring, desks)?;
+    say_where(address, PROGRAM, writer)?;
+    Ok(serve_on(browsers, &mut service, &mut followed, &mut streams, faults))
+}

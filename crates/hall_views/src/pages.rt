@@ -1,0 +1,40 @@
+//! What each page begins and ends with.
+
+ghost use Rattle.std.specs.Prelude.{◌≡◌, ◌++◌, IfOk, OnOk, codes, length};
+ghost use Rattle.table_views.specs.Frame.{bottom, top};
+ghost use Rattle.table_views.specs.Logs.{accepted_in};
+ghost use Rattle.table_views.specs.Recent.{recent_section};
+
+use acceptor::NoMemory;
+use std::alloc::Global;
+use table_views::{Around, push_bottom, push_recent, push_top};
+
+/// A page of this title, up to its sections.
+pub(crate) fn start_page(
+    alloc: Global,
+    around: &Around<'_>,
+    title: &[u8],
+) -> Result<Vec<u8>, NoMemory>
+    ensures { IfOk result (λ page. page.items ≡ top (codes "hall") title.now
+        around.entry.now.desks.now (length around.entry.now.mirror.now)) }
+{
+    let mut page = Vec::new(alloc);
+    push_top(&mut page, around.desks, around.mirror.len(), b"hall", title)?;
+    Ok(page)
+}
+
+/// Adds the cards and commands of late, and the end of the page.
+pub(crate) fn push_end(page: &mut Vec<u8>, around: &Around<'_>) -> Result<(), NoMemory>
+    ensures { OnOk result (page.new.items ≡ page.old.items
+        ++ recent_section (accepted_in around.entry.now.mirror.now) around.entry.now.desks.now
+        around.entry.now.now around.entry.now.recent.now ++ bottom) }
+{
+    push_recent(
+        page,
+        around.mirror.meet(),
+        around.desks,
+        around.now,
+        around.recent,
+    )?;
+    push_bottom(page)
+}

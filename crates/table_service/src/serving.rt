@@ -1,0 +1,93 @@
+//! The loop: browsers are answered, the mirror is kept up, and what was entered is submitted, as
+//! sockets become ready.
+
+use crate::desks_side::{DesksSide, PROGRAM};
+use crate::drawing::drawn_ids;
+use crate::journal_file::{JournalFile, Opened};
+use crate::keeper::Keeper;
+use crate::service::TableService;
+use crate::setup::Setup;
+use hall_standings::{Hall, count_desks};
+use mirroring::Mirroring;
+use page_sockets::{BrowserSockets, address_of, registry_of, round, say_where};
+use pages::Browsers;
+use std::alloc::Global;
+use std::io;
+use std::io::Write;
+use std::net::{Net, SocketAddr};
+use std::random::RandomSource;
+use std::time::Clock;
+
+/// Why the score table ended.
+#[derive(Clone, Copy, PartialEq, Eq, Debug)]
+pub enum End {
+    /// The system doesn't tell what is ready any more.
+    Failed,
+    /// Two desks of the hall told different entries for one position.
+    Broken,
+}
+
+/// Says where it listens, and serves until it can't go on. Pages are given ids for their forms as
+/// they use them up.
+fn serve_on<K: Keeper, R: Net + RandomSource + Clock + Drop, W: Write, F: Write>(
+    runtime: &R,
+    browsers: &mut Browsers<BrowserSockets<'_, R>>,
+    service: &mut TableService<K>,
+    side: &mut DesksSide<'_, R>,
+    writer: &mut W,
+    faults: &mut F,
+) -> io::Result<End> {
+    say_where(address_of(browsers)?, PROGRAM, writer)?;
+    let mut now = 0;
+    for _round in 0..u64::MAX {
+        for _set in 0..service.wants() {
+            let ids = drawn_ids(runtime)?;
+            service.give(ids)?;
+        }
+        let wait = side.wait(service, now);
+        let Some(after) = round(browsers, service, wait) else {
+            return Ok(End::Failed);
+        };
+        now = after;
+        service.set_time(now);
+        if !side.keep(service, now, faults)? {
+            return Ok(End::Broken);
+        }
+    }
+    Ok(End::Failed)
+}
+
+/// The service of the pages of a hall under this title, over a journal.
+fn service_of<R: RandomSource>(
+    runtime: &R,
+    alloc: Global,
+    hall: Hall<'_>,
+    address: SocketAddr,
+    title: String,
+    opened: Opened,
+) -> io::Result<TableService<JournalFile>> {
+    let setup = Setup::new(runtime, alloc, address, title)?;
+    let mirroring = Mirroring::new(alloc, hall.number, count_desks(hall.addresses))?;
+    let Opened { journal, file } = opened;
+    let queue = journal.queue;
+    Ok(TableService::new(alloc, setup, mirroring, queue, file))
+}
+
+/// Says where it listens, and serves the pages of a hall under this title, over this journal, to
+/// these browsers until it can't go on. What is wrong with the key of a desk is said on a line of
+/// `faults`.
+pub fn serve<'a, R: Net + RandomSource + Clock + Drop, W: Write, F: Write>(
+    runtime: &'a R,
+    alloc: Global,
+    hall: Hall<'_>,
+    title: String,
+    opened: Opened,
+    browsers: &mut Browsers<BrowserSockets<'a, R>>,
+    writer: &mut W,
+    faults: &mut F,
+) -> io::Result<End> {
+    let address = address_of(browsers)?;
+    let mut service = service_of(runtime, alloc, hall, address, title, opened)?;
+    let mut side = DesksSide::new(runtime, alloc, &registry_of(browsers)?, hall)?;
+    serve_on(runtime, browsers, &mut service, &mut side, writer, faults)
+}
