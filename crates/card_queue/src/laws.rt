@@ -3,8 +3,8 @@
 ghost use Rattle.card_queue.specs.Laws.{IdsAreApart, IdsDiffer, IdsSayOneText};
 ghost use Rattle.card_queue.specs.Laws.{NothingLost, ReadsBack, TakesOnce};
 
-/// A law: where an item was queued, another one of the same form changes nothing: a form that is
-/// sent twice counts once.
+/// A law: where an item was queued, and the next that comes has the same id, the queue is left as
+/// it was: a form that is sent twice in a row waits once.
 pub fn taken_once()
     ensures { TakesOnce }
 {}

@@ -8,8 +8,8 @@ use wire::laws::one_spelling_each;
 /// whatever comes after it on the connection, it is the delivery of exactly that message. A run of
 /// decided entries is the delivery of a Decided for each of them.
 ///
-/// So that a delivered message was sent is said of bytes: what the two tables make, the one from
-/// messages to frames and the one from frames to what they ask, is the message that went in.
+/// This is of the bytes of one frame and of what comes after them, not of a connection: that the
+/// bytes which a desk reads are those which another one wrote is trusted.
 pub fn messages_arrive()
     ensures messages { MessagesArrive }
     ensures runs { RunsArrive }

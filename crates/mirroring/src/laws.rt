@@ -2,10 +2,10 @@
 
 ghost use Rattle.mirroring.specs.Histories.{HoldsWhatWasAnswered};
 
-/// Whatever calls were made, in whatever order, and whatever bytes came: what is held is what desks
-/// of the hall answered when they were asked for their logs, each answer taken as
-/// `mirror::Mirror::take` takes entries, one after the other, beginning with none. So nothing is
-/// held that no desk answered, and what `mirror` and `mirror_laws` say of a mirror holds of it.
+/// Whatever calls were made, in whatever order, and whatever bytes came: what is held was made by
+/// taking runs of entries one after the other, as `mirror::Mirror::take` takes them, beginning with
+/// none. Each run is one that a frame tells which answers the question for a desk's log. That a
+/// desk of the hall wrote the frame is no part of this: it came on a connection to its address.
 pub fn holds_what_was_answered()
     ensures { HoldsWhatWasAnswered }
 {}

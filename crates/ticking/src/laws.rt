@@ -31,8 +31,9 @@ pub fn keeps_time()
         KeepsTime t moment quiet l }
 {}
 
-/// No desk that is looked at forgets to tick. Over looks that see nothing new, of which the last is
-/// 32 periods or more after the last Tick or the last look that saw something new, a Tick is taken.
+/// Over looks that see nothing new, of which the last is 32 periods or more after the last Tick
+/// before them, after the last look that saw something new, or after the ticker was made, a Tick is
+/// taken.
 pub fn ticks_in_time()
     ensures { (t : Ticking) (moment : ℕ) (looks : List Look) (last : Look) →
         TicksInTime t moment looks last }

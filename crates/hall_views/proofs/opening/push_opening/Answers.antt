@@ -2,7 +2,8 @@ use Rattle.std.proofs.Common.{List, None, ap, codes, ℕ, ◌++◌, ◌∙◌}
 use Rattle.std.proofs.lemmas.Result.{on_ok_weaker}
 use Rattle.markup.proofs.board_page.Steps.{five_parts, two_parts}
 use Rattle.hall_views.specs.Forms.{button, form_start, path_of, round_value}
-use Rattle.hall_views.specs.Opening.{advance_fields, opening, opening_fields, opening_head, rule_fields}
+use Rattle.hall_views.specs.Opening.{advance_fields, opening, opening_fields, opening_head}
+use Rattle.hall_views.specs.Opening.{rule_fields}
 use Rattle.hall_views.proofs.opening.push_opening.Goals as goal
 
 pub returns : goal.returns

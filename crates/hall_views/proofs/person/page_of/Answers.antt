@@ -14,4 +14,5 @@ returns c =
     c.in_ok-push_end.ensures
     ∙ ap (λ (before : List ℕ). before ++ recent ++ bottom)
     (c.in_ok-push_section.ensures
-    ∙ ap (λ (before : List ℕ). before ++ person_section around c.args.number c.args.name.now) c.in_ok-page.ensures)
+    ∙ ap (λ (before : List ℕ). before ++ person_section around c.args.number c.args.name.now)
+    c.in_ok-page.ensures)

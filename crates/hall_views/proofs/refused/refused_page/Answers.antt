@@ -7,6 +7,8 @@ use Rattle.hall_views.proofs.refused.refused_page.Goals as goal
 pub returns : goal.returns
 returns c =
     let around = c.args.around.now in
-    three_parts [] (top (codes "hall") (codes "Not sent") around.desks.now (length around.mirror.now))
-    (refusal c.args.back.now c.args.why.now) bottom _ _ _ c.in_ok-page.ensures c.in_ok-push_refusal.ensures
+    three_parts [] (top (codes "hall") (codes "Not sent")
+    around.desks.now (length around.mirror.now))
+    (refusal c.args.back.now c.args.why.now) bottom _ _ _ c.in_ok-page.ensures
+    c.in_ok-push_refusal.ensures
     c.in_ok-push_bottom.ensures
