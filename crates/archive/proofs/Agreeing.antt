@@ -18,7 +18,7 @@ use Rattle.texts.specs.Fields.{cut}
 use Rattle.texts.specs.Reading.{command_of, SpellsWhatIsRead}
 use Rattle.commands.specs.History.{History, nothing, history, after, is_seen, answer_of, answer_to}
 use Rattle.commands.specs.History.{read_refusal, added_read, SeesEachId}
-use Rattle.commands.proofs.Entries.{after_seen, answer_new}
+use Rattle.commands.proofs.Entries.{accepted_new, after_seen, answer_new}
 use Rattle.lines.specs.Lines.{is_line}
 use Rattle.archive.specs.Archive.{has_id, line_of, lines_behind, archive}
 use Rattle.archive.proofs.Feeds.{command_is_line}
@@ -136,11 +136,6 @@ refusal_in h text = read_refusal h.accepted (command_of text)
 abbrev accepted_in : History → List ℕ → List Command
 accepted_in h text = added_read (refusal_in h text) (command_of text)
 
-accepted-new : (h : History) (id : ℕ) (text : List ℕ) → is_seen h id ≡ false
-    → (after h id text).accepted ≡ h.accepted ++ accepted_in h text
-unfolding after
-accepted-new h id text new = rw new refl
-
 -- what is no command is refused as Unread, and adds nothing
 abbrev IsUnread : History → List ℕ → Type 0
 IsUnread h text = (refusal_in h text ≡ Some code.Unread) × (accepted_in h text ≡ [])
@@ -161,7 +156,7 @@ feed-unread spells h text feed = step (command_of text) refl
 unread-accepted : (h : History) (id : ℕ) (text : List ℕ) → is_seen h id ≡ false → IsUnread h text
     → (after h id text).accepted ≡ h.accepted
 unread-accepted h id text new unread =
-    accepted-new h id text new
+    accepted_new h id text new
     ∙ ap (λ (cs : List Command). h.accepted ++ cs) unread.1
     ∙ append-nil h.accepted
 
@@ -186,11 +181,11 @@ agree-seen h g id n text seen new same = (
 agree-plain : (h g : History) (id n : ℕ) (text : List ℕ) → is_seen h id ≡ false
     → is_seen g n ≡ false → g.accepted ≡ h.accepted → Agree false h g id n text text
 agree-plain h g id n text fresh new same = (
-  accepted-new g n text new
+  accepted_new g n text new
       ∙ ap
       (λ (cs : List Command).
       cs ++ added_read (read_refusal cs (command_of text)) (command_of text)) same
-      ∙ sym (accepted-new h id text fresh),
+      ∙ sym (accepted_new h id text fresh),
   answer_new g n text new
       ∙ ap (λ (cs : List Command). answer_of (read_refusal cs (command_of text))) same
       ∙ sym (answer_new h id text fresh),

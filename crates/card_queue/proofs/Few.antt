@@ -14,7 +14,7 @@ use Rattle.attempts.specs.declared.Value.{Value}
 use Rattle.formats.specs.declared.events.Event.{Event}
 use Rattle.formats.specs.Events.{same_event}
 use Rattle.formats.proofs.SameEvent.{same_event-equal}
-use Rattle.rounds.specs.Tables.{Entrant, Table, allotted, has_number, next_fault, plus_value}
+use Rattle.rounds.specs.Tables.{Entrant, Table, allotted, changed_of, has_number, next_fault}
 use Rattle.rounds.specs.Tables.{replaced, without_last}
 use Rattle.rounds.specs.declared.fault.PutFault.TheVariants as put
 use Rattle.texts.specs.declared.answer.Code.{Code}
@@ -44,7 +44,9 @@ use Rattle.commands.proofs.EachCommand.{round_correct, round_edition, round_ente
 use Rattle.commands.proofs.EachCommand.{round_register, round_rename, round_reopen}
 use Rattle.commands.proofs.EachCommand.{round_rescramble, round_scramble, round_settings}
 use Rattle.commands.proofs.EachCommand.{round_strike}
+use Rattle.commands.proofs.Entries.{accepted_new, after_seen}
 use Rattle.commands.proofs.Exits.{round_exit}
+use Rattle.commands.proofs.Known.{read_fit}
 use Rattle.commands.proofs.OneMore.{with_table}
 
 abbrev pub IsFewEntrant : Entrant → Type 0
@@ -61,12 +63,8 @@ HasFew cs = (e : Event) (r : ℕ) → IfSome (round_of cs e r) IsFewRound
 
 -- ---- entrants
 
--- the values of an entrant of this number are changed
-abbrev with_changed : ℕ → (List Value → List Value) → Entrant → Entrant
-with_changed m change x = cond (has_number m x) (record x { values = change x.values }) x
-
 same_number : (n m : ℕ) (change : List Value → List Value) (x : Entrant)
-    → has_number n (with_changed m change x) ≡ has_number n x
+    → has_number n (changed_of m change x) ≡ has_number n x
 same_number n m change x = step (has_number m x)
   where
     step : (b : Bool)
@@ -75,22 +73,22 @@ same_number n m change x = step (has_number m x)
     step false = refl
 
 find_changed : (n m : ℕ) (change : List Value → List Value) (es : List Entrant)
-    → find (has_number n) (map (with_changed m change) es)
-    ≡ option_map (with_changed m change) (find (has_number n) es)
+    → find (has_number n) (map (changed_of m change) es)
+    ≡ option_map (changed_of m change) (find (has_number n) es)
 find_changed n m change [] = refl
 find_changed n m change (x ∷ es) =
     ap
     (λ b.
-    cond b (Some (with_changed m change x)) (find (has_number n) (map (with_changed m change) es)))
+    cond b (Some (changed_of m change x)) (find (has_number n) (map (changed_of m change) es)))
     (same_number n m change x)
     ∙ step (has_number n x) (find_changed n m change es)
   where
     step : (b : Bool)
-        → find (has_number n) (map (with_changed m change) es)
-        ≡ option_map (with_changed m change) (find (has_number n) es)
-        → cond b (Some (with_changed m change x))
-        (find (has_number n) (map (with_changed m change) es))
-        ≡ option_map (with_changed m change) (cond b (Some x) (find (has_number n) es))
+        → find (has_number n) (map (changed_of m change) es)
+        ≡ option_map (changed_of m change) (find (has_number n) es)
+        → cond b (Some (changed_of m change x))
+        (find (has_number n) (map (changed_of m change) es))
+        ≡ option_map (changed_of m change) (cond b (Some x) (find (has_number n) es))
     step true rest = refl
     step false rest = rest
 
@@ -108,7 +106,7 @@ module _ (m : ℕ) (change : List Value → List Value) (es : List Entrant)
     (each : (e : Entrant) → find (has_number m) es ≡ Some e → IsFewEntrant e
     → length (change e.values) ≤ 5) where
   changed_one : (n : ℕ) (e : Entrant) → find (has_number n) es ≡ Some e → IsFewEntrant e
-      → IsFewEntrant (with_changed m change e)
+      → IsFewEntrant (changed_of m change e)
   changed_one n e found few = step (has_number m e) refl
     where
       step : (b : Bool) → has_number m e ≡ b
@@ -120,13 +118,13 @@ module _ (m : ℕ) (change : List Value → List Value) (es : List Entrant)
           let same : n ≡ m = cc in
           each e (subst (λ k. find (has_number k) es ≡ Some e) same found) few
 
-  changed_few : AreFew es → AreFew (map (with_changed m change) es)
+  changed_few : AreFew es → AreFew (map (changed_of m change) es)
   changed_few few n =
       subst (λ o. IfSome o IsFewEntrant) (sym (find_changed n m change es))
       (step (find (has_number n) es) refl (few n))
     where
       step : (o : Option Entrant) → find (has_number n) es ≡ o → IfSome o IsFewEntrant
-          → IfSome (option_map (with_changed m change) o) IsFewEntrant
+          → IfSome (option_map (changed_of m change) o) IsFewEntrant
       step None found h = tt
       step (Some e) found h = changed_one n e found h
 
@@ -228,7 +226,7 @@ next_attempt x n k e allowed found =
         (nat_le (allotted x.1.format x.1.cutoff e.values) (length e.values)) refl h
 
 attempt_few : (n k : ℕ) (v : Value) (x : Settings × Table) → k ≤ 5 → put_refusal n k x ≡ None
-    → IsFewRound x → AreFew (map (plus_value n v) x.1.entrants)
+    → IsFewRound x → AreFew (map (changed_of n (λ vs. vs ++ v ∷ [])) x.1.entrants)
 attempt_few n k v x small allowed few =
     changed_few n (λ vs. vs ++ v ∷ []) x.1.entrants
     (λ e found h.
@@ -387,7 +385,8 @@ few_answered cs c fits h (Some why) is = subst HasFew (sym (append-nil cs)) h
 
 few_read : (cs : List Command) (read : Result Command CommandFault) → IfOk read IsFit → HasFew cs
     → HasFew (cs ++ added_read (read_refusal cs read) read)
-few_read cs (Ok c) fits h = few_answered cs c fits h (spelled_refusal cs c) refl
+few_read cs (Ok c) fits h =
+    few_answered cs c fits h (read_refusal cs (Ok c)) (sym (read_fit cs c fits))
 few_read cs (Err fault) fits h = subst HasFew (sym (append-nil cs)) h
 
 read_fits : (bytes : List ℕ) (read : Result Command CommandFault) → command_of bytes ≡ read
@@ -397,18 +396,13 @@ read_fits bytes (Err fault) is = tt
 
 few_after : (h : History) (id : ℕ) (text : List ℕ) → HasFew h.accepted
     → HasFew (after h id text).accepted
-unfolding after
-few_after h id text few = step (is_seen h id)
+few_after h id text few = step (is_seen h id) refl
   where
-    more : List Command
-    more = h.accepted ++ added_read (read_refusal h.accepted (command_of text)) (command_of text)
-
-    step : (b : Bool)
-        → HasFew
-        (cond b h
-        (let new : History = record { ids = h.ids ++ id ∷ []; accepted = more } in new)).accepted
-    step true = few
-    step false = few_read h.accepted (command_of text) (read_fits text (command_of text) refl) few
+    step : (b : Bool) → is_seen h id ≡ b → HasFew (after h id text).accepted
+    step true seen = subst (λ (x : History). HasFew x.accepted) (after_seen h id text seen) few
+    step false new =
+        subst HasFew (sym (accepted_new h id text new))
+        (few_read h.accepted (command_of text) (read_fits text (command_of text) refl) few)
 
 few_fold : (h : History) (entries : List (ℕ × List ℕ)) → HasFew h.accepted
     → HasFew

@@ -1,6 +1,6 @@
 -- Those who wait for a place in a round are not in it, whatever changes it.
 use Rattle.std.proofs.Common.{◌≡◌, ℕ, ◌==◌, ◌||◌, ◌&&◌, not, Bool, true, false, cond, List}
-use Rattle.std.proofs.Common.{[], ◌∷◌, ◌++◌, map, filter, drop, Option, Some}
+use Rattle.std.proofs.Common.{[], ◌∷◌, map, filter, drop, Option, Some}
 use Rattle.std.proofs.Common.{None, option_map, Result, Ok, Err, IfOk, refl, sym, ap, ◌∙◌, subst}
 use Rattle.std.proofs.Common.{arith, eqb-true}
 use Rattle.std.specs.Prelude.{nat_eq}
@@ -14,9 +14,8 @@ use Rattle.attempts.specs.declared.Value.{Value}
 use Rattle.formats.specs.declared.advance.Advance.{Advance}
 use Rattle.formats.specs.declared.events.Event.{Event}
 use Rattle.texts.specs.declared.command.Settings.{Settings}
-use Rattle.rounds.specs.Tables.{Entrant, Table, has_number, is_entered, plus_value, with_replaced}
-use Rattle.rounds.specs.Tables.{less_last, with_entrant, without_entrant, withdrawn, entrant}
-use Rattle.rounds.specs.Tables.{standings, replaced, without_last}
+use Rattle.rounds.specs.Tables.{Entrant, Table, changed_of, has_number, is_entered, with_entrant}
+use Rattle.rounds.specs.Tables.{without_entrant, withdrawn, entrant, standings}
 use Rattle.advancement.specs.Advancing.{has_result, advances, holds_of, goes_on, advancing}
 use Rattle.advancement.specs.Waiting.{waits, stays_out, waiting}
 use Rattle.commands.specs.declared.kept_rounds.KeptRound.{KeptRound}
@@ -56,21 +55,11 @@ values_or : (m : ℕ) (e : Entrant) (vs : List Value) (b : Bool)
 values_or m e vs true = refl
 values_or m e vs false = refl
 
-pub plus_stays : (m n : ℕ) (v : Value) (es : List Entrant)
-    → list_any (has_number m) (map (plus_value n v) es) ≡ list_any (has_number m) es
-plus_stays m n v es =
-    any_map m (plus_value n v) (λ e. values_or m e (e.values ++ v ∷ []) (has_number n e)) es
-
-pub replaced_stays : (m n k : ℕ) (v : Value) (es : List Entrant)
-    → list_any (has_number m) (map (with_replaced n k v) es) ≡ list_any (has_number m) es
-replaced_stays m n k v es =
-    any_map m (with_replaced n k v)
-    (λ e. values_or m e (replaced k v e.values) (has_number n e)) es
-
-pub less_stays : (m n : ℕ) (es : List Entrant)
-    → list_any (has_number m) (map (less_last n) es) ≡ list_any (has_number m) es
-less_stays m n es =
-    any_map m (less_last n) (λ e. values_or m e (without_last e.values) (has_number n e)) es
+-- the values of one entrant are changed
+pub changed_stays : (m n : ℕ) (change : List Value → List Value) (es : List Entrant)
+    → list_any (has_number m) (map (changed_of n change) es) ≡ list_any (has_number m) es
+changed_stays m n change es =
+    any_map m (changed_of n change) (λ e. values_or m e (change e.values) (has_number n e)) es
 
 -- Once somebody has left
 

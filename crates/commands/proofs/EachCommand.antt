@@ -19,7 +19,7 @@ use Rattle.texts.specs.declared.command.Command.TheVariants.{Rescramble, Reopen}
 use Rattle.texts.specs.declared.command.Entered.{Entered}
 use Rattle.texts.specs.declared.command.Settings.{Settings}
 use Rattle.texts.specs.Fields.{round_id, attempt_entry}
-use Rattle.rounds.specs.Tables.{Entrant, Table, replaced, without_last}
+use Rattle.rounds.specs.Tables.{Entrant, Table, changed_of, replaced, without_last}
 use Rattle.formats.specs.declared.advance.Advance.{Advance}
 use Rattle.commands.specs.model.Kept.{with_attempt, with_correction, with_strike, with_advance}
 use Rattle.commands.specs.model.Kept.{with_end, with_entry, with_settings, newcomer}
@@ -35,15 +35,11 @@ use Rattle.commands.proofs.OneMore.{entrants_with, left_all, entered_last, round
 use Rattle.commands.proofs.OneMore.{round_with, map_same, map_alike, KeepsValues, TakesNobodyOut}
 use Rattle.commands.proofs.OneMore.{same_entrants, still, round_changed}
 
--- a change of the values of one number
-abbrev pub change_of : ℕ → (List Value → List Value) → Entrant → Entrant
-change_of m change x = cond (m == x.number) (record x { values = change x.values }) x
-
 abbrev with_change : Event → ℕ → Option (Settings × Table) → Opened → ℕ
     → (List Value → List Value) → Settings × Table
 with_change e r before o m change =
     with_parts e (settings_now e r o) (is_ended e r o.since)
-    (map (change_of m change) (entrants_at e r before o))
+    (map (changed_of m change) (entrants_at e r before o))
 
 -- a command that changes the values of one number makes that change of the entrants, or none
 values_changed : (e : Event) (r : ℕ) (before : Option (Settings × Table)) (c : Command)
@@ -76,18 +72,18 @@ values_changed e r before c o m change b sets stays nobody stay is =
     at true false x = refl
     at false t x = refl
 
-    each : (x : Entrant) → one_more e r o.settings o.since c x ≡ cond b (change_of m change x) x
+    each : (x : Entrant) → one_more e r o.settings o.since c x ≡ cond b (changed_of m change x) x
     each x = is x ∙ at b (m == x.number) x
 
     all : (a : Bool) (xs : List Entrant)
-        → map (λ (x : Entrant). cond a (change_of m change x) x) xs ++ []
-        ≡ cond a (map (change_of m change) xs) xs
+        → map (λ (x : Entrant). cond a (changed_of m change x) x) xs ++ []
+        ≡ cond a (map (changed_of m change) xs) xs
     all true xs = append-nil _
     all false xs = append-nil _ ∙ map_same _ (λ x. refl) xs
 
     both : (a : Bool)
         → with_parts e (settings_now e r o) (is_ended e r o.since)
-        (cond a (map (change_of m change) (entrants_at e r before o)) (entrants_at e r before o))
+        (cond a (map (changed_of m change) (entrants_at e r before o)) (entrants_at e r before o))
         ≡ cond a (with_change e r before o m change) (round_at e r before o)
     both true = refl
     both false = refl

@@ -1,13 +1,18 @@
 -- What one more entry makes of a history.
 use Rattle.std.proofs.Common.{◌≡◌, ℕ, Bool, true, false, cond, ◌||◌, ◌==◌, List, [], ◌∷◌, ◌++◌}
-use Rattle.std.proofs.Common.{fold, refl, sym, ap, ◌∙◌, eqb-true}
+use Rattle.std.proofs.Common.{fold, None, Ok, refl, sym, ap, ◌∙◌, eqb-true}
 use Rattle.std.specs.List.{list_any}
 use Rattle.std.proofs.lemmas.List.Folds.{list_any-append}
 use Rattle.std.proofs.lemmas.List.Sums.{fold-append}
 use Rattle.commands.specs.History.{History, nothing, added_read, is_seen, answer_of, answer_to}
-use Rattle.commands.specs.History.{entry_refusal, read_refusal, after, history, StandsFor}
+use Rattle.commands.specs.History.{entry_refusal_in, read_refusal, after, after_in, history}
+use Rattle.commands.specs.History.{StandsFor}
+use Rattle.commands.specs.History.{spelled_refusal}
+use Rattle.commands.proofs.Known.{read_fit}
+use Rattle.texts.specs.declared.answer.Answer.TheVariants.{Done}
 use Rattle.texts.specs.declared.command.Command.{Command}
 use Rattle.texts.specs.Reading.{command_of}
+use Rattle.texts.proofs.Words.{spelled_only}
 
 -- a history that stands for a list stands, after one more entry, for the list and that entry
 pub stands_more : (h new : History) (id : ℕ) (text : List ℕ) → new ≡ after h id text
@@ -21,13 +26,20 @@ stands_more h new id text is entries stands =
 
 -- the id of an entry was seen
 pub after_seen : (h : History) (id : ℕ) (text : List ℕ) → is_seen h id ≡ true → h ≡ after h id text
-unfolding after
+unfolding after_in
 after_seen h id text seen = rw seen refl
 
 pub answer_new : (h : History) (id : ℕ) (text : List ℕ) → is_seen h id ≡ false
     → answer_to h id text ≡ answer_of (read_refusal h.accepted (command_of text))
-unfolding entry_refusal
+unfolding entry_refusal_in
 answer_new h id text new = rw new refl
+
+-- what its command adds is accepted
+pub accepted_new : (h : History) (id : ℕ) (text : List ℕ) → is_seen h id ≡ false
+    → (after h id text).accepted
+    ≡ h.accepted ++ added_read (read_refusal h.accepted (command_of text)) (command_of text)
+unfolding after_in
+accepted_new h id text new = rw new refl
 
 -- the id of an entry is new
 pub after_new : (h new : History) (id : ℕ) (text : List ℕ) → is_seen h id ≡ false
@@ -35,8 +47,32 @@ pub after_new : (h new : History) (id : ℕ) (text : List ℕ) → is_seen h id 
     → new.accepted
     ≡ h.accepted ++ added_read (read_refusal h.accepted (command_of text)) (command_of text)
     → new ≡ after h id text
-unfolding after
+unfolding after_in
 after_new h new id text unseen ids accepted = rw (unseen, ← ids, ← accepted) refl
+
+-- the history with one more entry, whose command was accepted
+abbrev pub grown : History → ℕ → Command → History
+grown h id c = record { ids = h.ids ++ id ∷ []; accepted = h.accepted ++ c ∷ [] }
+
+-- an entry of a new id whose text reads as a command that is accepted
+module _ (h : History) (id : ℕ) (text : List ℕ) (c : Command) (new : is_seen h id ≡ false)
+    (reads : command_of text ≡ Ok c) (accepted : spelled_refusal h.accepted c ≡ None) where
+  not_refused : read_refusal h.accepted (Ok c) ≡ None
+  not_refused = read_fit h.accepted c (spelled_only text c reads).0 ∙ accepted
+
+  pub answer_done : answer_to h id text ≡ Done
+  answer_done =
+      answer_new h id text new ∙ ap (λ r. answer_of (read_refusal h.accepted r)) reads
+      ∙ ap answer_of not_refused
+
+  pub after_done : after h id text ≡ grown h id c
+  after_done =
+      sym
+      (after_new h (grown h id c) id text new refl
+      (ap (λ (more : List Command). h.accepted ++ more)
+      (sym
+      (ap (λ r. added_read (read_refusal h.accepted r) r) reads
+      ∙ ap (λ o. added_read o (Ok c)) not_refused))))
 
 seen_same : (i id : ℕ) (ids : List ℕ) → (id == i) ≡ true → list_any (λ other. i == other) ids ≡ true
     → list_any (λ other. id == other) ids ≡ true
@@ -52,9 +88,9 @@ or_last false true = refl
 or_last false false = refl
 
 -- one more entry is one more id
-after_ids : (h : History) (i id : ℕ) (text : List ℕ)
+pub after_ids : (h : History) (i id : ℕ) (text : List ℕ)
     → is_seen (after h i text) id ≡ (is_seen h id || id == i)
-unfolding after
+unfolding after_in
 after_ids h i id text = step (is_seen h i) refl
   where
     more : List Command

@@ -26,7 +26,7 @@ use Rattle.texts.specs.Fields.{round_id, attempt_entry}
 use Rattle.commands.specs.declared.kept_rounds.KeptRound.{KeptRound}
 use Rattle.commands.specs.declared.index.Index.{Index}
 use Rattle.rounds.specs.Tables.{Table, close_fault, entrant, has_done, is_entered}
-use Rattle.rounds.specs.Tables.{standings}
+use Rattle.rounds.specs.Tables.{replaced, standings, without_last}
 use Rattle.formats.specs.declared.advance.Advance.{Advance}
 use Rattle.advancement.specs.Advancing.{later_rounds, holds_of}
 use Rattle.commands.specs.Accepted.{name_given, renaming, Opened, opened as opened_in, opening}
@@ -44,7 +44,7 @@ use Rattle.commands.specs.model.Kept.{AddsScramble, IsAsBefore, kept_solved}
 use Rattle.commands.specs.model.Kept.{with_attempt, with_correction, with_strike, with_advance}
 use Rattle.commands.specs.model.Kept.{with_end, with_entry, with_settings, with_exit}
 use Rattle.commands.specs.model.Kept.{with_reopening, with_newcomers, table_opened}
-use Rattle.commands.proofs.Apart.{nobody_waits, apart_same, plus_stays, replaced_stays, less_stays}
+use Rattle.commands.proofs.Apart.{nobody_waits, apart_same, changed_stays}
 use Rattle.commands.proofs.Apart.{apart_exit, apart_opened, apart_added, apart_changed}
 use Rattle.commands.proofs.Lookups.{at_end, found_push}
 use Rattle.commands.proofs.EachCommand.{round_attempt, round_correct, round_strike, round_advance}
@@ -326,7 +326,8 @@ attempted_or cs e r k n x None old new is same done unchanged = record {
       done (λ f s j. refl) (λ f s j. refl) (λ f s. refl) (λ f s. refl) (λ f s j m. refl)
       (λ f s. round_attempt f e s r k n x cs)
       (same_entered cs e r (with_attempt n (scramble_of cs e r k) x)
-      (λ y m. plus_stays m n (settled y.0 (scramble_of cs e r k) x) y.1.entrants));
+      (λ y m.
+      changed_stays m n (λ vs. vs ++ settled y.0 (scramble_of cs e r k) x ∷ []) y.1.entrants));
 }
 attempted_or cs e r k n x (Some code) old new is same done unchanged = record {
   competitors = rw (same, append-nil cs) is.competitors;
@@ -399,7 +400,8 @@ corrected_or cs e r k n x None old new is same done unchanged = record {
       done (λ f s j. refl) (λ f s j. refl) (λ f s. refl) (λ f s. refl) (λ f s j m. refl)
       (λ f s. round_correct f e s r k n x cs)
       (same_entered cs e r (with_correction n k (scramble_of cs e r k) x)
-      (λ y m. replaced_stays m n k (settled y.0 (scramble_of cs e r k) x) y.1.entrants));
+      (λ y m.
+      changed_stays m n (replaced k (settled y.0 (scramble_of cs e r k) x)) y.1.entrants));
 }
 corrected_or cs e r k n x (Some code) old new is same done unchanged = record {
   competitors = rw (same, append-nil cs) is.competitors;
@@ -447,7 +449,7 @@ stricken cs e r n refused old new is same done unchanged =
       unsolved = λ f s k m. refl;
     })
     (λ f s. round_strike f e s r n cs)
-    (same_entered cs e r (with_strike n) (λ y m. less_stays m n y.1.entrants))
+    (same_entered cs e r (with_strike n) (λ y m. changed_stays m n without_last y.1.entrants))
     same done unchanged
 
 -- another advance, which the rounds note

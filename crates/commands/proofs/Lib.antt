@@ -6,8 +6,10 @@ pub mod Early
 pub mod Editions
 pub mod Entries
 pub mod Exits
+pub mod FirstCopy
 pub mod Indexed
 pub mod KeptLemmas
+pub mod Known
 pub mod Lookups
 pub mod Mended
 pub mod Names

@@ -1,12 +1,14 @@
--- Without `EDITION 3` all is as edition 2 had it, and without `EDITION 2` too as edition 1.
+-- A program that knows editions 1 and 2 answers as the copy of edition 2.
 use Rattle.std.proofs.Common.{◌≡◌, ℕ, ◌-◌, ◌≤◌, Bool, true, false, not, ◌||◌, ◌==◌, ◌&&◌, cond}
 use Rattle.std.proofs.Common.{nat_lt, List, [], ◌∷◌, ◌++◌, fold, codes, Option, Some, None, is_some}
 use Rattle.std.proofs.Common.{unwrap_or, Result, Ok, Err, refl, sym, ap, ◌∙◌, subst, arith, eq-eqb}
 use Rattle.std.proofs.Common.{append-nil}
-use Rattle.std.specs.Prelude.{bytes_eq}
+use Rattle.std.specs.Prelude.{bytes_eq, nat_le}
+use Rattle.std.specs.Fmt.{digits}
 use Rattle.std.specs.List.{AllByRecursion, list_any, range_with_len}
 use Rattle.std.specs.Option.{option_or, option_map_or}
-use Rattle.std.proofs.lemmas.List.Elements.{recursion_from_All}
+use Rattle.std.proofs.lemmas.Bool.{false≢true}
+use Rattle.std.proofs.lemmas.Bool.Decides.{nat_tests}
 use Rattle.texts.specs.declared.answer.Code.{Code}
 use Rattle.texts.specs.declared.answer.Code.TheVariants as code
 use Rattle.texts.specs.declared.command.Command.{Command}
@@ -17,21 +19,21 @@ use Rattle.texts.specs.declared.command.Command.TheVariants.{Rescramble, Withdra
 use Rattle.texts.specs.declared.command.Settings.{Settings}
 use Rattle.texts.specs.declared.reading.CommandFault.{CommandFault}
 use Rattle.texts.specs.Editions.{is_spelled_in}
-use Rattle.texts.specs.Reading.{command_of}
+use Rattle.texts.specs.Fields.{cut, number_between}
+use Rattle.texts.specs.Reading.{command_of, set_edition_of}
 use Rattle.texts.specs.SecondEdition.{command_of as second_command_of}
+use Rattle.texts.specs.SecondEdition.{set_edition_of as second_set_edition_of}
+use Rattle.texts.proofs.Spelled.{bytes_eq-equal}
 use Rattle.rounds.specs.Tables.{Table, close_fault}
 use Rattle.commands.specs.Accepted.{name_given, is_called, names_other, is_taken}
 use Rattle.commands.specs.Accepted.{is_registered, round_of, close_refusal, has_too_few}
 use Rattle.commands.specs.Accepted.{end_refusal, is_final, edition_set, edition_after, edition_in}
 use Rattle.commands.specs.Accepted.{refusal}
 use Rattle.commands.specs.History.{History, nothing, answer_of, is_seen, added, spelled_refusal}
-use Rattle.commands.specs.History.{read_refusal, added_read, entry_refusal, answer_to, after}
-use Rattle.commands.specs.History.{history}
-use Rattle.commands.specs.FirstEdition as first
+use Rattle.commands.specs.History.{knows, read_refusal_in, added_read, entry_refusal_in, answer_in}
+use Rattle.commands.specs.History.{after_in, history_in}
 use Rattle.commands.specs.SecondEdition as second
-use Rattle.commands.specs.EditionLaws.{IsWithoutThird, AnswersAsFirst, AnswersAsSecond}
-use Rattle.commands.proofs.Before.{history_first, history_alike as first_history_alike}
-use Rattle.commands.proofs.Before.{answer_alike as first_answer_alike}
+use Rattle.commands.specs.EditionLaws.{AnswersAsSecond}
 use Rattle.commands.proofs.Early.{IsEarly, AreEarly, early_append, name_alike, round_alike}
 use Rattle.commands.proofs.Early.{scramble_alike}
 use Rattle.commands.proofs.Lookups.{or_assoc, or_none, some≢none}
@@ -216,18 +218,18 @@ once_more cs c allowed once = go cs once
 
 -- Entries
 
--- what holds of the accepted commands without `EDITION 3`
+-- what holds of the accepted commands
 pub record AreSecond (cs : List Command) : Type 0 where
   pub early : AreEarly cs
   pub once : AreOnce cs
   pub low : edition_in cs ≤ 2
 
--- what a text comes to behind these commands, in edition 2 and in all
+-- what a text comes to behind these commands, by the copy and by the one definition
 record IsAlike (cs : List Command) (before now : Result Command CommandFault) : Type 0 where
-  refused : second.read_refusal cs before ≡ read_refusal cs now
+  refused : second.read_refusal cs before ≡ read_refusal_in 2 cs now
   added : second.added_read (second.read_refusal cs before) before
-      ≡ added_read (read_refusal cs now) now
-  still : AreSecond (cs ++ added_read (read_refusal cs now) now)
+      ≡ added_read (read_refusal_in 2 cs now) now
+  still : AreSecond (cs ++ added_read (read_refusal_in 2 cs now) now)
 
 edition_more : (edition : ℕ) (cs : List Command) (c : Command) → edition_after edition cs ≤ 2
     → unwrap_or (edition_set c) 0 ≤ 2 → edition_after edition (cs ++ c ∷ []) ≤ 2
@@ -254,20 +256,43 @@ not_late : (late : Bool) (refused : Option Code) → cond late (Some code.Unread
 not_late true refused h = absurd (some≢none code.Unread h)
 not_late false refused h = h
 
+-- a command that sets no edition after the second is known
+knows_low : (c : Command) → unwrap_or (edition_set c) 0 ≤ 2 → knows 2 c ≡ true
+knows_low (SetEdition e) low = within low
+  where
+    within : e ≤ 2 → nat_le e 2 ≡ true
+    within h = grind (arith, nat_tests)
+knows_low (Register n name) low = refl
+knows_low (Open id settings) low = refl
+knows_low (Enter e n) low = refl
+knows_low (Scramble id k moves) low = refl
+knows_low (Attempt entry) low = refl
+knows_low (Correct entry) low = refl
+knows_low (Strike id n) low = refl
+knows_low (SetAdvance id advance) low = refl
+knows_low (Close id) low = refl
+knows_low (Rename n name) low = refl
+knows_low (SetRound id format cutoff limit) low = refl
+knows_low (Rescramble id k moves) low = refl
+knows_low (Withdraw id n) low = refl
+knows_low (Reopen id) low = refl
+
 taken : (cs : List Command) (c : Command) → AreSecond cs → IsSecond c
     → is_spelled_in 2 c ≡ true → IsAlike cs (Ok c) (Ok c)
 taken cs c are is spelled =
-    let same : second.spelled_refusal cs c ≡ spelled_refusal cs c =
+    let same : second.spelled_refusal cs c ≡ read_refusal_in 2 cs (Ok c) =
     ap (cond (nat_lt (edition_in cs) (second.edition_of c)) (Some code.Unread))
     (sym (refusal_alike cs c are.early are.once is.early))
     ∙ flip (nat_lt (edition_in cs) (second.edition_of c)) (refusal cs c)
     ∙ ap (λ (b : Bool). cond b (refusal cs c) (Some code.Unread))
-    (sym (spelled_alike (edition_in cs) c are.low spelled)) in
+    (sym (spelled_alike (edition_in cs) c are.low spelled))
+    ∙ sym
+    (ap (λ (b : Bool). cond b (spelled_refusal cs c) (Some code.Unread)) (knows_low c is.low)) in
     record {
       refused = same;
       added = ap (λ (o : Option Code). added o c) same;
       still =
-          more cs c (spelled_refusal cs c) are is
+          more cs c (read_refusal_in 2 cs (Ok c)) are is
           (λ none.
           not_late (nat_lt (edition_in cs) (second.edition_of c)) (second.refusal cs c)
           (same ∙ none));
@@ -282,9 +307,11 @@ taken cs c are is spelled =
 late : (cs : List Command) (fault : CommandFault) (c : Command) → AreSecond cs
     → is_spelled_in 2 c ≡ false → IsAlike cs (Err fault) (Ok c)
 late cs fault c are other =
-    let unread : spelled_refusal cs c ≡ Some code.Unread =
-    ap (λ (b : Bool). cond b (refusal cs c) (Some code.Unread))
-    (spelled_never (edition_in cs) c are.low other) in
+    let unread : read_refusal_in 2 cs (Ok c) ≡ Some code.Unread =
+    ap (λ (o : Option Code). cond (knows 2 c) o (Some code.Unread))
+    (ap (λ (b : Bool). cond b (refusal cs c) (Some code.Unread))
+    (spelled_never (edition_in cs) c are.low other))
+    ∙ either (knows 2 c) in
     record {
       refused = sym unread;
       added = sym (ap (λ (o : Option Code). added o c) unread);
@@ -292,10 +319,22 @@ late cs fault c are other =
           subst (λ (o : Option Code). AreSecond (cs ++ added o c)) (sym unread)
           (subst AreSecond (sym (append-nil cs)) are);
     }
+  where
+    either : (b : Bool) → cond b (Some code.Unread) (Some code.Unread) ≡ Some code.Unread
+    either true = refl
+    either false = refl
 
-read_alike : (cs : List Command) (text : List ℕ) → AreSecond cs → ¬ (text ≡ codes "EDITION 3")
+-- the text that sets edition 3, which neither knows
+third_alike : (cs : List Command) → AreSecond cs
+    → IsAlike cs (second_command_of (codes "EDITION 3")) (command_of (codes "EDITION 3"))
+unfolding second_command_of second_set_edition_of command_of set_edition_of cut number_between
+    digits
+third_alike cs are =
+    record { refused = refl; added = refl; still = subst AreSecond (sym (append-nil cs)) are }
+
+other_alike : (cs : List Command) (text : List ℕ) → AreSecond cs → ¬ (text ≡ codes "EDITION 3")
     → IsAlike cs (second_command_of text) (command_of text)
-read_alike cs text are other = step (second_command_of text) (command_of text) refl refl
+other_alike cs text are other = step (second_command_of text) (command_of text) refl refl
   where
     decide : (fault : CommandFault) (c : Command) → second_command_of text ≡ Err fault
         → command_of text ≡ Ok c → (b : Bool) → is_spelled_in 2 c ≡ b
@@ -321,17 +360,30 @@ read_alike cs text are other = step (second_command_of text) (command_of text) r
           still = subst AreSecond (sym (append-nil cs)) are;
         }
 
+read_alike : (cs : List Command) (text : List ℕ) → AreSecond cs
+    → IsAlike cs (second_command_of text) (command_of text)
+read_alike cs text are = step (bytes_eq text (codes "EDITION 3")) refl
+  where
+    step : (b : Bool) → bytes_eq text (codes "EDITION 3") ≡ b
+        → IsAlike cs (second_command_of text) (command_of text)
+    step true is =
+        subst (λ (t : List ℕ). IsAlike cs (second_command_of t) (command_of t))
+        (sym (bytes_eq-equal text (codes "EDITION 3") is)) (third_alike cs are)
+    step false is =
+        other_alike cs text are
+        (λ same. false≢true (sym is ∙ ap (λ (t : List ℕ). bytes_eq t (codes "EDITION 3")) same))
+
 record AfterAlike (before now : History) : Type 0 where
   same : before ≡ now
   still : AreSecond now.accepted
 
 after_alike : (h : History) (id : ℕ) (text : List ℕ) → AreSecond h.accepted
-    → ¬ (text ≡ codes "EDITION 3") → AfterAlike (second.after h id text) (after h id text)
-unfolding after second.after
-after_alike h id text are other = step (is_seen h id)
+    → AfterAlike (second.after h id text) (after_in 2 h id text)
+unfolding after_in second.after
+after_alike h id text are = step (is_seen h id)
   where
     is : IsAlike h.accepted (second_command_of text) (command_of text)
-    is = read_alike h.accepted text are other
+    is = read_alike h.accepted text are
 
     new : List Command → History
     new more = record { ids = h.ids ++ id ∷ []; accepted = h.accepted ++ more }
@@ -342,22 +394,19 @@ after_alike h id text are other = step (is_seen h id)
         (new
         (second.added_read (second.read_refusal h.accepted (second_command_of text))
         (second_command_of text))))
-        (cond b h (new (added_read (read_refusal h.accepted (command_of text)) (command_of text))))
+        (cond b h
+        (new (added_read (read_refusal_in 2 h.accepted (command_of text)) (command_of text))))
     step true = record { same = refl; still = are }
     step false = record { same = ap new is.added; still = is.still }
 
-abbrev IsOther : ℕ × List ℕ → Type 0
-IsOther entry = ¬ (entry.1 ≡ codes "EDITION 3")
-
 fold_alike : (h : History) (entries : List (ℕ × List ℕ)) → AreSecond h.accepted
-    → AllByRecursion IsOther entries
     → AfterAlike
     (fold (λ (x : History) (entry : ℕ × List ℕ). second.after x entry.0 entry.1) h entries)
-    (fold (λ (x : History) (entry : ℕ × List ℕ). after x entry.0 entry.1) h entries)
-fold_alike h [] are others = record { same = refl; still = are }
-fold_alike h (entry ∷ entries) are others =
-    let one = after_alike h entry.0 entry.1 are others.0 in
-    let rest = fold_alike (after h entry.0 entry.1) entries one.still others.1 in
+    (fold (λ (x : History) (entry : ℕ × List ℕ). after_in 2 x entry.0 entry.1) h entries)
+fold_alike h [] are = record { same = refl; still = are }
+fold_alike h (entry ∷ entries) are =
+    let one = after_alike h entry.0 entry.1 are in
+    let rest = fold_alike (after_in 2 h entry.0 entry.1) entries one.still in
     record {
       same =
           ap
@@ -371,34 +420,21 @@ fold_alike h (entry ∷ entries) are others =
 at_first : AreSecond []
 at_first = record { early = tt; once = tt; low = omega arith }
 
-pub history_second : (entries : List (ℕ × List ℕ)) → IsWithoutThird entries
-    → AreSecond (history entries).accepted
-history_second entries others =
-    (fold_alike nothing entries at_first (recursion_from_All IsOther entries others)).still
+pub history_second : (entries : List (ℕ × List ℕ)) → AreSecond (history_in 2 entries).accepted
+history_second entries = (fold_alike nothing entries at_first).still
 
-pub history_alike : (entries : List (ℕ × List ℕ)) → IsWithoutThird entries
-    → second.history entries ≡ history entries
-history_alike entries others =
-    (fold_alike nothing entries at_first (recursion_from_All IsOther entries others)).same
+pub history_alike : (entries : List (ℕ × List ℕ)) → second.history entries ≡ history_in 2 entries
+history_alike entries = (fold_alike nothing entries at_first).same
 
-answer_alike : (h : History) (id : ℕ) (text : List ℕ) → AreSecond h.accepted
-    → ¬ (text ≡ codes "EDITION 3") → second.answer_to h id text ≡ answer_to h id text
-unfolding entry_refusal second.entry_refusal
-answer_alike h id text are other =
+pub answer_alike : (h : History) (id : ℕ) (text : List ℕ) → AreSecond h.accepted
+    → second.answer_to h id text ≡ answer_in 2 h id text
+unfolding entry_refusal_in second.entry_refusal
+answer_alike h id text are =
     ap (λ (o : Option Code). answer_of (cond (is_seen h id) (Some code.Repeat) o))
-    (read_alike h.accepted text are other).refused
+    (read_alike h.accepted text are).refused
 
 pub answers_as_second : AnswersAsSecond
-answers_as_second entries id text others other =
+answers_as_second entries id text =
     sym
-    (ap (λ (h : History). second.answer_to h id text) (history_alike entries others)
-    ∙ answer_alike (history entries) id text (history_second entries others) other)
-
-pub answers_as_first : AnswersAsFirst
-answers_as_first entries id text seconds thirds two three =
-    answers_as_second entries id text thirds three
-    ∙ sym
-    (ap (λ (h : History). first.answer_to h id text)
-    (first_history_alike entries seconds thirds)
-    ∙ first_answer_alike (second.history entries) id text
-    (history_first entries seconds thirds) (two, three))
+    (ap (λ (h : History). second.answer_to h id text) (history_alike entries)
+    ∙ answer_alike (history_in 2 entries) id text (history_second entries))

@@ -25,8 +25,8 @@ use Rattle.formats.specs.declared.events.Event.{Event}
 use Rattle.formats.specs.declared.events.Format.{Format}
 use Rattle.formats.specs.Events.{same_event}
 use Rattle.formats.proofs.SameEvent.{same_event-equal}
-use Rattle.rounds.specs.Tables.{Entrant, Table, has_number, enter_fault, plus_value, with_replaced}
-use Rattle.rounds.specs.Tables.{less_last, number_of_entrant, place, standings, entrant}
+use Rattle.rounds.specs.Tables.{Entrant, Table, changed_of, has_number, enter_fault, replaced}
+use Rattle.rounds.specs.Tables.{without_last, number_of_entrant, place, standings, entrant}
 use Rattle.rounds.specs.Tables.{leave_fault, withdraw_fault}
 use Rattle.rounds.specs.declared.fault.WithdrawFault.TheVariants as withdraw
 use Rattle.rounds.specs.declared.fault.EnterFault.TheVariants as enter
@@ -58,6 +58,8 @@ use Rattle.commands.specs.model.Kept.{with_end, with_entry, with_settings, with_
 use Rattle.commands.specs.model.Kept.{with_reopening, newcomer, first_of_all, waiting_of}
 use Rattle.commands.specs.History.{History, nothing, is_seen, added_read, spelled_refusal}
 use Rattle.commands.specs.History.{read_refusal, after, history}
+use Rattle.commands.proofs.Entries.{accepted_new, after_seen}
+use Rattle.commands.proofs.Known.{read_fit}
 use Rattle.commands.proofs.Lookups.{some≢none, stands, standing_push}
 use Rattle.texts.proofs.NameRoom.{name_room, new_name_room}
 use Rattle.commands.proofs.EachCommand.{opening_table, round_open, round_enter, round_scramble}
@@ -275,7 +277,7 @@ each_small r f each x h = record {
 attempt_small : (r n : ℕ) (scramble : Option (List Move)) (y : Entered) → IsEntered y
     → (x : Settings × Table) → IsSmallRound r x → IsSmallRound r (with_attempt n scramble y x)
 attempt_small r n scramble y fits x h =
-    each_small r (plus_value n (settled x.0 scramble y))
+    each_small r (changed_of n (λ vs. vs ++ settled x.0 scramble y ∷ []))
     (λ e is.
     entrant_small (has_number n e) e _ is
     (all_append (IsInRangeOf measure.Multi) e.values _ is.values
@@ -285,7 +287,7 @@ attempt_small r n scramble y fits x h =
 correction_small : (r n k : ℕ) (scramble : Option (List Move)) (y : Entered) → IsEntered y
     → (x : Settings × Table) → IsSmallRound r x → IsSmallRound r (with_correction n k scramble y x)
 correction_small r n k scramble y fits x h =
-    each_small r (with_replaced n k (settled x.0 scramble y))
+    each_small r (changed_of n (replaced k (settled x.0 scramble y)))
     (λ e is.
     entrant_small (has_number n e) e _ is
     (all_set (IsInRangeOf measure.Multi) e.values (k - 1) _ is.values
@@ -295,7 +297,7 @@ correction_small r n k scramble y fits x h =
 strike_small : (r n : ℕ) (x : Settings × Table) → IsSmallRound r x
     → IsSmallRound r (with_strike n x)
 strike_small r n x h =
-    each_small r (less_last n)
+    each_small r (changed_of n without_last)
     (λ e is.
     entrant_small (has_number n e) e _ is
     (all_take (IsInRangeOf measure.Multi) (length e.values - 1) e.values is.values))
@@ -808,7 +810,8 @@ small_answered cs c fits h (Some why) is = subst IsSmall (sym (append-nil cs)) h
 
 small_read : (cs : List Command) (read : Result Command CommandFault) → IfOk read IsFit → IsSmall cs
     → IsSmall (cs ++ added_read (read_refusal cs read) read)
-small_read cs (Ok c) fits h = small_answered cs c fits h (spelled_refusal cs c) refl
+small_read cs (Ok c) fits h =
+    small_answered cs c fits h (read_refusal cs (Ok c)) (sym (read_fit cs c fits))
 small_read cs (Err fault) fits h = subst IsSmall (sym (append-nil cs)) h
 
 read_fits : (bytes : List ℕ) (read : Result Command CommandFault) → command_of bytes ≡ read
@@ -818,19 +821,13 @@ read_fits bytes (Err fault) is = tt
 
 small_after : (h : History) (id : ℕ) (text : List ℕ) → IsSmall h.accepted
     → IsSmall (after h id text).accepted
-unfolding after
-small_after h id text small = step (is_seen h id)
+small_after h id text small = step (is_seen h id) refl
   where
-    more : List Command
-    more = h.accepted ++ added_read (read_refusal h.accepted (command_of text)) (command_of text)
-
-    step : (b : Bool)
-        → IsSmall
-        (cond b h
-        (let new : History = record { ids = h.ids ++ id ∷ []; accepted = more } in new)).accepted
-    step true = small
-    step false =
-        small_read h.accepted (command_of text) (read_fits text (command_of text) refl) small
+    step : (b : Bool) → is_seen h id ≡ b → IsSmall (after h id text).accepted
+    step true seen = subst (λ (x : History). IsSmall x.accepted) (after_seen h id text seen) small
+    step false new =
+        subst IsSmall (sym (accepted_new h id text new))
+        (small_read h.accepted (command_of text) (read_fits text (command_of text) refl) small)
 
 small_fold : (h : History) (entries : List (ℕ × List ℕ)) → IsSmall h.accepted
     → IsSmall

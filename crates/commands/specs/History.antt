@@ -1,17 +1,25 @@
--- What a list of entries, each an id and a text, comes to. That each id is done once, and what each
--- is answered, are rules of this project's own.
-use Rattle.std.specs.Prelude.{◌≡◌, ℕ, ◌==◌, if◌then◌else◌, List, [], ◌∷◌, ◌++◌, fold}
-use Rattle.std.specs.Prelude.{Option, Some, Result, Ok, Err}
+-- What a list of entries, each an id and a text, comes to, for a program that knows the editions of
+-- the commands up to one of them. That each id is done once, and what each is answered, are rules
+-- of this project's own.
+use Rattle.std.specs.Prelude.{◌≡◌, ℕ, ◌==◌, Bool, true, nat_le, if◌then◌else◌, List, [], ◌∷◌, ◌++◌}
+use Rattle.std.specs.Prelude.{fold, Option, Some, Result, Ok, Err}
 use Rattle.std.specs.List.{list_any}
 use Rattle.texts.specs.declared.command.Command.{Command}
+use Rattle.texts.specs.declared.command.Command.TheVariants.{SetEdition}
 use Rattle.texts.specs.declared.answer.Answer.{Answer}
 use Rattle.texts.specs.declared.answer.Code.{Code}
 use Rattle.texts.specs.declared.answer.Code.TheVariants as code
 use Rattle.texts.specs.declared.reading.CommandFault.{CommandFault}
 use Rattle.texts.specs.Editions.{is_spelled_in}
 use Rattle.texts.specs.Reading.{command_of}
+use Rattle.texts.specs.Spelling.{last_edition}
 use Rattle.commands.specs.Accepted.{edition_in, refusal}
 pub use Rattle.commands.specs.Seen.{History, nothing, answer_of, is_seen, added}
+
+-- a program that knows the editions up to k knows a command: it sets no later one
+abbrev pub knows : ℕ → Command → Bool
+knows k (SetEdition edition) = nat_le edition k
+knows k _ = true
 
 -- the first check that fails for a command: that the edition that holds has its spelling, then its
 -- own
@@ -19,39 +27,54 @@ abbrev pub spelled_refusal : List Command → Command → Option Code
 spelled_refusal cs c =
     if is_spelled_in (edition_in cs) c then refusal cs c else Some code.Unread
 
--- the first check that fails for what a text reads as: that it is a command, then the checks of the
--- command
-abbrev pub read_refusal : List Command → Result Command CommandFault → Option Code
-read_refusal cs (Ok c) = spelled_refusal cs c
-read_refusal cs (Err fault) = Some code.Unread
+-- the first check that fails for what a text reads as: that it is a command, and one that is known,
+-- then the checks of the command
+abbrev pub read_refusal_in : ℕ → List Command → Result Command CommandFault → Option Code
+read_refusal_in k cs (Ok c) = if knows k c then spelled_refusal cs c else Some code.Unread
+read_refusal_in k cs (Err fault) = Some code.Unread
 
 abbrev pub added_read : Option Code → Result Command CommandFault → List Command
 added_read refused (Ok c) = added refused c
 added_read refused (Err fault) = []
 
 -- the first check that fails for an entry: that its id is new, then those of its text
-unfoldable pub entry_refusal : History → ℕ → List ℕ → Option Code
-entry_refusal h id text =
-    if is_seen h id then Some code.Repeat else read_refusal h.accepted (command_of text)
+unfoldable pub entry_refusal_in : ℕ → History → ℕ → List ℕ → Option Code
+entry_refusal_in k h id text =
+    if is_seen h id then Some code.Repeat else read_refusal_in k h.accepted (command_of text)
 
--- what an entry is answered
-abbrev pub answer_to : History → ℕ → List ℕ → Answer
-answer_to h id text = answer_of (entry_refusal h id text)
+-- what an entry is answered by a program that knows the editions up to k
+abbrev pub answer_in : ℕ → History → ℕ → List ℕ → Answer
+answer_in k h id text = answer_of (entry_refusal_in k h id text)
 
 -- the history after an entry: its id is seen, and its command is accepted where no check fails
-unfoldable pub after : History → ℕ → List ℕ → History
-after h id text =
+unfoldable pub after_in : ℕ → History → ℕ → List ℕ → History
+after_in k h id text =
     if is_seen h id then h
     else record {
       ids =
           h.ids ++ id ∷ [];
       accepted =
-          h.accepted ++ added_read (read_refusal h.accepted (command_of text)) (command_of text);
+          h.accepted
+          ++ added_read (read_refusal_in k h.accepted (command_of text)) (command_of text);
     }
 
 -- the history of entries, each an id and a text, taken one after the other
+abbrev pub history_in : ℕ → List (ℕ × List ℕ) → History
+history_in k entries = fold (λ h entry. after_in k h entry.0 entry.1) nothing entries
+
+-- This program knows each edition.
+
+abbrev pub read_refusal : List Command → Result Command CommandFault → Option Code
+read_refusal cs read = read_refusal_in last_edition cs read
+
+abbrev pub answer_to : History → ℕ → List ℕ → Answer
+answer_to h id text = answer_in last_edition h id text
+
+abbrev pub after : History → ℕ → List ℕ → History
+after h id text = after_in last_edition h id text
+
 abbrev pub history : List (ℕ × List ℕ) → History
-history entries = fold (λ h entry. after h entry.0 entry.1) nothing entries
+history entries = history_in last_edition entries
 
 -- a history is that of this list of entries
 abbrev pub StandsFor : History → List (ℕ × List ℕ) → Type 0

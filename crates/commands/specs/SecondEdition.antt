@@ -1,24 +1,17 @@
--- What edition 2 made of its commands, as it stands since before there was a third. It is kept here
--- in its own words, with all that edition 3 changes in `Accepted` and `History`; the laws of
--- editions compare the two. What edition 2 has no words for comes to nothing in it: no text of
--- edition 2 asks for it.
-use Rattle.std.specs.Prelude.{ℕ, zero, suc, ◌+◌, ◌-◌, Bool, true, false, not, ◌==◌, ◌&&◌, nat_lt}
-use Rattle.std.specs.Prelude.{nat_le, if◌then◌else◌, List, [], ◌∷◌, ◌++◌, map, unwrap_or, bytes_eq}
+-- What edition 2 made of its commands, as it stands since before there was a third. What edition 3
+-- changes in `Accepted` and `History` is kept here in its own words; what it keeps as it was, edition
+-- 2 has in common with it. The laws of editions compare the two. What edition 2 has no words for
+-- comes to nothing in it: no text of edition 2 asks for it.
+use Rattle.std.specs.Prelude.{ℕ, zero, suc, ◌-◌, Bool, false, not, ◌==◌, ◌&&◌, nat_lt, nat_le}
+use Rattle.std.specs.Prelude.{if◌then◌else◌, List, [], ◌∷◌, ◌++◌, map, unwrap_or, bytes_eq}
 use Rattle.std.specs.Prelude.{option_to_list, is_some, max, fold, Option, None, Some, Result, Ok}
 use Rattle.std.specs.Prelude.{Err}
-use Rattle.std.specs.List.{list_any, range_with_len}
+use Rattle.std.specs.List.{list_any}
 use Rattle.std.specs.Option.{option_or, option_map, option_and_then}
 use Rattle.cube.specs.declared.moves.Move.{Move}
-use Rattle.fmc_check.specs.Fewest.{result_of}
-use Rattle.attempts.specs.Attempts.{value_of}
-use Rattle.attempts.specs.declared.Outcome.{Outcome}
-use Rattle.attempts.specs.declared.Outcome.TheVariants as outcome
 use Rattle.attempts.specs.declared.Value.{Value}
-use Rattle.attempts.specs.declared.Unit.{Unit as Measure}
-use Rattle.attempts.specs.declared.Unit.TheVariants as measure
 use Rattle.formats.specs.declared.events.Event.{Event}
-use Rattle.formats.specs.declared.events.Format.{Format}
-use Rattle.formats.specs.Events.{same_event, unit_of, is_allowed, attempts_of, event_edition}
+use Rattle.formats.specs.Events.{same_event, unit_of, is_allowed, event_edition}
 use Rattle.texts.specs.declared.command.Command.{Command}
 use Rattle.texts.specs.declared.command.Command.TheVariants.{Register, Open, Enter, Scramble}
 use Rattle.texts.specs.declared.command.Command.TheVariants.{Attempt, Correct, Strike, SetAdvance}
@@ -31,31 +24,28 @@ use Rattle.texts.specs.declared.command.Settings.{Settings}
 use Rattle.texts.specs.declared.answer.Answer.{Answer}
 use Rattle.texts.specs.declared.answer.Code.{Code}
 use Rattle.texts.specs.declared.answer.Code.TheVariants as code
-use Rattle.rounds.specs.declared.fault.EnterFault.{EnterFault}
-use Rattle.rounds.specs.declared.fault.EnterFault.TheVariants as enter
-use Rattle.rounds.specs.declared.fault.PutFault.{PutFault}
-use Rattle.rounds.specs.declared.fault.PutFault.TheVariants as put
-use Rattle.rounds.specs.declared.fault.CorrectFault.{CorrectFault}
-use Rattle.rounds.specs.declared.fault.CorrectFault.TheVariants as correct
-use Rattle.rounds.specs.declared.fault.StrikeFault.{StrikeFault}
-use Rattle.rounds.specs.declared.fault.StrikeFault.TheVariants as strike
-use Rattle.rounds.specs.declared.fault.CloseFault.{CloseFault}
-use Rattle.rounds.specs.declared.fault.CloseFault.TheVariants as close
-use Rattle.rounds.specs.Tables.{Entrant, Table, enter_fault, put_fault, replaced, correct_fault}
-use Rattle.rounds.specs.Tables.{without_last, strike_fault, started, close_fault}
+use Rattle.rounds.specs.Tables.{Entrant, Table, replaced, without_last}
 use Rattle.texts.specs.declared.reading.CommandFault.{CommandFault}
 use Rattle.texts.specs.SecondEdition.{command_of}
 use Rattle.formats.specs.declared.advance.Advance.{Advance}
-use Rattle.formats.specs.declared.advance.Advance.TheVariants.{Final, Top, Percent}
-use Rattle.advancement.specs.Advancing.{later_rounds, advancing}
 use Rattle.commands.specs.Seen.{History, nothing, answer_of, is_seen, added}
+pub use Rattle.commands.specs.Competitors.{name_given}
+pub use Rattle.commands.specs.Openings.{is_of, Opened, opening, opened}
+pub use Rattle.commands.specs.Scrambles.{scrambling}
+pub use Rattle.commands.specs.Values.{solved_under, outcome_of, settled}
+pub use Rattle.commands.specs.Rounds.{who_advance}
+pub use Rattle.commands.specs.EditionHeld.{edition_set, edition_after, edition_in}
+pub use Rattle.commands.specs.FaultCodes.{enter_code, put_code, correct_code, strike_code}
+pub use Rattle.commands.specs.FaultCodes.{close_code}
+pub use Rattle.commands.specs.AttemptChecks.{is_time, is_moves, is_multi, is_wrong, lacks_scramble}
+pub use Rattle.commands.specs.AttemptChecks.{scramble_refusal, unfit_refusal, entered_refusal}
+pub use Rattle.commands.specs.AttemptChecks.{put_refusal, correct_refusal, strike_refusal}
+pub use Rattle.commands.specs.AttemptChecks.{enter_refusal}
+pub use Rattle.commands.specs.RoundChecks.{is_cutoff, is_limit, advance_refusal, is_final, leads_on}
+pub use Rattle.commands.specs.RoundChecks.{competitors_of, has_too_few, breaks_rounds_rule}
+pub use Rattle.commands.specs.RoundChecks.{end_refusal, close_refusal}
 
 -- Competitors
-
--- the name that a command gives a number
-abbrev pub name_given : ℕ → Command → Option (List ℕ)
-name_given n (Register m name) = if m == n then Some name else None
-name_given n _ = None
 
 -- what the first command to say something says
 abbrev pub first_of : {A : Type 0} → (Command → Option A) → List Command → Option A
@@ -76,38 +66,6 @@ names_other n name _ = false
 
 -- Rounds
 
--- a round is that of an event and a number
-abbrev pub is_of : Event → ℕ → RoundId → Bool
-is_of e r id = same_event e id.event && r == id.round
-
--- a round that was opened: the commands before its opening, the settings that it was opened with,
--- and the commands since
-pub record Opened : Type 0 where
-  pub before : List Command
-  pub settings : Settings
-  pub since : List Command
-
--- the settings with which a command opens a round
-abbrev pub opening : Event → ℕ → Command → Option Settings
-opening e r (Open id settings) = if is_of e r id then Some settings else None
-opening e r _ = None
-
--- a round as the first command to open it opened it; `earlier` are the commands in front of these
-abbrev pub opened : Event → ℕ → List Command → List Command → Option Opened
-opened e r earlier [] = None
-opened e r earlier (c ∷ cs) =
-    option_or (option_map (λ settings. record {
-      before =
-          earlier;
-      settings = settings;
-      since = cs;
-    }) (opening e r c)) (opened e r (earlier ++ c ∷ []) cs)
-
--- the scramble that a command sets for an attempt
-abbrev pub scrambling : Event → ℕ → ℕ → Command → Option (List Move)
-scrambling e r k (Scramble id j moves) = if is_of e r id && k == j then Some moves else None
-scrambling e r k _ = None
-
 -- the scramble of an attempt: the first that was set for it since its round was opened
 abbrev pub scramble_since : Event → ℕ → ℕ → Opened → Option (List Move)
 scramble_since e r k o = first_of (scrambling e r k) o.since
@@ -118,24 +76,6 @@ scramble_of cs e r k = option_and_then (scramble_since e r k) (opened e r [] cs)
 -- the scramble of the attempt for which something is entered
 abbrev pub scramble_by : List Command → AttemptEntry → Option (List Move)
 scramble_by cs entry = scramble_of cs entry.id.event entry.id.round entry.attempt
-
--- the outcome of a solution under a scramble; without a scramble no solution is taken
-abbrev pub solved_under : Option (List Move) → List Move → Outcome
-solved_under None solution = outcome.Dnf
-solved_under (Some scramble) solution = outcome.Solution (result_of scramble solution)
-
--- what was entered, a solution by its result under the attempt's scramble
-abbrev pub outcome_of : Option (List Move) → Entered → Outcome
-outcome_of scramble (entered.Time time penalties) = outcome.Time time penalties
-outcome_of scramble (entered.Solution solution) = solved_under scramble solution
-outcome_of scramble (entered.Multi solved attempted seconds) =
-    outcome.Multi solved attempted seconds
-outcome_of scramble entered.Dnf = outcome.Dnf
-outcome_of scramble entered.Dns = outcome.Dns
-
--- the value of what was entered, under the round's limit and the attempt's scramble
-abbrev pub settled : Settings → Option (List Move) → Entered → Value
-settled settings scramble x = value_of settings.limit (outcome_of scramble x)
 
 -- the number that a command enters in a round: entries are for first rounds
 abbrev pub entering : Event → ℕ → Command → Option ℕ
@@ -215,11 +155,6 @@ table_of e r first o = record {
 abbrev pub round_at : Event → ℕ → List ℕ → Opened → Settings × Table
 round_at e r first o = (settings_now e r o, table_of e r first o)
 
--- those who advance from a round, in order of its standings
-abbrev pub who_advance : Option (Settings × Table) → List ℕ
-who_advance None = []
-who_advance (Some round) = advancing round.1 round.0.advance
-
 -- a round: its settings as they stand now, and its table. The entrants of a later round are those
 -- who advance from the one before, as the commands before the opening make that one. Rounds are
 -- counted from 1.
@@ -236,181 +171,7 @@ round_of cs e r = round_in e r cs
 abbrev pub round_by : List Command → RoundId → Option (Settings × Table)
 round_by cs id = round_of cs id.event id.round
 
--- Editions
-
--- the edition that a command sets
-abbrev pub edition_set : Command → Option ℕ
-edition_set (SetEdition edition) = Some edition
-edition_set _ = None
-
--- the edition after more commands: the last that was set
-abbrev pub edition_after : ℕ → List Command → ℕ
-edition_after edition [] = edition
-edition_after edition (c ∷ cs) = edition_after (unwrap_or (edition_set c) edition) cs
-
--- the edition that holds: edition 1 until another is set
-abbrev pub edition_in : List Command → ℕ
-edition_in cs = edition_after 1 cs
-
 -- Checks
-
--- the code for a table's refusal of an entry; want of memory is no answer to a command
-abbrev pub enter_code : EnterFault → Option Code
-enter_code enter.Closed = Some code.Closed
-enter_code enter.Already = Some code.Already
-enter_code enter.Full = Some code.Full
-enter_code enter.NoMemory = None
-
--- the code for a table's refusal of an attempt
-abbrev pub put_code : PutFault → Code
-put_code put.Closed = code.Closed
-put_code put.NotEntered = code.NotEntered
-put_code put.OutOfOrder = code.OutOfOrder
-put_code put.NoMoreAttempts = code.NoMoreAttempts
-
--- the code for a table's refusal of a correction
-abbrev pub correct_code : CorrectFault → Code
-correct_code correct.Closed = code.Closed
-correct_code correct.NotEntered = code.NotEntered
-correct_code correct.NoSuchAttempt = code.NoSuchAttempt
-correct_code correct.CutoffLost = code.CutoffLost
-
--- the code for a table's refusal to strike an attempt
-abbrev pub strike_code : StrikeFault → Code
-strike_code strike.Closed = code.Closed
-strike_code strike.NotEntered = code.NotEntered
-strike_code strike.NoSuchAttempt = code.NoSuchAttempt
-
--- the code for a table's refusal to be closed
-abbrev pub close_code : CloseFault → Code
-close_code close.Closed = code.Closed
-close_code close.Unfinished = code.Unfinished
-
-abbrev pub enter_refusal : ℕ → Option (Settings × Table) → Option Code
-enter_refusal n None = Some code.RoundUnknown
-enter_refusal n (Some round) = option_and_then enter_code (enter_fault round.1 n)
-
--- timed events alone accept times
-abbrev pub is_time : Measure → Bool
-is_time measure.Time = true
-is_time measure.Moves = false
-is_time measure.Multi = false
-
--- fewest moves alone accepts scrambles and solutions
-abbrev pub is_moves : Measure → Bool
-is_moves measure.Moves = true
-is_moves measure.Time = false
-is_moves measure.Multi = false
-
--- multi-blind alone accepts cubes
-abbrev pub is_multi : Measure → Bool
-is_multi measure.Multi = true
-is_multi measure.Time = false
-is_multi measure.Moves = false
-
--- what was entered is not what an event accepts: a time in fewest moves and multi-blind, a solution
--- but in fewest moves, cubes but in multi-blind
-abbrev pub is_wrong : Measure → Entered → Bool
-is_wrong unit (entered.Time time penalties) = not (is_time unit)
-is_wrong unit (entered.Solution solution) = not (is_moves unit)
-is_wrong unit (entered.Multi solved attempted seconds) = not (is_multi unit)
-is_wrong unit entered.Dnf = false
-is_wrong unit entered.Dns = false
-
--- a solution, for an attempt that has no scramble
-abbrev pub lacks_scramble : Option (List Move) → Entered → Bool
-lacks_scramble scramble (entered.Solution solution) = not (is_some scramble)
-lacks_scramble scramble (entered.Time time penalties) = false
-lacks_scramble scramble (entered.Multi solved attempted seconds) = false
-lacks_scramble scramble entered.Dnf = false
-lacks_scramble scramble entered.Dns = false
-
--- the first check of a scramble that fails
-abbrev pub scramble_refusal : Event → ℕ → Option (List Move) → Option (Settings × Table)
-    → Option Code
-scramble_refusal e k scramble None = Some code.RoundUnknown
-scramble_refusal e k scramble (Some round) =
-    if round.1.is_closed then Some code.Closed
-    else if not (is_moves (unit_of e)) then Some code.WrongOutcome
-    else if nat_lt (attempts_of round.0.format) k then Some code.NoSuchAttempt
-    else if is_some scramble then Some code.ScrambleThere
-    else None
-
--- the first check that fails of what was entered, under the scramble that the attempt has
-abbrev pub unfit_refusal : Event → Option (List Move) → Entered → Option Code
-unfit_refusal e scramble x =
-    if is_wrong (unit_of e) x then Some code.WrongOutcome
-    else if lacks_scramble scramble x then Some code.NoScramble
-    else None
-
--- the first check of an attempt, or of its correction, that fails; the table's own checks come last
-abbrev pub entered_refusal : Event → Entered → Option (List Move) → (Settings × Table → Option Code)
-    → Option (Settings × Table) → Option Code
-entered_refusal e x scramble table_refusal None = Some code.RoundUnknown
-entered_refusal e x scramble table_refusal (Some round) =
-    option_or (unfit_refusal e scramble x) (table_refusal round)
-
-abbrev pub put_refusal : ℕ → ℕ → Settings × Table → Option Code
-put_refusal n k round = option_map put_code (put_fault round.1 n k)
-
-abbrev pub correct_refusal : ℕ → ℕ → Option (List Move) → Entered → Settings × Table → Option Code
-correct_refusal n k scramble x round =
-    option_map correct_code (correct_fault round.1 n k (settled round.0 scramble x))
-
-abbrev pub strike_refusal : ℕ → Option (Settings × Table) → Option Code
-strike_refusal n None = Some code.RoundUnknown
-strike_refusal n (Some round) = option_map strike_code (strike_fault round.1 n)
-
-abbrev pub advance_refusal : Option (Settings × Table) → Option Code
-advance_refusal None = Some code.RoundUnknown
-advance_refusal (Some round) = if round.1.is_closed then Some code.Closed else None
-
-abbrev pub is_final : Advance → Bool
-is_final Final = true
-is_final (Top number) = false
-is_final (Percent percent) = false
-
--- a round is closed, and is not the event's last
-abbrev pub leads_on : Option (Settings × Table) → Bool
-leads_on None = false
-leads_on (Some round) = round.1.is_closed && not (is_final round.0.advance)
-
--- how many competitors a round has
-abbrev pub competitors_of : Option (Settings × Table) → ℕ
-competitors_of None = 0
-competitors_of (Some round) = started round.1
-
--- the competitors of round j do not allow the r + 1 - j later rounds up to round r + 1 (WCA
--- Regulations, article 9m)
-abbrev pub has_too_few : (ℕ → Option (Settings × Table)) → ℕ → ℕ → Bool
-has_too_few rounds r j = nat_lt (later_rounds (competitors_of (rounds j))) (r + 1 - j)
-
--- round r is to be followed by another, and some round from 1 to r has too few competitors for it
-abbrev pub breaks_rounds_rule : (ℕ → Option (Settings × Table)) → ℕ → Advance → Bool
-breaks_rounds_rule rounds r advance =
-    not (is_final advance) && list_any (has_too_few rounds r) (range_with_len 1 r)
-
--- the first check of a closing that fails, of a table that is there
-abbrev pub end_refusal : Option CloseFault → Bool → Option Code
-end_refusal (Some fault) breaks = Some (close_code fault)
-end_refusal None breaks = if breaks then Some code.RoundsRule else None
-
-abbrev pub close_refusal : (ℕ → Option (Settings × Table)) → ℕ → Option (Settings × Table)
-    → Option Code
-close_refusal rounds r None = Some code.RoundUnknown
-close_refusal rounds r (Some round) =
-    end_refusal (close_fault round.1) (breaks_rounds_rule rounds r round.0.advance)
-
--- a cutoff counts fewer attempts than the format has; multi-blind has no cutoff
-abbrev pub is_cutoff : Measure → Format → Option (ℕ × ℕ) → Bool
-is_cutoff unit format None = true
-is_cutoff unit format (Some cutoff) = not (is_multi unit) && nat_lt cutoff.0 (attempts_of format)
-
--- timed events have a limit, and others have none
-abbrev pub is_limit : Measure → Option ℕ → Bool
-is_limit measure.Time limit = is_some limit
-is_limit measure.Moves limit = not (is_some limit)
-is_limit measure.Multi limit = not (is_some limit)
 
 -- the first check of a command that fails, each a sentence on the accepted commands so far
 abbrev pub refusal : List Command → Command → Option Code

@@ -1,6 +1,6 @@
 //! Laws of what a list of entries comes to.
 
-ghost use Rattle.commands.specs.EditionLaws.{AnswersAsFirst, AnswersAsSecond};
+ghost use Rattle.commands.specs.EditionLaws.{AnswersAsEarlier, AnswersAsFirst, AnswersAsSecond};
 ghost use Rattle.commands.specs.History.{SeesEachId};
 ghost use Rattle.commands.specs.MendingLaws.{ClosesAsBefore, RenamesAlone};
 
@@ -10,14 +10,21 @@ pub fn every_id_is_seen()
     ensures { SeesEachId }
 {}
 
-/// A law: after entries without the texts `EDITION 2` and `EDITION 3` an entry without them is
-/// answered as edition 1 answered it, by that edition's own definitions.
+/// A law: a later edition changes no answer before it is set. For every number of editions, a list
+/// that sets none of the further ones is answered by whoever knows more editions as by whoever
+/// knows these alone.
+pub fn later_editions_change_no_answer()
+    ensures { AnswersAsEarlier }
+{}
+
+/// A law: whoever knows edition 1 alone answers every list as edition 1 did, by the copy that is
+/// kept of its definitions.
 pub fn first_edition_answers()
     ensures { AnswersAsFirst }
 {}
 
-/// A law: after entries without the text `EDITION 3` an entry without it is answered as edition 2
-/// answered it, by that edition's own definitions.
+/// A law: whoever knows editions 1 and 2 answers every list as edition 2 did, by the copy that is
+/// kept of its definitions.
 pub fn second_edition_answers()
     ensures { AnswersAsSecond }
 {}

@@ -18,8 +18,8 @@ mod settings;
 mod solutions;
 
 pub use laws::{
-    closes_as_before, every_id_is_seen, first_edition_answers, renames_alone,
-    second_edition_answers,
+    closes_as_before, every_id_is_seen, first_edition_answers, later_editions_change_no_answer,
+    renames_alone, second_edition_answers,
 };
 pub use meet::Meet;
 pub use outcomes::{is_wrong, lacks_scramble, settled};

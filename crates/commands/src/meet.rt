@@ -73,7 +73,7 @@ impl Meet {
     ///
     /// A refused entry adds its id to those seen and changes nothing else. At `NoMemory` nothing
     /// changes at all.
-    #[tactic(auto, unfolding(crate::specs::History::after, crate::specs::History::entry_refusal))]
+    #[tactic(auto, unfolding(crate::specs::History::after_in, crate::specs::History::entry_refusal_in))]
     pub fn apply(&mut self, id: u64, text: &[u8]) -> Result<Answer, NoMemory>
         ensures answer { IfOk result (λ answer. answer ≡ answer_to self.old id text.now) }
         ensures after { OnOk result (self.new ≡ after self.old id text.now) }

@@ -1,52 +1,23 @@
 -- Entries that are sent: of new ids, and again.
-use Rattle.std.proofs.Common.{◌≡◌, ◌==◌, ℕ, Bool, true, false, cond, List, []}
-use Rattle.std.proofs.Common.{◌∷◌, ◌++◌, map, take, drop, Option, Some, None, refl, ap, sym}
+use Rattle.std.proofs.Common.{◌≡◌, ◌==◌, ℕ, true, false, List, []}
+use Rattle.std.proofs.Common.{◌∷◌, ◌++◌, map, take, drop, refl, ap, sym}
 use Rattle.std.proofs.Common.{◌∙◌, subst, append_assoc, append-nil}
 use Rattle.std.proofs.lemmas.List.{take-append-drop}
 use Rattle.std.proofs.lemmas.List.Folds.{list_any-append}
 use Rattle.std.proofs.lemmas.List.Sums.{fold-append}
-use Rattle.std.specs.Prelude.{Result, Ok}
+use Rattle.std.specs.Prelude.{Ok}
 use Rattle.std.specs.List.{list_any, AllByRecursion}
 use Rattle.texts.specs.declared.command.Command.{Command}
-use Rattle.texts.specs.declared.reading.CommandFault.{CommandFault}
-use Rattle.texts.specs.declared.answer.Code.{Code}
 use Rattle.texts.specs.declared.answer.Code.TheVariants as code
-use Rattle.texts.specs.declared.answer.Answer.TheVariants.{Done, Refused}
+use Rattle.texts.specs.declared.answer.Answer.TheVariants.{Refused}
 use Rattle.texts.specs.Reading.{command_of}
 use Rattle.texts.specs.Spelling.{IsFit, spelling}
 use Rattle.texts.proofs.Words.{spelled_found}
-use Rattle.commands.specs.History.{History, after, answer_of, answer_to, is_seen}
-use Rattle.commands.specs.History.{read_refusal, added_read, entry_refusal, spelled_refusal}
-use Rattle.commands.proofs.Entries.{after_seen}
+use Rattle.commands.specs.History.{History, after, answer_to, entry_refusal_in, is_seen}
+use Rattle.commands.proofs.Entries.{after_done, after_ids, after_seen, answer_done, grown}
 use Rattle.derivation.specs.Laws.{after_all, AreDone, AreRepeats, HaveNewIds, CountsOnce, GoesOn}
 use Rattle.derivation.proofs.Runs.{AreAccepted}
 use Rattle.derivation.proofs.Tests.{both_false, is_eq, or_true, swapped}
-
--- the history with one more entry, whose command was accepted
-abbrev grown : History → ℕ → Command → History
-grown h id c = record { ids = h.ids ++ id ∷ []; accepted = h.accepted ++ c ∷ [] }
-
--- an entry of a new id whose text reads as a command that is accepted
-done_one : (h : History) (id : ℕ) (text : List ℕ) (c : Command) → is_seen h id ≡ false
-    → command_of text ≡ Ok c → spelled_refusal h.accepted c ≡ None → answer_to h id text ≡ Done
-unfolding entry_refusal
-done_one h id text c new reads accepted =
-    ap (λ b. answer_of (cond b (Some code.Repeat) (read_refusal h.accepted (command_of text)))) new
-    ∙ ap (λ r. answer_of (read_refusal h.accepted r)) reads ∙ ap answer_of accepted
-
-grown_by : (h : History) (id : ℕ) (text : List ℕ) (c : Command) → is_seen h id ≡ false
-    → command_of text ≡ Ok c → spelled_refusal h.accepted c ≡ None
-    → after h id text ≡ grown h id c
-unfolding after
-grown_by h id text c new reads accepted =
-    ap (λ b. cond b h (now (command_of text))) new ∙ ap now reads
-    ∙ ap (λ (o : Option Code). with_more (added_read o (Ok c))) accepted
-  where
-    with_more : List Command → History
-    with_more more = record { ids = h.ids ++ id ∷ []; accepted = h.accepted ++ more }
-
-    now : Result Command CommandFault → History
-    now r = with_more (added_read (read_refusal h.accepted r) r)
 
 -- new ids stay so after another one
 still_new : (h : History) (id : ℕ) (c : Command) (entries : List (ℕ × List ℕ))
@@ -78,12 +49,12 @@ all_done h (entry ∷ entries) (c ∷ cs) accepted fits new same =
     let text : entry.1 ≡ spelling c = cc in
     let texts : map (λ e. e.1) entries ≡ map spelling cs = cc in
     let reads : command_of entry.1 ≡ Ok c = ap command_of text ∙ spelled_found c fits.0 in
-    let next = grown_by h entry.0 entry.1 c new.0 reads accepted.0 in
+    let next = after_done h entry.0 entry.1 c new.0 reads accepted.0 in
     let rest = all_done (grown h entry.0 c) entries cs accepted.1 fits.1
     (still_new h entry.0 c entries new.2 new.1) texts in
     record {
       done = (
-        done_one h entry.0 entry.1 c new.0 reads accepted.0,
+        answer_done h entry.0 entry.1 c new.0 reads accepted.0,
         subst (λ x. AreDone x entries) (sym next) rest.done,
       );
       accepted =
@@ -96,37 +67,10 @@ all_done h (entry ∷ entries) (c ∷ cs) accepted fits new same =
 -- an id that was seen stays so, and the id of an entry is seen after it
 stays_seen : (h : History) (i id : ℕ) (text : List ℕ) → is_seen h id ≡ true
     → is_seen (after h i text) id ≡ true
-unfolding after
-stays_seen h i id text seen = step (is_seen h i)
-  where
-    more : List Command
-    more = h.accepted ++ added_read (read_refusal h.accepted (command_of text)) (command_of text)
-
-    step : (b : Bool)
-        → is_seen
-        (cond b h (let new : History = record { ids = h.ids ++ i ∷ []; accepted = more } in new)) id
-        ≡ true
-    step true = seen
-    step false = list_any-append (λ other. id == other) h.ids (i ∷ []) ∙ rw seen refl
+stays_seen h i id text seen = after_ids h i id text ∙ rw seen refl
 
 seen_itself : (h : History) (id : ℕ) (text : List ℕ) → is_seen (after h id text) id ≡ true
-unfolding after
-seen_itself h id text = step (is_seen h id) refl
-  where
-    more : List Command
-    more = h.accepted ++ added_read (read_refusal h.accepted (command_of text)) (command_of text)
-
-    same : (id == id) ≡ true
-    same = is_eq id id refl
-
-    step : (b : Bool) → is_seen h id ≡ b
-        → is_seen
-        (cond b h (let new : History = record { ids = h.ids ++ id ∷ []; accepted = more } in new))
-        id
-        ≡ true
-    step true seen = seen
-    step false new =
-        list_any-append (λ other. id == other) h.ids (id ∷ []) ∙ rw same (or_true _)
+seen_itself h id text = after_ids h id id text ∙ rw (is_eq id id refl) (or_true (is_seen h id))
 
 stays_after : (h : History) (entries : List (ℕ × List ℕ)) (id : ℕ) → is_seen h id ≡ true
     → is_seen (after_all h entries) id ≡ true
@@ -150,7 +94,7 @@ seen_after h (e ∷ entries) between = (
 
 repeated : (h : History) (id : ℕ) (text : List ℕ) → is_seen h id ≡ true
     → answer_to h id text ≡ Refused code.Repeat
-unfolding entry_refusal
+unfolding entry_refusal_in
 repeated h id text seen = rw seen refl
 
 -- entries whose ids were all seen are repeats, and change nothing

@@ -21,8 +21,8 @@ use Rattle.formats.specs.Results.{key_of, is_better}
 use Rattle.indexmap.proofs.MapLemmas.{Found-position, Missing-position}
 use Rattle.rounds.specs.declared.rules.Rules.{Rules}
 use Rattle.rounds.specs.declared.kept_entrant.KeptEntrant.{KeptEntrant}
-use Rattle.rounds.specs.Tables.{Entrant, IsCutoff, has_number, place}
-use Rattle.rounds.specs.model.Field.{Field, as_table, set_values_at, with_change, IsEntrantAt}
+use Rattle.rounds.specs.Tables.{Entrant, IsCutoff, changed_of, has_number, place}
+use Rattle.rounds.specs.model.Field.{Field, as_table, set_values_at, IsEntrantAt}
 use Rattle.rounds.specs.model.Field.{IsKeptEntrantOf}
 use Rattle.rounds.specs.model.KeptEntrants.{kept_of, place_among}
 use Rattle.rounds.specs.model.UpToDate.{entrant_of, entrants_of, IsMade, IsPlaced, IsAllotted}
@@ -75,17 +75,17 @@ none_from (Some x) h = absurd (false≢true (sym h))
 
 -- no line has the number: a change of its values changes nothing
 change_or : (n : ℕ) (change : List Value → List Value) (e : Entrant) (b : Bool) → has_number n e ≡ b
-    → b ≡ false → with_change n change e ≡ e
+    → b ≡ false → changed_of n change e ≡ e
 change_or n change e true h is = absurd (false≢true (sym is))
 change_or n change e false h is = ap (λ b. cond b (record e { values = change e.values }) e) h
 
 change_none : (n m : ℕ) (change : List Value → List Value) (es : List (ℕ × KeptEntrant)) → m ≡ n
     → AllByRecursion (λ k. nat_eq m k ≡ false) (keys_of es)
-    → map (with_change n change) (entrants_of es) ≡ entrants_of es
+    → map (changed_of n change) (entrants_of es) ≡ entrants_of es
 change_none n m change [] same h = refl
 change_none n m change (e ∷ es) same h =
     let apart : nat_eq n e.0 ≡ false = subst (λ k. nat_eq k e.0 ≡ false) same h.0 in
-    ap (λ x. x ∷ map (with_change n change) (entrants_of es))
+    ap (λ x. x ∷ map (changed_of n change) (entrants_of es))
     (change_or n change (entrant_of e) (has_number n (entrant_of e)) refl apart)
     ∙ ap (λ xs. entrant_of e ∷ xs) (change_none n m change es same h.1)
 
@@ -101,7 +101,7 @@ key_at P (e ∷ es) (suc i) n s h at = key_at P es i n s h.1 at
 change_at : (n : ℕ) (change : List Value → List Value) (es : List (ℕ × KeptEntrant)) (i : ℕ)
     (s : KeptEntrant)
     → IsDistinct nat_eq (keys_of es) → slice_get es i ≡ Some (n, s)
-    → set_values_at (entrants_of es) i (change s.row) ≡ map (with_change n change) (entrants_of es)
+    → set_values_at (entrants_of es) i (change s.row) ≡ map (changed_of n change) (entrants_of es)
 unfolding IsDistinct
 change_at n change [] i s apart at = cc
 change_at n change (x ∷ es) zero s apart at =
@@ -116,13 +116,13 @@ change_at n change (x ∷ es) zero s apart at =
     ∙ ap
     (λ b.
     cond b (record (entrant_of x) { values = change x.1.row }) (entrant_of x) ∷ map
-    (with_change n change) (entrants_of es))
+    (changed_of n change) (entrants_of es))
     (sym here)
 change_at n change (x ∷ es) (suc i) s apart at =
     let other : nat_eq x.0 n ≡ false = key_at (λ k. nat_eq x.0 k ≡ false) es i n s apart.0 at in
     let here : nat_eq n x.0 ≡ false = grind (arith, nat_tests) in
     ap (λ xs. entrant_of x ∷ xs) (change_at n change es i s apart.1 at)
-    ∙ ap (λ y. y ∷ map (with_change n change) (entrants_of es))
+    ∙ ap (λ y. y ∷ map (changed_of n change) (entrants_of es))
     (sym (change_or n change (entrant_of x) (has_number n (entrant_of x)) refl here))
 
 -- The others, once one of them has left

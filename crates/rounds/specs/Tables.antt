@@ -19,6 +19,8 @@ use Rattle.rounds.specs.declared.fault.PutFault.{PutFault}
 use Rattle.rounds.specs.declared.fault.PutFault.TheVariants as put
 use Rattle.rounds.specs.declared.fault.CorrectFault.{CorrectFault}
 use Rattle.rounds.specs.declared.fault.CorrectFault.TheVariants as correct
+use Rattle.rounds.specs.declared.fault.SetFault.{SetFault}
+use Rattle.rounds.specs.declared.fault.SetFault.TheVariants as set
 use Rattle.rounds.specs.declared.fault.StrikeFault.{StrikeFault}
 use Rattle.rounds.specs.declared.fault.StrikeFault.TheVariants as strike
 use Rattle.rounds.specs.declared.fault.CloseFault.{CloseFault}
@@ -82,6 +84,34 @@ allotted format (Some cutoff) vs = if meets cutoff vs then attempts_of format el
 abbrev pub KeepsAllotted : Table → Type 0
 KeepsAllotted t = All (λ e. length e.values ≤ allotted t.format t.cutoff e.values) t.entrants
 
+-- Changing
+
+-- the values of one entrant are changed
+abbrev pub changed_of : ℕ → (List Value → List Value) → Entrant → Entrant
+changed_of n change e = if has_number n e then record e { values = change e.values } else e
+
+-- a round in which the values of one entrant are changed
+abbrev pub changed : Table → ℕ → (List Value → List Value) → Table
+changed t n change = record t { entrants = map (changed_of n change) t.entrants }
+
+-- no more values than they themselves allot
+abbrev pub fits : Format → Option (ℕ × ℕ) → List Value → Bool
+fits format cutoff vs = nat_le (length vs) (allotted format cutoff vs)
+
+-- the first cause why these are not the values of an entrant
+abbrev pub list_fault : Format → Option (ℕ × ℕ) → List Value → Option Entrant → Option SetFault
+list_fault format cutoff vs None = Some set.NotEntered
+list_fault format cutoff vs (Some e) =
+    if fits format cutoff vs then None else Some set.NoMoreAttempts
+
+abbrev pub set_fault : Table → ℕ → List Value → Option SetFault
+set_fault t n vs =
+    if t.is_closed then Some set.Closed else list_fault t.format t.cutoff vs (entrant t n)
+
+-- a round in which these are the values of an entrant
+abbrev pub with_values : Table → ℕ → List Value → Table
+with_values t n vs = changed t n (λ old. vs)
+
 -- Entering
 
 -- the first cause why an entry is refused
@@ -116,11 +146,8 @@ abbrev pub put_fault : Table → ℕ → ℕ → Option PutFault
 put_fault t n k =
     if t.is_closed then Some put.Closed else next_fault t.format t.cutoff k (entrant t n)
 
-abbrev pub plus_value : ℕ → Value → Entrant → Entrant
-plus_value n v e = if has_number n e then record e { values = e.values ++ v ∷ [] } else e
-
 abbrev pub with_value : Table → ℕ → Value → Table
-with_value t n v = record t { entrants = map (plus_value n v) t.entrants }
+with_value t n v = changed t n (λ vs. vs ++ v ∷ [])
 
 -- Corrections
 
@@ -149,12 +176,9 @@ abbrev pub correct_fault : Table → ℕ → ℕ → Value → Option CorrectFau
 correct_fault t n k v =
     if t.is_closed then Some correct.Closed else change_fault t.cutoff k v (entrant t n)
 
-abbrev pub with_replaced : ℕ → ℕ → Value → Entrant → Entrant
-with_replaced n k v e = if has_number n e then record e { values = replaced k v e.values } else e
-
 -- a round in which attempt k of an entrant has another value
 abbrev pub corrected : Table → ℕ → ℕ → Value → Table
-corrected t n k v = record t { entrants = map (with_replaced n k v) t.entrants }
+corrected t n k v = changed t n (replaced k v)
 
 -- Striking
 
@@ -169,12 +193,9 @@ last_fault (Some e) = if length e.values == 0 then Some strike.NoSuchAttempt els
 abbrev pub strike_fault : Table → ℕ → Option StrikeFault
 strike_fault t n = if t.is_closed then Some strike.Closed else last_fault (entrant t n)
 
-abbrev pub less_last : ℕ → Entrant → Entrant
-less_last n e = if has_number n e then record e { values = without_last e.values } else e
-
 -- a round in which the last attempt of an entrant is removed
 abbrev pub struck : Table → ℕ → Table
-struck t n = record t { entrants = map (less_last n) t.entrants }
+struck t n = changed t n without_last
 
 -- What changes while nobody has done an attempt
 

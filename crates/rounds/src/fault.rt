@@ -39,6 +39,17 @@ pub enum CorrectFault {
     CutoffLost,
 }
 
+/// Why an entrant did not get other values.
+#[derive(Clone, Copy, Debug, PartialEq, Eq)]
+pub enum SetFault {
+    /// The round is closed.
+    Closed,
+    /// The competitor is not entered.
+    NotEntered,
+    /// There are more values than they allot.
+    NoMoreAttempts,
+}
+
 /// Why the last attempt was not removed.
 #[derive(Clone, Copy, Debug, PartialEq, Eq)]
 pub enum StrikeFault {

@@ -16,7 +16,7 @@ mod table;
 mod value_row;
 
 pub use fault::{
-    CloseFault, CorrectFault, EnterFault, PutFault, ReopenFault, RulesFault, StrikeFault,
+    CloseFault, CorrectFault, EnterFault, PutFault, ReopenFault, RulesFault, SetFault, StrikeFault,
     WithdrawFault,
 };
 pub use kept::Kept;

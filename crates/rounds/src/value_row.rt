@@ -35,6 +35,19 @@ impl ValueRow {
         }
     }
 
+    /// The row of these values.
+    pub(crate) fn of(values: &[Value]) -> Self
+        requires { length values.now ≤ 5 }
+        ensures { result ≡ values.now }
+    {
+        let mut row = [Value::Dns; 5];
+        row[..values.len()].copy_from_slice(values);
+        ValueRow {
+            done: values.len() as u8,
+            values: row,
+        }
+    }
+
     /// The values, in order.
     pub(crate) fn values(&self) -> &[Value]
         ensures values { result.now ≡ self.now }

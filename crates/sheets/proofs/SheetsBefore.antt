@@ -1,4 +1,4 @@
--- Without `EDITION 2` every sheet of edition 2 is as edition 1 had it.
+-- A program that knows edition 1 alone prints the sheets of the copy of edition 1.
 use Rattle.std.proofs.Common.{◌≡◌, ℕ, true, false, List, [], ◌∷◌, ◌++◌, flat_map, Option, Some}
 use Rattle.std.proofs.Common.{None, Bool, zero, suc, ◌==◌, option_map, unwrap_or, refl, sym, ap}
 use Rattle.std.proofs.Common.{◌∙◌, subst, eqb-true}
@@ -15,15 +15,16 @@ use Rattle.formats.specs.Events.{unit_of, attempts_of, event_edition}
 use Rattle.texts.specs.declared.command.Command.{Command}
 use Rattle.texts.specs.declared.command.Settings.{Settings}
 use Rattle.rounds.specs.Tables.{Entrant, Table, entrant, standings}
-use Rattle.commands.specs.SecondEdition.{opened, round_in, round_of, is_multi, history}
+use Rattle.commands.specs.History.{history_in}
+use Rattle.commands.specs.SecondEdition.{opened, round_in, round_of, is_multi}
 use Rattle.commands.specs.FirstEdition as commands
-use Rattle.commands.proofs.Before.{IsFirstEvent, first_event, AreFirst, round_alike, history_alike}
-use Rattle.commands.proofs.Before.{history_first, not_multi}
+use Rattle.commands.proofs.Before.{IsFirstEvent, first_event, AreFirst, round_alike, not_multi}
+use Rattle.commands.proofs.FirstCopy.{history_alike, are_first, are_second}
 use Rattle.sheets.specs.declared.Style.{Style}
 use Rattle.sheets.specs.declared.Style.TheVariants as style
 use Rattle.sheets.specs.EditionLaw.{PrintsAsFirst}
 use Rattle.sheets.specs.FirstEdition as first
-use Rattle.sheets.proofs.SheetsSecond.{prints_as_second}
+use Rattle.sheets.proofs.SheetsSecond.{sheet_alike as second_sheet_alike}
 use Rattle.sheets.specs.SecondEdition.{name_text, header, first_line, second_line, entrant_line}
 use Rattle.sheets.specs.SecondEdition.{line_of}
 use Rattle.sheets.specs.SecondEdition.{text_of_round, entrant_record, record_of, table_of_round}
@@ -172,10 +173,9 @@ each_event shape cs e round position are = step (event_edition e == 1) refl
         (sym (multi e is)) (none shape)
 
 pub prints_as_first : PrintsAsFirst
-prints_as_first entries style e round position seconds thirds =
-    prints_as_second entries style e round position thirds
+prints_as_first entries style e round position =
+    second_sheet_alike style (history_in 1 entries).accepted e round position
+    (are_second entries).early
     ∙ sym
-    (ap (λ h. first.sheet style h.accepted e round position)
-    (history_alike entries seconds thirds)
-    ∙ each_event style (history entries).accepted e round position
-    (history_first entries seconds thirds))
+    (ap (λ h. first.sheet style h.accepted e round position) (history_alike entries)
+    ∙ each_event style (history_in 1 entries).accepted e round position (are_first entries))

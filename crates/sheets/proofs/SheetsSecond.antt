@@ -1,4 +1,4 @@
--- Without `EDITION 3` every sheet is as edition 2 had it.
+-- A program that knows editions 1 and 2 prints the sheets of the copy of edition 2.
 use Rattle.std.proofs.Common.{◌≡◌, ℕ, List, [], ◌∷◌, ◌++◌, flat_map, Option, Some, None, option_map}
 use Rattle.std.proofs.Common.{unwrap_or, refl, sym, ap, ◌∙◌}
 use Rattle.csv.specs.Writing.{row_text, default_writer}
@@ -9,7 +9,7 @@ use Rattle.texts.specs.declared.command.Command.{Command}
 use Rattle.texts.specs.declared.command.Settings.{Settings}
 use Rattle.rounds.specs.Tables.{Table, entrant, standings}
 use Rattle.commands.specs.Accepted.{round_of}
-use Rattle.commands.specs.History.{history}
+use Rattle.commands.specs.History.{history_in}
 use Rattle.commands.specs.SecondEdition as commands
 use Rattle.commands.proofs.Early.{AreEarly, name_alike, round_alike}
 use Rattle.commands.proofs.SecondBefore.{history_alike, history_second}
@@ -66,7 +66,7 @@ round_printed print prints each before now same = ap (option_map print) same ∙
     step None = refl
     step (Some r) = ap Some (each r)
 
-sheet_alike : (style : Style) (cs : List Command) (e : Event) (round position : ℕ) → AreEarly cs
+pub sheet_alike : (style : Style) (cs : List Command) (e : Event) (round position : ℕ) → AreEarly cs
     → sheet style cs e round position ≡ second.sheet style cs e round position
 sheet_alike style.Text cs e round position h =
     round_printed (text_of_round cs e round position) (second.text_of_round cs e round position)
@@ -77,8 +77,7 @@ sheet_alike style.Table cs e round position h =
     (round_of cs e round) (commands.round_of cs e round) (round_alike e round cs h)
 
 pub prints_as_second : PrintsAsSecond
-prints_as_second entries style e round position others =
-    sheet_alike style (history entries).accepted e round position
-    (history_second entries others).early
-    ∙ sym
-    (ap (λ h. second.sheet style h.accepted e round position) (history_alike entries others))
+prints_as_second entries style e round position =
+    sheet_alike style (history_in 2 entries).accepted e round position
+    (history_second entries).early
+    ∙ sym (ap (λ h. second.sheet style h.accepted e round position) (history_alike entries))

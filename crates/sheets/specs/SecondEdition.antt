@@ -1,111 +1,33 @@
--- What edition 2 printed of its accepted commands, as it stands since before there was a third. It
--- is kept here in its own words, the header, the lines, the marks and the best too; the law of
--- editions compares it with `Sheet`.
-use Rattle.std.specs.Prelude.{ℕ, ◌-◌, Bool, true, false, ◌&&◌, List, [], ◌∷◌, ◌++◌, length}
-use Rattle.std.specs.Prelude.{replicate, map, flat_map, slice_get, unwrap_or, codes, decimal}
+-- What edition 2 printed of its accepted commands, as it stands since before there was a third. The
+-- rounds and the names are those of edition 2, and its lines are those of `Sheet`; the law of
+-- editions compares the two.
+use Rattle.std.specs.Prelude.{ℕ, List, [], ◌++◌}
+use Rattle.std.specs.Prelude.{flat_map, unwrap_or}
 use Rattle.std.specs.Prelude.{Option}
-use Rattle.std.specs.List.{range_with_len}
 use Rattle.std.specs.Option.{option_map}
 use Rattle.csv.specs.Writing.{row_text, default_writer}
-use Rattle.attempts.specs.declared.Value.{Value}
 use Rattle.attempts.specs.declared.Unit.{Unit as Measure}
-use Rattle.attempts.specs.declared.Unit.TheVariants.{Time, Moves, Multi}
-use Rattle.attempts.specs.Texts.{value_text}
 use Rattle.formats.specs.declared.events.Event.{Event}
-use Rattle.formats.specs.declared.events.Format.{Format}
-use Rattle.formats.specs.Events.{event_name, format_name, attempts_of, unit_of}
-use Rattle.formats.specs.declared.results.Averaged.{Averaged}
-use Rattle.formats.specs.Results.{best_of, average_of, average_text}
+use Rattle.formats.specs.Events.{attempts_of, unit_of}
 use Rattle.texts.specs.declared.command.Command.{Command}
 use Rattle.texts.specs.declared.command.Settings.{Settings}
-use Rattle.advancement.specs.Advancing.{goes_on}
-use Rattle.texts.specs.Spelling.{cutoff_text, limit_text, advance_text}
-use Rattle.rounds.specs.Tables.{Entrant, Table, entrant, place, standings}
+use Rattle.rounds.specs.Tables.{Table, entrant, standings}
 use Rattle.commands.specs.SecondEdition.{name_of, round_of}
 use Rattle.sheets.specs.declared.Style.{Style}
 use Rattle.sheets.specs.declared.Style.TheVariants as style
-
--- ---- what a sheet says of a round
-
-abbrev pub state_text : Bool → List ℕ
-state_text true = codes "closed"
-state_text false = codes "open"
+pub use Rattle.sheets.specs.Sheet.{attempt_text, attempts, best_text, columns}
+pub use Rattle.sheets.specs.Sheet.{entrant_fields}
+unfoldable pub use Rattle.sheets.specs.Sheet.{entrant_line, entrant_record}
+pub use Rattle.sheets.specs.Sheet.{first_line, header, is_marked, mark, person}
+pub use Rattle.sheets.specs.Sheet.{result_fields, results, right, second_line, standing}
+pub use Rattle.sheets.specs.Sheet.{state_text, title, yes_or_no}
 
 -- ---- what a sheet says of an entrant
-
--- the best, where there is an attempt
-abbrev pub best_text : Measure → List Value → List ℕ
-best_text unit [] = codes "-"
-best_text unit (v ∷ vs) = value_text unit (best_of (v ∷ vs))
-
--- the attempt at a place, where it is there
-abbrev pub attempt_text : Measure → List Value → ℕ → List ℕ
-attempt_text unit vs k = unwrap_or (option_map (value_text unit) (slice_get vs k)) (codes "-")
 
 abbrev pub name_text : List Command → ℕ → List ℕ
 name_text cs n = unwrap_or (name_of cs n) []
 
--- who advances is marked once the round is closed
-abbrev pub is_marked : Settings → Table → ℕ → Bool
-is_marked settings t n = t.is_closed && goes_on t settings.advance n
-
 -- ---- the text
-
--- a text on the right of so many columns
-abbrev pub right : ℕ → List ℕ → List ℕ
-right width text = replicate (width - length text) 32 ++ text
-
-abbrev pub mark : Bool → List ℕ
-mark true = codes "Q"
-mark false = codes "-"
-
--- the first line
-abbrev pub title : Event → ℕ → Format → List ℕ
-title event round format =
-    event_name event ++ codes " round " ++ decimal round ++ codes " " ++ format_name format
-
-abbrev pub standing : Bool → ℕ → List ℕ
-standing closed position =
-    codes " " ++ state_text closed ++ codes " position " ++ decimal position ++ codes "\n"
-
-abbrev pub first_line : Event → ℕ → Settings → Bool → ℕ → List ℕ
-first_line event round settings closed position =
-    title event round settings.format ++ standing closed position
-
--- the second line, its parts spelled as in the command that opens a round
-abbrev pub second_line : Settings → List ℕ
-second_line settings =
-    (codes "cutoff " ++ cutoff_text settings.cutoff)
-    ++ (codes " limit " ++ limit_text settings.limit)
-    ++ (codes " advance " ++ advance_text settings.advance ++ codes "\n")
-
--- how wide the columns of results are
-abbrev pub columns : Measure → ℕ
-columns Time = 9
-columns Moves = 9
-columns Multi = 11
-
--- the line of an entrant: place, average and best; a column for each attempt of the format; number,
--- mark and name
-abbrev pub results : Measure → ℕ → Averaged → List Value → List ℕ
-results unit place average vs =
-    right 3 (decimal place) ++ codes " " ++ right (columns unit) (average_text unit average)
-    ++ codes " " ++ right (columns unit) (best_text unit vs)
-
-abbrev pub attempts : Measure → ℕ → List Value → List ℕ
-attempts unit n vs =
-    flat_map (λ k. codes " " ++ right (columns unit) (attempt_text unit vs k)) (range_with_len 0 n)
-
-abbrev pub person : ℕ → Bool → List ℕ → List ℕ
-person number marked name =
-    codes " " ++ right 4 (decimal number) ++ codes " " ++ mark marked
-    ++ (codes " " ++ name ++ codes "\n")
-
-unfoldable pub entrant_line : Measure → Settings → Table → ℕ → List ℕ → Entrant → List ℕ
-entrant_line unit settings t number name e =
-    results unit (place t e) (average_of t.format t.unit e.values) e.values
-    ++ attempts unit (attempts_of settings.format) e.values
-    ++ person number (is_marked settings t number) name
 
 -- the line of the entrant with a number
 abbrev pub line_of : Measure → List Command → Settings → Table → ℕ → List ℕ
@@ -123,37 +45,6 @@ text_sheet cs event round position =
     option_map (text_of_round cs event round position) (round_of cs event round)
 
 -- ---- the table
-
-abbrev pub yes_or_no : Bool → List ℕ
-yes_or_no true = codes "yes"
-yes_or_no false = codes "no"
-
--- the fields of the header
-abbrev pub header : ℕ → List (List ℕ)
-header n =
-    codes "place" ∷ codes "number" ∷ codes "name" ∷ codes "average" ∷ codes "best" ∷ []
-    ++ map decimal (range_with_len 1 n)
-    ++ codes "advances" ∷ []
-
--- the average and the best of an entrant
-abbrev pub result_fields : Measure → Averaged → List Value → List (List ℕ)
-result_fields unit average vs = average_text unit average ∷ best_text unit vs ∷ []
-
--- the fields of an entrant
-abbrev pub entrant_fields : Measure → ℕ → ℕ → ℕ → List ℕ → Averaged → List Value → Bool
-    → List (List ℕ)
-entrant_fields unit n place number name average vs marked =
-    decimal place ∷ decimal number ∷ name ∷ []
-    ++ result_fields unit average vs
-    ++ map (attempt_text unit vs) (range_with_len 0 n)
-    ++ yes_or_no marked ∷ []
-
--- the record of an entrant, as the CSV writer writes it
-unfoldable pub entrant_record : Measure → Settings → Table → ℕ → List ℕ → Entrant → List ℕ
-entrant_record unit settings t number name e =
-    row_text default_writer (entrant_fields unit (attempts_of settings.format)
-    (place t e) number name (average_of t.format t.unit e.values) e.values
-    (is_marked settings t number))
 
 -- the record of the entrant with a number
 abbrev pub record_of : Measure → List Command → Settings → Table → ℕ → List ℕ

@@ -1,6 +1,6 @@
 //! What holds of every sheet.
 
-ghost use Rattle.sheets.specs.EditionLaw.{PrintsAsFirst, PrintsAsSecond};
+ghost use Rattle.sheets.specs.EditionLaw.{PrintsAsEarlier, PrintsAsFirst, PrintsAsSecond};
 ghost use Rattle.sheets.specs.FrameLaw.{FitsInAFrame};
 
 /// A law: a sheet has at most 299,992 bytes, so that it fits into a frame of desks. It holds for
@@ -10,16 +10,21 @@ pub fn fits_in_a_frame()
     ensures { FitsInAFrame }
 {}
 
-/// A law: after entries without the texts `EDITION 2` and `EDITION 3` a sheet is the one that
-/// edition 1 printed, by that edition's own definitions, of every event, at every position and in
-/// both forms; or both have none.
+/// A law: a later edition changes no sheet before it is set. For every number of editions, of a
+/// list that sets none of the further ones whoever knows more editions prints the sheets of whoever
+/// knows these alone, of every event, at every position and in both forms; or both have none.
+pub fn later_editions_change_no_sheet()
+    ensures { PrintsAsEarlier }
+{}
+
+/// A law: whoever knows edition 1 alone prints of every list the sheets of edition 1, by the copy
+/// that is kept of its definitions.
 pub fn first_edition_sheets()
     ensures { PrintsAsFirst }
 {}
 
-/// A law: after entries without the text `EDITION 3` a sheet is the one that edition 2 printed, by
-/// that edition's own definitions, of every event, at every position and in both forms; or both
-/// have none.
+/// A law: whoever knows editions 1 and 2 prints of every list the sheets of edition 2, by the copy
+/// that is kept of its definitions.
 pub fn second_edition_sheets()
     ensures { PrintsAsSecond }
 {}

@@ -1,53 +1,23 @@
 -- A desk that was empty does the lines of an import, whatever their ids.
-use Rattle.std.proofs.Common.{◌≡◌, ◌==◌, ◌||◌, ℕ, Bool, false, cond, List, [], ◌∷◌, ◌++◌, map}
-use Rattle.std.proofs.Common.{Option, Some, None, refl, ap, sym, ◌∙◌, subst, arith}
+use Rattle.std.proofs.Common.{◌≡◌, ◌==◌, ◌||◌, ℕ, Bool, false, List, [], ◌∷◌, ◌++◌, map}
+use Rattle.std.proofs.Common.{refl, ap, sym, ◌∙◌, subst, arith}
 use Rattle.std.proofs.Common.{append_assoc, append-nil}
 use Rattle.std.proofs.lemmas.Bool.Decides.{nat_tests}
-use Rattle.std.specs.Prelude.{fold, Result, Ok}
+use Rattle.std.specs.Prelude.{fold, Ok}
 use Rattle.std.specs.List.{list_any, AllByRecursion}
 use Rattle.std.proofs.lemmas.List.Elements.{recursion_from_All}
 use Rattle.std.proofs.lemmas.List.Folds.{list_any-append}
 use Rattle.texts.specs.declared.command.Command.{Command}
-use Rattle.texts.specs.declared.reading.CommandFault.{CommandFault}
-use Rattle.texts.specs.declared.answer.Code.{Code}
-use Rattle.texts.specs.declared.answer.Code.TheVariants as code
-use Rattle.texts.specs.declared.answer.Answer.TheVariants.{Done}
 use Rattle.texts.specs.Reading.{command_of}
 use Rattle.texts.specs.Spelling.{IsFit, spelling}
 use Rattle.texts.proofs.Words.{spelled_found}
-use Rattle.commands.specs.History.{History, nothing, after, answer_of, answer_to, is_seen}
-use Rattle.commands.specs.History.{read_refusal, added_read, entry_refusal, spelled_refusal}
+use Rattle.commands.specs.History.{History, nothing, after, is_seen}
+use Rattle.commands.proofs.Entries.{after_done, answer_done, grown}
 use Rattle.wcif.specs.Commands.{commands_of}
 use Rattle.wcif.specs.Laws.{AreAccepted, AreDone, HaveOwnIds, DoesAllLines}
 use Rattle.wcif.proofs.FitCommands.{fit}
 use Rattle.wcif.proofs.Found.{or_left, or_right}
 use Rattle.wcif.proofs.Together.{accepts_all}
-
--- the history with one more entry, whose command was accepted
-abbrev grown : History → ℕ → Command → History
-grown h id c = record { ids = h.ids ++ id ∷ []; accepted = h.accepted ++ c ∷ [] }
-
--- an entry of a new id whose text reads as a command that is accepted
-done_one : (h : History) (id : ℕ) (text : List ℕ) (c : Command) → is_seen h id ≡ false
-    → command_of text ≡ Ok c → spelled_refusal h.accepted c ≡ None → answer_to h id text ≡ Done
-unfolding entry_refusal
-done_one h id text c new reads accepted =
-    ap (λ b. answer_of (cond b (Some code.Repeat) (read_refusal h.accepted (command_of text)))) new
-    ∙ ap (λ r. answer_of (read_refusal h.accepted r)) reads ∙ ap answer_of accepted
-
-grown_by : (h : History) (id : ℕ) (text : List ℕ) (c : Command) → is_seen h id ≡ false
-    → command_of text ≡ Ok c → spelled_refusal h.accepted c ≡ None
-    → after h id text ≡ grown h id c
-unfolding after
-grown_by h id text c new reads accepted =
-    ap (λ b. cond b h (now (command_of text))) new ∙ ap now reads
-    ∙ ap (λ (o : Option Code). with_more (added_read o (Ok c))) accepted
-  where
-    with_more : List Command → History
-    with_more more = record { ids = h.ids ++ id ∷ []; accepted = h.accepted ++ more }
-
-    now : Result Command CommandFault → History
-    now r = with_more (added_read (read_refusal h.accepted r) r)
 
 swapped : (m n : ℕ) → (m == n) ≡ false → (n == m) ≡ false
 swapped m n other = grind (arith, nat_tests)
@@ -87,12 +57,12 @@ all_done h (entry ∷ entries) (c ∷ cs) accepted fits own seen same =
     let texts : map (λ e. e.1) entries ≡ map spelling cs = cc in
     let reads : command_of entry.1 ≡ Ok c = ap command_of text ∙ spelled_found c fits.0 in
     let new : is_seen h entry.0 ≡ false = or_left (is_seen h entry.0) _ seen in
-    let next = grown_by h entry.0 entry.1 c new reads accepted.0 in
+    let next = after_done h entry.0 entry.1 c new reads accepted.0 in
     let rest = all_done (grown h entry.0 c) entries cs accepted.1 fits.1 own.1
     (unseen h entry.0 c entries (or_right (is_seen h entry.0) _ seen) own.0) texts in
     record {
       done = (
-        done_one h entry.0 entry.1 c new reads accepted.0,
+        answer_done h entry.0 entry.1 c new reads accepted.0,
         subst (λ x. AreDone x entries) (sym next) rest.done,
       );
       accepted =

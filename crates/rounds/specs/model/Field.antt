@@ -1,5 +1,5 @@
 -- The entrants of a round as the table sees them.
-use Rattle.std.specs.Prelude.{◌≡◌, ◌<◌, ◌≤◌, ℕ, zero, suc, Bool, false, if◌then◌else◌, List, []}
+use Rattle.std.specs.Prelude.{◌≡◌, ◌<◌, ◌≤◌, ℕ, zero, suc, Bool, false, List, []}
 use Rattle.std.specs.Prelude.{◌∷◌, ◌++◌, Option, Some, find, filter, length, map, not, slice_get}
 use Rattle.std.specs.Prelude.{remove, All}
 use Rattle.attempts.specs.declared.Value.{Value}
@@ -7,7 +7,7 @@ use Rattle.attempts.specs.Attempts.{IsInRangeOf}
 use Rattle.formats.specs.declared.events.Format.{Format}
 use Rattle.rounds.specs.declared.rules.Rules.{Rules}
 use Rattle.rounds.specs.declared.kept_entrant.KeptEntrant.{KeptEntrant}
-use Rattle.rounds.specs.Tables.{Entrant, Table, IsCutoff, allotted, has_number, place}
+use Rattle.rounds.specs.Tables.{Entrant, Table, IsCutoff, allotted, changed_of, has_number, place}
 use Rattle.rounds.specs.model.KeptEntrants.{kept_of}
 
 -- what the round was opened with, and the entrants in order of entry
@@ -38,10 +38,6 @@ set_values_at (e ∷ es) (suc i) vs = e ∷ set_values_at es i vs
 abbrev pub with_values_at : Field → ℕ → List Value → Field
 with_values_at f i vs = record f { entrants = set_values_at f.entrants i vs }
 
--- the values of the entrant with a number are changed
-abbrev pub with_change : ℕ → (List Value → List Value) → Entrant → Entrant
-with_change n change e = if has_number n e then record e { values = change e.values } else e
-
 -- the entrant at an index is the one with a number
 pub record IsEntrantAt (n : ℕ) (f : Field) (i : ℕ) : Type 0 where
   pub entrant : Entrant
@@ -52,7 +48,7 @@ pub record IsEntrantAt (n : ℕ) (f : Field) (i : ℕ) : Type 0 where
   pub few : length entrant.values ≤ allotted f.rules.format f.rules.cutoff entrant.values
   pub ranged : All (IsInRangeOf f.rules.unit) entrant.values
   pub changed : (change : List Value → List Value)
-      → set_values_at f.entrants i (change entrant.values) ≡ map (with_change n change) f.entrants
+      → set_values_at f.entrants i (change entrant.values) ≡ map (changed_of n change) f.entrants
   pub left : remove f.entrants i ≡ filter (λ e. not (has_number n e)) f.entrants
 
 -- what is kept of the entrant with a number

@@ -14,7 +14,7 @@ use Rattle.texts.specs.Fields.{entered_of}
 use Rattle.texts.specs.Names.{is_clear_name}
 use Rattle.texts.specs.Reading as reading
 use Rattle.commands.specs.Accepted.{round_in}
-use Rattle.commands.specs.History.{after, entry_refusal}
+use Rattle.commands.specs.History.{after_in, entry_refusal_in}
 use Rattle.sheets.specs.Sheet.{entrant_line, entrant_record}
 use Rattle.edition_laws.proofs.laws.worked_rounds.Goals as goal
 
@@ -26,7 +26,7 @@ unfolding
     reading.enter_of reading.scramble_of reading.entry_of reading.attempt_of reading.correct_of
     reading.strike_of reading.set_advance_of reading.close_of reading.set_edition_of
     reading.rename_of reading.set_round_of reading.rescramble_of reading.withdraw_of
-    reading.reopen_of round_in after entry_refusal
+    reading.reopen_of round_in after_in entry_refusal_in
     turned is_solved is_solution result_of
     entrant_line entrant_record escaped fields_text is_blank
 returns c =

@@ -1,0 +1,133 @@
+-- What a program answers that knows fewer editions.
+use Rattle.std.proofs.Common.{◌≡◌, ℕ, ◌≤◌, ◌<◌, Bool, true, false, cond, nat_le, List, [], ◌∷◌}
+use Rattle.std.proofs.Common.{◌++◌, fold, Option, Some, Result, Ok, Err, refl, sym, ap, ◌∙◌, arith}
+use Rattle.std.specs.List.{AllByRecursion}
+use Rattle.std.proofs.lemmas.List.Elements.{recursion_from_All}
+use Rattle.std.proofs.lemmas.Bool.Decides.{nat_tests}
+use Rattle.texts.specs.declared.answer.Code.{Code}
+use Rattle.texts.specs.declared.answer.Code.TheVariants as code
+use Rattle.texts.specs.declared.command.Command.{Command}
+use Rattle.texts.specs.declared.command.Command.TheVariants.{Register, Open, Enter, Scramble}
+use Rattle.texts.specs.declared.command.Command.TheVariants.{Attempt, Correct, Strike, SetAdvance}
+use Rattle.texts.specs.declared.command.Command.TheVariants.{Close, SetEdition, Rename, SetRound}
+use Rattle.texts.specs.declared.command.Command.TheVariants.{Rescramble, Withdraw, Reopen}
+use Rattle.texts.specs.declared.reading.CommandFault.{CommandFault}
+use Rattle.texts.specs.Reading.{command_of}
+use Rattle.texts.specs.Spelling.{IsFit, last_edition}
+use Rattle.texts.proofs.Words.{spelled_only}
+use Rattle.commands.specs.History.{History, nothing, answer_of, is_seen, added_read, knows}
+use Rattle.commands.specs.History.{spelled_refusal, read_refusal, read_refusal_in, entry_refusal_in}
+use Rattle.commands.specs.History.{answer_in, after_in, history_in}
+use Rattle.commands.specs.EditionLaws.{SetsNone, AreWithout, AnswersAsEarlier}
+
+-- This program knows each command.
+
+pub knows_fit : (c : Command) → IsFit c → knows last_edition c ≡ true
+knows_fit (SetEdition e) fit = low fit.1
+  where
+    low : e ≤ last_edition → nat_le e last_edition ≡ true
+    low h = grind (arith, nat_tests)
+knows_fit (Register n name) fit = refl
+knows_fit (Open id settings) fit = refl
+knows_fit (Enter e n) fit = refl
+knows_fit (Scramble id j moves) fit = refl
+knows_fit (Attempt entry) fit = refl
+knows_fit (Correct entry) fit = refl
+knows_fit (Strike id n) fit = refl
+knows_fit (SetAdvance id advance) fit = refl
+knows_fit (Close id) fit = refl
+knows_fit (Rename n name) fit = refl
+knows_fit (SetRound id format cutoff limit) fit = refl
+knows_fit (Rescramble id j moves) fit = refl
+knows_fit (Withdraw id n) fit = refl
+knows_fit (Reopen id) fit = refl
+
+-- so a command that is read is refused by its own checks
+pub read_fit : (cs : List Command) (c : Command) → IsFit c
+    → read_refusal cs (Ok c) ≡ spelled_refusal cs c
+read_fit cs c fit =
+    ap (λ (b : Bool). cond b (spelled_refusal cs c) (Some code.Unread)) (knows_fit c fit)
+
+module _ (k later : ℕ) (most : k ≤ later) where
+  -- a text sets no edition between: it is known to both, or to none
+  counts_alike : (e : ℕ) → (k < e → e ≤ later → ⊥) → nat_le e later ≡ nat_le e k
+  counts_alike e other = step (nat_le e k) (nat_le e later) refl refl
+    where
+      step : (a b : Bool) → nat_le e k ≡ a → nat_le e later ≡ b → nat_le e later ≡ nat_le e k
+      step true b known is = grind (arith, nat_tests)
+      step false true known is =
+          absurd
+          (other
+          (let low : k < e = grind (arith, nat_tests) in low)
+          (let within : e ≤ later = grind (arith, nat_tests) in within))
+      step false false known is = is ∙ sym known
+
+  knows_alike : (text : List ℕ) (c : Command) → command_of text ≡ Ok c → SetsNone k later text
+      → knows later c ≡ knows k c
+  knows_alike text (SetEdition e) is other =
+      counts_alike e (λ low within. other e low within (spelled_only text (SetEdition e) is).1)
+  knows_alike text (Register n name) is other = refl
+  knows_alike text (Open id settings) is other = refl
+  knows_alike text (Enter e n) is other = refl
+  knows_alike text (Scramble id j moves) is other = refl
+  knows_alike text (Attempt entry) is other = refl
+  knows_alike text (Correct entry) is other = refl
+  knows_alike text (Strike id n) is other = refl
+  knows_alike text (SetAdvance id advance) is other = refl
+  knows_alike text (Close id) is other = refl
+  knows_alike text (Rename n name) is other = refl
+  knows_alike text (SetRound id format cutoff limit) is other = refl
+  knows_alike text (Rescramble id j moves) is other = refl
+  knows_alike text (Withdraw id n) is other = refl
+  knows_alike text (Reopen id) is other = refl
+
+  read_alike : (cs : List Command) (text : List ℕ) (r : Result Command CommandFault)
+      → command_of text ≡ r → SetsNone k later text
+      → read_refusal_in later cs r ≡ read_refusal_in k cs r
+  read_alike cs text (Ok c) is other =
+      ap (λ (b : Bool). cond b (spelled_refusal cs c) (Some code.Unread))
+      (knows_alike text c is other)
+  read_alike cs text (Err fault) is other = refl
+
+  after_alike : (h : History) (id : ℕ) (text : List ℕ) → SetsNone k later text
+      → after_in later h id text ≡ after_in k h id text
+  unfolding after_in
+  after_alike h id text other =
+      ap (λ (o : Option Code).
+      cond (is_seen h id) h
+      (let new : History = record {
+        ids = h.ids ++ id ∷ [];
+        accepted = h.accepted ++ added_read o (command_of text);
+      } in new))
+      (read_alike h.accepted text (command_of text) refl other)
+
+  fold_alike : (h : History) (entries : List (ℕ × List ℕ))
+      → AllByRecursion (λ entry. SetsNone k later entry.1) entries
+      → fold (λ (x : History) (entry : ℕ × List ℕ). after_in later x entry.0 entry.1) h entries
+      ≡ fold (λ (x : History) (entry : ℕ × List ℕ). after_in k x entry.0 entry.1) h entries
+  fold_alike h [] others = refl
+  fold_alike h (entry ∷ entries) others =
+      ap (λ (x : History).
+      fold (λ (y : History) (e : ℕ × List ℕ). after_in later y e.0 e.1) x entries)
+      (after_alike h entry.0 entry.1 others.0)
+      ∙ fold_alike (after_in k h entry.0 entry.1) entries others.1
+
+  -- it comes to the same
+  pub history_alike : (entries : List (ℕ × List ℕ)) → AreWithout k later entries
+      → history_in later entries ≡ history_in k entries
+  history_alike entries others =
+      fold_alike nothing entries
+      (recursion_from_All (λ entry. SetsNone k later entry.1) entries others)
+
+  -- and is answered alike
+  pub answer_alike : (h : History) (id : ℕ) (text : List ℕ) → SetsNone k later text
+      → answer_in later h id text ≡ answer_in k h id text
+  unfolding entry_refusal_in
+  answer_alike h id text other =
+      ap (λ (o : Option Code). answer_of (cond (is_seen h id) (Some code.Repeat) o))
+      (read_alike h.accepted text (command_of text) refl other)
+
+pub answers_as_earlier : AnswersAsEarlier
+answers_as_earlier k later entries id text most others other =
+    ap (λ (h : History). answer_in later h id text) (history_alike k later most entries others)
+    ∙ answer_alike k later most (history_in k entries) id text other

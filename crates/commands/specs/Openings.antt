@@ -1,0 +1,55 @@
+-- The opening of a round, and its settings as they stand since.
+use Rattle.std.specs.Prelude.{ℕ, Bool, ◌==◌, ◌&&◌, if◌then◌else◌, List, [], ◌∷◌, ◌++◌, Option, None}
+use Rattle.std.specs.Prelude.{Some}
+use Rattle.std.specs.Option.{option_or, option_map}
+use Rattle.formats.specs.declared.events.Event.{Event}
+use Rattle.formats.specs.Events.{same_event}
+use Rattle.texts.specs.declared.command.Command.{Command}
+use Rattle.texts.specs.declared.command.Command.TheVariants.{Open, SetAdvance, SetRound}
+use Rattle.texts.specs.declared.command.RoundId.{RoundId}
+use Rattle.texts.specs.declared.command.Settings.{Settings}
+
+-- a round is that of an event and a number
+abbrev pub is_of : Event → ℕ → RoundId → Bool
+is_of e r id = same_event e id.event && r == id.round
+
+-- a round that was opened: the commands before its opening, the settings that it was opened with,
+-- and the commands since
+pub record Opened : Type 0 where
+  pub before : List Command
+  pub settings : Settings
+  pub since : List Command
+
+-- the settings with which a command opens a round
+abbrev pub opening : Event → ℕ → Command → Option Settings
+opening e r (Open id settings) = if is_of e r id then Some settings else None
+opening e r _ = None
+
+-- a round as the first command to open it opened it; `earlier` are the commands in front of these
+abbrev pub opened : Event → ℕ → List Command → List Command → Option Opened
+opened e r earlier [] = None
+opened e r earlier (c ∷ cs) =
+    option_or (option_map (λ settings. record {
+      before =
+          earlier;
+      settings = settings;
+      since = cs;
+    }) (opening e r c)) (opened e r (earlier ++ c ∷ []) cs)
+
+-- the settings of a round after one more command: others may be set, and another advance
+abbrev pub settings_by : Event → ℕ → Command → Settings → Settings
+settings_by e r (SetAdvance id advance) settings =
+    if is_of e r id then record settings { advance = advance } else settings
+settings_by e r (SetRound id format cutoff limit) settings =
+    if is_of e r id
+    then record settings { format = format; cutoff = cutoff; limit = limit } else settings
+settings_by e r _ settings = settings
+
+-- the settings of a round that was opened with these, after more commands, one after the other
+abbrev pub settings_after : Event → ℕ → Settings → List Command → Settings
+settings_after e r settings [] = settings
+settings_after e r settings (c ∷ cs) = settings_after e r (settings_by e r c settings) cs
+
+-- the settings of a round that was opened, as they stand now
+abbrev pub settings_now : Event → ℕ → Opened → Settings
+settings_now e r o = settings_after e r o.settings o.since

@@ -1,0 +1,36 @@
+-- Whether what was entered last for an attempt is a solution.
+use Rattle.std.specs.Prelude.{ℕ, Bool, true, false, ◌==◌, ◌&&◌, if◌then◌else◌, List, [], unwrap_or}
+use Rattle.std.specs.Prelude.{Option, None, Some}
+use Rattle.std.specs.Option.{option_map_or}
+use Rattle.formats.specs.declared.events.Event.{Event}
+use Rattle.texts.specs.declared.command.Command.{Command}
+use Rattle.texts.specs.declared.command.Command.TheVariants.{Attempt, Correct}
+use Rattle.texts.specs.declared.command.Entered.{Entered}
+use Rattle.texts.specs.declared.command.Entered.TheVariants as entered
+use Rattle.commands.specs.Standing.{last_of}
+use Rattle.commands.specs.Openings.{is_of, Opened, opened}
+
+-- a solution was entered
+abbrev pub is_solution : Entered → Bool
+is_solution (entered.Solution solution) = true
+is_solution (entered.Time time penalties) = false
+is_solution (entered.Multi solved attempted seconds) = false
+is_solution entered.Dnf = false
+is_solution entered.Dns = false
+
+-- a command enters a solution for attempt k of a number, or something else
+abbrev pub solving : Event → ℕ → ℕ → ℕ → Command → Option Bool
+solving e r k n (Attempt entry) =
+    if is_of e r entry.id && (n == entry.number && k == entry.attempt)
+    then Some (is_solution entry.outcome) else None
+solving e r k n (Correct entry) =
+    if is_of e r entry.id && (n == entry.number && k == entry.attempt)
+    then Some (is_solution entry.outcome) else None
+solving e r k n _ = None
+
+-- what was entered last for attempt k of a number is a solution
+abbrev pub is_solved_since : Event → ℕ → ℕ → ℕ → Opened → Bool
+is_solved_since e r k n o = unwrap_or (last_of (solving e r k n) o.since) false
+
+abbrev pub is_solved : List Command → Event → ℕ → ℕ → ℕ → Bool
+is_solved cs e r k n = option_map_or (is_solved_since e r k n) (opened e r [] cs) false

@@ -1,0 +1,63 @@
+-- The values of what was entered for an entrant's attempts.
+use Rattle.std.specs.Prelude.{ℕ, ◌==◌, ◌&&◌, if◌then◌else◌, List, [], ◌∷◌, ◌++◌, Option, None, Some}
+use Rattle.cube.specs.declared.moves.Move.{Move}
+use Rattle.fmc_check.specs.Fewest.{result_of}
+use Rattle.attempts.specs.declared.Value.{Value}
+use Rattle.attempts.specs.Attempts.{value_of}
+use Rattle.attempts.specs.declared.Outcome.{Outcome}
+use Rattle.attempts.specs.declared.Outcome.TheVariants as outcome
+use Rattle.formats.specs.declared.events.Event.{Event}
+use Rattle.texts.specs.declared.command.Command.{Command}
+use Rattle.texts.specs.declared.command.Command.TheVariants.{Attempt, Correct, Strike}
+use Rattle.texts.specs.declared.command.AttemptEntry.{AttemptEntry}
+use Rattle.texts.specs.declared.command.Entered.{Entered}
+use Rattle.texts.specs.declared.command.Entered.TheVariants as entered
+use Rattle.texts.specs.declared.command.Settings.{Settings}
+use Rattle.rounds.specs.Tables.{replaced, without_last}
+use Rattle.commands.specs.Openings.{is_of, settings_after}
+use Rattle.commands.specs.Scrambles.{scramble_in}
+
+-- the outcome of a solution under a scramble; without a scramble no solution is taken
+abbrev pub solved_under : Option (List Move) → List Move → Outcome
+solved_under None solution = outcome.Dnf
+solved_under (Some scramble) solution = outcome.Solution (result_of scramble solution)
+
+-- what was entered, a solution by its result under the attempt's scramble
+abbrev pub outcome_of : Option (List Move) → Entered → Outcome
+outcome_of scramble (entered.Time time penalties) = outcome.Time time penalties
+outcome_of scramble (entered.Solution solution) = solved_under scramble solution
+outcome_of scramble (entered.Multi solved attempted seconds) =
+    outcome.Multi solved attempted seconds
+outcome_of scramble entered.Dnf = outcome.Dnf
+outcome_of scramble entered.Dns = outcome.Dns
+
+-- the value of what was entered, under the round's limit and the attempt's scramble
+abbrev pub settled : Settings → Option (List Move) → Entered → Value
+settled settings scramble x = value_of settings.limit (outcome_of scramble x)
+
+-- the value that is entered for an attempt, under the settings and the scramble that these commands
+-- leave; the round was opened with `settings`
+abbrev pub value_entered : Event → ℕ → Settings → List Command → AttemptEntry → Value
+value_entered e r settings earlier entry =
+    settled (settings_after e r settings earlier) (scramble_in e r entry.attempt earlier)
+    entry.outcome
+
+-- the values of a number after one more command; `earlier` are the commands between the opening and
+-- this one
+abbrev pub one_value : Event → ℕ → Settings → ℕ → List Command → List Value → Command → List Value
+one_value e r settings n earlier values (Attempt entry) =
+    if is_of e r entry.id && entry.number == n
+    then values ++ value_entered e r settings earlier entry ∷ [] else values
+one_value e r settings n earlier values (Correct entry) =
+    if is_of e r entry.id && entry.number == n
+    then replaced entry.attempt (value_entered e r settings earlier entry) values else values
+one_value e r settings n earlier values (Strike id m) =
+    if is_of e r id && m == n then without_last values else values
+one_value e r settings n earlier values _ = values
+
+-- the values of a number after more commands, one after the other
+abbrev pub values_after : Event → ℕ → Settings → ℕ → List Command → List Value → List Command
+    → List Value
+values_after e r settings n earlier values [] = values
+values_after e r settings n earlier values (c ∷ cs) =
+    values_after e r settings n (earlier ++ c ∷ []) (one_value e r settings n earlier values c) cs
