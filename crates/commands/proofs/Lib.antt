@@ -1,12 +1,9 @@
 pub mod Apart
 pub mod Arms
-pub mod Before
 pub mod EachCommand
-pub mod Early
 pub mod Editions
 pub mod Entries
 pub mod Exits
-pub mod FirstCopy
 pub mod Indexed
 pub mod KeptLemmas
 pub mod Known
@@ -16,9 +13,7 @@ pub mod Names
 pub mod Newcomers
 pub mod OneMore
 pub mod Places
-pub mod ReadOf
 pub mod Registrations
-pub mod SecondBefore
 pub mod Sizes
 pub mod SettledLemmas
 pub mod Solved

@@ -2,11 +2,12 @@
 -- the commands up to one of them. That each id is done once, and what each is answered, are rules
 -- of this project's own.
 use Rattle.std.specs.Prelude.{◌≡◌, ℕ, ◌==◌, Bool, true, nat_le, if◌then◌else◌, List, [], ◌∷◌, ◌++◌}
-use Rattle.std.specs.Prelude.{fold, Option, Some, Result, Ok, Err}
+use Rattle.std.specs.Prelude.{fold, Option, None, Some, Result, Ok, Err}
 use Rattle.std.specs.List.{list_any}
 use Rattle.texts.specs.declared.command.Command.{Command}
 use Rattle.texts.specs.declared.command.Command.TheVariants.{SetEdition}
 use Rattle.texts.specs.declared.answer.Answer.{Answer}
+use Rattle.texts.specs.declared.answer.Answer.TheVariants.{Done, Refused}
 use Rattle.texts.specs.declared.answer.Code.{Code}
 use Rattle.texts.specs.declared.answer.Code.TheVariants as code
 use Rattle.texts.specs.declared.reading.CommandFault.{CommandFault}
@@ -14,7 +15,27 @@ use Rattle.texts.specs.Editions.{is_spelled_in}
 use Rattle.texts.specs.Reading.{command_of}
 use Rattle.texts.specs.Spelling.{last_edition}
 use Rattle.commands.specs.Accepted.{edition_in, refusal}
-pub use Rattle.commands.specs.Seen.{History, nothing, answer_of, is_seen, added}
+
+-- the ids seen so far, and the accepted commands, each in order
+pub record History : Type 0 where
+  pub ids : List ℕ
+  pub accepted : List Command
+
+-- before any entry
+abbrev pub nothing : History
+nothing = record { ids = []; accepted = [] }
+
+abbrev pub answer_of : Option Code → Answer
+answer_of None = Done
+answer_of (Some c) = Refused c
+
+abbrev pub is_seen : History → ℕ → Bool
+is_seen h id = list_any (λ other. id == other) h.ids
+
+-- what a command that was refused, or not, adds to the accepted ones
+abbrev pub added : Option Code → Command → List Command
+added None c = c ∷ []
+added (Some why) c = []
 
 -- a program that knows the editions up to k knows a command: it sets no later one
 abbrev pub knows : ℕ → Command → Bool

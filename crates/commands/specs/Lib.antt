@@ -4,7 +4,6 @@ pub mod Competitors
 pub mod EditionHeld
 pub mod EditionLaws
 pub mod FaultCodes
-pub mod FirstEdition
 pub mod History
 pub mod MendingLaws
 pub mod model
@@ -12,8 +11,6 @@ pub mod Openings
 pub mod RoundChecks
 pub mod Rounds
 pub mod Scrambles
-pub mod SecondEdition
-pub mod Seen
 pub mod Solutions
 pub mod Standing
 pub mod Values

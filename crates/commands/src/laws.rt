@@ -1,6 +1,6 @@
 //! Laws of what a list of entries comes to.
 
-ghost use Rattle.commands.specs.EditionLaws.{AnswersAsEarlier, AnswersAsFirst, AnswersAsSecond};
+ghost use Rattle.commands.specs.EditionLaws.{AnswersAsEarlier};
 ghost use Rattle.commands.specs.History.{SeesEachId};
 ghost use Rattle.commands.specs.MendingLaws.{ClosesAsBefore, RenamesAlone};
 
@@ -15,18 +15,6 @@ pub fn every_id_is_seen()
 /// knows these alone.
 pub fn later_editions_change_no_answer()
     ensures { AnswersAsEarlier }
-{}
-
-/// A law: whoever knows edition 1 alone answers every list as edition 1 did, by the copy that is
-/// kept of its definitions.
-pub fn first_edition_answers()
-    ensures { AnswersAsFirst }
-{}
-
-/// A law: whoever knows editions 1 and 2 answers every list as edition 2 did, by the copy that is
-/// kept of its definitions.
-pub fn second_edition_answers()
-    ensures { AnswersAsSecond }
 {}
 
 /// A law: a closed round that is opened again, and then closed with nothing between, is what it was

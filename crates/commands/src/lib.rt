@@ -18,13 +18,11 @@ mod settings;
 mod solutions;
 
 pub use laws::{
-    closes_as_before, every_id_is_seen, first_edition_answers, later_editions_change_no_answer,
-    renames_alone, second_edition_answers,
+    closes_as_before, every_id_is_seen, later_editions_change_no_answer, renames_alone,
 };
 pub use meet::Meet;
 pub use outcomes::{is_wrong, lacks_scramble, settled};
 pub use texts::{
     Advance, Answer, AttemptEntry, Code, Command, CommandFault, Entered, Name, RoundId, Settings,
-    first_edition_reads, is_spelled_in, one_spelling, print, print_advance, print_cutoff,
-    print_limit, read, second_edition_reads,
+    is_spelled_in, one_spelling, print, print_advance, print_cutoff, print_limit, read,
 };

@@ -1,6 +1,6 @@
 -- A sheet after its round was opened again and closed.
 use Rattle.std.proofs.Common.{◌≡◌, ◌∙◌, ℕ, List, [], ◌∷◌, ◌++◌, Option, option_map, unwrap_or, refl}
-use Rattle.std.proofs.Common.{sym, ap, append_assoc}
+use Rattle.std.proofs.Common.{flat_map, None, Some, sym, ap, append_assoc}
 use Rattle.csv.specs.Writing.{row_text, default_writer}
 use Rattle.formats.specs.declared.events.Event.{Event}
 use Rattle.formats.specs.Events.{unit_of, attempts_of}
@@ -15,8 +15,22 @@ use Rattle.commands.proofs.Mended.{closes_as_before}
 use Rattle.sheets.specs.declared.Style.TheVariants as style
 use Rattle.sheets.specs.Sheet.{name_text, header, first_line, second_line, entrant_line, line_of}
 use Rattle.sheets.specs.Sheet.{text_of_round, entrant_record, record_of, table_of_round}
-use Rattle.sheets.proofs.SheetsSecond.{flat_alike, round_printed}
 use Rattle.edition_laws.specs.SheetsAsBefore.{PrintsAsBefore}
+
+flat_alike : (f g : ℕ → List ℕ) → ((n : ℕ) → f n ≡ g n) → (ns : List ℕ)
+    → flat_map f ns ≡ flat_map g ns
+flat_alike f g each [] = refl
+flat_alike f g each (n ∷ ns) = rw (each n, flat_alike f g each ns) refl
+
+-- what is printed of a round, where it is there
+round_printed : (print prints : Settings × Table → List ℕ)
+    → ((r : Settings × Table) → print r ≡ prints r) → (before now : Option (Settings × Table))
+    → before ≡ now → option_map print before ≡ option_map prints now
+round_printed print prints each before now same = ap (option_map print) same ∙ step now
+  where
+    step : (o : Option (Settings × Table)) → option_map print o ≡ option_map prints o
+    step None = refl
+    step (Some r) = ap Some (each r)
 
 -- two lists of commands under which everybody has the same name
 abbrev AreNamedAlike : List Command → List Command → Type 0

@@ -1,6 +1,6 @@
 //! What holds of every sheet.
 
-ghost use Rattle.sheets.specs.EditionLaw.{PrintsAsEarlier, PrintsAsFirst, PrintsAsSecond};
+ghost use Rattle.sheets.specs.EditionLaw.{PrintsAsEarlier};
 ghost use Rattle.sheets.specs.FrameLaw.{FitsInAFrame};
 
 /// A law: a sheet has at most 299,992 bytes, so that it fits into a frame of desks. It holds for
@@ -15,16 +15,4 @@ pub fn fits_in_a_frame()
 /// knows these alone, of every event, at every position and in both forms; or both have none.
 pub fn later_editions_change_no_sheet()
     ensures { PrintsAsEarlier }
-{}
-
-/// A law: whoever knows edition 1 alone prints of every list the sheets of edition 1, by the copy
-/// that is kept of its definitions.
-pub fn first_edition_sheets()
-    ensures { PrintsAsFirst }
-{}
-
-/// A law: whoever knows editions 1 and 2 prints of every list the sheets of edition 2, by the copy
-/// that is kept of its definitions.
-pub fn second_edition_sheets()
-    ensures { PrintsAsSecond }
 {}

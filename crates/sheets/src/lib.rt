@@ -10,9 +10,7 @@ mod styled;
 
 pub use as_table::table;
 pub use as_text::text;
-pub use laws::{
-    first_edition_sheets, fits_in_a_frame, later_editions_change_no_sheet, second_edition_sheets,
-};
+pub use laws::{fits_in_a_frame, later_editions_change_no_sheet};
 pub use reading_back::table_reads_back;
 pub use styled::sheet;
 

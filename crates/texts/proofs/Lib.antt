@@ -1,16 +1,12 @@
 pub mod Cuts
-pub mod EachRead
 pub mod Faults
 pub mod FieldSpellings
 pub mod Flat
 pub mod MoveSpellings
 pub mod NameRoom
-pub mod NewReads
 pub mod NewWords
 pub mod Numerals
 pub mod OutcomeSpellings
-pub mod ReadBefore
-pub mod ReadSecond
 pub mod Spelled
 pub mod TakenFields
 pub mod WordFields

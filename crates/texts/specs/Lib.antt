@@ -1,12 +1,9 @@
 pub mod Codes
-pub mod EditionLaws
 pub mod Editions
 pub mod Fields
-pub mod FirstEdition
 pub mod Names
 pub mod Numerals
 pub mod Reading
-pub mod SecondEdition
 pub mod Spelling
 pub mod WorkedTexts
 pub mod model

@@ -2,7 +2,6 @@
 
 ghost use Rattle.std.specs.Prelude.{◌≡◌};
 ghost use Rattle.texts.specs.Editions.{edition_of, entered_edition, has_name_in, is_spelled_in};
-ghost use Rattle.texts.specs.EditionLaws.{ReadsAsFirst, ReadsAsSecond};
 ghost use Rattle.texts.specs.WorkedTexts.{ReadsWorkedTexts};
 
 use crate::command::{Command, Entered};
@@ -67,21 +66,8 @@ pub fn is_spelled_in(edition: u8, command: &Command) -> bool
     has_name_in(edition, command) && edition_of(command) <= edition
 }
 
-/// A law: edition 1, as it stands since before there was another, reads a text other than
-/// `EDITION 2` and `EDITION 3` just where it spells a command that edition 1 has, and reads it as
-/// that command.
-pub fn first_edition_reads()
-    ensures { ReadsAsFirst }
-{}
-
-/// A law: edition 2, as it stands since before there was a third, reads a text other than
-/// `EDITION 3` just where it spells a command that edition 2 has, and reads it as that command.
-pub fn second_edition_reads()
-    ensures { ReadsAsSecond }
-{}
-
-/// A law: worked texts of editions 1 and 2 are read as they were, field by field. They hold what
-/// the definitions of the editions have in common.
+/// A law: worked texts of editions 1 and 2 are read as they were, field by field, and the edition
+/// that had them spells them.
 pub fn worked_texts()
     ensures { ReadsWorkedTexts }
 {}

@@ -13,7 +13,7 @@ mod reading;
 
 pub use answer::{Answer, Code};
 pub use command::{AttemptEntry, Command, Entered, Name, RoundId, Settings};
-pub use editions::{first_edition_reads, is_spelled_in, second_edition_reads, worked_texts};
+pub use editions::{is_spelled_in, worked_texts};
 pub use fields::cut;
 pub use formats::Advance;
 pub use numbers::number_between;
