@@ -16,6 +16,7 @@ use Rattle.texts.specs.declared.reading.CommandFault.{CommandFault}
 use Rattle.texts.specs.declared.reading.CommandFault.TheVariants as fault
 use Rattle.texts.specs.Fields.{cut}
 use Rattle.texts.specs.Reading.{command_of, SpellsWhatIsRead}
+use Rattle.texts.specs.Table.{rows}
 use Rattle.commands.specs.History.{History, nothing, history, after, is_seen, answer_of, answer_to}
 use Rattle.commands.specs.History.{read_refusal, added_read, SeesEachId}
 use Rattle.commands.proofs.Entries.{accepted_new, after_seen, answer_new}
@@ -127,7 +128,7 @@ abbrev pub replayed : Bool → Answer → Answer
 replayed seen answer = cond seen (Refused code.Unread) answer
 
 no-command : command_of [] ≡ Err fault.NotACommand
-unfolding command_of cut
+unfolding command_of cut rows
 no-command = refl
 
 abbrev refusal_in : History → List ℕ → Option Code

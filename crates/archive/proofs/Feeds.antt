@@ -29,14 +29,18 @@ use Rattle.formats.specs.Events.{event_name, format_name}
 use Rattle.formats.specs.declared.advance.Advance.{Advance}
 use Rattle.formats.specs.declared.advance.Advance.TheVariants.{Final, Top, Percent}
 use Rattle.texts.specs.declared.command.Command.{Command}
-use Rattle.texts.specs.declared.command.Command.TheVariants.{Register, Open, Enter, Scramble}
-use Rattle.texts.specs.declared.command.Command.TheVariants.{Attempt, Correct, Strike, SetAdvance}
-use Rattle.texts.specs.declared.command.Command.TheVariants.{Close, SetEdition, Rename, SetRound}
-use Rattle.texts.specs.declared.command.Command.TheVariants.{Rescramble, Withdraw, Reopen}
 use Rattle.texts.specs.declared.command.Entered.{Entered}
 use Rattle.texts.specs.declared.command.Entered.TheVariants.{Time, Solution, Multi, Dnf, Dns}
 use Rattle.texts.specs.Names.{is_name_byte, is_name, is_name_in}
-use Rattle.texts.specs.Spelling.{IsFit, IsFitCutoff, IsFitLimit}
+use Rattle.texts.specs.Parts.{parts}
+use Rattle.texts.specs.Spelling.{AllFit, Fits, IsFit, IsFitCutoff, IsFitLimit, value_text}
+use Rattle.texts.specs.Table.{fields_in, row_of, rows, word_in}
+use Rattle.texts.specs.declared.table.FieldKind.{FieldKind}
+use Rattle.texts.specs.declared.table.FieldKind.TheVariants as kind
+use Rattle.texts.specs.declared.table.Tag.{Tag}
+use Rattle.texts.specs.declared.table.Tag.TheVariants as tag
+use Rattle.texts.specs.declared.value.FieldValue.{FieldValue}
+use Rattle.texts.specs.declared.value.FieldValue.TheVariants as value
 use Rattle.texts.specs.Spelling.{IsFitAdvance, IsEntered, cutoff_text, limit_text, advance_text}
 use Rattle.texts.specs.Spelling.{entered_text, words_of, spelling}
 use Rattle.texts.specs.Reading.{SpellsWhatIsRead, command_of}
@@ -187,76 +191,38 @@ entered-lacks Dns fits = refl
 
 -- ---- commands
 
+value-lacks : (k : FieldKind) (v : FieldValue) → Fits k v → lacks 10 (value_text v) ≡ true
+value-lacks kind.Number (value.Number n) fits = number-lacks n (omega arith)
+value-lacks kind.Name (value.Name name) fits = name-lacks name fits
+value-lacks kind.NewName (value.Name name) fits = new-name-lacks name fits
+value-lacks kind.Event (value.Event e) fits = event-lacks e
+value-lacks kind.Round (value.Round n) fits = number-lacks n (omega arith)
+value-lacks kind.Format (value.Format form) fits = format-lacks form
+value-lacks kind.Cutoff (value.Cutoff cutoff) fits = cutoff-lacks cutoff fits
+value-lacks kind.Limit (value.Limit limit) fits = limit-lacks limit fits
+value-lacks kind.Advance (value.Advance a) fits = advance-lacks a fits
+value-lacks kind.Attempt (value.Attempt n) fits = number-lacks n (omega arith)
+value-lacks kind.Moves (value.Moves moves) fits = moves-lack moves
+value-lacks kind.Outcome (value.Outcome o) fits = entered-lacks o fits
+value-lacks kind.Edition (value.Edition n) fits = number-lacks n (omega arith)
+value-lacks _ _ fits = absurd fits
+
+values-lack : (ks : List FieldKind) (vs : List FieldValue) → AllFit ks vs
+    → list_all (lacks 10) (map value_text vs) ≡ true
+values-lack [] [] fits = refl
+values-lack [] (v ∷ vs) fits = absurd fits
+values-lack (k ∷ ks) [] fits = absurd fits
+values-lack (k ∷ ks) (v ∷ vs) fits =
+    rw (value-lacks k v fits.0, values-lack ks vs fits.1) refl
+
+word-lacks : (t : Tag) → lacks 10 (word_in (row_of t)) ≡ true
+unfolding rows
+word-lacks tag.Register = refl
+word-lacks _ = refl
+
 words-lack : (c : Command) → IsFit c → list_all (lacks 10) (words_of c) ≡ true
-words-lack (Register n name) fits =
-    rw (number-lacks n (omega arith), name-lacks name fits.1) refl
-words-lack (Open id s) fits =
-    rw (
-      event-lacks id.event,
-      number-lacks id.round (omega arith),
-      format-lacks s.format,
-      cutoff-lacks s.cutoff fits.1.0,
-      limit-lacks s.limit fits.1.1,
-      advance-lacks s.advance fits.1.2,
-    )
-    refl
-words-lack (Enter e n) fits = rw (event-lacks e, number-lacks n (omega arith)) refl
-words-lack (Scramble id k moves) fits =
-    rw (
-      event-lacks id.event,
-      number-lacks id.round (omega arith),
-      number-lacks k (omega arith),
-      moves-lack moves,
-    )
-    refl
-words-lack (Attempt entry) fits =
-    rw (
-      event-lacks entry.id.event,
-      number-lacks entry.id.round (omega arith),
-      number-lacks entry.attempt (omega arith),
-      number-lacks entry.number (omega arith),
-      entered-lacks entry.outcome fits.3,
-    )
-    refl
-words-lack (Correct entry) fits =
-    rw (
-      event-lacks entry.id.event,
-      number-lacks entry.id.round (omega arith),
-      number-lacks entry.attempt (omega arith),
-      number-lacks entry.number (omega arith),
-      entered-lacks entry.outcome fits.3,
-    )
-    refl
-words-lack (Strike id n) fits =
-    rw (event-lacks id.event, number-lacks id.round (omega arith), number-lacks n (omega arith))
-    refl
-words-lack (SetAdvance id a) fits =
-    rw (event-lacks id.event, number-lacks id.round (omega arith), advance-lacks a fits.1) refl
-words-lack (Close id) fits = rw (event-lacks id.event, number-lacks id.round (omega arith)) refl
-words-lack (SetEdition e) fits = rw (number-lacks e (omega arith)) refl
-words-lack (Rename n name) fits =
-    rw (number-lacks n (omega arith), new-name-lacks name fits.1) refl
-words-lack (SetRound id form cutoff limit) fits =
-    rw (
-      event-lacks id.event,
-      number-lacks id.round (omega arith),
-      format-lacks form,
-      cutoff-lacks cutoff fits.1,
-      limit-lacks limit fits.2,
-    )
-    refl
-words-lack (Rescramble id k moves) fits =
-    rw (
-      event-lacks id.event,
-      number-lacks id.round (omega arith),
-      number-lacks k (omega arith),
-      moves-lack moves,
-    )
-    refl
-words-lack (Withdraw id n) fits =
-    rw (event-lacks id.event, number-lacks id.round (omega arith), number-lacks n (omega arith))
-    refl
-words-lack (Reopen id) fits = rw (event-lacks id.event, number-lacks id.round (omega arith)) refl
+words-lack c fits =
+    rw (word-lacks (parts c).0, values-lack (fields_in (row_of (parts c).0)) (parts c).1 fits.0) refl
 
 -- ---- lines
 

@@ -42,6 +42,7 @@ fn name_of(alloc: Global, pairs: &Pairs) -> Result<Name, AllocError>
 }
 
 /// A registration, whose name is yet to be checked.
+#[tactic(auto, unfolding(texts::specs::Table::rows))]
 fn register(alloc: Global, pairs: &Pairs) -> Result<Command, FieldFault>
     ensures { IfOk result (IsAsked pairs.now (codes "REG")) }
 {
@@ -51,6 +52,7 @@ fn register(alloc: Global, pairs: &Pairs) -> Result<Command, FieldFault>
 }
 
 /// Another name for a competitor, which is yet to be checked.
+#[tactic(auto, unfolding(texts::specs::Table::rows))]
 fn rename(alloc: Global, pairs: &Pairs) -> Result<Command, FieldFault>
     ensures { IfOk result (IsAsked pairs.now (codes "REN")) }
 {
@@ -74,6 +76,7 @@ fn moves_of(alloc: Global, pairs: &Pairs) -> Result<Moves, FieldFault>
 }
 
 /// A scramble, whose moves may make it too long.
+#[tactic(auto, unfolding(texts::specs::Table::rows))]
 fn scramble(alloc: Global, pairs: &Pairs) -> Result<Command, FieldFault>
     ensures { IfOk result (IsAsked pairs.now (codes "SCR")) }
 {
@@ -84,6 +87,7 @@ fn scramble(alloc: Global, pairs: &Pairs) -> Result<Command, FieldFault>
 }
 
 /// Another scramble, whose moves may make it too long.
+#[tactic(auto, unfolding(texts::specs::Table::rows))]
 fn rescramble(alloc: Global, pairs: &Pairs) -> Result<Command, FieldFault>
     ensures { IfOk result (IsAsked pairs.now (codes "RSC")) }
 {
@@ -94,6 +98,7 @@ fn rescramble(alloc: Global, pairs: &Pairs) -> Result<Command, FieldFault>
 }
 
 /// A competitor for an event.
+#[tactic(auto, unfolding(texts::specs::Table::rows))]
 fn enter(pairs: &Pairs) -> Result<Command, FieldFault>
     ensures { IfOk result (IsAsked pairs.now (codes "ENT")) }
 {
@@ -103,6 +108,7 @@ fn enter(pairs: &Pairs) -> Result<Command, FieldFault>
 }
 
 /// A round that is opened.
+#[tactic(auto, unfolding(texts::specs::Table::rows))]
 fn open(alloc: Global, pairs: &Pairs) -> Result<Command, FieldFault>
     ensures { IfOk result (IsAsked pairs.now (codes "OPEN")) }
 {
@@ -112,6 +118,7 @@ fn open(alloc: Global, pairs: &Pairs) -> Result<Command, FieldFault>
 }
 
 /// Who advances from a round.
+#[tactic(auto, unfolding(texts::specs::Table::rows))]
 fn set_advance(pairs: &Pairs) -> Result<Command, FieldFault>
     ensures { IfOk result (IsAsked pairs.now (codes "ADV")) }
 {
@@ -121,6 +128,7 @@ fn set_advance(pairs: &Pairs) -> Result<Command, FieldFault>
 }
 
 /// A round that is closed.
+#[tactic(auto, unfolding(texts::specs::Table::rows))]
 fn close(pairs: &Pairs) -> Result<Command, FieldFault>
     ensures { IfOk result (IsAsked pairs.now (codes "CLOSE")) }
 {
@@ -129,6 +137,7 @@ fn close(pairs: &Pairs) -> Result<Command, FieldFault>
 }
 
 /// Other settings of a round.
+#[tactic(auto, unfolding(texts::specs::Table::rows))]
 fn set_round(alloc: Global, pairs: &Pairs) -> Result<Command, FieldFault>
     ensures { IfOk result (IsAsked pairs.now (codes "SET")) }
 {
@@ -145,6 +154,7 @@ fn set_round(alloc: Global, pairs: &Pairs) -> Result<Command, FieldFault>
 }
 
 /// A competitor who is taken out of a round.
+#[tactic(auto, unfolding(texts::specs::Table::rows))]
 fn withdraw(pairs: &Pairs) -> Result<Command, FieldFault>
     ensures { IfOk result (IsAsked pairs.now (codes "WDR")) }
 {
@@ -154,6 +164,7 @@ fn withdraw(pairs: &Pairs) -> Result<Command, FieldFault>
 }
 
 /// A round that is opened again.
+#[tactic(auto, unfolding(texts::specs::Table::rows))]
 fn reopen(pairs: &Pairs) -> Result<Command, FieldFault>
     ensures { IfOk result (IsAsked pairs.now (codes "REOPEN")) }
 {
@@ -185,7 +196,7 @@ fn command_of_edition_3(alloc: Global, word: &[u8], pairs: &Pairs) -> Result<Com
 }
 
 /// The command of a word, with the values of the fields that it needs.
-#[tactic(auto, using(crate::proofs::Asked::asked_as))]
+#[tactic(auto, using(crate::proofs::Asked::asked_as), unfolding(texts::specs::Table::rows))]
 fn command_of(alloc: Global, word: &[u8], pairs: &Pairs) -> Result<Command, FieldFault>
     ensures { IfOk result (IsAsked pairs.now word.now) }
 {

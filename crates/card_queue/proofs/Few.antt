@@ -30,6 +30,7 @@ use Rattle.texts.specs.declared.reading.CommandFault.{CommandFault}
 use Rattle.texts.specs.Spelling.{IsFit}
 use Rattle.texts.specs.Reading.{command_of}
 use Rattle.texts.specs.Editions.{is_spelled_in}
+use Rattle.texts.specs.Table.{rows}
 use Rattle.texts.proofs.Words.{spelled_only}
 use Rattle.commands.specs.Accepted.{edition_in, entered_refusal, is_of, is_registered, put_code}
 use Rattle.commands.specs.Accepted.{put_refusal, refusal, round_in, round_of, scramble_by}
@@ -304,10 +305,11 @@ shorter vs few = omega (arith, length-take (length vs - 1) vs, few)
 -- one more command that is accepted
 few_more : (cs : List Command) (c : Command) → IsFit c → refusal cs c ≡ None → HasFew cs
     → HasFew (cs ++ c ∷ [])
+unfolding rows
 few_more cs (Register n name) fits allowed h e r =
     round_is _ _ (round_register e r n name cs) (h e r)
 few_more cs (Open id settings) fits allowed h e r =
-    round_is _ _ (round_open e id.event r id.round settings cs fits.0.0)
+    round_is _ _ (round_open e id.event r id.round settings cs fits.0.1.0.0)
     (either _ _ (h e r)
     (opening_few e id.event r id.round settings cs (same_event e id.event && r == id.round)))
 few_more cs (Enter f n) fits allowed h e r =
@@ -324,7 +326,7 @@ few_more cs (Attempt entry) fits allowed h e r =
     (changed (is_of e r entry.id) (with_attempt entry.number scramble entry.outcome)
     (round_of cs e r) (h e r)
     (λ x is here few.
-    attempt_few entry.number entry.attempt (settled x.0 scramble entry.outcome) x fits.1.1
+    attempt_few entry.number entry.attempt (settled x.0 scramble entry.outcome) x fits.0.1.1.0.1
     (put_allowed cs entry e r x allowed is here) few))
 few_more cs (Correct entry) fits allowed h e r =
     let scramble = scramble_by cs entry in

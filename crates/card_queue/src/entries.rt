@@ -86,6 +86,7 @@ fn strike_place(place: u64) -> u64
 }
 
 /// How far above its form's id the id of a command stands.
+#[tactic(auto, unfolding(texts::specs::Table::rows))]
 fn place_of(command: &Command, filled: usize, later: usize) -> u64
     requires sum { filled + later < 2 ^ 64 }
     requires fit { IsFit command.now }

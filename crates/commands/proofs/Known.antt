@@ -14,6 +14,7 @@ use Rattle.texts.specs.declared.command.Command.TheVariants.{Rescramble, Withdra
 use Rattle.texts.specs.declared.reading.CommandFault.{CommandFault}
 use Rattle.texts.specs.Reading.{command_of}
 use Rattle.texts.specs.Spelling.{IsFit, last_edition}
+use Rattle.texts.specs.Table.{rows}
 use Rattle.texts.proofs.Words.{spelled_only}
 use Rattle.commands.specs.History.{History, nothing, answer_of, is_seen, added_read, knows}
 use Rattle.commands.specs.History.{spelled_refusal, read_refusal, read_refusal_in, entry_refusal_in}
@@ -23,7 +24,8 @@ use Rattle.commands.specs.EditionLaws.{SetsNone, AreWithout, AnswersAsEarlier}
 -- This program knows each command.
 
 pub knows_fit : (c : Command) → IsFit c → knows last_edition c ≡ true
-knows_fit (SetEdition e) fit = low fit.1
+unfolding rows
+knows_fit (SetEdition e) fit = low fit.0.0.1
   where
     low : e ≤ last_edition → nat_le e last_edition ≡ true
     low h = grind (arith, nat_tests)

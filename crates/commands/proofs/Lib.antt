@@ -18,3 +18,4 @@ pub mod Sizes
 pub mod SettledLemmas
 pub mod Solved
 pub mod Units
+pub mod Within

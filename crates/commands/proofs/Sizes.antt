@@ -49,6 +49,7 @@ use Rattle.texts.specs.Spelling.{IsEntered}
 use Rattle.texts.specs.Fields.{round_id}
 use Rattle.texts.specs.Reading.{command_of}
 use Rattle.texts.specs.Editions.{is_spelled_in}
+use Rattle.texts.specs.Table.{rows}
 use Rattle.commands.specs.Accepted.{is_of, opening, scramble_by, name_given, renaming, name_of}
 use Rattle.commands.specs.Accepted.{is_registered, settled, is_withdrawal, edition_in, who_advance}
 use Rattle.commands.specs.Accepted.{who_wait, round_in, round_of, refusal, enter_code}
@@ -670,15 +671,16 @@ opened_small cs e f r s settings last fits h = step (same_event e f && r == s) r
 -- one more command that is accepted
 small_more : (cs : List Command) (c : Command) → IsFit c → refusal cs c ≡ None → IsSmall cs
     → IsSmall (cs ++ c ∷ [])
+unfolding rows
 small_more cs (Register n name) fits allowed h =
     small_with cs (Register n name)
-    (register_small n name (name_room name fits.1))
+    (register_small n name (name_room name fits.0.1.0))
     (λ e r. round_is r _ _ (round_register e r n name cs) (h.rounds e r))
     (waits_still cs (Register n name) (λ e r. refl) (λ e r. refl) h)
     h
 small_more cs (Rename n name) fits allowed h =
     small_with cs (Rename n name)
-    (rename_small n name (new_name_room name fits.1))
+    (rename_small n name (new_name_room name fits.0.1.0))
     (λ e r. round_is r _ _ (round_rename e r n name cs) (h.rounds e r))
     (waits_still cs (Rename n name) (λ e r. refl) (λ e r. refl) h)
     h
@@ -686,17 +688,19 @@ small_more cs (Open id settings) fits allowed h =
     small_with cs (Open id settings)
     (no_name (Open id settings) (λ n. refl) (λ n. refl))
     (λ e r.
-    round_is r _ _ (round_open e id.event r id.round settings cs fits.0.0)
+    round_is r _ _ (round_open e id.event r id.round settings cs fits.0.1.0.0)
     (either (IsSmallRound r) _ _ (h.rounds e r)
-    (opened_small cs e id.event r id.round settings fits.0.1 fits.1 h)))
-    (λ e r. open_waits cs e id.event r id.round settings fits.0.0 h)
+    (opened_small cs e id.event r id.round settings fits.0.1.0.1
+    (fits.0.1.1.1.0, fits.0.1.1.1.1.0, fits.0.1.1.1.1.1.0) h)))
+    (λ e r. open_waits cs e id.event r id.round settings fits.0.1.0.0 h)
     h
 small_more cs (Enter f n) fits allowed h =
     small_with cs (Enter f n)
     (no_name (Enter f n) (λ n. refl) (λ n. refl))
     (λ e r.
     round_is r _ _ (round_enter e f r n cs)
-    (entered_small cs e f r n fits.1 (enters n (is_registered cs n) (round_of cs f 1) allowed) h))
+    (entered_small cs e f r n fits.0.1.0.1
+    (enters n (is_registered cs n) (round_of cs f 1) allowed) h))
     (waits_still cs (Enter f n) (λ e r. refl) (λ e r. refl) h)
     h
 small_more cs (Scramble id k moves) fits allowed h =
@@ -719,7 +723,7 @@ small_more cs (Attempt entry) fits allowed h =
     (round_attempt e entry.id.event r entry.id.round entry.attempt entry.number entry.outcome cs)
     (changed r (is_of e r entry.id) (with_attempt entry.number (scramble_by cs entry) entry.outcome)
     (round_of cs e r) (h.rounds e r)
-    (attempt_small r entry.number (scramble_by cs entry) entry.outcome fits.3)))
+    (attempt_small r entry.number (scramble_by cs entry) entry.outcome fits.0.1.1.1.1.0)))
     (waits_still cs (Attempt entry) (λ e r. refl) (λ e r. refl) h)
     h
 small_more cs (Correct entry) fits allowed h =
@@ -731,7 +735,8 @@ small_more cs (Correct entry) fits allowed h =
     (changed r (is_of e r entry.id)
     (with_correction entry.number entry.attempt (scramble_by cs entry) entry.outcome)
     (round_of cs e r) (h.rounds e r)
-    (correction_small r entry.number entry.attempt (scramble_by cs entry) entry.outcome fits.3)))
+    (correction_small r entry.number entry.attempt (scramble_by cs entry) entry.outcome
+    fits.0.1.1.1.1.0)))
     (waits_still cs (Correct entry) (λ e r. refl) (λ e r. refl) h)
     h
 small_more cs (Strike id m) fits allowed h =
@@ -749,7 +754,7 @@ small_more cs (SetAdvance id advance) fits allowed h =
     (λ e r.
     round_is r _ _ (round_advance e id.event r id.round advance cs)
     (changed r (is_of e r id) (with_advance advance) (round_of cs e r) (h.rounds e r)
-    (advance_small r advance fits.1)))
+    (advance_small r advance fits.0.1.1.0)))
     (waits_still cs (SetAdvance id advance) (λ e r. refl) (λ e r. refl) h)
     h
 small_more cs (SetRound id format cutoff limit) fits allowed h =
@@ -758,7 +763,7 @@ small_more cs (SetRound id format cutoff limit) fits allowed h =
     (λ e r.
     round_is r _ _ (round_settings e id.event r id.round format cutoff limit cs)
     (changed r (is_of e r id) (with_settings format cutoff limit) (round_of cs e r) (h.rounds e r)
-    (settings_small r format cutoff limit fits.1 fits.2)))
+    (settings_small r format cutoff limit fits.0.1.1.1.0 fits.0.1.1.1.1.0)))
     (waits_still cs (SetRound id format cutoff limit) (λ e r. refl) (λ e r. refl) h)
     h
 small_more cs (Close id) fits allowed h =

@@ -155,7 +155,7 @@ impl Index {
 
     /// Does a command that will stand after the accepted ones, or says why not, where edition
     /// `holds` does.
-    #[tactic(auto, using(crate::proofs::Units::units))]
+    #[tactic(auto, using(crate::proofs::Units::units), unfolding(texts::specs::Table::rows))]
     pub(crate) fn apply(
         &mut self,
         alloc: Global,

@@ -18,6 +18,7 @@ use Rattle.texts.specs.declared.command.RoundId.{RoundId}
 use Rattle.texts.specs.declared.command.Settings.{Settings}
 use Rattle.texts.specs.Fields.{attempt_entry}
 use Rattle.texts.specs.Spelling.{IsFit, spelling}
+use Rattle.texts.specs.Table.{rows}
 use Rattle.rounds.specs.Tables.{Entrant, Table, entrant}
 use Rattle.commands.specs.Accepted.{Opened, opened, round_at, round_in, round_of}
 use Rattle.commands.specs.Accepted.{is_wrong, lacks_scramble, round_by}
@@ -235,13 +236,17 @@ module _ (id : RoundId) (n : ℕ) (round : (1 ≤ id.round) × (id.round ≤ 4))
     (number : (1 ≤ n) × (n ≤ 9999)) where
   says_fit : (cs : List Command) (k : ℕ) (x : Entered) → (1 ≤ k) × (k ≤ 5) → CanSay cs id n k x
       → IsFit (Attempt (attempt_entry id k n x)) × IsFit (Correct (attempt_entry id k n x))
+  unfolding rows
   says_fit cs k x attempt says =
       let short : length (spelling (Attempt (attempt_entry id k n x))) ≤ 600 =
       le_of_not 600 _ says.short in
       let alike : length (spelling (Correct (attempt_entry id k n x)))
       ≡ length (spelling (Attempt (attempt_entry id k n x))) = refl in (
-        (round, attempt, number, in_ranges x says.ranges, short),
-        (round, attempt, number, in_ranges x says.ranges, omega (arith, alike, short)),
+        ((tt, (round, (attempt, (number, (in_ranges x says.ranges, tt))))), short),
+        (
+          (tt, (round, (attempt, (number, (in_ranges x says.ranges, tt))))),
+          omega (arith, alike, short),
+        ),
       )
 
   fields_fit : (cs : List Command) (settings : Settings) (vs : List Value) (k : ℕ)
@@ -266,8 +271,9 @@ module _ (id : RoundId) (n : ℕ) (round : (1 ≤ id.round) × (id.round ≤ 4))
       step false rest = rest
 
   strikes_fit : (count : ℕ) → AllByRecursion IsFit (strikes id n count)
+  unfolding rows
   strikes_fit zero = tt
-  strikes_fit (suc count) = ((round, number), strikes_fit count)
+  strikes_fit (suc count) = (((tt, (round, (number, tt))), tt), strikes_fit count)
 
   pub commands_fit : (cutoff : Option (ℕ × ℕ)) (count : ℕ) (fs : List Field)
       → AllByRecursion (SaysFit id n) fs

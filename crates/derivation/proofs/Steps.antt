@@ -18,6 +18,7 @@ use Rattle.texts.specs.declared.command.RoundId.{RoundId}
 use Rattle.texts.specs.declared.command.Settings.{Settings}
 use Rattle.texts.specs.Editions.{entered_edition}
 use Rattle.texts.specs.Fields.{attempt_entry}
+use Rattle.texts.proofs.EventEditions.{attempt_spelled, correct_spelled, strike_spelled}
 use Rattle.rounds.specs.Tables.{Entrant, Table, allotted, entrant, has_number, is_done}
 use Rattle.rounds.specs.Tables.{corrected, loses_cutoff, replaced, struck, with_value, without_last}
 use Rattle.commands.specs.Accepted.{edition_after, edition_in, edition_set, is_registered, is_wrong}
@@ -219,7 +220,15 @@ module _ (base : List Command) (id : RoundId) (n : ℕ) (settings : Settings) (c
       let many : (length st.one.values == 0) ≡ false =
       ap (λ (us : List Value). length us == 0) st.values ∙ some in
       record {
-        accepted = rw (st.edition, st.known, st.round, st.is_open, st.found, many) refl;
+        accepted =
+            rw (
+              strike_spelled (edition_in cs) id n st.edition,
+              st.known,
+              st.round,
+              st.is_open,
+              st.found,
+              many,
+            ) refl;
         then =
             next (Strike id n) (struck st.table n) without_last (without_last vs) refl refl refl
             (λ k. refl) (λ k. refl)
@@ -247,7 +256,7 @@ module _ (base : List Command) (id : RoundId) (n : ℕ) (settings : Settings) (c
       record {
         accepted =
             rw (
-              in_edition x fits.right,
+              correct_spelled (edition_in cs) (attempt_entry id k n x) (in_edition x fits.right),
               st.known,
               st.round,
               fit_here k x fits,
@@ -285,7 +294,7 @@ module _ (base : List Command) (id : RoundId) (n : ℕ) (settings : Settings) (c
       record {
         accepted =
             rw (
-              in_edition x fits.right,
+              attempt_spelled (edition_in cs) (attempt_entry id k n x) (in_edition x fits.right),
               st.known,
               st.round,
               fit_here k x fits,

@@ -1,22 +1,22 @@
 -- When a text is too long, and when it is no command: no field is at fault then.
-use Rattle.std.proofs.Common.{◌≡◌, ℕ, ◌<◌, ◌≤◌, ◌⊎◌, inl, inr, Bool, true, false, ◌||◌, cond}
+use Rattle.std.proofs.Common.{◌≡◌, ◌↔◌, ℕ, ◌+◌, ◌<◌, ◌≤◌, ◌⊎◌, inl, inr, Bool, true, false, ◌||◌}
+use Rattle.std.proofs.Common.{cond, nat_lt, List, [], ◌∷◌, length, bytes_eq, find, Option, Some}
+use Rattle.std.proofs.Common.{None, Result, Ok, Err, refl, sym, ◌∙◌, subst, arith}
 use Rattle.std.specs.List.{list_any}
-use Rattle.std.proofs.Common.{nat_lt, List, [], ◌∷◌, length, codes, bytes_eq, Option, Some, None}
-use Rattle.std.proofs.Common.{Result, Ok}
-use Rattle.std.proofs.Common.{Err, refl, sym, ◌∙◌, subst, arith, ◌↔◌}
 use Rattle.std.specs.Option.{ok_or}
 use Rattle.std.proofs.lemmas.Bool.{false≢true}
 use Rattle.std.proofs.lemmas.Bool.Decides.{nat_tests}
 use Rattle.texts.specs.declared.command.Command.{Command}
 use Rattle.texts.specs.declared.reading.CommandFault.{CommandFault}
 use Rattle.texts.specs.declared.reading.CommandFault.TheVariants as fault
+use Rattle.texts.specs.declared.table.FieldKind.{FieldKind}
+use Rattle.texts.specs.declared.value.FieldValue.{FieldValue}
 use Rattle.texts.specs.Fields.{cut}
-use Rattle.texts.specs.Reading.{◌>>=◌, field, last_field, no_field, register_of, round_of, open_of}
-use Rattle.texts.specs.Reading.{enter_of, scramble_of, entry_of, attempt_of, correct_of, strike_of}
-use Rattle.texts.specs.Reading.{set_advance_of, close_of, set_edition_of, rename_of, set_round_of}
-use Rattle.texts.specs.Reading.{rescramble_of, withdraw_of, reopen_of, is_word, by_new_word}
-use Rattle.texts.specs.Reading.{by_word}
-use Rattle.texts.specs.Reading.{command_of, TakesMemory, Gives}
+use Rattle.texts.specs.Parts.{made_of}
+use Rattle.texts.specs.Reading.{◌>>=◌, Gives, TakesMemory, by_row, command_of, field_of, next_of}
+use Rattle.texts.specs.Reading.{no_field, value_of, values_of}
+use Rattle.texts.specs.Table.{TheRow, is_word, row_named, rows}
+use Rattle.texts.proofs.Words.{made_row}
 
 -- what is read of fields: a value, or a field at fault
 abbrev IsOfFields : {A : Type 0} → Result A CommandFault → Type 0
@@ -39,185 +39,70 @@ given : {A : Type 0} (o : Option A) (index : ℕ)
 given None index = tt
 given (Some x) index = tt
 
-field-IsOfFields : {A : Type 0} (index : ℕ) (of : List ℕ → Option A) (left : Option (List ℕ))
-    → IsOfFields (field index of left)
-field-IsOfFields index of None = tt
-field-IsOfFields index of (Some bytes) = then _ _ (given (of (cut 32 bytes).0) index) (λ x. tt)
-
-last-IsOfFields : {A : Type 0} (index : ℕ) (of : List ℕ → Option A) (left : Option (List ℕ))
-    → IsOfFields (last_field index of left)
-last-IsOfFields index of None = tt
-last-IsOfFields index of (Some bytes) = given (of bytes) index
+next-IsOfFields : (k : FieldKind) (index : ℕ) (left : Option (List ℕ))
+    → IsOfFields (next_of k index left)
+next-IsOfFields k index None = tt
+next-IsOfFields k index (Some bytes) =
+    then _ _ (given (value_of k (field_of k bytes).0) index) (λ v. tt)
 
 none-IsOfFields : (index : ℕ) (left : Option (List ℕ)) → IsOfFields (no_field index left)
 none-IsOfFields index None = tt
 none-IsOfFields index (Some bytes) = tt
 
-register : (left : Option (List ℕ)) → IsOfFields (register_of left)
-unfolding register_of
-register left =
-    then _ _ (field-IsOfFields _ _ left) (λ n. then _ _ (last-IsOfFields _ _ n.1) (λ name. tt))
+values-IsOfFields : (ks : List FieldKind) (index : ℕ) (left : Option (List ℕ))
+    → IsOfFields (values_of ks index left)
+values-IsOfFields [] index left = then _ _ (none-IsOfFields index left) (λ end. tt)
+values-IsOfFields (k ∷ ks) index left =
+    then _ _ (next-IsOfFields k index left)
+    (λ n. then _ _ (values-IsOfFields ks (index + 1) n.1) (λ later. tt))
 
-round : (left : Option (List ℕ)) → IsOfFields (round_of left)
-unfolding round_of
-round left =
-    then _ _ (field-IsOfFields _ _ left) (λ e. then _ _ (field-IsOfFields _ _ e.1) (λ r. tt))
-
-opening : (left : Option (List ℕ)) → IsOfFields (open_of left)
-unfolding open_of
-opening left =
-    then _ _ (round left)
-    (λ id. then _ _ (field-IsOfFields _ _ id.1) (λ f. then _ _ (field-IsOfFields _ _ f.1)
-    (λ c.
-    then _ _ (field-IsOfFields _ _ c.1)
-    (λ l. then _ _ (field-IsOfFields _ _ l.1) (λ a. then _ _ (none-IsOfFields _ a.1) (λ u. tt))))))
-
-enter : (left : Option (List ℕ)) → IsOfFields (enter_of left)
-unfolding enter_of
-enter left =
-    then _ _ (field-IsOfFields _ _ left)
-    (λ e. then _ _ (field-IsOfFields _ _ e.1) (λ n. then _ _ (none-IsOfFields _ n.1) (λ u. tt)))
-
-scramble : (left : Option (List ℕ)) → IsOfFields (scramble_of left)
-unfolding scramble_of
-scramble left =
-    then _ _ (round left)
-    (λ id. then _ _ (field-IsOfFields _ _ id.1) (λ k. then _ _ (last-IsOfFields _ _ k.1) (λ m. tt)))
-
-entry : (left : Option (List ℕ)) → IsOfFields (entry_of left)
-unfolding entry_of
-entry left =
-    then _ _ (round left)
-    (λ id. then _ _ (field-IsOfFields _ _ id.1)
-    (λ k. then _ _ (field-IsOfFields _ _ k.1) (λ n. then _ _ (last-IsOfFields _ _ n.1) (λ o. tt))))
-
-attempt : (left : Option (List ℕ)) → IsOfFields (attempt_of left)
-unfolding attempt_of
-attempt left = then _ _ (entry left) (λ e. tt)
-
-correct : (left : Option (List ℕ)) → IsOfFields (correct_of left)
-unfolding correct_of
-correct left = then _ _ (entry left) (λ e. tt)
-
-strike : (left : Option (List ℕ)) → IsOfFields (strike_of left)
-unfolding strike_of
-strike left =
-    then _ _ (round left)
-    (λ id. then _ _ (field-IsOfFields _ _ id.1) (λ n. then _ _ (none-IsOfFields _ n.1) (λ u. tt)))
-
-set_advance : (left : Option (List ℕ)) → IsOfFields (set_advance_of left)
-unfolding set_advance_of
-set_advance left =
-    then _ _ (round left)
-    (λ id. then _ _ (field-IsOfFields _ _ id.1) (λ a. then _ _ (none-IsOfFields _ a.1) (λ u. tt)))
-
-close : (left : Option (List ℕ)) → IsOfFields (close_of left)
-unfolding close_of
-close left = then _ _ (round left) (λ id. then _ _ (none-IsOfFields _ id.1) (λ u. tt))
-
-set_edition : (left : Option (List ℕ)) → IsOfFields (set_edition_of left)
-unfolding set_edition_of
-set_edition left =
-    then _ _ (field-IsOfFields _ _ left) (λ e. then _ _ (none-IsOfFields _ e.1) (λ u. tt))
-
-rename : (left : Option (List ℕ)) → IsOfFields (rename_of left)
-unfolding rename_of
-rename left =
-    then _ _ (field-IsOfFields _ _ left) (λ n. then _ _ (last-IsOfFields _ _ n.1) (λ name. tt))
-
-set_round : (left : Option (List ℕ)) → IsOfFields (set_round_of left)
-unfolding set_round_of
-set_round left =
-    then _ _ (round left)
-    (λ id. then _ _ (field-IsOfFields _ _ id.1) (λ f. then _ _ (field-IsOfFields _ _ f.1)
-    (λ c. then _ _ (field-IsOfFields _ _ c.1) (λ l. then _ _ (none-IsOfFields _ l.1) (λ u. tt)))))
-
-rescramble : (left : Option (List ℕ)) → IsOfFields (rescramble_of left)
-unfolding rescramble_of
-rescramble left =
-    then _ _ (round left)
-    (λ id. then _ _ (field-IsOfFields _ _ id.1) (λ k. then _ _ (last-IsOfFields _ _ k.1) (λ m. tt)))
-
-withdraw : (left : Option (List ℕ)) → IsOfFields (withdraw_of left)
-unfolding withdraw_of
-withdraw left =
-    then _ _ (round left)
-    (λ id. then _ _ (field-IsOfFields _ _ id.1) (λ n. then _ _ (none-IsOfFields _ n.1) (λ u. tt)))
-
-reopen : (left : Option (List ℕ)) → IsOfFields (reopen_of left)
-unfolding reopen_of
-reopen left = then _ _ (round left) (λ id. then _ _ (none-IsOfFields _ id.1) (λ u. tt))
+-- what is read by a row: the values make a command
+row-IsOfFields : (word : List ℕ) (row : TheRow) (left : Option (List ℕ))
+    → row_named word ≡ Some row → IsOfFields (by_row (Some row) left)
+row-IsOfFields word row left is =
+    step (values_of row.fields 1 left) refl (values-IsOfFields row.fields 1 left)
+  where
+    step : (r : Result (List FieldValue) CommandFault) → values_of row.fields 1 left ≡ r
+        → IsOfFields r
+        → IsOfFields (r >>= (λ vs. ok_or (made_of (row.tag, vs)) fault.NotACommand))
+    step (Ok vs) read h = rw (made_row word row left vs is read).is tt
+    step (Err (fault.BadField index)) read h = tt
+    step (Err fault.TooLong) read h = absurd h
+    step (Err fault.NotACommand) read h = absurd h
+    step (Err fault.NoMemory) read h = absurd h
 
 -- What is said where no word stands is said of no word.
 
-word-short : (b : Bool) (read others : Result Command CommandFault) → IsOfFields read
-    → (others ≡ Err fault.TooLong → ⊥) → cond b read others ≡ Err fault.TooLong → ⊥
-word-short false read others h other e = other e
-word-short true read others h other e =
-    subst (λ (r : Result Command CommandFault). IsOfFields r) e h
+not_found : (word : List ℕ) (rs : List TheRow)
+    → (find (λ row. bytes_eq row.word word) rs ≡ None)
+    ↔ (list_any (λ row. bytes_eq row.word word) rs ≡ false)
+not_found word [] = (λ h. refl, λ h. refl)
+not_found word (row ∷ rs) = step (bytes_eq row.word word) (not_found word rs)
+  where
+    step : (b : Bool)
+        → (find (λ row. bytes_eq row.word word) rs ≡ None)
+        ↔ (list_any (λ row. bytes_eq row.word word) rs ≡ false)
+        → (cond b (Some row) (find (λ row. bytes_eq row.word word) rs) ≡ None)
+        ↔ ((b || list_any (λ row. bytes_eq row.word word) rs) ≡ false)
+    step true later = (
+      λ h. absurd (let bad : Some row ≡ None = h in cc),
+      λ h. absurd (false≢true (sym h)),
+    )
+    step false later = later
 
-by_new_word-short : (text : List ℕ × Option (List ℕ)) → by_new_word text ≡ Err fault.TooLong → ⊥
-by_new_word-short text =
-    word-short (bytes_eq text.0 (codes "REN")) (rename_of text.1) _ (rename text.1)
-    (word-short (bytes_eq text.0 (codes "SET")) (set_round_of text.1) _ (set_round text.1)
-    (word-short (bytes_eq text.0 (codes "RSC")) (rescramble_of text.1) _ (rescramble text.1)
-    (word-short (bytes_eq text.0 (codes "WDR")) (withdraw_of text.1) _ (withdraw text.1)
-    (word-short (bytes_eq text.0 (codes "REOPEN")) (reopen_of text.1) (Err fault.NotACommand)
-    (reopen text.1) (λ e. let bad : Err fault.NotACommand ≡ Err fault.TooLong = e in cc)))))
+by_row-short : (word : List ℕ) (left : Option (List ℕ)) (o : Option TheRow) → row_named word ≡ o
+    → by_row o left ≡ Err fault.TooLong → ⊥
+by_row-short word left None is e =
+    let bad : Err fault.NotACommand ≡ Err fault.TooLong = e in cc
+by_row-short word left (Some row) is e =
+    subst (λ (r : Result Command CommandFault). IsOfFields r) e (row-IsOfFields word row left is)
 
-by_word-short : (text : List ℕ × Option (List ℕ)) → by_word text ≡ Err fault.TooLong → ⊥
-by_word-short text =
-    word-short (bytes_eq text.0 (codes "REG")) (register_of text.1) _ (register text.1)
-    (word-short (bytes_eq text.0 (codes "OPEN")) (open_of text.1) _ (opening text.1)
-    (word-short (bytes_eq text.0 (codes "ENT")) (enter_of text.1) _ (enter text.1)
-    (word-short (bytes_eq text.0 (codes "SCR")) (scramble_of text.1) _ (scramble text.1)
-    (word-short (bytes_eq text.0 (codes "ATT")) (attempt_of text.1) _ (attempt text.1)
-    (word-short (bytes_eq text.0 (codes "COR")) (correct_of text.1) _ (correct text.1)
-    (word-short (bytes_eq text.0 (codes "STR")) (strike_of text.1) _ (strike text.1)
-    (word-short (bytes_eq text.0 (codes "ADV")) (set_advance_of text.1) _ (set_advance text.1)
-    (word-short (bytes_eq text.0 (codes "CLOSE")) (close_of text.1) _ (close text.1)
-    (word-short (bytes_eq text.0 (codes "EDITION")) (set_edition_of text.1) (by_new_word text)
-    (set_edition text.1) (by_new_word-short text))))))))))
-
-word-none : (b rest : Bool) (read others : Result Command CommandFault) → IsOfFields read
-    → (others ≡ Err fault.NotACommand) ↔ (rest ≡ false)
-    → (cond b read others ≡ Err fault.NotACommand) ↔ ((b || rest) ≡ false)
-word-none false rest read others h other = other
-word-none true rest read others h other = (
-  λ e. absurd (subst (λ (r : Result Command CommandFault). IsOfFields r) e h),
-  λ e.
-      absurd (false≢true (sym e)),
-)
-
-abbrev is_new_word : List ℕ → Bool
-is_new_word bytes =
-    list_any (λ word. bytes_eq bytes word)
-    (codes "REN" ∷ codes "SET" ∷ codes "RSC" ∷ codes "WDR" ∷ codes "REOPEN" ∷ [])
-
-by_new_word-none : (text : List ℕ × Option (List ℕ))
-    → (by_new_word text ≡ Err fault.NotACommand) ↔ (is_new_word text.0 ≡ false)
-by_new_word-none text =
-    word-none (bytes_eq text.0 (codes "REN")) _ (rename_of text.1) _ (rename text.1)
-    (word-none (bytes_eq text.0 (codes "SET")) _ (set_round_of text.1) _ (set_round text.1)
-    (word-none (bytes_eq text.0 (codes "RSC")) _ (rescramble_of text.1) _ (rescramble text.1)
-    (word-none (bytes_eq text.0 (codes "WDR")) _ (withdraw_of text.1) _ (withdraw text.1)
-    (word-none (bytes_eq text.0 (codes "REOPEN")) false (reopen_of text.1) (Err fault.NotACommand)
-    (reopen text.1) (λ e. refl, λ e. refl)))))
-
-by_word-none : (text : List ℕ × Option (List ℕ))
-    → (by_word text ≡ Err fault.NotACommand) ↔ (is_word text.0 ≡ false)
-by_word-none text =
-    word-none (bytes_eq text.0 (codes "REG")) _ (register_of text.1) _ (register text.1)
-    (word-none (bytes_eq text.0 (codes "OPEN")) _ (open_of text.1) _ (opening text.1)
-    (word-none (bytes_eq text.0 (codes "ENT")) _ (enter_of text.1) _ (enter text.1)
-    (word-none (bytes_eq text.0 (codes "SCR")) _ (scramble_of text.1) _ (scramble text.1)
-    (word-none (bytes_eq text.0 (codes "ATT")) _ (attempt_of text.1) _ (attempt text.1)
-    (word-none (bytes_eq text.0 (codes "COR")) _ (correct_of text.1) _ (correct text.1)
-    (word-none (bytes_eq text.0 (codes "STR")) _ (strike_of text.1) _ (strike text.1)
-    (word-none (bytes_eq text.0 (codes "ADV")) _ (set_advance_of text.1) _ (set_advance text.1)
-    (word-none (bytes_eq text.0 (codes "CLOSE")) _ (close_of text.1) _ (close text.1)
-    (word-none (bytes_eq text.0 (codes "EDITION")) _ (set_edition_of text.1) (by_new_word text)
-    (set_edition text.1) (by_new_word-none text))))))))))
+by_row-none : (word : List ℕ) (left : Option (List ℕ)) (o : Option TheRow) → row_named word ≡ o
+    → by_row o left ≡ Err fault.NotACommand → is_word word ≡ false
+by_row-none word left None is e = (not_found word rows).0 is
+by_row-none word left (Some row) is e =
+    absurd
+    (subst (λ (r : Result Command CommandFault). IsOfFields r) e (row-IsOfFields word row left is))
 
 -- What `read` answers.
 
@@ -231,10 +116,11 @@ too_long bytes = (
 )
   where
     step : (b : Bool) → nat_lt 600 (length bytes) ≡ b
-        → cond b (Err fault.TooLong) (by_word (cut 32 bytes)) ≡ Err fault.TooLong
+        → cond b (Err fault.TooLong) (by_row (row_named (cut 32 bytes).0) (cut 32 bytes).1)
+        ≡ Err fault.TooLong
         → 600 < length bytes
     step true is e = grind (arith, nat_tests)
-    step false is e = absurd (by_word-short (cut 32 bytes) e)
+    step false is e = absurd (by_row-short (cut 32 bytes).0 (cut 32 bytes).1 _ refl e)
 
 not_a_command : (bytes : List ℕ)
     → (command_of bytes ≡ Err fault.NotACommand)
@@ -244,17 +130,21 @@ not_a_command bytes = (
   λ e. step (nat_lt 600 (length bytes)) refl e,
   λ h. let no : nat_lt 600 (length bytes) ≡ false =
       short h.0 in
-      rw no ((by_word-none (cut 32 bytes)).1 h.1),
+      rw (no, (not_found (cut 32 bytes).0 rows).1 h.1) refl,
 )
   where
     short : length bytes ≤ 600 → nat_lt 600 (length bytes) ≡ false
     short h = grind (arith, nat_tests)
 
     step : (b : Bool) → nat_lt 600 (length bytes) ≡ b
-        → cond b (Err fault.TooLong) (by_word (cut 32 bytes)) ≡ Err fault.NotACommand
+        → cond b (Err fault.TooLong) (by_row (row_named (cut 32 bytes).0) (cut 32 bytes).1)
+        ≡ Err fault.NotACommand
         → (length bytes ≤ 600) × (is_word (cut 32 bytes).0 ≡ false)
     step true is e = absurd (let bad : Err fault.TooLong ≡ Err fault.NotACommand = e in cc)
-    step false is e = (grind (arith, nat_tests), (by_word-none (cut 32 bytes)).0 e)
+    step false is e = (
+      grind (arith, nat_tests),
+      by_row-none (cut 32 bytes).0 (cut 32 bytes).1 _ refl e,
+    )
 
 -- what is answered is what is said, unless memory ran out
 answered : (moves : ℕ) (r said : Result Command CommandFault) → Gives moves r said

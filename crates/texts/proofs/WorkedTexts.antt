@@ -1,39 +1,47 @@
--- The worked texts of editions 1 and 2, computed.
+-- The worked texts, computed.
 use Rattle.std.proofs.Common.{refl}
 use Rattle.std.specs.Fmt.{digits}
 use Rattle.formats.specs.Events.{event_of_name, format_named}
-use Rattle.texts.specs.Fields.{cut, entered_of, number_between, move_of, moves_of}
-use Rattle.texts.specs.Reading as reading
+use Rattle.texts.specs.Fields.{cut, entered_of, move_of, moves_of, number_between}
+use Rattle.texts.specs.Reading.{command_of}
+use Rattle.texts.specs.Table.{rows}
 use Rattle.texts.specs.WorkedTexts.{ReadsWorkedTexts}
 
 pub worked_texts : ReadsWorkedTexts
 unfolding
-    reading.command_of
-    reading.open_of
-    reading.set_advance_of
-    reading.attempt_of
-    reading.entry_of
-    reading.round_of
-    reading.scramble_of
-    reading.enter_of
-    entered_of
+    command_of
     cut
-    number_between
-    move_of
-    moves_of
+    digits
+    entered_of
     event_of_name
     format_named
-    digits
+    move_of
+    moves_of
+    number_between
+    rows
 worked_texts =
     record {
-      opening = (refl, refl);
-      final_round = (refl, refl);
-      advance = (refl, refl);
-      time = (refl, refl);
-      solution = (refl, refl);
-      scramble = (refl, refl);
-      cubes = (refl, refl);
+      registering = (refl, refl);
+      opening = (refl, refl, refl);
+      final_round = (refl, refl, refl);
+      entering = (refl, refl, refl);
+      scramble = (refl, refl, refl);
+      time = (refl, refl, refl);
+      solution = (refl, refl, refl);
+      cubes = (refl, refl, refl);
+      striking = (refl, refl, refl);
+      advance = (refl, refl, refl);
+      closing = (refl, refl, refl);
+      edition = (refl, refl, refl);
+      renaming = (refl, refl);
+      setting = (refl, refl, refl);
+      rescramble = (refl, refl, refl);
+      withdrawing = (refl, refl, refl);
+      reopening = (refl, refl, refl);
+      other_word = refl;
+      missing = refl;
       leading_zero = refl;
       two_spaces = refl;
       one_too_many = refl;
+      first_of_two = refl;
     }

@@ -3,8 +3,10 @@ pub mod Editions
 pub mod Fields
 pub mod Names
 pub mod Numerals
+pub mod Parts
 pub mod Reading
 pub mod Spelling
+pub mod Table
 pub mod WorkedTexts
 pub mod model
 pub mod meanings

@@ -1,23 +1,24 @@
 -- How a command is spelled: a word and its fields, parted by one space each. And the ranges of the
 -- fields. The list of commands and its ranges are this project's own.
-use Rattle.std.specs.Prelude.{◌≤◌, ℕ, IsTrue, List, [], ◌∷◌, ◌++◌, length, codes, decimal}
-use Rattle.std.specs.Prelude.{Option, None, Some}
-use Rattle.std.specs.List.{join_with_byte}
+use Rattle.std.specs.Prelude.{◌≤◌, ℕ, Bool, true, false, IsTrue, List, [], ◌∷◌, ◌++◌, length, map}
+use Rattle.std.specs.Prelude.{codes, decimal, Option, None, Some}
+use Rattle.std.specs.List.{join_with_byte, list_any}
 use Rattle.formats.specs.Events.{event_name, format_name, last_round}
 use Rattle.cube.specs.declared.moves.Move.{Move}
 use Rattle.cube.specs.notation.Notation.{spelling as moves_text}
 use Rattle.formats.specs.declared.advance.Advance.{Advance}
 use Rattle.formats.specs.declared.advance.Advance.TheVariants.{Final, Top, Percent}
 use Rattle.texts.specs.declared.command.Command.{Command}
-use Rattle.texts.specs.declared.command.Command.TheVariants.{Register, Open, Enter, Scramble}
-use Rattle.texts.specs.declared.command.Command.TheVariants.{Attempt, Correct, Strike, SetAdvance}
-use Rattle.texts.specs.declared.command.Command.TheVariants.{Close, SetEdition, Rename, SetRound}
-use Rattle.texts.specs.declared.command.Command.TheVariants.{Rescramble, Withdraw, Reopen}
-use Rattle.texts.specs.declared.command.AttemptEntry.{AttemptEntry}
 use Rattle.texts.specs.declared.command.Entered.{Entered}
 use Rattle.texts.specs.declared.command.Entered.TheVariants as entered
 use Rattle.texts.specs.declared.command.Settings.{Settings}
+use Rattle.texts.specs.declared.table.FieldKind.{FieldKind}
+use Rattle.texts.specs.declared.table.FieldKind.TheVariants as kind
+use Rattle.texts.specs.declared.value.FieldValue.{FieldValue}
+use Rattle.texts.specs.declared.value.FieldValue.TheVariants as value
 use Rattle.texts.specs.Names.{is_name, is_name_in}
+use Rattle.texts.specs.Parts.{Parts, parts}
+use Rattle.texts.specs.Table.{fields_in, has_moves, row_of, word_in}
 
 -- after k attempts, below c: `k:c`
 abbrev pub cutoff_text : Option (ℕ × ℕ) → List ℕ
@@ -45,47 +46,33 @@ entered_text (entered.Multi solved attempted seconds) =
 entered_text entered.Dnf = codes "DNF"
 entered_text entered.Dns = codes "DNS"
 
--- the fields of an attempt
-abbrev pub entry_words : AttemptEntry → List (List ℕ)
-entry_words entry =
-    event_name entry.id.event ∷ decimal entry.id.round ∷ decimal entry.attempt
-    ∷ decimal entry.number ∷ entered_text entry.outcome ∷ []
+-- how a value is spelled
+abbrev pub value_text : FieldValue → List ℕ
+value_text (value.Number n) = decimal n
+value_text (value.Name name) = name
+value_text (value.Event event) = event_name event
+value_text (value.Round n) = decimal n
+value_text (value.Format form) = format_name form
+value_text (value.Cutoff cutoff) = cutoff_text cutoff
+value_text (value.Limit limit) = limit_text limit
+value_text (value.Advance advance) = advance_text advance
+value_text (value.Attempt n) = decimal n
+value_text (value.Moves moves) = moves_text moves
+value_text (value.Outcome outcome) = entered_text outcome
+value_text (value.Edition n) = decimal n
 
--- the fields of a round's settings
-abbrev pub settings_words : Settings → List (List ℕ)
-settings_words settings =
-    format_name settings.format ∷ cutoff_text settings.cutoff ∷ limit_text settings.limit
-    ∷ advance_text settings.advance ∷ []
+-- values, with a space in front of each
+abbrev pub values_text : List FieldValue → List ℕ
+values_text [] = []
+values_text (v ∷ vs) = 32 ∷ (value_text v ++ values_text vs)
 
--- fields as they stand after others: a space, and a space between each two
-abbrev pub further : List (List ℕ) → List ℕ
-further fields = codes " " ++ join_with_byte 32 fields
+-- the words of a tag and values: the one of the tag, and the values
+abbrev pub words_by : Parts → List (List ℕ)
+words_by p = word_in (row_of p.0) ∷ map value_text p.1
 
 -- the words of a command: its own, and its fields
 abbrev pub words_of : Command → List (List ℕ)
-words_of (Register number name) = codes "REG" ∷ decimal number ∷ name ∷ []
-words_of (Open id settings) =
-    codes "OPEN" ∷ event_name id.event ∷ decimal id.round ∷ settings_words settings
-words_of (Enter event number) = codes "ENT" ∷ event_name event ∷ decimal number ∷ []
-words_of (Scramble id attempt moves) =
-    codes "SCR" ∷ event_name id.event ∷ decimal id.round ∷ decimal attempt ∷ moves_text moves ∷ []
-words_of (Attempt entry) = codes "ATT" ∷ entry_words entry
-words_of (Correct entry) = codes "COR" ∷ entry_words entry
-words_of (Strike id number) =
-    codes "STR" ∷ event_name id.event ∷ decimal id.round ∷ decimal number ∷ []
-words_of (SetAdvance id advance) =
-    codes "ADV" ∷ event_name id.event ∷ decimal id.round ∷ advance_text advance ∷ []
-words_of (Close id) = codes "CLOSE" ∷ event_name id.event ∷ decimal id.round ∷ []
-words_of (SetEdition edition) = codes "EDITION" ∷ decimal edition ∷ []
-words_of (Rename number name) = codes "REN" ∷ decimal number ∷ name ∷ []
-words_of (SetRound id form cutoff limit) =
-    codes "SET" ∷ event_name id.event ∷ decimal id.round ∷ format_name form
-    ∷ cutoff_text cutoff ∷ limit_text limit ∷ []
-words_of (Rescramble id attempt moves) =
-    codes "RSC" ∷ event_name id.event ∷ decimal id.round ∷ decimal attempt ∷ moves_text moves ∷ []
-words_of (Withdraw id number) =
-    codes "WDR" ∷ event_name id.event ∷ decimal id.round ∷ decimal number ∷ []
-words_of (Reopen id) = codes "REOPEN" ∷ event_name id.event ∷ decimal id.round ∷ []
+words_of c = words_by (parts c)
 
 -- the spelling of a command
 abbrev pub spelling : Command → List ℕ
@@ -126,34 +113,43 @@ IsEntered (entered.Multi solved attempted seconds) =
 IsEntered entered.Dnf = Unit {0}
 IsEntered entered.Dns = Unit {0}
 
+-- a value is of a kind, and in its range
+abbrev pub Fits : FieldKind → FieldValue → Type 0
+Fits kind.Number (value.Number n) = IsWithin 1 9999 n
+Fits kind.Name (value.Name name) = IsTrue (is_name name)
+Fits kind.NewName (value.Name name) = IsTrue (is_name_in 3 name)
+Fits kind.Event (value.Event event) = Unit {0}
+Fits kind.Round (value.Round n) = IsWithin 1 last_round n
+Fits kind.Format (value.Format form) = Unit {0}
+Fits kind.Cutoff (value.Cutoff cutoff) = IsFitCutoff cutoff
+Fits kind.Limit (value.Limit limit) = IsFitLimit limit
+Fits kind.Advance (value.Advance advance) = IsFitAdvance advance
+Fits kind.Attempt (value.Attempt n) = IsWithin 1 5 n
+Fits kind.Moves (value.Moves moves) = AreMoves moves
+Fits kind.Outcome (value.Outcome outcome) = IsEntered outcome
+Fits kind.Edition (value.Edition n) = IsWithin 2 last_edition n
+Fits _ _ = ⊥
+
+-- values are of these kinds, one each in order, and in their ranges
+abbrev pub AllFit : List FieldKind → List FieldValue → Type 0
+AllFit [] [] = Unit {0}
+AllFit (k ∷ ks) (v ∷ vs) = Fits k v × AllFit ks vs
+AllFit _ _ = ⊥
+
+-- the values are those of the row's fields
+abbrev pub AreInRange : Command → Type 0
+AreInRange c = AllFit (fields_in (row_of (parts c).0)) (parts c).1
+
 -- the spelling has at most 600 bytes
 abbrev pub IsShort : Command → Type 0
 IsShort c = length (spelling c) ≤ 600
 
+-- the same of a command that may have moves: nothing else can make it too long
+abbrev pub IsLeftShort : Bool → Command → Type 0
+IsLeftShort true c = IsShort c
+IsLeftShort false c = Unit {0}
+
 -- a command whose fields are in their ranges, and whose moves leave it short: its spelling is one
 -- of the language
 abbrev pub IsFit : Command → Type 0
-IsFit (Register number name) = IsWithin 1 9999 number × IsTrue (is_name name)
-IsFit (Open id settings) = IsWithin 1 last_round id.round × IsFitSettings settings
-IsFit (Enter event number) = IsWithin 1 9999 number
-IsFit (Scramble id attempt moves) =
-    IsWithin 1 last_round id.round × IsWithin 1 5 attempt × AreMoves moves
-    × IsShort (Scramble id attempt moves)
-IsFit (Attempt entry) =
-    IsWithin 1 last_round entry.id.round × IsWithin 1 5 entry.attempt × IsWithin 1 9999 entry.number
-    × IsEntered entry.outcome × IsShort (Attempt entry)
-IsFit (Correct entry) =
-    IsWithin 1 last_round entry.id.round × IsWithin 1 5 entry.attempt × IsWithin 1 9999 entry.number
-    × IsEntered entry.outcome × IsShort (Correct entry)
-IsFit (Strike id number) = IsWithin 1 last_round id.round × IsWithin 1 9999 number
-IsFit (SetAdvance id advance) = IsWithin 1 last_round id.round × IsFitAdvance advance
-IsFit (Close id) = IsWithin 1 last_round id.round
-IsFit (SetEdition edition) = IsWithin 2 last_edition edition
-IsFit (Rename number name) = IsWithin 1 9999 number × IsTrue (is_name_in 3 name)
-IsFit (SetRound id form cutoff limit) =
-    IsWithin 1 last_round id.round × IsFitCutoff cutoff × IsFitLimit limit
-IsFit (Rescramble id attempt moves) =
-    IsWithin 1 last_round id.round × IsWithin 1 5 attempt × AreMoves moves
-    × IsShort (Rescramble id attempt moves)
-IsFit (Withdraw id number) = IsWithin 1 last_round id.round × IsWithin 1 9999 number
-IsFit (Reopen id) = IsWithin 1 last_round id.round
+IsFit c = AreInRange c × IsLeftShort (list_any has_moves (fields_in (row_of (parts c).0))) c

@@ -8,8 +8,12 @@ mod fields;
 pub mod meanings;
 mod names;
 mod numbers;
+mod parts;
 mod printing;
 mod reading;
+mod table;
+mod typed;
+mod value;
 
 pub use answer::{Answer, Code};
 pub use command::{AttemptEntry, Command, Entered, Name, RoundId, Settings};
@@ -19,3 +23,5 @@ pub use formats::Advance;
 pub use numbers::number_between;
 pub use printing::{print, print_advance, print_cutoff, print_limit};
 pub use reading::{CommandFault, one_spelling, read};
+pub use table::{CommandRow, FieldKind, ROWS, Row, Tag, kind_at, row_named, row_of};
+pub use value::{FieldValue, LentValue};

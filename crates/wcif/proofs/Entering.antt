@@ -25,6 +25,7 @@ use Rattle.texts.specs.declared.answer.Code.TheVariants as code
 use Rattle.texts.proofs.Numerals.{bytes_eq-same}
 use Rattle.commands.specs.Accepted.{name_of, refusal, is_registered, round_of, enter_code}
 use Rattle.commands.specs.model.Kept.{with_entry}
+use Rattle.texts.proofs.EventEditions.{enter_spelled}
 use Rattle.wcif.specs.declared.options.CumulativeLimits.{CumulativeLimits}
 use Rattle.wcif.specs.Commands.{entering, entering_all}
 use Rattle.wcif.specs.Events.{event_named, event_faults, enters}
@@ -230,7 +231,7 @@ enter_one how persons events names edition n among p ids none early may earlier 
     (sym named)
     (reach_one now (Enter held.event n) (AreIn how events names edition n among (earlier ++ x ∷ []))
     (on_time now (Enter held.event n) edition stands.held
-    (in_time (event_edition held.event) edition held.early)
+    (enter_spelled edition held.event n (in_time (event_edition held.event) edition held.early))
     (enter_allowed now held.event n held.settings (among held.event) may.name
     (stands.people n ∙ may.registered) opened (may.absent held.event)
     (may.room held.event does held.few)))

@@ -10,8 +10,9 @@ use Rattle.serde_json.specs.Data.{Data}
 use Rattle.formats.specs.declared.events.Event.{Event}
 use Rattle.formats.specs.Events.{event_of_name}
 use Rattle.texts.specs.Fields.{round_id}
-use Rattle.texts.specs.Names.{is_early_name}
-use Rattle.texts.specs.Spelling.{IsFit}
+use Rattle.texts.specs.Names.{is_early_name, is_name}
+use Rattle.texts.specs.Spelling.{IsFit, IsFitSettings}
+use Rattle.texts.specs.Table.{rows}
 use Rattle.texts.specs.declared.command.Command.{Command}
 use Rattle.texts.specs.declared.command.Command.TheVariants.{Register, Open, Enter, SetEdition}
 use Rattle.texts.specs.declared.command.Settings.{Settings}
@@ -49,6 +50,26 @@ each_edition P each events = step (list_any (λ d. is_of_second (event_named d))
     step true = (each.edition, tt)
     step false = tt
 
+-- the four kinds of commands, in the ranges of their fields
+
+opening_fit : (e : Event) (s : Settings) → IsFitSettings s → IsFit (Open (round_id e 1) s)
+unfolding rows
+opening_fit e s fits =
+    ((tt, ((omega arith, omega arith), (tt, (fits.0, (fits.1, (fits.2, tt)))))), tt)
+
+entry_fit : (e : Event) (n : ℕ) → (1 ≤ n) × (n ≤ last_number) → IsFit (Enter e n)
+unfolding rows
+entry_fit e n range = ((tt, (range, tt)), tt)
+
+edition_fit : IsFit (SetEdition 2)
+unfolding rows
+edition_fit = (((omega arith, omega arith), tt), tt)
+
+registration_fit : (n : ℕ) (name : List ℕ) → (1 ≤ n) × (n ≤ last_number)
+    → IsTrue (is_name name) → IsFit (Register n name)
+unfolding rows
+registration_fit n name range named = ((range, (named, tt)), tt)
+
 -- openings of events of which nothing is said
 each_opening : (P : Command → Type 0) → HoldsOfEach P → (how : CumulativeLimits)
     (persons earlier events : List Data)
@@ -59,8 +80,11 @@ each_opening P each how persons earlier (d ∷ ds) none =
     let held = holds_event how persons earlier d
     (front_none (event_faults how persons earlier d) _ none) in
     all_append P (opened how d) (flat_map (opened how) ds)
-    (subst (AllByRecursion P) (sym (opened_is how persons earlier d held))
-    (each.opening held.event held.settings ((omega arith, omega arith), held.may.fit), tt))
+    (subst (AllByRecursion P) (sym (opened_is how persons earlier d held)) (
+      each.opening held.event held.settings
+          (opening_fit held.event held.settings held.may.fit),
+      tt,
+    ))
     (each_opening P each how persons (earlier ++ d ∷ []) ds
     (back_none (event_faults how persons earlier d) _ none))
 
@@ -72,7 +96,7 @@ each_entry P each n range id = step (event_of_name (text_of id))
     step : (o : Option Event)
         → AllByRecursion P (option_to_list (option_map (λ e. Enter e n) o))
     step None = tt
-    step (Some e) = (each.entry e n range, tt)
+    step (Some e) = (each.entry e n (entry_fit e n range), tt)
 
 each_number : (P : Command → Type 0) → HoldsOfEach P → (options : Options)
     (persons events : List Data)
@@ -116,8 +140,9 @@ fit options persons events none =
     All-from_recursion IsFit (commands_of options persons events)
     (each_command IsFit
     (record {
-      edition = (omega arith, omega arith);
-      registration = λ n name fits. (fits.0, or_left (is_early_name name) _ fits.1);
+      edition = edition_fit;
+      registration =
+          λ n name fits. registration_fit n name fits.0 (or_left (is_early_name name) _ fits.1);
       opening = λ e s fits. fits;
       entry = λ e n fits. fits;
     })

@@ -20,6 +20,7 @@ use Rattle.texts.specs.declared.command.Settings.{Settings}
 use Rattle.texts.specs.declared.answer.Code.TheVariants as code
 use Rattle.commands.specs.Accepted.{refusal, round_of, is_cutoff, is_limit, leads_on}
 use Rattle.commands.proofs.Lookups.{or_none}
+use Rattle.texts.proofs.EventEditions.{open_spelled}
 use Rattle.wcif.specs.declared.options.CumulativeLimits.{CumulativeLimits}
 use Rattle.wcif.specs.Commands.{opened, opening}
 use Rattle.wcif.specs.Events.{event_named, event_faults}
@@ -173,7 +174,8 @@ open_one how persons names edition earlier d now none early stands =
     (reach_one now (Open (round_id held.event 1) held.settings)
     (AreOpen how names edition (earlier ++ d ∷ []))
     (on_time now (Open (round_id held.event 1) held.settings) edition stands.held
-    (in_time (event_edition held.event) not_late)
+    (open_spelled edition (round_id held.event 1) held.settings
+    (in_time (event_edition held.event) not_late))
     (open_allowed now held.event held.settings
     (stands.first held.event
     ∙ ap

@@ -19,6 +19,7 @@ use Rattle.texts.specs.declared.command.Command.TheVariants.{Rescramble, Withdra
 use Rattle.texts.specs.declared.command.Settings.{Settings}
 use Rattle.texts.specs.declared.answer.Code.TheVariants as code
 use Rattle.texts.specs.Editions.{is_spelled_in}
+use Rattle.texts.specs.Table.{rows}
 use Rattle.texts.specs.Names.{is_early_name}
 use Rattle.commands.specs.Accepted.{is_called, is_registered, is_taken, names_other, refusal}
 use Rattle.commands.proofs.Lookups.{or_none}
@@ -208,6 +209,7 @@ allowed how persons edition k before q known fresh found =
 -- a name of editions 1 and 2 is spelled in them
 spelled : (edition n : ℕ) (name : List ℕ) → (1 ≤ edition) × (edition ≤ 2)
     → is_early_name name ≡ true → is_spelled_in edition (Register n name) ≡ true
+unfolding rows
 spelled edition n name held named =
     let low : nat_le 1 edition ≡ true = grind (arith, nat_tests, held.0) in
     let high : nat_le 3 edition ≡ false = grind (arith, nat_tests, held.1) in

@@ -13,6 +13,8 @@ use Rattle.formats.specs.declared.events.Event.TheVariants.{Clock, Megaminx, Pyr
 use Rattle.formats.specs.declared.events.Event.TheVariants.{Square1, Blind4, Blind5, MultiBlind}
 use Rattle.formats.specs.Events.{event_edition}
 use Rattle.texts.specs.declared.command.Command.TheVariants.{SetEdition}
+use Rattle.texts.specs.Table.{rows}
+use Rattle.commands.specs.History.{spelled_refusal}
 use Rattle.wcif.specs.declared.options.Options.{Options}
 use Rattle.wcif.specs.declared.fault.Fault.TheVariants as of
 use Rattle.wcif.specs.Commands.{editions, registered, opened, entered, commands_of, numbers}
@@ -127,6 +129,11 @@ edition_least events = step (second events)
     step true = omega arith
     step false = omega arith
 
+-- an empty meet accepts edition 2
+sets_second : spelled_refusal [] (SetEdition 2) ≡ None
+unfolding rows
+sets_second = refl
+
 -- All commands, part by part.
 
 pub set_up : (options : Options) (persons events : List Data)
@@ -167,7 +174,7 @@ set_up options persons events none =
         let first = stands_edition [] (λ n. None) 1 2 nowhere stands_nothing in
         let more = registers options.names persons 2 (known options persons events none)
         (omega arith, omega arith) (SetEdition 2 ∷ []) first in
-        record { accepted = (refl, more.accepted); after = more.after }
+        record { accepted = (sets_second, more.accepted); after = more.after }
     registered_all false =
         registers options.names persons 1 (known options persons events none)
         (omega arith, omega arith) [] stands_nothing

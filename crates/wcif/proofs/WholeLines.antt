@@ -22,6 +22,7 @@ use Rattle.texts.specs.Fields.{round_id}
 use Rattle.texts.specs.Names.{has_single_spaces, is_name_byte, is_early_name}
 use Rattle.texts.specs.Spelling.{IsFitCutoff, IsFitLimit, IsFitAdvance, spelling, words_of}
 use Rattle.texts.specs.Spelling.{cutoff_text}
+use Rattle.texts.specs.Table.{rows}
 use Rattle.texts.specs.Spelling.{limit_text, advance_text}
 use Rattle.texts.specs.declared.command.Command.{Command}
 use Rattle.texts.specs.declared.command.Command.TheVariants.{Register, Open, Enter, SetEdition}
@@ -122,6 +123,7 @@ abbrev HasOneLine : Command → Type 0
 HasOneLine c = lacks 10 (spelling c) ≡ true
 
 one_line : HoldsOfEach HasOneLine
+unfolding rows
 one_line = record {
   edition = joined (words_of (SetEdition 2)) (refl, (number_lacks 2 (omega arith), tt));
   registration =
@@ -139,10 +141,10 @@ one_line = record {
             (
               format_lacks s.format,
               (
-                cutoff_lacks s.cutoff fits.1.0,
+                cutoff_lacks s.cutoff fits.0.1.1.1.0,
                 (
-                  limit_lacks s.limit fits.1.1,
-                  (advance_lacks s.advance fits.1.2, tt),
+                  limit_lacks s.limit fits.0.1.1.1.1.0,
+                  (advance_lacks s.advance fits.0.1.1.1.1.1.0, tt),
                 ),
               ),
             ),
@@ -151,7 +153,8 @@ one_line = record {
       );
   entry =
       λ e n fits.
-      joined (words_of (Enter e n)) (refl, (event_lacks e, (number_lacks n (omega arith), tt)));
+      joined (words_of (Enter e n))
+      (refl, (event_lacks e, (number_lacks n (omega (arith, fits.0.1.0.1)), tt)));
 }
 
 not_there : (bytes : List ℕ) → lacks 10 bytes ≡ true

@@ -25,7 +25,6 @@ pub fn accepts_all()
 
 /// A law: where a desk can hold all of a competition, the commands that an import makes are in the
 /// ranges of their fields, so that each line is read back as its command.
-#[tactic(auto, using(crate::proofs::FitCommands::fit))]
 pub fn commands_are_fit()
     ensures { CommandsAreFit }
 {}

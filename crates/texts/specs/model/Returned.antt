@@ -1,27 +1,23 @@
 -- A model of the code: what its readers of fields returned, beside what the fields are.
-use Rattle.std.specs.Prelude.{◌≡◌, ℕ, List, Option, Some, None, Result, Ok, Err}
+use Rattle.std.specs.Prelude.{◌≡◌, ℕ, ◌++◌, IsTrue, List, Option, Some, None, Result}
+use Rattle.std.specs.Prelude.{Ok, Err}
 use Rattle.std.specs.Borrow.{Bor}
+use Rattle.std.specs.List.{list_any}
 use Rattle.std.specs.Option.{option_copied}
-use Rattle.texts.specs.declared.command.AttemptEntry.{AttemptEntry}
 use Rattle.texts.specs.declared.command.Entered.{Entered}
 use Rattle.texts.specs.declared.reading.CommandFault.{CommandFault}
 use Rattle.texts.specs.declared.reading.CommandFault.TheVariants as fault
+use Rattle.texts.specs.declared.table.FieldKind.{FieldKind}
+use Rattle.texts.specs.declared.value.FieldValue.{FieldValue}
 use Rattle.texts.specs.Fields.{IsSolution}
+use Rattle.texts.specs.Reading.{takes_memory}
+use Rattle.texts.specs.Table.{has_moves, is_rest, moves_at}
 
--- what was returned is what is said
-abbrev pub Reads : {X Y : Type 0} → (X → Y) → Result X CommandFault → Result Y CommandFault → Type 0
-Reads view (Ok x) said = said ≡ Ok (view x)
-Reads view (Err e) said = said ≡ Err e
+-- a field that was read, and what is left of the text after it
+abbrev pub Next : Type 0
+Next = FieldValue × Option (List ℕ)
 
--- the same, where nothing but a field is at fault
-abbrev pub ReadsFields : {X Y : Type 0} → (X → Y) → Result X CommandFault → Result Y CommandFault
-    → Type 0
-ReadsFields view (Ok x) said = said ≡ Ok (view x)
-ReadsFields view (Err (fault.BadField index)) said = said ≡ Err (fault.BadField index)
-ReadsFields _ _ _ = ⊥
-
--- what was read, and what is left of the text after it
-abbrev pub with_rest : {A : Type 0} → A × Option (Bor (List ℕ)) → A × Option (List ℕ)
+abbrev pub with_rest : FieldValue × Option (Bor (List ℕ)) → Next
 with_rest read = (read.0, option_copied read.1)
 
 -- memory is taken for a solution; where it is misspelt, memory may run out first
@@ -29,14 +25,37 @@ abbrev pub MayBeSolution : Option Entered → Type 0
 MayBeSolution None = Unit {0}
 MayBeSolution (Some outcome) = IsSolution outcome
 
--- the same of the fields of an attempt, whose 5th is what was entered
-abbrev pub EntryTakesMemory : Result AttemptEntry CommandFault → Type 0
-EntryTakesMemory (Ok entry) = IsSolution entry.outcome
-EntryTakesMemory (Err (fault.BadField index)) = index ≡ 5
-EntryTakesMemory _ = ⊥
+-- memory is taken for what is all that is left of a text: a name, moves, or a solution
+abbrev pub TakesForValue : FieldKind → Option FieldValue → Type 0
+TakesForValue k None = IsTrue (is_rest k) × IsTrue (has_moves k)
+TakesForValue k (Some v) = IsTrue (is_rest k) × IsTrue (takes_memory v)
 
-abbrev pub GivesEntry : Result AttemptEntry CommandFault → Result AttemptEntry CommandFault → Type 0
-GivesEntry (Ok entry) said = said ≡ Ok entry
-GivesEntry (Err fault.NoMemory) said = EntryTakesMemory said
-GivesEntry (Err (fault.BadField index)) said = said ≡ Err (fault.BadField index)
-GivesEntry _ _ = ⊥
+-- the same of the next field
+abbrev pub TakesForNext : FieldKind → ℕ → Result Next CommandFault → Type 0
+TakesForNext k index (Ok n) = IsTrue (is_rest k) × IsTrue (takes_memory n.0) × (n.1 ≡ None)
+TakesForNext k index (Err e) =
+    IsTrue (is_rest k) × IsTrue (has_moves k) × (e ≡ fault.BadField index)
+
+abbrev pub GivesNext : FieldKind → ℕ → Result (FieldValue × Option (Bor (List ℕ))) CommandFault
+    → Result Next CommandFault → Type 0
+GivesNext k index (Ok read) said = said ≡ Ok (with_rest read)
+GivesNext k index (Err fault.NoMemory) said = TakesForNext k index said
+GivesNext k index (Err e) said = said ≡ Err e
+
+-- the same of all fields
+abbrev pub TakesForValues : List FieldKind → Result (List FieldValue) CommandFault → Type 0
+TakesForValues ks (Ok vs) = IsTrue (list_any takes_memory vs)
+TakesForValues ks (Err (fault.BadField index)) = index ≡ moves_at 1 ks
+TakesForValues _ _ = ⊥
+
+abbrev pub GivesValues : {X : Type 0} → (X → List FieldValue) → List FieldKind
+    → Result X CommandFault → Result (List FieldValue) CommandFault → Type 0
+GivesValues view ks (Ok vs) said = said ≡ Ok (view vs)
+GivesValues view ks (Err fault.NoMemory) said = TakesForValues ks said
+GivesValues view ks (Err e) said = said ≡ Err e
+
+-- the values so far, in front of the later ones
+abbrev pub after : List FieldValue → Result (List FieldValue) CommandFault
+    → Result (List FieldValue) CommandFault
+after vs (Ok later) = Ok (vs ++ later)
+after vs (Err e) = Err e

@@ -11,7 +11,8 @@ use Rattle.formats.specs.Events.{event_of_name, format_named}
 use Rattle.texts.specs.Fields.{cut, number_between, name_of, new_name_of, move_of, moves_of}
 use Rattle.texts.specs.Fields.{entered_of}
 use Rattle.texts.specs.Names.{is_clear_name}
-use Rattle.texts.specs.Reading as reading
+use Rattle.texts.specs.Reading.{command_of}
+use Rattle.texts.specs.Table.{rows}
 use Rattle.commands.specs.Accepted.{round_in}
 use Rattle.commands.specs.History.{after_in, entry_refusal_in}
 use Rattle.edition_laws.proofs.laws.worked_answers.Goals as goal
@@ -20,11 +21,7 @@ pub returns : goal.returns
 unfolding
     digits encode_utf8 chars is_utf8 value_in general_category general_category_rows
     event_of_name format_named cut number_between name_of new_name_of move_of moves_of entered_of
-    is_clear_name reading.command_of reading.register_of reading.round_of reading.open_of
-    reading.enter_of reading.scramble_of reading.entry_of reading.attempt_of reading.correct_of
-    reading.strike_of reading.set_advance_of reading.close_of reading.set_edition_of
-    reading.rename_of reading.set_round_of reading.rescramble_of reading.withdraw_of
-    reading.reopen_of round_in after_in entry_refusal_in
+    is_clear_name command_of rows round_in after_in entry_refusal_in
     turned is_solved is_solution result_of
 returns c =
     record {

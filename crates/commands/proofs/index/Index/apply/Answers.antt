@@ -1,5 +1,6 @@
 use Rattle.std.proofs.Common.{refl, sym, ◌∙◌}
 use Rattle.commands.specs.model.Kept.{IsIndexOf, IsAsBefore}
+use Rattle.commands.proofs.Within.{attempt_within, correct_within, rescramble_within}
 use Rattle.commands.proofs.Lookups.{on_err_then}
 use Rattle.commands.proofs.Arms.{unknown, entry_answered, scrambles, attempt_answered}
 use Rattle.commands.proofs.Arms.{correction_answered, again_answered, strikes}
@@ -59,7 +60,8 @@ returns-in-Scramble-clause-index c =
     refl c.add_scramble.ensures.done c.add_scramble.ensures.refused)
 
 pub put-requires-clause-attempt : goal.put-requires-clause-attempt
-put-requires-clause-attempt c = (rw c.in-Attempt.is at c.requires.command).1
+put-requires-clause-attempt c =
+    attempt_within c.in-Attempt.entry (rw c.in-Attempt.is at c.requires.command)
 
 pub returns-in-Attempt-clause-code : goal.returns-in-Attempt-clause-code
 returns-in-Attempt-clause-code c =
@@ -89,7 +91,8 @@ returns-in-Attempt-clause-err c =
     c.put.ensures.err
 
 pub correct-requires-clause-attempt : goal.correct-requires-clause-attempt
-correct-requires-clause-attempt c = (rw c.in-Correct.is at c.requires.command).1
+correct-requires-clause-attempt c =
+    correct_within c.in-Correct.entry (rw c.in-Correct.is at c.requires.command)
 
 pub returns-in-Correct-clause-code : goal.returns-in-Correct-clause-code
 returns-in-Correct-clause-code c =
@@ -188,7 +191,8 @@ returns-in-Rescramble-clause-code c =
     rw c.in-Rescramble.is
     (again_answered c.args.accepted.now c.args.self.now c.requires.index c.in-Rescramble.id
     c.in-Rescramble.attempt c.in-Rescramble.moves c.rescramble.result
-    (rw c.in-Rescramble.is at c.requires.command).1.0
+    (rescramble_within c.in-Rescramble.id c.in-Rescramble.attempt c.in-Rescramble.moves
+    (rw c.in-Rescramble.is at c.requires.command)).0
     (rw c.scramble_of-there-in-Rescramble.ensures at c.rescramble.ensures.code))
 
 pub returns-in-Rescramble-clause-index : goal.returns-in-Rescramble-clause-index
@@ -199,7 +203,9 @@ returns-in-Rescramble-clause-index c =
     c.in-Rescramble.moves c.rescramble.result c.args.self.now _ c.requires.index
     (rw
     (rescramble_alike c.args.accepted.now c.args.self.now.rounds.opened.items id.event id.round
-    c.in-Rescramble.attempt (rw c.in-Rescramble.is at c.requires.command).1.0
+    c.in-Rescramble.attempt
+    (rescramble_within id c.in-Rescramble.attempt c.in-Rescramble.moves
+    (rw c.in-Rescramble.is at c.requires.command)).0
     c.requires.index.rounds) at
     (rw c.scramble_of-there-in-Rescramble.ensures at c.rescramble.ensures.code))
     refl c.rescramble.ensures.done c.rescramble.ensures.refused)

@@ -1,0 +1,5 @@
+use Rattle.wcif.proofs.FitCommands.{fit}
+use Rattle.wcif.proofs.laws.commands_are_fit.Goals as goal
+
+pub returns : goal.returns
+returns c = fit
