@@ -95,7 +95,7 @@ def results(table, who, shown):
 
 def section(meet, what, which, position):
     table = meet.rounds[what, which]
-    going = set(table.advancing())
+    going = set(table.as_next_sees_it().advancing())
     head = ["place", "number", "name", "average", "best"]
     head += [str(count) for count in range(1, rules.ATTEMPTS[table.form] + 1)] + ["advances"]
     out = f'<section id="{what}-{which}"><h2>{in_words(what, which, table)}</h2>\n'

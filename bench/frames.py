@@ -16,7 +16,7 @@ sys.path.append(str(Path(__file__).resolve().parent.parent / "scripts"))
 import running
 
 MOST = 300_000
-VERSIONS = {1: "One", 2: "Two", 3: "Three"}
+VERSIONS = {1: "One", 2: "Two", 3: "Three", 4: "Four"}
 EVENTS = ("Cube3", "Cube2", "Cube4", "Cube5", "Cube6", "Cube7", "Blind3", "FewestMoves",
           "OneHanded", "Clock",
           "Megaminx", "Pyraminx", "Skewb", "Square1", "Blind4", "Blind5", "MultiBlind")
@@ -26,9 +26,9 @@ CODES = ("Unread", "Repeat", "UnknownCompetitor", "NameTaken", "RoundUnknown", "
          "WrongOutcome",
          "Closed", "Already", "Full", "NotEntered", "OutOfOrder", "NoMoreAttempts", "NoSuchAttempt",
          "CutoffLost",
-         "Unfinished", "HasAttempts", "NotClosed")
-# versions 1 and 2 have none of the codes after Unfinished
-CODES_OF_1 = CODES[:22]
+         "Unfinished", "HasAttempts", "NotClosed", "Changed")
+# how many of the codes each version has: none after Unfinished, none after NotClosed, or all
+CODES_IN = {1: 22, 2: 22, 3: 24, 4: 25}
 REFUSALS = ("Busy", "LogFull", "BallotsSpent", "NoMemory", "Down", "NotThere", "NoSuchRound",
             "Foreign", "NotAllowed")
 STYLES = ("Text", "Table")
@@ -97,7 +97,7 @@ class Fields:
         if case < 2:
             return ("Unknown", "Pending")[case]
         position = self.position()
-        codes = CODES if self.version == 3 else CODES_OF_1
+        codes = CODES[:CODES_IN[self.version]]
         answer = self.one_of(("Done",) + codes, 0)
         said = answer if answer == "Done" else f"Refused({answer})"
         return f"Done {{ pos: {position}, answer: {said} }}"
@@ -186,7 +186,7 @@ KINDS = {
     35: ("Refused", [("refusal", refusal)]),
     36: ("Fine", []),
 }
-KINDS_OF_3 = {
+KINDS_FROM_3 = {
     21: ("Status", []),
     22: ("Log", [("position", length_of_log)]),
     37: ("Standing", [("standing", Fields.standing)]),
@@ -204,7 +204,7 @@ def frame(data):
     """The kind and the text of the frame behind a length, or the name of its fault."""
     if data[0] not in VERSIONS:
         return "BadVersion"
-    kinds = KINDS | KINDS_OF_3 if data[0] == 3 else KINDS
+    kinds = KINDS | KINDS_FROM_3 if data[0] >= 3 else KINDS
     if data[7] not in kinds:
         return "BadKind"
     name, wanted = kinds[data[7]]

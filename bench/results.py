@@ -1,9 +1,9 @@
 #!/usr/bin/env python3
 """What `results` of tests/meets has to print, worked out by the rules alone.
 
-    bench/results.py < tests/meets/cases/results.in
+    bench/results.py [--editions K] < tests/meets/cases/results.in
 
-It prints what tests/meets/cases/results.out has to be.
+It prints what tests/meets/cases/results.out has to be, of programs that know K editions.
 
 A second program over bench/rules.py and bench/stickers.py, which share nothing with the crates.
 tests/meets/results.rt.txt says what its lines ask for; values are printed as Rust's `Debug`
@@ -28,7 +28,7 @@ CODES = ("Unread", "Repeat", "UnknownCompetitor", "NameTaken", "RoundUnknown", "
          "WrongOutcome",
          "Closed", "Already", "Full", "NotEntered", "OutOfOrder", "NoMoreAttempts", "NoSuchAttempt",
          "CutoffLost",
-         "Unfinished", "HasAttempts", "NotClosed")
+         "Unfinished", "HasAttempts", "NotClosed", "Changed")
 # the order in which an event's formats are listed
 FORMATS = ("ao5", "mo3", "bo1", "bo2", "bo3")
 MOST_MOVES = 400
@@ -211,8 +211,9 @@ def format_lines(text):
 
 
 def code_lines(text):
-    number = int(text)
-    return [f"{number} {CODES[number - 1]} {CODES[number - 1]}" if 1 <= number <= 24 else "no code"]
+    number, last = int(text), 25 if rules.KNOWN_EDITIONS == 4 else 24
+    known = 1 <= number <= last
+    return [f"{number} {CODES[number - 1]} {CODES[number - 1]}" if known else "no code"]
 
 
 def later_lines(text):
@@ -237,26 +238,40 @@ def any_name(text):
     return rules.early_name(text) or rules.clear_name(text)
 
 
-# the words of all editions
-WORDS = rules.WORDS_OF_THREE | {b"REG": ([rules.WHO, any_name], True)}
+def words():
+    """The words of all editions that are known."""
+    known = rules.WORDS_OF_FOUR if rules.KNOWN_EDITIONS == 4 else rules.WORDS_OF_THREE
+    return known | {b"REG": ([rules.WHO, any_name], True),
+                    b"EDITION": ([rules.in_range(2, rules.KNOWN_EDITIONS)], False)}
 
 
 def read_lines(text):
     """The text again, or its first fault from the left."""
     if len(text) > rules.MOST_IN_COMMAND:
         return ["TooLong"]
-    word, space, rest = text.partition(b" ")
-    if word not in WORDS:
+    word = text.partition(b" ")[0]
+    if word not in words():
         return ["NotACommand"]
-    readers, last_is_rest = WORDS[word]
+    front, mark, remark = text, b"", b""
+    if rules.KNOWN_EDITIONS == 4 and word in rules.REMARKED:
+        front, mark, remark = text.partition(rules.HASH)
+    fault = first_fault(front, *words()[word])
+    if fault is None and mark and not rules.is_remark(remark):
+        fault = len(words()[word][0]) + 1
+    return [text if fault is None else f"BadField {{ index: {fault} }}"]
+
+
+def first_fault(text, readers, last_is_rest):
+    """The first field from the left that is missing, misspelt or too many; None where none is."""
+    _, space, rest = text.partition(b" ")
     fields = (rest.split(b" ", len(readers) - 1) if last_is_rest
               else rest.split(b" ")) if space else []
     for index, reader in enumerate(readers, 1):
         if index > len(fields) or reader(fields[index - 1]) is None:
-            return [f"BadField {{ index: {index} }}"]
-    if len(fields) > len(readers):
-        return [f"BadField {{ index: {len(readers) + 1} }}"]
-    return [text]
+            return index
+    if rules.NOW in readers and rules.keeps_missing(rules.WAS(fields[3]), rules.NOW(fields[4])):
+        return len(readers)
+    return len(readers) + 1 if len(fields) > len(readers) else None
 
 
 class Competition:
@@ -307,7 +322,10 @@ PLAIN = {"moves": moves_lines, "cube": cube_lines, "opposites": opposites_lines,
 
 
 def main():
-    running.Words(__doc__).parse_args()
+    arguments = running.Words(__doc__)
+    arguments.add_argument("--editions", type=int, choices=(3, 4), default=rules.KNOWN_EDITIONS,
+                           metavar="K")
+    rules.KNOWN_EDITIONS = arguments.parse_args().editions
     competition = Competition()
     for line in sys.stdin.buffer.read().split(b"\n")[:-1]:
         word, _, rest = line.partition(b" ")

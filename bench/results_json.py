@@ -30,7 +30,8 @@ def encoded(value):
 
 
 def results(meet, table):
-    places, on = table.places(), set(table.advancing()) if table.closed else ()
+    places = table.places()
+    on = set(table.as_next_sees_it().advancing()) if table.closed else ()
     for who in table.standings():
         values = table.entrants[who]
         yield {

@@ -1,13 +1,15 @@
 #!/usr/bin/env python3
 """What `desk replay EVENT ROUND [--csv]` has to print, worked out by the rules alone.
 
-    bench/rules.py EVENT ROUND [--csv] < COMMANDS
+    bench/rules.py EVENT ROUND [--csv] [--editions K] < COMMANDS
 
 A second program, written from docs/FORMATS.md and the WCA Regulations and sharing nothing with the
 crates: slow, plain, with whole lists in place of tables; bench/stickers.py has the cube.
-`bench/compare` and `bench/replay` compare the two byte for byte. Standard library only.
+`bench/compare` and `bench/replay` compare the two byte for byte. With --editions 4 it is what a
+program has to print that knows edition 4 as well. Standard library only.
 """
 
+import copy
 import re
 import sys
 import unicodedata
@@ -35,6 +37,8 @@ MOST_IN_LINE = 10_000
 MOST_BYTES = 39_387_136
 MOST_IN_COMMAND = 600
 MOST_ENTRANTS = 999
+# how many editions the programs know
+KNOWN_EDITIONS = 4
 
 NUMBER = re.compile(rb"0|[1-9][0-9]*")
 # the categories of characters that no name of edition 3 has
@@ -183,9 +187,90 @@ WORDS_OF_THREE = WORDS | {
 }
 
 
-def read(text, edition):
-    """A word and its fields, or None where the text is no command of the edition."""
-    words = WORDS_OF_THREE if edition == 3 else WORDS
+# --- edition 4: cards and remarks ----------------------------------------------------------------
+
+MOST_IN_REMARK = 80
+# the greatest value there is: no point and 49 unsolved cubes in 99:59
+MOST_VALUE = 990_599_949
+HASH = b" # "
+REMARKED = (b"CARD", b"FIX", b"ATT", b"COR", b"STR", b"WDR")
+
+
+def one_value(text):
+    """A number, 'DNF' or 'DNS'."""
+    return text.decode() if text in (b"DNF", b"DNS") else number(text, 0, MOST_VALUE)
+
+
+def listed(mark, reader):
+    """'-' for nothing, else one to five parts with a mark between two."""
+    def of(text):
+        if text == b"-":
+            return []
+        parts = [reader(part) for part in text.split(mark)]
+        return parts if len(parts) <= 5 and None not in parts else None
+    return of
+
+
+WAS = listed(b",", one_value)
+NOW = listed(b"/", lambda text: "=" if text == b"=" else outcome(text))
+
+
+def keeps_missing(was, now):
+    """Whether an attempt stays as it stands that does not stand."""
+    return "=" in now[len(was):]
+
+
+def is_remark(text):
+    return clear_name(text) is not None and len(text) <= MOST_IN_REMARK
+
+
+WORDS_OF_FOUR = WORDS_OF_THREE | {
+    b"CARD": ([EVENT, ROUND, WHO, WAS, NOW], True),
+    b"FIX": ([EVENT, ROUND, WHO, WAS, NOW], True),
+    b"CANCEL": ([EVENT, ROUND], False),
+}
+
+
+def without_remark(text):
+    """The text in front of its remark, or None where that is none; all of it without a remark."""
+    if text.partition(b" ")[0] not in REMARKED or HASH not in text:
+        return text
+    front, _, remark = text.partition(HASH)
+    return front if is_remark(remark) else None
+
+
+def read_four(text):
+    """The same as `read`, of edition 4."""
+    front = without_remark(text) if len(text) <= MOST_IN_COMMAND else None
+    command = None if front is None else read_words(front, WORDS_OF_FOUR)
+    if command and command[0] in ("CARD", "FIX") and keeps_missing(*command[1][3:]):
+        return None
+    return command
+
+
+# --- commands ------------------------------------------------------------------------------------
+
+
+def edition_named(text, known):
+    """The edition that a text moves a list to, if the program knows it."""
+    word, _, rest = text.partition(b" ")
+    return number(rest, 2, known) if word == b"EDITION" else None
+
+
+def read(text, edition, known=3):
+    """A word and its fields, or None where the text is no command of the edition. EDITION names
+    those that the program knows."""
+    if edition_named(text, known) is not None:
+        return "EDITION", [edition_named(text, known)]
+    if edition == 4:
+        return read_four(text)
+    command = read_words(text, WORDS_OF_THREE if edition == 3 else WORDS)
+    if command is not None and edition == 1 and has_multi(command[1]):
+        return None
+    return command
+
+
+def read_words(text, words):
     word, space, rest = text.partition(b" ")
     if len(text) > MOST_IN_COMMAND or word not in words or not space:
         return None
@@ -194,9 +279,7 @@ def read(text, edition):
     if len(fields) != len(readers):
         return None
     values = [reader(field) for reader, field in zip(readers, fields)]
-    if None in values or (edition == 1 and has_multi(values)):
-        return None
-    return word.decode(), values
+    return None if None in values else (word.decode(), values)
 
 
 def has_multi(values):
@@ -278,6 +361,15 @@ class Round:
         # those of the round before who took the place of one who withdrew
         self.taken_in = set()
         self.closed = False
+        # the same round at the opening of the next one, where that is opened
+        self.at_next = None
+
+    def as_next_sees_it(self):
+        """The round as it was when the next one was opened; as it is where that is not."""
+        return self.at_next or self
+
+    def fits(self, values):
+        return len(values) <= self.allotted(values)
 
     def meets(self, values):
         return self.cutoff == "-" or any(value < self.cutoff[1]
@@ -321,7 +413,9 @@ class Round:
 
 
 class Meet:
-    def __init__(self):
+    def __init__(self, known=None):
+        # how many editions are known
+        self.known = known or KNOWN_EDITIONS
         self.names = {}
         # who has a name
         self.owners = {}
@@ -331,7 +425,7 @@ class Meet:
 
     def apply(self, text):
         """None where the command is done, otherwise the code of its refusal."""
-        command = read(text, self.edition)
+        command = read(text, self.edition, self.known)
         if command is None:
             return "Unread"
         word, fields = command
@@ -339,7 +433,8 @@ class Meet:
                 "ATT": self.attempt, "COR": self.correct, "STR": self.strike, "ADV": self.change,
                 "CLOSE": self.close, "EDITION": self.set_edition, "REN": self.rename,
                 "SET": self.set_round, "RSC": self.rescramble, "WDR": self.withdraw,
-                "REOPEN": self.reopen}[word](*fields)
+                "REOPEN": self.reopen, "CARD": self.card, "FIX": self.fix,
+                "CANCEL": self.cancel}[word](*fields)
 
     def set_edition(self, edition):
         if edition <= self.edition:
@@ -374,6 +469,8 @@ class Meet:
             return refusal
         entrants = before.advancing() if which > 1 else []
         self.rounds[what, which] = Round(what, form, cut, time_limit, wish, entrants)
+        if which > 1:
+            before.at_next = copy.deepcopy(before)
 
     @staticmethod
     def settings_refusal(what, form, cut, time_limit):
@@ -455,7 +552,7 @@ class Meet:
         del table.entrants[who]
         if which == 1:
             return None
-        before = self.rounds[what, which - 1]
+        before = self.rounds[what, which - 1].as_next_sees_it()
         advanced = before.advancing()
         for other in before.standings():
             if (other not in advanced and other not in table.taken_in
@@ -563,11 +660,80 @@ class Meet:
             return "Closed"
         if any(len(values) < table.allotted(values) for values in table.entrants.values()):
             return "Unfinished"
-        behind = [which + 1 - j > later_rounds(len(self.rounds[what, j].started()))
-                  for j in range(1, which + 1)]
-        if table.advance != ("final",) and any(behind):
+        if self.breaks_rounds_rule(what, which):
             return "RoundsRule"
         table.closed = True
+
+    def breaks_rounds_rule(self, what, which):
+        """Whether a round that is no final has too few competitors, or one before it has."""
+        started = [len(self.rounds[what, j].as_next_sees_it().started())
+                   for j in range(1, which + 1)]
+        behind = [which - at > later_rounds(count) for at, count in enumerate(started)]
+        return self.rounds[what, which].advance != ("final",) and any(behind)
+
+    # edition 4
+
+    def card(self, what, which, who, was, now):
+        refusal, table, values = self.looked_at(what, which, who, was, now, False)
+        if refusal is not None:
+            return refusal
+        self.put_values(table, who, values, now)
+
+    def fix(self, what, which, who, was, now):
+        refusal, table, values = self.looked_at(what, which, who, was, now, True)
+        if refusal is not None:
+            return refusal
+        if len(values) < table.allotted(values):
+            return "Unfinished"
+        before = table.entrants[who]
+        table.entrants[who] = values
+        if (what, which + 1) not in self.rounds and self.breaks_rounds_rule(what, which):
+            table.entrants[who] = before
+            return "RoundsRule"
+        self.put_values(table, who, values, now)
+
+    def cancel(self, what, which):
+        if (what, which) not in self.rounds:
+            return "RoundUnknown"
+        if (what, which + 1) in self.rounds:
+            return "RoundOpen"
+        if any(self.rounds[what, which].entrants.values()):
+            return "HasAttempts"
+        del self.rounds[what, which]
+        if which > 1:
+            self.rounds[what, which - 1].at_next = None
+
+    def looked_at(self, what, which, who, was, now, closed):
+        """The first check of CARD or of FIX that fails, of those that they have in common; the
+        round; and what the attempts count then."""
+        table = self.rounds.get((what, which))
+        if who not in self.names:
+            return "UnknownCompetitor", table, None
+        if table is None:
+            return "RoundUnknown", table, None
+        entered = [(count, out) for count, out in enumerate(now, 1) if out != "="]
+        if any(out[0] in ("T", "S", "M") and out[0] != TAKES.get(what, "T") for _, out in entered):
+            return "WrongOutcome", table, None
+        if any(out[0] == "S" and count not in table.scrambles for count, out in entered):
+            return "NoScramble", table, None
+        if table.closed != closed:
+            return "NotClosed" if closed else "Closed", table, None
+        if who not in table.entrants:
+            return "NotEntered", table, None
+        if table.entrants[who] != was:
+            return "Changed", table, None
+        values = [was[count - 1] if out == "=" else self.settle(what, which, count, out)
+                  for count, out in enumerate(now, 1)]
+        return None if table.fits(values) else "NoMoreAttempts", table, values
+
+    @staticmethod
+    def put_values(table, who, values, now):
+        table.entrants[who] = values
+        for count in range(1, 6):
+            if count > len(now) or now[count - 1] != "=":
+                table.solved.discard((who, count))
+            if count <= len(now) and now[count - 1][0] == "S":
+                table.solved.add((who, count))
 
 
 # --- sheets --------------------------------------------------------------------------------------
@@ -602,7 +768,7 @@ def spelled(setting):
 def rows(table):
     """Place, number, texts of the average, the best and each attempt, and whether advancing."""
     places = table.places()
-    going = set(table.advancing()) if table.closed else set()
+    going = set(table.as_next_sees_it().advancing()) if table.closed else set()
     for who in table.standings():
         values = table.entrants[who]
         shown = [printed_average(average(table.form, table.what, values), table.what),
@@ -643,10 +809,10 @@ def table_sheet(meet, what, which):
     return b"\n".join(out) + b"\n"
 
 
-def replay(data, what, which, table=False):
+def replay(data, what, which, table=False, known=None):
     """What is written on standard output, on standard error, and the status."""
     lines, too_long = lines_of(data)
-    meet = Meet()
+    meet = Meet(known)
     out = []
     for position, line in enumerate(lines, 1):
         code = meet.apply(line)
@@ -667,8 +833,10 @@ def main():
     words.add_argument("event", choices=EVENTS, metavar="EVENT")
     words.add_argument("round", type=int, choices=range(1, 5), metavar="ROUND")
     words.add_argument("--csv", action="store_true")
+    words.add_argument("--editions", type=int, choices=(3, 4), default=KNOWN_EDITIONS, metavar="K")
     given = words.parse_args()
-    said, fault, status = replay(sys.stdin.buffer.read(), given.event, given.round, given.csv)
+    said, fault, status = replay(sys.stdin.buffer.read(), given.event, given.round, given.csv,
+                                 given.editions)
     sys.stdout.buffer.write(said)
     sys.stderr.buffer.write(fault)
     return status

@@ -432,8 +432,9 @@ class Pages:
             return "What is chosen here is proposed: ", None, "10:00.00", ("final",)
         before = self.meet.rounds[what, which - 1]
         come = len(before.advancing())
-        last = any(rules.later_rounds(len(self.meet.rounds[what, j].started())) < which + 1 - j
-                   for j in range(1, which))
+        earlier = [self.meet.rounds[what, j].as_next_sees_it() for j in range(1, which)]
+        last = any(rules.later_rounds(len(it.started())) < which + 1 - j
+                   for j, it in enumerate(earlier, 1))
         advance = ("final",) if last or come <= 16 else ("top", rules.quota(("top", 16), come))
         told = (f"{come} come into this round. What is chosen here is proposed, after the round "
                 "before: ")

@@ -1,7 +1,7 @@
 #!/usr/bin/env python3
 """A second program of what a desk makes of a competition in the WCA Competition Interchange Format.
 
-    bench/wcif.py lines FILE [--cumulative as-single] [--same-names id]
+    bench/wcif.py lines FILE [--edition 3] [--cumulative as-single] [--same-names id]
     bench/wcif.py cases stdin|stdout
     bench/wcif.py big
 
@@ -20,6 +20,7 @@ import json
 import pathlib
 import re
 import sys
+import unicodedata
 
 EXAMPLES = pathlib.Path(__file__).resolve().parent.parent / "examples" / "wcif"
 
@@ -64,8 +65,10 @@ def in_range(number, low, high):
 
 
 def is_name(name):
-    size = len(name.encode())
-    return (1 <= size <= 80 and not re.search(r"[\x00-\x1f\x7f]", name)
+    """A name of edition 3. (Python's Unicode is older than the program's.)"""
+    unseen = any(unicodedata.category(letter) in ("Cc", "Cf", "Co", "Cn", "Zl", "Zp")
+                 for letter in name)
+    return (1 <= len(name.encode()) <= 160 and not unseen and '"' not in name
             and all(name.split(" ")))
 
 
@@ -192,7 +195,7 @@ def event_faults(place, event, events, persons, cumulative):
     return out
 
 
-def imported(value, cumulative="refuse", same_names="refuse"):
+def imported(value, cumulative="refuse", same_names="refuse", edition=4):
     """The command lines, or the faults."""
     persons, events = listed(value, "persons"), listed(value, "events")
     faults = ["no list of persons"] * (persons is None) + ["no list of events"] * (events is None)
@@ -210,7 +213,7 @@ def imported(value, cumulative="refuse", same_names="refuse"):
     if faults:
         return [], faults
     order = sorted((p["registrantId"], names[i], p) for i, p in enumerate(persons, 1) if i in names)
-    lines = ["EDITION 2"] if any(e["id"] == "333mbf" for e in events) else []
+    lines = [f"EDITION {edition}"]
     lines += [f"REG {number} {name}" for number, name, _ in order]
     for event in events:
         fields, _ = settings(event["id"], event["rounds"][0], cumulative)
@@ -295,11 +298,24 @@ def crowd(size):
     return change
 
 
+def without(event):
+    def change(v, p, e):
+        e[:] = [it for it in e if it["id"] != event]
+        for person in p:
+            ids = ids_of(person)
+            if event in (ids or []):
+                person["registration"]["eventIds"] = [it for it in ids if it != event]
+    return change
+
+
 BOTH = ("as-single", "id")
 CHANGES = [
     ("cumulative limit as the limit of one attempt, same names refused", ("as-single", "refuse"),
      lambda v, p, e: None),
     ("same names with IDs, cumulative limit refused", ("refuse", "id"), lambda v, p, e: None),
+    ("in edition 3", ("as-single", "id", 3), lambda v, p, e: None),
+    ("in edition 3, without multi-blind", ("as-single", "id", 3), without("333mbf")),
+    ("without multi-blind", BOTH, without("333mbf")),
     ("no persons", BOTH, lambda v, p, e: v.pop("persons")),
     ("no events", BOTH, lambda v, p, e: put(v, "events", None)),
     ("neither", BOTH, lambda v, p, e: (v.pop("persons"), v.pop("events"))),
@@ -320,8 +336,18 @@ CHANGES = [
     ("a name with a line feed", BOTH, on_person(1, "name", "Bo\nEk")),
     ("a name of 80 bytes", BOTH, on_person(1, "name", "é" * 40)),
     ("a name of 81 bytes", BOTH, on_person(1, "name", "é" * 40 + "x")),
+    ("a name of 160 bytes", BOTH, on_person(1, "name", "é" * 80)),
+    ("a name of 161 bytes", BOTH, on_person(1, "name", "é" * 80 + "x")),
+    ("a name of 160 bytes in edition 3", (*BOTH, 3), on_person(1, "name", "é" * 80)),
+    ("with its ID a name has 160 bytes", BOTH,
+     lambda v, p, e: (put(p, 0, "name", "x" * 149), put(p, 3, "name", "x" * 149))),
     ("with its ID a name is too long", BOTH,
-     lambda v, p, e: (put(p, 0, "name", "x" * 75), put(p, 3, "name", "x" * 75))),
+     lambda v, p, e: (put(p, 0, "name", "x" * 150), put(p, 3, "name", "x" * 150))),
+    ("a name with a double quote", BOTH, on_person(1, "name", 'Bo "B" Ek')),
+    ("a name with a double quote in edition 3", (*BOTH, 3), on_person(1, "name", 'Bo "B" Ek')),
+    ("a name with a space that has no width", BOTH, on_person(1, "name", "Bo\u200bEk")),
+    ("a name with a mark that turns the text round", BOTH, on_person(1, "name", "Bo \u202eEk")),
+    ("a local form of a name", BOTH, on_person(1, "name", "Bo Ek (โบ เอก)")),
     ("same names, and one has no ID", BOTH, on_person(3, "wcaId", None)),
     ("same names, and none has an ID", BOTH,
      lambda v, p, e: (put(p, 0, "wcaId", None), put(p, 3, "wcaId", None))),
@@ -371,7 +397,7 @@ CHANGES = [
 
 # what stands in the file, and what is printed: worked out by hand
 RAW = [
-    ("a byte-order mark at the front", "\ufeff" + '{"persons": [], "events": []}', ""),
+    ("a byte-order mark at the front", "\ufeff" + '{"persons": [], "events": []}', "EDITION 4\n"),
     ("a bad token", '{"persons":\n [x]}', "no JSON: line 2 column 3\n"),
     ("64 levels", "[" * 64 + "]" * 64, "fault: no list of persons\nfault: no list of events\n"),
     ("65 levels", "[" * 65 + "]" * 65, "too deep\n"),
@@ -390,11 +416,12 @@ def cases(which):
     files += [(title, options, short(changed(change)))
               for title, options, change in CHANGES]
     for title, options, body in files:
-        ask = f"import {options[0]} {options[1]} {title}\n"
+        limits, names, edition = (*options, 4)[:3]
+        ask = f"import {edition} {limits} {names} {title}\n"
         yield f"{ask}{body.rstrip()}\nend\n" if which == "stdin" else (
             f"# {title}\n" + printed(json.loads(body), options))
     for title, body, out in RAW:
-        yield f"import refuse refuse {title}\n{body}\nend\n" if which == "stdin" else (
+        yield f"import 4 refuse refuse {title}\n{body}\nend\n" if which == "stdin" else (
             f"# {title}\n{out}")
 
 
@@ -408,7 +435,8 @@ def main(arguments):
         options = dict(zip(arguments[2::2], arguments[3::2]))
         value = json.loads(pathlib.Path(arguments[1]).read_text())
         sys.stdout.write(printed(value, (options.get("--cumulative", "refuse"),
-                                         options.get("--same-names", "refuse"))))
+                                         options.get("--same-names", "refuse"),
+                                         options.get("--edition", 4))))
     else:
         sys.exit(__doc__)
 

@@ -30,12 +30,12 @@ EVENTS = """333 222 444 555 666 777 333bf 333fm 333oh clock minx pyram skewb sq1
 CODES = """Done Unread Repeat UnknownCompetitor NameTaken RoundUnknown RoundOpen RoundsRule
 FormatNotAllowed CutoffNotAllowed LimitNotAllowed NoScramble ScrambleThere WrongOutcome Closed
 Already Full NotEntered OutOfOrder NoMoreAttempts NoSuchAttempt CutoffLost Unfinished
-HasAttempts NotClosed""".split()
+HasAttempts NotClosed Changed""".split()
 REFUSALS = "Busy LogFull BallotsSpent NoMemory Down NotThere NoSuchRound Foreign NotAllowed".split()
 ROLES = "idle gathering proposing leading".split()
 SUBMIT, ASK, SHEET, TICK, STOP, STATUS, LOG = 16, 17, 18, 19, 20, 21, 22
 TAKEN, TOLD, SHEET_TEXT, REFUSED, FINE, STANDING, ENTRIES = 32, 33, 34, 35, 36, 37, 38
-FIRST, SECOND, THIRD, CLIENT = 1, 2, 3, 0  # versions of the wire; a client's number
+FIRST, SECOND, THIRD, FOURTH, CLIENT = 1, 2, 3, 4, 0  # versions of the wire; a client's number
 LEAST, MOST = 8, 300_000  # the values of a frame's length
 NO_ANSWER = "no answer", 4
 MARK = b"DSK1"  # what a sealed stream begins with, in both directions
@@ -194,7 +194,7 @@ def exchange(given, kind, body, wanted, spoken=FIRST):
             raise Fault(*NO_ANSWER)
         inside = wire.read(length)
     version, of_hall, sender, to, got = struct.unpack(">BIBBB", inside[:8])
-    if version not in (FIRST, SECOND, THIRD):
+    if version not in (FIRST, SECOND, THIRD, FOURTH):
         raise Fault(*NO_ANSWER)
     fields = inside[8:]
     if (to, got, len(fields)) == (CLIENT, REFUSED, 1) and 1 <= fields[0] <= len(REFUSALS):
@@ -214,7 +214,7 @@ def enter(given):
 
 
 def ask(given):
-    return asked_in(given, THIRD)  # versions 1 and 2 tell the last two codes as Unread
+    return asked_in(given, FOURTH)  # the earlier ones tell the last codes as Unread
 
 
 def asked_at_first(given):

@@ -92,7 +92,7 @@ class Day:
 
     def set_up(self):
         """What the competition's file makes, which `desk import` prints."""
-        lines = ["EDITION 2"]
+        lines = ["EDITION 4"]
         lines += [f"REG {person.number} {person.name}" for person in self.people]
         lines += [f"OPEN {event} 1 {rounds[0]}" for event, rounds in ROUNDS.items()]
         lines += [f"ENT {event} {person.number}" for person in self.people

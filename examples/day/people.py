@@ -45,7 +45,7 @@ Larsen Lee Leroy Li Lopez Martin Meyer Moreau Nagy Nguyen Nielsen Novak Okafor O
 Pereira Petrov Popescu Ricci Rossi Santos Sato Schmidt Silva Singh Suzuki Tanaka Tran Vogel Weber
 Wolf Yilmaz Zhang""".split()
 LONGER = ["Ana María de los Ángeles Fernández-Quiñones", "Wei Zhang (张伟)", "Søren Ødegård",
-          "Łukasz Żółć", "Zoë O'Brien", 'Max "Mäxchen" Groß', "Yuki Sato (佐藤 優希)"]
+          "Łukasz Żółć", "Zoë O'Brien", "Max Groß, jun.", "Yuki Sato (佐藤 優希)"]
 
 
 class Chance:

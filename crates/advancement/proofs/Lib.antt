@@ -1,4 +1,5 @@
 pub mod EachOnce
+pub mod Listed
 pub mod Through
 pub mod Turns
 pub mod Whom

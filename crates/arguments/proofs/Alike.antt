@@ -69,8 +69,10 @@ accepted text =
 some_imported : ImportParsers
 unfolding accepted
 some_imported = record {
+  edition = accepted (codes "3");
   limits = accepted (codes "as-single");
   names = accepted (codes "id");
+  begun = record { names = _; parsed = refl; are = refl };
   limited = record { names = _; parsed = refl; are = refl };
   named = record { names = _; parsed = refl; are = refl };
 }

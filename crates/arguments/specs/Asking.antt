@@ -12,6 +12,8 @@ use Rattle.wire.specs.Ranges.{IsId}
 use Rattle.clap.specs.declared.builder.value_parser.ValueParser.{ValueParser}
 use Rattle.wcif.specs.declared.options.CumulativeLimits.{CumulativeLimits}
 use Rattle.wcif.specs.declared.options.CumulativeLimits.TheVariants as limits
+use Rattle.wcif.specs.declared.options.Edition.{Edition}
+use Rattle.wcif.specs.declared.options.Edition.TheVariants as edition
 use Rattle.wcif.specs.declared.options.SameNames.{SameNames}
 use Rattle.wcif.specs.declared.options.SameNames.TheVariants as names
 use Rattle.wcif.specs.declared.options.Options.{Options}
@@ -84,7 +86,10 @@ status_arguments =
     (flag_rule (codes "watch")))
     explain_rule
 
--- how cumulative limits and how same names are imported, as it is typed
+-- the edition, how cumulative limits and how same names are imported, as it is typed
+abbrev pub third : List Text
+third = codes "3" ∷ []
+
 abbrev pub as_single : List Text
 as_single = codes "as-single" ∷ []
 
@@ -93,15 +98,18 @@ with_id = codes "id" ∷ []
 
 -- the texts that are accepted at `import`
 pub record ImportParsers : Type 0 where
+  pub edition : Option ValueParser
   pub limits : Option ValueParser
   pub names : Option ValueParser
+  pub begun : IsOneOf edition third
   pub limited : IsOneOf limits as_single
   pub named : IsOneOf names with_id
 
 abbrev pub import_arguments : ImportParsers → App
 import_arguments p =
-    with_rule (with_rule (with_rule (new_app (codes "import"))
+    with_rule (with_rule (with_rule (with_rule (new_app (codes "import"))
     (option_rule (codes "wcif") any_text))
+    (optional_value_rule (codes "edition") p.edition))
     (optional_value_rule (codes "cumulative") p.limits))
     (optional_value_rule (codes "same-names") p.names)
 
@@ -257,6 +265,7 @@ abbrev pub wire_number : Version → ℕ
 wire_number version.One = 1
 wire_number version.Two = 2
 wire_number version.Three = 3
+wire_number version.Four = 4
 
 -- a desk of this hall, its file, for how many seconds a client may be silent, how many connections
 -- it serves, the version in which it pushes, whether it says nothing of other desks, the files of
@@ -305,6 +314,12 @@ pub record IsCopied (p : Place) (patience start : ℕ) (rows : List Row) : Type 
   pub within : start ≤ 65536
   pub no_store : first_of (codes "store") rows ≡ None
 
+-- the edition with which the list begins: 3 with `--edition 3`, else 4
+pub record IsEdition (rows : List Row) (begun : Edition) : Type 0 where
+  pub given : (text : Text) → first_of (codes "edition") rows ≡ Some text
+      → begun ≡ edition.Three
+  pub none : first_of (codes "edition") rows ≡ None → begun ≡ edition.Four
+
 -- what becomes of time limits for several attempts together: `--cumulative as-single`, or nothing
 pub record IsLimits (rows : List Row) (way : CumulativeLimits) : Type 0 where
   pub given : (text : Text) → first_of (codes "cumulative") rows ≡ Some text
@@ -320,6 +335,7 @@ pub record IsNames (rows : List Row) (way : SameNames) : Type 0 where
 -- a competition's file, and how it is imported
 pub record IsImport (path : Text) (options : Options) (rows : List Row) : Type 0 where
   pub file : first_of (codes "wcif") rows ≡ Some path
+  pub edition : IsEdition rows options.edition
   pub limits : IsLimits rows options.limits
   pub names : IsNames rows options.names
 

@@ -3,7 +3,7 @@
 ghost use Rattle.std.specs.Prelude.{◌≡◌, false, codes, IfOk, IfSome, Some};
 ghost use Rattle.clap.specs.Words.{found_of, rows_of, rule_of};
 ghost use Rattle.arguments.specs.Arguments.{IsCommand, optional_value_rule};
-ghost use Rattle.arguments.specs.Asking.{ImportParsers, IsLimits, IsNames, IsTask};
+ghost use Rattle.arguments.specs.Asking.{ImportParsers, IsEdition, IsLimits, IsNames, IsTask};
 ghost use Rattle.arguments.specs.Asking.{import_arguments};
 
 use crate::described::{Argument, OPTION, Subcommand, made_subcommand};
@@ -12,15 +12,15 @@ use clap::builder::ValueParser;
 use clap::{Arg, ArgMatches, Command};
 use replay_arguments::{text_at, value, with_argument};
 use std::alloc::{AllocError, Global};
-use wcif::{CumulativeLimits, Options, SameNames};
+use wcif::{CumulativeLimits, Edition, Options, SameNames};
 
 const ABOUT: &str = "Prints the commands that set up a competition, from its WCIF file.";
 
 const AFTER: &str = "\
 FILE is a competition in the WCA Competition Interchange Format, as the WCA's site gives it. The
-commands are printed one a line, as `desk enter-lines` takes them: `EDITION 2` where multi-blind is
-held, a `REG` for each accepted person, an `OPEN` for the first round of each event, and an `ENT`
-for each event of each registration.
+commands are printed one a line, as `desk enter-lines` takes them: `EDITION 4`, a `REG` for each
+accepted person, an `OPEN` for the first round of each event, and an `ENT` for each event of each
+registration. With `--edition 3` the first one is `EDITION 3`, for desks of an earlier program.
 
 Where a desk cannot hold something of the competition, nothing is printed, and standard error gets
 a line for each such thing, as `333bf-r1: cumulative limit: enter the limit that holds for one
@@ -46,19 +46,28 @@ const IMPORT: Subcommand<'static> = Subcommand {
     own: &[WCIF],
 };
 
+/// The text that is accepted after `--edition`.
+static EDITIONS: [&str; 1] = ["3"];
+
 /// The text that is accepted after `--cumulative`.
 static LIMITS: [&str; 1] = ["as-single"];
 
 /// The text that is accepted after `--same-names`.
 static NAMES: [&str; 1] = ["id"];
 
-/// An option with one of these texts.
-fn way<'a>(alloc: Global, id: &'a str, help: &'a str, texts: &'a [&'a str]) -> Arg<'a>
+/// An option with one of these texts, which its help calls by a name.
+fn way<'a>(
+    alloc: Global,
+    id: &'a str,
+    name: &'a str,
+    help: &'a str,
+    texts: &'a [&'a str],
+) -> Arg<'a>
     ensures rule { rule_of result
         ≡ optional_value_rule id.entry.now (Some (ValueParser.Names texts.entry)) }
     ensures local { result.global ≡ false }
 {
-    value(alloc, id, "WAY", help, ValueParser::from(texts))
+    value(alloc, id, name, help, ValueParser::from(texts))
         .required(false)
         .long(id)
 }
@@ -69,9 +78,18 @@ pub fn import_command<'a>(alloc: Global) -> Result<Command<'a>, AllocError>
         (λ command. (p : ImportParsers) × IsCommand command (import_arguments p)) }
 {
     let command = made_subcommand(alloc, &IMPORT)?;
+    let edition = way(
+        alloc,
+        "edition",
+        "EDITION",
+        "The edition of the commands, for desks of a program without edition 4",
+        EDITIONS.as_slice(),
+    );
+    let command = with_argument(command, edition)?;
     let limits = way(
         alloc,
         "cumulative",
+        "WAY",
         "A time limit for several attempts together becomes the limit of each",
         LIMITS.as_slice(),
     );
@@ -79,10 +97,21 @@ pub fn import_command<'a>(alloc: Global) -> Result<Command<'a>, AllocError>
     let names = way(
         alloc,
         "same-names",
+        "WAY",
         "Each of several persons with one name gets his WCA ID behind it",
         NAMES.as_slice(),
     );
     with_argument(command, names)
+}
+
+/// The edition with which the list begins.
+fn edition_at(found: &ArgMatches<'_>) -> Edition
+    ensures { IsEdition (rows_of (found_of found.now)) result }
+{
+    match found.get_str("edition") {
+        Some(_) => Edition::Three,
+        None => Edition::Four,
+    }
 }
 
 /// What becomes of time limits for several attempts together.
@@ -112,6 +141,7 @@ pub fn import_of<'m, 'a: 'm>(found: &'m ArgMatches<'a>) -> Option<Task<'m>>
 {
     let file = text_at(found, "wcif")?;
     let options = Options {
+        edition: edition_at(found),
         limits: limits_at(found),
         names: names_at(found),
     };

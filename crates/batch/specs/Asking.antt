@@ -11,17 +11,17 @@ use Rattle.wire.specs.declared.frame.What.TheVariants as what
 use Rattle.wire.specs.declared.values.ClientRefusal.TheVariants.{Busy}
 use Rattle.wire.specs.declared.values.CommandState.TheVariants.{Done, Unknown}
 use Rattle.wire.specs.declared.values.Version.{Version}
-use Rattle.wire.specs.declared.values.Version.TheVariants.{One, Three}
+use Rattle.wire.specs.declared.values.Version.TheVariants.{One, Four}
 pub use Rattle.batch.specs.Dialing.{Adds, Asked, Asks, Goes, Told, asked_so, told}
 use Rattle.batch.specs.declared.asking.Receiver.{Receiver}
 use Rattle.batch.specs.declared.fault.BatchFault.{BatchFault}
 use Rattle.batch.specs.declared.fault.BatchFault.TheVariants.{Asking, CannotConnect, Late, NoMemory}
 use Rattle.batch.specs.declared.fault.BatchFault.TheVariants.{NoKey, OtherKey, HasKey}
 
--- what became of a command is asked in version 3, which alone tells each code; the others are of
+-- what became of a command is asked in version 4, which alone tells each code; the others are of
 -- version 1
 abbrev pub version_for : What → Version
-version_for (what.Ask id) = Three
+version_for (what.Ask id) = Four
 version_for _ = One
 
 -- a request goes from a client, which is 0, to the desk

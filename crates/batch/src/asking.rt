@@ -14,13 +14,13 @@ pub struct Receiver {
     pub desk: u8,
 }
 
-/// The version of the wire in which a request is made: 3 for what became of a command, since it
+/// The version of the wire in which a request is made: 4 for what became of a command, since it
 /// alone tells each code, and else 1.
 fn version_for(what: &What) -> Version
     ensures { result ≡ version_for what.now }
 {
     match what {
-        What::Ask { .. } => Version::Three,
+        What::Ask { .. } => Version::Four,
         _ => Version::One,
     }
 }

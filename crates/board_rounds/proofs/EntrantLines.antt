@@ -1,7 +1,6 @@
 -- What is printed of a row is what is printed of its entrant.
 use Rattle.std.proofs.Common.{◌≡◌, ℕ, Bool, List, [], ◌++◌, refl, sym, ap, ◌∙◌}
 use Rattle.std.specs.Prelude.{option_map, unwrap_or}
-use Rattle.advancement.specs.Advancing.{goes_on}
 use Rattle.attempts.specs.declared.Unit.{Unit as Measure}
 use Rattle.formats.specs.Events.{attempts_of, unit_of}
 use Rattle.rounds.specs.declared.table.Row.{Row}
@@ -16,27 +15,28 @@ use Rattle.board_rounds.specs.Rows.{attempt_cells, cell, entrant_line, line_of, 
 use Rattle.board_rounds.specs.Rows.{mark_end, person_cells, place_words, result_cells}
 use Rattle.round_words.specs.Words.{round_name, round_words}
 
-pub line_of_row : (unit : Measure) (cs : List Command) (settings : Settings) (t : Table) (n : ℕ)
-    (e : Entrant) (row : Row) (shown : Measure) (count : ℕ) (through closed : Bool) (name : List ℕ)
+pub line_of_row : (unit : Measure) (cs : List Command) (settings : Settings) (t : Table)
+    (goes : ℕ → Bool) (n : ℕ) (e : Entrant) (row : Row) (shown : Measure) (count : ℕ)
+    (through closed : Bool) (name : List ℕ)
     → IsRow t n e row → shown ≡ unit → count ≡ attempts_of settings.format
-    → through ≡ goes_on t settings.advance n → closed ≡ t.is_closed → name ≡ name_text cs n
+    → through ≡ goes n → closed ≡ t.is_closed → name ≡ name_text cs n
     → line_start through closed ++ person_cells row.place n name row.values.now
     ++ result_cells shown row.average row.values.now
     ++ attempt_cells shown settings.format row.values.now count
     ++ mark_end through settings.advance closed
-    ≡ line_of unit cs settings t n
+    ≡ line_of unit cs settings t goes n
 unfolding entrant_line
-line_of_row unit cs settings t n e row shown count through closed name is in_unit of_format goes
-    is_closed named =
+line_of_row unit cs settings t goes n e row shown count through closed name is in_unit of_format
+    as_told is_closed named =
     let line : line_start through closed ++ person_cells row.place n name row.values.now
     ++ result_cells shown row.average row.values.now
     ++ attempt_cells shown settings.format row.values.now count
     ++ mark_end through settings.advance closed
-    ≡ entrant_line unit settings t n (name_text cs n) e =
-    rw (in_unit, of_format, goes, is_closed, named, is.values, is.average, is.place) refl in
+    ≡ entrant_line unit settings t goes n (name_text cs n) e =
+    rw (in_unit, of_format, as_told, is_closed, named, is.values, is.average, is.place) refl in
     line ∙ sym
     (ap (λ o. unwrap_or
-    (option_map (entrant_line unit settings t n (name_text cs n)) o) []) is.entrant)
+    (option_map (entrant_line unit settings t goes n (name_text cs n)) o) []) is.entrant)
 
 pub entry_of_row : (id : RoundId) (settings : Settings) (t : Table) (n : ℕ) (e : Entrant)
     (row : Row) (shown : Measure) (count : ℕ) (closed : Bool) → IsRow t n e row

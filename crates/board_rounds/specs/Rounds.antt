@@ -2,9 +2,10 @@
 use Rattle.std.specs.Prelude.{ℕ, ◌+◌, List, [], ◌++◌, codes, decimal, flat_map, option_map}
 use Rattle.std.specs.Prelude.{unwrap_or}
 use Rattle.std.specs.List.{range_with_len}
-use Rattle.commands.specs.Accepted.{round_of}
+use Rattle.commands.specs.Accepted.{round_of, seen_of}
 use Rattle.formats.specs.Events.{attempts_of, unit_of}
 use Rattle.rounds.specs.Tables.{Table, standings}
+use Rattle.sheets.specs.Sheet.{goes_through}
 use Rattle.texts.specs.declared.command.Command.{Command}
 use Rattle.texts.specs.declared.command.RoundId.{RoundId}
 use Rattle.texts.specs.declared.command.Settings.{Settings}
@@ -61,7 +62,9 @@ above id r =
 
 unfoldable pub section_of : List Command → RoundId → ℕ → Settings × Table → List ℕ
 section_of cs id position r =
-    above id r ++ flat_map (line_of (unit_of id.event) cs r.0 r.1) (standings r.1)
+    above id r
+    ++ flat_map (line_of (unit_of id.event) cs r.0 r.1
+    (goes_through (seen_of cs id.event id.round))) (standings r.1)
     ++ below position
 
 -- a round, where it was opened

@@ -7,7 +7,6 @@ use Rattle.std.specs.List.{range_with_len}
 use Rattle.attempts.specs.declared.Value.{Value}
 use Rattle.attempts.specs.declared.Unit.{Unit as Measure}
 use Rattle.attempts.specs.Texts.{value_text}
-use Rattle.advancement.specs.Advancing.{goes_on}
 use Rattle.formats.specs.declared.advance.Advance.{Advance}
 use Rattle.formats.specs.declared.advance.Advance.TheVariants.{Final, Top, Percent}
 use Rattle.formats.specs.declared.events.Format.{Format}
@@ -98,12 +97,14 @@ line_with unit settings closed through number name place average vs =
     ++ attempt_cells unit settings.format vs (attempts_of settings.format)
     ++ mark_end through settings.advance closed
 
-unfoldable pub entrant_line : Measure → Settings → Table → ℕ → List ℕ → Entrant → List ℕ
-entrant_line unit settings t number name e =
-    line_with unit settings t.is_closed (goes_on t settings.advance number) number name (place t e)
+-- the line of an entrant of this number, given who goes on
+unfoldable pub entrant_line : Measure → Settings → Table → (ℕ → Bool) → ℕ → List ℕ → Entrant
+    → List ℕ
+entrant_line unit settings t goes number name e =
+    line_with unit settings t.is_closed (goes number) number name (place t e)
     (average_of t.format t.unit e.values) e.values
 
 -- the line of the entrant with a number
-abbrev pub line_of : Measure → List Command → Settings → Table → ℕ → List ℕ
-line_of unit cs settings t n =
-    unwrap_or (option_map (entrant_line unit settings t n (name_text cs n)) (entrant t n)) []
+abbrev pub line_of : Measure → List Command → Settings → Table → (ℕ → Bool) → ℕ → List ℕ
+line_of unit cs settings t goes n =
+    unwrap_or (option_map (entrant_line unit settings t goes n (name_text cs n)) (entrant t n)) []

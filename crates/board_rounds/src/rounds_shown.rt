@@ -1,13 +1,12 @@
 //! Rounds in HTML.
 
 ghost use Rattle.std.specs.Prelude.{◌≡◌, ◌++◌, OnOk, decimal};
-ghost use Rattle.advancement.specs.Advancing.{IsBorder};
 ghost use Rattle.board_rounds.specs.Rounds.{above, attempt_headings, below, conditions, heading};
 ghost use Rattle.board_rounds.specs.Rounds.{headings, link, section, table_start, title};
 ghost use Rattle.round_words.specs.Words.{round_name, round_words, settings_words, state_words};
-ghost use Rattle.board_rounds.specs.model.Shown.{link_shown, section_shown};
+ghost use Rattle.board_rounds.specs.model.Shown.{IsOpened, link_shown, section_shown};
 
-use crate::lines::push_lines;
+use crate::lines::push_entrants;
 use crate::shown::{Shown, shown_round};
 use attempts::{NoMemory, push_decimal};
 use commands::Meet;
@@ -119,12 +118,11 @@ pub(crate) fn push_below(out: &mut Vec<u8>, position: u32) -> Result<(), NoMemor
 /// Adds a round.
 #[tactic(auto, unfolding(crate::specs::Rounds::section_of))]
 fn push_shown(out: &mut Vec<u8>, shown: Shown<'_>, position: u32) -> Result<(), NoMemory>
-    requires { IsBorder shown.table.now shown.settings.advance shown.border }
+    requires { IsOpened shown }
     ensures { OnOk result (out.new.items ≡ out.old.items ++ section_shown shown.entry position) }
 {
-    let numbers = shown.table.standings()?;
     push_above(out, shown)?;
-    push_lines(out, shown, &numbers)?;
+    push_entrants(out, shown)?;
     push_below(out, position)
 }
 

@@ -1,11 +1,10 @@
 //! A round that was opened, as it is shown.
 
 ghost use Rattle.std.specs.Prelude.{◌≡◌, IfSome, option_map};
-ghost use Rattle.advancement.specs.Advancing.{IsBorder};
 ghost use Rattle.commands.specs.Accepted.{round_of};
 ghost use Rattle.sheets.specs.Sheet.{name_text};
+ghost use Rattle.board_rounds.specs.model.Shown.{IsOpened};
 
-use advancement::border;
 use commands::Meet;
 use rounds::RoundTable;
 use texts::{RoundId, Settings};
@@ -17,8 +16,6 @@ pub(crate) struct Shown<'a> {
     pub(crate) id: RoundId,
     pub(crate) settings: Settings,
     pub(crate) table: &'a RoundTable,
-    /// The place at which nobody advances any more: it is found once for all entrants.
-    pub(crate) border: u16,
 }
 
 /// The round to show, if it was opened.
@@ -27,8 +24,7 @@ pub(crate) fn shown_round(meet: &Meet, id: RoundId) -> Option<Shown<'_>>
     ensures id { IfSome result (λ shown. shown.id ≡ id) }
     ensures round { option_map (λ shown. (shown.settings, shown.table.now)) result
         ≡ round_of meet.now.accepted id.event id.round }
-    ensures border { IfSome result (λ shown.
-        IsBorder shown.table.now shown.settings.advance shown.border) }
+    ensures opened { IfSome result IsOpened }
 {
     let (Some(table), Some(settings)) = (
         meet.round(id.event, id.round),
@@ -41,7 +37,6 @@ pub(crate) fn shown_round(meet: &Meet, id: RoundId) -> Option<Shown<'_>>
         id,
         settings,
         table,
-        border: border(table, settings.advance),
     })
 }
 

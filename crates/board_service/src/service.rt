@@ -177,8 +177,8 @@ impl BoardService {
 impl Service for BoardService {
     ghost use Rattle.board_service.specs.Services.{Answers};
 
-    // The response is that of `markup::replies::reply` for the page that stands at the request's path
-    // as the mirror is, or says how the desks stand, and nothing changes.
+    // The response is that of `markup::replies::reply` for the page that stands at the request's
+    // path as the mirror is, or says how the desks stand, and nothing changes.
     ghost answers = { Answers };
 
     fn call(

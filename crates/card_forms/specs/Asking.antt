@@ -12,18 +12,20 @@ use Rattle.cube.specs.notation.Notation.{Spells as SpellsMoves}
 use Rattle.texts.specs.declared.command.Command.{Command}
 use Rattle.texts.specs.declared.command.Command.TheVariants as command
 use Rattle.texts.specs.declared.command.Entered.TheVariants as entered
+use Rattle.texts.specs.declared.command.Remarked.{Remarked}
 use Rattle.texts.specs.declared.command.RoundId.{RoundId}
 use Rattle.texts.specs.declared.command.Settings.{Settings}
 use Rattle.texts.specs.Fields.{number_between}
-use Rattle.texts.specs.Spelling.{IsFit, spelling, words_of}
+use Rattle.texts.specs.Spelling.{IsFitTold, spelling, told_spelling, words_of}
 use Rattle.scorecard.specs.Spelling.{Spells, trimmed}
 use Rattle.card_forms.specs.declared.pairs.Pair.{Pair}
 use Rattle.card_forms.specs.Cards.{round_of}
 use Rattle.card_forms.specs.Pairs.{value_of}
 
--- a text is the spelling of a command whose fields are in their ranges
+-- a text is the spelling of a command whose fields are in their ranges, with its remark if it has
+-- one
 abbrev pub IsCommandText : List ℕ → Type 0
-IsCommandText text = (command : Command) × IsFit command × (text ≡ spelling command)
+IsCommandText text = (told : Remarked) × IsFitTold told × (text ≡ told_spelling told)
 
 -- ---- fields
 
@@ -96,7 +98,8 @@ pub record HasSettings (pairs : List Pair) (event : Event) (s : Settings) : Type
 
 -- ---- commands
 
--- the fields of a command have these values; what is done at the score table has no such form
+-- the fields of a command have these values; what is done at the score table, and what came with
+-- edition 4, has no such form
 abbrev pub HasFields : List Pair → Command → Type 0
 HasFields pairs (command.Register number name) =
     HasCompetitor pairs number × (name ≡ field (codes "name") pairs)
@@ -122,6 +125,9 @@ HasFields pairs (command.Rescramble id attempt moves) =
     × SpellsMoves (field (codes "moves") pairs) moves
 HasFields pairs (command.Withdraw id number) = HasRound pairs id × HasCompetitor pairs number
 HasFields pairs (command.Reopen id) = HasRound pairs id
+HasFields pairs (command.Card card) = ⊥
+HasFields pairs (command.Fix card) = ⊥
+HasFields pairs (command.Cancel id) = ⊥
 
 -- a command has this word, and its fields are the form's
 abbrev pub IsAsked : List Pair → List ℕ → Command → Type 0

@@ -25,6 +25,10 @@ use Rattle.texts.specs.declared.command.Command.TheVariants.{Register, Open, Ent
 use Rattle.texts.specs.declared.command.Command.TheVariants.{Attempt, Correct, Strike, SetAdvance}
 use Rattle.texts.specs.declared.command.Command.TheVariants.{Close, SetEdition, Rename, SetRound}
 use Rattle.texts.specs.declared.command.Command.TheVariants.{Rescramble, Withdraw, Reopen}
+use Rattle.texts.specs.declared.command.Command.TheVariants.{Card as CardOf, Fix, Cancel}
+use Rattle.texts.specs.declared.command.CardEntry.{CardEntry}
+use Rattle.texts.specs.declared.command.Entered.{Entered}
+use Rattle.texts.specs.declared.command.Remarked.{Remarked}
 use Rattle.texts.specs.declared.command.Settings.{Settings}
 use Rattle.texts.specs.declared.reading.CommandFault.{CommandFault}
 use Rattle.texts.specs.Spelling.{IsFit}
@@ -34,21 +38,24 @@ use Rattle.texts.specs.Table.{rows}
 use Rattle.texts.proofs.Words.{spelled_only}
 use Rattle.commands.specs.Accepted.{edition_in, entered_refusal, is_of, is_registered, put_code}
 use Rattle.commands.specs.Accepted.{put_refusal, refusal, round_in, round_of, scramble_by}
-use Rattle.commands.specs.Accepted.{settled, unfit_refusal, who_advance}
+use Rattle.commands.specs.Accepted.{counts_in, settled, unfit_refusal, values_now, who_advance}
 use Rattle.commands.specs.History.{History, added_read, after, history, is_seen, nothing}
 use Rattle.commands.specs.History.{read_refusal, spelled_refusal}
 use Rattle.commands.specs.model.Kept.{first_of_all, newcomer, waiting_of, with_advance}
 use Rattle.commands.specs.model.Kept.{with_attempt, with_correction, with_end, with_entry}
 use Rattle.commands.specs.model.Kept.{with_exit, with_reopening, with_settings, with_strike}
+use Rattle.commands.specs.model.Cards.{scrambles_of, with_outcomes}
+use Rattle.commands.proofs.CardRounds.{IsOfCard, card_is, fix_is, round_dealt}
 use Rattle.commands.proofs.EachCommand.{opening_table, round_advance, round_attempt, round_close}
 use Rattle.commands.proofs.EachCommand.{round_correct, round_edition, round_enter, round_open}
 use Rattle.commands.proofs.EachCommand.{round_register, round_rename, round_reopen}
 use Rattle.commands.proofs.EachCommand.{round_rescramble, round_scramble, round_settings}
-use Rattle.commands.proofs.EachCommand.{round_strike}
+use Rattle.commands.proofs.EachCommand.{round_strike, round_cancel}
 use Rattle.commands.proofs.Entries.{accepted_new, after_seen}
 use Rattle.commands.proofs.Exits.{round_exit}
 use Rattle.commands.proofs.Known.{read_fit}
 use Rattle.commands.proofs.OneMore.{with_table}
+use Rattle.commands.proofs.ReadCards.{card_read, fix_read}
 
 abbrev pub IsFewEntrant : Entrant → Type 0
 IsFewEntrant e = length e.values ≤ 5
@@ -302,6 +309,32 @@ exit_few m (Some next) x few n =
 shorter : (vs : List Value) → length vs ≤ 5 → length (without_last vs) ≤ 5
 shorter vs few = omega (arith, length-take (length vs - 1) vs, few)
 
+-- a card leaves no more values than it has outcomes
+few_now : (counts : ℕ → Entered → Value) (k : ℕ) (xs : List (Option Entered)) (vs : List Value)
+    → length (values_now counts k xs vs) ≤ length xs
+few_now counts k [] vs = omega arith
+few_now counts k (Some x ∷ xs) [] =
+    let rest = few_now counts (suc k) xs [] in omega (arith, rest)
+few_now counts k (Some x ∷ xs) (v ∷ vs) =
+    let rest = few_now counts (suc k) xs vs in omega (arith, rest)
+few_now counts k (None ∷ xs) [] =
+    let rest = few_now counts (suc k) xs [] in omega (arith, rest)
+few_now counts k (None ∷ xs) (v ∷ vs) =
+    let rest = few_now counts (suc k) xs vs in omega (arith, rest)
+
+-- a card that is accepted
+card_few : (cs : List Command) (c : Command) (card : CardEntry) → IsOfCard c card
+    → length card.now ≤ 5 → HasFew cs → HasFew (cs ++ c ∷ [])
+card_few cs c card is most h e r =
+    let scrambles = scrambles_of cs card.id in
+    round_is _ _ (round_dealt c card is e r cs)
+    (changed (is_of e r card.id) (with_outcomes scrambles card) (round_of cs e r) (h e r)
+    (λ x in_round here few.
+    let counts = counts_in x.0 scrambles in
+    changed_few card.number (values_now counts 1 card.now) x.1.entrants
+    (λ y found few_there.
+    let left = few_now counts 1 card.now y.values in omega (arith, left, most)) few))
+
 -- one more command that is accepted
 few_more : (cs : List Command) (c : Command) → IsFit c → refusal cs c ≡ None → HasFew cs
     → HasFew (cs ++ c ∷ [])
@@ -371,6 +404,18 @@ few_more cs (Withdraw id m) fits allowed h e r =
 few_more cs (Reopen id) fits allowed h e r =
     round_is _ _ (round_reopen e id.event r id.round cs)
     (changed (is_of e r id) with_reopening (round_of cs e r) (h e r) (λ x is here few. few))
+few_more cs (CardOf card) fits allowed h e r =
+    card_few cs (CardOf card) card (card_is card) (card_read card fits).few h e r
+few_more cs (Fix card) fits allowed h e r =
+    card_few cs (Fix card) card (fix_is card) (fix_read card fits).few h e r
+few_more cs (Cancel id) fits allowed h e r =
+    round_is _ _ (round_cancel e id.event r id.round cs)
+    (none_left (same_event e id.event && r == id.round) (round_of cs e r) (h e r))
+  where
+    none_left : (b : Bool) (o : Option (Settings × Table)) → IfSome o IsFewRound
+        → IfSome (cond b None o) IsFewRound
+    none_left true o few = tt
+    none_left false o few = few
 
 -- ---- entries
 
@@ -379,21 +424,24 @@ not_refused : (spelled : Bool) (refused : Option Code)
 not_refused true refused h = h
 not_refused false refused h = absurd (some≢none code.Unread h)
 
-few_answered : (cs : List Command) (c : Command) → IsFit c → HasFew cs → (refused : Option Code)
-    → spelled_refusal cs c ≡ refused → HasFew (cs ++ added_read refused (Ok c))
-few_answered cs c fits h None is =
-    few_more cs c fits (not_refused (is_spelled_in (edition_in cs) c) (refusal cs c) is) h
-few_answered cs c fits h (Some why) is = subst HasFew (sym (append-nil cs)) h
+few_answered : (cs : List Command) (told : Remarked) → IsFit told.command → HasFew cs
+    → (refused : Option Code) → spelled_refusal cs told ≡ refused
+    → HasFew (cs ++ added_read refused (Ok told))
+few_answered cs told fits h None is =
+    few_more cs told.command fits
+    (not_refused (is_spelled_in (edition_in cs) told) (refusal cs told.command) is) h
+few_answered cs told fits h (Some why) is = subst HasFew (sym (append-nil cs)) h
 
-few_read : (cs : List Command) (read : Result Command CommandFault) → IfOk read IsFit → HasFew cs
+few_read : (cs : List Command) (read : Result Remarked CommandFault)
+    → IfOk read (λ told. IsFit told.command) → HasFew cs
     → HasFew (cs ++ added_read (read_refusal cs read) read)
-few_read cs (Ok c) fits h =
-    few_answered cs c fits h (read_refusal cs (Ok c)) (sym (read_fit cs c fits))
+few_read cs (Ok told) fits h =
+    few_answered cs told fits h (read_refusal cs (Ok told)) (sym (read_fit cs told fits))
 few_read cs (Err fault) fits h = subst HasFew (sym (append-nil cs)) h
 
-read_fits : (bytes : List ℕ) (read : Result Command CommandFault) → command_of bytes ≡ read
-    → IfOk read IsFit
-read_fits bytes (Ok c) is = (spelled_only bytes c is).0
+read_fits : (bytes : List ℕ) (read : Result Remarked CommandFault) → command_of bytes ≡ read
+    → IfOk read (λ told. IsFit told.command)
+read_fits bytes (Ok told) is = (spelled_only bytes told is).0.0
 read_fits bytes (Err fault) is = tt
 
 few_after : (h : History) (id : ℕ) (text : List ℕ) → HasFew h.accepted

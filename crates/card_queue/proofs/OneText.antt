@@ -12,10 +12,7 @@ use Rattle.attempts.specs.declared.Value.{Value}
 use Rattle.formats.specs.Events.{attempts_of, unit_of}
 use Rattle.texts.specs.declared.command.AttemptEntry.{AttemptEntry}
 use Rattle.texts.specs.declared.command.Command.{Command}
-use Rattle.texts.specs.declared.command.Command.TheVariants.{Register, Open, Enter, Scramble}
-use Rattle.texts.specs.declared.command.Command.TheVariants.{Attempt, Correct, Strike, SetAdvance}
-use Rattle.texts.specs.declared.command.Command.TheVariants.{Close, SetEdition, Rename, SetRound}
-use Rattle.texts.specs.declared.command.Command.TheVariants.{Rescramble, Withdraw, Reopen}
+use Rattle.texts.specs.declared.command.Command.TheVariants.{Attempt, Correct, Strike}
 use Rattle.texts.specs.declared.command.Entered.{Entered}
 use Rattle.texts.specs.declared.command.RoundId.{RoundId}
 use Rattle.texts.specs.declared.command.Settings.{Settings}
@@ -249,18 +246,7 @@ module _ (id : ℕ) (round : RoundId) (n : ℕ) (xs : List Entered) where
       inr (inl (said_so 7 Correct entry _ refl refl h))
   entry_said filled (Attempt entry) later h =
       inr (inr (said_so 15 Attempt entry _ refl refl h))
-  entry_said filled (Register m name) later h = absurd h
-  entry_said filled (Open r settings) later h = absurd h
-  entry_said filled (Enter e m) later h = absurd h
-  entry_said filled (Scramble r k moves) later h = absurd h
-  entry_said filled (SetAdvance r advance) later h = absurd h
-  entry_said filled (Close r) later h = absurd h
-  entry_said filled (SetEdition edition) later h = absurd h
-  entry_said filled (Rename m name) later h = absurd h
-  entry_said filled (SetRound r form cutoff limit) later h = absurd h
-  entry_said filled (Rescramble r k moves) later h = absurd h
-  entry_said filled (Withdraw r m) later h = absurd h
-  entry_said filled (Reopen r) later h = absurd h
+  entry_said filled _ later h = absurd h
 
   entries_said : (filled : ℕ) (cs : List Command) → AllByRecursion (SaidBy round n xs) cs
       → AllByRecursion EntryOf (entries_for id filled cs)
@@ -391,18 +377,7 @@ near_of id round n xs filled (Correct entry) later h =
     let high = h.high in (omega arith, omega (arith, high))
 near_of id round n xs filled (Attempt entry) later h =
     let high = h.high in (omega arith, omega (arith, high))
-near_of id round n xs filled (Register m name) later h = absurd h
-near_of id round n xs filled (Open r settings) later h = absurd h
-near_of id round n xs filled (Enter e m) later h = absurd h
-near_of id round n xs filled (Scramble r k moves) later h = absurd h
-near_of id round n xs filled (SetAdvance r advance) later h = absurd h
-near_of id round n xs filled (Close r) later h = absurd h
-near_of id round n xs filled (SetEdition edition) later h = absurd h
-near_of id round n xs filled (Rename m name) later h = absurd h
-near_of id round n xs filled (SetRound r form cutoff limit) later h = absurd h
-near_of id round n xs filled (Rescramble r k moves) later h = absurd h
-near_of id round n xs filled (Withdraw r m) later h = absurd h
-near_of id round n xs filled (Reopen r) later h = absurd h
+near_of id round n xs filled _ later h = absurd h
 
 all_near : (id : ℕ) (round : RoundId) (n : ℕ) (xs : List Entered) (filled : ℕ) (cs : List Command)
     → AllByRecursion (SaidBy round n xs) cs → AllByRecursion (IsNear id) (entries_for id filled cs)

@@ -15,10 +15,7 @@ use Rattle.formats.specs.declared.events.Format.{Format}
 use Rattle.formats.specs.declared.events.Format.TheVariants.{Ao5, Mo3, Bo1, Bo2, Bo3}
 use Rattle.formats.specs.Events.{attempts_of}
 use Rattle.texts.specs.declared.command.Command.{Command}
-use Rattle.texts.specs.declared.command.Command.TheVariants.{Register, Open, Enter, Scramble}
-use Rattle.texts.specs.declared.command.Command.TheVariants.{Attempt, Correct, Strike, SetAdvance}
-use Rattle.texts.specs.declared.command.Command.TheVariants.{Close, SetEdition, Rename, SetRound}
-use Rattle.texts.specs.declared.command.Command.TheVariants.{Rescramble, Withdraw, Reopen}
+use Rattle.texts.specs.declared.command.Command.TheVariants.{Strike}
 use Rattle.texts.specs.declared.command.Entered.{Entered}
 use Rattle.texts.specs.declared.command.RoundId.{RoundId}
 use Rattle.texts.specs.declared.command.Settings.{Settings}
@@ -342,21 +339,8 @@ module _ (now : List Command) (id : RoundId) (n : ℕ) (settings : Settings) (vs
 
 same_stand : (filled later : ℕ) (c : Command) → is_strike c ≡ false
     → place_of filled later c ≡ stand c
-same_stand filled later (Register n name) h = refl
-same_stand filled later (Open round settings) h = refl
-same_stand filled later (Enter e n) h = refl
-same_stand filled later (Scramble round k moves) h = refl
-same_stand filled later (Attempt entry) h = refl
-same_stand filled later (Correct entry) h = refl
 same_stand filled later (Strike round n) h = absurd (false≢true (sym h))
-same_stand filled later (SetAdvance round advance) h = refl
-same_stand filled later (Close round) h = refl
-same_stand filled later (SetEdition edition) h = refl
-same_stand filled later (Rename n name) h = refl
-same_stand filled later (SetRound round form cutoff limit) h = refl
-same_stand filled later (Rescramble round k moves) h = refl
-same_stand filled later (Withdraw round n) h = refl
-same_stand filled later (Reopen round) h = refl
+same_stand filled later _ h = refl
 
 module _ (id filled : ℕ) where
   abbrev IsHigh : Entry → Type 0

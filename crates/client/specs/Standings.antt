@@ -1,5 +1,6 @@
 -- How a client asks a desk where it stands and for its log: both in version 3 of the wire.
 use Rattle.std.specs.Prelude.{◌≡◌, ℕ, true}
+use Rattle.wire.specs.Numbers.{IsFromThree}
 use Rattle.wire.specs.Ranges.{IsFrame}
 use Rattle.wire.specs.declared.frame.Frame.{Frame}
 use Rattle.wire.specs.declared.frame.What.{What}
@@ -26,8 +27,8 @@ IsOfThree what.Status = Unit {0}
 IsOfThree (what.Log position) = Unit {0}
 IsOfThree _ = ⊥
 
--- each frame that answers a Status or a Log is in the version in which it was asked, which is 3
-abbrev pub AnswersInItsVersion : Type 0
-AnswersInItsVersion =
+-- each frame that answers a Status or a Log is in a version from 3 on, as what was asked is
+abbrev pub AnswersFromThree : Type 0
+AnswersFromThree =
     (asked given : Frame) → IsFrame asked → IsFrame given → IsOfThree asked.what
-    → answers asked given ≡ true → (asked.version ≡ Three) × (given.version ≡ Three)
+    → answers asked given ≡ true → IsFromThree asked.version × IsFromThree given.version

@@ -18,5 +18,5 @@ pub use exchanging::exchange;
 pub use fault::{ClientFault, refusal_name};
 pub use judging::{answers, judged};
 pub use printing::reply_text;
-pub use standings::{answers_in_its_version, log_request, status_request};
+pub use standings::{answers_from_three, log_request, status_request};
 pub use versions::sheet_version;

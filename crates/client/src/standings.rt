@@ -2,7 +2,7 @@
 
 ghost use Rattle.std.specs.Prelude.{◌≡◌, ◌≤◌};
 ghost use Rattle.wire.specs.Ranges.{IsDesk, IsFrame};
-ghost use Rattle.client.specs.Standings.{AnswersInItsVersion, log_request, status_request};
+ghost use Rattle.client.specs.Standings.{AnswersFromThree, log_request, status_request};
 
 use wire::{Frame, Version, What};
 
@@ -36,8 +36,8 @@ pub fn log_request(hall: u32, desk: u8, position: u32) -> Frame
     }
 }
 
-/// Each frame that is the answer to a Status or a Log is in version 3, as the request is.
-#[tactic(auto, using(crate::proofs::InVersion::in_its_version))]
-pub fn answers_in_its_version()
-    ensures { AnswersInItsVersion }
+/// Each frame that is the answer to a Status or a Log is in a version from 3 on, as the request is.
+#[tactic(auto, using(crate::proofs::InVersion::from_three))]
+pub fn answers_from_three()
+    ensures { AnswersFromThree }
 {}

@@ -1,7 +1,7 @@
 -- What each command is refused for, by the rounds and the competitors that are kept.
 use Rattle.std.proofs.Common.{◌≡◌, ℕ, ◌+◌, ◌≤◌, Bool, true, false, not, List, Option, Some, Result}
 use Rattle.std.proofs.Common.{Ok}
-use Rattle.std.proofs.Common.{Err, IfOk, refl, sym, ◌∙◌}
+use Rattle.std.proofs.Common.{Err, IfOk, suc, refl, sym, ap, ◌∙◌, arith}
 use Rattle.std.specs.declared.alloc.AllocError.{AllocError}
 use Rattle.std.proofs.lemmas.Bool.{false≢true}
 use Rattle.cube.specs.declared.moves.Move.{Move}
@@ -16,14 +16,16 @@ use Rattle.texts.specs.declared.command.Command.TheVariants.{Register, Open, Ent
 use Rattle.texts.specs.declared.command.Command.TheVariants.{Attempt, Correct, Strike, SetAdvance}
 use Rattle.texts.specs.declared.command.Command.TheVariants.{Close, SetEdition, Rename, SetRound}
 use Rattle.texts.specs.declared.command.Command.TheVariants.{Rescramble, Withdraw, Reopen}
+use Rattle.texts.specs.declared.command.Command.TheVariants.{Card, Fix, Cancel}
 use Rattle.texts.specs.declared.command.RoundId.{RoundId}
 use Rattle.commands.specs.declared.index.Index.{Index}
 use Rattle.commands.specs.Accepted.{scramble_of, scramble_by, enter_refusal, scramble_refusal}
 use Rattle.commands.specs.Accepted.{strike_refusal}
 use Rattle.commands.specs.Accepted.{advance_refusal, close_refusal, rules_refusal, refusal}
 use Rattle.commands.specs.Accepted.{rescramble_refusal, withdraw_refusal, reopen_refusal}
-use Rattle.commands.specs.Accepted.{is_registered}
-use Rattle.commands.specs.model.Kept.{kept_by, kept_solved, rounds_of, IsIndexOf, is_of_nobody}
+use Rattle.commands.specs.Accepted.{cancel_refusal, is_registered, round_of, round_by}
+use Rattle.commands.specs.model.Kept.{kept_round, kept_by, kept_solved, kept_competitors}
+use Rattle.commands.specs.model.Kept.{IsIndexOf, is_of_nobody}
 use Rattle.commands.specs.model.Settled.{attempt_refusal, correction_refusal}
 use Rattle.texts.specs.Fields.{round_id}
 use Rattle.commands.proofs.Indexed.{close_alike, rescramble_alike}
@@ -46,6 +48,9 @@ unknown cs (SetEdition edition) h = absurd (false≢true h)
 unknown cs (SetRound id format cutoff limit) h = absurd (false≢true h)
 unknown cs (Rescramble id k moves) h = absurd (false≢true h)
 unknown cs (Reopen id) h = absurd (false≢true h)
+unknown cs (Card card) h = rw h refl
+unknown cs (Fix card) h = rw h refl
+unknown cs (Cancel id) h = absurd (false≢true h)
 
 module _ (cs : List Command) (index : Index) (is : IsIndexOf cs index) (answer : Option Code) where
   pub enters : (e : Event) (n : ℕ) → is_of_nobody cs (Enter e n) ≡ false
@@ -111,10 +116,24 @@ module _ (cs : List Command) (index : Index) (is : IsIndexOf cs index) (answer :
       ∙ rw (is.rounds.rounds id.event id.round, is.rounds.rounds id.event (id.round + 1)) refl
 
   pub closes : (id : RoundId)
-      → answer ≡ close_refusal (rounds_of id.event index.rounds) id.round (kept_by id index.rounds)
+      → answer
+      ≡ close_refusal (kept_competitors id.event index.rounds.opened.items) id.round
+      (kept_by id index.rounds)
       → answer ≡ refusal cs (Close id)
   closes id says =
       says ∙ close_alike cs index.rounds.opened.items id.event id.round is.rounds
+
+  pub cancels : (id : RoundId)
+      → answer
+      ≡ cancel_refusal (kept_round id.event (suc id.round) index.rounds.opened.items)
+      (kept_by id index.rounds)
+      → answer ≡ refusal cs (Cancel id)
+  cancels id says =
+      let next : suc id.round ≡ id.round + 1 = omega arith in
+      says
+      ∙ rw
+      (is.rounds.rounds id.event (suc id.round), is.rounds.rounds id.event id.round)
+      (ap (λ (n : ℕ). cancel_refusal (round_of cs id.event n) (round_by cs id)) next)
 
 -- the same of an entry, where want of memory may take the place of an answer
 pub entry_answered : (cs : List Command) (index : Index) → IsIndexOf cs index → (e : Event) (n : ℕ)

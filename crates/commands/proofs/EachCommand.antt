@@ -15,7 +15,7 @@ use Rattle.texts.specs.declared.command.Command.{Command}
 use Rattle.texts.specs.declared.command.Command.TheVariants.{Register, Open, Enter, Scramble}
 use Rattle.texts.specs.declared.command.Command.TheVariants.{Attempt, Correct, Strike, SetAdvance}
 use Rattle.texts.specs.declared.command.Command.TheVariants.{Close, SetEdition, Rename, SetRound}
-use Rattle.texts.specs.declared.command.Command.TheVariants.{Rescramble, Reopen}
+use Rattle.texts.specs.declared.command.Command.TheVariants.{Rescramble, Reopen, Cancel}
 use Rattle.texts.specs.declared.command.Entered.{Entered}
 use Rattle.texts.specs.declared.command.Settings.{Settings}
 use Rattle.texts.specs.Fields.{round_id, attempt_entry}
@@ -24,25 +24,27 @@ use Rattle.formats.specs.declared.advance.Advance.{Advance}
 use Rattle.commands.specs.model.Kept.{with_attempt, with_correction, with_strike, with_advance}
 use Rattle.commands.specs.model.Kept.{with_end, with_entry, with_settings, newcomer}
 use Rattle.commands.specs.model.Kept.{with_reopening, with_newcomers}
-use Rattle.commands.specs.Accepted.{Opened, opened, opening, scramble_since, scramble_of, settled}
+use Rattle.commands.specs.Accepted.{Opened, opened, opened_by, just_opened, plus_command}
+use Rattle.commands.specs.Accepted.{scramble_since, scramble_of, settled}
 use Rattle.commands.specs.Accepted.{settings_by, entering, closing}
 use Rattle.commands.specs.Accepted.{entrants_left, is_ended, settings_now, round_at}
 use Rattle.commands.specs.Accepted.{who_advance, who_wait}
 use Rattle.commands.specs.Accepted.{round_in, round_of}
-use Rattle.commands.proofs.OneMore.{plus_command, just_opened, opened_push, one_more, new_table}
+use Rattle.commands.proofs.Lookups.{none_either}
+use Rattle.commands.proofs.OneMore.{keeps_open, opened_push, one_more, new_table}
 use Rattle.commands.proofs.OneMore.{with_entrants, with_table, with_parts, entrants_at}
 use Rattle.commands.proofs.OneMore.{entrants_with, left_all, entered_last, round_more}
 use Rattle.commands.proofs.OneMore.{round_with, map_same, map_alike, KeepsValues, TakesNobodyOut}
 use Rattle.commands.proofs.OneMore.{same_entrants, still, round_changed}
 
-abbrev with_change : Event → ℕ → Option (Settings × Table) → Opened → ℕ
+abbrev pub with_change : Event → ℕ → Option (Settings × Table) → Opened → ℕ
     → (List Value → List Value) → Settings × Table
 with_change e r before o m change =
     with_parts e (settings_now e r o) (is_ended e r o.since)
     (map (changed_of m change) (entrants_at e r before o))
 
 -- a command that changes the values of one number makes that change of the entrants, or none
-values_changed : (e : Event) (r : ℕ) (before : Option (Settings × Table)) (c : Command)
+pub values_changed : (e : Event) (r : ℕ) (before : Option (Settings × Table)) (c : Command)
     (o : Opened) (m : ℕ) (change : List Value → List Value) (b : Bool)
     → ((s : Settings) → settings_by e r c s ≡ s) → closing e r c ≡ None
     → ((waiting : List ℕ) (earlier : List Command) → entering e r waiting earlier c ≡ None)
@@ -89,7 +91,7 @@ values_changed e r before c o m change b sets stays nobody stay is =
     both false = refl
 
 -- the scramble of an attempt, by the commands since the opening of its round
-scramble_here : (e f : Event) (r s k : ℕ) (cs : List Command) (o : Opened)
+pub scramble_here : (e f : Event) (r s k : ℕ) (cs : List Command) (o : Opened)
     → opened e r [] cs ≡ Some o → (same_event e f && r == s) ≡ true
     → scramble_since e r k o ≡ scramble_of cs f s k
 scramble_here e f r s k cs o is here =
@@ -241,7 +243,7 @@ round_settings e f r s format cutoff limit cs =
 -- a command that closes a round, or opens it again
 ends : (e f : Event) (r s : ℕ) (c : Command) (closed : Bool)
     (change : Settings × Table → Settings × Table) (cs : List Command)
-    → opening e r c ≡ None → ((settings : Settings) → settings_by e r c settings ≡ settings)
+    → keeps_open e r c ≡ true → ((settings : Settings) → settings_by e r c settings ≡ settings)
     → ((waiting : List ℕ) (earlier : List Command) → entering e r waiting earlier c ≡ None)
     → TakesNobodyOut e r c → KeepsValues e r c
     → closing e r c ≡ cond (same_event e f && r == s) (Some closed) None
@@ -334,8 +336,9 @@ round_enter e f r n cs =
         ∙ map_same _ (λ x. refl) (entrants_at e r before o)))
         ∙ both (same_event e f && r == 1) o before
 
--- a command that changes nothing of a round that is open, and opens none, changes no round
-round_same : (e : Event) (r : ℕ) (cs : List Command) (c : Command) → opening e r c ≡ None
+-- a command that changes nothing of a round that is open, opens none and takes none back changes no
+-- round
+pub round_same : (e : Event) (r : ℕ) (cs : List Command) (c : Command) → keeps_open e r c ≡ true
     → ((s : Settings) → settings_by e r c s ≡ s) → closing e r c ≡ None
     → ((waiting : List ℕ) (earlier : List Command) → entering e r waiting earlier c ≡ None)
     → TakesNobodyOut e r c → KeepsValues e r c
@@ -401,7 +404,7 @@ round_open e f zero s settings cs low =
     let other : (same_event e f && 0 == s) ≡ false = grind (arith, nat_tests) in
     rw other refl
 round_open e f (suc r) s settings cs low =
-    ap (option_map at) (opened_push e (suc r) [] cs (Open (round_id f s) settings))
+    ap (option_map at) (opened_push e (suc r) cs (Open (round_id f s) settings))
     ∙ step (opened e (suc r) [] cs) (same_event e f && suc r == s) refl
   where
     at : Opened → Settings × Table
@@ -426,13 +429,43 @@ round_open e f (suc r) s settings cs low =
     fresh false h = refl
 
     step : (x : Option Opened) (b : Bool) → (same_event e f && suc r == s) ≡ b
-        → option_map at
-        (option_or (option_map (plus_command (Open (round_id f s) settings)) x)
-        (option_map (just_opened cs) (cond b (Some settings) None)))
+        → option_map at (opened_by e (suc r) cs x (Open (round_id f s) settings))
         ≡ option_or (option_map at x)
         (cond b (Some (with_table settings (opening_table f s settings cs))) None)
-    step None b h = fresh b h
+    step None b h =
+        ap (λ (t : Bool). option_map at (option_map (just_opened cs) (cond t (Some settings) None)))
+        h
+        ∙ fresh b h
     step (Some o) b h =
         ap Some
         (still e (suc r) (round_in e r o.before) (Open (round_id f s) settings) o (λ s. refl) refl
         (λ waiting earlier. refl) (λ n. refl) (λ settings earlier x. refl))
+
+-- a round that is taken back is not open any more, and no other is changed
+pub round_cancel : (e f : Event) (r s : ℕ) (cs : List Command)
+    → round_of (cs ++ Cancel (round_id f s) ∷ []) e r
+    ≡ cond (same_event e f && r == s) None (round_of cs e r)
+unfolding round_in
+round_cancel e f zero s cs = none_either (same_event e f && 0 == s) None refl
+round_cancel e f (suc r) s cs =
+    ap (option_map at) (opened_push e (suc r) cs c) ∙ step (opened e (suc r) [] cs)
+  where
+    c : Command
+    c = Cancel (round_id f s)
+
+    at : Opened → Settings × Table
+    at o = round_at e (suc r) (round_in e r o.before) o
+
+    here : (o : Opened) (b : Bool)
+        → option_map at (cond b None (Some (plus_command c o))) ≡ cond b None (Some (at o))
+    here o true = refl
+    here o false =
+        ap Some
+        (still e (suc r) (round_in e r o.before) c o (λ s. refl) refl (λ waiting earlier. refl)
+        (λ n. refl) (λ settings earlier x. refl))
+
+    step : (x : Option Opened)
+        → option_map at (opened_by e (suc r) cs x c)
+        ≡ cond (same_event e f && suc r == s) None (option_map at x)
+    step None = none_either (same_event e f && suc r == s) None refl
+    step (Some o) = here o (same_event e f && suc r == s)

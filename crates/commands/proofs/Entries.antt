@@ -11,6 +11,7 @@ use Rattle.commands.specs.History.{spelled_refusal}
 use Rattle.commands.proofs.Known.{read_fit}
 use Rattle.texts.specs.declared.answer.Answer.TheVariants.{Done}
 use Rattle.texts.specs.declared.command.Command.{Command}
+use Rattle.texts.specs.declared.command.Remarked.{Remarked}
 use Rattle.texts.specs.Reading.{command_of}
 use Rattle.texts.proofs.Words.{spelled_only}
 
@@ -55,24 +56,24 @@ abbrev pub grown : History → ℕ → Command → History
 grown h id c = record { ids = h.ids ++ id ∷ []; accepted = h.accepted ++ c ∷ [] }
 
 -- an entry of a new id whose text reads as a command that is accepted
-module _ (h : History) (id : ℕ) (text : List ℕ) (c : Command) (new : is_seen h id ≡ false)
-    (reads : command_of text ≡ Ok c) (accepted : spelled_refusal h.accepted c ≡ None) where
-  not_refused : read_refusal h.accepted (Ok c) ≡ None
-  not_refused = read_fit h.accepted c (spelled_only text c reads).0 ∙ accepted
+module _ (h : History) (id : ℕ) (text : List ℕ) (told : Remarked) (new : is_seen h id ≡ false)
+    (reads : command_of text ≡ Ok told) (accepted : spelled_refusal h.accepted told ≡ None) where
+  not_refused : read_refusal h.accepted (Ok told) ≡ None
+  not_refused = read_fit h.accepted told (spelled_only text told reads).0.0 ∙ accepted
 
   pub answer_done : answer_to h id text ≡ Done
   answer_done =
       answer_new h id text new ∙ ap (λ r. answer_of (read_refusal h.accepted r)) reads
       ∙ ap answer_of not_refused
 
-  pub after_done : after h id text ≡ grown h id c
+  pub after_done : after h id text ≡ grown h id told.command
   after_done =
       sym
-      (after_new h (grown h id c) id text new refl
+      (after_new h (grown h id told.command) id text new refl
       (ap (λ (more : List Command). h.accepted ++ more)
       (sym
       (ap (λ r. added_read (read_refusal h.accepted r) r) reads
-      ∙ ap (λ o. added_read o (Ok c)) not_refused))))
+      ∙ ap (λ o. added_read o (Ok told)) not_refused))))
 
 seen_same : (i id : ℕ) (ids : List ℕ) → (id == i) ≡ true → list_any (λ other. i == other) ids ≡ true
     → list_any (λ other. id == other) ids ≡ true

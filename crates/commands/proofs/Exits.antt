@@ -10,14 +10,16 @@ use Rattle.formats.specs.declared.events.Event.{Event}
 use Rattle.formats.specs.Events.{same_event}
 use Rattle.formats.proofs.SameEvent.{same_event-equal}
 use Rattle.texts.specs.declared.command.Command.{Command}
-use Rattle.texts.specs.declared.command.Command.TheVariants.{Open, Withdraw}
+use Rattle.texts.specs.declared.command.Command.TheVariants.{Open, Withdraw, Cancel}
 use Rattle.texts.specs.declared.command.Settings.{Settings}
 use Rattle.texts.specs.Fields.{round_id}
 use Rattle.rounds.specs.Tables.{Entrant, Table, has_number}
 use Rattle.commands.specs.model.Kept.{newcomer, with_exit, first_of_all, waiting_now, waiting_of}
-use Rattle.commands.specs.Accepted.{Opened, opened, opening, is_withdrawal}
+use Rattle.commands.specs.Accepted.{Opened, opened, opened_by, just_opened}
+use Rattle.commands.specs.Accepted.{plus_command, is_withdrawal}
 use Rattle.commands.specs.Accepted.{is_ended, settings_now, round_at, who_wait, round_in, round_of}
-use Rattle.commands.proofs.OneMore.{plus_command, just_opened, opened_push, with_parts}
+use Rattle.commands.proofs.Lookups.{none_either}
+use Rattle.commands.proofs.OneMore.{opened_push, keeps_open, opened_kept, with_parts}
 use Rattle.commands.proofs.OneMore.{entrants_at, entrants_with}
 use Rattle.commands.proofs.OneMore.{round_with, map_same, filter_all}
 
@@ -75,29 +77,27 @@ waiting_plus e r before o c =
     step true = drop_later gone (who_wait before)
     step false = refl
 
--- a command that opens no round
-pub waiting_more : (e : Event) (r : ℕ) (cs : List Command) (c : Command) → opening e r c ≡ None
+-- a command that opens no round and takes none back
+pub waiting_more : (e : Event) (r : ℕ) (cs : List Command) (c : Command) → keeps_open e r c ≡ true
     → waiting_of (cs ++ c ∷ []) e r ≡ option_map (waiting_with e r c) (waiting_of cs e r)
-waiting_more e zero cs c none = refl
-waiting_more e (suc r) cs c none =
-    ap (option_map at) (opened_push e (suc r) [] cs c)
-    ∙ rw none (step (opened e (suc r) [] cs))
+waiting_more e zero cs c keeps = refl
+waiting_more e (suc r) cs c keeps =
+    ap (option_map at) (opened_kept e (suc r) cs c keeps) ∙ step (opened e (suc r) [] cs)
   where
     at : Opened → List ℕ
     at o = waiting_now e (suc r) (round_in e r o.before) o
 
     step : (x : Option Opened)
-        → option_map at
-        (option_or (option_map (plus_command c) x) (option_map (just_opened cs) None))
+        → option_map at (option_map (plus_command c) x)
         ≡ option_map (waiting_with e (suc r) c) (option_map at x)
     step None = refl
     step (Some o) = ap Some (waiting_plus e (suc r) (round_in e r o.before) o c)
 
--- a command that opens no round, and by which nobody withdraws
-pub waiting_same : (e : Event) (r : ℕ) (cs : List Command) (c : Command) → opening e r c ≡ None
+-- such a command, by which nobody withdraws
+pub waiting_same : (e : Event) (r : ℕ) (cs : List Command) (c : Command) → keeps_open e r c ≡ true
     → is_withdrawal e r c ≡ false → waiting_of (cs ++ c ∷ []) e r ≡ waiting_of cs e r
-waiting_same e r cs c none stay =
-    waiting_more e r cs c none
+waiting_same e r cs c keeps stay =
+    waiting_more e r cs c keeps
     ∙ ap
     (λ (b : Bool). option_map (λ (ns : List ℕ). cond b (drop 1 ns) ns) (waiting_of cs e r))
     stay
@@ -131,7 +131,7 @@ waiting_open e f zero s settings cs low =
     let other : (same_event e f && 0 == s) ≡ false = grind (arith, nat_tests) in
     rw other refl
 waiting_open e f (suc r) s settings cs low =
-    ap (option_map at) (opened_push e (suc r) [] cs (Open (round_id f s) settings))
+    ap (option_map at) (opened_push e (suc r) cs (Open (round_id f s) settings))
     ∙ step (opened e (suc r) [] cs) (same_event e f && suc r == s) refl
   where
     at : Opened → List ℕ
@@ -149,14 +149,40 @@ waiting_open e f (suc r) s settings cs low =
     fresh false h = refl
 
     step : (x : Option Opened) (b : Bool) → (same_event e f && suc r == s) ≡ b
-        → option_map at
-        (option_or (option_map (plus_command (Open (round_id f s) settings)) x)
-        (option_map (just_opened cs) (cond b (Some settings) None)))
+        → option_map at (opened_by e (suc r) cs x (Open (round_id f s) settings))
         ≡ option_or (option_map at x) (cond b (Some (who_wait (round_of cs f (s - 1)))) None)
-    step None b h = fresh b h
+    step None b h =
+        ap (λ (t : Bool). option_map at (option_map (just_opened cs) (cond t (Some settings) None)))
+        h
+        ∙ fresh b h
     step (Some o) b h =
         ap Some
         (waiting_plus e (suc r) (round_in e r o.before) o (Open (round_id f s) settings))
+
+-- nobody waits for a place in a round that is taken back
+pub waiting_cancel : (e f : Event) (r s : ℕ) (cs : List Command)
+    → waiting_of (cs ++ Cancel (round_id f s) ∷ []) e r
+    ≡ cond (same_event e f && r == s) None (waiting_of cs e r)
+waiting_cancel e f zero s cs = none_either (same_event e f && 0 == s) None refl
+waiting_cancel e f (suc r) s cs =
+    ap (option_map at) (opened_push e (suc r) cs c) ∙ step (opened e (suc r) [] cs)
+  where
+    c : Command
+    c = Cancel (round_id f s)
+
+    at : Opened → List ℕ
+    at o = waiting_now e (suc r) (round_in e r o.before) o
+
+    here : (o : Opened) (b : Bool)
+        → option_map at (cond b None (Some (plus_command c o))) ≡ cond b None (Some (at o))
+    here o true = refl
+    here o false = ap Some (waiting_plus e (suc r) (round_in e r o.before) o c)
+
+    step : (x : Option Opened)
+        → option_map at (opened_by e (suc r) cs x c)
+        ≡ cond (same_event e f && suc r == s) None (option_map at x)
+    step None = none_either (same_event e f && suc r == s) None refl
+    step (Some o) = here o (same_event e f && suc r == s)
 
 -- Who leaves
 
@@ -217,7 +243,7 @@ round_exit e f zero s n cs = none (same_event e f && 0 == s)
     none true = refl
     none false = refl
 round_exit e f (suc r) s n cs =
-    ap (option_map at) (opened_push e (suc r) [] cs (Withdraw (round_id f s) n))
+    ap (option_map at) (opened_kept e (suc r) cs (Withdraw (round_id f s) n) refl)
     ∙ step (opened e (suc r) [] cs) refl
   where
     at : Opened → Settings × Table
@@ -253,9 +279,7 @@ round_exit e f (suc r) s n cs =
     here o is false h = refl
 
     step : (x : Option Opened) → opened e (suc r) [] cs ≡ x
-        → option_map at
-        (option_or (option_map (plus_command (Withdraw (round_id f s) n)) x)
-        (option_map (just_opened cs) None))
+        → option_map at (option_map (plus_command (Withdraw (round_id f s) n)) x)
         ≡ cond (same_event e f && suc r == s)
         (option_map (with_exit n next) (option_map at x)) (option_map at x)
     step None is = none (same_event e f && suc r == s)

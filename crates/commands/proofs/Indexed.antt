@@ -1,12 +1,12 @@
 -- What one more command makes of the index of the accepted commands.
-use Rattle.std.proofs.Common.{◌≡◌, ◌≤◌, ◌+◌, ◌-◌, ℕ, zero, suc, Bool, true, false, not, cond, ◌&&◌}
+use Rattle.std.proofs.Common.{◌≡◌, ◌≤◌, ◌-◌, ℕ, zero, suc, Bool, true, false, not, cond, ◌&&◌}
 use Rattle.std.proofs.Common.{◌==◌, List, [], ◌∷◌, ◌++◌, length, drop, find, count_by, Option, Some}
 use Rattle.std.proofs.Common.{None, is_some, option_map, IfNone, OnSome, Result, Ok, Err, IfOk}
 use Rattle.std.proofs.Common.{refl, ap, ◌∙◌, sym, subst, append-nil, arith, eqb-true}
 use Rattle.std.specs.Prelude.{nat_lt}
-use Rattle.std.specs.List.{list_any, range_with_len}
+use Rattle.std.specs.List.{list_any}
 use Rattle.std.specs.declared.alloc.AllocError.{AllocError}
-use Rattle.std.specs.Option.{option_or, option_and_then}
+use Rattle.std.specs.Option.{option_or, option_map_or, option_and_then}
 use Rattle.std.proofs.lemmas.Bool.{false≢true}
 use Rattle.cube.specs.declared.moves.Move.{Move}
 use Rattle.formats.specs.declared.events.Event.{Event}
@@ -19,7 +19,7 @@ use Rattle.texts.specs.declared.command.Command.{Command}
 use Rattle.texts.specs.declared.command.Command.TheVariants.{Register, Open, Enter, Scramble}
 use Rattle.texts.specs.declared.command.Command.TheVariants.{Attempt, Correct, Strike, SetAdvance}
 use Rattle.texts.specs.declared.command.Command.TheVariants.{Close, SetEdition, Rename, SetRound}
-use Rattle.texts.specs.declared.command.Command.TheVariants.{Rescramble, Withdraw, Reopen}
+use Rattle.texts.specs.declared.command.Command.TheVariants.{Rescramble, Withdraw, Reopen, Cancel}
 use Rattle.texts.specs.declared.command.Entered.{Entered}
 use Rattle.texts.specs.declared.command.Settings.{Settings}
 use Rattle.texts.specs.Fields.{round_id, attempt_entry}
@@ -28,11 +28,12 @@ use Rattle.commands.specs.declared.index.Index.{Index}
 use Rattle.rounds.specs.Tables.{Table, close_fault, entrant, has_done, is_entered}
 use Rattle.rounds.specs.Tables.{replaced, standings, without_last}
 use Rattle.formats.specs.declared.advance.Advance.{Advance}
-use Rattle.advancement.specs.Advancing.{later_rounds, holds_of}
-use Rattle.commands.specs.Accepted.{name_given, renaming, Opened, opened as opened_in, opening}
+use Rattle.advancement.specs.Advancing.{holds_of}
+use Rattle.commands.specs.Accepted.{name_given, renaming, Opened, opened as opened_in}
+use Rattle.commands.specs.Accepted.{is_cancelled, competitors_seen}
 use Rattle.commands.specs.Accepted.{scrambling, rescrambling, scramble_of, settled, is_withdrawal}
-use Rattle.commands.specs.Accepted.{is_moves, scramble_refusal, rescramble_refusal, is_final}
-use Rattle.commands.specs.Accepted.{competitors_of, has_too_few, end_refusal, close_refusal}
+use Rattle.commands.specs.Accepted.{is_moves, scramble_refusal, rescramble_refusal}
+use Rattle.commands.specs.Accepted.{end_refusal, close_refusal}
 use Rattle.commands.specs.Accepted.{who_advance, who_wait, round_in, round_of, is_solution}
 use Rattle.commands.specs.Accepted.{solving, is_solved, has_solved}
 use Rattle.commands.specs.History.{added}
@@ -40,7 +41,9 @@ use Rattle.commands.specs.model.Kept.{is_round, scramble_given, scramble_at, kep
 use Rattle.commands.specs.model.Kept.{kept_waiting, kept_scramble, waiting_now, waiting_of}
 use Rattle.commands.specs.model.Kept.{first_of_all, AreCompetitors, AreRounds, IsIndexOf, AreApart}
 use Rattle.commands.specs.model.Kept.{IsApart, ChangesRound, EntersRound, ExchangesRound, Opens}
-use Rattle.commands.specs.model.Kept.{AddsScramble, IsAsBefore, kept_solved}
+use Rattle.commands.specs.model.Kept.{AddsScramble, IsAsBefore, kept_solved, kept_value, place_in}
+use Rattle.commands.specs.model.Kept.{waiting_in, solved_in, seen_in, seen_from, kept_seen}
+use Rattle.commands.specs.model.Kept.{before_of, kept_competitors, Cancels}
 use Rattle.commands.specs.model.Kept.{with_attempt, with_correction, with_strike, with_advance}
 use Rattle.commands.specs.model.Kept.{with_end, with_entry, with_settings, with_exit}
 use Rattle.commands.specs.model.Kept.{with_reopening, with_newcomers, table_opened}
@@ -50,45 +53,53 @@ use Rattle.commands.proofs.Lookups.{at_end, found_push}
 use Rattle.commands.proofs.EachCommand.{round_attempt, round_correct, round_strike, round_advance}
 use Rattle.commands.proofs.EachCommand.{round_settings, round_close, round_reopen, round_enter}
 use Rattle.commands.proofs.EachCommand.{round_register, round_rename, round_scramble}
-use Rattle.commands.proofs.EachCommand.{round_rescramble, round_open, round_edition}
-use Rattle.commands.proofs.Exits.{waiting_same, waiting_exit, waiting_open, round_exit}
+use Rattle.commands.proofs.EachCommand.{round_rescramble, round_open, round_edition, round_cancel}
+use Rattle.commands.proofs.Exits.{waiting_same, waiting_exit, waiting_open, waiting_cancel}
+use Rattle.commands.proofs.Exits.{round_exit}
 use Rattle.commands.proofs.OneMore.{new_table, with_table, scramble_kept, scramble_new}
-use Rattle.commands.proofs.OneMore.{scramble_again}
+use Rattle.commands.proofs.OneMore.{scramble_again, scramble_cancel, keeps_open, cancels_none}
 use Rattle.commands.proofs.Registrations.{AreCompetitors-other}
-use Rattle.commands.proofs.Solved.{solved_same, solved_entered}
+use Rattle.commands.proofs.RoundsRule.{any_alike, breaks_alike}
+use Rattle.commands.proofs.Seen.{competitors_alike, seen_same, seen_open, seen_cancel}
+use Rattle.commands.proofs.Solved.{solved_same, solved_entered, solved_cancel}
 
--- a command that sets no scramble leaves those that are kept as they are
-scrambles_kept : (cs : List Command) (c : Command) (old new : List KeptRound) → AreRounds cs old
+-- a command that sets no scramble and takes no round back leaves those that are kept as they are
+pub scrambles_kept : (cs : List Command) (c : Command) (old new : List KeptRound)
+    → AreRounds cs old
+    → ((e : Event) (r : ℕ) → is_cancelled e r c ≡ false)
     → ((e : Event) (r k : ℕ) → scrambling e r k c ≡ None)
     → ((e : Event) (r k : ℕ) → rescrambling e r k c ≡ None)
     → ((e : Event) (r k : ℕ) → kept_scramble e r k new ≡ kept_scramble e r k old)
     → (e : Event) (r k : ℕ) → 1 ≤ k
     → option_and_then (scramble_at (cs ++ c ∷ []) e r k) (kept_scramble e r k new)
     ≡ scramble_of (cs ++ c ∷ []) e r k
-scrambles_kept cs c old new are sets again same e r k low =
+scrambles_kept cs c old new are stands sets again same e r k low =
     ap (option_and_then (scramble_at (cs ++ c ∷ []) e r k)) (same e r k)
     ∙ found_push (scramble_given e r k) cs c (kept_scramble e r k old)
     (rw (sets e r k, again e r k) refl)
     ∙ are.scrambles e r k low
-    ∙ sym (scramble_kept e r k cs c (sets e r k) (again e r k))
+    ∙ sym (scramble_kept e r k cs c (stands e r) (sets e r k) (again e r k))
 
 -- a command that changes no round and no scramble, and by which nobody withdraws
 same_rounds : (cs : List Command) (c : Command) (xs : List KeptRound)
     → ((e : Event) (r k : ℕ) → scrambling e r k c ≡ None)
     → ((e : Event) (r k : ℕ) → rescrambling e r k c ≡ None)
-    → ((e : Event) (r : ℕ) → opening e r c ≡ None)
+    → ((e : Event) (r : ℕ) → keeps_open e r c ≡ true)
     → ((e : Event) (r : ℕ) → is_withdrawal e r c ≡ false)
     → ((e : Event) (r k n : ℕ) → solving e r k n c ≡ None)
     → ((e : Event) (r : ℕ) → round_of (cs ++ c ∷ []) e r ≡ round_of cs e r) → AreRounds cs xs
     → AreRounds (cs ++ c ∷ []) xs
 same_rounds cs c xs sets again opens stay unsolved one are = record {
   rounds = λ e r. are.rounds e r ∙ sym (one e r);
-  scrambles = scrambles_kept cs c xs xs are sets again (λ e r k. refl);
+  scrambles =
+      scrambles_kept cs c xs xs are (λ e r. cancels_none e r c (opens e r)) sets again
+      (λ e r k. refl);
   waiting = λ e r. are.waiting e r ∙ sym (waiting_same e r cs c (opens e r) (stay e r));
   apart = are.apart;
   solved =
       λ e r k n low. are.solved e r k n low
-      ∙ sym (solved_same e r k n cs c (unsolved e r k n));
+      ∙ sym (solved_same e r k n cs c (cancels_none e r c (opens e r)) (unsolved e r k n));
+  seen = λ e r. are.seen e r ∙ sym (seen_same e r cs c (opens e r));
 }
 
 -- a registration or another name, which the competitors note
@@ -96,7 +107,7 @@ pub named_or : (cs : List Command) (c : Command) (refused : Option Code) (old ne
     → IsIndexOf cs old
     → ((e : Event) (r k : ℕ) → scrambling e r k c ≡ None)
     → ((e : Event) (r k : ℕ) → rescrambling e r k c ≡ None)
-    → ((e : Event) (r : ℕ) → opening e r c ≡ None)
+    → ((e : Event) (r : ℕ) → keeps_open e r c ≡ true)
     → ((e : Event) (r : ℕ) → is_withdrawal e r c ≡ false)
     → ((e : Event) (r k n : ℕ) → solving e r k n c ≡ None)
     → ((e : Event) (r : ℕ) → round_of (cs ++ c ∷ []) e r ≡ round_of cs e r)
@@ -128,7 +139,7 @@ changes : (cs : List Command) (c : Command) (e : Event) (r : ℕ)
     → AreRounds cs old → ChangesRound e r change old new
     → ((f : Event) (s k : ℕ) → scrambling f s k c ≡ None)
     → ((f : Event) (s k : ℕ) → rescrambling f s k c ≡ None)
-    → ((f : Event) (s : ℕ) → opening f s c ≡ None)
+    → ((f : Event) (s : ℕ) → keeps_open f s c ≡ true)
     → ((f : Event) (s : ℕ) → is_withdrawal f s c ≡ false)
     → ((f : Event) (s k n : ℕ) → solving f s k n c ≡ None)
     → ((f : Event) (s : ℕ)
@@ -143,7 +154,9 @@ changes cs c e r change old new are changed sets again opens stay unsolved one k
       (λ (x : Option (Settings × Table)). cond (same_event f e && s == r) (option_map change x) x)
       (are.rounds f s)
       ∙ sym (one f s);
-  scrambles = scrambles_kept cs c old new are sets again changed.scrambles;
+  scrambles =
+      scrambles_kept cs c old new are (λ f s. cancels_none f s c (opens f s)) sets again
+      changed.scrambles;
   waiting =
       λ f s. changed.waiting f s ∙ are.waiting f s
       ∙ sym (waiting_same f s cs c (opens f s) (stay f s));
@@ -155,7 +168,8 @@ changes cs c e r change old new are changed sets again opens stay unsolved one k
       (λ x ns here waits. keeps f s x ns here (sym (are.waiting f s) ∙ waits)));
   solved =
       λ f s k n low. changed.solved f s k n ∙ are.solved f s k n low
-      ∙ sym (solved_same f s k n cs c (unsolved f s k n));
+      ∙ sym (solved_same f s k n cs c (cancels_none f s c (opens f s)) (unsolved f s k n));
+  seen = λ f s. changed.seen f s ∙ are.seen f s ∙ sym (seen_same f s cs c (opens f s));
 }
 
 -- what is entered for an attempt changes a round as the command does
@@ -164,7 +178,7 @@ enters : (cs : List Command) (c : Command) (e : Event) (r k n : ℕ) (x : Entere
     → AreRounds cs old → EntersRound e r k n x change old new
     → ((f : Event) (s j : ℕ) → scrambling f s j c ≡ None)
     → ((f : Event) (s j : ℕ) → rescrambling f s j c ≡ None)
-    → ((f : Event) (s : ℕ) → opening f s c ≡ None)
+    → ((f : Event) (s : ℕ) → keeps_open f s c ≡ true)
     → ((f : Event) (s : ℕ) → is_withdrawal f s c ≡ false)
     → ((f : Event) (s j m : ℕ)
     → solving f s j m c
@@ -181,7 +195,9 @@ enters cs c e r k n x change old new are done sets again opens stay solves one k
       (λ (y : Option (Settings × Table)). cond (same_event f e && s == r) (option_map change y) y)
       (are.rounds f s)
       ∙ sym (one f s);
-  scrambles = scrambles_kept cs c old new are sets again done.scrambles;
+  scrambles =
+      scrambles_kept cs c old new are (λ f s. cancels_none f s c (opens f s)) sets again
+      done.scrambles;
   waiting =
       λ f s. done.waiting f s ∙ are.waiting f s
       ∙ sym (waiting_same f s cs c (opens f s) (stay f s));
@@ -199,7 +215,8 @@ enters cs c e r k n x change old new are done sets again opens stay solves one k
       (are.solved f s j m low)
       ∙ sym
       (solved_entered f s j m cs c (same_event f e && s == r && (m == n && j == k))
-      (is_solution x) (solves f s j m) (there f s j m));
+      (is_solution x) (cancels_none f s c (opens f s)) (solves f s j m) (there f s j m));
+  seen = λ f s. done.seen f s ∙ are.seen f s ∙ sym (seen_same f s cs c (opens f s));
 }
   where
     there : (f : Event) (s j m : ℕ) → (same_event f e && s == r && (m == n && j == k)) ≡ true
@@ -224,6 +241,7 @@ as_before cs old new are same = record {
   waiting = λ e r. (same e r).waiting e r ∙ are.waiting e r;
   apart = λ e r. rw (rounds e r, (same e r).waiting e r) (are.apart e r);
   solved = λ e r k n low. (same e r).solved e r k n ∙ are.solved e r k n low;
+  seen = λ e r. (same e r).seen e r ∙ are.seen e r;
 }
   where
     kept : (b : Bool) (x : Option (Settings × Table))
@@ -236,13 +254,14 @@ as_before cs old new are same = record {
     rounds e r =
         (same e r).rounds e r ∙ kept (same_event e e && r == r) (kept_round e r old)
 
--- a command that names nobody, gives no scramble, opens no round and takes nobody out
+-- a command that names nobody, gives no scramble, opens no round, takes none back and takes nobody
+-- out
 pub record ChangesOnly (c : Command) : Type 0 where
   pub unnamed : (n : ℕ) → name_given n c ≡ None
   pub same : (n : ℕ) → renaming n c ≡ None
   pub sets : (f : Event) (s k : ℕ) → scrambling f s k c ≡ None
   pub again : (f : Event) (s k : ℕ) → rescrambling f s k c ≡ None
-  pub opens : (f : Event) (s : ℕ) → opening f s c ≡ None
+  pub opens : (f : Event) (s : ℕ) → keeps_open f s c ≡ true
   pub stay : (f : Event) (s : ℕ) → is_withdrawal f s c ≡ false
   pub unsolved : (f : Event) (s k n : ℕ) → solving f s k n c ≡ None
 
@@ -577,8 +596,8 @@ exited cs e r n old new are done = record {
       (are.rounds f s)
       ∙ sym (round_exit f e s r n cs);
   scrambles =
-      scrambles_kept cs (Withdraw (round_id e r) n) old new are (λ f s k. refl) (λ f s k. refl)
-      done.scrambles;
+      scrambles_kept cs (Withdraw (round_id e r) n) old new are (λ f s. refl) (λ f s k. refl)
+      (λ f s k. refl) done.scrambles;
   waiting =
       λ f s. done.waiting f s
       ∙ ap
@@ -591,7 +610,10 @@ exited cs e r n old new are done = record {
       (step f s (same_event f e && s == r) refl);
   solved =
       λ f s k m low. done.solved f s k m ∙ are.solved f s k m low
-      ∙ sym (solved_same f s k m cs (Withdraw (round_id e r) n) refl);
+      ∙ sym (solved_same f s k m cs (Withdraw (round_id e r) n) refl refl);
+  seen =
+      λ f s. done.seen f s ∙ are.seen f s
+      ∙ sym (seen_same f s cs (Withdraw (round_id e r) n) refl);
 }
   where
     next : Option ℕ
@@ -642,29 +664,20 @@ exited_or cs e r n (Some code) old new is same done unchanged = record {
   rounds = rw (unchanged, append-nil cs) is.rounds;
 }
 
-any_alike : (p q : ℕ → Bool) → ((n : ℕ) → p n ≡ q n) → (ns : List ℕ) → list_any p ns ≡ list_any q ns
-any_alike p q h [] = refl
-any_alike p q h (n ∷ ns) = rw (h n, any_alike p q h ns) refl
-
 -- the refusal of a closing, by the rounds as they are kept
 pub close_alike : (cs : List Command) (xs : List KeptRound) (e : Event) (r : ℕ) → AreRounds cs xs
-    → close_refusal (λ (j : ℕ). kept_round e j xs) r (kept_round e r xs)
-    ≡ close_refusal (round_of cs e) r (round_of cs e r)
+    → close_refusal (kept_competitors e xs) r (kept_round e r xs)
+    ≡ close_refusal (competitors_seen cs e) r (round_of cs e r)
 close_alike cs xs e r are =
-    ap (close_refusal (λ (j : ℕ). kept_round e j xs) r) (are.rounds e r) ∙ step (round_of cs e r)
+    ap (close_refusal (kept_competitors e xs) r) (are.rounds e r) ∙ step (round_of cs e r)
   where
-    few : (j : ℕ) → has_too_few (λ (i : ℕ). kept_round e i xs) r j ≡ has_too_few (round_of cs e) r j
-    few j =
-        ap (λ (x : Option (Settings × Table)). nat_lt (later_rounds (competitors_of x)) (r + 1 - j))
-        (are.rounds e j)
-
     step : (x : Option (Settings × Table))
-        → close_refusal (λ (j : ℕ). kept_round e j xs) r x ≡ close_refusal (round_of cs e) r x
+        → close_refusal (kept_competitors e xs) r x ≡ close_refusal (competitors_seen cs e) r x
     step None = refl
     step (Some round) =
-        ap (λ (b : Bool). end_refusal (close_fault round.1) (not (is_final round.0.advance) && b))
-        (any_alike (has_too_few (λ (i : ℕ). kept_round e i xs) r) (has_too_few (round_of cs e) r)
-        few (range_with_len 1 r))
+        ap (end_refusal (close_fault round.1))
+        (breaks_alike (kept_competitors e xs) (competitors_seen cs e) r round.0.advance
+        (λ j. competitors_alike cs xs e j are))
 
 -- an opening, which the rounds note
 pub opened : (cs : List Command) (e : Event) (r : ℕ) (settings : Settings) (old new : Index)
@@ -696,7 +709,8 @@ opened cs e r settings old new is low same opens = record {
         ∙ sym (round_open f e s r settings cs low);
     scrambles =
         scrambles_kept cs (Open (round_id e r) settings) old.rounds.opened.items
-        new.rounds.opened.items is.rounds (λ f s k. refl) (λ f s k. refl) opens.adds.scrambles;
+        new.rounds.opened.items is.rounds (λ f s. refl) (λ f s k. refl) (λ f s k. refl)
+        opens.adds.scrambles;
     waiting = λ f s.
         opens.adds.waiting f s
         ∙ ap
@@ -717,12 +731,117 @@ opened cs e r settings old new is low same opens = record {
         (apart_opened e settings (who_advance before) (who_wait before) opens.once opens.others));
     solved = λ f s k m low.
         opens.adds.solved f s k m ∙ is.rounds.solved f s k m low
-        ∙ sym (solved_same f s k m cs (Open (round_id e r) settings) refl);
+        ∙ sym (solved_same f s k m cs (Open (round_id e r) settings) refl refl);
+    seen = λ f s.
+        opens.adds.seen f s
+        ∙ ap
+        (λ (x : Option (List ℕ × ℕ)).
+        option_or x (cond (same_event f e && s == r) (Some (seen_from before)) None))
+        (is.rounds.seen f s)
+        ∙ ap
+        (λ (x : Option (Settings × Table)).
+        option_or (before_of cs f s)
+        (cond (same_event f e && s == r) (Some (seen_from x)) None))
+        (is.rounds.rounds e (r - 1))
+        ∙ sym (seen_open f e s r settings cs low);
   };
 }
   where
     before : Option (Settings × Table)
     before = kept_round e (r - 1) old.rounds.opened.items
+
+-- what is asked of a round that is not kept any more, or of one that is
+asked_of : {X Y : Type 0} (g : X → Y) (b : Bool) (x : Option X)
+    → option_map g (cond b None x) ≡ cond b None (option_map g x)
+asked_of g true x = refl
+asked_of g false x = refl
+
+-- a round is taken back
+taken_back : (cs : List Command) (e : Event) (r : ℕ) (old new : List KeptRound)
+    → AreRounds cs old
+    → ((f : Event) (s : ℕ)
+    → find (is_round f s) new
+    ≡ cond (same_event f e && s == r) None (find (is_round f s) old))
+    → AreRounds (cs ++ Cancel (round_id e r) ∷ []) new
+taken_back cs e r old new are gone = record {
+  rounds =
+      λ f s. each kept_value f s
+      ∙ ap (cond (same_event f e && s == r) None) (are.rounds f s)
+      ∙ sym (round_cancel f e s r cs);
+  scrambles =
+      λ f s k low.
+      ap (λ x. option_and_then (scramble_at (cs ++ c ∷ []) f s k) (option_and_then (place_in k) x))
+      (gone f s)
+      ∙ scrambled_before_or f s k low (same_event f e && s == r)
+      ∙ sym (scramble_cancel f e s r k cs);
+  waiting =
+      λ f s. each waiting_in f s
+      ∙ ap (cond (same_event f e && s == r) None) (are.waiting f s)
+      ∙ sym (waiting_cancel f e s r cs);
+  apart =
+      λ f s.
+      rw (each kept_value f s, each waiting_in f s) (outside f s (same_event f e && s == r));
+  solved =
+      λ f s k n low.
+      ap (λ x. option_map_or (solved_in k n) x false) (gone f s)
+      ∙ noted f s k n (same_event f e && s == r)
+      ∙ ap (cond (same_event f e && s == r) false) (are.solved f s k n low)
+      ∙ sym (solved_cancel f e s r k n cs);
+  seen =
+      λ f s. each seen_in f s
+      ∙ ap (cond (same_event f e && s == r) None) (are.seen f s)
+      ∙ sym (seen_cancel f e s r cs);
+}
+  where
+    c : Command
+    c = Cancel (round_id e r)
+
+    each : {X : Type 0} (g : KeptRound → X) (f : Event) (s : ℕ)
+        → option_map g (find (is_round f s) new)
+        ≡ cond (same_event f e && s == r) None (option_map g (find (is_round f s) old))
+    each g f s =
+        ap (option_map g) (gone f s)
+        ∙ asked_of g (same_event f e && s == r) (find (is_round f s) old)
+
+    scrambled_before_or : (f : Event) (s k : ℕ) → 1 ≤ k → (b : Bool)
+        → option_and_then (scramble_at (cs ++ c ∷ []) f s k)
+        (option_and_then (place_in k) (cond b None (find (is_round f s) old)))
+        ≡ cond b None (scramble_of cs f s k)
+    scrambled_before_or f s k low true = refl
+    scrambled_before_or f s k low false =
+        found_push (scramble_given f s k) cs c (kept_scramble f s k old) refl
+        ∙ are.scrambles f s k low
+
+    outside : (f : Event) (s : ℕ) (b : Bool)
+        → IsApart (cond b None (kept_round f s old)) (cond b None (kept_waiting f s old))
+    outside f s true = tt
+    outside f s false = are.apart f s
+
+    noted : (f : Event) (s k n : ℕ) (b : Bool)
+        → option_map_or (solved_in k n) (cond b None (find (is_round f s) old)) false
+        ≡ cond b false (kept_solved f s k n old)
+    noted f s k n true = refl
+    noted f s k n false = refl
+
+-- a round that is taken back, which the rounds note
+pub cancelled_or : (cs : List Command) (e : Event) (r : ℕ) (refused : Option Code)
+    (old new : Index)
+    → IsIndexOf cs old
+    → new.competitors ≡ old.competitors
+    → IfNone refused (Cancels (round_id e r) old.rounds new.rounds)
+    → OnSome refused (new.rounds.opened.items ≡ old.rounds.opened.items)
+    → IsIndexOf (cs ++ added refused (Cancel (round_id e r))) new
+cancelled_or cs e r None old new is same done unchanged = record {
+  competitors =
+      rw same
+      (AreCompetitors-other cs (Cancel (round_id e r)) old.competitors (λ m. refl) (λ m. refl)
+      is.competitors);
+  rounds = taken_back cs e r old.rounds.opened.items new.rounds.opened.items is.rounds done;
+}
+cancelled_or cs e r (Some code) old new is same done unchanged = record {
+  competitors = rw (same, append-nil cs) is.competitors;
+  rounds = rw (unchanged, append-nil cs) is.rounds;
+}
 
 -- a scramble that is not refused is the first of its attempt
 unscrambled : (e : Event) (k : ℕ) (scramble : Option (List Move))
@@ -776,7 +895,7 @@ pub record Scrambles (cs : List Command) (c : Command) (e : Event) (r k : ℕ)
       → rescrambling f s j c ≡ None
   pub unnamed : (n : ℕ) → name_given n c ≡ None
   pub same : (n : ℕ) → renaming n c ≡ None
-  pub opens : (f : Event) (s : ℕ) → opening f s c ≡ None
+  pub opens : (f : Event) (s : ℕ) → keeps_open f s c ≡ true
   pub stay : (f : Event) (s : ℕ) → is_withdrawal f s c ≡ false
   pub unsolved : (f : Event) (s j n : ℕ) → solving f s j n c ≡ None
   pub rounds : (f : Event) (s : ℕ) → round_of (cs ++ c ∷ []) f s ≡ round_of cs f s
@@ -807,7 +926,9 @@ scrambles_set cs c e r k moves old new are gives adds f s j one =
         ∙ found_push (scramble_given f s j) cs c (kept_scramble f s j old)
         (rw (gives.sets f s j h, gives.again f s j h) refl)
         ∙ are.scrambles f s j one
-        ∙ sym (scramble_kept f s j cs c (gives.sets f s j h) (gives.again f s j h))
+        ∙ sym
+        (scramble_kept f s j cs c (cancels_none f s c (gives.opens f s)) (gives.sets f s j h)
+        (gives.again f s j h))
 
 noted_or : (cs : List Command) (c : Command) (e : Event) (r k : ℕ) (moves : List Move)
     (refused : Option Code) (old new : Index)
@@ -834,7 +955,9 @@ noted_or cs c e r k moves None old new is gives same done unchanged =
         apart = λ f s. rw (done.rounds f s, done.waiting f s) (is.rounds.apart f s);
         solved =
             λ f s j n low. done.solved f s j n ∙ is.rounds.solved f s j n low
-            ∙ sym (solved_same f s j n cs c (g.unsolved f s j n));
+            ∙ sym
+            (solved_same f s j n cs c (cancels_none f s c (g.opens f s)) (g.unsolved f s j n));
+        seen = λ f s. done.seen f s ∙ is.rounds.seen f s ∙ sym (seen_same f s cs c (g.opens f s));
       };
     }
 noted_or cs c e r k moves (Some code) old new is gives same done unchanged = record {
@@ -859,7 +982,7 @@ first_scramble cs e r k moves there absent = record {
   gives = λ f s j h. rw h refl;
   stands =
       λ f s j h.
-      scramble_new f s j cs (Scramble (round_id e r) k moves) moves (rw h refl)
+      scramble_new f s j cs (Scramble (round_id e r) k moves) moves refl (rw h refl)
       (here_of (λ g m i. is_some (round_of cs g m)) e f r s k j h ∙ there)
       (here_of (λ g m i. scramble_of cs g m i) e f r s k j h ∙ absent);
   sets = λ f s j h. rw h refl;
@@ -879,7 +1002,7 @@ other_scramble cs e r k moves there = record {
   gives = λ f s j h. rw h refl;
   stands =
       λ f s j h.
-      scramble_again f s j cs (Rescramble (round_id e r) k moves) moves (rw h refl)
+      scramble_again f s j cs (Rescramble (round_id e r) k moves) moves refl (rw h refl)
       (here_of (λ g m i. is_some (scramble_of cs g m i)) e f r s k j h ∙ there);
   sets = λ f s j h. refl;
   again = λ f s j h. rw h refl;
@@ -1060,6 +1183,10 @@ nobody_waits_yet : (e : Event) (r : ℕ) → None ≡ waiting_of [] e r
 nobody_waits_yet e zero = refl
 nobody_waits_yet e (suc r) = refl
 
+nothing_seen_yet : (e : Event) (r : ℕ) → None ≡ before_of [] e r
+nothing_seen_yet e zero = refl
+nothing_seen_yet e (suc r) = refl
+
 pub no_rounds : (xs : List KeptRound) → xs ≡ [] → AreRounds [] xs
 no_rounds xs is = record {
   rounds = λ e r. ap (kept_round e r) is ∙ nothing_open e r;
@@ -1071,6 +1198,7 @@ no_rounds xs is = record {
   apart = λ e r. rw is tt;
   solved =
       λ e r k n low. ap (λ (ys : List KeptRound). kept_solved e r k n ys) is ∙ refl;
+  seen = λ e r. ap (kept_seen e r) is ∙ nothing_seen_yet e r;
 }
 
 -- the same where memory ran out while an entry was done

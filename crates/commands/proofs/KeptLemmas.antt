@@ -2,7 +2,7 @@
 use Rattle.std.proofs.Common.{◌≡◌, ℕ, ◌<◌, Bool, true, false, ◌&&◌, ◌==◌, cond, is_some, zero, suc}
 use Rattle.std.proofs.Common.{◌-◌, ◌≤◌, ◌≢◌, List, [], ◌∷◌, ◌++◌, length, set, get_or, find, drop}
 use Rattle.std.proofs.Common.{position, slice_get, Option, Some, None, option_map, MatchOption}
-use Rattle.std.proofs.Common.{not, refl, sym, ap, ◌∙◌, arith, eqb-true}
+use Rattle.std.proofs.Common.{not, filter, refl, sym, ap, ◌∙◌, arith, eqb-true}
 use Rattle.std.specs.Global.{Vec}
 use Rattle.std.specs.List.{position_or_len, list_any}
 use Rattle.std.specs.Option.{option_or, option_map_or, option_and_then}
@@ -24,9 +24,11 @@ use Rattle.commands.specs.declared.kept_rounds.KeptRound.{KeptRound}
 use Rattle.rounds.specs.Tables.{Table, withdrawn, standings}
 use Rattle.commands.specs.model.Kept.{is_round, kept_value, kept_round, place_in, kept_scramble}
 use Rattle.commands.specs.model.Kept.{waiting_in, kept_waiting, first_of_all, with_exit}
+use Rattle.commands.specs.model.Kept.{seen_in, kept_seen}
 use Rattle.commands.specs.model.Kept.{IsKeptAt, ChangesRound, ExchangesRound, AddsRound}
 use Rattle.commands.specs.model.Kept.{AddsScramble, EntersRound, solved_in, kept_solved}
 use Rattle.commands.specs.model.Solved.{is_noted, KeepsNotes}
+use Rattle.commands.proofs.Lookups.{none_either}
 use Rattle.commands.proofs.Places.{IsFound, found_at}
 
 -- a round is the same for events of one number
@@ -123,6 +125,21 @@ waiting_at : (xs : List KeptRound) (e f : Event) (r s i : ℕ) (d : KeptRound) �
 waiting_at xs e f r s i d at h =
     waiting_alike e f r s xs h ∙ ap (option_map waiting_in) (at.found d)
 
+seen_alike : (e f : Event) (r s : ℕ) (xs : List KeptRound) → (same_event f e && s == r) ≡ true
+    → kept_seen f s xs ≡ kept_seen e r xs
+seen_alike e f r s xs h =
+    ap (option_map seen_in)
+    (find_same (is_round f s) (is_round e r) (λ x. same_round e f r s x h) xs)
+
+-- where the round at a place saw the same of the one before, each round did
+same_seen : (xs : List KeptRound) (e : Event) (r i : ℕ) (d new : KeptRound) → IsKeptAt xs e r i
+    → seen_in new ≡ seen_in (get_or xs i d) → (f : Event) (s : ℕ) (b : Bool)
+    → (same_event f e && s == r) ≡ b
+    → option_map seen_in (cond b (Some new) (find (is_round f s) xs)) ≡ kept_seen f s xs
+same_seen xs e r i d new at same f s true h =
+    ap Some same ∙ sym (seen_alike e f r s xs h ∙ ap (option_map seen_in) (at.found d))
+same_seen xs e r i d new at same f s false h = refl
+
 solved_alike : (e f : Event) (r s k n : ℕ) (xs : List KeptRound)
     → (same_event f e && s == r) ≡ true → kept_solved f s k n xs ≡ kept_solved e r k n xs
 solved_alike e f r s k n xs h =
@@ -157,12 +174,12 @@ pub round_changed_at : (xs : List KeptRound) (e : Event) (r i : ℕ) (d new : Ke
     → IsKeptAt xs e r i
     → new.id.event ≡ (get_or xs i d).id.event → new.id.round ≡ (get_or xs i d).id.round
     → new.scrambles ≡ (get_or xs i d).scrambles
-    → waiting_in new ≡ waiting_in (get_or xs i d)
+    → waiting_in new ≡ waiting_in (get_or xs i d) → seen_in new ≡ seen_in (get_or xs i d)
     → KeepsNotes (get_or xs i d).solutions new.solutions
     → (let round : Settings × Table = (new.settings, new.table) in round)
     ≡ change ((get_or xs i d).settings, (get_or xs i d).table)
     → ChangesRound e r change xs (set xs i new)
-round_changed_at xs e r i d new change at event round scrambles waiting notes is = record {
+round_changed_at xs e r i d new change at event round scrambles waiting seen notes is = record {
   rounds =
       λ f s. ap (option_map kept_value) (at.changed d new event round f s)
       ∙ changed f s (same_event f e && s == r) refl;
@@ -172,6 +189,9 @@ round_changed_at xs e r i d new change at event round scrambles waiting notes is
   waiting =
       λ f s. ap (option_map waiting_in) (at.changed d new event round f s)
       ∙ waits f s (same_event f e && s == r) refl;
+  seen =
+      λ f s. ap (option_map seen_in) (at.changed d new event round f s)
+      ∙ same_seen xs e r i d new at seen f s (same_event f e && s == r) refl;
   solved =
       λ f s k n.
       ap (λ o. option_map_or (solved_in k n) o false) (at.changed d new event round f s)
@@ -201,28 +221,32 @@ pub scramble_set_at : (xs : List KeptRound) (e : Event) (r k place i : ℕ) (d n
     → IsKeptAt xs e r i → 1 ≤ k → k - 1 < length (get_or xs i d).scrambles
     → new.id.event ≡ (get_or xs i d).id.event → new.id.round ≡ (get_or xs i d).id.round
     → new.scrambles ≡ set (get_or xs i d).scrambles (k - 1) (Some place)
-    → waiting_in new ≡ waiting_in (get_or xs i d)
+    → waiting_in new ≡ waiting_in (get_or xs i d) → seen_in new ≡ seen_in (get_or xs i d)
     → new.solutions ≡ (get_or xs i d).solutions
     → (let round : Settings × Table = (new.settings, new.table) in round)
     ≡ ((get_or xs i d).settings, (get_or xs i d).table)
     → AddsScramble e r k place xs (set xs i new)
-scramble_set_at xs e r k place i d new at low room event round scrambles waiting notes is = record {
-  there = at.there;
-  rounds =
-      λ f s. ap (option_map kept_value) (at.changed d new event round f s)
-      ∙ same f s (same_event f e && s == r) refl;
-  scrambles =
-      λ f s j one. ap (option_and_then (place_in j)) (at.changed d new event round f s)
-      ∙ changed f s j one (same_event f e) (s == r) (j == k) refl refl refl;
-  waiting =
-      λ f s. ap (option_map waiting_in) (at.changed d new event round f s)
-      ∙ waits f s (same_event f e && s == r) refl;
-  solved =
-      λ f s j n.
-      ap (λ o. option_map_or (solved_in j n) o false) (at.changed d new event round f s)
-      ∙ same_notes xs e r i d new at (λ m l. ap (λ y. is_noted y m l) notes) f s j n
-      (same_event f e && s == r) refl;
-}
+scramble_set_at xs e r k place i d new at low room event round scrambles waiting seen notes is =
+    record {
+      there = at.there;
+      rounds =
+          λ f s. ap (option_map kept_value) (at.changed d new event round f s)
+          ∙ same f s (same_event f e && s == r) refl;
+      scrambles =
+          λ f s j one. ap (option_and_then (place_in j)) (at.changed d new event round f s)
+          ∙ changed f s j one (same_event f e) (s == r) (j == k) refl refl refl;
+      waiting =
+          λ f s. ap (option_map waiting_in) (at.changed d new event round f s)
+          ∙ waits f s (same_event f e && s == r) refl;
+      seen =
+          λ f s. ap (option_map seen_in) (at.changed d new event round f s)
+          ∙ same_seen xs e r i d new at seen f s (same_event f e && s == r) refl;
+      solved =
+          λ f s j n.
+          ap (λ o. option_map_or (solved_in j n) o false) (at.changed d new event round f s)
+          ∙ same_notes xs e r i d new at (λ m l. ap (λ y. is_noted y m l) notes) f s j n
+          (same_event f e && s == r) refl;
+    }
   where
     waits : (f : Event) (s : ℕ) (b : Bool) → (same_event f e && s == r) ≡ b
         → option_map waiting_in (cond b (Some new) (find (is_round f s) xs)) ≡ kept_waiting f s xs
@@ -254,20 +278,24 @@ scramble_set_at xs e r k place i d new at low room event round scrambles waiting
 
 -- a round that is pushed is added
 pub round_pushed : (xs : List KeptRound) (new : KeptRound) (e : Event) (r : ℕ)
-    (round : Settings × Table) (waits : List ℕ)
+    (round : Settings × Table) (waits : List ℕ) (sees : List ℕ × ℕ)
     → new.id.event ≡ e → new.id.round ≡ r → kept_value new ≡ round → waiting_in new ≡ waits
+    → seen_in new ≡ sees
     → ((k : ℕ) → place_in k new ≡ None) → ((n k : ℕ) → is_noted new.solutions n k ≡ false)
-    → AddsRound e r round waits xs (xs ++ new ∷ [])
-round_pushed xs new e r round waits event number is others empty unsolved = record {
+    → AddsRound e r round waits sees xs (xs ++ new ∷ [])
+round_pushed xs new e r round waits sees event number is others seen empty unsolved = record {
   rounds =
       λ f s. ap (option_map kept_value) (find-append (is_round f s) xs (new ∷ []))
-      ∙ step f s (find (is_round f s) xs);
+      ∙ added kept_value round is f s (find (is_round f s) xs);
   scrambles =
       λ f s k. ap (option_and_then (place_in k)) (find-append (is_round f s) xs (new ∷ []))
       ∙ none f s k (find (is_round f s) xs);
   waiting =
       λ f s. ap (option_map waiting_in) (find-append (is_round f s) xs (new ∷ []))
-      ∙ waited f s (find (is_round f s) xs);
+      ∙ added waiting_in waits others f s (find (is_round f s) xs);
+  seen =
+      λ f s. ap (option_map seen_in) (find-append (is_round f s) xs (new ∷ []))
+      ∙ added seen_in sees seen f s (find (is_round f s) xs);
   solved =
       λ f s k n.
       ap (λ o. option_map_or (solved_in k n) o false)
@@ -286,31 +314,19 @@ round_pushed xs new e r round waits event number is others empty unsolved = reco
     notes f s k n None = note k n (is_round f s new)
     notes f s k n (Some x) = refl
 
-    queue : (f : Event) (s : ℕ) (b : Bool) → is_round f s new ≡ b
-        → option_map waiting_in (cond (is_round f s new) (Some new) None) ≡ cond b (Some waits) None
-    queue f s true h = rw h (ap Some others)
-    queue f s false h = rw h refl
+    -- what is asked of the new round, where it is the one that is asked for
+    last : {X : Type 0} (g : KeptRound → X) (is : X) → g new ≡ is → (f : Event) (s : ℕ) (b : Bool)
+        → is_round f s new ≡ b
+        → option_map g (cond (is_round f s new) (Some new) None) ≡ cond b (Some is) None
+    last g is h f s true at = rw at (ap Some h)
+    last g is h f s false at = rw at refl
 
-    waited : (f : Event) (s : ℕ) (x : Option KeptRound)
-        → option_map waiting_in (option_or x (find (is_round f s) (new ∷ [])))
-        ≡ option_or (option_map waiting_in x)
-        (cond (same_event f e && s == r) (Some waits) None)
-    waited f s None = queue f s (same_event f e && s == r) (rw (event, number) refl)
-    waited f s (Some x) = refl
-
-    last : (f : Event) (s : ℕ) (b : Bool) → is_round f s new ≡ b
-        → option_map kept_value (cond (is_round f s new) (Some new) None) ≡ cond b (Some round) None
-    last f s true h = rw h (ap Some is)
-    last f s false h = rw h refl
-
-    is_new : (f : Event) (s : ℕ) → is_round f s new ≡ (same_event f e && s == r)
-    is_new f s = rw (event, number) refl
-
-    step : (f : Event) (s : ℕ) (x : Option KeptRound)
-        → option_map kept_value (option_or x (find (is_round f s) (new ∷ [])))
-        ≡ option_or (option_map kept_value x) (cond (same_event f e && s == r) (Some round) None)
-    step f s None = last f s (same_event f e && s == r) (is_new f s)
-    step f s (Some x) = refl
+    added : {X : Type 0} (g : KeptRound → X) (is : X) → g new ≡ is → (f : Event) (s : ℕ)
+        (x : Option KeptRound)
+        → option_map g (option_or x (find (is_round f s) (new ∷ [])))
+        ≡ option_or (option_map g x) (cond (same_event f e && s == r) (Some is) None)
+    added g is h f s None = last g is h f s (same_event f e && s == r) (rw (event, number) refl)
+    added g is h f s (Some x) = refl
 
     nothing : (k : ℕ) (b : Bool) → option_and_then (place_in k) (cond b (Some new) None) ≡ None
     nothing k true = empty k
@@ -342,16 +358,16 @@ pub round_changed_to : (xs : List KeptRound) (e : Event) (r i : ℕ) (old new : 
     (change : Settings × Table → Settings × Table)
     → IsKeptAt xs e r i → old ≡ get_or xs i old
     → new.id.event ≡ old.id.event → new.id.round ≡ old.id.round → new.scrambles ≡ old.scrambles
-    → waiting_in new ≡ waiting_in old → new.solutions ≡ old.solutions
+    → waiting_in new ≡ waiting_in old → seen_in new ≡ seen_in old → new.solutions ≡ old.solutions
     → (let round : Settings × Table = (new.settings, new.table) in round)
     ≡ change (old.settings, old.table)
     → ChangesRound e r change xs (set xs i new)
-round_changed_to xs e r i old new change at there event round scrambles waiting notes is =
+round_changed_to xs e r i old new change at there event round scrambles waiting seen notes is =
     round_changed_at xs e r i old new change at
     (event ∙ ap (λ (y : KeptRound). y.id.event) there)
     (round ∙ ap (λ (y : KeptRound). y.id.round) there)
     (scrambles ∙ ap (λ (y : KeptRound). y.scrambles) there)
-    (waiting ∙ ap waiting_in there)
+    (waiting ∙ ap waiting_in there) (seen ∙ ap seen_in there)
     (λ n k. ap (λ y. is_noted y n k) notes ∙ ap (λ (y : KeptRound). is_noted y.solutions n k) there)
     (is ∙ ap (λ (y : KeptRound). change (y.settings, y.table)) there)
 
@@ -359,15 +375,18 @@ round_changed_to xs e r i old new change at there event round scrambles waiting 
 pub round_as_before : (xs : List KeptRound) (e : Event) (r i : ℕ) (old new : KeptRound)
     → IsKeptAt xs e r i → old ≡ get_or xs i old
     → new.id.event ≡ old.id.event → new.id.round ≡ old.id.round → new.scrambles ≡ old.scrambles
-    → waiting_in new ≡ waiting_in old → KeepsNotes old.solutions new.solutions
+    → waiting_in new ≡ waiting_in old → seen_in new ≡ seen_in old
+    → KeepsNotes old.solutions new.solutions
     → new.settings ≡ old.settings → new.table ≡ old.table
     → (f : Event) (s : ℕ) → ChangesRound f s (λ round. round) xs (set xs i new)
-round_as_before xs e r i old new at there event round scrambles waiting notes settings table f s =
+round_as_before xs e r i old new at there event round scrambles waiting seen notes settings table f
+    s =
     record {
       rounds = λ g t. same.rounds g t ∙ kept (same_event g e && t == r) (kept_round g t xs)
           ∙ sym (kept (same_event g f && t == s) (kept_round g t xs));
       scrambles = same.scrambles;
       waiting = same.waiting;
+      seen = same.seen;
       solved = same.solved;
     }
   where
@@ -382,7 +401,7 @@ round_as_before xs e r i old new at there event round scrambles waiting notes se
         (event ∙ ap (λ (y : KeptRound). y.id.event) there)
         (round ∙ ap (λ (y : KeptRound). y.id.round) there)
         (scrambles ∙ ap (λ (y : KeptRound). y.scrambles) there)
-        (waiting ∙ ap waiting_in there)
+        (waiting ∙ ap waiting_in there) (seen ∙ ap seen_in there)
         (λ n k. notes n k ∙ ap (λ (y : KeptRound). is_noted y.solutions n k) there)
         (pair
         ∙ ap (λ (y : KeptRound). let z : Settings × Table = (y.settings, y.table) in z) there)
@@ -398,14 +417,14 @@ pub round_entered : (xs : List KeptRound) (e : Event) (r i k n : ℕ) (x : Enter
     (old new : KeptRound) (change : Settings × Table → Settings × Table)
     → IsKeptAt xs e r i → old ≡ get_or xs i old
     → new.id.event ≡ old.id.event → new.id.round ≡ old.id.round → new.scrambles ≡ old.scrambles
-    → waiting_in new ≡ waiting_in old
+    → waiting_in new ≡ waiting_in old → seen_in new ≡ seen_in old
     → ((m j : ℕ) → 1 ≤ j
     → is_noted new.solutions m j
     ≡ cond (m == n && j == k) (is_solution x) (is_noted old.solutions m j))
     → (let round : Settings × Table = (new.settings, new.table) in round)
     ≡ change (old.settings, old.table)
     → EntersRound e r k n x change xs (set xs i new)
-round_entered xs e r i k n x old new change at there event round scrambles waiting notes is =
+round_entered xs e r i k n x old new change at there event round scrambles waiting seen notes is =
     record {
       there = at.there;
       rounds =
@@ -417,6 +436,10 @@ round_entered xs e r i k n x old new change at there event round scrambles waiti
       waiting =
           λ f s. ap (option_map waiting_in) (set_to f s)
           ∙ waits f s (same_event f e && s == r) refl;
+      seen =
+          λ f s. ap (option_map seen_in) (set_to f s)
+          ∙ same_seen xs e r i old new at (seen ∙ ap seen_in there) f s
+          (same_event f e && s == r) refl;
       solved =
           λ f s j m low. ap (λ o. option_map_or (solved_in j m) o false) (set_to f s)
           ∙ noted f s j m low (same_event f e) (s == r) (m == n && j == k) refl refl refl;
@@ -470,11 +493,12 @@ round_entered xs e r i k n x old new change at there event round scrambles waiti
 pub round_exchanged : (xs : List KeptRound) (e : Event) (r i n : ℕ) (old new : KeptRound)
     → IsKeptAt xs e r i → old ≡ get_or xs i old
     → new.id.event ≡ old.id.event → new.id.round ≡ old.id.round → new.scrambles ≡ old.scrambles
-    → waiting_in new ≡ drop 1 (waiting_in old) → new.solutions ≡ old.solutions
+    → waiting_in new ≡ drop 1 (waiting_in old) → seen_in new ≡ seen_in old
+    → new.solutions ≡ old.solutions
     → (let round : Settings × Table = (new.settings, new.table) in round)
     ≡ with_exit n (first_of_all (waiting_in old)) (old.settings, old.table)
     → ExchangesRound e r n xs (set xs i new)
-round_exchanged xs e r i n old new at there event round scrambles waiting notes is = record {
+round_exchanged xs e r i n old new at there event round scrambles waiting seen notes is = record {
   rounds =
       λ f s. ap (option_map kept_value) (set_to f s)
       ∙ changed f s (same_event f e && s == r) refl;
@@ -484,6 +508,10 @@ round_exchanged xs e r i n old new at there event round scrambles waiting notes 
   waiting =
       λ f s. ap (option_map waiting_in) (set_to f s)
       ∙ waits f s (same_event f e && s == r) refl;
+  seen =
+      λ f s. ap (option_map seen_in) (set_to f s)
+      ∙ same_seen xs e r i old new at (seen ∙ ap seen_in there) f s (same_event f e && s == r)
+      refl;
   solved =
       λ f s k m.
       ap (λ o. option_map_or (solved_in k m) o false) (set_to f s)
@@ -601,7 +629,7 @@ pub round_set_to : (xs : List KeptRound) (e : Event) (r i : ℕ) (old : KeptRoun
 round_set_to xs e r i old settings table change at there is =
     round_changed_to xs e r i old (record old { settings = settings; table = table }) change at
     there
-    refl refl refl refl refl is
+    refl refl refl refl refl refl is
 
 -- another scramble's place
 pub scramble_set_to : (xs : List KeptRound) (e : Event) (r k place i : ℕ) (old : KeptRound)
@@ -616,7 +644,7 @@ scramble_set_to xs e r k place i old at there low room =
     (omega (arith, room, long)) (ap (λ (y : KeptRound). y.id.event) there)
     (ap (λ (y : KeptRound). y.id.round) there)
     (ap (λ (y : KeptRound). set y.scrambles (k - 1) (Some place)) there) (ap waiting_in there)
-    (ap (λ (y : KeptRound). y.solutions) there)
+    (ap seen_in there) (ap (λ (y : KeptRound). y.solutions) there)
     (ap (λ (y : KeptRound). let z : Settings × Table = (y.settings, y.table) in z) there)
 
 -- who withdraws, with those who wait then
@@ -628,5 +656,34 @@ pub round_exited_to : (xs : List KeptRound) (e : Event) (r i n : ℕ) (old : Kep
     → ExchangesRound e r n xs (set xs i (record old { table = table; waiting = waiting }))
 round_exited_to xs e r i n old table waiting at there others is =
     round_exchanged xs e r i n old (record old { table = table; waiting = waiting }) at there refl
-    refl refl others refl
+    refl refl others refl refl
     (ap (λ (t : Table). let round : Settings × Table = (old.settings, t) in round) is)
+
+-- those that are left once a round is taken away
+pub found_without : (e f : Event) (r s : ℕ) (xs : List KeptRound)
+    → find (is_round f s) (filter (λ x. not (is_round e r x)) xs)
+    ≡ cond (same_event f e && s == r) None (find (is_round f s) xs)
+found_without e f r s [] = none_either (same_event f e && s == r) None refl
+found_without e f r s (x ∷ xs) =
+    step (is_round e r x) (is_round f s x) (same_event f e && s == r) refl refl refl
+    (found_without e f r s xs)
+  where
+    rest : List KeptRound
+    rest = filter (λ y. not (is_round e r y)) xs
+
+    step : (a t b : Bool) → is_round e r x ≡ a → is_round f s x ≡ t → (same_event f e && s == r) ≡ b
+        → find (is_round f s) rest ≡ cond b None (find (is_round f s) xs)
+        → find (is_round f s) (cond (not a) (x ∷ rest) rest)
+        ≡ cond b None (cond t (Some x) (find (is_round f s) xs))
+    step true t true here is h ih = ih
+    step true t false here is h ih =
+        let apart : t ≡ false = sym is ∙ other_round e f r s x here h in
+        rw apart ih
+    step false true true here is h ih =
+        absurd (false≢true (sym here ∙ sym (same_round e f r s x h) ∙ is))
+    step false false true here is h ih =
+        ap (λ (u : Bool). cond u (Some x) (find (is_round f s) rest)) is ∙ ih
+    step false true false here is h ih =
+        ap (λ (u : Bool). cond u (Some x) (find (is_round f s) rest)) is
+    step false false false here is h ih =
+        ap (λ (u : Bool). cond u (Some x) (find (is_round f s) rest)) is ∙ ih

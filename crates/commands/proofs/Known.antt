@@ -1,19 +1,19 @@
 -- What a program answers that knows fewer editions.
 use Rattle.std.proofs.Common.{◌≡◌, ℕ, ◌≤◌, ◌<◌, Bool, true, false, cond, nat_le, List, [], ◌∷◌}
-use Rattle.std.proofs.Common.{◌++◌, fold, Option, Some, Result, Ok, Err, refl, sym, ap, ◌∙◌, arith}
+use Rattle.std.proofs.Common.{◌++◌, fold, Option, Some, None, Result, Ok, Err, refl, sym, ap, ◌∙◌}
+use Rattle.std.proofs.Common.{arith}
 use Rattle.std.specs.List.{AllByRecursion}
 use Rattle.std.proofs.lemmas.List.Elements.{recursion_from_All}
+use Rattle.std.proofs.lemmas.Bool.{false≢true}
 use Rattle.std.proofs.lemmas.Bool.Decides.{nat_tests}
 use Rattle.texts.specs.declared.answer.Code.{Code}
 use Rattle.texts.specs.declared.answer.Code.TheVariants as code
 use Rattle.texts.specs.declared.command.Command.{Command}
-use Rattle.texts.specs.declared.command.Command.TheVariants.{Register, Open, Enter, Scramble}
-use Rattle.texts.specs.declared.command.Command.TheVariants.{Attempt, Correct, Strike, SetAdvance}
-use Rattle.texts.specs.declared.command.Command.TheVariants.{Close, SetEdition, Rename, SetRound}
-use Rattle.texts.specs.declared.command.Command.TheVariants.{Rescramble, Withdraw, Reopen}
+use Rattle.texts.specs.declared.command.Command.TheVariants.{SetEdition}
+use Rattle.texts.specs.declared.command.Remarked.{Remarked}
 use Rattle.texts.specs.declared.reading.CommandFault.{CommandFault}
 use Rattle.texts.specs.Reading.{command_of}
-use Rattle.texts.specs.Spelling.{IsFit, last_edition}
+use Rattle.texts.specs.Spelling.{IsFit, IsFitRemark, last_edition, spelling, with_remark_text}
 use Rattle.texts.specs.Table.{rows}
 use Rattle.texts.proofs.Words.{spelled_only}
 use Rattle.commands.specs.History.{History, nothing, answer_of, is_seen, added_read, knows}
@@ -29,26 +29,14 @@ knows_fit (SetEdition e) fit = low fit.0.0.1
   where
     low : e ≤ last_edition → nat_le e last_edition ≡ true
     low h = grind (arith, nat_tests)
-knows_fit (Register n name) fit = refl
-knows_fit (Open id settings) fit = refl
-knows_fit (Enter e n) fit = refl
-knows_fit (Scramble id j moves) fit = refl
-knows_fit (Attempt entry) fit = refl
-knows_fit (Correct entry) fit = refl
-knows_fit (Strike id n) fit = refl
-knows_fit (SetAdvance id advance) fit = refl
-knows_fit (Close id) fit = refl
-knows_fit (Rename n name) fit = refl
-knows_fit (SetRound id format cutoff limit) fit = refl
-knows_fit (Rescramble id j moves) fit = refl
-knows_fit (Withdraw id n) fit = refl
-knows_fit (Reopen id) fit = refl
+knows_fit _ fit = refl
 
 -- so a command that is read is refused by its own checks
-pub read_fit : (cs : List Command) (c : Command) → IsFit c
-    → read_refusal cs (Ok c) ≡ spelled_refusal cs c
-read_fit cs c fit =
-    ap (λ (b : Bool). cond b (spelled_refusal cs c) (Some code.Unread)) (knows_fit c fit)
+pub read_fit : (cs : List Command) (told : Remarked) → IsFit told.command
+    → read_refusal cs (Ok told) ≡ spelled_refusal cs told
+read_fit cs told fit =
+    ap (λ (b : Bool). cond b (spelled_refusal cs told) (Some code.Unread))
+    (knows_fit told.command fit)
 
 module _ (k later : ℕ) (most : k ≤ later) where
   -- a text sets no edition between: it is known to both, or to none
@@ -64,31 +52,23 @@ module _ (k later : ℕ) (most : k ≤ later) where
           (let within : e ≤ later = grind (arith, nat_tests) in within))
       step false false known is = is ∙ sym known
 
-  knows_alike : (text : List ℕ) (c : Command) → command_of text ≡ Ok c → SetsNone k later text
-      → knows later c ≡ knows k c
-  knows_alike text (SetEdition e) is other =
-      counts_alike e (λ low within. other e low within (spelled_only text (SetEdition e) is).1)
-  knows_alike text (Register n name) is other = refl
-  knows_alike text (Open id settings) is other = refl
-  knows_alike text (Enter e n) is other = refl
-  knows_alike text (Scramble id j moves) is other = refl
-  knows_alike text (Attempt entry) is other = refl
-  knows_alike text (Correct entry) is other = refl
-  knows_alike text (Strike id n) is other = refl
-  knows_alike text (SetAdvance id advance) is other = refl
-  knows_alike text (Close id) is other = refl
-  knows_alike text (Rename n name) is other = refl
-  knows_alike text (SetRound id format cutoff limit) is other = refl
-  knows_alike text (Rescramble id j moves) is other = refl
-  knows_alike text (Withdraw id n) is other = refl
-  knows_alike text (Reopen id) is other = refl
+  -- the same of the command that a text of either kind sets; a remark goes with no such command
+  knows_alike : (text : List ℕ) (c : Command) (remark : Option (List ℕ))
+      → IsFitRemark c remark → text ≡ with_remark_text (spelling c) remark
+      → SetsNone k later text → knows later c ≡ knows k c
+  unfolding rows
+  knows_alike text (SetEdition e) None fit is other =
+      counts_alike e (λ low within. other e low within is)
+  knows_alike text (SetEdition e) (Some remark) fit is other = absurd (false≢true fit.0)
+  knows_alike text _ remark fit is other = refl
 
-  read_alike : (cs : List Command) (text : List ℕ) (r : Result Command CommandFault)
+  read_alike : (cs : List Command) (text : List ℕ) (r : Result Remarked CommandFault)
       → command_of text ≡ r → SetsNone k later text
       → read_refusal_in later cs r ≡ read_refusal_in k cs r
-  read_alike cs text (Ok c) is other =
-      ap (λ (b : Bool). cond b (spelled_refusal cs c) (Some code.Unread))
-      (knows_alike text c is other)
+  read_alike cs text (Ok told) is other =
+      let spelled = spelled_only text told is in
+      ap (λ (b : Bool). cond b (spelled_refusal cs told) (Some code.Unread))
+      (knows_alike text told.command told.remark spelled.0.1 spelled.1 other)
   read_alike cs text (Err fault) is other = refl
 
   after_alike : (h : History) (id : ℕ) (text : List ℕ) → SetsNone k later text

@@ -1,9 +1,14 @@
 pub mod Apart
 pub mod Arms
+pub mod Cancelled
+pub mod CardIndex
+pub mod CardRounds
+pub mod CardSteps
 pub mod EachCommand
 pub mod Editions
 pub mod Entries
 pub mod Exits
+pub mod FirstOpening
 pub mod Indexed
 pub mod KeptLemmas
 pub mod Known
@@ -13,7 +18,10 @@ pub mod Names
 pub mod Newcomers
 pub mod OneMore
 pub mod Places
+pub mod ReadCards
 pub mod Registrations
+pub mod RoundsRule
+pub mod Seen
 pub mod Sizes
 pub mod SettledLemmas
 pub mod Solved

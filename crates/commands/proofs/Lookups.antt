@@ -1,6 +1,7 @@
 -- Looking up what commands say, after one more command.
 use Rattle.std.proofs.Common.{◌≡◌, ℕ, zero, suc, List, [], ◌∷◌, ◌++◌, length, slice_get, Option}
-use Rattle.std.proofs.Common.{Some, None, option_map, is_some, unwrap_or, false, Result, Ok, Err}
+use Rattle.std.proofs.Common.{Some, None, option_map, is_some, unwrap_or, Bool, true, false, cond}
+use Rattle.std.proofs.Common.{Result, Ok, Err}
 use Rattle.std.proofs.Common.{OnErr, ap, ◌∙◌, refl}
 use Rattle.std.proofs.Common.{sym}
 use Rattle.std.specs.Option.{option_or, option_and_then}
@@ -20,6 +21,11 @@ or_none (Some x) = refl
 pub none_from : {X : Type 0} (o : Option X) → is_some o ≡ false → o ≡ None
 none_from None h = refl
 none_from (Some x) h = absurd (false≢true (sym h))
+
+-- nothing, either way
+pub none_either : {X : Type 0} (b : Bool) (x : Option X) → x ≡ None → x ≡ cond b None x
+none_either true x is = is
+none_either false x is = refl
 
 pub some≢none : {X : Type 0} (x : X) → Some x ≡ None → ⊥
 some≢none x h = false≢true (sym (ap is_some h))

@@ -1,5 +1,6 @@
 -- What one more command makes of a list of accepted commands.
-use Rattle.std.proofs.Common.{◌≡◌, ℕ, zero, suc, Bool, true, false, not, ◌||◌, cond, unwrap_or}
+use Rattle.std.proofs.Common.{◌≡◌, ℕ, zero, suc, Bool, true, false, not, ◌||◌, ◌&&◌, ◌==◌, cond}
+use Rattle.std.proofs.Common.{unwrap_or}
 use Rattle.std.proofs.Common.{List, [], ◌∷◌, ◌++◌, map, filter, Option}
 use Rattle.std.proofs.Common.{Some, None, is_some, option_map, option_to_list, refl, ap, ◌∙◌, sym}
 use Rattle.std.proofs.Common.{append_assoc, append-nil}
@@ -11,59 +12,74 @@ use Rattle.std.proofs.lemmas.List.Folds.{list_any-append}
 use Rattle.cube.specs.declared.moves.Move.{Move}
 use Rattle.attempts.specs.declared.Value.{Value}
 use Rattle.formats.specs.declared.events.Event.{Event}
-use Rattle.formats.specs.Events.{unit_of}
+use Rattle.formats.specs.Events.{unit_of, same_event}
 use Rattle.texts.specs.declared.command.Command.{Command}
+use Rattle.texts.specs.declared.command.Command.TheVariants.{Cancel}
+use Rattle.texts.specs.Fields.{round_id}
 use Rattle.texts.specs.declared.command.Settings.{Settings}
 use Rattle.rounds.specs.Tables.{Entrant, Table, empty_table}
 use Rattle.commands.specs.model.Kept.{newcomer}
-use Rattle.commands.specs.Accepted.{last_of, Opened, opened, opening, scrambling, rescrambling}
+use Rattle.commands.specs.Accepted.{last_of, Opened, opened, opened_after, opened_by, opening}
+use Rattle.commands.specs.Accepted.{is_cancelled, just_opened, plus_command, scrambling}
+use Rattle.commands.specs.Accepted.{rescrambling}
 use Rattle.commands.specs.Accepted.{scramble_since, scramble_of, settings_by, settings_after}
 use Rattle.commands.specs.Accepted.{takes_out, entering, one_value, values_after, entrant_after}
 use Rattle.commands.specs.Accepted.{stays, entrants_left, entrants_after, closing, is_ended}
 use Rattle.commands.specs.Accepted.{settings_now, table_of, who_advance, who_wait, round_at}
 use Rattle.commands.specs.Accepted.{round_in, round_of}
-use Rattle.commands.proofs.Lookups.{or_none, last_push, stands, standing_push}
+use Rattle.commands.proofs.Lookups.{last_push, stands, standing_push}
 
--- a round with one more command since its opening
-abbrev pub plus_command : Command → Opened → Opened
-plus_command c o = record o { since = o.since ++ c ∷ [] }
-
-abbrev pub just_opened : List Command → Settings → Opened
-just_opened before settings = record { before = before; settings = settings; since = [] }
-
--- one more command is one more since the opening, or it opens the round
-pub opened_push : (e : Event) (r : ℕ) (earlier cs : List Command) (c : Command)
-    → opened e r earlier (cs ++ c ∷ [])
-    ≡ option_or (option_map (plus_command c) (opened e r earlier cs))
-    (option_map (just_opened (earlier ++ cs)) (opening e r c))
-opened_push e r earlier [] c =
-    or_none _
-    ∙ ap (λ (before : List Command). option_map (just_opened before) (opening e r c))
-    (sym (append-nil earlier))
-opened_push e r earlier (d ∷ ds) c =
-    step (opening e r d)
-    (opened_push e r (earlier ++ d ∷ []) ds c
+-- a round after commands, and one more
+after_push : (e : Event) (r : ℕ) (earlier : List Command) (state : Option Opened)
+    (cs : List Command) (c : Command)
+    → opened_after e r earlier state (cs ++ c ∷ [])
+    ≡ opened_by e r (earlier ++ cs) (opened_after e r earlier state cs) c
+after_push e r earlier state [] c =
+    ap (λ (before : List Command). opened_by e r before state c) (sym (append-nil earlier))
+after_push e r earlier state (d ∷ ds) c =
+    after_push e r (earlier ++ d ∷ []) (opened_by e r earlier state d) ds c
     ∙ ap
     (λ (before : List Command).
-    option_or (option_map (plus_command c) (opened e r (earlier ++ d ∷ []) ds))
-    (option_map (just_opened before) (opening e r c)))
-    (append_assoc earlier (d ∷ []) ds))
-  where
-    now : List Command → Settings → Opened
-    now since settings = record { before = earlier; settings = settings; since = since }
+    opened_by e r before
+    (opened_after e r (earlier ++ d ∷ []) (opened_by e r earlier state d) ds) c)
+    (append_assoc earlier (d ∷ []) ds)
 
-    step : (o : Option Settings)
-        → opened e r (earlier ++ d ∷ []) (ds ++ c ∷ [])
-        ≡ option_or (option_map (plus_command c) (opened e r (earlier ++ d ∷ []) ds))
-        (option_map (just_opened (earlier ++ d ∷ ds)) (opening e r c))
-        → option_or (option_map (now (ds ++ c ∷ [])) o)
-        (opened e r (earlier ++ d ∷ []) (ds ++ c ∷ []))
-        ≡ option_or
-        (option_map (plus_command c)
-        (option_or (option_map (now ds) o) (opened e r (earlier ++ d ∷ []) ds)))
-        (option_map (just_opened (earlier ++ d ∷ ds)) (opening e r c))
-    step None h = h
-    step (Some s) h = refl
+-- one more command is one step more
+pub opened_push : (e : Event) (r : ℕ) (cs : List Command) (c : Command)
+    → opened e r [] (cs ++ c ∷ []) ≡ opened_by e r cs (opened e r [] cs) c
+opened_push e r cs c = after_push e r [] None cs c
+
+-- a command neither opens a round nor takes back that it was opened
+abbrev pub keeps_open : Event → ℕ → Command → Bool
+keeps_open e r c = not (is_some (opening e r c) || is_cancelled e r c)
+
+-- such a command opens nothing
+pub opens_none : (e : Event) (r : ℕ) (c : Command) → keeps_open e r c ≡ true → opening e r c ≡ None
+opens_none e r c h = step (opening e r c) h
+  where
+    step : (o : Option Settings) → not (is_some o || is_cancelled e r c) ≡ true → o ≡ None
+    step None h = refl
+    step (Some s) h = absurd (false≢true h)
+
+-- and takes nothing back
+pub cancels_none : (e : Event) (r : ℕ) (c : Command) → keeps_open e r c ≡ true
+    → is_cancelled e r c ≡ false
+cancels_none e r c h = step (is_some (opening e r c)) (is_cancelled e r c) h
+  where
+    step : (a b : Bool) → not (a || b) ≡ true → b ≡ false
+    step false false h = refl
+    step false true h = absurd (false≢true h)
+    step true b h = absurd (false≢true h)
+
+-- so it is one more since the opening
+pub opened_kept : (e : Event) (r : ℕ) (cs : List Command) (c : Command) → keeps_open e r c ≡ true
+    → opened e r [] (cs ++ c ∷ []) ≡ option_map (plus_command c) (opened e r [] cs)
+opened_kept e r cs c h = opened_push e r cs c ∙ step (opened e r [] cs)
+  where
+    step : (x : Option Opened) → opened_by e r cs x c ≡ option_map (plus_command c) x
+    step None = ap (option_map (just_opened cs)) (opens_none e r c h)
+    step (Some o) =
+        ap (λ (b : Bool). cond b None (Some (plus_command c o))) (cancels_none e r c h)
 
 -- one more command changes the values by that command alone
 pub values_push : (e : Event) (r : ℕ) (settings : Settings) (n : ℕ) (earlier : List Command)
@@ -404,23 +420,23 @@ still e r before c o sets stays nobody stay keeps =
     round_with e r before c o (entrants_at e r before o) sets stays
     (same_entrants e r before o c nobody stay keeps)
 
--- a command that opens no round makes this change of a round that is open, or none
+-- a command that opens no round and takes none back makes this change of a round that is open, or
+-- none
 pub round_changed : (e : Event) (r : ℕ) (cs : List Command) (c : Command) (b : Bool)
     (change : Settings × Table → Settings × Table)
-    → opening e r c ≡ None
+    → keeps_open e r c ≡ true
     → ((o : Opened) (before : Option (Settings × Table)) → opened e r [] cs ≡ Some o
     → round_at e r before (plus_command c o)
     ≡ cond b (change (round_at e r before o)) (round_at e r before o))
     → round_of (cs ++ c ∷ []) e r ≡ cond b (option_map change (round_of cs e r)) (round_of cs e r)
 unfolding round_in
-round_changed e zero cs c b change closed changes = none b
+round_changed e zero cs c b change keeps changes = none b
   where
     none : (t : Bool) → None ≡ cond t (option_map change None) None
     none true = refl
     none false = refl
-round_changed e (suc r) cs c b change closed changes =
-    ap (option_map at) (opened_push e (suc r) [] cs c)
-    ∙ rw closed (step (opened e (suc r) [] cs) refl)
+round_changed e (suc r) cs c b change keeps changes =
+    ap (option_map at) (opened_kept e (suc r) cs c keeps) ∙ step (opened e (suc r) [] cs) refl
   where
     at : Opened → Settings × Table
     at o = round_at e (suc r) (round_in e r o.before) o
@@ -435,8 +451,7 @@ round_changed e (suc r) cs c b change closed changes =
     some false y = refl
 
     step : (x : Option Opened) → opened e (suc r) [] cs ≡ x
-        → option_map at
-        (option_or (option_map (plus_command c) x) (option_map (just_opened cs) None))
+        → option_map at (option_map (plus_command c) x)
         ≡ cond b (option_map change (option_map at x)) (option_map at x)
     step None h = none b
     step (Some o) h = ap Some (changes o (round_in e r o.before) h) ∙ some b (at o)
@@ -446,28 +461,38 @@ abbrev pub scramble_with : Event → ℕ → ℕ → Command → Opened → Opti
 scramble_with e r k c o =
     stands (scrambling e r k c) (rescrambling e r k c) (scramble_since e r k o)
 
--- one more command changes the scramble of an attempt by itself, where the round is open
+-- one more command changes the scramble of an attempt by itself, where the round is open and stays
+-- so
 pub scramble_push : (e : Event) (r k : ℕ) (cs : List Command) (c : Command)
+    → is_cancelled e r c ≡ false
     → scramble_of (cs ++ c ∷ []) e r k
     ≡ option_and_then (scramble_with e r k c) (opened e r [] cs)
-scramble_push e r k cs c =
-    ap (option_and_then (scramble_since e r k)) (opened_push e r [] cs c)
-    ∙ step (opened e r [] cs) (opening e r c)
+scramble_push e r k cs c stays =
+    ap (option_and_then (scramble_since e r k)) (opened_push e r cs c)
+    ∙ step (opened e r [] cs)
   where
-    step : (x : Option Opened) (y : Option Settings)
-        → option_and_then (scramble_since e r k)
-        (option_or (option_map (plus_command c) x) (option_map (just_opened cs) y))
+    new : (y : Option Settings)
+        → option_and_then (scramble_since e r k) (option_map (just_opened cs) y) ≡ None
+    new None = refl
+    new (Some s) = refl
+
+    step : (x : Option Opened)
+        → option_and_then (scramble_since e r k) (opened_by e r cs x c)
         ≡ option_and_then (scramble_with e r k c) x
-    step None None = refl
-    step None (Some s) = refl
-    step (Some o) y = standing_push (scrambling e r k) (rescrambling e r k) o.since c
+    step None = new (opening e r c)
+    step (Some o) =
+        ap
+        (λ (b : Bool).
+        option_and_then (scramble_since e r k) (cond b None (Some (plus_command c o))))
+        stays
+        ∙ standing_push (scrambling e r k) (rescrambling e r k) o.since c
 
 -- a command that gives no scramble for an attempt leaves it as it is
 pub scramble_kept : (e : Event) (r k : ℕ) (cs : List Command) (c : Command)
-    → scrambling e r k c ≡ None → rescrambling e r k c ≡ None
+    → is_cancelled e r c ≡ false → scrambling e r k c ≡ None → rescrambling e r k c ≡ None
     → scramble_of (cs ++ c ∷ []) e r k ≡ scramble_of cs e r k
-scramble_kept e r k cs c none same =
-    scramble_push e r k cs c
+scramble_kept e r k cs c stays none same =
+    scramble_push e r k cs c stays
     ∙ ap
     (λ (a : Option (List Move)).
     option_and_then
@@ -491,12 +516,13 @@ scramble_kept e r k cs c none same =
 
 -- a command that sets the first scramble of an attempt
 pub scramble_new : (e : Event) (r k : ℕ) (cs : List Command) (c : Command) (moves : List Move)
-    → scrambling e r k c ≡ Some moves → is_some (round_of cs e r) ≡ true
+    → is_cancelled e r c ≡ false → scrambling e r k c ≡ Some moves
+    → is_some (round_of cs e r) ≡ true
     → scramble_of cs e r k ≡ None → scramble_of (cs ++ c ∷ []) e r k ≡ Some moves
 unfolding round_in
-scramble_new e zero k cs c moves sets there absent = absurd (false≢true there)
-scramble_new e (suc r) k cs c moves sets there absent =
-    scramble_push e (suc r) k cs c ∙ step (opened e (suc r) [] cs) there absent
+scramble_new e zero k cs c moves stays sets there absent = absurd (false≢true there)
+scramble_new e (suc r) k cs c moves stays sets there absent =
+    scramble_push e (suc r) k cs c stays ∙ step (opened e (suc r) [] cs) there absent
   where
     step : (x : Option Opened)
         → is_some
@@ -509,10 +535,11 @@ scramble_new e (suc r) k cs c moves sets there absent =
 
 -- a command that puts another scramble in the place of an attempt's
 pub scramble_again : (e : Event) (r k : ℕ) (cs : List Command) (c : Command) (moves : List Move)
-    → rescrambling e r k c ≡ Some moves → is_some (scramble_of cs e r k) ≡ true
+    → is_cancelled e r c ≡ false → rescrambling e r k c ≡ Some moves
+    → is_some (scramble_of cs e r k) ≡ true
     → scramble_of (cs ++ c ∷ []) e r k ≡ Some moves
-scramble_again e r k cs c moves sets there =
-    scramble_push e r k cs c
+scramble_again e r k cs c moves stays sets there =
+    scramble_push e r k cs c stays
     ∙ ap
     (λ (b : Option (List Move)).
     option_and_then
@@ -531,3 +558,28 @@ scramble_again e r k cs c moves sets there =
         ≡ Some moves
     step None h = absurd (false≢true h)
     step (Some o) h = put (scramble_since e r k o) h
+
+-- no attempt has a scramble in a round that is taken back
+pub scramble_cancel : (e f : Event) (r s k : ℕ) (cs : List Command)
+    → scramble_of (cs ++ Cancel (round_id f s) ∷ []) e r k
+    ≡ cond (same_event e f && r == s) None (scramble_of cs e r k)
+scramble_cancel e f r s k cs = step (same_event e f && r == s) refl
+  where
+    c : Command
+    c = Cancel (round_id f s)
+
+    gone : (x : Option Opened) → (same_event e f && r == s) ≡ true
+        → option_and_then (scramble_since e r k) (opened_by e r cs x c) ≡ None
+    gone None here = refl
+    gone (Some o) here =
+        ap
+        (λ (b : Bool).
+        option_and_then (scramble_since e r k) (cond b None (Some (plus_command c o))))
+        here
+
+    step : (b : Bool) → (same_event e f && r == s) ≡ b
+        → scramble_of (cs ++ c ∷ []) e r k ≡ cond b None (scramble_of cs e r k)
+    step true here =
+        ap (option_and_then (scramble_since e r k)) (opened_push e r cs c)
+        ∙ gone (opened e r [] cs) here
+    step false other = scramble_kept e r k cs c other refl refl

@@ -8,10 +8,7 @@ use Rattle.std.specs.Option.{option_or, option_and_then, option_map_or}
 use Rattle.std.specs.HashMap.{get}
 use Rattle.std.proofs.lemmas.Bool.{false≢true}
 use Rattle.texts.specs.declared.command.Command.{Command}
-use Rattle.texts.specs.declared.command.Command.TheVariants.{Register, Open, Enter, Scramble}
-use Rattle.texts.specs.declared.command.Command.TheVariants.{Attempt, Correct, Strike, SetAdvance}
-use Rattle.texts.specs.declared.command.Command.TheVariants.{Close, SetEdition, Rename, SetRound}
-use Rattle.texts.specs.declared.command.Command.TheVariants.{Rescramble, Withdraw, Reopen}
+use Rattle.texts.specs.declared.command.Command.TheVariants.{Register, Rename}
 use Rattle.commands.specs.declared.competitors.Competitors.{Competitors}
 use Rattle.commands.specs.Accepted.{name_given, renaming, last_of, name_of, is_called}
 use Rattle.commands.specs.Accepted.{names_other, is_taken, is_registered}
@@ -51,34 +48,7 @@ taken_in cs (Register m given ∷ ds) n q name other called some =
         ∙ ap (λ (b : Bool). (not b && is_called cs q name) || rest) other
         ∙ ap (λ (b : Bool). b || rest) called
     step false same h later = or_later (not (m == n) && is_called cs m name) (later h)
-taken_in cs (Open id settings ∷ ds) n q name other called some =
-    taken_in cs ds n q name other called some
-taken_in cs (Enter e m ∷ ds) n q name other called some =
-    taken_in cs ds n q name other called some
-taken_in cs (Scramble id k moves ∷ ds) n q name other called some =
-    taken_in cs ds n q name other called some
-taken_in cs (Attempt entry ∷ ds) n q name other called some =
-    taken_in cs ds n q name other called some
-taken_in cs (Correct entry ∷ ds) n q name other called some =
-    taken_in cs ds n q name other called some
-taken_in cs (Strike id m ∷ ds) n q name other called some =
-    taken_in cs ds n q name other called some
-taken_in cs (SetAdvance id advance ∷ ds) n q name other called some =
-    taken_in cs ds n q name other called some
-taken_in cs (Close id ∷ ds) n q name other called some =
-    taken_in cs ds n q name other called some
-taken_in cs (SetEdition e ∷ ds) n q name other called some =
-    taken_in cs ds n q name other called some
-taken_in cs (Rename m given ∷ ds) n q name other called some =
-    taken_in cs ds n q name other called some
-taken_in cs (SetRound id format cutoff limit ∷ ds) n q name other called some =
-    taken_in cs ds n q name other called some
-taken_in cs (Rescramble id k moves ∷ ds) n q name other called some =
-    taken_in cs ds n q name other called some
-taken_in cs (Withdraw id m ∷ ds) n q name other called some =
-    taken_in cs ds n q name other called some
-taken_in cs (Reopen id ∷ ds) n q name other called some =
-    taken_in cs ds n q name other called some
+taken_in cs (_ ∷ ds) n q name other called some = taken_in cs ds n q name other called some
 
 called_some : (cs : List Command) (q : ℕ) (name : List ℕ) → is_called cs q name ≡ true
     → is_some (name_of cs q) ≡ true
@@ -115,20 +85,7 @@ other_in : (cs ds : List Command) (n : ℕ) (name : List ℕ)
 other_in cs [] n name h = absurd (false≢true h)
 other_in cs (Register m given ∷ ds) n name h =
     one_of cs n m name (list_any (names_other cs n name) ds) h (other_in cs ds n name)
-other_in cs (Open id settings ∷ ds) n name h = other_in cs ds n name h
-other_in cs (Enter e m ∷ ds) n name h = other_in cs ds n name h
-other_in cs (Scramble id k moves ∷ ds) n name h = other_in cs ds n name h
-other_in cs (Attempt entry ∷ ds) n name h = other_in cs ds n name h
-other_in cs (Correct entry ∷ ds) n name h = other_in cs ds n name h
-other_in cs (Strike id m ∷ ds) n name h = other_in cs ds n name h
-other_in cs (SetAdvance id advance ∷ ds) n name h = other_in cs ds n name h
-other_in cs (Close id ∷ ds) n name h = other_in cs ds n name h
-other_in cs (SetEdition e ∷ ds) n name h = other_in cs ds n name h
-other_in cs (Rename m given ∷ ds) n name h = other_in cs ds n name h
-other_in cs (SetRound id format cutoff limit ∷ ds) n name h = other_in cs ds n name h
-other_in cs (Rescramble id k moves ∷ ds) n name h = other_in cs ds n name h
-other_in cs (Withdraw id m ∷ ds) n name h = other_in cs ds n name h
-other_in cs (Reopen id ∷ ds) n name h = other_in cs ds n name h
+other_in cs (_ ∷ ds) n name h = other_in cs ds n name h
 
 -- whether the number to which the name was given last is another one, and has it still
 abbrev pub taken_from : List Command → ℕ → List ℕ → Option ℕ → Bool

@@ -13,7 +13,7 @@ use Rattle.commands.specs.declared.kept_rounds.KeptRound.{KeptRound}
 use Rattle.commands.specs.declared.kept_rounds.KeptRounds.{KeptRounds}
 use Rattle.commands.specs.declared.solutions.Solutions.{Solutions}
 use Rattle.commands.specs.Accepted.{settled, entered_refusal, is_solution}
-use Rattle.commands.specs.model.Kept.{kept_by, waiting_in, ChangesRound}
+use Rattle.commands.specs.model.Kept.{kept_by, waiting_in, seen_in, ChangesRound}
 use Rattle.commands.specs.model.Settled.{IsSettled}
 use Rattle.commands.specs.model.Kept.{EntersRound}
 use Rattle.commands.specs.model.Solved.{is_noted, KeepsNotes}
@@ -53,7 +53,7 @@ module _ (entry : AttemptEntry) (scramble : Option (List Move)) (kept : KeptRoun
   -- what is entered changes that round alone
   pub changed : (new : KeptRound) (change : Settings × Table → Settings × Table)
       → new.id.event ≡ old.id.event → new.id.round ≡ old.id.round → new.scrambles ≡ old.scrambles
-      → waiting_in new ≡ waiting_in old
+      → waiting_in new ≡ waiting_in old → seen_in new ≡ seen_in old
       → ((m j : ℕ) → 1 ≤ j
       → is_noted new.solutions m j
       ≡ cond (m == entry.number && j == entry.attempt) (is_solution entry.outcome)
@@ -61,20 +61,22 @@ module _ (entry : AttemptEntry) (scramble : Option (List Move)) (kept : KeptRoun
       → (let round : Settings × Table = (new.settings, new.table) in round) ≡ change pair
       → EntersRound entry.id.event entry.id.round entry.attempt entry.number entry.outcome change
       kept.opened.items (set kept.opened.items place new)
-  changed new change event round scrambles waiting notes says =
+  changed new change event round scrambles waiting seen notes says =
       round_entered kept.opened.items entry.id.event entry.id.round place entry.attempt
-      entry.number entry.outcome old new change is.at there event round scrambles waiting notes says
+      entry.number entry.outcome old new change is.at there event round scrambles waiting seen
+      notes says
 
   -- where it is refused, nothing is looked up otherwise
   pub as_before : (new : KeptRound)
       → new.id.event ≡ old.id.event → new.id.round ≡ old.id.round → new.scrambles ≡ old.scrambles
-      → waiting_in new ≡ waiting_in old → KeepsNotes old.solutions new.solutions
+      → waiting_in new ≡ waiting_in old → seen_in new ≡ seen_in old
+      → KeepsNotes old.solutions new.solutions
       → new.settings ≡ old.settings → new.table ≡ old.table
       → (f : Event) (s : ℕ)
       → ChangesRound f s (λ round. round) kept.opened.items (set kept.opened.items place new)
-  as_before new event round scrambles waiting notes settings table =
+  as_before new event round scrambles waiting seen notes settings table =
       round_as_before kept.opened.items entry.id.event entry.id.round place old new is.at there
-      event round scrambles waiting notes settings table
+      event round scrambles waiting seen notes settings table
 
   -- the same by what is written
   pub entered_to : (table : Table) (made solutions : Solutions) (solved : Bool)
@@ -88,7 +90,7 @@ module _ (entry : AttemptEntry) (scramble : Option (List Move)) (kept : KeptRoun
       kept.opened.items
       (set kept.opened.items place (record old { table = table; solutions = solutions }))
   entered_to table made solutions solved change is_solved room notes says =
-      changed (record old { table = table; solutions = solutions }) change refl refl refl refl
+      changed (record old { table = table; solutions = solutions }) change refl refl refl refl refl
       (λ m j low.
       notes m j low
       ∙ ap (λ b. cond (m == entry.number && j == entry.attempt) b (is_noted made m j)) is_solved
@@ -100,4 +102,4 @@ module _ (entry : AttemptEntry) (scramble : Option (List Move)) (kept : KeptRoun
       → ChangesRound f s (λ round. round) kept.opened.items
       (set kept.opened.items place (record old { solutions = solutions }))
   as_before_to solutions notes =
-      as_before (record old { solutions = solutions }) refl refl refl refl notes refl refl
+      as_before (record old { solutions = solutions }) refl refl refl refl refl notes refl refl

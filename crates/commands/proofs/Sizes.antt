@@ -10,6 +10,7 @@ use Rattle.std.specs.List.{range_with_len, AllByRecursion, list_any}
 use Rattle.std.specs.Option.{option_or, option_and_then}
 use Rattle.std.proofs.lemmas.Bool.Decides.{nat_tests}
 use Rattle.std.proofs.lemmas.List.{length-map}
+use Rattle.std.proofs.lemmas.List.Elements.{recursion_from_All}
 use Rattle.std.proofs.lemmas.List.Sums.{length-filter, count_by-le-length}
 use Rattle.std.proofs.Math.Nat.{div-mul-le_self}
 use Rattle.cube.specs.declared.moves.Move.{Move}
@@ -39,8 +40,11 @@ use Rattle.texts.specs.declared.command.Command.{Command}
 use Rattle.texts.specs.declared.command.Command.TheVariants.{Register, Open, Enter, Scramble}
 use Rattle.texts.specs.declared.command.Command.TheVariants.{Attempt, Correct, Strike, SetAdvance}
 use Rattle.texts.specs.declared.command.Command.TheVariants.{Close, SetEdition, Rename, SetRound}
-use Rattle.texts.specs.declared.command.Command.TheVariants.{Rescramble, Withdraw, Reopen}
+use Rattle.texts.specs.declared.command.Command.TheVariants.{Rescramble, Withdraw, Reopen, Cancel}
+use Rattle.texts.specs.declared.command.Command.TheVariants.{Card, Fix}
+use Rattle.texts.specs.declared.command.CardEntry.{CardEntry}
 use Rattle.texts.specs.declared.command.Entered.{Entered}
+use Rattle.texts.specs.declared.command.Remarked.{Remarked}
 use Rattle.texts.specs.declared.command.Entered.TheVariants as entered
 use Rattle.texts.specs.declared.command.Settings.{Settings}
 use Rattle.texts.specs.declared.reading.CommandFault.{CommandFault}
@@ -50,15 +54,20 @@ use Rattle.texts.specs.Fields.{round_id}
 use Rattle.texts.specs.Reading.{command_of}
 use Rattle.texts.specs.Editions.{is_spelled_in}
 use Rattle.texts.specs.Table.{rows}
-use Rattle.commands.specs.Accepted.{is_of, opening, scramble_by, name_given, renaming, name_of}
+use Rattle.commands.specs.Accepted.{is_of, scramble_by, name_given, renaming, name_of}
 use Rattle.commands.specs.Accepted.{is_registered, settled, is_withdrawal, edition_in, who_advance}
 use Rattle.commands.specs.Accepted.{who_wait, round_in, round_of, refusal, enter_code}
 use Rattle.commands.specs.Accepted.{enter_refusal, withdraw_code, withdraw_refusal}
 use Rattle.commands.specs.model.Kept.{with_attempt, with_correction, with_strike, with_advance}
 use Rattle.commands.specs.model.Kept.{with_end, with_entry, with_settings, with_exit}
 use Rattle.commands.specs.model.Kept.{with_reopening, newcomer, first_of_all, waiting_of}
+use Rattle.commands.specs.Accepted.{values_now, counts_in}
+use Rattle.commands.specs.model.Cards.{IsReadCard, scrambles_of, with_outcomes}
 use Rattle.commands.specs.History.{History, nothing, is_seen, added_read, spelled_refusal}
 use Rattle.commands.specs.History.{read_refusal, after, history}
+use Rattle.commands.proofs.CardRounds.{IsOfCard, card_is, fix_is, round_dealt}
+use Rattle.commands.proofs.CardSteps.{values_hold}
+use Rattle.commands.proofs.ReadCards.{card_read, fix_read}
 use Rattle.commands.proofs.Entries.{accepted_new, after_seen}
 use Rattle.commands.proofs.Known.{read_fit}
 use Rattle.commands.proofs.Lookups.{some≢none, stands, standing_push}
@@ -67,8 +76,10 @@ use Rattle.commands.proofs.EachCommand.{opening_table, round_open, round_enter, 
 use Rattle.commands.proofs.EachCommand.{round_attempt, round_correct, round_strike, round_advance}
 use Rattle.commands.proofs.EachCommand.{round_close, round_register, round_edition, round_rename}
 use Rattle.commands.proofs.EachCommand.{round_settings, round_rescramble, round_reopen}
-use Rattle.commands.proofs.Exits.{waiting_same, waiting_exit, waiting_open, round_exit}
-use Rattle.commands.proofs.OneMore.{with_table}
+use Rattle.commands.proofs.EachCommand.{round_cancel}
+use Rattle.commands.proofs.Exits.{waiting_same, waiting_exit, waiting_open, waiting_cancel}
+use Rattle.commands.proofs.Exits.{round_exit}
+use Rattle.commands.proofs.OneMore.{keeps_open, with_table}
 use Rattle.texts.proofs.Words.{spelled_only}
 
 -- an entrant's number and values are in their ranges
@@ -293,6 +304,17 @@ correction_small r n k scramble y fits x h =
     entrant_small (has_number n e) e _ is
     (all_set (IsInRangeOf measure.Multi) e.values (k - 1) _ is.values
     (settled_small x.0 scramble y fits)))
+    x h
+
+card_small : (r : ℕ) (scrambles : ℕ → Option (List Move)) (card : CardEntry) → IsReadCard card
+    → (x : Settings × Table) → IsSmallRound r x → IsSmallRound r (with_outcomes scrambles card x)
+card_small r scrambles card read x h =
+    each_small r (changed_of card.number (values_now (counts_in x.0 scrambles) 1 card.now))
+    (λ e is.
+    entrant_small (has_number card.number e) e _ is
+    (values_hold (IsInRangeOf measure.Multi) IsEntered (counts_in x.0 scrambles)
+    (λ k y fits. settled_small x.0 (scrambles k) y fits) 1 card.now e.values
+    (recursion_from_All (λ o. IfSome o IsEntered) card.now read.entered) is.values))
     x h
 
 strike_small : (r n : ℕ) (x : Settings × Table) → IsSmallRound r x
@@ -523,9 +545,10 @@ small_with cs c named rounds waiting h = record {
   waiting = waiting;
 }
 
--- who waits is no other after a command by which nobody withdraws and that opens no round
+-- who waits is no other after a command by which nobody withdraws, and that opens no round and
+-- takes none back
 waits_still : (cs : List Command) (c : Command)
-    → ((e : Event) (r : ℕ) → opening e r c ≡ None)
+    → ((e : Event) (r : ℕ) → keeps_open e r c ≡ true)
     → ((e : Event) (r : ℕ) → is_withdrawal e r c ≡ false) → IsSmall cs
     → (e : Event) (r : ℕ) → IfSome (waiting_of (cs ++ c ∷ []) e r) AreSmallNumbers
 waits_still cs c opens stay h e r =
@@ -621,6 +644,19 @@ open_waits cs e f r s settings low h =
         wait_numbers (s - 1) (round_of cs f (s - 1)) (h.rounds f (s - 1))
     step false None is = tt
 
+-- what holds where there is something holds of what may be taken back
+none_or : {X : Type 0} (P : X → Type 0) (b : Bool) (x : Option X) → IfSome x P
+    → IfSome (cond b None x) P
+none_or P true x h = tt
+none_or P false x h = h
+
+-- who waits once a round is taken back
+cancel_waits : (cs : List Command) (e f : Event) (r s : ℕ) → IsSmall cs
+    → IfSome (waiting_of (cs ++ Cancel (round_id f s) ∷ []) e r) AreSmallNumbers
+cancel_waits cs e f r s h =
+    subst (λ o. IfSome o AreSmallNumbers) (sym (waiting_cancel e f r s cs))
+    (none_or AreSmallNumbers (same_event e f && r == s) (waiting_of cs e r) (h.waiting e r))
+
 withdraws : (n : ℕ) (b : Bool) (round : Option (Settings × Table))
     → cond (not b) (Some code.UnknownCompetitor) (withdraw_refusal n round) ≡ None
     → withdraw_refusal n round ≡ None
@@ -667,6 +703,18 @@ opened_small cs e f r s settings last fits h = step (same_event e f && r == s) r
         subst (λ (k : ℕ). IsSmallRound k (with_table settings (opening_table f s settings cs)))
         (sym round) (opening_small f s settings cs last fits h)
     step false other = tt
+
+-- a card that is accepted
+dealt_small : (cs : List Command) (c : Command) (card : CardEntry) → IsOfCard c card
+    → IsReadCard card → IsSmall cs → IsSmall (cs ++ c ∷ [])
+dealt_small cs c card deals read h =
+    small_with cs c (no_name c deals.unnamed deals.same)
+    (λ e r.
+    round_is r _ _ (round_dealt c card deals e r cs)
+    (changed r (is_of e r card.id) (with_outcomes (scrambles_of cs card.id) card) (round_of cs e r)
+    (h.rounds e r) (card_small r (scrambles_of cs card.id) card read)))
+    (waits_still cs c deals.opens deals.stay h)
+    h
 
 -- one more command that is accepted
 small_more : (cs : List Command) (c : Command) → IsFit c → refusal cs c ≡ None → IsSmall cs
@@ -739,6 +787,10 @@ small_more cs (Correct entry) fits allowed h =
     fits.0.1.1.1.1.0)))
     (waits_still cs (Correct entry) (λ e r. refl) (λ e r. refl) h)
     h
+small_more cs (Card card) fits allowed h =
+    dealt_small cs (Card card) card (card_is card) (card_read card fits) h
+small_more cs (Fix card) fits allowed h =
+    dealt_small cs (Fix card) card (fix_is card) (fix_read card fits) h
 small_more cs (Strike id m) fits allowed h =
     small_with cs (Strike id m)
     (no_name (Strike id m) (λ n. refl) (λ n. refl))
@@ -793,6 +845,14 @@ small_more cs (Withdraw id n) fits allowed h =
     (withdraws n (is_registered cs n) (round_of cs id.event id.round) allowed) h))
     (λ e r. exit_waits cs e id.event r id.round n h)
     h
+small_more cs (Cancel id) fits allowed h =
+    small_with cs (Cancel id)
+    (no_name (Cancel id) (λ n. refl) (λ n. refl))
+    (λ e r.
+    round_is r _ _ (round_cancel e id.event r id.round cs)
+    (none_or (IsSmallRound r) (is_of e r id) (round_of cs e r) (h.rounds e r)))
+    (λ e r. cancel_waits cs e id.event r id.round h)
+    h
 small_more cs (SetEdition edition) fits allowed h =
     small_with cs (SetEdition edition)
     (no_name (SetEdition edition) (λ n. refl) (λ n. refl))
@@ -807,21 +867,24 @@ not_refused : (spelled : Bool) (refused : Option Code)
 not_refused true refused h = h
 not_refused false refused h = absurd (some≢none code.Unread h)
 
-small_answered : (cs : List Command) (c : Command) → IsFit c → IsSmall cs → (refused : Option Code)
-    → spelled_refusal cs c ≡ refused → IsSmall (cs ++ added_read refused (Ok c))
-small_answered cs c fits h None is =
-    small_more cs c fits (not_refused (is_spelled_in (edition_in cs) c) (refusal cs c) is) h
-small_answered cs c fits h (Some why) is = subst IsSmall (sym (append-nil cs)) h
+small_answered : (cs : List Command) (told : Remarked) → IsFit told.command → IsSmall cs
+    → (refused : Option Code)
+    → spelled_refusal cs told ≡ refused → IsSmall (cs ++ added_read refused (Ok told))
+small_answered cs told fits h None is =
+    small_more cs told.command fits
+    (not_refused (is_spelled_in (edition_in cs) told) (refusal cs told.command) is) h
+small_answered cs told fits h (Some why) is = subst IsSmall (sym (append-nil cs)) h
 
-small_read : (cs : List Command) (read : Result Command CommandFault) → IfOk read IsFit → IsSmall cs
+small_read : (cs : List Command) (read : Result Remarked CommandFault)
+    → IfOk read (λ told. IsFit told.command) → IsSmall cs
     → IsSmall (cs ++ added_read (read_refusal cs read) read)
-small_read cs (Ok c) fits h =
-    small_answered cs c fits h (read_refusal cs (Ok c)) (sym (read_fit cs c fits))
+small_read cs (Ok told) fits h =
+    small_answered cs told fits h (read_refusal cs (Ok told)) (sym (read_fit cs told fits))
 small_read cs (Err fault) fits h = subst IsSmall (sym (append-nil cs)) h
 
-read_fits : (bytes : List ℕ) (read : Result Command CommandFault) → command_of bytes ≡ read
-    → IfOk read IsFit
-read_fits bytes (Ok c) is = (spelled_only bytes c is).0
+read_fits : (bytes : List ℕ) (read : Result Remarked CommandFault) → command_of bytes ≡ read
+    → IfOk read (λ told. IsFit told.command)
+read_fits bytes (Ok told) is = (spelled_only bytes told is).0.0
 read_fits bytes (Err fault) is = tt
 
 small_after : (h : History) (id : ℕ) (text : List ℕ) → IsSmall h.accepted

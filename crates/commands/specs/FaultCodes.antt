@@ -14,6 +14,10 @@ use Rattle.rounds.specs.declared.fault.PutFault.{PutFault}
 use Rattle.rounds.specs.declared.fault.PutFault.TheVariants as put
 use Rattle.rounds.specs.declared.fault.CorrectFault.{CorrectFault}
 use Rattle.rounds.specs.declared.fault.CorrectFault.TheVariants as correct
+use Rattle.rounds.specs.declared.fault.SetFault.{SetFault}
+use Rattle.rounds.specs.declared.fault.SetFault.TheVariants as set
+use Rattle.rounds.specs.declared.fault.FixFault.{FixFault}
+use Rattle.rounds.specs.declared.fault.FixFault.TheVariants as fix
 use Rattle.rounds.specs.declared.fault.StrikeFault.{StrikeFault}
 use Rattle.rounds.specs.declared.fault.StrikeFault.TheVariants as strike
 use Rattle.rounds.specs.declared.fault.CloseFault.{CloseFault}
@@ -39,6 +43,19 @@ correct_code correct.Closed = code.Closed
 correct_code correct.NotEntered = code.NotEntered
 correct_code correct.NoSuchAttempt = code.NoSuchAttempt
 correct_code correct.CutoffLost = code.CutoffLost
+
+-- the code for a table's refusal of other values
+abbrev pub set_code : SetFault → Code
+set_code set.Closed = code.Closed
+set_code set.NotEntered = code.NotEntered
+set_code set.NoMoreAttempts = code.NoMoreAttempts
+
+-- the code for the refusal of a closed table
+abbrev pub fix_code : FixFault → Code
+fix_code fix.NotClosed = code.NotClosed
+fix_code fix.NotEntered = code.NotEntered
+fix_code fix.NoMoreAttempts = code.NoMoreAttempts
+fix_code fix.Unfinished = code.Unfinished
 
 -- the code for a table's refusal to strike an attempt
 abbrev pub strike_code : StrikeFault → Code

@@ -1,5 +1,6 @@
 pub mod Accepted
 pub mod AttemptChecks
+pub mod CardChecks
 pub mod Competitors
 pub mod EditionHeld
 pub mod EditionLaws
@@ -7,6 +8,7 @@ pub mod FaultCodes
 pub mod History
 pub mod MendingLaws
 pub mod model
+pub mod OpeningLaws
 pub mod Openings
 pub mod RoundChecks
 pub mod Rounds

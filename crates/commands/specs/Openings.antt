@@ -1,11 +1,13 @@
--- The opening of a round, and its settings as they stand since.
-use Rattle.std.specs.Prelude.{ℕ, Bool, ◌==◌, ◌&&◌, if◌then◌else◌, List, [], ◌∷◌, ◌++◌, Option, None}
+-- The opening of a round that holds, and its settings as they stand since.
+use Rattle.std.specs.Prelude.{ℕ, Bool, false, ◌==◌, ◌&&◌, if◌then◌else◌, List, [], ◌∷◌, ◌++◌}
+use Rattle.std.specs.Prelude.{Option, None}
 use Rattle.std.specs.Prelude.{Some}
-use Rattle.std.specs.Option.{option_or, option_map}
+use Rattle.std.specs.Option.{option_map}
 use Rattle.formats.specs.declared.events.Event.{Event}
 use Rattle.formats.specs.Events.{same_event}
 use Rattle.texts.specs.declared.command.Command.{Command}
 use Rattle.texts.specs.declared.command.Command.TheVariants.{Open, SetAdvance, SetRound}
+use Rattle.texts.specs.declared.command.Command.TheVariants.{Cancel}
 use Rattle.texts.specs.declared.command.RoundId.{RoundId}
 use Rattle.texts.specs.declared.command.Settings.{Settings}
 
@@ -25,16 +27,35 @@ abbrev pub opening : Event → ℕ → Command → Option Settings
 opening e r (Open id settings) = if is_of e r id then Some settings else None
 opening e r _ = None
 
--- a round as the first command to open it opened it; `earlier` are the commands in front of these
+-- a command takes back the opening of a round
+abbrev pub is_cancelled : Event → ℕ → Command → Bool
+is_cancelled e r (Cancel id) = is_of e r id
+is_cancelled e r _ = false
+
+-- a round that these commands are before, as settings open it
+abbrev pub just_opened : List Command → Settings → Opened
+just_opened earlier settings = record { before = earlier; settings = settings; since = [] }
+
+-- a round that is opened, after one more command
+abbrev pub plus_command : Command → Opened → Opened
+plus_command c o = record o { since = o.since ++ c ∷ [] }
+
+-- a round after one more command, which stands after `earlier`: one that is not opened is, where
+-- the command opens it; one that is opened has one more command, or is not opened any more
+abbrev pub opened_by : Event → ℕ → List Command → Option Opened → Command → Option Opened
+opened_by e r earlier None c = option_map (just_opened earlier) (opening e r c)
+opened_by e r earlier (Some o) c = if is_cancelled e r c then None else Some (plus_command c o)
+
+-- a round after more commands, one after the other
+abbrev pub opened_after : Event → ℕ → List Command → Option Opened → List Command → Option Opened
+opened_after e r earlier state [] = state
+opened_after e r earlier state (c ∷ cs) =
+    opened_after e r (earlier ++ c ∷ []) (opened_by e r earlier state c) cs
+
+-- a round as it was opened, where that was not taken back since; `earlier` are the commands in
+-- front of these
 abbrev pub opened : Event → ℕ → List Command → List Command → Option Opened
-opened e r earlier [] = None
-opened e r earlier (c ∷ cs) =
-    option_or (option_map (λ settings. record {
-      before =
-          earlier;
-      settings = settings;
-      since = cs;
-    }) (opening e r c)) (opened e r (earlier ++ c ∷ []) cs)
+opened e r earlier cs = opened_after e r earlier None cs
 
 -- the settings of a round after one more command: others may be set, and another advance
 abbrev pub settings_by : Event → ℕ → Command → Settings → Settings

@@ -66,26 +66,25 @@ abbrev pub competitors_of : Option (Settings × Table) → ℕ
 competitors_of None = 0
 competitors_of (Some round) = started round.1
 
--- the competitors of round j do not allow the r + 1 - j later rounds up to round r + 1 (WCA
--- Regulations, article 9m)
-abbrev pub has_too_few : (ℕ → Option (Settings × Table)) → ℕ → ℕ → Bool
-has_too_few rounds r j = nat_lt (later_rounds (competitors_of (rounds j))) (r + 1 - j)
+-- the competitors of round j, of whom there are so many, do not allow the r + 1 - j later rounds up
+-- to round r + 1 (WCA Regulations, article 9m)
+abbrev pub has_too_few : (ℕ → ℕ) → ℕ → ℕ → Bool
+has_too_few competitors r j = nat_lt (later_rounds (competitors j)) (r + 1 - j)
 
 -- round r is to be followed by another, and some round from 1 to r has too few competitors for it
-abbrev pub breaks_rounds_rule : (ℕ → Option (Settings × Table)) → ℕ → Advance → Bool
-breaks_rounds_rule rounds r advance =
-    not (is_final advance) && list_any (has_too_few rounds r) (range_with_len 1 r)
+abbrev pub breaks_rounds_rule : (ℕ → ℕ) → ℕ → Advance → Bool
+breaks_rounds_rule competitors r advance =
+    not (is_final advance) && list_any (has_too_few competitors r) (range_with_len 1 r)
 
 -- the first check of a closing that fails, of a table that is there
 abbrev pub end_refusal : Option CloseFault → Bool → Option Code
 end_refusal (Some fault) breaks = Some (close_code fault)
 end_refusal None breaks = if breaks then Some code.RoundsRule else None
 
-abbrev pub close_refusal : (ℕ → Option (Settings × Table)) → ℕ → Option (Settings × Table)
-    → Option Code
-close_refusal rounds r None = Some code.RoundUnknown
-close_refusal rounds r (Some round) =
-    end_refusal (close_fault round.1) (breaks_rounds_rule rounds r round.0.advance)
+abbrev pub close_refusal : (ℕ → ℕ) → ℕ → Option (Settings × Table) → Option Code
+close_refusal competitors r None = Some code.RoundUnknown
+close_refusal competitors r (Some round) =
+    end_refusal (close_fault round.1) (breaks_rounds_rule competitors r round.0.advance)
 
 -- the first check that fails of opening a closed round again, whose next one is open or not
 abbrev pub again_refusal : Option ReopenFault → Bool → Option Code

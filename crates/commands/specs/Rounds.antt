@@ -106,7 +106,7 @@ round_at e r before o =
 -- a round: its settings as they stand now, and its table. The entrants of a later round are those
 -- who advance from the one before, as the commands before the opening make that one, and those who
 -- took a place since. The one before was closed then, and stays so: it cannot be opened again once
--- the next one is open. Rounds are counted from 1.
+-- the next one is open, though its attempts may be fixed. Rounds are counted from 1.
 unfoldable pub round_in : Event → ℕ → List Command → Option (Settings × Table)
 round_in e zero cs = None
 round_in e (suc r) cs =
@@ -115,6 +115,21 @@ round_in e (suc r) cs =
 abbrev pub round_of : List Command → Event → ℕ → Option (Settings × Table)
 round_of cs e r = round_in e r cs
 
--- the same, of a round by its event and number together
+-- a round as it was when the next one was opened, or as it is where that is not
+abbrev pub seen_by : Event → ℕ → List Command → Option Opened → Option (Settings × Table)
+seen_by e r cs None = round_in e r cs
+seen_by e r cs (Some next) = round_in e r next.before
+
+-- a round as the next one sees it: who advanced, who waits for a place, and how many competitors
+-- there are, is asked of the round as it was when the next one was opened
+abbrev pub seen_of : List Command → Event → ℕ → Option (Settings × Table)
+seen_of cs e r = seen_by e r cs (opened e (suc r) [] cs)
+
+-- those who advanced from a round when the next one was opened, where it is
+abbrev pub advanced_of : List Command → Event → ℕ → Option (List ℕ)
+advanced_of cs e r =
+    option_map (λ next. who_advance (round_in e r next.before)) (opened e (suc r) [] cs)
+
+-- a round, by its event and number together
 abbrev pub round_by : List Command → RoundId → Option (Settings × Table)
 round_by cs id = round_of cs id.event id.round

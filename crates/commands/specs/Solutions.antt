@@ -1,10 +1,11 @@
 -- Whether what was entered last for an attempt is a solution.
-use Rattle.std.specs.Prelude.{ℕ, Bool, true, false, ◌==◌, ◌&&◌, if◌then◌else◌, List, [], unwrap_or}
+use Rattle.std.specs.Prelude.{ℕ, suc, Bool, true, false, ◌==◌, ◌&&◌, if◌then◌else◌, List, [], ◌∷◌}
+use Rattle.std.specs.Prelude.{unwrap_or}
 use Rattle.std.specs.Prelude.{Option, None, Some}
-use Rattle.std.specs.Option.{option_map_or}
+use Rattle.std.specs.Option.{option_map_or, option_map}
 use Rattle.formats.specs.declared.events.Event.{Event}
 use Rattle.texts.specs.declared.command.Command.{Command}
-use Rattle.texts.specs.declared.command.Command.TheVariants.{Attempt, Correct}
+use Rattle.texts.specs.declared.command.Command.TheVariants.{Attempt, Correct, Card, Fix}
 use Rattle.texts.specs.declared.command.Entered.{Entered}
 use Rattle.texts.specs.declared.command.Entered.TheVariants as entered
 use Rattle.commands.specs.Standing.{last_of}
@@ -18,6 +19,11 @@ is_solution (entered.Multi solved attempted seconds) = false
 is_solution entered.Dnf = false
 is_solution entered.Dns = false
 
+-- a card enters a solution for attempt k, or something else; its attempts are counted from j
+abbrev pub solving_at : ℕ → ℕ → List (Option Entered) → Option Bool
+solving_at k j [] = None
+solving_at k j (x ∷ xs) = if k == j then option_map is_solution x else solving_at k (suc j) xs
+
 -- a command enters a solution for attempt k of a number, or something else
 abbrev pub solving : Event → ℕ → ℕ → ℕ → Command → Option Bool
 solving e r k n (Attempt entry) =
@@ -26,6 +32,10 @@ solving e r k n (Attempt entry) =
 solving e r k n (Correct entry) =
     if is_of e r entry.id && (n == entry.number && k == entry.attempt)
     then Some (is_solution entry.outcome) else None
+solving e r k n (Card card) =
+    if is_of e r card.id && n == card.number then solving_at k 1 card.now else None
+solving e r k n (Fix card) =
+    if is_of e r card.id && n == card.number then solving_at k 1 card.now else None
 solving e r k n _ = None
 
 -- what was entered last for attempt k of a number is a solution

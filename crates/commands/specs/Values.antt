@@ -1,5 +1,6 @@
 -- The values of what was entered for an entrant's attempts.
-use Rattle.std.specs.Prelude.{ℕ, ◌==◌, ◌&&◌, if◌then◌else◌, List, [], ◌∷◌, ◌++◌, Option, None, Some}
+use Rattle.std.specs.Prelude.{ℕ, suc, ◌==◌, ◌&&◌, if◌then◌else◌, List, [], ◌∷◌, ◌++◌, Option, None}
+use Rattle.std.specs.Prelude.{Some}
 use Rattle.cube.specs.declared.moves.Move.{Move}
 use Rattle.fmc_check.specs.Fewest.{result_of}
 use Rattle.attempts.specs.declared.Value.{Value}
@@ -8,8 +9,9 @@ use Rattle.attempts.specs.declared.Outcome.{Outcome}
 use Rattle.attempts.specs.declared.Outcome.TheVariants as outcome
 use Rattle.formats.specs.declared.events.Event.{Event}
 use Rattle.texts.specs.declared.command.Command.{Command}
-use Rattle.texts.specs.declared.command.Command.TheVariants.{Attempt, Correct, Strike}
+use Rattle.texts.specs.declared.command.Command.TheVariants.{Attempt, Correct, Strike, Card, Fix}
 use Rattle.texts.specs.declared.command.AttemptEntry.{AttemptEntry}
+use Rattle.texts.specs.declared.command.RoundId.{RoundId}
 use Rattle.texts.specs.declared.command.Entered.{Entered}
 use Rattle.texts.specs.declared.command.Entered.TheVariants as entered
 use Rattle.texts.specs.declared.command.Settings.{Settings}
@@ -42,17 +44,42 @@ value_entered e r settings earlier entry =
     settled (settings_after e r settings earlier) (scramble_in e r entry.attempt earlier)
     entry.outcome
 
+-- what an outcome of attempt k counts there
+abbrev pub value_counted : Event → ℕ → Settings → List Command → ℕ → Entered → Value
+value_counted e r settings earlier k x =
+    settled (settings_after e r settings earlier) (scramble_in e r k earlier) x
+
+-- the values of a card's attempts from attempt k on, by what each outcome counts; those that stay
+-- are of these
+abbrev pub values_now : (ℕ → Entered → Value) → ℕ → List (Option Entered) → List Value → List Value
+values_now counts k [] vs = []
+values_now counts k (Some x ∷ xs) [] = counts k x ∷ values_now counts (suc k) xs []
+values_now counts k (Some x ∷ xs) (v ∷ vs) = counts k x ∷ values_now counts (suc k) xs vs
+values_now counts k (None ∷ xs) [] = values_now counts (suc k) xs []
+values_now counts k (None ∷ xs) (v ∷ vs) = v ∷ values_now counts (suc k) xs vs
+
+-- a command of a round and a number changes the values of that number in that round
+abbrev pub on_values : Event → ℕ → ℕ → RoundId → ℕ → (List Value → List Value) → List Value
+    → List Value
+on_values e r n id m change vs = if is_of e r id && m == n then change vs else vs
+
 -- the values of a number after one more command; `earlier` are the commands between the opening and
 -- this one
 abbrev pub one_value : Event → ℕ → Settings → ℕ → List Command → List Value → Command → List Value
 one_value e r settings n earlier values (Attempt entry) =
-    if is_of e r entry.id && entry.number == n
-    then values ++ value_entered e r settings earlier entry ∷ [] else values
+    on_values e r n entry.id entry.number
+    (λ vs. vs ++ value_entered e r settings earlier entry ∷ []) values
 one_value e r settings n earlier values (Correct entry) =
-    if is_of e r entry.id && entry.number == n
-    then replaced entry.attempt (value_entered e r settings earlier entry) values else values
+    on_values e r n entry.id entry.number
+    (replaced entry.attempt (value_entered e r settings earlier entry)) values
 one_value e r settings n earlier values (Strike id m) =
-    if is_of e r id && m == n then without_last values else values
+    on_values e r n id m without_last values
+one_value e r settings n earlier values (Card card) =
+    on_values e r n card.id card.number
+    (values_now (value_counted e r settings earlier) 1 card.now) values
+one_value e r settings n earlier values (Fix card) =
+    on_values e r n card.id card.number
+    (values_now (value_counted e r settings earlier) 1 card.now) values
 one_value e r settings n earlier values _ = values
 
 -- the values of a number after more commands, one after the other

@@ -2,8 +2,8 @@
 
 ghost use Rattle.std.specs.Prelude.{◌≡◌, ◌≤◌, ◌++◌, [], IfOk, OnOk, OnErr, option_map, unwrap_or};
 ghost use Rattle.commands.specs.Accepted.{name_of, round_of, refusal, edition_set, edition_in};
-ghost use Rattle.commands.specs.Accepted.{scramble_of};
-ghost use Rattle.texts.specs.Spelling.{IsFit};
+ghost use Rattle.commands.specs.Accepted.{scramble_of, advanced_of, competitors_seen};
+ghost use Rattle.texts.specs.Spelling.{IsFit, IsFitTold};
 ghost use Rattle.commands.specs.History.{answer_of, added, spelled_refusal};
 
 use crate::index::Index;
@@ -12,7 +12,7 @@ use cube::Move;
 use rounds::RoundTable;
 use std::alloc::Global;
 use std::marker::Model;
-use texts::{Answer, Code, Command, RoundId, Settings, is_spelled_in};
+use texts::{Answer, Code, Command, Remarked, RoundId, Settings, is_spelled_in};
 
 /// The accepted commands in order, with what is looked up of them, and the edition that holds.
 #[derive(Drop)]
@@ -64,18 +64,19 @@ impl AcceptedCommands {
         self.edition
     }
 
-    /// Does what a text spells, or says why not: what the edition that holds has no spelling of is
-    /// `Unread`.
-    pub(crate) fn apply(&mut self, alloc: Global, command: Command) -> Result<Answer, NoMemory>
-        requires { IsFit command }
-        ensures answer { IfOk result (λ a. a ≡ answer_of (spelled_refusal self.old command)) }
+    /// Does what a text spells, whatever its remark says, or says why not: what the edition that
+    /// holds has no spelling of is `Unread`.
+    pub(crate) fn apply(&mut self, alloc: Global, told: Remarked) -> Result<Answer, NoMemory>
+        requires { IsFitTold told }
+        ensures answer { IfOk result (λ a. a ≡ answer_of (spelled_refusal self.old told)) }
         ensures added { OnOk result
-            (self.new ≡ self.old ++ added (spelled_refusal self.old command) command) }
+            (self.new ≡ self.old ++ added (spelled_refusal self.old told) told.command) }
         ensures err { OnErr result (self.new ≡ self.old) }
     {
-        if !is_spelled_in(self.edition(), &command) {
+        if !is_spelled_in(self.edition(), &told) {
             return Ok(Answer::Refused(Code::Unread));
         }
+        let Remarked { command, .. } = told;
         self.do_command(alloc, command)
     }
 
@@ -122,6 +123,23 @@ impl AcceptedCommands {
         ensures { result ≡ option_map (λ r. r.0) (round_of self.now id.event id.round) }
     {
         self.index.rounds.settings(id)
+    }
+
+    /// How many competitors a round has, as the next one sees it.
+    #[tactic(auto, using(crate::proofs::Seen::sightings))]
+    pub(crate) fn competitors(&self, id: RoundId) -> u16
+        ensures { result ≡ competitors_seen self.now id.event id.round }
+    {
+        self.index.rounds.competitors(id)
+    }
+
+    /// Those who advanced from a round when the next one was opened, if it was.
+    #[tactic(auto, using(crate::proofs::Seen::sightings))]
+    pub(crate) fn advanced(&self, id: RoundId) -> Option<&[u16]>
+        ensures { option_map (λ numbers. numbers.now) result
+            ≡ advanced_of self.now id.event id.round }
+    {
+        self.index.rounds.advanced(id)
     }
 
     /// The scramble of an attempt, where it has one.

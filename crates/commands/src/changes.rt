@@ -5,8 +5,8 @@ ghost use Rattle.std.specs.Option.{option_copied};
 ghost use Rattle.texts.specs.Fields.{round_id};
 ghost use Rattle.texts.specs.Spelling.{IsEntered};
 ghost use Rattle.commands.specs.Accepted.{enter_refusal, scramble_refusal, strike_refusal};
-ghost use Rattle.commands.specs.Accepted.{advance_refusal, close_refusal};
-ghost use Rattle.commands.specs.model.Kept.{kept_by, rounds_of, with_strike, with_advance};
+ghost use Rattle.commands.specs.Accepted.{advance_refusal, close_refusal, breaks_rounds_rule};
+ghost use Rattle.commands.specs.model.Kept.{kept_by, kept_competitors, with_strike, with_advance};
 ghost use Rattle.commands.specs.model.Kept.{with_end, with_entry, HasUnit, Changes, AddsScramble};
 ghost use Rattle.commands.specs.model.Settled.{IsSettled, IsUnfit, attempt_refusal};
 ghost use Rattle.commands.specs.model.Settled.{correction_refusal, AddsAttempt, Corrects};
@@ -23,6 +23,15 @@ use formats::{Event, LAST_ROUND, attempts_of, unit_of};
 use rounds::EnterFault;
 use std::alloc::AllocError;
 use texts::{AttemptEntry, Code, RoundId};
+
+/// Whether another round shall follow this one, and the competitors do not allow it.
+fn breaks_rule(rounds: &KeptRounds, id: RoundId, advance: Advance) -> bool
+    requires { id.round ≤ LAST_ROUND }
+    ensures { result ≡ breaks_rounds_rule (kept_competitors id.event rounds.now.opened.items)
+        id.round advance }
+{
+    breaks_rounds_rule(rounds, id, rounds.competitors(id), advance)
+}
 
 impl KeptRounds {
     /// Enters a competitor in a first round, or says why not.
@@ -212,7 +221,8 @@ impl KeptRounds {
     pub(crate) fn close(&mut self, id: RoundId) -> Option<Code>
         requires { id.round ≤ LAST_ROUND }
         ensures code { result
-            ≡ close_refusal (rounds_of id.event self.old) id.round (kept_by id self.old) }
+            ≡ close_refusal (kept_competitors id.event self.old.opened.items) id.round
+            (kept_by id self.old) }
         ensures done { IfNone result (Changes id with_end self.old self.new) }
         ensures refused { OnSome result (self.new.opened.items ≡ self.old.opened.items) }
     {
@@ -226,7 +236,7 @@ impl KeptRounds {
         if !kept.table.is_finished() {
             return Some(Code::Unfinished);
         }
-        if breaks_rounds_rule(self, id, kept.settings.advance) {
+        if breaks_rule(self, id, kept.settings.advance) {
             return Some(Code::RoundsRule);
         }
         let kept = &mut self.opened[place];

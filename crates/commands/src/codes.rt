@@ -2,9 +2,11 @@
 
 ghost use Rattle.std.specs.Prelude.{◌≡◌};
 ghost use Rattle.commands.specs.Accepted.{put_code, correct_code, strike_code, close_code};
-ghost use Rattle.commands.specs.Accepted.{rules_code, reopen_code};
+ghost use Rattle.commands.specs.Accepted.{rules_code, reopen_code, set_code, fix_code};
 
-use rounds::{CloseFault, CorrectFault, PutFault, ReopenFault, RulesFault, StrikeFault};
+use rounds::{
+    CloseFault, CorrectFault, FixFault, PutFault, ReopenFault, RulesFault, SetFault, StrikeFault,
+};
 use texts::Code;
 
 /// The code for a table's refusal of an attempt.
@@ -68,5 +70,28 @@ pub(crate) fn reopen_code(fault: ReopenFault) -> Code
 {
     match fault {
         ReopenFault::NotClosed => Code::NotClosed,
+    }
+}
+
+/// The code for a table's refusal of other values.
+pub(crate) fn set_code(fault: SetFault) -> Code
+    ensures { result ≡ set_code fault }
+{
+    match fault {
+        SetFault::Closed => Code::Closed,
+        SetFault::NotEntered => Code::NotEntered,
+        SetFault::NoMoreAttempts => Code::NoMoreAttempts,
+    }
+}
+
+/// The code for the refusal of a closed table.
+pub(crate) fn fix_code(fault: FixFault) -> Code
+    ensures { result ≡ fix_code fault }
+{
+    match fault {
+        FixFault::NotClosed => Code::NotClosed,
+        FixFault::NotEntered => Code::NotEntered,
+        FixFault::NoMoreAttempts => Code::NoMoreAttempts,
+        FixFault::Unfinished => Code::Unfinished,
     }
 }

@@ -49,6 +49,8 @@ fn competitor_of(command: &Command) -> Option<u16>
         Command::Strike { number, .. } => Some(*number),
         Command::Rename { number, .. } => Some(*number),
         Command::Withdraw { number, .. } => Some(*number),
+        Command::Card(card) => Some(card.number),
+        Command::Fix(card) => Some(card.number),
         Command::Register { .. }
         | Command::Open { .. }
         | Command::Scramble { .. }
@@ -57,7 +59,8 @@ fn competitor_of(command: &Command) -> Option<u16>
         | Command::SetEdition { .. }
         | Command::SetRound { .. }
         | Command::Rescramble { .. }
-        | Command::Reopen { .. } => None,
+        | Command::Reopen { .. }
+        | Command::Cancel { .. } => None,
     }
 }
 
@@ -214,6 +217,9 @@ impl Index {
             }
             Command::Withdraw { id, number } => self.rounds.withdraw(*id, *number),
             Command::Reopen { id } => Ok(self.rounds.reopen(*id)),
+            Command::Card(card) => self.card(alloc, accepted, card),
+            Command::Fix(card) => self.fix(alloc, accepted, card),
+            Command::Cancel { id } => Ok(self.rounds.cancel(*id)),
         }
     }
 }

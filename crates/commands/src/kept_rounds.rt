@@ -1,10 +1,11 @@
 //! The rounds that were opened, each with its table and the places of its scrambles.
 
 ghost use Rattle.std.specs.Prelude.{◌≡◌, ◌≤◌, [], is_some, MatchOption, option_map, position, find};
-ghost use Rattle.std.specs.Prelude.{None};
+ghost use Rattle.std.specs.Prelude.{None, suc};
 ghost use Rattle.std.specs.Option.{option_copied};
 ghost use Rattle.commands.specs.Accepted.{is_final, is_of, leads_on, competitors_of};
 ghost use Rattle.commands.specs.model.Kept.{is_round, kept_by, kept_scramble, IsKeptAt};
+ghost use Rattle.commands.specs.model.Kept.{kept_next, kept_competitors, kept_advanced};
 
 use crate::solutions::Solutions;
 use advancement::Advance;
@@ -24,6 +25,10 @@ pub(crate) struct KeptRound {
     pub(crate) solutions: Solutions,
     /// Those who wait for a place in the round, in order: who withdraws gives it to the first.
     pub(crate) waiting: Vec<u16>,
+    /// Those who advanced from the round before when this one was opened.
+    pub(crate) advanced: Vec<u16>,
+    /// How many competitors the round before had then.
+    pub(crate) competitors_before: u16,
 }
 
 /// The rounds that were opened: at most four of each event.
@@ -37,6 +42,13 @@ pub(crate) fn is_same(one: RoundId, other: RoundId) -> bool
     ensures { result ≡ is_of one.event one.round other }
 {
     one == other
+}
+
+/// Whether an id is that of the round after another.
+fn is_before(id: RoundId, next: RoundId) -> bool
+    ensures { result ≡ is_of id.event (suc id.round) next }
+{
+    id.event == next.event && u16::from(id.round) + 1 == u16::from(next.round)
 }
 
 /// Whether no round follows.
@@ -123,13 +135,39 @@ impl KeptRounds {
         }
     }
 
-    /// How many competitors a round has: entrants with an attempt that is not DNS.
-    pub(crate) fn competitors(&self, id: RoundId) -> u16
+    /// The next round, if it was opened.
+    pub(crate) fn next(&self, id: RoundId) -> Option<&KeptRound>
+        ensures { option_copied result ≡ kept_next id.event id.round self.now.opened.items }
+    {
+        self.opened.iter().find(|kept| is_before(id, kept.id))
+    }
+
+    /// How many competitors a round has now: entrants with an attempt that is not DNS.
+    pub(crate) fn started(&self, id: RoundId) -> u16
         ensures { result ≡ competitors_of (kept_by id self.now) }
     {
         match self.get(id) {
             Some(kept) => kept.table.started(),
             None => 0,
         }
+    }
+
+    /// How many competitors a round has, as the next one sees it: those when the next one was
+    /// opened, where it is.
+    pub(crate) fn competitors(&self, id: RoundId) -> u16
+        ensures { result ≡ kept_competitors id.event self.now.opened.items id.round }
+    {
+        match self.next(id) {
+            Some(next) => next.competitors_before,
+            None => self.started(id),
+        }
+    }
+
+    /// Those who advanced from a round when the next one was opened, if it was.
+    pub(crate) fn advanced(&self, id: RoundId) -> Option<&[u16]>
+        ensures { option_map (λ numbers. numbers.now) result
+            ≡ kept_advanced id.event id.round self.now.opened.items }
+    {
+        Some(&self.next(id)?.advanced)
     }
 }

@@ -3,6 +3,7 @@
 ghost use Rattle.commands.specs.EditionLaws.{AnswersAsEarlier};
 ghost use Rattle.commands.specs.History.{SeesEachId};
 ghost use Rattle.commands.specs.MendingLaws.{ClosesAsBefore, RenamesAlone};
+ghost use Rattle.commands.specs.OpeningLaws.{FirstOpeningHolds, CancelsAsBefore};
 
 /// A law: the ids that are seen after a list of entries are the ids of its entries, those of
 /// refused ones included.
@@ -26,4 +27,16 @@ pub fn closes_as_before()
 /// A law: another name for a competitor changes no round, so nobody's place.
 pub fn renames_alone()
     ensures { RenamesAlone }
+{}
+
+/// A law: where no command takes a round back, the round is as its first opening opened it, with
+/// all commands since.
+pub fn first_opening_holds()
+    ensures { FirstOpeningHolds }
+{}
+
+/// A law: whoever takes back that a round was opened, with nothing between, finds each round as it
+/// was before it was opened.
+pub fn cancels_as_before()
+    ensures { CancelsAsBefore }
 {}

@@ -3,6 +3,7 @@
 #![tactic(auto)]
 
 mod accepted;
+mod cards;
 mod changes;
 mod codes;
 mod competitors;
@@ -18,11 +19,13 @@ mod settings;
 mod solutions;
 
 pub use laws::{
-    closes_as_before, every_id_is_seen, later_editions_change_no_answer, renames_alone,
+    cancels_as_before, closes_as_before, every_id_is_seen, first_opening_holds,
+    later_editions_change_no_answer, renames_alone,
 };
 pub use meet::Meet;
 pub use outcomes::{is_wrong, lacks_scramble, settled};
 pub use texts::{
-    Advance, Answer, AttemptEntry, Code, Command, CommandFault, Entered, Name, RoundId, Settings,
-    is_spelled_in, one_spelling, print, print_advance, print_cutoff, print_limit, read,
+    Advance, Answer, AttemptEntry, CardEntry, Code, Command, CommandFault, Entered, Name, Now,
+    Remarked, RoundId, Settings, Was, is_spelled_in, one_spelling, print, print_advance,
+    print_cutoff, print_limit, print_remarked, read,
 };

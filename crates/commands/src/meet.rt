@@ -6,6 +6,7 @@ ghost use Rattle.commands.specs.History.{is_seen, answer_to, answer_of, added_re
 ghost use Rattle.commands.specs.History.{after, nothing, StandsFor};
 ghost use Rattle.texts.specs.Reading.{command_of};
 ghost use Rattle.commands.specs.Accepted.{name_of, round_of, scramble_of, edition_in};
+ghost use Rattle.commands.specs.Accepted.{advanced_of, competitors_seen};
 
 use crate::accepted::AcceptedCommands;
 use attempts::NoMemory;
@@ -96,8 +97,8 @@ impl Meet {
         Ok(answer)
     }
 
-    /// The edition of the commands that holds: 1, then 2 or 3 once `EDITION 2` or `EDITION 3` is
-    /// accepted. What an edition has no spelling of is no command while it holds.
+    /// The edition of the commands that holds: 1, then 2 to 4 once one of `EDITION 2` to
+    /// `EDITION 4` is accepted. What an edition has no spelling of is no command while it holds.
     pub fn edition(&self) -> u8
         ensures { result ≡ edition_in self.now.accepted }
     {
@@ -125,6 +126,23 @@ impl Meet {
         ensures { result ≡ option_map (λ r. r.0) (round_of self.now.accepted event round) }
     {
         self.accepted.settings(RoundId { event, round })
+    }
+
+    /// How many competitors a round has, entrants with an attempt that is not DNS: when the next
+    /// one was opened, where it is. 0 where the round itself is not opened.
+    pub fn competitors(&self, event: Event, round: u8) -> u16
+        ensures { result ≡ competitors_seen self.now.accepted event round }
+    {
+        self.accepted.competitors(RoundId { event, round })
+    }
+
+    /// Those who advanced from a round when the next one was opened, in order of the standings
+    /// then; none where the next one is not opened.
+    pub fn advanced(&self, event: Event, round: u8) -> Option<&[u16]>
+        ensures { option_map (λ numbers. numbers.now) result
+            ≡ advanced_of self.now.accepted event round }
+    {
+        self.accepted.advanced(RoundId { event, round })
     }
 
     /// The scramble of an attempt of a round, where one was set since the round was opened: the

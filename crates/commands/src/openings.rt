@@ -1,22 +1,25 @@
-//! How a round is opened: with those in it who advance from the one before.
+//! How a round is opened: with those in it who advance from the one before. And how that is taken
+//! back.
 
-ghost use Rattle.std.specs.Prelude.{◌≡◌, ◌≤◌, ◌-◌, IfOk, OnOk, OnErr, None, length, nat_eq};
+ghost use Rattle.std.specs.Prelude.{◌≡◌, ◌≤◌, ◌-◌, suc, IfOk, IfNone, OnOk, OnErr, OnSome, None};
+ghost use Rattle.std.specs.Prelude.{length, nat_eq};
 ghost use Rattle.std.specs.List.{IsDistinct};
 ghost use Rattle.formats.specs.Events.{unit_of};
 ghost use Rattle.formats.specs.Results.{IsFormatOf};
 ghost use Rattle.rounds.specs.Tables.{IsCutoff, enter_fault, with_entrant};
 ghost use Rattle.texts.specs.Fields.{round_id};
-ghost use Rattle.commands.specs.Accepted.{who_advance, who_wait};
-ghost use Rattle.commands.specs.model.Kept.{kept_by, table_opened, AreOthers, Opens};
+ghost use Rattle.commands.specs.Accepted.{who_advance, who_wait, cancel_refusal};
+ghost use Rattle.commands.specs.model.Kept.{kept_round, kept_by, table_opened, AreOthers, Opens};
+ghost use Rattle.commands.specs.model.Kept.{Cancels};
 
-use crate::kept_rounds::{KeptRound, KeptRounds};
+use crate::kept_rounds::{KeptRound, KeptRounds, is_same};
 use crate::solutions::Solutions;
 use advancement::{advancing, waiting};
 use attempts::NoMemory;
 use formats::{Event, unit_of};
 use rounds::{EnterFault, RoundTable};
 use std::alloc::{AllocError, Global};
-use texts::{RoundId, Settings};
+use texts::{Code, RoundId, Settings};
 
 /// The round before a round. None is ever opened before the first.
 pub(crate) fn round_before(id: RoundId) -> RoundId
@@ -106,6 +109,7 @@ impl KeptRounds {
         let numbers = who_advance(alloc, self, round_before(id))?;
         let waiting = who_wait(alloc, self, round_before(id))?;
         let table = table_with(alloc, id.event, settings, &numbers)?;
+        let competitors_before = self.started(round_before(id));
         self.opened.push(KeptRound {
             id,
             settings,
@@ -113,7 +117,29 @@ impl KeptRounds {
             scrambles: [None; 5],
             solutions: Solutions::new(alloc),
             waiting,
+            advanced: numbers,
+            competitors_before,
         })?;
         Ok(())
+    }
+    /// Takes back that a round was opened in which nobody has an attempt, or says why not.
+    pub(crate) fn cancel(&mut self, id: RoundId) -> Option<Code>
+        ensures code { result
+            ≡ cancel_refusal (kept_round id.event (suc id.round) self.old.opened.items)
+            (kept_by id self.old) }
+        ensures done { IfNone result (Cancels id self.old self.new) }
+        ensures refused { OnSome result (self.new.opened.items ≡ self.old.opened.items) }
+    {
+        let Some(kept) = self.get(id) else {
+            return Some(Code::RoundUnknown);
+        };
+        if self.next(id).is_some() {
+            return Some(Code::RoundOpen);
+        }
+        if kept.table.is_attempted(1) {
+            return Some(Code::HasAttempts);
+        }
+        self.opened.retain(|other| !is_same(id, other.id));
+        None
     }
 }

@@ -18,6 +18,7 @@ use Rattle.texts.specs.declared.command.Settings.{Settings}
 use Rattle.texts.specs.Fields.{attempt_entry}
 use Rattle.rounds.specs.Tables.{allotted, is_done, loses_cutoff, replaced, without_last}
 use Rattle.commands.specs.Accepted.{scramble_of, settled}
+use Rattle.texts.specs.Reading.{told}
 use Rattle.commands.specs.History.{spelled_refusal}
 use Rattle.derivation.specs.declared.field.Field.{Field}
 use Rattle.derivation.specs.Cards.{attempting, correcting, differs, fields_from, is_first, is_later}
@@ -29,7 +30,8 @@ use Rattle.derivation.proofs.Steps.{At, Fits, Goes, attempt_goes, correct_goes, 
 -- each of these commands is accepted, one after the other, after those before
 abbrev pub AreAccepted : List Command → List Command → Type 0
 AreAccepted before [] = Unit {0}
-AreAccepted before (c ∷ cs) = (spelled_refusal before c ≡ None) × AreAccepted (before ++ c ∷ []) cs
+AreAccepted before (c ∷ cs) =
+    (spelled_refusal before (told None c) ≡ None) × AreAccepted (before ++ c ∷ []) cs
 
 same_values : (a b : Value) → same_value a b ≡ true → a ≡ b
 same_values (value.Number m) (value.Number n) h =

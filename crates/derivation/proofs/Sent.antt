@@ -1,5 +1,5 @@
 -- Entries that are sent: of new ids, and again.
-use Rattle.std.proofs.Common.{◌≡◌, ◌==◌, ℕ, true, false, List, []}
+use Rattle.std.proofs.Common.{◌≡◌, ◌==◌, ℕ, true, false, List, [], None}
 use Rattle.std.proofs.Common.{◌∷◌, ◌++◌, map, take, drop, refl, ap, sym}
 use Rattle.std.proofs.Common.{◌∙◌, subst, append_assoc, append-nil}
 use Rattle.std.proofs.lemmas.List.{take-append-drop}
@@ -10,9 +10,9 @@ use Rattle.std.specs.List.{list_any, AllByRecursion}
 use Rattle.texts.specs.declared.command.Command.{Command}
 use Rattle.texts.specs.declared.answer.Code.TheVariants as code
 use Rattle.texts.specs.declared.answer.Answer.TheVariants.{Refused}
-use Rattle.texts.specs.Reading.{command_of}
+use Rattle.texts.specs.Reading.{command_of, told}
 use Rattle.texts.specs.Spelling.{IsFit, spelling}
-use Rattle.texts.proofs.Words.{spelled_found}
+use Rattle.texts.proofs.Words.{spelled_found, spelling_short}
 use Rattle.commands.specs.History.{History, after, answer_to, entry_refusal_in, is_seen}
 use Rattle.commands.proofs.Entries.{after_done, after_ids, after_seen, answer_done, grown}
 use Rattle.derivation.specs.Laws.{after_all, AreDone, AreRepeats, HaveNewIds, CountsOnce, GoesOn}
@@ -48,13 +48,15 @@ all_done h (entry ∷ entries) [] accepted fits new same = absurd (cc)
 all_done h (entry ∷ entries) (c ∷ cs) accepted fits new same =
     let text : entry.1 ≡ spelling c = cc in
     let texts : map (λ e. e.1) entries ≡ map spelling cs = cc in
-    let reads : command_of entry.1 ≡ Ok c = ap command_of text ∙ spelled_found c fits.0 in
-    let next = after_done h entry.0 entry.1 c new.0 reads accepted.0 in
+    let reads : command_of entry.1 ≡ Ok (told None c) =
+    ap command_of text
+    ∙ spelled_found (told None c) (fits.0, tt, spelling_short c fits.0) in
+    let next = after_done h entry.0 entry.1 (told None c) new.0 reads accepted.0 in
     let rest = all_done (grown h entry.0 c) entries cs accepted.1 fits.1
     (still_new h entry.0 c entries new.2 new.1) texts in
     record {
       done = (
-        answer_done h entry.0 entry.1 c new.0 reads accepted.0,
+        answer_done h entry.0 entry.1 (told None c) new.0 reads accepted.0,
         subst (λ x. AreDone x entries) (sym next) rest.done,
       );
       accepted =

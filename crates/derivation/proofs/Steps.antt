@@ -18,12 +18,13 @@ use Rattle.texts.specs.declared.command.RoundId.{RoundId}
 use Rattle.texts.specs.declared.command.Settings.{Settings}
 use Rattle.texts.specs.Editions.{entered_edition}
 use Rattle.texts.specs.Fields.{attempt_entry}
+use Rattle.texts.specs.Reading.{told}
 use Rattle.texts.proofs.EventEditions.{attempt_spelled, correct_spelled, strike_spelled}
 use Rattle.rounds.specs.Tables.{Entrant, Table, allotted, entrant, has_number, is_done}
 use Rattle.rounds.specs.Tables.{corrected, loses_cutoff, replaced, struck, with_value, without_last}
 use Rattle.commands.specs.Accepted.{edition_after, edition_in, edition_set, is_registered, is_wrong}
 use Rattle.commands.specs.Accepted.{lacks_scramble, name_given, renaming, round_by, scramble_of}
-use Rattle.commands.specs.Accepted.{settled, unfit_refusal, scrambling, rescrambling}
+use Rattle.commands.specs.Accepted.{settled, unfit_refusal, scrambling, rescrambling, is_cancelled}
 use Rattle.commands.specs.History.{spelled_refusal}
 use Rattle.commands.specs.model.Kept.{with_attempt, with_correction, with_strike}
 use Rattle.commands.proofs.Lookups.{standing_kept}
@@ -149,7 +150,7 @@ pub record Fits (base : List Command) (id : RoundId) (k : ℕ) (x : Entered) : T
 -- a command of one of the three kinds is accepted, and the values are these
 pub record Goes (base : List Command) (id : RoundId) (n : ℕ) (settings : Settings)
     (cs : List Command) (c : Command) (vs : List Value) : Type 0 where
-  pub accepted : spelled_refusal cs c ≡ None
+  pub accepted : spelled_refusal cs (told None c) ≡ None
   pub then : At base id n settings (cs ++ c ∷ []) vs
 
 module _ (base : List Command) (id : RoundId) (n : ℕ) (settings : Settings) (cs : List Command)
@@ -173,6 +174,7 @@ module _ (base : List Command) (id : RoundId) (n : ℕ) (settings : Settings) (c
   -- a change of the entrant's values in the round
   next : (c : Command) (table : Table) (change : List Value → List Value) (ws : List Value)
       → name_given n c ≡ None → renaming n c ≡ None → edition_set c ≡ None
+      → is_cancelled id.event id.round c ≡ false
       → ((k : ℕ) → scrambling id.event id.round k c ≡ None)
       → ((k : ℕ) → rescrambling id.event id.round k c ≡ None)
       → round_by (cs ++ c ∷ []) id ≡ Some (settings, table)
@@ -185,7 +187,7 @@ module _ (base : List Command) (id : RoundId) (n : ℕ) (settings : Settings) (c
       t)
       → change vs ≡ ws
       → At base id n settings (cs ++ c ∷ []) ws
-  next c table change ws unnamed same sets leaves keeps round is gives = record {
+  next c table change ws unnamed same sets stays leaves keeps round is gives = record {
     known = known_push cs c n unnamed same ∙ st.known;
     edition = rw (edition_push 1 cs c sets) st.edition;
     table = table;
@@ -200,7 +202,7 @@ module _ (base : List Command) (id : RoundId) (n : ℕ) (settings : Settings) (c
     values = ap change st.values ∙ gives;
     scrambles =
         λ k.
-        scramble_kept id.event id.round k cs c (leaves k) (keeps k) ∙ st.scrambles k;
+        scramble_kept id.event id.round k cs c stays (leaves k) (keeps k) ∙ st.scrambles k;
   }
 
   changed : (change : Settings × Table → Settings × Table) (now : Option (Settings × Table))
@@ -231,7 +233,7 @@ module _ (base : List Command) (id : RoundId) (n : ℕ) (settings : Settings) (c
             ) refl;
         then =
             next (Strike id n) (struck st.table n) without_last (without_last vs) refl refl refl
-            (λ k. refl) (λ k. refl)
+            refl (λ k. refl) (λ k. refl)
             (changed (with_strike n) (round_by (cs ++ Strike id n ∷ []) id)
             (round_strike id.event id.event id.round id.round n cs))
             refl refl;
@@ -267,7 +269,7 @@ module _ (base : List Command) (id : RoundId) (n : ℕ) (settings : Settings) (c
             ) refl;
         then =
             next (Correct (attempt_entry id k n x)) (corrected st.table n k (value_now k x))
-            (replaced k (value_now k x)) ws refl refl refl (λ j. refl) (λ j. refl)
+            (replaced k (value_now k x)) ws refl refl refl refl (λ j. refl) (λ j. refl)
             (changed (with_correction n k (scramble_of cs id.event id.round k) x)
             (round_by (cs ++ Correct (attempt_entry id k n x) ∷ []) id)
             (round_correct id.event id.event id.round id.round k n x cs))
@@ -305,7 +307,7 @@ module _ (base : List Command) (id : RoundId) (n : ℕ) (settings : Settings) (c
             ) refl;
         then =
             next (Attempt (attempt_entry id k n x)) (with_value st.table n (value_now k x))
-            (λ us. us ++ value_now k x ∷ []) ws refl refl refl (λ j. refl) (λ j. refl)
+            (λ us. us ++ value_now k x ∷ []) ws refl refl refl refl (λ j. refl) (λ j. refl)
             (changed (with_attempt n (scramble_of cs id.event id.round k) x)
             (round_by (cs ++ Attempt (attempt_entry id k n x) ∷ []) id)
             (round_attempt id.event id.event id.round id.round k n x cs))

@@ -9,6 +9,7 @@ use Rattle.texts.specs.declared.command.Command.TheVariants.{Register, Open, Ent
 use Rattle.texts.specs.declared.command.Command.TheVariants.{Attempt, Correct, Strike, SetAdvance}
 use Rattle.texts.specs.declared.command.Command.TheVariants.{Close, SetEdition, Rename, SetRound}
 use Rattle.texts.specs.declared.command.Command.TheVariants.{Rescramble, Withdraw, Reopen}
+use Rattle.texts.specs.declared.command.Command.TheVariants.{Card, Fix, Cancel}
 use Rattle.advancement.specs.Waiting.{next_of}
 use Rattle.advancement.proofs.Turns.{in_turn}
 use Rattle.commands.specs.Accepted.{is_of, is_withdrawal}
@@ -62,6 +63,9 @@ taken_once e r ns earlier (Rename n name) = refl
 taken_once e r ns earlier (SetRound id format cutoff limit) = refl
 taken_once e r ns earlier (Rescramble id k moves) = refl
 taken_once e r ns earlier (Reopen id) = refl
+taken_once e r ns earlier (Card card) = refl
+taken_once e r ns earlier (Fix card) = refl
+taken_once e r ns earlier (Cancel id) = refl
 
 -- of those who wait as many are taken in as withdraw, from the first of them on that is left
 taken_are : (e : Event) (r : ℕ) (ns : List ℕ) (earlier cs : List Command)

@@ -84,7 +84,7 @@ misspelt =
     ∷ refused code.Unread (codes "ATT 333 1 1 1 T:0:0")
     ∷ refused code.Unread (codes "ATT 333 1 1 1 T:1000000:0")
     ∷ refused code.Unread (codes "ATT 333 1 1 1 T:1000:10")
-    ∷ refused code.Unread (codes "EDITION 1") ∷ refused code.Unread (codes "EDITION 4") ∷ []
+    ∷ refused code.Unread (codes "EDITION 1") ∷ refused code.Unread (codes "EDITION 5") ∷ []
 
 -- what edition 1 does not read, and edition 2 does
 abbrev pub cubes : List (List ℕ)

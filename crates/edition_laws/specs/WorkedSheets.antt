@@ -1,20 +1,21 @@
--- Worked sheets of editions 1 and 2, from commands, by hand: what every later program prints of
+-- Worked sheets of editions 1, 2 and 4, from commands, by hand: what every later program prints of
 -- these lists.
 use Rattle.std.specs.Prelude.{◌≡◌, ℕ, List, [], ◌∷◌, ◌++◌, codes, Option, Some, None}
 use Rattle.cube.specs.declared.moves.Side.TheVariants.{U, R}
 use Rattle.cube.specs.declared.moves.Kind.TheVariants.{Face}
 use Rattle.cube.specs.declared.moves.Move.{Move}
 use Rattle.cube.specs.declared.moves.Quarter.TheVariants.{Clockwise, Anticlockwise}
+use Rattle.attempts.specs.declared.Value.TheVariants as value
 use Rattle.formats.specs.declared.advance.Advance.{Advance}
 use Rattle.formats.specs.declared.advance.Advance.TheVariants.{Final, Top}
 use Rattle.formats.specs.declared.events.Event.{Event}
 use Rattle.formats.specs.declared.events.Event.TheVariants.{Cube3, FewestMoves, MultiBlind}
 use Rattle.formats.specs.declared.events.Format.{Format}
 use Rattle.formats.specs.declared.events.Format.TheVariants.{Ao5, Mo3, Bo1, Bo3}
-use Rattle.texts.specs.Fields.{attempt_entry, move_by, round_id}
+use Rattle.texts.specs.Fields.{attempt_entry, card_entry, move_by, round_id}
 use Rattle.texts.specs.declared.command.Command.{Command}
 use Rattle.texts.specs.declared.command.Command.TheVariants.{Register, Open, Enter, Scramble}
-use Rattle.texts.specs.declared.command.Command.TheVariants.{Attempt, Close, SetEdition}
+use Rattle.texts.specs.declared.command.Command.TheVariants.{Attempt, Close, SetEdition, Fix}
 use Rattle.texts.specs.declared.command.Entered.{Entered}
 use Rattle.texts.specs.declared.command.Entered.TheVariants as entered
 use Rattle.texts.specs.declared.command.Settings.{Settings}
@@ -90,6 +91,48 @@ closed_table =
     ++ codes "2,4,Bo Ek,-,10.00,12.00,10.00,15.00,no\n"
     ++ codes "4,3,\"Pat \"\"Slow\"\" Roy\",-,20.00,20.00,-,-,no\n"
 
+-- the first time of 2 was wrong
+abbrev pub fix : Command
+fix =
+    Fix (card_entry (round_id Cube3 1) 2 (value.Number 905 ∷ value.Number 6000 ∷ value.Dnf ∷ [])
+    (Some (time 1999) ∷ None ∷ None ∷ []))
+
+-- who advances follows: 1 and 4, who were tied over the border
+abbrev pub fixed_round : List Command
+fixed_round = closed_round ++ fix ∷ []
+
+abbrev pub fixed_text : List ℕ
+fixed_text =
+    codes "333 round 1 bo3 closed position 21\n"
+    ++ codes "cutoff 1:2000 limit 60000 advance top:2\n"
+    ++ codes "  1         -     10.00     10.00     11.00     12.00    1 Q Ann Li\n"
+    ++ codes "  1         -     10.00     12.00     10.00     15.00    4 Q Bo Ek\n"
+    ++ codes "  3         -     19.99     19.99   1:00.00       DNF    2 - Smith, John\n"
+    ++ codes "  4         -     20.00     20.00         -         -    3 - Pat \"Slow\" Roy\n"
+
+-- once the next round is opened, places follow and marks do not
+abbrev pub fixed_late : List Command
+fixed_late =
+    closed_round
+    ++ Open (round_id Cube3 2) (settings_of Bo3 None (Some 60000) Final) ∷ fix ∷ []
+
+abbrev pub late_text : List ℕ
+late_text =
+    codes "333 round 1 bo3 closed position 22\n"
+    ++ codes "cutoff 1:2000 limit 60000 advance top:2\n"
+    ++ codes "  1         -     10.00     10.00     11.00     12.00    1 - Ann Li\n"
+    ++ codes "  1         -     10.00     12.00     10.00     15.00    4 - Bo Ek\n"
+    ++ codes "  3         -     19.99     19.99   1:00.00       DNF    2 Q Smith, John\n"
+    ++ codes "  4         -     20.00     20.00         -         -    3 - Pat \"Slow\" Roy\n"
+
+abbrev pub late_table : List ℕ
+late_table =
+    codes "place,number,name,average,best,1,2,3,advances\n"
+    ++ codes "1,1,Ann Li,-,10.00,10.00,11.00,12.00,no\n"
+    ++ codes "1,4,Bo Ek,-,10.00,12.00,10.00,15.00,no\n"
+    ++ codes "3,2,\"Smith, John\",-,19.99,19.99,1:00.00,DNF,yes\n"
+    ++ codes "4,3,\"Pat \"\"Slow\"\" Roy\",-,20.00,20.00,-,-,no\n"
+
 -- fewest moves: solutions of one, two and two moves
 abbrev pub quarter_right : List Move
 quarter_right = move_by (Face R) Clockwise ∷ []
@@ -149,6 +192,9 @@ pub record PrintsWorkedSheets : Type 0 where
   pub open_as_table : sheet style.Table open_round Cube3 1 11 ≡ Some open_table
   pub closed_as_text : sheet style.Text closed_round Cube3 1 20 ≡ Some closed_text
   pub closed_as_table : sheet style.Table closed_round Cube3 1 20 ≡ Some closed_table
+  pub fixed_as_text : sheet style.Text fixed_round Cube3 1 21 ≡ Some fixed_text
+  pub late_as_text : sheet style.Text fixed_late Cube3 1 22 ≡ Some late_text
+  pub late_as_table : sheet style.Table fixed_late Cube3 1 22 ≡ Some late_table
   pub moves_as_text : sheet style.Text moves_round FewestMoves 1 9 ≡ Some moves_sheet
   pub moves_as_table : sheet style.Table moves_round FewestMoves 1 9 ≡ Some moves_table
   pub multi_as_text : sheet style.Text multi_round MultiBlind 1 8 ≡ Some multi_text

@@ -31,7 +31,8 @@ pub fn worked_answers()
     ensures { AnswersWorkedDays }
 {}
 
-/// Worked sheets of editions 1 and 2: what is printed of accepted commands.
+/// Worked sheets of editions 1 and 2, and of a round that was fixed: what is printed of accepted
+/// commands.
 pub fn worked_sheets()
     ensures { PrintsWorkedSheets }
 {}

@@ -10,7 +10,7 @@ use Rattle.lines.specs.Bytes.{AppendsPart}
 use Rattle.lines.specs.declared.fault.RunFault.TheVariants as run
 use Rattle.wire.specs.Ranges.{IsDesk}
 use Rattle.wire.specs.declared.values.Version.{Version}
-use Rattle.wire.specs.declared.values.Version.TheVariants.{One, Three}
+use Rattle.wire.specs.declared.values.Version.TheVariants.{One, Four}
 use Rattle.wire.specs.declared.frame.Frame.{Frame}
 use Rattle.wire.specs.declared.frame.What.{What}
 use Rattle.wire.specs.declared.frame.What.TheVariants as what
@@ -28,9 +28,9 @@ what_of request.Tick = what.Tick
 what_of request.Stop = what.Stop
 
 -- the first version of the wire that has a frame for the request and all that it may be answered:
--- a sheet can need the second, and the third alone tells each code
+-- a sheet can need the second, and the fourth alone tells each code
 abbrev pub version_of : Request → Version
-version_of (request.Ask id) = Three
+version_of (request.Ask id) = Four
 version_of (request.Sheet event round position style) = sheet_version event
 version_of request.Tick = One
 version_of request.Stop = One

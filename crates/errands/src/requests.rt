@@ -59,7 +59,7 @@ fn version_of(request: Request) -> Version
 {
     match request {
         Request::Sheet { event, .. } => sheet_version(event),
-        Request::Ask { .. } => Version::Three,
+        Request::Ask { .. } => Version::Four,
         Request::Tick | Request::Stop => Version::One,
     }
 }

@@ -3,7 +3,7 @@ use Rattle.std.specs.Prelude.{ℕ, ◌-◌, Bool, true, false, if◌then◌else�
 use Rattle.std.specs.Prelude.{List, Option, None, Some}
 use Rattle.std.specs.List.{list_any, range_with_len}
 use Rattle.advancement.specs.Advancing.{advancing, quota}
-use Rattle.commands.specs.Accepted.{has_too_few, round_by, round_of}
+use Rattle.commands.specs.Accepted.{competitors_seen, has_too_few, round_by}
 use Rattle.formats.specs.declared.advance.Advance.{Advance}
 use Rattle.formats.specs.declared.advance.Advance.TheVariants.{Final, Top}
 use Rattle.rounds.specs.Tables.{Table}
@@ -23,7 +23,8 @@ round_before id = record { event = id.event; round = id.round - 1 }
 -- Regulations, article 9m)
 abbrev pub is_last : List Command → RoundId → Bool
 is_last accepted id =
-    list_any (has_too_few (round_of accepted id.event) id.round) (range_with_len 1 (id.round - 1))
+    list_any (has_too_few (competitors_seen accepted id.event) id.round)
+    (range_with_len 1 (id.round - 1))
 
 -- it is the final where no round may follow, or at most 16 come into it; else 16 go on, or as many
 -- as may (WCA Regulations, article 9p)

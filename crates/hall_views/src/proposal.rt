@@ -1,7 +1,7 @@
 //! What is proposed for a round that is to be opened.
 
 ghost use Rattle.std.specs.Prelude.{◌≡◌, ◌≤◌, IfOk};
-ghost use Rattle.commands.specs.Accepted.{competitors_of, has_too_few, round_of};
+ghost use Rattle.commands.specs.Accepted.{competitors_seen, has_too_few};
 ghost use Rattle.hall_views.specs.Proposal.{first_proposal, is_last, proposed, proposed_advance};
 
 use acceptor::NoMemory;
@@ -40,25 +40,11 @@ fn first_proposal() -> Proposal
     }
 }
 
-/// How many competitors a round of an event has; nobody where it was not opened.
-fn competitors_in(meet: &Meet, id: RoundId, earlier: u8) -> u16
-    ensures { result ≡ competitors_of (round_of meet.now.accepted id.event earlier) }
-{
-    let earlier = RoundId {
-        event: id.event,
-        round: earlier,
-    };
-    match round_opened(meet, earlier) {
-        Some(round) => round.table.started(),
-        None => 0,
-    }
-}
-
 /// Whether the competitors of an earlier round do not allow the rounds up to the one after this.
 fn has_too_few(meet: &Meet, id: RoundId, earlier: u8) -> bool
-    ensures { result ≡ has_too_few (round_of meet.now.accepted id.event) id.round earlier }
+    ensures { result ≡ has_too_few (competitors_seen meet.now.accepted id.event) id.round earlier }
 {
-    let later = later_rounds(competitors_in(meet, id, earlier));
+    let later = later_rounds(meet.competitors(id.event, earlier));
     u16::from(later) < (u16::from(id.round) + 1).saturating_sub(u16::from(earlier))
 }
 

@@ -9,23 +9,29 @@ use Rattle.mirror.specs.Answered.{answer_at}
 use Rattle.texts.specs.declared.answer.Answer.{Answer}
 use Rattle.texts.specs.declared.answer.Answer.TheVariants.{Done, Refused}
 use Rattle.texts.specs.declared.command.Command.{Command}
-use Rattle.texts.specs.declared.command.Command.TheVariants.{Attempt, Correct, Strike}
+use Rattle.texts.specs.declared.command.Remarked.{Remarked}
+use Rattle.texts.specs.declared.command.Command.TheVariants.{Attempt, Correct, Strike, Card, Fix}
 use Rattle.texts.specs.declared.command.RoundId.{RoundId}
 use Rattle.texts.specs.declared.reading.CommandFault.{CommandFault}
 use Rattle.texts.specs.Reading.{command_of}
 
--- a command that enters, corrects or strikes an attempt of the competitor in the round
+-- a command that enters, corrects or strikes an attempt of the competitor in the round, or is a
+-- card of the competitor
 abbrev pub changes : RoundId → ℕ → Command → Bool
 changes round number (Attempt entry) =
     is_of round.event round.round entry.id && entry.number == number
 changes round number (Correct entry) =
     is_of round.event round.round entry.id && entry.number == number
 changes round number (Strike id struck) = is_of round.event round.round id && struck == number
+changes round number (Card card) =
+    is_of round.event round.round card.id && card.number == number
+changes round number (Fix card) =
+    is_of round.event round.round card.id && card.number == number
 changes round number _ = false
 
 -- what a text reads as is such a command
-abbrev pub reads_change : RoundId → ℕ → Result Command CommandFault → Bool
-reads_change round number (Ok c) = changes round number c
+abbrev pub reads_change : RoundId → ℕ → Result Remarked CommandFault → Bool
+reads_change round number (Ok told) = changes round number told.command
 reads_change round number (Err fault) = false
 
 -- the text at a position spells such a command

@@ -10,7 +10,8 @@ use mirror::Mirror;
 use std::alloc::{AllocError, Global};
 use texts::{Answer, Command, CommandFault, RoundId, read};
 
-/// Whether a command enters, corrects or strikes an attempt of the competitor in the round.
+/// Whether a command enters, corrects or strikes an attempt of the competitor in the round, or is a
+/// card of the competitor.
 fn changes(round: RoundId, number: u16, command: &Command) -> bool
     ensures { result ≡ changes round number command.now }
 {
@@ -18,6 +19,8 @@ fn changes(round: RoundId, number: u16, command: &Command) -> bool
         Command::Attempt(entry) => entry.id == round && entry.number == number,
         Command::Correct(entry) => entry.id == round && entry.number == number,
         Command::Strike { id, number: struck } => *id == round && *struck == number,
+        Command::Card(card) => card.id == round && card.number == number,
+        Command::Fix(card) => card.id == round && card.number == number,
         _ => false,
     }
 }
@@ -27,7 +30,7 @@ fn reads_change(alloc: Global, round: RoundId, number: u16, text: &[u8]) -> Resu
     ensures { IfOk result (λ is. is ≡ reads_change round number (command_of text.now)) }
 {
     match read(alloc, text) {
-        Ok(command) => Ok(changes(round, number, &command)),
+        Ok(told) => Ok(changes(round, number, &told.command)),
         Err(CommandFault::NoMemory) => Err(AllocError),
         Err(CommandFault::TooLong | CommandFault::NotACommand | CommandFault::BadField { .. }) =>
             Ok(false),
@@ -79,11 +82,10 @@ fn is_change(
 }
 
 /// The position of the last entry that was accepted and entered, corrected or struck an attempt of
-/// the competitor in the round; none where there is no such entry. It is looked for from the end of
-/// the log, so the work is that of the entries after it.
+/// the competitor in the round, or was a card of the competitor; none where there is no such entry.
+/// It is looked for from the end of the log, so the work is that of the entries after it.
 ///
-/// Memory is taken while a text is read, a name or a solution at a time. AllocError where it was
-/// refused.
+/// Memory is taken while a text is read, for what one command has. AllocError where it was refused.
 pub fn last_change(
     alloc: Global,
     mirror: &Mirror,

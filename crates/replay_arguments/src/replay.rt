@@ -38,6 +38,13 @@ Standard input has one command a line:
   WDR 333 1 1                   competitor 1, who has no attempt, leaves round 1; in a later round
                                 the next of the round before takes the place
   REOPEN 333 1                  opens round 1 again, while round 2 is not open
+  EDITION 4                     from this line on the lines below are commands, and CARD, FIX, ATT,
+                                COR, STR and WDR may end with ` # ` and a remark
+  CARD 333 1 1 - T:1200:0/DNF   all attempts of competitor 1 at once, where none stands (-)
+  CARD 333 1 1 1200,DNF =/T:998:0
+                                the same where 12.00 and DNF stand; = keeps one as it stands
+  FIX 333 1 1 1200,998 =/DNF    the same in a closed round
+  CANCEL 333 2                  takes back the opening of round 2, while nobody has an attempt
 
 At most 65,536 lines, 10,000 bytes a line and 39,387,136 bytes in all are read.
 
@@ -46,7 +53,8 @@ the sheet. With --only-sheet it gets the sheet alone, and standard error gets th
 docs/FORMATS.md explains each CODE, the fields of the commands and the columns of the sheet.
 
 Exit status: 0 the sheet was printed; 2 invalid arguments, or help; 3 no such round (no accepted
-command opened it), or input too long; 4 cannot read, or cannot write; 5 no memory.";
+command opened it, or one cancelled it), or input too long; 4 cannot read, or cannot write;
+5 no memory.";
 
 /// What `replay` asks for: the sheet of a round, from commands.
 #[derive(Clone, Copy)]

@@ -7,6 +7,7 @@ use Rattle.std.specs.Map.{values_of}
 use Rattle.std.proofs.lemmas.List.{length-map}
 use Rattle.std.proofs.lemmas.List.Elements.{All-from_recursion, recursion_from_All}
 use Rattle.std.proofs.lemmas.List.Sums.{sum_by-cons}
+use Rattle.attempts.specs.declared.Value.{Value}
 use Rattle.attempts.specs.Attempts.{IsInRangeOf}
 use Rattle.formats.specs.declared.results.RankKey.{RankKey}
 use Rattle.formats.specs.Results.{is_better}
@@ -14,8 +15,8 @@ use Rattle.indexmap.specs.IndexMap.{set_value_at}
 use Rattle.rounds.specs.declared.rules.Rules.{Rules}
 use Rattle.rounds.specs.declared.kept.Kept.{Kept}
 use Rattle.rounds.specs.declared.kept_entrant.KeptEntrant.{KeptEntrant}
-use Rattle.rounds.specs.Tables.{allotted, is_started_attempt}
-use Rattle.rounds.specs.model.Field.{set_values_at}
+use Rattle.rounds.specs.Tables.{Entrant, allotted, is_started_attempt, has_started, started}
+use Rattle.rounds.specs.model.Field.{as_table, set_values_at, with_values_at}
 use Rattle.rounds.specs.model.PackedKeys.{HasPackedKey}
 use Rattle.rounds.specs.model.KeptEntrants.{kept_of, one_if, recounted, passed_by, is_unfinished}
 use Rattle.rounds.specs.model.KeptEntrants.{place_among}
@@ -23,7 +24,7 @@ use Rattle.rounds.specs.model.UpToDate.{entrant_of, entrants_of, no_result, IsMa
 use Rattle.rounds.specs.model.UpToDate.{IsAllotted, IsRanged, AreUpToDate}
 use Rattle.rounds.proofs.CutoffOrder.{not_better}
 use Rattle.rounds.proofs.Passing.{passed, recounts, is_counted_in}
-use Rattle.rounds.proofs.EntrantLines.{part_at}
+use Rattle.rounds.proofs.EntrantLines.{field_with, part_at}
 
 -- another line at an index
 pub set_all : (P : ℕ × KeptEntrant → Type 0) (es : List (ℕ × KeptEntrant)) (i : ℕ) (s : KeptEntrant)
@@ -107,6 +108,31 @@ counts_after p old new same es i e s at =
     ∙ ap (λ m. recounted m (p (passed old new e.1)) (p s))
     (ap (count_by p) (same_count p old new same es) ∙ count_same p old new same (values_of es))
     ∙ ap (λ b. recounted (count_by p (values_of es)) b (p s)) (same e.1)
+
+-- how many have started, by what is kept
+started_is : (es : List (ℕ × KeptEntrant))
+    → count_by (λ s. list_any is_started_attempt s.row) (values_of es)
+    ≡ count_by has_started (entrants_of es)
+started_is [] = refl
+started_is (e ∷ es) =
+    sum_by-cons (λ (s : KeptEntrant). cond (list_any is_started_attempt s.row) 1 0) e.1
+    (values_of es)
+    ∙ ap (λ m. cond (list_any is_started_attempt e.1.row) 1 0 + m) (started_is es)
+    ∙ sym (sum_by-cons (λ (x : Entrant). cond (has_started x) 1 0) (entrant_of e) (entrants_of es))
+
+-- how many have started, once one of them has other values
+pub started_after : (rules : Rules) (es : List (ℕ × KeptEntrant)) (i : ℕ) (e : ℕ × KeptEntrant)
+    (vs : List Value) → slice_get es i ≡ Some e → (n : ℕ)
+    → n ≡ count_by (λ s. list_any is_started_attempt s.row) (values_of es)
+    → recounted n (list_any is_started_attempt e.1.row) (list_any is_started_attempt vs)
+    ≡ started (as_table false (with_values_at (field_with rules es) i vs))
+started_after rules es i e vs at n is =
+    let after : KeptEntrant = record e.1 { row = vs } in
+    ap
+    (λ m. recounted m (list_any is_started_attempt e.1.row) (list_any is_started_attempt vs)) is
+    ∙ sym (recounts (λ s. list_any is_started_attempt s.row) es i e after at)
+    ∙ started_is (set_value_at es i after)
+    ∙ ap (count_by has_started) (rows_set es i after)
 
 -- The places
 

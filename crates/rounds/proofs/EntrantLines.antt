@@ -79,6 +79,20 @@ change_or : (n : ℕ) (change : List Value → List Value) (e : Entrant) (b : Bo
 change_or n change e true h is = absurd (false≢true (sym is))
 change_or n change e false h is = ap (λ b. cond b (record e { values = change e.values }) e) h
 
+-- nobody has the number
+pub changed_nobody : (n : ℕ) (change : List Value → List Value) (es : List Entrant)
+    → find (has_number n) es ≡ None → map (changed_of n change) es ≡ es
+changed_nobody n change [] h = refl
+changed_nobody n change (e ∷ es) h = step (has_number n e) refl h (changed_nobody n change es)
+  where
+    step : (b : Bool) → has_number n e ≡ b → cond b (Some e) (find (has_number n) es) ≡ None
+        → (find (has_number n) es ≡ None → map (changed_of n change) es ≡ es)
+        → map (changed_of n change) (e ∷ es) ≡ e ∷ es
+    step true is none later = cc
+    step false is none later =
+        ap (λ x. x ∷ map (changed_of n change) es) (change_or n change e (has_number n e) refl is)
+        ∙ ap (λ xs. e ∷ xs) (later none)
+
 change_none : (n m : ℕ) (change : List Value → List Value) (es : List (ℕ × KeptEntrant)) → m ≡ n
     → AllByRecursion (λ k. nat_eq m k ≡ false) (keys_of es)
     → map (changed_of n change) (entrants_of es) ≡ entrants_of es

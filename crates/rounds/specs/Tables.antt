@@ -21,6 +21,8 @@ use Rattle.rounds.specs.declared.fault.CorrectFault.{CorrectFault}
 use Rattle.rounds.specs.declared.fault.CorrectFault.TheVariants as correct
 use Rattle.rounds.specs.declared.fault.SetFault.{SetFault}
 use Rattle.rounds.specs.declared.fault.SetFault.TheVariants as set
+use Rattle.rounds.specs.declared.fault.FixFault.{FixFault}
+use Rattle.rounds.specs.declared.fault.FixFault.TheVariants as fix
 use Rattle.rounds.specs.declared.fault.StrikeFault.{StrikeFault}
 use Rattle.rounds.specs.declared.fault.StrikeFault.TheVariants as strike
 use Rattle.rounds.specs.declared.fault.CloseFault.{CloseFault}
@@ -107,6 +109,19 @@ list_fault format cutoff vs (Some e) =
 abbrev pub set_fault : Table → ℕ → List Value → Option SetFault
 set_fault t n vs =
     if t.is_closed then Some set.Closed else list_fault t.format t.cutoff vs (entrant t n)
+
+-- the first cause why these are not the values of an entrant of a closed round, in which all that
+-- is allotted is done
+abbrev pub whole_fault : Format → Option (ℕ × ℕ) → List Value → Option Entrant → Option FixFault
+whole_fault format cutoff vs None = Some fix.NotEntered
+whole_fault format cutoff vs (Some e) =
+    if not (fits format cutoff vs) then Some fix.NoMoreAttempts
+    else if nat_lt (length vs) (allotted format cutoff vs) then Some fix.Unfinished
+    else None
+
+abbrev pub fix_fault : Table → ℕ → List Value → Option FixFault
+fix_fault t n vs =
+    if t.is_closed then whole_fault t.format t.cutoff vs (entrant t n) else Some fix.NotClosed
 
 -- a round in which these are the values of an entrant
 abbrev pub with_values : Table → ℕ → List Value → Table

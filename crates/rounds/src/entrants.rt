@@ -239,6 +239,19 @@ impl Entrants {
         self.started
     }
 
+    /// How many would have started, if these were the values of the entrant at an index.
+    pub(crate) fn started_with(&self, index: usize, values: &[Value]) -> u16
+        requires { index < length self.now.entrants }
+        ensures { result ≡ started (as_table false (with_values_at self.now index values.now)) }
+    {
+        let before = &self.by_number[index];
+        recounted(
+            self.started,
+            has_started(before.row.values()),
+            has_started(values),
+        )
+    }
+
     /// Whether all have done what they are allotted.
     pub(crate) fn are_finished(&self) -> bool
         ensures { result ≡ is_finished (as_table false self.now) }
@@ -267,6 +280,7 @@ impl Entrants {
     /// The cutoff of the round.
     pub(crate) fn cutoff(&self) -> Option<(u8, u32)>
         ensures value { result ≡ self.now.rules.cutoff }
+        ensures rules { IsCutoff self.now.rules.format self.now.rules.cutoff }
         ensures allotted { KeepsAllotted (as_table false self.now) }
         ensures met { IfSome result (λ cutoff. MetIsBetterIn cutoff (as_table false self.now)) }
     {

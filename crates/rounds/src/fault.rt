@@ -98,3 +98,16 @@ pub enum ReopenFault {
     /// The round is not closed.
     NotClosed,
 }
+
+/// Why an entrant of a closed round did not get other values.
+#[derive(Clone, Copy, Debug, PartialEq, Eq)]
+pub enum FixFault {
+    /// The round is not closed.
+    NotClosed,
+    /// The competitor is not entered.
+    NotEntered,
+    /// There are more values than they allot.
+    NoMoreAttempts,
+    /// There are fewer values than they allot.
+    Unfinished,
+}

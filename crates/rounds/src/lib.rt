@@ -16,8 +16,8 @@ mod table;
 mod value_row;
 
 pub use fault::{
-    CloseFault, CorrectFault, EnterFault, PutFault, ReopenFault, RulesFault, SetFault, StrikeFault,
-    WithdrawFault,
+    CloseFault, CorrectFault, EnterFault, FixFault, PutFault, ReopenFault, RulesFault, SetFault,
+    StrikeFault, WithdrawFault,
 };
 pub use kept::Kept;
 pub use laws::who_met_the_cutoff_is_better;

@@ -1,12 +1,12 @@
 -- What a frame asks of this desk.
-use Rattle.std.specs.Prelude.{◌≡◌, ℕ, ◌+◌, ◌^◌, ◌<◌, ◌≤◌, ◌==◌, ◌&&◌, if◌then◌else◌, Bool, length}
+use Rattle.std.specs.Prelude.{ℕ, ◌+◌, ◌^◌, ◌<◌, ◌≤◌, ◌==◌, ◌&&◌, if◌then◌else◌, Bool, length}
 use Rattle.std.specs.Prelude.{Option, None, Some}
 use Rattle.acceptor.specs.declared.message.Body.{Body}
 use Rattle.acceptor.specs.declared.message.Body.TheVariants as body
+use Rattle.wire.specs.Numbers.{IsFromThree}
 use Rattle.wire.specs.Ranges.{IsEntry, IsId, IsLogLength}
 use Rattle.wire.specs.declared.frame.Frame.{Frame}
 use Rattle.wire.specs.declared.values.Version.{Version}
-use Rattle.wire.specs.declared.values.Version.TheVariants.{Three}
 use Rattle.wire.specs.declared.frame.What.{What}
 use Rattle.wire.specs.declared.frame.What.TheVariants as what
 use Rattle.serving.specs.declared.ends.Close.{Close}
@@ -121,13 +121,13 @@ AsksInRange Strange = Unit {0}
 AsksInRange Ignored = Unit {0}
 AsksInRange Denied = Unit {0}
 
--- what can be asked in a version: how the desk stands, and entries of its log, in version 3 alone
+-- what can be asked in a version: how the desk stands, and entries of its log, from version 3 on
 abbrev pub IsAskedIn : Version → Request → Type 0
 IsAskedIn version (Entered e) = Unit {0}
 IsAskedIn version (Asked id) = Unit {0}
 IsAskedIn version (Printed event round position style) = Unit {0}
-IsAskedIn version Inspected = version ≡ Three
-IsAskedIn version (Copied position) = version ≡ Three
+IsAskedIn version Inspected = IsFromThree version
+IsAskedIn version (Copied position) = IsFromThree version
 IsAskedIn version (Heard m) = Unit {0}
 IsAskedIn version (Lagging m) = Unit {0}
 IsAskedIn version (Learned run) = Unit {0}

@@ -1,8 +1,9 @@
 //! Entries of a desk's log, as it answers a client that asks for them.
 
 ghost use Rattle.std.specs.Prelude.{◌≡◌, ◌≤◌, IfOk};
+ghost use Rattle.wire.specs.Numbers.{IsFromThree};
 ghost use Rattle.wire.specs.Ranges.{IsLogLength};
-ghost use Rattle.wire.specs.declared.values.Version.TheVariants.{Three};
+ghost use Rattle.wire.specs.declared.values.Version.{Version};
 ghost use Rattle.serving.specs.Answering.{IsAnswerIn, copied, entries_from};
 ghost use Rattle.serving.specs.Nodes.{Fate};
 
@@ -34,7 +35,7 @@ fn entries_from(alloc: Global, log: &Log, position: u32) -> Result<Entries, NoMe
 pub fn copied<D: Desk>(alloc: Global, node: &D, position: u32) -> What
     requires { IsLogLength position }
     ensures what { (fate : Fate) × (result ≡ copied (D.seen node.now) fate position) }
-    ensures in_range { IsAnswerIn Three result }
+    ensures in_range { (version : Version) → IsFromThree version → IsAnswerIn version result }
 {
     let log = node.log();
     let length = log.len();

@@ -2,8 +2,9 @@
 
 ghost use Rattle.std.specs.Prelude.{◌≡◌, ◌≤◌};
 ghost use Rattle.std.specs.List.{AllByRecursion};
+ghost use Rattle.wire.specs.Numbers.{IsFromThree};
 ghost use Rattle.wire.specs.Ranges.{AreLengths};
-ghost use Rattle.wire.specs.declared.values.Version.TheVariants.{Three};
+ghost use Rattle.wire.specs.declared.values.Version.{Version};
 ghost use Rattle.wire.specs.declared.frame.What.TheVariants.{Standing as StandingOf};
 ghost use Rattle.serving.specs.Answering.{IsAnswerIn, lengths_of_hall, promised_of, role_of};
 ghost use Rattle.serving.specs.Answering.{standing};
@@ -53,7 +54,7 @@ fn lengths_of_hall(desks: u8, told: [u32; 5]) -> Lengths
 /// How the desk stands.
 pub fn inspected<D: Desk>(node: &D) -> What
     ensures what { result ≡ StandingOf (standing (D.home_of node.now) (D.seen node.now)) }
-    ensures in_range { IsAnswerIn Three result }
+    ensures in_range { (version : Version) → IsFromThree version → IsAnswerIn version result }
 {
     let promised = promised_of(node.promised());
     What::Standing {

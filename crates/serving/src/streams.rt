@@ -118,6 +118,7 @@ fn spoken(wire: u8) -> Version
     ensures { result ≡ spoken wire }
 {
     match wire {
+        4 => Version::Four,
         3 => Version::Three,
         2 => Version::Two,
         _ => Version::One,
@@ -127,7 +128,7 @@ fn spoken(wire: u8) -> Version
 /// Serves a connection of a desk, frame by frame, until one of its ends: the stream's end, a Stop,
 /// 64 frames, 19,200,256 reads, a fault of the stream, a read or a write that fails, a store that
 /// fails, or want of memory. Each frame's answer is written before the next frame is begun, in the
-/// version of that frame. What is said to other desks is pushed in the version `wire`, 1 to 3; all
+/// version of that frame. What is said to other desks is pushed in the version `wire`, 1 to 4; all
 /// are read. No frame is served beyond what the connection `may` ask.
 pub fn serve_connection<D: Desk, R: Read + Drop, W: Write, P: Peers>(
     alloc: Global,

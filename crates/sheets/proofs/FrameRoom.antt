@@ -29,6 +29,6 @@ fits entries style.Text event round position text low is =
     (round_of (history entries).accepted event round) (small.rounds event round) text is
 fits entries style.Table event round position text low is =
     let small = small_history entries in
-    printed round (table_of_round (history entries).accepted event)
+    printed round (table_of_round (history entries).accepted event round)
     (λ r kept. table_short (history entries).accepted event round r small kept)
     (round_of (history entries).accepted event round) (small.rounds event round) text is

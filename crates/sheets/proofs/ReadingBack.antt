@@ -15,8 +15,10 @@ use Rattle.rounds.specs.Tables.{Entrant, Table, at_place, entrant, has_number, n
 use Rattle.rounds.specs.Tables.{place, standings}
 use Rattle.texts.specs.declared.command.Command.{Command}
 use Rattle.texts.specs.declared.command.Settings.{Settings}
+use Rattle.commands.specs.Accepted.{seen_of}
 use Rattle.commands.proofs.Sizes.{all_filter, all_flat_map}
-use Rattle.sheets.specs.Sheet.{entrant_record, header, name_text, record_of, table_of_round}
+use Rattle.sheets.specs.Sheet.{entrant_record, header, is_marked, name_text, record_of}
+use Rattle.sheets.specs.Sheet.{table_of_round}
 use Rattle.sheets.specs.ReadingBack.{TableReadsBack, fields_of_entrant}
 
 -- Lists
@@ -78,42 +80,48 @@ all_standing t =
 
 -- Records
 
+-- the record of the entrant with a number
+abbrev record_in : List Command → Event → ℕ → Settings × Table → ℕ → List ℕ
+record_in cs event round r =
+    record_of (unit_of event) cs r.0 r.1 (is_marked r.1 (seen_of cs event round))
+
 -- these numbers are those of entrants, and their records are written so
-abbrev Gathered : List Command → Event → Settings × Table → List ℕ → Type 0
-Gathered cs event r ns =
+abbrev Gathered : List Command → Event → ℕ → Settings × Table → List ℕ → Type 0
+Gathered cs event round r ns =
     (es : List Entrant) × (map number_of_entrant es ≡ ns)
     × AllByRecursion (λ e. entrant r.1 e.number ≡ Some e) es
-    × (flat_map (record_of (unit_of event) cs r.0 r.1) ns
-    ≡ rows_text (map (fields_of_entrant cs event r) es))
+    × (flat_map (record_in cs event round r) ns
+    ≡ rows_text (map (fields_of_entrant cs event round r) es))
 
-record_found : (cs : List Command) (event : Event) (r : Settings × Table) (e : Entrant)
-    → entrant r.1 e.number ≡ Some e
-    → record_of (unit_of event) cs r.0 r.1 e.number
-    ≡ row_text default_writer (fields_of_entrant cs event r e)
+record_found : (cs : List Command) (event : Event) (round : ℕ) (r : Settings × Table)
+    (e : Entrant) → entrant r.1 e.number ≡ Some e
+    → record_in cs event round r e.number
+    ≡ row_text default_writer (fields_of_entrant cs event round r e)
 unfolding entrant_record
-record_found cs event r e is =
+record_found cs event round r e is =
     ap
     (λ o. unwrap_or
-    (option_map (entrant_record (unit_of event) r.0 r.1 e.number (name_text cs e.number)) o) []) is
+    (option_map (entrant_record (unit_of event) r.0 r.1 (is_marked r.1 (seen_of cs event round))
+    e.number (name_text cs e.number)) o) []) is
 
-gather : (cs : List Command) (event : Event) (r : Settings × Table) (ns : List ℕ)
-    → AllByRecursion (IsFound r.1.entrants) ns → Gathered cs event r ns
+gather : (cs : List Command) (event : Event) (round : ℕ) (r : Settings × Table) (ns : List ℕ)
+    → AllByRecursion (IsFound r.1.entrants) ns → Gathered cs event round r ns
 unfolding rows_text
-gather cs event r [] are = ([], refl, tt, refl)
-gather cs event r (n ∷ ns) are =
+gather cs event round r [] are = ([], refl, tt, refl)
+gather cs event round r (n ∷ ns) are =
     let e = are.0.0 in
     let same : n ≡ e.number = found_number r.1.entrants n e are.0.1 in
-    let rest = gather cs event r ns are.1 in
+    let rest = gather cs event round r ns are.1 in
     let found : entrant r.1 e.number ≡ Some e =
     subst (λ (k : ℕ). entrant r.1 k ≡ Some e) same are.0.1 in
-    let here : record_of (unit_of event) cs r.0 r.1 n
-    ≡ row_text default_writer (fields_of_entrant cs event r e) =
-    ap (record_of (unit_of event) cs r.0 r.1) same ∙ record_found cs event r e found in (
+    let here : record_in cs event round r n
+    ≡ row_text default_writer (fields_of_entrant cs event round r e) =
+    ap (record_in cs event round r) same ∙ record_found cs event round r e found in (
       e ∷ rest.0,
       ap (λ k. k ∷ map number_of_entrant rest.0) (sym same) ∙ ap (λ ks. n ∷ ks) rest.1,
       (found, rest.2),
-      ap (λ x. x ++ flat_map (record_of (unit_of event) cs r.0 r.1) ns) here
-          ∙ ap (λ x. row_text default_writer (fields_of_entrant cs event r e) ++ x) rest.3,
+      ap (λ x. x ++ flat_map (record_in cs event round r) ns) here
+          ∙ ap (λ x. row_text default_writer (fields_of_entrant cs event round r e) ++ x) rest.3,
     )
 
 -- Reading
@@ -134,10 +142,11 @@ no_more : next_record default_config st.StartRecord [] [] [] ≡ None
 unfolding next_record
 no_more = refl
 
-each_has_fields : (cs : List Command) (event : Event) (r : Settings × Table) (es : List Entrant)
-    → AllByRecursion (λ fields. read_back fields ≡ fields) (map (fields_of_entrant cs event r) es)
-each_has_fields cs event r [] = tt
-each_has_fields cs event r (e ∷ es) = (refl, each_has_fields cs event r es)
+each_has_fields : (cs : List Command) (event : Event) (round : ℕ) (r : Settings × Table)
+    (es : List Entrant) → AllByRecursion (λ fields. read_back fields ≡ fields)
+    (map (fields_of_entrant cs event round r) es)
+each_has_fields cs event round r [] = tt
+each_has_fields cs event round r (e ∷ es) = (refl, each_has_fields cs event round r es)
 
 -- the table begins with the name of a column, and so with no mark of an order of bytes
 no_mark : (n : ℕ) (rest : List ℕ)
@@ -146,30 +155,30 @@ no_mark : (n : ℕ) (rest : List ℕ)
 unfolding strip_bom
 no_mark n rest = refl
 
-table_rows : (cs : List Command) (event : Event) (r : Settings × Table)
-    → (g : Gathered cs event r (standings r.1))
-    → table_of_round cs event r
-    ≡ rows_text (header (attempts_of r.0.format) ∷ map (fields_of_entrant cs event r) g.0)
+table_rows : (cs : List Command) (event : Event) (round : ℕ) (r : Settings × Table)
+    → (g : Gathered cs event round r (standings r.1))
+    → table_of_round cs event round r
+    ≡ rows_text (header (attempts_of r.0.format) ∷ map (fields_of_entrant cs event round r) g.0)
 unfolding rows_text
-table_rows cs event r g =
+table_rows cs event round r g =
     ap (λ x. row_text default_writer (header (attempts_of r.0.format)) ++ x) g.3
 
 pub reads_back : TableReadsBack
 reads_back cs event round r is =
-    let g = gather cs event r (standings r.1) (all_standing r.1) in
-    let rows = header (attempts_of r.0.format) ∷ map (fields_of_entrant cs event r) g.0 in
-    let text = table_rows cs event r g in
+    let g = gather cs event round r (standings r.1) (all_standing r.1) in
+    let rows = header (attempts_of r.0.format) ∷ map (fields_of_entrant cs event round r) g.0 in
+    let text = table_rows cs event round r g in
     let plain = no_mark (attempts_of r.0.format)
-    (flat_map (record_of (unit_of event) cs r.0 r.1) (standings r.1)) in (
-      table_of_round cs event r,
-      ap (option_map (table_of_round cs event)) is,
+    (flat_map (record_in cs event round r) (standings r.1)) in (
+      table_of_round cs event round r,
+      ap (option_map (table_of_round cs event round)) is,
       g.0,
       (g.1, g.2),
       (
         st.StartRecord,
         [],
         subst (λ (x : List ℕ). Reached default_config st.StartRecord x rows st.StartRecord [])
-            (sym (plain ∙ text)) (reached rows (refl, each_has_fields cs event r g.0)),
+            (sym (plain ∙ text)) (reached rows (refl, each_has_fields cs event round r g.0)),
         no_more,
       ),
     )

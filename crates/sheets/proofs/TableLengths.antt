@@ -17,7 +17,7 @@ use Rattle.formats.specs.Results.{average_of, average_text}
 use Rattle.rounds.specs.Tables.{Entrant, Table, entrant, place, standings}
 use Rattle.texts.specs.declared.command.Command.{Command}
 use Rattle.texts.specs.declared.command.Settings.{Settings}
-use Rattle.commands.specs.Accepted.{name_of}
+use Rattle.commands.specs.Accepted.{name_of, seen_of}
 use Rattle.commands.proofs.Sizes.{IsSmall, IsSmallName, IsSmallRound, IsSmallEntrant}
 use Rattle.commands.proofs.Sizes.{standings_few}
 use Rattle.sheets.specs.Sheet.{attempt_text, best_text, is_marked, name_text, yes_or_no, header}
@@ -173,28 +173,30 @@ fields_of_short unit n at number name average vs marked columns low small short 
     (fields_short 15 84 (best_text unit vs) _ (field_plain 15 (best_text unit vs)
     (plain_best unit vs are)) last))))
 
-record_short : (unit : Measure) (settings : Settings) (t : Table) (number : ℕ) (name : List ℕ)
-    (e : Entrant) → length t.entrants ≤ 999 → IsSmallName name → IsShown number e
-    → length (entrant_record unit settings t number name e) ≤ 291
+record_short : (unit : Measure) (settings : Settings) (t : Table) (marks : ℕ → Bool) (number : ℕ)
+    (name : List ℕ) (e : Entrant) → length t.entrants ≤ 999 → IsSmallName name → IsShown number e
+    → length (entrant_record unit settings t marks number name e) ≤ 291
 unfolding entrant_record
-record_short unit settings t number name e few short is =
+record_short unit settings t marks number name e few short is =
     fields_of_short unit (attempts_of settings.format) (place t e) number name
-    (average_of t.format t.unit e.values) e.values (is_marked settings t number)
+    (average_of t.format t.unit e.values) e.values (marks number)
     (at_most_five settings.format) (place_small t few e) is.number short
     (plain_average unit t.format t.unit e.values is.parts.values) is.parts.values
 
 record_of_short : (unit : Measure) (cs : List Command) (settings : Settings) (t : Table)
-    → IsSmall cs → length t.entrants ≤ 999 → AllByRecursion IsSmallEntrant t.entrants → (n : ℕ)
-    → length (record_of unit cs settings t n) ≤ 291
-record_of_short unit cs settings t small few are n = step (entrant t n) (shown t are n)
+    (marks : ℕ → Bool) → IsSmall cs → length t.entrants ≤ 999
+    → AllByRecursion IsSmallEntrant t.entrants → (n : ℕ)
+    → length (record_of unit cs settings t marks n) ≤ 291
+record_of_short unit cs settings t marks small few are n = step (entrant t n) (shown t are n)
   where
     step : (o : Option Entrant) → IfSome o (IsShown n)
-        → length (unwrap_or (option_map (entrant_record unit settings t n (name_text cs n)) o) [])
+        → length
+        (unwrap_or (option_map (entrant_record unit settings t marks n (name_text cs n)) o) [])
         ≤ 291
     step None is = omega arith
     step (Some e) is =
-        record_short unit settings t n (name_text cs n) e few (name_given_small (name_of cs n)
-        (small.names n)) is
+        record_short unit settings t marks n (name_text cs n) e few
+        (name_given_small (name_of cs n) (small.names n)) is
 
 header_short : (n : ℕ) → n ≤ 5 → length (row_text default_writer (header n)) ≤ 1060
 header_short n few =
@@ -212,16 +214,17 @@ header_short n few =
 
 -- the table of a round
 pub table_short : (cs : List Command) (event : Event) (round : ℕ) (r : Settings × Table)
-    → IsSmall cs → IsSmallRound round r → length (table_of_round cs event r) ≤ 299992
+    → IsSmall cs → IsSmallRound round r → length (table_of_round cs event round r) ≤ 299992
 table_short cs event round r small is =
+    let marks : ℕ → Bool = is_marked r.1 (seen_of cs event round) in
     let records =
-    each_short 291 (record_of (unit_of event) cs r.0 r.1)
-    (record_of_short (unit_of event) cs r.0 r.1 small is.few is.entrants) (standings r.1) in
+    each_short 291 (record_of (unit_of event) cs r.0 r.1 marks)
+    (record_of_short (unit_of event) cs r.0 r.1 marks small is.few is.entrants) (standings r.1) in
     let count = standings_few r.1 in
     let few = is.few in
     let whole =
     append_short 1060 290709 (row_text default_writer (header (attempts_of r.0.format)))
-    (flat_map (record_of (unit_of event) cs r.0 r.1) (standings r.1))
+    (flat_map (record_of (unit_of event) cs r.0 r.1 marks) (standings r.1))
     (header_short (attempts_of r.0.format) (at_most_five r.0.format)) (omega (
       arith,
       records,

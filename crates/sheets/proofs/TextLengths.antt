@@ -16,7 +16,7 @@ use Rattle.formats.specs.Results.{average_of, average_text}
 use Rattle.rounds.specs.Tables.{Entrant, Table, entrant, place, standings}
 use Rattle.texts.specs.declared.command.Command.{Command}
 use Rattle.texts.specs.declared.command.Settings.{Settings}
-use Rattle.commands.specs.Accepted.{name_of}
+use Rattle.commands.specs.Accepted.{name_of, seen_of}
 use Rattle.texts.specs.Spelling.{IsFitSettings, cutoff_text, limit_text, advance_text}
 use Rattle.texts.proofs.FieldSpellings.{event_short, format_short, cutoff_short, limit_short}
 use Rattle.texts.proofs.FieldSpellings.{advance_short}
@@ -128,43 +128,45 @@ person_short number marked name low short =
     (append_short 161 1 (codes " " ++ name) (codes "\n") (append_short 1 160 (codes " ") name
     (omega arith) short) (omega arith))
 
-entrant_line_short : (unit : Measure) (settings : Settings) (t : Table) (number : ℕ) (name : List ℕ)
-    (e : Entrant) → length t.entrants ≤ 999 → length name ≤ 160 → IsShown number e
-    → length (entrant_line unit settings t number name e) ≤ 285
+entrant_line_short : (unit : Measure) (settings : Settings) (t : Table) (marks : ℕ → Bool)
+    (number : ℕ) (name : List ℕ) (e : Entrant) → length t.entrants ≤ 999 → length name ≤ 160
+    → IsShown number e → length (entrant_line unit settings t marks number name e) ≤ 285
 unfolding entrant_line
-entrant_line_short unit settings t number name e few short is =
+entrant_line_short unit settings t marks number name e few short is =
     append_short 116 169 (results unit (place t e) (average_of t.format t.unit e.values) e.values
     ++ attempts unit (attempts_of settings.format) e.values)
-    (person number (is_marked settings t number) name)
+    (person number (marks number) name)
     (append_short 36 80 (results unit (place t e) (average_of t.format t.unit e.values) e.values)
     (attempts unit (attempts_of settings.format) e.values)
     (results_short unit (place t e) (average_of t.format t.unit e.values) e.values
     (place_small t few e) (plain_average unit t.format t.unit e.values is.parts.values)
     (plain_best unit e.values is.parts.values))
     (attempts_short unit settings.format e.values is.parts.values))
-    (person_short number (is_marked settings t number) name is.number short)
+    (person_short number (marks number) name is.number short)
 
-line_short : (unit : Measure) (cs : List Command) (settings : Settings) (t : Table) → IsSmall cs
-    → length t.entrants ≤ 999 → AllByRecursion IsSmallEntrant t.entrants → (n : ℕ)
-    → length (line_of unit cs settings t n) ≤ 285
-line_short unit cs settings t small few are n = step (entrant t n) (shown t are n)
+line_short : (unit : Measure) (cs : List Command) (settings : Settings) (t : Table)
+    (marks : ℕ → Bool) → IsSmall cs → length t.entrants ≤ 999
+    → AllByRecursion IsSmallEntrant t.entrants → (n : ℕ)
+    → length (line_of unit cs settings t marks n) ≤ 285
+line_short unit cs settings t marks small few are n = step (entrant t n) (shown t are n)
   where
     step : (o : Option Entrant) → IfSome o (IsShown n)
-        → length (unwrap_or (option_map (entrant_line unit settings t n (name_text cs n)) o) [])
-        ≤ 285
+        → length
+        (unwrap_or (option_map (entrant_line unit settings t marks n (name_text cs n)) o) []) ≤ 285
     step None is = omega arith
     step (Some e) is =
-        entrant_line_short unit settings t n (name_text cs n) e few (name_given_short (name_of cs n)
-        (small.names n)) is
+        entrant_line_short unit settings t marks n (name_text cs n) e few
+        (name_given_short (name_of cs n) (small.names n)) is
 
 -- the text of a round
 pub text_short : (cs : List Command) (event : Event) (round position : ℕ) (r : Settings × Table)
     → IsSmall cs → IsSmallRound round r → position < 2 ^ 32
     → length (text_of_round cs event round position r) ≤ 299992
 text_short cs event round position r small is fits =
+    let marks : ℕ → Bool = is_marked r.1 (seen_of cs event round) in
     let lines =
-    each_short 285 (line_of (unit_of event) cs r.0 r.1)
-    (line_short (unit_of event) cs r.0 r.1 small is.few is.entrants) (standings r.1) in
+    each_short 285 (line_of (unit_of event) cs r.0 r.1 marks)
+    (line_short (unit_of event) cs r.0 r.1 marks small is.few is.entrants) (standings r.1) in
     let count = standings_few r.1 in
     let few = is.few in
     let top =
@@ -174,6 +176,6 @@ text_short cs event round position r small is fits =
     (second_short r.0 is.settings) in
     let whole =
     append_short 461 284715 (first_line event round r.0 r.1.is_closed position
-    ++ second_line r.0) (flat_map (line_of (unit_of event) cs r.0 r.1) (standings r.1)) top
+    ++ second_line r.0) (flat_map (line_of (unit_of event) cs r.0 r.1 marks) (standings r.1)) top
     (omega (arith, lines, count, few)) in
     omega (arith, whole)

@@ -9,7 +9,7 @@ use Rattle.formats.specs.Results.{average_of}
 use Rattle.rounds.specs.Tables.{Entrant, Table, entrant, number_of_entrant, place, standings}
 use Rattle.texts.specs.declared.command.Command.{Command}
 use Rattle.texts.specs.declared.command.Settings.{Settings}
-use Rattle.commands.specs.Accepted.{round_of}
+use Rattle.commands.specs.Accepted.{round_of, seen_of}
 use Rattle.sheets.specs.Sheet.{entrant_fields, header, is_marked, name_text, table_sheet}
 
 -- the round's entrants in order of its standings
@@ -19,11 +19,12 @@ AreInOrder t es =
     × AllByRecursion (λ e. entrant t e.number ≡ Some e) es
 
 -- place, number, name, average, best, attempts and mark of an entrant, as they are printed
-abbrev pub fields_of_entrant : List Command → Event → Settings × Table → Entrant → List (List ℕ)
-fields_of_entrant cs event r e =
+abbrev pub fields_of_entrant : List Command → Event → ℕ → Settings × Table → Entrant
+    → List (List ℕ)
+fields_of_entrant cs event round r e =
     entrant_fields (unit_of event) (attempts_of r.0.format) (place r.1 e) e.number
     (name_text cs e.number) (average_of r.1.format r.1.unit e.values) e.values
-    (is_marked r.0 r.1 e.number)
+    (is_marked r.1 (seen_of cs event round) e.number)
 
 -- of every round that was opened, the table reads as the header, and then one record for each
 -- entrant in order of standings
@@ -34,4 +35,4 @@ TableReadsBack =
     → (text : List ℕ) × (table_sheet cs event round ≡ Some text)
     × (es : List Entrant) × AreInOrder r.1 es
     × AreRecords default_config st.StartRecord (strip_bom text)
-    (header (attempts_of r.0.format) ∷ map (fields_of_entrant cs event r) es)
+    (header (attempts_of r.0.format) ∷ map (fields_of_entrant cs event round r) es)

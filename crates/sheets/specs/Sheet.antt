@@ -2,7 +2,7 @@
 -- position. Its two forms are this project's own, in every edition.
 use Rattle.std.specs.Prelude.{ℕ, ◌-◌, Bool, true, false, ◌&&◌, List, [], ◌∷◌, ◌++◌, length}
 use Rattle.std.specs.Prelude.{replicate, map, flat_map, slice_get, unwrap_or, codes, decimal}
-use Rattle.std.specs.Prelude.{Option}
+use Rattle.std.specs.Prelude.{Option, None, Some}
 use Rattle.std.specs.List.{range_with_len}
 use Rattle.std.specs.Option.{option_map}
 use Rattle.csv.specs.Writing.{row_text, default_writer}
@@ -20,7 +20,7 @@ use Rattle.texts.specs.declared.command.Settings.{Settings}
 use Rattle.advancement.specs.Advancing.{goes_on}
 use Rattle.texts.specs.Spelling.{cutoff_text, limit_text, advance_text}
 use Rattle.rounds.specs.Tables.{Entrant, Table, entrant, place, standings}
-use Rattle.commands.specs.Accepted.{name_of, round_of}
+use Rattle.commands.specs.Accepted.{name_of, round_of, seen_of}
 use Rattle.sheets.specs.declared.Style.{Style}
 use Rattle.sheets.specs.declared.Style.TheVariants as style
 
@@ -44,9 +44,15 @@ attempt_text unit vs k = unwrap_or (option_map (value_text unit) (slice_get vs k
 abbrev pub name_text : List Command → ℕ → List ℕ
 name_text cs n = unwrap_or (name_of cs n) []
 
--- who advances is marked once the round is closed
-abbrev pub is_marked : Settings → Table → ℕ → Bool
-is_marked settings t n = t.is_closed && goes_on t settings.advance n
+-- a number goes on from a round: it is one of those who advance
+abbrev pub goes_through : Option (Settings × Table) → ℕ → Bool
+goes_through None n = false
+goes_through (Some round) n = goes_on round.1 round.0.advance n
+
+-- who goes on is marked once the round is closed. Of a round whose next one is opened it is asked
+-- as it was then: whoever went on stays marked, though the attempts were fixed since.
+abbrev pub is_marked : Table → Option (Settings × Table) → ℕ → Bool
+is_marked t seen n = t.is_closed && goes_through seen n
 
 -- ---- the text
 
@@ -100,21 +106,23 @@ person number marked name =
     codes " " ++ right 4 (decimal number) ++ codes " " ++ mark marked
     ++ (codes " " ++ name ++ codes "\n")
 
-unfoldable pub entrant_line : Measure → Settings → Table → ℕ → List ℕ → Entrant → List ℕ
-entrant_line unit settings t number name e =
+unfoldable pub entrant_line : Measure → Settings → Table → (ℕ → Bool) → ℕ → List ℕ → Entrant
+    → List ℕ
+entrant_line unit settings t marks number name e =
     results unit (place t e) (average_of t.format t.unit e.values) e.values
     ++ attempts unit (attempts_of settings.format) e.values
-    ++ person number (is_marked settings t number) name
+    ++ person number (marks number) name
 
 -- the line of the entrant with a number
-abbrev pub line_of : Measure → List Command → Settings → Table → ℕ → List ℕ
-line_of unit cs settings t n =
-    unwrap_or (option_map (entrant_line unit settings t n (name_text cs n)) (entrant t n)) []
+abbrev pub line_of : Measure → List Command → Settings → Table → (ℕ → Bool) → ℕ → List ℕ
+line_of unit cs settings t marks n =
+    unwrap_or (option_map (entrant_line unit settings t marks n (name_text cs n)) (entrant t n)) []
 
 abbrev pub text_of_round : List Command → Event → ℕ → ℕ → Settings × Table → List ℕ
 text_of_round cs event round position r =
     first_line event round r.0 r.1.is_closed position ++ second_line r.0
-    ++ flat_map (line_of (unit_of event) cs r.0 r.1) (standings r.1)
+    ++ flat_map (line_of (unit_of event) cs r.0 r.1 (is_marked r.1 (seen_of cs event round)))
+    (standings r.1)
 
 -- the text, where the round was opened
 abbrev pub text_sheet : List Command → Event → ℕ → ℕ → Option (List ℕ)
@@ -148,25 +156,28 @@ entrant_fields unit n place number name average vs marked =
     ++ yes_or_no marked ∷ []
 
 -- the record of an entrant, as the CSV writer writes it
-unfoldable pub entrant_record : Measure → Settings → Table → ℕ → List ℕ → Entrant → List ℕ
-entrant_record unit settings t number name e =
+unfoldable pub entrant_record : Measure → Settings → Table → (ℕ → Bool) → ℕ → List ℕ → Entrant
+    → List ℕ
+entrant_record unit settings t marks number name e =
     row_text default_writer (entrant_fields unit (attempts_of settings.format)
     (place t e) number name (average_of t.format t.unit e.values) e.values
-    (is_marked settings t number))
+    (marks number))
 
 -- the record of the entrant with a number
-abbrev pub record_of : Measure → List Command → Settings → Table → ℕ → List ℕ
-record_of unit cs settings t n =
-    unwrap_or (option_map (entrant_record unit settings t n (name_text cs n)) (entrant t n)) []
+abbrev pub record_of : Measure → List Command → Settings → Table → (ℕ → Bool) → ℕ → List ℕ
+record_of unit cs settings t marks n =
+    unwrap_or (option_map (entrant_record unit settings t marks n (name_text cs n)) (entrant t n))
+    []
 
-abbrev pub table_of_round : List Command → Event → Settings × Table → List ℕ
-table_of_round cs event r =
+abbrev pub table_of_round : List Command → Event → ℕ → Settings × Table → List ℕ
+table_of_round cs event round r =
     row_text default_writer (header (attempts_of r.0.format))
-    ++ flat_map (record_of (unit_of event) cs r.0 r.1) (standings r.1)
+    ++ flat_map (record_of (unit_of event) cs r.0 r.1 (is_marked r.1 (seen_of cs event round)))
+    (standings r.1)
 
 -- the table, where the round was opened
 abbrev pub table_sheet : List Command → Event → ℕ → Option (List ℕ)
-table_sheet cs event round = option_map (table_of_round cs event) (round_of cs event round)
+table_sheet cs event round = option_map (table_of_round cs event round) (round_of cs event round)
 
 -- ---- either
 

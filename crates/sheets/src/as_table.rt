@@ -5,16 +5,16 @@ ghost use Rattle.std.specs.List.{range_with_len};
 ghost use Rattle.csv.specs.Writing.{row_text, default_writer};
 ghost use Rattle.csv.specs.Records.{fields_of, partial_of};
 ghost use Rattle.formats.specs.Results.{best_of};
-ghost use Rattle.advancement.specs.Advancing.{IsBorder};
 ghost use Rattle.sheets.specs.Sheet.{attempt_text, yes_or_no, header, result_fields, table_sheet};
 ghost use Rattle.sheets.specs.Faults.{NoSheet};
 ghost use Rattle.sheets.specs.model.Output.{AddsFields, IsReady, Adds, held};
-ghost use Rattle.sheets.specs.model.Shown.{fields_shown, record_shown, table_shown};
+ghost use Rattle.sheets.specs.model.Shown.{IsOpened, TellsShown, fields_shown, record_shown};
+ghost use Rattle.sheets.specs.model.Shown.{table_shown};
 
-use crate::SheetFault;
 use crate::shown::{
     Shown, attempt_text, best_text, decimal_text, is_marked, name_text, shown_round,
 };
+use crate::{GoingOn, SheetFault};
 use attempts::{NoMemory, Unit, Value};
 use commands::Meet;
 use csv::{ByteRecord, Writer};
@@ -179,16 +179,17 @@ fn write_entrant(
     writer: &mut Writer<Vec<u8>>,
     alloc: Global,
     shown: Shown<'_>,
+    going_on: &GoingOn,
     number: u16,
 ) -> Result<(), NoMemory>
     requires ready { IsReady writer.old }
-    requires border { IsBorder shown.table.now shown.settings.advance shown.border }
+    requires who { TellsShown shown going_on.now }
     ensures { OnOk result (Adds writer.old writer.new (record_shown shown.entry number)) }
 {
     let Some(row) = shown.table.row(number) else {
         return Ok(());
     };
-    let marked = is_marked(shown, row);
+    let marked = is_marked(shown, going_on, number, row);
     let fields = entrant_fields(alloc, shown, row, number, marked)?;
     write_record(writer, &fields)
 }
@@ -198,15 +199,16 @@ fn write_entrants(
     writer: &mut Writer<Vec<u8>>,
     alloc: Global,
     shown: Shown<'_>,
+    going_on: &GoingOn,
     numbers: &[u16],
 ) -> Result<(), NoMemory>
     requires ready { IsReady writer.old }
-    requires border { IsBorder shown.table.now shown.settings.advance shown.border }
+    requires who { TellsShown shown going_on.now }
     ensures { OnOk result
         (Adds writer.old writer.new (flat_map (record_shown shown.entry) numbers.now)) }
 {
     for number in numbers {
-        write_entrant(writer, alloc, shown, *number)?;
+        write_entrant(writer, alloc, shown, going_on, *number)?;
     }
     Ok(())
 }
@@ -223,14 +225,15 @@ fn text_held(writer: Writer<Vec<u8>>) -> Result<Vec<u8>, NoMemory>
 
 /// The table of a round.
 fn table_of(alloc: Global, shown: Shown<'_>) -> Result<Vec<u8>, NoMemory>
-    requires { IsBorder shown.table.now shown.settings.advance shown.border }
+    requires { IsOpened shown }
     ensures { IfOk result (λ text. text.items ≡ table_shown shown.entry) }
 {
     let numbers = shown.table.standings()?;
+    let going_on = GoingOn::from_round(alloc, shown.meet, shown.event, shown.round)?;
     let names = header(alloc, attempts_of(shown.settings.format))?;
     let mut writer = Writer::from_writer(Vec::new(alloc));
     write_record(&mut writer, &names)?;
-    write_entrants(&mut writer, alloc, shown, &numbers)?;
+    write_entrants(&mut writer, alloc, shown, &going_on, &numbers)?;
     text_held(writer)
 }
 

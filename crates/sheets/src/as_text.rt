@@ -1,17 +1,16 @@
 //! The sheet as text.
 
 ghost use Rattle.std.specs.Prelude.{◌≡◌, ◌++◌, IfOk, OnOk, IfErr, flat_map, codes, Some};
-ghost use Rattle.advancement.specs.Advancing.{IsBorder};
 ghost use Rattle.formats.specs.Results.{best_of};
 ghost use Rattle.sheets.specs.Sheet.{right, columns, mark, state_text, title, standing, first_line};
 ghost use Rattle.sheets.specs.Sheet.{second_line, results, attempts, person, text_sheet};
 ghost use Rattle.sheets.specs.Faults.{NoSheet};
-ghost use Rattle.sheets.specs.model.Shown.{line_shown, text_shown};
+ghost use Rattle.sheets.specs.model.Shown.{IsOpened, TellsShown, line_shown, text_shown};
 
-use crate::SheetFault;
 use crate::shown::{
     Shown, attempt_text, best_text, decimal_text, is_marked, name_text, shown_round,
 };
+use crate::{GoingOn, SheetFault};
 use attempts::{NoMemory, Unit, Value, push_decimal};
 use commands::{Meet, Settings, print_advance, print_cutoff, print_limit};
 use formats::{Event, Format, attempts_of, print_average, unit_of};
@@ -177,9 +176,10 @@ fn push_line(
     out: &mut Vec<u8>,
     alloc: Global,
     shown: Shown<'_>,
+    going_on: &GoingOn,
     number: u16,
 ) -> Result<(), NoMemory>
-    requires { IsBorder shown.table.now shown.settings.advance shown.border }
+    requires { TellsShown shown going_on.now }
     ensures { OnOk result (out.new.items ≡ out.old.items ++ line_shown shown.entry number) }
 {
     let Some(row) = shown.table.row(number) else {
@@ -194,7 +194,7 @@ fn push_line(
         attempts_of(shown.settings.format),
         unit,
     )?;
-    let marked = is_marked(shown, row);
+    let marked = is_marked(shown, going_on, number, row);
     push_person(out, alloc, number, marked, name_text(shown.meet, number))?;
     Ok(())
 }
@@ -204,36 +204,38 @@ fn push_lines(
     out: &mut Vec<u8>,
     alloc: Global,
     shown: Shown<'_>,
+    going_on: &GoingOn,
     numbers: &[u16],
 ) -> Result<(), NoMemory>
-    requires { IsBorder shown.table.now shown.settings.advance shown.border }
+    requires { TellsShown shown going_on.now }
     ensures { OnOk result
         (out.new.items ≡ out.old.items ++ flat_map (line_shown shown.entry) numbers.now) }
 {
     for number in numbers {
-        push_line(out, alloc, shown, *number)?;
+        push_line(out, alloc, shown, going_on, *number)?;
     }
     Ok(())
 }
 
 /// The sheet of a round.
-fn text_of(alloc: Global, shown: Shown<'_>, round: u8, position: u32) -> Result<Vec<u8>, NoMemory>
-    requires { IsBorder shown.table.now shown.settings.advance shown.border }
-    ensures { IfOk result (λ text. text.items ≡ text_shown shown.entry round position) }
+fn text_of(alloc: Global, shown: Shown<'_>, position: u32) -> Result<Vec<u8>, NoMemory>
+    requires { IsOpened shown }
+    ensures { IfOk result (λ text. text.items ≡ text_shown shown.entry position) }
 {
     let numbers = shown.table.standings()?;
+    let going_on = GoingOn::from_round(alloc, shown.meet, shown.event, shown.round)?;
     let mut out = Vec::new(alloc);
     let closed = shown.table.is_closed();
     push_first_line(
         &mut out,
         shown.event,
-        round,
+        shown.round,
         shown.settings,
         closed,
         position,
     )?;
     push_second_line(&mut out, alloc, shown.settings)?;
-    push_lines(&mut out, alloc, shown, &numbers)?;
+    push_lines(&mut out, alloc, shown, &going_on, &numbers)?;
     Ok(out)
 }
 
@@ -244,7 +246,8 @@ fn text_of(alloc: Global, shown: Shown<'_>, round: u8, position: u32) -> Result<
 /// second) and the advance. Then each entrant has a line, in order of place, and at one place in
 /// order of entry: place, average, best, each attempt of the format, number, mark and name. A value
 /// that is not there is `-`. Results stand on the right of nine columns, and of eleven in
-/// multi-blind. The mark is `Q` once the round is closed and the competitor advances.
+/// multi-blind. The mark is `Q` once the round is closed and the competitor advances; where the
+/// next round is opened, that is as it was then.
 ///
 /// # Errors
 ///
@@ -265,7 +268,7 @@ pub fn text(
     let Some(shown) = shown_round(meet, event, round) else {
         return Err(SheetFault::NoSuchRound);
     };
-    match text_of(alloc, shown, round, position) {
+    match text_of(alloc, shown, position) {
         Ok(text) => Ok(text),
         Err(NoMemory) => Err(SheetFault::NoMemory),
     }

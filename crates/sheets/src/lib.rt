@@ -3,6 +3,7 @@
 
 mod as_table;
 mod as_text;
+mod going_on;
 mod laws;
 mod reading_back;
 mod shown;
@@ -10,6 +11,7 @@ mod styled;
 
 pub use as_table::table;
 pub use as_text::text;
+pub use going_on::GoingOn;
 pub use laws::{fits_in_a_frame, later_editions_change_no_sheet};
 pub use reading_back::table_reads_back;
 pub use styled::sheet;

@@ -1,14 +1,14 @@
 //! What both forms of a sheet say of an entrant, as texts.
 
-ghost use Rattle.std.specs.Prelude.{◌≡◌, ℕ, IfOk, IfSome, decimal, option_map};
+ghost use Rattle.std.specs.Prelude.{◌≡◌, IfOk, IfSome, decimal, option_map};
 ghost use Rattle.formats.specs.Results.{best_of};
-ghost use Rattle.advancement.specs.Advancing.{IsBorder};
 ghost use Rattle.commands.specs.Accepted.{round_of};
 ghost use Rattle.rounds.specs.Rows.{IsRow};
 ghost use Rattle.rounds.specs.Tables.{Entrant};
-ghost use Rattle.sheets.specs.Sheet.{best_text, attempt_text, name_text, is_marked};
+ghost use Rattle.sheets.specs.Sheet.{best_text, attempt_text, name_text};
+ghost use Rattle.sheets.specs.model.Shown.{IsOpened, TellsShown, marks_shown};
 
-use advancement::{border, is_through};
+use crate::GoingOn;
 use attempts::{NoMemory, Unit, Value, print_value, push_decimal};
 use commands::{Meet, Settings};
 use formats::Event;
@@ -20,20 +20,19 @@ use std::alloc::Global;
 pub struct Shown<'a> {
     pub meet: &'a Meet,
     pub event: Event,
+    pub round: u8,
     pub settings: Settings,
     pub table: &'a RoundTable,
-    /// The place at which nobody advances any more: it is found once for all entrants.
-    pub border: u16,
 }
 
 /// The round to show, if it was opened.
 pub fn shown_round(meet: &Meet, event: Event, round: u8) -> Option<Shown<'_>>
     ensures meet { IfSome result (λ shown. shown.meet.now ≡ meet.now) }
     ensures event { IfSome result (λ shown. shown.event ≡ event) }
+    ensures number { IfSome result (λ shown. shown.round ≡ round) }
     ensures round { option_map (λ shown. (shown.settings, shown.table.now)) result
         ≡ round_of meet.now.accepted event round }
-    ensures border { IfSome result (λ shown.
-        IsBorder shown.table.now shown.settings.advance shown.border) }
+    ensures opened { IfSome result IsOpened }
 {
     let (Some(table), Some(settings)) = (meet.round(event, round), meet.settings(event, round))
     else {
@@ -42,9 +41,9 @@ pub fn shown_round(meet: &Meet, event: Event, round: u8) -> Option<Shown<'_>>
     Some(Shown {
         meet,
         event,
+        round,
         settings,
         table,
-        border: border(table, settings.advance),
     })
 }
 
@@ -100,13 +99,10 @@ pub fn name_text(meet: &Meet, number: u16) -> &[u8]
 }
 
 /// Whether the sheet marks the entrant of a row as one who advances.
-pub fn is_marked(shown: Shown<'_>, row: Row<'_>) -> bool
-    requires { IsBorder shown.table.now shown.settings.advance shown.border }
-    ensures { (number : ℕ) (e : Entrant) → IsRow shown.entry.table.now number e row.entry
-        → result ≡ is_marked shown.entry.settings shown.entry.table.now number }
+pub fn is_marked(shown: Shown<'_>, going_on: &GoingOn, number: u16, row: Row<'_>) -> bool
+    requires { TellsShown shown going_on.now }
+    ensures { (e : Entrant) → IsRow shown.entry.table.now number e row.entry
+        → result ≡ marks_shown shown.entry number }
 {
-    if !shown.table.is_closed() {
-        return false;
-    }
-    is_through(row.best, row.place, shown.border)
+    shown.table.is_closed() && going_on.includes(number, row)
 }

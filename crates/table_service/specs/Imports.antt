@@ -9,6 +9,7 @@ use Rattle.form_data.specs.declared.bodies.Part.{Part}
 use Rattle.hall_views.specs.Refused.{faults_page}
 use Rattle.texts.specs.declared.command.Command.{Command}
 use Rattle.wcif.specs.declared.file.FileFault.{FileFault}
+use Rattle.wcif.specs.declared.options.Edition.TheVariants.{Four}
 use Rattle.wcif.specs.declared.options.Options.{Options}
 use Rattle.wcif.specs.declared.options.CumulativeLimits.TheVariants as limits
 use Rattle.wcif.specs.declared.options.SameNames.TheVariants as names
@@ -35,6 +36,7 @@ content_of name (part ∷ parts) =
 -- how the file is to be read
 abbrev pub options_of : List (List ℕ × List ℕ) → Options
 options_of parts = record {
+  edition = Four;
   limits =
       if bytes_eq (content_of (codes "cumulative") parts) (codes "as-single") then limits.AsSingle
       else limits.Refuse;

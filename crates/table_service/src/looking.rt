@@ -18,7 +18,7 @@ use http::{Request, header};
 use std::alloc::{AllocError, Global};
 use table_views::Around;
 use texts::Answer;
-use wcif::{CumulativeLimits, Options, SameNames};
+use wcif::{CumulativeLimits, Edition, Options, SameNames};
 
 /// The page that commands are sent from.
 const PLACE: &[u8] = b"/import";
@@ -106,6 +106,7 @@ fn options_of(parts: &[Part<'_>]) -> Options
     ensures { result ≡ options_of (map named parts.now) }
 {
     Options {
+        edition: Edition::Four,
         limits: if content_of(parts, b"cumulative") == b"as-single".as_slice() {
             CumulativeLimits::AsSingle
         } else {

@@ -46,7 +46,7 @@ prefix_len-all p (b ∷ bytes) h =
     let rest = prefix_len-all p bytes both.1 in
     rw (both.0, rest) (omega arith)
 
-eqb-same : (n : ℕ) → (n == n) ≡ true
+pub eqb-same : (n : ℕ) → (n == n) ≡ true
 eqb-same n = grind (arith, nat_tests)
 
 -- a byte that is not in front is the first after it

@@ -7,66 +7,51 @@ use Rattle.std.specs.Option.{ok_or}
 use Rattle.std.proofs.lemmas.Bool.{false≢true}
 use Rattle.std.proofs.lemmas.Bool.Decides.{nat_tests}
 use Rattle.texts.specs.declared.command.Command.{Command}
+use Rattle.texts.specs.declared.command.Remarked.{Remarked}
 use Rattle.texts.specs.declared.reading.CommandFault.{CommandFault}
 use Rattle.texts.specs.declared.reading.CommandFault.TheVariants as fault
-use Rattle.texts.specs.declared.table.FieldKind.{FieldKind}
 use Rattle.texts.specs.declared.value.FieldValue.{FieldValue}
 use Rattle.texts.specs.Fields.{cut}
 use Rattle.texts.specs.Parts.{made_of}
-use Rattle.texts.specs.Reading.{◌>>=◌, Gives, TakesMemory, by_row, command_of, field_of, next_of}
-use Rattle.texts.specs.Reading.{no_field, value_of, values_of}
+use Rattle.texts.specs.Names.{is_remark}
+use Rattle.texts.specs.Reading.{◌>>=◌, Gives, TakesMemory, before_remark, by_row, command_of, told}
+use Rattle.texts.specs.Reading.{values_of, with_remark}
 use Rattle.texts.specs.Table.{TheRow, is_word, row_named, rows}
+use Rattle.texts.proofs.Memory.{IsFrom, later, values_from}
 use Rattle.texts.proofs.Words.{made_row}
 
--- what is read of fields: a value, or a field at fault
-abbrev IsOfFields : {A : Type 0} → Result A CommandFault → Type 0
-IsOfFields (Ok x) = Unit {0}
-IsOfFields (Err (fault.BadField index)) = Unit {0}
-IsOfFields (Err fault.TooLong) = ⊥
-IsOfFields (Err fault.NotACommand) = ⊥
-IsOfFields (Err fault.NoMemory) = ⊥
-
-then : {A B : Type 0} (r : Result A CommandFault) (f : A → Result B CommandFault) → IsOfFields r
-    → ((x : A) → IsOfFields (f x)) → IsOfFields (r >>= f)
-then (Ok x) f h each = each x
-then (Err (fault.BadField index)) f h each = tt
-then (Err fault.TooLong) f h each = absurd h
-then (Err fault.NotACommand) f h each = absurd h
-then (Err fault.NoMemory) f h each = absurd h
-
-given : {A : Type 0} (o : Option A) (index : ℕ)
-    → IsOfFields (ok_or o (let e : CommandFault = fault.BadField index in e))
-given None index = tt
-given (Some x) index = tt
-
-next-IsOfFields : (k : FieldKind) (index : ℕ) (left : Option (List ℕ))
-    → IsOfFields (next_of k index left)
-next-IsOfFields k index None = tt
-next-IsOfFields k index (Some bytes) =
-    then _ _ (given (value_of k (field_of k bytes).0) index) (λ v. tt)
-
-none-IsOfFields : (index : ℕ) (left : Option (List ℕ)) → IsOfFields (no_field index left)
-none-IsOfFields index None = tt
-none-IsOfFields index (Some bytes) = tt
-
-values-IsOfFields : (ks : List FieldKind) (index : ℕ) (left : Option (List ℕ))
-    → IsOfFields (values_of ks index left)
-values-IsOfFields [] index left = then _ _ (none-IsOfFields index left) (λ end. tt)
-values-IsOfFields (k ∷ ks) index left =
-    then _ _ (next-IsOfFields k index left)
-    (λ n. then _ _ (values-IsOfFields ks (index + 1) n.1) (λ later. tt))
+-- what is read of a remark: a command with it, or a field at fault
+remark_from : (index : ℕ) (remark : Option (List ℕ)) (c : Command)
+    → IsFrom 0 (with_remark index remark c)
+remark_from index None c = tt
+remark_from index (Some bytes) c = step (is_remark bytes)
+  where
+    step : (b : Bool)
+        → IsFrom 0 (cond b (Ok (told (Some bytes) c)) (Err (fault.BadField index)))
+    step true = tt
+    step false = omega arith
 
 -- what is read by a row: the values make a command
-row-IsOfFields : (word : List ℕ) (row : TheRow) (left : Option (List ℕ))
-    → row_named word ≡ Some row → IsOfFields (by_row (Some row) left)
-row-IsOfFields word row left is =
-    step (values_of row.fields 1 left) refl (values-IsOfFields row.fields 1 left)
+row_from : (word : List ℕ) (row : TheRow) (left : Option (List ℕ)) → row_named word ≡ Some row
+    → IsFrom 0 (by_row (Some row) left)
+row_from word row left is =
+    step (values_of 0 row.fields 1 front) refl
+    (later 0 _ (values_from 0 row.fields 1 front))
   where
-    step : (r : Result (List FieldValue) CommandFault) → values_of row.fields 1 left ≡ r
-        → IsOfFields r
-        → IsOfFields (r >>= (λ vs. ok_or (made_of (row.tag, vs)) fault.NotACommand))
-    step (Ok vs) read h = rw (made_row word row left vs is read).is tt
-    step (Err (fault.BadField index)) read h = tt
+    front : Option (List ℕ)
+    front = (before_remark row.takes_remark left).0
+
+    last : Command → Result Remarked CommandFault
+    last = with_remark (length row.fields + 1) (before_remark row.takes_remark left).1
+
+    step : (r : Result (List FieldValue) CommandFault) → values_of 0 row.fields 1 front ≡ r
+        → IsFrom 0 r
+        → IsFrom 0 (r >>= (λ vs. ok_or (made_of (row.tag, vs)) fault.NotACommand >>= last))
+    step (Ok vs) read h =
+        let made = made_row word row front vs is read in
+        rw made.is
+        (remark_from (length row.fields + 1) (before_remark row.takes_remark left).1 made.command)
+    step (Err (fault.BadField index)) read h = h
     step (Err fault.TooLong) read h = absurd h
     step (Err fault.NotACommand) read h = absurd h
     step (Err fault.NoMemory) read h = absurd h
@@ -95,14 +80,14 @@ by_row-short : (word : List ℕ) (left : Option (List ℕ)) (o : Option TheRow) 
 by_row-short word left None is e =
     let bad : Err fault.NotACommand ≡ Err fault.TooLong = e in cc
 by_row-short word left (Some row) is e =
-    subst (λ (r : Result Command CommandFault). IsOfFields r) e (row-IsOfFields word row left is)
+    subst (λ (r : Result Remarked CommandFault). IsFrom 0 r) e (row_from word row left is)
 
 by_row-none : (word : List ℕ) (left : Option (List ℕ)) (o : Option TheRow) → row_named word ≡ o
     → by_row o left ≡ Err fault.NotACommand → is_word word ≡ false
 by_row-none word left None is e = (not_found word rows).0 is
 by_row-none word left (Some row) is e =
     absurd
-    (subst (λ (r : Result Command CommandFault). IsOfFields r) e (row-IsOfFields word row left is))
+    (subst (λ (r : Result Remarked CommandFault). IsFrom 0 r) e (row_from word row left is))
 
 -- What `read` answers.
 
@@ -147,44 +132,44 @@ not_a_command bytes = (
     )
 
 -- what is answered is what is said, unless memory ran out
-answered : (moves : ℕ) (r said : Result Command CommandFault) → Gives moves r said
-    → (r ≡ said) ⊎ ((r ≡ Err fault.NoMemory) × TakesMemory moves said)
-answered moves (Ok c) said h = inl (sym h)
-answered moves (Err fault.TooLong) said h = inl (sym h)
-answered moves (Err fault.NotACommand) said h = inl (sym h)
-answered moves (Err (fault.BadField index)) said h = inl (sym h)
-answered moves (Err fault.NoMemory) said h = inr (refl, h)
+answered : (kept : ℕ) (r said : Result Remarked CommandFault) → Gives kept r said
+    → (r ≡ said) ⊎ ((r ≡ Err fault.NoMemory) × TakesMemory kept said)
+answered kept (Ok c) said h = inl (sym h)
+answered kept (Err fault.TooLong) said h = inl (sym h)
+answered kept (Err fault.NotACommand) said h = inl (sym h)
+answered kept (Err (fault.BadField index)) said h = inl (sym h)
+answered kept (Err fault.NoMemory) said h = inr (refl, h)
 
 -- a fault in whose place memory does not run out is answered just where it is said
-alike : (e : CommandFault) (moves : ℕ) (r said : Result Command CommandFault)
-    → (Err fault.NoMemory ≡ (let of : Result Command CommandFault = Err e in of) → ⊥)
-    → (TakesMemory moves (Err e) → ⊥)
-    → Gives moves r said → (r ≡ Err e) ↔ (said ≡ Err e)
-alike e moves r said other takes h = step (answered moves r said h)
+alike : (e : CommandFault) (kept : ℕ) (r said : Result Remarked CommandFault)
+    → (Err fault.NoMemory ≡ (let of : Result Remarked CommandFault = Err e in of) → ⊥)
+    → (TakesMemory kept (Err e) → ⊥)
+    → Gives kept r said → (r ≡ Err e) ↔ (said ≡ Err e)
+alike e kept r said other takes h = step (answered kept r said h)
   where
-    step : (r ≡ said) ⊎ ((r ≡ Err fault.NoMemory) × TakesMemory moves said)
+    step : (r ≡ said) ⊎ ((r ≡ Err fault.NoMemory) × TakesMemory kept said)
         → (r ≡ Err e) ↔ (said ≡ Err e)
     step (inl same) = (λ is. sym same ∙ is, λ is. same ∙ is)
     step (inr none) = (
       λ is. absurd (other (sym none.0 ∙ is)),
-      λ is. absurd (takes (subst (TakesMemory moves) is none.1)),
+      λ is. absurd (takes (subst (TakesMemory kept) is none.1)),
     )
 
-pub gives_too_long_alone : (moves : ℕ) (r : Result Command CommandFault) (bytes : List ℕ)
-    → Gives moves r (command_of bytes) → (r ≡ Err fault.TooLong) ↔ (600 < length bytes)
-gives_too_long_alone moves r bytes h =
+pub gives_too_long_alone : (kept : ℕ) (r : Result Remarked CommandFault) (bytes : List ℕ)
+    → Gives kept r (command_of bytes) → (r ≡ Err fault.TooLong) ↔ (600 < length bytes)
+gives_too_long_alone kept r bytes h =
     let answer =
-    alike fault.TooLong moves r (command_of bytes)
+    alike fault.TooLong kept r (command_of bytes)
     (λ e. let bad : Err fault.NoMemory ≡ Err fault.TooLong = e in cc) (λ t. t) h in
     let text = too_long bytes in
     (λ e. text.0 (answer.0 e), λ long. answer.1 (text.1 long))
 
-pub gives_not_a_command : (moves : ℕ) (r : Result Command CommandFault) (bytes : List ℕ)
-    → Gives moves r (command_of bytes)
+pub gives_not_a_command : (kept : ℕ) (r : Result Remarked CommandFault) (bytes : List ℕ)
+    → Gives kept r (command_of bytes)
     → (r ≡ Err fault.NotACommand) ↔ ((length bytes ≤ 600) × (is_word (cut 32 bytes).0 ≡ false))
-gives_not_a_command moves r bytes h =
+gives_not_a_command kept r bytes h =
     let answer =
-    alike fault.NotACommand moves r (command_of bytes)
+    alike fault.NotACommand kept r (command_of bytes)
     (λ e. let bad : Err fault.NoMemory ≡ Err fault.NotACommand = e in cc) (λ t. t) h in
     let text = not_a_command bytes in
     (λ e. text.0 (answer.0 e), λ no. answer.1 (text.1 no))

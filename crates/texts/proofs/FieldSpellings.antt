@@ -86,16 +86,21 @@ decimal_no_space n small = digits_lack 32 refl (decimal n) (decimal_digits n sma
 pub decimal_no_colon : (n : ℕ) → n < 10000000000000000000 → lacks 58 (decimal n) ≡ true
 decimal_no_colon n small = digits_lack 58 refl (decimal n) (decimal_digits n small)
 
-decimal_no_dash : (n : ℕ) → n < 10000000000000000000 → bytes_eq (decimal n) (codes "-") ≡ false
-decimal_no_dash n small = step (bytes_eq (decimal n) (codes "-")) refl
+-- a number is not a text with another byte than digits
+pub decimal_other : (text : List ℕ) → list_all is_ascii_digit text ≡ false → (n : ℕ)
+    → n < 10000000000000000000 → bytes_eq (decimal n) text ≡ false
+decimal_other text other n small = step (bytes_eq (decimal n) text) refl
   where
-    step : (b : Bool) → bytes_eq (decimal n) (codes "-") ≡ b → b ≡ false
+    step : (b : Bool) → bytes_eq (decimal n) text ≡ b → b ≡ false
     step false is = refl
     step true is =
-        let digit : list_all is_ascii_digit (codes "-") ≡ true =
+        let digit : list_all is_ascii_digit text ≡ true =
         subst (λ (x : List ℕ). list_all is_ascii_digit x ≡ true)
-        (bytes_eq-equal (decimal n) (codes "-") is) (decimal_digits n small) in
-        absurd (false≢true digit)
+        (bytes_eq-equal (decimal n) text is) (decimal_digits n small) in
+        absurd (false≢true (sym other ∙ digit))
+
+decimal_no_dash : (n : ℕ) → n < 10000000000000000000 → bytes_eq (decimal n) (codes "-") ≡ false
+decimal_no_dash n small = decimal_other (codes "-") refl n small
 
 -- Names.
 

@@ -1,3 +1,5 @@
+pub mod Bytes
+pub mod CardSpellings
 pub mod Cuts
 pub mod EventEditions
 pub mod Faults
@@ -7,8 +9,10 @@ pub mod MoveSpellings
 pub mod NameRoom
 pub mod Numerals
 pub mod OutcomeSpellings
+pub mod Remarks
 pub mod Rows
 pub mod Spelled
+pub mod Splits
 pub mod Values
 pub mod Words
 pub mod WorkedTexts

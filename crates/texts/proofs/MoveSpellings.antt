@@ -1,13 +1,11 @@
 -- Moves are read from their one spelling: their tokens, with one space between neighbours.
-use Rattle.std.proofs.Common.{◌≡◌, ℕ, zero, suc, ◌<◌, ◌≤◌, inl, inr, Bool, true, false, not, ◌==◌}
-use Rattle.std.proofs.Common.{nat_lt, nat_le, List, [], ◌∷◌, ◌++◌, length, map, replicate, Option}
+use Rattle.std.proofs.Common.{◌≡◌, ℕ, zero, suc, ◌<◌, ◌≤◌, inl, inr, true, false, nat_lt, nat_le}
+use Rattle.std.proofs.Common.{List, [], ◌∷◌, ◌++◌, length, map, All, get_or, replicate, Option}
 use Rattle.std.proofs.Common.{Some, None, Ok, Err, refl, sym, ap, ◌∙◌, subst, arith}
-use Rattle.std.specs.List.{list_all, slice_split, join_with_byte}
-use Rattle.std.specs.Option.{option_and_then, option_map}
+use Rattle.std.specs.List.{list_all}
+use Rattle.std.specs.Option.{option_and_then}
 use Rattle.std.proofs.lemmas.Bool.{false≢true}
 use Rattle.std.proofs.lemmas.Bool.Decides.{nat_tests}
-use Rattle.std.proofs.lemmas.List.{length-map}
-use Rattle.std.proofs.lemmas.List.Splits.{join_with_byte-slice_split, length-slice_split}
 use Rattle.cube.specs.declared.moves.Side.TheVariants.{U, R, F, D, L, B}
 use Rattle.cube.specs.declared.moves.Axis.TheVariants.{X, Y, Z}
 use Rattle.cube.specs.declared.moves.Kind.{Kind}
@@ -24,6 +22,7 @@ use Rattle.texts.specs.Spelling.{AreMoves}
 use Rattle.texts.specs.Fields.{every_move, move_by, move_of, all_of, at_most_400, moves_of}
 use Rattle.texts.proofs.Cuts.{and-true, lacks}
 use Rattle.texts.proofs.Spelled.{IsSpelled, chosen, find-only}
+use Rattle.texts.proofs.Splits.{joined-found, joined-only, parts, parts-front, parts-spelled}
 
 -- Tokens.
 
@@ -108,91 +107,52 @@ named-only : (bytes : List ℕ) (move : Move) → move_of bytes ≡ Some move �
 unfolding move_of
 named-only bytes move h = find-only token bytes every_move move h
 
--- Parts between spaces.
+named-found : (move : Move) → Unit {0} → move_of (token move) ≡ Some move
+named-found move fits = (is_token move).named
 
-not-true : (b : Bool) → not b ≡ true → b ≡ false
-not-true false h = refl
-not-true true h = absurd (false≢true h)
+token_spelled : IsSpelled move_of token (λ move. Unit {0})
+token_spelled =
+    record { only = λ bytes move h. (tt, named-only bytes move h); found = named-found }
 
-abbrev parts : List ℕ → List (List ℕ)
-parts bytes = slice_split (λ b. b == 32) bytes
+each_move : (moves : List Move) → All (λ move. Unit {0}) moves
+each_move moves = λ k d less. tt
 
-parts-plain : (bytes : List ℕ) → lacks 32 bytes ≡ true → parts bytes ≡ bytes ∷ []
-parts-plain [] h = refl
-parts-plain (b ∷ bytes) h =
-    let both = and-true (not (b == 32)) (lacks 32 bytes) h in
-    rw (not-true (b == 32) both.0, parts-plain bytes both.1) refl
-
-parts-front : (front more : List ℕ) → lacks 32 front ≡ true
-    → parts (front ++ 32 ∷ more) ≡ front ∷ parts more
-parts-front [] more h = refl
-parts-front (b ∷ front) more h =
-    let both = and-true (not (b == 32)) (lacks 32 front) h in
-    rw (not-true (b == 32) both.0, parts-front front more both.1) refl
-
--- the parts of moves that are spelled are their tokens
-parts-spelled : (move : Move) (moves : List Move)
-    → parts (moves_text (move ∷ moves)) ≡ map token (move ∷ moves)
-parts-spelled move [] = parts-plain (token move) (is_token move).plain
-parts-spelled move (next ∷ moves) =
-    parts-front (token move) (moves_text (next ∷ moves)) (is_token move).plain
-    ∙ ap (λ x. token move ∷ x) (parts-spelled next moves)
-
-all-named : (moves : List Move) → all_of (map move_of (map token moves)) ≡ Some moves
-all-named [] = refl
-all-named (move ∷ moves) = rw ((is_token move).named, all-named moves) refl
-
-all-only : (texts : List (List ℕ)) (moves : List Move) → all_of (map move_of texts) ≡ Some moves
-    → texts ≡ map token moves
-all-only [] [] h = refl
-all-only [] (move ∷ moves) h = absurd (let bad : Some [] ≡ Some (move ∷ moves) = h in cc)
-all-only (text ∷ texts) moves h =
-    step (all-only texts) (move_of text) refl (all_of (map move_of texts)) refl h
-  where
-    step : ((ms : List Move) → all_of (map move_of texts) ≡ Some ms → texts ≡ map token ms)
-        → (o : Option Move) → move_of text ≡ o → (os : Option (List Move))
-        → all_of (map move_of texts) ≡ os
-        → option_and_then (λ x. option_map (λ xs. x ∷ xs) os) o ≡ Some moves
-        → text ∷ texts ≡ map token moves
-    step later None is os are e = absurd (let bad : None ≡ Some moves = e in cc)
-    step later (Some m) is None are e = absurd (let bad : None ≡ Some moves = e in cc)
-    step later (Some m) is (Some ms) are e =
-        let same : m ∷ ms ≡ moves = cc in
-        ap (λ x. x ∷ texts) (named-only text m is) ∙ ap (λ xs. token m ∷ xs) (later ms are)
-        ∙ ap (map token) same
+each_plain : (moves : List Move) → All (λ move. lacks 32 (token move) ≡ true) moves
+each_plain moves = λ k d less. (is_token (get_or moves k d)).plain
 
 pub moves_spelled : IsSpelled moves_of moves_text AreMoves
 unfolding moves_of
 moves_spelled = record { only = only; found = found }
   where
-    fewer : (bytes : List ℕ) (ms moves : List Move) → parts bytes ≡ map token ms
+    fewer : (bytes : List ℕ) (ms moves : List Move) → 1 ≤ length ms → bytes ≡ moves_text ms
         → at_most_400 ms ≡ Some moves → AreMoves moves × (bytes ≡ moves_text moves)
-    fewer bytes ms moves are e =
+    fewer bytes ms moves some is e =
         let yes = chosen (nat_le (length ms) 400) (Some ms) None moves e refl in
         let same : ms ≡ moves = let found = yes.1 in cc in
-        let total = length-slice_split (λ b. b == 32) bytes in
-        let tokens = length-map ms token in
-        let count : length (parts bytes) ≡ length (map token ms) = ap length are in
         let few : length ms ≤ 400 = grind (arith, nat_tests, yes.0) in
-        subst (λ (xs : List Move). AreMoves xs × (bytes ≡ moves_text xs)) same
-        ((omega arith, few), sym (join_with_byte-slice_split 32 bytes) ∙ ap (join_with_byte 32) are)
+        subst (λ (xs : List Move). AreMoves xs × (bytes ≡ moves_text xs)) same ((some, few), is)
 
     only : (bytes : List ℕ) (moves : List Move) → moves_of bytes ≡ Some moves
         → AreMoves moves × (bytes ≡ moves_text moves)
-    only bytes moves h = step (all_of (map move_of (parts bytes))) refl h
+    only bytes moves h = step (all_of (map move_of (parts 32 bytes))) refl h
       where
-        step : (o : Option (List Move)) → all_of (map move_of (parts bytes)) ≡ o
+        step : (o : Option (List Move)) → all_of (map move_of (parts 32 bytes)) ≡ o
             → option_and_then at_most_400 o ≡ Some moves
             → AreMoves moves × (bytes ≡ moves_text moves)
         step None are e = absurd (let bad : None ≡ Some moves = e in cc)
-        step (Some ms) are e = fewer bytes ms moves (all-only (parts bytes) ms are) e
+        step (Some ms) are e =
+            let read = joined-only token_spelled 32 bytes ms are in
+            fewer bytes ms moves read.1 read.2 e
 
     found : (moves : List Move) → AreMoves moves → moves_of (moves_text moves) ≡ Some moves
     found [] fits = absurd (let none : 1 ≤ 0 = fits.0 in omega arith)
     found (move ∷ moves) fits =
         let few : nat_le (length (move ∷ moves)) 400 ≡ true = let most = fits.1 in
         grind (arith, nat_tests) in
-        rw (parts-spelled move moves, all-named (move ∷ moves), few) refl
+        let read =
+        joined-found token_spelled 32 move moves (each_plain (move ∷ moves))
+        (each_move (move ∷ moves)) in
+        rw (read, few) refl
 
 -- What the notation's reader gives, where no two spaces are in a row.
 
@@ -203,14 +163,15 @@ tokens-some (move ∷ moves) = rw ((is_token move).some_bytes, tokens-some moves
 
 spelled_single : (moves : List Move) → AreMoves moves → has_single_spaces (moves_text moves) ≡ true
 spelled_single [] fits = absurd (let none : 1 ≤ 0 = fits.0 in omega arith)
-spelled_single (move ∷ moves) fits = rw (parts-spelled move moves) (tokens-some (move ∷ moves))
+spelled_single (move ∷ moves) fits =
+    rw (parts-spelled 32 token move moves (each_plain (move ∷ moves))) (tokens-some (move ∷ moves))
 
 -- after a part, the rest has single spaces too
 single-behind : (front more : List ℕ) → lacks 32 front ≡ true
     → has_single_spaces (front ++ 32 ∷ more) ≡ true → has_single_spaces more ≡ true
 single-behind front more none h =
     (and-true (nat_lt 0 (length front)) (has_single_spaces more)
-    (sym (ap (list_all (λ part. nat_lt 0 (length part))) (parts-front front more none)) ∙ h)).1
+    (sym (ap (list_all (λ part. nat_lt 0 (length part))) (parts-front 32 front more none)) ∙ h)).1
 
 -- a gap between tokens is one space then
 single-gap : (move : Move) (text rest : List ℕ) (n : ℕ) → 0 < n

@@ -1,34 +1,44 @@
 -- A text is read as a command exactly where it is the spelling of the command.
-use Rattle.std.proofs.Common.{◌≡◌, ℕ, ◌≤◌, Bool, true, false, cond, nat_lt, List, [], ◌∷◌, ◌++◌}
-use Rattle.std.proofs.Common.{length, Option, Some, None, Result, Ok, Err, refl, sym, ap, ◌∙◌}
-use Rattle.std.proofs.Common.{◌+◌, subst, arith, length-append}
-use Rattle.std.specs.List.{list_any}
+use Rattle.std.proofs.Common.{◌≡◌, ℕ, ◌≤◌, Bool, true, false, ◌&&◌, cond, nat_lt, List, [], ◌∷◌}
+use Rattle.std.proofs.Common.{◌++◌, length, Option, Some, None, Result, Ok, Err, refl, sym, ap, ◌∙◌}
+use Rattle.std.proofs.Common.{◌+◌, subst, arith, append_assoc, length-append}
+use Rattle.std.specs.Prelude.{IsTrue}
+use Rattle.std.specs.List.{join_with_byte, list_any}
 use Rattle.std.specs.Option.{ok_or}
 use Rattle.std.specs.Result.{IfOk}
+use Rattle.std.proofs.lemmas.Bool.{false≢true}
 use Rattle.std.proofs.lemmas.Bool.Decides.{nat_tests}
 use Rattle.texts.specs.declared.command.Command.{Command}
 use Rattle.texts.specs.declared.command.Command.TheVariants.{Register}
+use Rattle.texts.specs.declared.command.Remarked.{Remarked}
 use Rattle.texts.specs.declared.reading.CommandFault.{CommandFault}
 use Rattle.texts.specs.declared.reading.CommandFault.TheVariants as fault
+use Rattle.texts.specs.declared.table.FieldKind.{FieldKind}
 use Rattle.texts.specs.declared.table.Tag.{Tag}
 use Rattle.texts.specs.declared.table.Tag.TheVariants as tag
 use Rattle.texts.specs.declared.value.FieldValue.{FieldValue}
 use Rattle.texts.specs.declared.value.FieldValue.TheVariants as value
-use Rattle.texts.specs.Fields.{cut}
+use Rattle.texts.specs.Fields.{cut, cut_remark}
+use Rattle.texts.specs.Names.{is_remark}
 use Rattle.texts.specs.Parts.{Parts, made_of, parts}
-use Rattle.texts.specs.Reading.{◌>>=◌, Gives, ReadsAs, TakesMemory, by_row, command_of, moves_field}
-use Rattle.texts.specs.Reading.{takes_memory, values_of}
-use Rattle.texts.specs.Spelling.{AllFit, AreInRange, IsFit, IsLeftShort, IsShort, spelling}
-use Rattle.texts.specs.Spelling.{values_text, words_by}
-use Rattle.texts.specs.Table.{TheRow, fields_in, has_moves, moves_at, row_named, row_of, rows}
-use Rattle.texts.specs.model.Returned.{GivesValues, TakesForValues}
-use Rattle.std.specs.List.{join_with_byte}
-use Rattle.texts.proofs.Cuts.{behind, cut-behind, cut_spelled}
-use Rattle.texts.proofs.Rows.{IsRow, bound, left_of, left_text, named_row, ok_same, room_of}
-use Rattle.texts.proofs.Rows.{row_right, taken, text_is, values_found, values_only, values_short}
+use Rattle.texts.specs.Reading.{◌>>=◌, Gives, ReadsAs, TakesMemory, before_remark, by_row}
+use Rattle.texts.specs.Reading.{command_of, kept_field, takes_memory, told, values_of, with_remark}
+use Rattle.texts.specs.Spelling.{AllFit, AreInRange, IsFit, IsFitRemark, IsFitTold, IsLeftShort}
+use Rattle.texts.specs.Spelling.{IsShort, spelling, told_spelling, values_text, with_remark_text}
+use Rattle.texts.specs.Spelling.{value_text, words_by}
+use Rattle.texts.specs.Table.{TheRow, fields_in, has_moves, kept_at, row_named, row_of, rows}
+use Rattle.texts.specs.Table.{takes_remark_in}
+use Rattle.texts.specs.model.Returned.{GivesRemark, GivesValues, TakesForRemark, TakesForValues}
+use Rattle.texts.proofs.Bytes.{is_plain, passes_lack}
+use Rattle.texts.proofs.Cuts.{behind, cut-behind, cut_spelled, lacks}
+use Rattle.texts.proofs.Memory.{kept_fields}
+use Rattle.texts.proofs.Remarks.{cut_remark_found, cut_remark_spelled, more_text}
+use Rattle.texts.proofs.Rows.{IsNamed, IsRow, bars_remark, bound, left_of, named_row, no_mark}
+use Rattle.texts.proofs.Rows.{ok_same, room_of, row_right, taken, text_is, values_found}
+use Rattle.texts.proofs.Rows.{values_only, values_plain, values_short}
 
-abbrev pub Spells : List ℕ → Command → Type 0
-Spells bytes c = IsFit c × (bytes ≡ spelling c)
+abbrev pub Spells : List ℕ → Remarked → Type 0
+Spells bytes c = IsFitTold c × (bytes ≡ told_spelling c)
 
 -- ---- the parts of a command
 
@@ -42,7 +52,7 @@ pub record IsMade (p : Parts) : Type 0 where
   pub is : made_of p ≡ Some command
   pub parts : parts command ≡ p
 
-pub makes : (t : Tag) (vs : List FieldValue) → AllFit (fields_in (row_of t)) vs → IsMade (t, vs)
+pub makes : (t : Tag) (vs : List FieldValue) → AllFit 0 (fields_in (row_of t)) vs → IsMade (t, vs)
 unfolding rows
 makes tag.Register (value.Number number ∷ value.Name name ∷ []) fits =
     record { command = _; is = refl; parts = refl }
@@ -84,43 +94,126 @@ makes tag.Withdraw (value.Event event ∷ value.Round round ∷ value.Number num
     record { command = _; is = refl; parts = refl }
 makes tag.Reopen (value.Event event ∷ value.Round round ∷ []) fits =
     record { command = _; is = refl; parts = refl }
+makes tag.Card
+    (value.Event event ∷ value.Round round ∷ value.Number number ∷ value.Was was ∷ value.Now now ∷
+    []) fits =
+    record { command = _; is = refl; parts = refl }
+makes tag.Fix
+    (value.Event event ∷ value.Round round ∷ value.Number number ∷ value.Was was ∷ value.Now now ∷
+    []) fits =
+    record { command = _; is = refl; parts = refl }
+makes tag.Cancel (value.Event event ∷ value.Round round ∷ []) fits =
+    record { command = _; is = refl; parts = refl }
 makes _ _ fits = absurd (assumption fits)
 
 -- ---- what is read is spelled so
 
 -- the values that were read of a row make a command
 pub made_row : (word : List ℕ) (row : TheRow) (left : Option (List ℕ)) (vs : List FieldValue)
-    → row_named word ≡ Some row → values_of row.fields 1 left ≡ Ok vs → IsMade (row.tag, vs)
+    → row_named word ≡ Some row → values_of 0 row.fields 1 left ≡ Ok vs → IsMade (row.tag, vs)
 made_row word row left vs is read =
     let it = named_row word row is in
-    let fits = (values_only row.fields 1 left vs read).0 in
-    makes row.tag vs (subst (λ o. AllFit (fields_in o) vs) (sym it.is) fits)
+    let fits = (values_only 0 row.fields 1 left vs read).0 in
+    makes row.tag vs (subst (λ o. AllFit 0 (fields_in o) vs) (sym it.is) fits)
 
--- whose values are in range, and which is spelled so
-abbrev InRange : List ℕ → Command → Type 0
-InRange bytes c = AreInRange c × (bytes ≡ spelling c)
+before_spelled : (takes : Bool) (left : Option (List ℕ))
+    → behind 32 left
+    ≡ with_remark_text (behind 32 (before_remark takes left).0) (before_remark takes left).1
+before_spelled false left = refl
+before_spelled true None = refl
+before_spelled true (Some bytes) =
+    ap (λ y. 32 ∷ y) (cut_remark_spelled bytes)
+    ∙ sym (more_text 32 (cut_remark bytes).0 (cut_remark bytes).1)
 
-by_row_only : (word : List ℕ) (left : Option (List ℕ)) (c : Command) (o : Option TheRow)
+-- a remark is cut off only where one may stand
+takes_where_cut : (takes : Bool) (left : Option (List ℕ)) (bytes : List ℕ)
+    → (before_remark takes left).1 ≡ Some bytes → takes ≡ true
+takes_where_cut true left bytes h = refl
+takes_where_cut false left bytes h = absurd (let bad : None ≡ Some bytes = h in cc)
+
+behind_word : (word text : List ℕ) (remark : Option (List ℕ))
+    → word ++ with_remark_text text remark ≡ with_remark_text (word ++ text) remark
+behind_word word text None = refl
+behind_word word text (Some remark) = simp append_assoc
+
+-- what was read after the fields: a remark that is right, or none
+abbrev IsRemarked : Option (List ℕ) → Command → Remarked → Type 0
+IsRemarked None d c = told None d ≡ c
+IsRemarked (Some bytes) d c = (told (Some bytes) d ≡ c) × IsTrue (is_remark bytes)
+
+remark_only : (index : ℕ) (remark : Option (List ℕ)) (d : Command) (c : Remarked)
+    → with_remark index remark d ≡ Ok c → IsRemarked remark d c
+remark_only index None d c h = ok_same (told None d) c h
+remark_only index (Some bytes) d c h = step (is_remark bytes) refl h
+  where
+    step : (b : Bool) → is_remark bytes ≡ b
+        → cond b (Ok (told (Some bytes) d)) (Err (fault.BadField index)) ≡ Ok c
+        → IsRemarked (Some bytes) d c
+    step true is e = (ok_same (told (Some bytes) d) c e, is)
+    step false is e = absurd (let bad : Err (fault.BadField index) ≡ Ok c = e in cc)
+
+-- whose values are in range, whose remark is right, and which is spelled so
+abbrev InRange : List ℕ → Remarked → Type 0
+InRange bytes c =
+    AreInRange c.command × IsFitRemark c.command c.remark × (bytes ≡ told_spelling c)
+
+in_range : (bytes : List ℕ) (remark : Option (List ℕ)) (d : Command) (c : Remarked)
+    → IsRemarked remark d c → AreInRange d
+    → ((r : List ℕ) → remark ≡ Some r → takes_remark_in (row_of (parts d).0) ≡ true)
+    → bytes ≡ with_remark_text (spelling d) remark → InRange bytes c
+in_range bytes None d c is fits may spelled = subst (InRange bytes) is (fits, tt, spelled)
+in_range bytes (Some r) d c is fits may spelled =
+    subst (InRange bytes) is.0 (fits, (may r refl, is.1), spelled)
+
+by_row_only : (word : List ℕ) (left : Option (List ℕ)) (c : Remarked) (o : Option TheRow)
     → row_named word ≡ o → by_row o left ≡ Ok c → InRange (word ++ behind 32 left) c
 by_row_only word left c None is h = absurd (let bad : Err fault.NotACommand ≡ Ok c = h in cc)
 by_row_only word left c (Some row) is h =
-    let of : List FieldValue → Result Command CommandFault =
-    λ vs. ok_or (made_of (row.tag, vs)) fault.NotACommand in
-    let b = bound (values_of row.fields 1 left) of c h in
-    let read = values_only row.fields 1 left b.0 b.1.0 in
+    let front = (before_remark row.takes_remark left).0 in
+    let remark = (before_remark row.takes_remark left).1 in
+    let last : Command → Result Remarked CommandFault =
+    with_remark (length row.fields + 1) remark in
+    let of : List FieldValue → Result Remarked CommandFault =
+    λ vs. ok_or (made_of (row.tag, vs)) fault.NotACommand >>= last in
+    let b = bound (values_of 0 row.fields 1 front) of c h in
+    let m = bound (ok_or (made_of (row.tag, b.0)) fault.NotACommand) last c b.1.1 in
     let it = named_row word row is in
-    let made = made_row word row left b.0 is b.1.0 in
-    let same : made.command ≡ c =
-    (let e : Some made.command ≡ Some c =
-    sym made.is ∙ taken _ fault.NotACommand c b.1.1 in cc) in
-    let parts_are : (let p : Parts = (row.tag, b.0) in p) ≡ parts c =
+    let made = made_row word row front b.0 is b.1.0 in
+    let same : made.command ≡ m.0 =
+    (let e : Some made.command ≡ Some m.0 =
+    sym made.is ∙ taken _ fault.NotACommand m.0 m.1.0 in cc) in
+    let parts_are : (let p : Parts = (row.tag, b.0) in p) ≡ parts m.0 =
     sym made.parts ∙ ap parts same in
-    let fits : AllFit (fields_in (row_of row.tag)) b.0 =
-    subst (λ o. AllFit (fields_in o) b.0) (sym it.is) read.0 in
-    let spelled : word ++ behind 32 left ≡ join_with_byte 32 (words_by (row.tag, b.0)) =
-    rw it.is (rw (text_is row.word b.0) (rw (read.1, it.spelled) refl)) in
-    subst (λ (p : Parts). AllFit (fields_in (row_of p.0)) p.1
-    × (word ++ behind 32 left ≡ join_with_byte 32 (words_by p))) parts_are (fits, spelled)
+    one row front remark b.0 m.0 c it parts_are
+    (values_only 0 row.fields 1 front b.0 b.1.0)
+    (remark_only (length row.fields + 1) remark m.0 c m.1.1)
+    (takes_where_cut row.takes_remark left) (before_spelled row.takes_remark left)
+  where
+    one : (row : TheRow) (front remark : Option (List ℕ)) (vs : List FieldValue) (d : Command)
+        (c : Remarked)
+        → IsNamed word row → (let p : Parts = (row.tag, vs) in p) ≡ parts d
+        → AllFit 0 row.fields vs × (behind 32 front ≡ values_text vs) → IsRemarked remark d c
+        → ((r : List ℕ) → remark ≡ Some r → row.takes_remark ≡ true)
+        → behind 32 left ≡ with_remark_text (behind 32 front) remark
+        → InRange (word ++ behind 32 left) c
+    one row front remark vs d c it parts_are read is may cut_so =
+        let fits : AllFit 0 (fields_in (row_of row.tag)) vs =
+        subst (λ o. AllFit 0 (fields_in o) vs) (sym it.is) read.0 in
+        let takes : (r : List ℕ) → remark ≡ Some r → takes_remark_in (row_of row.tag) ≡ true =
+        λ r e. subst (λ o. takes_remark_in o ≡ true) (sym it.is) (may r e) in
+        let spelled : word ++ behind 32 front ≡ join_with_byte 32 (words_by (row.tag, vs)) =
+        rw it.is (rw (text_is row.word vs) (rw (read.1, it.spelled) refl)) in
+        let whole : word ++ behind 32 left
+        ≡ with_remark_text (join_with_byte 32 (words_by (row.tag, vs))) remark =
+        ap (λ y. word ++ y) cut_so ∙ behind_word word (behind 32 front) remark
+        ∙ ap (λ y. with_remark_text y remark) spelled in
+        subst
+        (λ (p : Parts). AllFit 0 (fields_in (row_of p.0)) p.1
+        → ((r : List ℕ) → remark ≡ Some r → takes_remark_in (row_of p.0) ≡ true)
+        → word ++ behind 32 left ≡ with_remark_text (join_with_byte 32 (words_by p)) remark
+        → InRange (word ++ behind 32 left) c)
+        (sym parts_are)
+        (in_range (word ++ behind 32 left) remark d c is) fits takes whole
 
 -- a command in range whose spelling is short is fit
 fit_of_short : (c : Command) → AreInRange c → IsShort c → IsFit c
@@ -130,7 +223,15 @@ fit_of_short c fits short = (fits, step (list_any has_moves (fields_in (row_of (
     step true = short
     step false = tt
 
-pub spelled_only : (bytes : List ℕ) (c : Command) → command_of bytes ≡ Ok c → Spells bytes c
+text_within : (text : List ℕ) (remark : Option (List ℕ))
+    → length text ≤ length (with_remark_text text remark)
+text_within text None = omega arith
+text_within text (Some remark) =
+    let total = length-append (text ++ 32 ∷ 35 ∷ 32 ∷ []) remark in
+    let front = length-append text (32 ∷ 35 ∷ 32 ∷ []) in
+    omega arith
+
+pub spelled_only : (bytes : List ℕ) (c : Remarked) → command_of bytes ≡ Ok c → Spells bytes c
 unfolding command_of
 spelled_only bytes c h = step (nat_lt 600 (length bytes)) refl h
   where
@@ -141,8 +242,11 @@ spelled_only bytes c h = step (nat_lt 600 (length bytes)) refl h
     step false is e =
         let short : length bytes ≤ 600 = grind (arith, nat_tests, is) in
         let it = by_row_only (cut 32 bytes).0 (cut 32 bytes).1 c _ refl e in
-        let spelled : bytes ≡ spelling c = cut_spelled 32 bytes ∙ it.1 in
-        (fit_of_short c it.0 (subst (λ (x : List ℕ). length x ≤ 600) spelled short), spelled)
+        let spelled : bytes ≡ told_spelling c = cut_spelled 32 bytes ∙ it.2 in
+        let whole : length (told_spelling c) ≤ 600 =
+        subst (λ (x : List ℕ). length x ≤ 600) spelled short in
+        let within = text_within (spelling c.command) c.remark in
+        ((fit_of_short c.command it.0 (omega (arith, within, whole)), it.1, whole), spelled)
 
 -- ---- what is spelled is short
 
@@ -157,11 +261,11 @@ spelling_short c fits =
         → list_any has_moves (fields_in (row_of (parts c).0)) ≡ false
         → length row.word + room_of row.fields ≤ 600 → length (spelling c) ≤ 600
     small row is none room =
-        let fit : AllFit row.fields (parts c).1 =
-        subst (λ o. AllFit (fields_in o) (parts c).1) is fits.0 in
+        let fit : AllFit 0 row.fields (parts c).1 =
+        subst (λ o. AllFit 0 (fields_in o) (parts c).1) is fits.0 in
         let few : list_any has_moves row.fields ≡ false =
         sym (ap (λ o. list_any has_moves (fields_in o)) is) ∙ none in
-        let rest = values_short row.fields (parts c).1 fit few in
+        let rest = values_short 0 row.fields (parts c).1 fit few in
         let total = length-append row.word (values_text (parts c).1) in
         let text : spelling c ≡ row.word ++ values_text (parts c).1 =
         rw is (text_is row.word (parts c).1) in
@@ -177,108 +281,259 @@ spelling_short c fits =
 
 -- ---- what is spelled is read
 
-pub spelled_found : (c : Command) → IsFit c → command_of (spelling c) ≡ Ok c
+-- what is left after the word
+abbrev left_told : List FieldValue → Option (List ℕ) → Option (List ℕ)
+left_told [] remark = None
+left_told (v ∷ vs) remark = Some (with_remark_text (value_text v ++ values_text vs) remark)
+
+-- a remark stands where one may stand
+abbrev HasItsPlace : Bool → List FieldValue → Option (List ℕ) → Type 0
+HasItsPlace takes vs None = Unit {0}
+HasItsPlace takes [] (Some remark) = ⊥
+HasItsPlace takes (v ∷ vs) (Some remark) = takes ≡ true
+
+told_text : (takes : Bool) (vs : List FieldValue) (remark : Option (List ℕ))
+    → HasItsPlace takes vs remark
+    → with_remark_text (values_text vs) remark ≡ behind 32 (left_told vs remark)
+told_text takes [] None may = refl
+told_text takes [] (Some remark) may = absurd may
+told_text takes (v ∷ vs) None may = refl
+told_text takes (v ∷ vs) (Some remark) may = refl
+
+before_found : (takes : Bool) (vs : List FieldValue) (remark : Option (List ℕ))
+    → HasItsPlace takes vs remark → (takes ≡ true → lacks 35 (values_text vs) ≡ true)
+    → before_remark takes (left_told vs remark) ≡ (left_of vs, remark)
+before_found takes [] (Some remark) may plain = absurd may
+before_found false [] None may plain = refl
+before_found true [] None may plain = refl
+before_found false (v ∷ vs) None may plain = refl
+before_found false (v ∷ vs) (Some remark) may plain = absurd (false≢true may)
+before_found true (v ∷ vs) remark may plain =
+    rw (cut_remark_found (value_text v ++ values_text vs) remark (plain refl)) refl
+
+has_its_place : (row : TheRow) (vs : List FieldValue) (remark : Option (List ℕ))
+    → AllFit 0 row.fields vs → (row.takes_remark && bars_remark row.fields) ≡ false
+    → ((r : List ℕ) → remark ≡ Some r → row.takes_remark ≡ true)
+    → HasItsPlace row.takes_remark vs remark
+has_its_place row vs None fits marks may = tt
+has_its_place row (v ∷ vs) (Some r) fits marks may = may r refl
+has_its_place row [] (Some r) fits marks may =
+    step row.fields row.takes_remark (may r refl) fits marks
+  where
+    step : (ks : List FieldKind) (t : Bool) → t ≡ true → AllFit 0 ks []
+        → (t && bars_remark ks) ≡ false → ⊥
+    step [] true is fits marks = false≢true (sym marks)
+    step [] false is fits marks = false≢true is
+    step (k ∷ ks) t is fits marks = fits
+
+lacks_mark : (row : TheRow) (vs : List FieldValue) → AllFit 0 row.fields vs
+    → (row.takes_remark && bars_remark row.fields) ≡ false → row.takes_remark ≡ true
+    → lacks 35 (values_text vs) ≡ true
+lacks_mark row vs fits marks takes =
+    passes_lack is_plain 35 refl (values_text vs)
+    (values_plain 0 row.fields vs fits (no_mark row marks takes))
+
+remark_found : (index : ℕ) (c : Remarked) → IsFitRemark c.command c.remark
+    → with_remark index c.remark c.command ≡ Ok c
+remark_found index c fits = step c.remark fits
+  where
+    step : (remark : Option (List ℕ)) → IsFitRemark c.command remark
+        → with_remark index remark c.command ≡ Ok (told remark c.command)
+    step None fits = refl
+    step (Some bytes) fits = rw fits.1 refl
+
+remark_takes : (c : Command) (remark : Option (List ℕ)) (row : TheRow)
+    → row_of (parts c).0 ≡ Some row → IsFitRemark c remark → (r : List ℕ) → remark ≡ Some r
+    → row.takes_remark ≡ true
+remark_takes c None row is fits r h = absurd (let bad : None ≡ Some r = h in cc)
+remark_takes c (Some bytes) row is fits r h =
+    subst (λ o. takes_remark_in o ≡ true) is fits.0
+
+pub spelled_found : (c : Remarked) → IsFitTold c → command_of (told_spelling c) ≡ Ok c
 unfolding command_of
 spelled_found c fits =
-    let it = row_right (parts c).0 in
-    let vs = (parts c).1 in
-    let short = spelling_short c fits in
-    let text : spelling c ≡ it.row.word ++ behind 32 (left_of vs) =
-    rw it.is (text_is it.row.word vs ∙ ap (λ y. it.row.word ++ y) (left_text vs)) in
-    let few : nat_lt 600 (length (spelling c)) ≡ false = grind (arith, nat_tests) in
-    let fit : AllFit it.row.fields vs =
-    subst (λ o. AllFit (fields_in o) vs) it.is fits.0 in
-    let made : made_of (it.row.tag, vs) ≡ Some c =
-    ap (λ t. made_of (t, vs)) it.tag ∙ retracts c in
+    let it = row_right (parts c.command).0 in
+    let vs = (parts c.command).1 in
+    let fit : AllFit 0 it.row.fields vs =
+    subst (λ o. AllFit 0 (fields_in o) vs) it.is fits.0.0 in
+    let may = remark_takes c.command c.remark it.row it.is fits.1 in
+    let place = has_its_place it.row vs c.remark fit it.marks may in
+    let front : spelling c.command ≡ it.row.word ++ values_text vs =
+    rw it.is (text_is it.row.word vs) in
+    let text : told_spelling c ≡ it.row.word ++ behind 32 (left_told vs c.remark) =
+    ap (λ y. with_remark_text y c.remark) front
+    ∙ sym (behind_word it.row.word (values_text vs) c.remark)
+    ∙ ap (λ y. it.row.word ++ y) (told_text it.row.takes_remark vs c.remark place) in
+    let whole : length (told_spelling c) ≤ 600 = fits.2 in
+    let few : nat_lt 600 (length (told_spelling c)) ≡ false = grind (arith, nat_tests, whole) in
+    let made : made_of (it.row.tag, vs) ≡ Some c.command =
+    ap (λ t. made_of (t, vs)) it.tag ∙ retracts c.command in
     rw few
     (rw text
-    (rw (cut-behind 32 it.row.word (left_of vs) it.word)
+    (rw (cut-behind 32 it.row.word (left_told vs c.remark) it.word)
     (rw it.named
-    (rw (values_found it.row.fields 1 vs fit it.last)
-    (ap (λ o. ok_or o fault.NotACommand) made)))))
+    (rw (before_found it.row.takes_remark vs c.remark place (lacks_mark it.row vs fit it.marks))
+    (rw (values_found 0 it.row.fields 1 vs fit it.last)
+    (ap
+    (λ o. ok_or o fault.NotACommand >>= with_remark (length it.row.fields + 1) c.remark) made
+    ∙ remark_found (length it.row.fields + 1) c fits.1))))))
 
-pub spelled_once : (c d : Command) → IsFit c → IsFit d → spelling c ≡ spelling d → c ≡ d
+pub spelled_once : (c d : Remarked) → IsFitTold c → IsFitTold d
+    → told_spelling c ≡ told_spelling d → c ≡ d
 spelled_once c d fits fits' same =
     ok_same c d (sym (spelled_found c fits) ∙ ap command_of same ∙ spelled_found d fits')
 
 -- ---- what `read` answers
 
--- a command that is made of what was read of the fields, or none
+-- a command that is made of what was read of the fields, and its remark
 
-pub gives_command : (word : List ℕ) (row : TheRow) (left : Option (List ℕ))
-    (vs : List FieldValue) (o : Option Command) (c : Command)
-    → row_named word ≡ Some row → values_of row.fields 1 left ≡ Ok vs
-    → o ≡ made_of (row.tag, vs) → o ≡ Some c
-    → Gives (moves_field word) (Ok c) (by_row (row_named word) left)
-gives_command word row left vs o c is read made some =
-    subst (λ (r : Option TheRow). by_row r left ≡ Ok c) (sym is)
-    (rw read (ap (λ m. ok_or m fault.NotACommand) (sym made ∙ some)))
+pub gives_remark : (word : List ℕ) (row : TheRow) (left front remark : Option (List ℕ))
+    (vs : List FieldValue) (o : Option Command) (c : Command) (index : ℕ)
+    (r : Result Remarked CommandFault)
+    → row_named word ≡ Some row
+    → (let p : Option (List ℕ) × Option (List ℕ) = (front, remark) in p)
+    ≡ before_remark row.takes_remark left
+    → values_of 0 row.fields 1 front ≡ Ok vs → o ≡ made_of (row.tag, vs) → o ≡ Some c
+    → index ≡ length row.fields + 1 → GivesRemark r (with_remark index remark c)
+    → Gives (kept_field word) r (by_row (row_named word) left)
+gives_remark word row left front remark vs o c index r is cut_so read made some place h =
+    step r (sym whole) h
+  where
+    whole : by_row (row_named word) left ≡ with_remark index remark c
+    whole =
+        subst
+        (λ (q : Option TheRow). by_row q left ≡ with_remark index remark c) (sym is)
+        (subst
+        (λ (p : Option (List ℕ) × Option (List ℕ)). (values_of 0 row.fields 1 p.0
+        >>= (λ ws. ok_or (made_of (row.tag, ws)) fault.NotACommand
+        >>= with_remark (length row.fields + 1) p.1))
+        ≡ with_remark index remark c)
+        cut_so
+        (rw read (rw (sym made ∙ some) (ap (λ i. with_remark i remark c) (sym place)))))
 
-pub gives_none : (word : List ℕ) (row : TheRow) (left : Option (List ℕ)) (vs : List FieldValue)
-    (o : Option Command)
-    → row_named word ≡ Some row → values_of row.fields 1 left ≡ Ok vs
-    → o ≡ made_of (row.tag, vs) → o ≡ None
-    → Gives (moves_field word) (Err fault.NotACommand) (by_row (row_named word) left)
-gives_none word row left vs o is read made none =
-    subst (λ (r : Option TheRow). by_row r left ≡ Err fault.NotACommand) (sym is)
-    (rw read (ap (λ m. ok_or m fault.NotACommand) (sym made ∙ none)))
+    step : (r : Result Remarked CommandFault)
+        → with_remark index remark c ≡ by_row (row_named word) left
+        → GivesRemark r (with_remark index remark c)
+        → Gives (kept_field word) r (by_row (row_named word) left)
+    step (Ok d) same h = sym same ∙ h
+    step (Err fault.TooLong) same h = sym same ∙ h
+    step (Err fault.NotACommand) same h = sym same ∙ h
+    step (Err (fault.BadField i)) same h = sym same ∙ h
+    step (Err fault.NoMemory) same h =
+        subst (TakesMemory (kept_field word)) same (takes (with_remark index remark c) h)
+      where
+        takes : (said : Result Remarked CommandFault) → TakesForRemark said
+            → TakesMemory (kept_field word) said
+        takes (Ok d) t = rw t refl
+        takes (Err e) t = absurd t
+
+pub gives_none : (word : List ℕ) (row : TheRow) (left front remark : Option (List ℕ))
+    (vs : List FieldValue) (o : Option Command)
+    → row_named word ≡ Some row
+    → (let p : Option (List ℕ) × Option (List ℕ) = (front, remark) in p)
+    ≡ before_remark row.takes_remark left
+    → values_of 0 row.fields 1 front ≡ Ok vs → o ≡ made_of (row.tag, vs) → o ≡ None
+    → Gives (kept_field word) (Err fault.NotACommand) (by_row (row_named word) left)
+gives_none word row left front remark vs o is cut_so read made none =
+    let there = made_row word row front vs is read in
+    absurd (let bad : None ≡ Some there.command = sym none ∙ made ∙ there.is in cc)
 
 pub gives_values : {X : Type 0} (view : X → List FieldValue) (word : List ℕ) (row : TheRow)
-    (left : Option (List ℕ)) (e : CommandFault)
+    (left front remark : Option (List ℕ)) (e : CommandFault)
     → row_named word ≡ Some row
-    → GivesValues view row.fields (Err e) (values_of row.fields 1 left)
-    → Gives (moves_field word) (Err e) (by_row (row_named word) left)
-gives_values view word row left e is h =
-    subst (λ (o : Option TheRow). Gives (moves_at 1 (fields_in o)) (Err e) (by_row o left)) (sym is)
-    (step e h)
+    → (let p : Option (List ℕ) × Option (List ℕ) = (front, remark) in p)
+    ≡ before_remark row.takes_remark left
+    → GivesValues view row.fields (Err e) (values_of 0 row.fields 1 front)
+    → Gives (kept_field word) (Err e) (by_row (row_named word) left)
+gives_values view word row left front remark e is cut_so h =
+    subst (λ (o : Option TheRow). Gives (kept_at 1 (fields_in o)) (Err e) (by_row o left)) (sym is)
+    (subst
+    (λ (p : Option (List ℕ) × Option (List ℕ)). Gives (kept_at 1 row.fields) (Err e)
+    (values_of 0 row.fields 1 p.0
+    >>= (λ vs. ok_or (made_of (row.tag, vs)) fault.NotACommand
+    >>= with_remark (length row.fields + 1) p.1)))
+    cut_so (step e h))
   where
-    of : Result (List FieldValue) CommandFault → Result Command CommandFault
-    of r = r >>= (λ vs. ok_or (made_of (row.tag, vs)) fault.NotACommand)
+    of : Result (List FieldValue) CommandFault → Result Remarked CommandFault
+    of r =
+        r
+        >>= (λ vs. ok_or (made_of (row.tag, vs)) fault.NotACommand
+        >>= with_remark (length row.fields + 1) remark)
+
+    it : IsNamed word row
+    it = named_row word row is
+
+    may : (r : List ℕ) → remark ≡ Some r → row.takes_remark ≡ true
+    may r there =
+        takes_where_cut row.takes_remark left r
+        (sym (ap (λ (p : Option (List ℕ) × Option (List ℕ)). p.1) cut_so) ∙ there)
+
+    after_values : (d : Command) (o : Option (List ℕ)) → remark ≡ o
+        → list_any takes_memory (parts d).1 ≡ true → AllFit 0 row.fields (parts d).1
+        → TakesMemory (kept_at 1 row.fields) (with_remark (length row.fields + 1) o d)
+    after_values d None same takes fits = takes
+    after_values d (Some bytes) same takes fits = rest (is_remark bytes)
+      where
+        rest : (b : Bool)
+            → TakesMemory (kept_at 1 row.fields)
+            (cond b (Ok (told (Some bytes) d)) (Err (fault.BadField (length row.fields + 1))))
+        rest true = refl
+        rest false =
+            let there =
+            kept_fields 0 1 row.fields (parts d).1 (omega arith) fits
+            (no_mark row it.marks (may bytes same)) takes in
+            (there.0, let few = there.1 in omega (arith, few))
 
     one : (vs : List FieldValue) → IsMade (row.tag, vs) → list_any takes_memory vs ≡ true
-        → TakesMemory (moves_at 1 row.fields) (of (Ok vs))
-    one vs made takes =
+        → AllFit 0 row.fields vs → TakesMemory (kept_at 1 row.fields) (of (Ok vs))
+    one vs made takes fits =
         rw made.is
+        (after_values made.command remark refl
         (subst (λ (p : Parts). list_any takes_memory p.1 ≡ true) (sym made.parts) takes)
+        (subst (λ (p : Parts). AllFit 0 row.fields p.1) (sym made.parts) fits))
 
-    takes : (r : Result (List FieldValue) CommandFault) → values_of row.fields 1 left ≡ r
-        → TakesForValues row.fields r → TakesMemory (moves_at 1 row.fields) (of r)
-    takes (Ok vs) read t = one vs (made_row word row left vs is read) t
+    takes : (r : Result (List FieldValue) CommandFault) → values_of 0 row.fields 1 front ≡ r
+        → TakesForValues row.fields r → TakesMemory (kept_at 1 row.fields) (of r)
+    takes (Ok vs) read t =
+        one vs (made_row word row front vs is read) t
+        (values_only 0 row.fields 1 front vs read).0
     takes (Err (fault.BadField index)) read t = t
     takes (Err fault.TooLong) read t = absurd t
     takes (Err fault.NotACommand) read t = absurd t
     takes (Err fault.NoMemory) read t = absurd t
 
-    step : (e : CommandFault) → GivesValues view row.fields (Err e) (values_of row.fields 1 left)
-        → Gives (moves_at 1 row.fields) (Err e) (of (values_of row.fields 1 left))
-    step fault.NoMemory h = takes (values_of row.fields 1 left) refl h
+    step : (e : CommandFault)
+        → GivesValues view row.fields (Err e) (values_of 0 row.fields 1 front)
+        → Gives (kept_at 1 row.fields) (Err e) (of (values_of 0 row.fields 1 front))
+    step fault.NoMemory h = takes (values_of 0 row.fields 1 front) refl h
     step fault.TooLong h = ap of h
     step fault.NotACommand h = ap of h
     step (fault.BadField index) h = ap of h
 
-pub gives_too_long : (moves : ℕ) (bytes : List ℕ) → nat_lt 600 (length bytes) ≡ true
-    → Gives moves (Err fault.TooLong) (command_of bytes)
+pub gives_too_long : (kept : ℕ) (bytes : List ℕ) → nat_lt 600 (length bytes) ≡ true
+    → Gives kept (Err fault.TooLong) (command_of bytes)
 unfolding command_of
-gives_too_long moves bytes long = rw long refl
+gives_too_long kept bytes long = rw long refl
 
-pub gives_word : (r : Result Command CommandFault) (bytes : List ℕ)
+pub gives_word : (r : Result Remarked CommandFault) (bytes : List ℕ)
     (text : List ℕ × Option (List ℕ))
     → nat_lt 600 (length bytes) ≡ false → text ≡ cut 32 bytes
-    → Gives (moves_field text.0) r (by_row (row_named text.0) text.1)
-    → Gives (moves_field (cut 32 bytes).0) r (command_of bytes)
+    → Gives (kept_field text.0) r (by_row (row_named text.0) text.1)
+    → Gives (kept_field (cut 32 bytes).0) r (command_of bytes)
 unfolding command_of
 gives_word r bytes text short same h =
     rw short
     (subst
-    (λ (p : List ℕ × Option (List ℕ)). Gives (moves_field p.0) r (by_row (row_named p.0) p.1)) same
+    (λ (p : List ℕ × Option (List ℕ)). Gives (kept_field p.0) r (by_row (row_named p.0) p.1)) same
     h)
 
-pub gives_found : (moves : ℕ) (r : Result Command CommandFault) (bytes : List ℕ)
-    → Gives moves r (command_of bytes) → (c : Command) → IsFit c → bytes ≡ spelling c → ReadsAs r c
-gives_found moves r bytes h c fits same =
-    step r (subst (Gives moves r) (ap command_of same ∙ spelled_found c fits) h)
+pub gives_found : (kept : ℕ) (r : Result Remarked CommandFault) (bytes : List ℕ)
+    → Gives kept r (command_of bytes) → (c : Remarked) → IsFitTold c → bytes ≡ told_spelling c
+    → ReadsAs r c
+gives_found kept r bytes h c fits same =
+    step r (subst (Gives kept r) (ap command_of same ∙ spelled_found c fits) h)
   where
-    step : (r : Result Command CommandFault) → Gives moves r (Ok c) → ReadsAs r c
+    step : (r : Result Remarked CommandFault) → Gives kept r (Ok c) → ReadsAs r c
     step (Ok d) e = sym (ok_same c d e)
     step (Err fault.NoMemory) e = refl
     step (Err fault.TooLong) e = absurd (let bad : Ok c ≡ Err fault.TooLong = e in cc)
@@ -286,7 +541,7 @@ gives_found moves r bytes h c fits same =
     step (Err (fault.BadField index)) e =
         absurd (let bad : Ok c ≡ Err (fault.BadField index) = e in cc)
 
-pub gives_only : (moves : ℕ) (r : Result Command CommandFault) (bytes : List ℕ)
-    → Gives moves r (command_of bytes) → IfOk r (λ c. IsFit c × (bytes ≡ spelling c))
-gives_only moves (Ok c) bytes h = spelled_only bytes c h
-gives_only moves (Err e) bytes h = _
+pub gives_only : (kept : ℕ) (r : Result Remarked CommandFault) (bytes : List ℕ)
+    → Gives kept r (command_of bytes) → IfOk r (λ c. IsFitTold c × (bytes ≡ told_spelling c))
+gives_only kept (Ok c) bytes h = spelled_only bytes c h
+gives_only kept (Err e) bytes h = _

@@ -9,7 +9,7 @@ use Rattle.texts.specs.declared.answer.Code.TheVariants.{NoScramble, ScrambleThe
 use Rattle.texts.specs.declared.answer.Code.TheVariants.{Closed, Already, Full, NotEntered}
 use Rattle.texts.specs.declared.answer.Code.TheVariants.{OutOfOrder, NoMoreAttempts, NoSuchAttempt}
 use Rattle.texts.specs.declared.answer.Code.TheVariants.{CutoffLost, Unfinished, HasAttempts}
-use Rattle.texts.specs.declared.answer.Code.TheVariants.{NotClosed}
+use Rattle.texts.specs.declared.answer.Code.TheVariants.{NotClosed, Changed}
 
 abbrev pub code_number : Code → ℕ
 code_number Unread = 1
@@ -36,6 +36,7 @@ code_number CutoffLost = 21
 code_number Unfinished = 22
 code_number HasAttempts = 23
 code_number NotClosed = 24
+code_number Changed = 25
 
 -- all codes, in the order of their numbers
 abbrev pub every_code : List Code
@@ -43,7 +44,7 @@ every_code =
     Unread ∷ Repeat ∷ UnknownCompetitor ∷ NameTaken ∷ RoundUnknown ∷ RoundOpen ∷ RoundsRule ∷
     FormatNotAllowed ∷ CutoffNotAllowed ∷ LimitNotAllowed ∷ NoScramble ∷ ScrambleThere ∷
     WrongOutcome ∷ Closed ∷ Already ∷ Full ∷ NotEntered ∷ OutOfOrder ∷ NoMoreAttempts ∷
-    NoSuchAttempt ∷ CutoffLost ∷ Unfinished ∷ HasAttempts ∷ NotClosed ∷ []
+    NoSuchAttempt ∷ CutoffLost ∷ Unfinished ∷ HasAttempts ∷ NotClosed ∷ Changed ∷ []
 
 -- the code of a number
 unfoldable pub code_numbered : ℕ → Option Code
@@ -74,3 +75,4 @@ code_name CutoffLost = codes "CutoffLost"
 code_name Unfinished = codes "Unfinished"
 code_name HasAttempts = codes "HasAttempts"
 code_name NotClosed = codes "NotClosed"
+code_name Changed = codes "Changed"

@@ -1,8 +1,8 @@
 -- The fields of commands, as `Spelling` spells them. Each is read from its bytes, or is misspelt.
 use Rattle.std.specs.Prelude.{ℕ, ◌+◌, ◌==◌, if◌then◌else◌, List, [], ◌∷◌, map, flat_map, find}
 use Rattle.std.specs.Prelude.{length, nat_le, take, drop, position, bytes_eq, codes, decimal}
-use Rattle.std.specs.Prelude.{Option, Some, None}
-use Rattle.std.specs.List.{slice_split}
+use Rattle.std.specs.Prelude.{Option, Some, None, Bool, is_some}
+use Rattle.std.specs.List.{list_all, slice_split}
 use Rattle.std.specs.Option.{option_and_then, option_map}
 use Rattle.cube.specs.declared.moves.Side.TheVariants.{U, R, F, D, L, B}
 use Rattle.cube.specs.declared.moves.Axis.TheVariants.{X, Y, Z}
@@ -15,7 +15,10 @@ use Rattle.cube.specs.notation.Tokens.{token}
 use Rattle.formats.specs.declared.advance.Advance.{Advance}
 use Rattle.formats.specs.declared.advance.Advance.TheVariants.{Final, Top, Percent}
 use Rattle.formats.specs.declared.events.Event.{Event}
+use Rattle.attempts.specs.declared.Value.{Value}
+use Rattle.attempts.specs.declared.Value.TheVariants as value
 use Rattle.texts.specs.declared.command.RoundId.{RoundId}
+use Rattle.texts.specs.declared.command.CardEntry.{CardEntry}
 use Rattle.texts.specs.declared.command.AttemptEntry.{AttemptEntry}
 use Rattle.texts.specs.declared.command.Entered.{Entered}
 use Rattle.texts.specs.declared.command.Entered.TheVariants as entered
@@ -158,3 +161,55 @@ attempt_entry id attempt number outcome =
 abbrev pub IsSolution : Entered → Type 0
 IsSolution (entered.Solution moves) = Unit {0}
 IsSolution _ = ⊥
+
+-- Scorecards.
+
+-- what an attempt counts: a number, or no result
+abbrev pub counted_of : List ℕ → Option Value
+counted_of bytes =
+    if bytes_eq bytes (codes "DNF") then Some value.Dnf
+    else if bytes_eq bytes (codes "DNS") then Some value.Dns
+    else option_map value.Number (number_between 0 990599949 bytes)
+
+-- at most five
+abbrev pub at_most_5 : {A : Type 0} → List A → Option (List A)
+at_most_5 xs = if nat_le (length xs) 5 then Some xs else None
+
+-- what the attempts count, with a comma between two of them, or `-` for none
+unfoldable pub was_of : List ℕ → Option (List Value)
+was_of bytes =
+    if bytes_eq bytes (codes "-") then Some []
+    else option_and_then at_most_5 (all_of (map counted_of (slice_split (λ b. b == 44) bytes)))
+
+-- what is entered for an attempt, or `=` where it stays as it stands
+abbrev pub stays_or_of : List ℕ → Option (Option Entered)
+stays_or_of bytes =
+    if bytes_eq bytes (codes "=") then Some None else option_map Some (entered_of bytes)
+
+-- where so many attempts stand, something is entered for each later one
+abbrev pub enters_later : ℕ → List (Option Entered) → Bool
+enters_later stands now = list_all is_some (drop stands now)
+
+-- at most five, of which those that stay are among so many that stand
+abbrev pub over : ℕ → List (Option Entered) → Option (List (Option Entered))
+over stands now = if enters_later stands now then at_most_5 now else None
+
+-- the attempts that are to stand, with a slash between two of them, or `-` for none; those that
+-- stay are among so many that stand
+unfoldable pub now_of : ℕ → List ℕ → Option (List (Option Entered))
+now_of stands bytes =
+    if bytes_eq bytes (codes "-") then Some []
+    else option_and_then (over stands)
+    (all_of (map stays_or_of (slice_split (λ b. b == 47) bytes)))
+
+abbrev pub card_entry : RoundId → ℕ → List Value → List (Option Entered) → CardEntry
+card_entry id number was now = record { id = id; number = number; was = was; now = now }
+
+-- Remarks.
+
+-- what stands before the first ` # `, and what stands after it, where it is there
+abbrev pub cut_remark : List ℕ → List ℕ × Option (List ℕ)
+cut_remark [] = ([], None)
+cut_remark (b ∷ bs) =
+    if bytes_eq (take 3 (b ∷ bs)) (codes " # ") then ([], Some (drop 3 (b ∷ bs)))
+    else (b ∷ (cut_remark bs).0, (cut_remark bs).1)

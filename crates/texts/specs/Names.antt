@@ -59,3 +59,9 @@ is_name_in edition bytes =
 -- a name that some edition spells
 abbrev pub is_name : List ℕ → Bool
 is_name bytes = is_early_name bytes || is_clear_name bytes
+
+-- Remarks.
+
+-- a name of edition 3 of at most 80 bytes
+abbrev pub is_remark : List ℕ → Bool
+is_remark bytes = nat_le (length bytes) 80 && is_clear_name bytes

@@ -1,5 +1,6 @@
 -- A command as its tag and the values of its fields.
 use Rattle.std.specs.Prelude.{ℕ, List, [], ◌∷◌, Option, None, Some, slice_get}
+use Rattle.attempts.specs.declared.Value.{Value}
 use Rattle.cube.specs.declared.moves.Move.{Move}
 use Rattle.formats.specs.declared.advance.Advance.{Advance}
 use Rattle.formats.specs.declared.events.Event.{Event}
@@ -9,7 +10,9 @@ use Rattle.texts.specs.declared.command.Command.TheVariants.{Register, Open, Ent
 use Rattle.texts.specs.declared.command.Command.TheVariants.{Attempt, Correct, Strike, SetAdvance}
 use Rattle.texts.specs.declared.command.Command.TheVariants.{Close, SetEdition, Rename, SetRound}
 use Rattle.texts.specs.declared.command.Command.TheVariants.{Rescramble, Withdraw, Reopen}
+use Rattle.texts.specs.declared.command.Command.TheVariants.{Card, Fix, Cancel}
 use Rattle.texts.specs.declared.command.AttemptEntry.{AttemptEntry}
+use Rattle.texts.specs.declared.command.CardEntry.{CardEntry}
 use Rattle.texts.specs.declared.command.Entered.{Entered}
 use Rattle.texts.specs.declared.command.RoundId.{RoundId}
 use Rattle.texts.specs.declared.command.Settings.{Settings}
@@ -19,7 +22,7 @@ use Rattle.texts.specs.declared.value.LentValue.{LentValue}
 use Rattle.texts.specs.declared.value.LentValue.TheVariants as lending
 use Rattle.texts.specs.declared.value.FieldValue.{FieldValue}
 use Rattle.texts.specs.declared.value.FieldValue.TheVariants as value
-use Rattle.texts.specs.Fields.{round_id, attempt_entry}
+use Rattle.texts.specs.Fields.{round_id, attempt_entry, card_entry}
 
 -- ---- values
 
@@ -37,6 +40,8 @@ lent (lending.Attempt n) = value.Attempt n
 lent (lending.Moves moves) = value.Moves moves.now
 lent (lending.Outcome outcome) = value.Outcome outcome.now
 lent (lending.Edition n) = value.Edition n
+lent (lending.Was was) = value.Was was.now
+lent (lending.Now now) = value.Now now.now
 
 -- ---- the values of a command
 
@@ -60,6 +65,12 @@ entry_values entry =
     in_round entry.id
     (value.Attempt entry.attempt ∷ value.Number entry.number ∷ value.Outcome entry.outcome ∷ [])
 
+-- a scorecard
+abbrev pub card_values : CardEntry → List FieldValue
+card_values card =
+    in_round card.id
+    (value.Number card.number ∷ value.Was card.was ∷ value.Now card.now ∷ [])
+
 -- a command's tag, and the values of its fields in order
 abbrev pub parts : Command → Parts
 parts (Register number name) = (tag.Register, value.Number number ∷ value.Name name ∷ [])
@@ -80,6 +91,9 @@ parts (Rescramble id attempt moves) =
     (tag.Rescramble, in_round id (value.Attempt attempt ∷ value.Moves moves ∷ []))
 parts (Withdraw id number) = (tag.Withdraw, in_round id (value.Number number ∷ []))
 parts (Reopen id) = (tag.Reopen, in_round id [])
+parts (Card card) = (tag.Card, card_values card)
+parts (Fix card) = (tag.Fix, card_values card)
+parts (Cancel id) = (tag.Cancel, in_round id [])
 
 -- ---- the command of values
 
@@ -138,6 +152,14 @@ abbrev pub edition_in : Option FieldValue → Option ℕ
 edition_in (Some (value.Edition x)) = Some x
 edition_in _ = None
 
+abbrev pub was_in : Option FieldValue → Option (List Value)
+was_in (Some (value.Was x)) = Some x
+was_in _ = None
+
+abbrev pub now_in : Option FieldValue → Option (List (Option Entered))
+now_in (Some (value.Now x)) = Some x
+now_in _ = None
+
 abbrev pub id_in : Option FieldValue → Option FieldValue → Option RoundId
 id_in a b = do
   event ← event_in a
@@ -152,6 +174,15 @@ entry_in first second third fourth fifth = do
   number ← number_in fourth
   outcome ← outcome_in fifth
   Some (attempt_entry id attempt number outcome)
+
+abbrev pub card_in : Option FieldValue → Option FieldValue → Option FieldValue → Option FieldValue
+    → Option FieldValue → Option CardEntry
+card_in first second third fourth fifth = do
+  id ← id_in first second
+  number ← number_in third
+  was ← was_in fourth
+  now ← now_in fifth
+  Some (card_entry id number was now)
 
 abbrev pub settings_in : Option FieldValue → Option FieldValue → Option FieldValue
     → Option FieldValue → Option Settings
@@ -224,6 +255,15 @@ made tag.Withdraw first second third fourth fifth sixth = do
 made tag.Reopen first second third fourth fifth sixth = do
   id ← id_in first second
   Some (Reopen id)
+made tag.Card first second third fourth fifth sixth = do
+  card ← card_in first second third fourth fifth
+  Some (Card card)
+made tag.Fix first second third fourth fifth sixth = do
+  card ← card_in first second third fourth fifth
+  Some (Fix card)
+made tag.Cancel first second third fourth fifth sixth = do
+  id ← id_in first second
+  Some (Cancel id)
 
 -- the command of these parts: `parts` gives them back
 abbrev pub made_of : Parts → Option Command

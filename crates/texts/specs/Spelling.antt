@@ -1,8 +1,10 @@
 -- How a command is spelled: a word and its fields, parted by one space each. And the ranges of the
 -- fields. The list of commands and its ranges are this project's own.
 use Rattle.std.specs.Prelude.{◌≤◌, ℕ, Bool, true, false, IsTrue, List, [], ◌∷◌, ◌++◌, length, map}
-use Rattle.std.specs.Prelude.{codes, decimal, Option, None, Some}
+use Rattle.std.specs.Prelude.{codes, decimal, Option, None, Some, All, IfSome}
 use Rattle.std.specs.List.{join_with_byte, list_any}
+use Rattle.attempts.specs.declared.Value.{Value}
+use Rattle.attempts.specs.declared.Value.TheVariants as counted
 use Rattle.formats.specs.Events.{event_name, format_name, last_round}
 use Rattle.cube.specs.declared.moves.Move.{Move}
 use Rattle.cube.specs.notation.Notation.{spelling as moves_text}
@@ -11,14 +13,16 @@ use Rattle.formats.specs.declared.advance.Advance.TheVariants.{Final, Top, Perce
 use Rattle.texts.specs.declared.command.Command.{Command}
 use Rattle.texts.specs.declared.command.Entered.{Entered}
 use Rattle.texts.specs.declared.command.Entered.TheVariants as entered
+use Rattle.texts.specs.declared.command.Remarked.{Remarked}
 use Rattle.texts.specs.declared.command.Settings.{Settings}
 use Rattle.texts.specs.declared.table.FieldKind.{FieldKind}
 use Rattle.texts.specs.declared.table.FieldKind.TheVariants as kind
 use Rattle.texts.specs.declared.value.FieldValue.{FieldValue}
 use Rattle.texts.specs.declared.value.FieldValue.TheVariants as value
-use Rattle.texts.specs.Names.{is_name, is_name_in}
+use Rattle.texts.specs.Fields.{enters_later}
+use Rattle.texts.specs.Names.{is_name, is_name_in, is_remark}
 use Rattle.texts.specs.Parts.{Parts, parts}
-use Rattle.texts.specs.Table.{fields_in, has_moves, row_of, word_in}
+use Rattle.texts.specs.Table.{fields_in, has_moves, row_of, takes_remark_in, word_in}
 
 -- after k attempts, below c: `k:c`
 abbrev pub cutoff_text : Option (ℕ × ℕ) → List ℕ
@@ -46,6 +50,27 @@ entered_text (entered.Multi solved attempted seconds) =
 entered_text entered.Dnf = codes "DNF"
 entered_text entered.Dns = codes "DNS"
 
+-- what an attempt counts
+abbrev pub counted_text : Value → List ℕ
+counted_text (counted.Number n) = decimal n
+counted_text counted.Dnf = codes "DNF"
+counted_text counted.Dns = codes "DNS"
+
+-- what the attempts count, with a comma between two of them; `-` where there is none
+abbrev pub was_text : List Value → List ℕ
+was_text [] = codes "-"
+was_text (v ∷ vs) = join_with_byte 44 (map counted_text (v ∷ vs))
+
+-- what is to stand for an attempt; `=` where it stays as it stands
+abbrev pub stays_or_text : Option Entered → List ℕ
+stays_or_text None = codes "="
+stays_or_text (Some x) = entered_text x
+
+-- the attempts that are to stand, with a slash between two of them; `-` where there is none
+abbrev pub now_text : List (Option Entered) → List ℕ
+now_text [] = codes "-"
+now_text (x ∷ xs) = join_with_byte 47 (map stays_or_text (x ∷ xs))
+
 -- how a value is spelled
 abbrev pub value_text : FieldValue → List ℕ
 value_text (value.Number n) = decimal n
@@ -60,6 +85,8 @@ value_text (value.Attempt n) = decimal n
 value_text (value.Moves moves) = moves_text moves
 value_text (value.Outcome outcome) = entered_text outcome
 value_text (value.Edition n) = decimal n
+value_text (value.Was was) = was_text was
+value_text (value.Now now) = now_text now
 
 -- values, with a space in front of each
 abbrev pub values_text : List FieldValue → List ℕ
@@ -78,13 +105,22 @@ words_of c = words_by (parts c)
 abbrev pub spelling : Command → List ℕ
 spelling c = join_with_byte 32 (words_of c)
 
+-- the text of a command, and after it the remark, if there is one
+abbrev pub with_remark_text : List ℕ → Option (List ℕ) → List ℕ
+with_remark_text text None = text
+with_remark_text text (Some remark) = text ++ codes " # " ++ remark
+
+-- the spelling of a command with its remark
+abbrev pub told_spelling : Remarked → List ℕ
+told_spelling told = with_remark_text (spelling told.command) told.remark
+
 -- The ranges of the fields.
 
 abbrev pub IsWithin : ℕ → ℕ → ℕ → Type 0
 IsWithin low high n = (low ≤ n) × (n ≤ high)
 
 abbrev pub last_edition : ℕ
-last_edition = 3
+last_edition = 4
 
 abbrev pub IsFitCutoff : Option (ℕ × ℕ) → Type 0
 IsFitCutoff None = Unit {0}
@@ -113,32 +149,53 @@ IsEntered (entered.Multi solved attempted seconds) =
 IsEntered entered.Dnf = Unit {0}
 IsEntered entered.Dns = Unit {0}
 
--- a value is of a kind, and in its range
-abbrev pub Fits : FieldKind → FieldValue → Type 0
-Fits kind.Number (value.Number n) = IsWithin 1 9999 n
-Fits kind.Name (value.Name name) = IsTrue (is_name name)
-Fits kind.NewName (value.Name name) = IsTrue (is_name_in 3 name)
-Fits kind.Event (value.Event event) = Unit {0}
-Fits kind.Round (value.Round n) = IsWithin 1 last_round n
-Fits kind.Format (value.Format form) = Unit {0}
-Fits kind.Cutoff (value.Cutoff cutoff) = IsFitCutoff cutoff
-Fits kind.Limit (value.Limit limit) = IsFitLimit limit
-Fits kind.Advance (value.Advance advance) = IsFitAdvance advance
-Fits kind.Attempt (value.Attempt n) = IsWithin 1 5 n
-Fits kind.Moves (value.Moves moves) = AreMoves moves
-Fits kind.Outcome (value.Outcome outcome) = IsEntered outcome
-Fits kind.Edition (value.Edition n) = IsWithin 2 last_edition n
-Fits _ _ = ⊥
+abbrev pub IsCounted : Value → Type 0
+IsCounted (counted.Number n) = IsWithin 0 990599949 n
+IsCounted counted.Dnf = Unit {0}
+IsCounted counted.Dns = Unit {0}
+
+abbrev pub AreCounted : List Value → Type 0
+AreCounted vs = IsWithin 0 5 (length vs) × All IsCounted vs
+
+-- of so many attempts that stand some may stay; something is entered for each later one
+abbrev pub AreToStand : ℕ → List (Option Entered) → Type 0
+AreToStand stands now =
+    IsWithin 0 5 (length now) × All (λ x. IfSome x IsEntered) now
+    × IsTrue (enters_later stands now)
+
+-- a value is of a kind, and in its range, where so many attempts stand
+abbrev pub Fits : ℕ → FieldKind → FieldValue → Type 0
+Fits _ kind.Number (value.Number n) = IsWithin 1 9999 n
+Fits _ kind.Name (value.Name name) = IsTrue (is_name name)
+Fits _ kind.NewName (value.Name name) = IsTrue (is_name_in 3 name)
+Fits _ kind.Event (value.Event event) = Unit {0}
+Fits _ kind.Round (value.Round n) = IsWithin 1 last_round n
+Fits _ kind.Format (value.Format form) = Unit {0}
+Fits _ kind.Cutoff (value.Cutoff cutoff) = IsFitCutoff cutoff
+Fits _ kind.Limit (value.Limit limit) = IsFitLimit limit
+Fits _ kind.Advance (value.Advance advance) = IsFitAdvance advance
+Fits _ kind.Attempt (value.Attempt n) = IsWithin 1 5 n
+Fits _ kind.Moves (value.Moves moves) = AreMoves moves
+Fits _ kind.Outcome (value.Outcome outcome) = IsEntered outcome
+Fits _ kind.Edition (value.Edition n) = IsWithin 2 last_edition n
+Fits _ kind.Was (value.Was was) = AreCounted was
+Fits stands kind.Now (value.Now now) = AreToStand stands now
+Fits _ _ _ = ⊥
+
+-- how many attempts stand by a value that says what they count, or else as many as were said before
+abbrev pub standing : ℕ → FieldValue → ℕ
+standing stands (value.Was was) = length was
+standing stands _ = stands
 
 -- values are of these kinds, one each in order, and in their ranges
-abbrev pub AllFit : List FieldKind → List FieldValue → Type 0
-AllFit [] [] = Unit {0}
-AllFit (k ∷ ks) (v ∷ vs) = Fits k v × AllFit ks vs
-AllFit _ _ = ⊥
+abbrev pub AllFit : ℕ → List FieldKind → List FieldValue → Type 0
+AllFit stands [] [] = Unit {0}
+AllFit stands (k ∷ ks) (v ∷ vs) = Fits stands k v × AllFit (standing stands v) ks vs
+AllFit _ _ _ = ⊥
 
 -- the values are those of the row's fields
 abbrev pub AreInRange : Command → Type 0
-AreInRange c = AllFit (fields_in (row_of (parts c).0)) (parts c).1
+AreInRange c = AllFit 0 (fields_in (row_of (parts c).0)) (parts c).1
 
 -- the spelling has at most 600 bytes
 abbrev pub IsShort : Command → Type 0
@@ -153,3 +210,17 @@ IsLeftShort false c = Unit {0}
 -- of the language
 abbrev pub IsFit : Command → Type 0
 IsFit c = AreInRange c × IsLeftShort (list_any has_moves (fields_in (row_of (parts c).0))) c
+
+-- a command may have a remark
+abbrev pub MayHaveRemark : Command → Type 0
+MayHaveRemark c = IsTrue (takes_remark_in (row_of (parts c).0))
+
+abbrev pub IsFitRemark : Command → Option (List ℕ) → Type 0
+IsFitRemark c None = Unit {0}
+IsFitRemark c (Some remark) = MayHaveRemark c × IsTrue (is_remark remark)
+
+-- a command that is fit, with a remark where it may have one, and the text of both is short
+abbrev pub IsFitTold : Remarked → Type 0
+IsFitTold told =
+    IsFit told.command × IsFitRemark told.command told.remark
+    × (length (told_spelling told) ≤ 600)

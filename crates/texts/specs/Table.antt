@@ -20,13 +20,23 @@ is_rest kind.Name = true
 is_rest kind.NewName = true
 is_rest kind.Moves = true
 is_rest kind.Outcome = true
+is_rest kind.Now = true
 is_rest _ = false
 
 -- moves may stand in it, as many as a text has room for
 abbrev pub has_moves : FieldKind → Bool
 has_moves kind.Moves = true
 has_moves kind.Outcome = true
+has_moves kind.Now = true
 has_moves _ = false
+
+-- memory is taken for it while it is read, so also where it is misspelt
+abbrev pub is_kept : FieldKind → Bool
+is_kept kind.Moves = true
+is_kept kind.Outcome = true
+is_kept kind.Was = true
+is_kept kind.Now = true
+is_kept _ = false
 
 -- ---- the rows
 
@@ -83,14 +93,19 @@ abbrev pub since_in : Option TheRow → ℕ
 since_in None = 0
 since_in (Some row) = row.since
 
+abbrev pub takes_remark_in : Option TheRow → Bool
+takes_remark_in None = false
+takes_remark_in (Some row) = row.takes_remark
+
 -- what the field with an index, counted from 1, is after a word; none after the last one
 abbrev pub kind_at : List ℕ → ℕ → Option FieldKind
 kind_at word index = slice_get (fields_in (row_named word)) (index - 1)
 
--- where the first field with moves stands, counted from an index; 0 where none does
-abbrev pub moves_at : ℕ → List FieldKind → ℕ
-moves_at index [] = 0
-moves_at index (k ∷ ks) = if has_moves k then index else moves_at (index + 1) ks
+-- where the first field stands that memory is taken for while it is read, counted from an index; 0
+-- where none does
+abbrev pub kept_at : ℕ → List FieldKind → ℕ
+kept_at index [] = 0
+kept_at index (k ∷ ks) = if is_kept k then index else kept_at (index + 1) ks
 
 -- no field stands after one that is all that is left
 abbrev pub is_rest_last : List FieldKind → Bool

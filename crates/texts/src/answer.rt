@@ -1,4 +1,4 @@
-//! What a command is answered: done, or one of the 24 codes.
+//! What a command is answered: done, or one of the 25 codes.
 
 ghost use Rattle.std.specs.Prelude.{◌≡◌};
 ghost use Rattle.texts.specs.Codes.{code_name, code_number, code_numbered};
@@ -54,6 +54,8 @@ pub enum Code {
     HasAttempts,
     /// The round is not closed.
     NotClosed,
+    /// Other attempts stand than the writer of the card saw.
+    Changed,
 }
 
 /// What a command was answered.
@@ -67,7 +69,7 @@ pub enum Answer {
 
 impl Code {
     /// All codes, in the order of their numbers.
-    pub const ALL: [Code; 24] = [
+    pub const ALL: [Code; 25] = [
         Code::Unread,
         Code::Repeat,
         Code::UnknownCompetitor,
@@ -92,6 +94,7 @@ impl Code {
         Code::Unfinished,
         Code::HasAttempts,
         Code::NotClosed,
+        Code::Changed,
     ];
 
     /// The code of a number. None where no code has it.
@@ -105,7 +108,7 @@ impl Code {
             .find(|code| code.number() == number)
     }
 
-    /// The code's number, 1 to 24.
+    /// The code's number, 1 to 25.
     pub fn number(self) -> u8
         ensures { result ≡ code_number self }
     {
@@ -134,6 +137,7 @@ impl Code {
             Code::Unfinished => 22,
             Code::HasAttempts => 23,
             Code::NotClosed => 24,
+            Code::Changed => 25,
         }
     }
 
@@ -166,6 +170,7 @@ impl Code {
             Code::Unfinished => "Unfinished",
             Code::HasAttempts => "HasAttempts",
             Code::NotClosed => "NotClosed",
+            Code::Changed => "Changed",
         }
     }
 }

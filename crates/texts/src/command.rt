@@ -2,6 +2,7 @@
 
 ghost use Rattle.std.specs.Prelude.{◌≡◌};
 
+use attempts::Value;
 use cube::notation::Moves;
 use formats::{Advance, Event, Format};
 use std::marker::Model;
@@ -103,6 +104,81 @@ pub struct AttemptEntry {
     pub outcome: Entered,
 }
 
+/// What the attempts of a competitor count, in order: at most five values.
+#[derive(Drop)]
+pub struct Was {
+    values: Vec<Value>,
+}
+
+impl Model for Was {
+    ghost use Rattle.std.specs.Prelude.{List};
+    ghost use Rattle.attempts.specs.declared.Value.{Value as Counted};
+
+    ghost Value = { List Counted };
+
+    ghost view = { λ was. was.values.items };
+}
+
+impl Was {
+    /// These values, without taking memory.
+    pub fn new(values: Vec<Value>) -> Self
+        ensures { result ≡ values.items }
+    {
+        Was { values }
+    }
+
+    /// The values, in order.
+    pub fn as_slice(&self) -> &[Value]
+        ensures { result.now ≡ self.now }
+    {
+        &self.values
+    }
+}
+
+/// The attempts that are to stand, in order: at most five, each what a judge enters, or nothing
+/// where it stays as it stands.
+#[derive(Drop)]
+pub struct Now {
+    outcomes: Vec<Option<Entered>>,
+}
+
+impl Model for Now {
+    ghost use Rattle.std.specs.Prelude.{List, Option};
+    ghost use Rattle.texts.specs.declared.command.Entered.{Entered as Outcome};
+
+    ghost Value = { List (Option Outcome) };
+
+    ghost view = { λ now. now.outcomes.items };
+}
+
+impl Now {
+    /// These attempts, without taking memory.
+    pub fn new(outcomes: Vec<Option<Entered>>) -> Self
+        ensures { result ≡ outcomes.items }
+    {
+        Now { outcomes }
+    }
+
+    /// The attempts, in order.
+    pub fn as_slice(&self) -> &[Option<Entered>]
+        ensures { result.now ≡ self.now }
+    {
+        &self.outcomes
+    }
+}
+
+/// A scorecard: what its writer saw of the attempts of a competitor in a round, and the attempts
+/// that are to stand.
+#[derive(Drop)]
+pub struct CardEntry {
+    pub id: RoundId,
+    /// The competitor's number, 1 to 9,999.
+    pub number: u16,
+    pub was: Was,
+    /// At an attempt that `was` does not have, something is entered.
+    pub now: Now,
+}
+
 /// What a text of the list asks for. Competitors' numbers are 1 to 9,999, rounds 1 to 4, attempts 1
 /// to 5.
 #[derive(Drop)]
@@ -148,7 +224,7 @@ pub enum Command {
     Close {
         id: RoundId,
     },
-    /// `EDITION`: the edition of the commands that holds from the next one on, 2 or 3.
+    /// `EDITION`: the edition of the commands that holds from the next one on, 2 to 4.
     SetEdition {
         edition: u8,
     },
@@ -180,4 +256,22 @@ pub enum Command {
     Reopen {
         id: RoundId,
     },
+    /// `CARD`: all attempts of a competitor in a round at once, where what stands is what the
+    /// writer of the card saw.
+    Card(CardEntry),
+    /// `FIX`: the same in a closed round, which stays closed.
+    Fix(CardEntry),
+    /// `CANCEL`: takes back the opening of a round in which nobody has an attempt.
+    Cancel {
+        id: RoundId,
+    },
+}
+
+/// A command, and the remark that stands behind it: who entered it, when, why. A remark is told and
+/// not believed: nothing depends on it.
+#[derive(Drop)]
+pub struct Remarked {
+    pub command: Command,
+    /// 1 to 80 bytes; with `CARD`, `FIX`, `ATT`, `COR`, `STR` and `WDR` alone.
+    pub remark: Option<Name>,
 }

@@ -2,13 +2,13 @@
 
 ghost use Rattle.std.specs.Prelude.{◌≡◌, fold, map};
 ghost use Rattle.std.specs.List.{list_all};
-ghost use Rattle.texts.specs.Editions.{edition_of, entered_edition, has_name_in, is_named_in};
-ghost use Rattle.texts.specs.Editions.{is_spelled_in, later_by};
+ghost use Rattle.texts.specs.Editions.{entered_edition, is_named_in};
+ghost use Rattle.texts.specs.Editions.{is_spelled_in, later_by, remark_edition};
 ghost use Rattle.texts.specs.Parts.{lent};
 ghost use Rattle.texts.specs.Table.{row_of, since_in};
 ghost use Rattle.texts.specs.WorkedTexts.{ReadsWorkedTexts};
 
-use crate::command::{Command, Entered};
+use crate::command::{Entered, Remarked};
 use crate::names::is_name_in;
 use crate::parts::parts;
 use crate::table::{Tag, row_of};
@@ -78,16 +78,26 @@ fn are_named_in(edition: u8, values: &[LentValue]) -> bool
     true
 }
 
-/// Whether an edition has a spelling of a command. The event `333mbf` and the outcome `M:` came
-/// with edition 2; `REN`, `SET`, `RSC`, `WDR` and `REOPEN` with edition 3. A name of more than 80
-/// bytes is spelled in edition 3 alone; one with a double quote, or with a character that is not
-/// seen, in editions 1 and 2 alone. `EDITION 2` and `EDITION 3` are spelled in each.
-pub fn is_spelled_in(edition: u8, command: &Command) -> bool
-    ensures { result ≡ is_spelled_in edition command.now }
+/// The first edition that has a command with a remark, or with none.
+fn remark_edition(has_remark: bool) -> u8
+    ensures { result ≡ remark_edition has_remark }
 {
-    let (tag, values) = parts(command);
+    if has_remark { 4 } else { 1 }
+}
+
+/// Whether an edition has a spelling of a command with its remark. The event `333mbf` and the
+/// outcome `M:` came with edition 2; `REN`, `SET`, `RSC`, `WDR` and `REOPEN` with edition 3;
+/// `CARD`, `FIX`, `CANCEL` and remarks with edition 4. A name of more than 80 bytes is spelled from
+/// edition 3 on; one with a double quote, or with a character that is not seen, in editions 1 and 2
+/// alone. `EDITION 2` to `EDITION 4` are spelled in each.
+pub fn is_spelled_in(edition: u8, told: &Remarked) -> bool
+    ensures { result ≡ is_spelled_in edition told.now }
+{
+    let (tag, values) = parts(&told.command);
     let values = values.as_slice();
-    are_named_in(edition, values) && latest_of(since_of(tag), values) <= edition
+    are_named_in(edition, values)
+        && latest_of(since_of(tag), values) <= edition
+        && remark_edition(told.remark.is_some()) <= edition
 }
 
 /// A law: worked texts, one of each word, are read and spelled as they are by hand, and came with

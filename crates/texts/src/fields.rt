@@ -4,18 +4,22 @@ ghost use Rattle.std.specs.Prelude.{◌≡◌, ◌==◌, ◌<◌, length, option
 ghost use Rattle.std.specs.Prelude.{◌-◌, position};
 ghost use Rattle.texts.specs.Fields.{cut, number_between, cutoff_of, two_numbers, limit_of};
 ghost use Rattle.texts.specs.Fields.{percent_of, advance_of, moves_of, time_of, multi_of, cubes_of};
-ghost use Rattle.texts.specs.Fields.{entered_of};
+ghost use Rattle.texts.specs.Fields.{entered_of, counted_of, was_of, stays_or_of, enters_later};
+ghost use Rattle.texts.specs.Fields.{now_of, at_most_5, all_of, cut_remark};
+ghost use Rattle.std.specs.Prelude.{map, option_and_then};
+ghost use Rattle.std.specs.List.{slice_split};
 ghost use Rattle.texts.specs.model.Returned.{MayBeSolution};
 
-use crate::command::Entered;
+use crate::command::{Entered, Now, Was};
 use crate::names::has_single_spaces;
 use crate::numbers::{u8_between, u16_between, u32_between};
+use attempts::Value;
 use cube::notation::{Moves, NoMemory, ReadFault, printed_is_spelled};
 use formats::{Advance, MOST_ENTRANTS};
 use std::alloc::Global;
 
 /// The last edition that commands name.
-pub const LAST_EDITION: u8 = 3;
+pub const LAST_EDITION: u8 = 4;
 
 /// The greatest number of a competitor.
 pub const LAST_NUMBER: u16 = 9999;
@@ -40,6 +44,10 @@ const LEAST_CUBES: u8 = 2;
 
 /// The most cubes that are attempted in multi-blind.
 const MOST_CUBES: u8 = 99;
+
+/// The greatest number that an attempt counts: multi-blind without a point, with 49 of 98 cubes
+/// unsolved in 5,999 seconds.
+const MOST_COUNTED: u32 = 990_599_949;
 
 /// The longest attempt of multi-blind, in seconds.
 const MOST_SECONDS: u16 = 5999;
@@ -208,4 +216,117 @@ pub fn entered_of(alloc: Global, bytes: &[u8]) -> Result<Option<Entered>, NoMemo
     } else {
         Ok(cubes_of(bytes))
     }
+}
+
+/// What an attempt counts: a number, or no result.
+fn counted_of(bytes: &[u8]) -> Option<Value>
+    ensures { result ≡ counted_of bytes.now }
+{
+    if bytes == b"DNF".as_slice() {
+        Some(Value::Dnf)
+    } else if bytes == b"DNS".as_slice() {
+        Some(Value::Dns)
+    } else {
+        Some(Value::Number(u32_between(0, MOST_COUNTED, bytes)?))
+    }
+}
+
+/// What the attempts of an entrant count, with a comma between two of them, or `-` for none.
+#[tactic(auto, unfolding(crate::specs::Fields::was_of))]
+pub fn was_of(alloc: Global, bytes: &[u8]) -> Result<Option<Was>, NoMemory>
+    ensures { IfOk result (λ was. was ≡ was_of bytes.now) }
+{
+    let mut values = Vec::new(alloc);
+    if bytes == b"-".as_slice() {
+        return Ok(Some(Was::new(values)));
+    }
+    let mut ahead = Some(bytes);
+    for _attempt in 0..LAST_ATTEMPT {
+        let Some(left) = ahead else {
+            return Ok(Some(Was::new(values)));
+        };
+        let (part, rest) = cut(left, b',');
+        let Some(value) = counted_of(part) else {
+            return Ok(None);
+        };
+        values.push(value)?;
+        ahead = rest;
+    }
+    match ahead {
+        Some(_) => Ok(None),
+        None => Ok(Some(Was::new(values))),
+    }
+}
+
+/// What is entered for an attempt, or `=` where it stays as it stands.
+fn stays_or_of(alloc: Global, bytes: &[u8]) -> Result<Option<Option<Entered>>, NoMemory>
+    ensures { IfOk result (λ outcome. outcome ≡ stays_or_of bytes.now) }
+{
+    if bytes == b"=".as_slice() {
+        return Ok(Some(None));
+    }
+    let outcome = entered_of(alloc, bytes)?;
+    Ok(outcome.map(|outcome| Some(outcome)))
+}
+
+/// Whether something is entered for each attempt after those that stand, so many.
+fn enters_later(stands: usize, now: &[Option<Entered>]) -> bool
+    ensures { result ≡ enters_later stands now.now }
+{
+    now.iter().skip(stands).all(|outcome| outcome.is_some())
+}
+
+/// What is entered for attempts, with a slash between two of them, or `=` where one stays.
+fn outcomes_of(alloc: Global, bytes: &[u8]) -> Result<Option<Vec<Option<Entered>>>, NoMemory>
+    ensures { IfOk result (λ outcomes. option_map (λ v. v.items) outcomes
+        ≡ option_and_then at_most_5
+        (all_of (map stays_or_of (slice_split (λ b. b == 47) bytes.now)))) }
+{
+    let mut outcomes = Vec::new(alloc);
+    let mut ahead = Some(bytes);
+    for _attempt in 0..LAST_ATTEMPT {
+        let Some(left) = ahead else {
+            return Ok(Some(outcomes));
+        };
+        let (part, rest) = cut(left, b'/');
+        let Some(outcome) = stays_or_of(alloc, part)? else {
+            return Ok(None);
+        };
+        outcomes.push(outcome)?;
+        ahead = rest;
+    }
+    match ahead {
+        Some(_) => Ok(None),
+        None => Ok(Some(outcomes)),
+    }
+}
+
+/// The attempts that are to stand, with a slash between two of them, or `-` for none. Those that
+/// stay are among those that stand, so many.
+#[tactic(auto, unfolding(crate::specs::Fields::now_of))]
+pub fn now_of(alloc: Global, stands: usize, bytes: &[u8]) -> Result<Option<Now>, NoMemory>
+    ensures { IfOk result (λ now. now ≡ now_of stands bytes.now) }
+{
+    if bytes == b"-".as_slice() {
+        return Ok(Some(Now::new(Vec::new(alloc))));
+    }
+    let Some(outcomes) = outcomes_of(alloc, bytes)? else {
+        return Ok(None);
+    };
+    if !enters_later(stands, &outcomes) {
+        return Ok(None);
+    }
+    Ok(Some(Now::new(outcomes)))
+}
+
+/// What stands in front of the first ` # `, and what stands after it, where it is there.
+pub fn cut_remark(bytes: &[u8]) -> (&[u8], Option<&[u8]>)
+    ensures { (result.0.now, option_map (λ s. s.now) result.1) ≡ cut_remark bytes.now }
+{
+    for place in 0..bytes.len() {
+        if let Some(remark) = bytes[place..].strip_prefix(b" # ".as_slice()) {
+            return (&bytes[..place], Some(remark));
+        }
+    }
+    (bytes, None)
 }

@@ -34,5 +34,6 @@ pub fn meaning_of(code: Code) -> &'static str
         Code::Unfinished => "somebody has not done all attempts that are allotted",
         Code::HasAttempts => "an attempt is entered already",
         Code::NotClosed => "the round is not closed",
+        Code::Changed => "other attempts stand than the writer of the card saw",
     }
 }

@@ -5,11 +5,15 @@ ghost use Rattle.std.specs.List.{list_all};
 ghost use Rattle.std.specs.Str.{is_utf8, chars};
 ghost use Rattle.texts.specs.Names.{has_single_spaces, is_name_byte, is_early_name};
 ghost use Rattle.texts.specs.Names.{is_seen, is_name_character, is_clear_name, is_name_in, is_name};
+ghost use Rattle.texts.specs.Names.{is_remark};
 
 use ucd_category::GeneralCategory;
 
 /// The most bytes of a name in editions 1 and 2.
 const MOST_EARLY_NAME: usize = 80;
+
+/// The most bytes of a remark.
+const MOST_REMARK: usize = 80;
 
 /// The most bytes of a name in edition 3: Latin letters and a local form of the name, each letter
 /// of which may have three bytes.
@@ -112,4 +116,11 @@ pub fn is_name(bytes: &[u8]) -> bool
     ensures { result ≡ is_name bytes.now }
 {
     is_early_name(bytes) || is_clear_name(bytes)
+}
+
+/// Whether it is a remark: a name of edition 3 of at most 80 bytes.
+pub fn is_remark(bytes: &[u8]) -> bool
+    ensures { result ≡ is_remark bytes.now }
+{
+    bytes.len() <= MOST_REMARK && is_clear_name(bytes)
 }

@@ -1,7 +1,8 @@
 //! Commands as their tags and the values of their fields.
 
 ghost use Rattle.std.specs.Prelude.{◌≡◌, [], ◌∷◌, map};
-ghost use Rattle.texts.specs.Parts.{entry_values, in_round, lent, parts, settings_values};
+ghost use Rattle.texts.specs.Parts.{card_values, entry_values, in_round, lent, parts};
+ghost use Rattle.texts.specs.Parts.{settings_values};
 ghost use Rattle.texts.specs.declared.value.FieldValue.TheVariants.{Number as NumberOf};
 ghost use Rattle.texts.specs.declared.value.FieldValue.TheVariants.{Name as NameOf};
 ghost use Rattle.texts.specs.declared.value.FieldValue.TheVariants.{Event as EventOf};
@@ -14,7 +15,7 @@ ghost use Rattle.texts.specs.declared.value.FieldValue.TheVariants.{Moves as Mov
 ghost use Rattle.texts.specs.declared.value.FieldValue.TheVariants.{Edition as EditionOf};
 ghost use Rattle.arrayvec.specs.ArrayVec.{array_vec_len};
 
-use crate::command::{AttemptEntry, Command, Name, RoundId, Settings};
+use crate::command::{AttemptEntry, CardEntry, Command, Name, RoundId, Settings};
 use crate::table::Tag;
 use crate::value::{LentValue, LentValues};
 use arrayvec::ArrayVec;
@@ -118,6 +119,17 @@ fn opening<'a>(id: RoundId, settings: Settings) -> LentValues<'a>
     values
 }
 
+/// A scorecard.
+fn carded(card: &CardEntry) -> LentValues<'_>
+    ensures { map lent result.items ≡ card_values card.entry.now }
+{
+    let mut values = round(card.id);
+    values.push(LentValue::Number(card.number));
+    values.push(LentValue::Was(&card.was));
+    values.push(LentValue::Now(&card.now));
+    values
+}
+
 /// An edition.
 fn of_edition<'a>(edition: u8) -> LentValues<'a>
     ensures { map lent result.items ≡ EditionOf edition ∷ [] }
@@ -157,5 +169,8 @@ pub(crate) fn parts(command: &Command) -> (Tag, LentValues<'_>)
         }
         Command::Withdraw { id, number } => (Tag::Withdraw, entrant(*id, *number)),
         Command::Reopen { id } => (Tag::Reopen, round(*id)),
+        Command::Card(card) => (Tag::Card, carded(card)),
+        Command::Fix(card) => (Tag::Fix, carded(card)),
+        Command::Cancel { id } => (Tag::Cancel, round(*id)),
     }
 }

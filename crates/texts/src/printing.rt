@@ -4,18 +4,19 @@ ghost use Rattle.std.specs.Prelude.{◌≡◌, ◌++◌, IfOk, OnOk};
 ghost use Rattle.cube.specs.notation.Notation.{spelling as moves_text};
 ghost use Rattle.texts.specs.Parts.{lent};
 ghost use Rattle.texts.specs.Spelling.{cutoff_text, limit_text, advance_text, entered_text};
-ghost use Rattle.texts.specs.Spelling.{spelling, value_text, values_text};
+ghost use Rattle.texts.specs.Spelling.{counted_text, was_text, stays_or_text, now_text};
+ghost use Rattle.texts.specs.Spelling.{spelling, told_spelling, value_text, values_text};
 ghost use Rattle.texts.specs.Table.{row_of, word_in};
 ghost use Rattle.std.specs.Prelude.{map};
 ghost use Rattle.texts.specs.declared.command.Entered.TheVariants.{Time as TimeOf};
 ghost use Rattle.texts.specs.declared.command.Entered.TheVariants.{Solution as SolutionOf};
 ghost use Rattle.texts.specs.declared.command.Entered.TheVariants.{Multi as MultiOf};
 
-use crate::command::{Command, Entered};
+use crate::command::{Command, Entered, Remarked};
 use crate::parts::parts;
 use crate::table::{Tag, row_of};
 use crate::value::LentValue;
-use attempts::{NoMemory, push_decimal};
+use attempts::{NoMemory, Value, push_decimal};
 use cube::Move;
 use formats::Advance;
 use std::alloc::Global;
@@ -141,6 +142,61 @@ fn push_entered(alloc: Global, out: &mut Vec<u8>, outcome: &Entered) -> Result<(
     }
 }
 
+/// What an attempt counts.
+fn push_counted(out: &mut Vec<u8>, value: Value) -> Result<(), NoMemory>
+    ensures { OnOk result (out.new.items ≡ out.old.items ++ counted_text value) }
+{
+    match value {
+        Value::Number(number) => push_decimal(out, number),
+        Value::Dnf => out.extend_from_slice(b"DNF"),
+        Value::Dns => out.extend_from_slice(b"DNS"),
+    }
+}
+
+/// What the attempts count, with a comma between two of them.
+fn push_was(out: &mut Vec<u8>, was: &[Value]) -> Result<(), NoMemory>
+    ensures { OnOk result (out.new.items ≡ out.old.items ++ was_text was.now) }
+{
+    let Some((first, later)) = was.split_first() else {
+        return out.extend_from_slice(b"-");
+    };
+    push_counted(out, *first)?;
+    for value in later {
+        out.extend_from_slice(b",")?;
+        push_counted(out, *value)?;
+    }
+    Ok(())
+}
+
+/// What is to stand for an attempt.
+fn push_stays_or(
+    alloc: Global,
+    out: &mut Vec<u8>,
+    outcome: &Option<Entered>,
+) -> Result<(), NoMemory>
+    ensures { OnOk result (out.new.items ≡ out.old.items ++ stays_or_text outcome.now) }
+{
+    match outcome {
+        Some(outcome) => push_entered(alloc, out, outcome),
+        None => out.extend_from_slice(b"="),
+    }
+}
+
+/// The attempts that are to stand, with a slash between two of them.
+fn push_now(alloc: Global, out: &mut Vec<u8>, now: &[Option<Entered>]) -> Result<(), NoMemory>
+    ensures { OnOk result (out.new.items ≡ out.old.items ++ now_text now.now) }
+{
+    let Some((first, later)) = now.split_first() else {
+        return out.extend_from_slice(b"-");
+    };
+    push_stays_or(alloc, out, first)?;
+    for outcome in later {
+        out.extend_from_slice(b"/")?;
+        push_stays_or(alloc, out, outcome)?;
+    }
+    Ok(())
+}
+
 /// Adds how a value is spelled.
 fn push_value(alloc: Global, out: &mut Vec<u8>, value: &LentValue) -> Result<(), NoMemory>
     ensures { OnOk result (out.new.items ≡ out.old.items ++ value_text (lent value.now)) }
@@ -158,6 +214,8 @@ fn push_value(alloc: Global, out: &mut Vec<u8>, value: &LentValue) -> Result<(),
         LentValue::Moves(moves) => push_moves(alloc, out, moves.as_slice()),
         LentValue::Outcome(outcome) => push_entered(alloc, out, outcome),
         LentValue::Edition(edition) => push_decimal(out, u32::from(*edition)),
+        LentValue::Was(was) => push_was(out, was.as_slice()),
+        LentValue::Now(now) => push_now(alloc, out, now.as_slice()),
     }
 }
 
@@ -183,7 +241,8 @@ fn word_of(tag: Tag) -> &'static [u8]
 }
 
 /// The spelling of a command. `read` accepts it where the fields are in their ranges and it has at
-/// most 600 bytes, which only moves can exceed. It is `NoMemory` only where a growth was refused.
+/// most 600 bytes, which only moves can make it exceed. It is `NoMemory` only where a growth was
+/// refused.
 #[tactic(auto, using(crate::proofs::Rows::text_is))]
 pub fn print(alloc: Global, command: &Command) -> Result<Vec<u8>, NoMemory>
     ensures { IfOk result (λ text. text.items ≡ spelling command.now) }
@@ -191,5 +250,19 @@ pub fn print(alloc: Global, command: &Command) -> Result<Vec<u8>, NoMemory>
     let (tag, values) = parts(command);
     let mut text = Vec::from_slice(alloc, word_of(tag))?;
     push_values(alloc, &mut text, values.as_slice())?;
+    Ok(text)
+}
+
+/// The spelling of a command with its remark. `read` accepts it where the fields are in their
+/// ranges, the command may have this remark, and the text has at most 600 bytes. It is `NoMemory`
+/// only where a growth was refused.
+pub fn print_remarked(alloc: Global, told: &Remarked) -> Result<Vec<u8>, NoMemory>
+    ensures { IfOk result (λ text. text.items ≡ told_spelling told.now) }
+{
+    let mut text = print(alloc, &told.command)?;
+    if let Some(remark) = &told.remark {
+        text.extend_from_slice(b" # ")?;
+        text.extend_from_slice(remark.as_bytes())?;
+    }
     Ok(text)
 }

@@ -1,25 +1,26 @@
 //! Commands from their texts.
 
-ghost use Rattle.std.specs.Prelude.{◌≡◌, ◌<◌, ◌≤◌, ◌↔◌, true, false, nat_lt, length};
+ghost use Rattle.std.specs.Prelude.{◌≡◌, ◌<◌, ◌≤◌, ◌↔◌, ◌+◌, true, false, nat_lt, length};
 ghost use Rattle.std.specs.Prelude.{Option, Some, None, IfOk, OnErr};
 ghost use Rattle.std.specs.Option.{option_copied};
-ghost use Rattle.texts.specs.Spelling.{IsFit, spelling};
+ghost use Rattle.texts.specs.Spelling.{IsFitTold, standing, told_spelling};
 ghost use Rattle.texts.specs.Fields.{cut};
 ghost use Rattle.texts.specs.Table.{is_rest_last, is_word, row_named};
-ghost use Rattle.texts.specs.Reading.{Gives, moves_field, ReadsAs, value_of, field_of};
-ghost use Rattle.texts.specs.Reading.{next_of, values_of, by_row};
+ghost use Rattle.texts.specs.Reading.{Gives, kept_field, ReadsAs, value_of, field_of};
+ghost use Rattle.texts.specs.Reading.{next_of, values_of, before_remark, with_remark, by_row};
 ghost use Rattle.texts.specs.Reading.{command_of, ReadsWhatIsSpelled, SpellsWhatIsRead};
 ghost use Rattle.texts.specs.Reading.{SpellsOneCommand, SpellsShort};
-ghost use Rattle.texts.specs.model.Returned.{GivesNext, GivesValues, TakesForValue};
+ghost use Rattle.texts.specs.model.Returned.{GivesNext, GivesRemark, GivesValues, TakesForValue};
+ghost use Rattle.texts.specs.declared.command.Remarked.{Remarked as Told};
 ghost use Rattle.texts.specs.declared.reading.CommandFault.TheVariants.{NoMemory as OutOfMemory};
 ghost use Rattle.texts.specs.declared.value.FieldValue.TheVariants.{Name as NameOf};
 
-use crate::command::{Command, Name};
+use crate::command::{Command, Name, Remarked};
 use crate::fields::{
-    LAST_ATTEMPT, LAST_EDITION, LAST_NUMBER, advance_of, cut, cutoff_of, entered_of, limit_of,
-    moves_of,
+    LAST_ATTEMPT, LAST_EDITION, LAST_NUMBER, advance_of, cut, cut_remark, cutoff_of, entered_of,
+    limit_of, moves_of, now_of, was_of,
 };
-use crate::names::{is_clear_name, is_name};
+use crate::names::{is_clear_name, is_name, is_remark};
 use crate::numbers::{u8_between, u16_between};
 use crate::table::{FieldKind, row_named};
 use crate::typed::command_of_values;
@@ -40,7 +41,7 @@ pub enum CommandFault {
     /// What stands before the first space is no word of a command.
     NotACommand,
     /// The first field, from the left, that is missing or misspelt; or, where all are right, the
-    /// one too many.
+    /// one too many, or the remark, as the field after the last one.
     BadField { index: u8 },
     /// Memory ran out.
     NoMemory,
@@ -64,9 +65,9 @@ fn copied(alloc: Global, bytes: &[u8]) -> Result<FieldValue, NoMemory>
 
 #[tactic(auto, using(crate::proofs::Memory::name_takes), unfolding(crate::specs::Fields::name_of))]
 fn name_value(alloc: Global, bytes: &[u8]) -> Result<Option<FieldValue>, NoMemory>
-    ensures value { IfOk result (λ v. v ≡ value_of FieldKind.Name bytes.now) }
+    ensures value { IfOk result (λ v. v ≡ value_of 0 FieldKind.Name bytes.now) }
     ensures memory { OnErr result
-        (TakesForValue FieldKind.Name (value_of FieldKind.Name bytes.now)) }
+        (TakesForValue FieldKind.Name (value_of 0 FieldKind.Name bytes.now)) }
 {
     if is_name(bytes) {
         Ok(Some(copied(alloc, bytes)?))
@@ -77,9 +78,9 @@ fn name_value(alloc: Global, bytes: &[u8]) -> Result<Option<FieldValue>, NoMemor
 
 #[tactic(auto, using(crate::proofs::Memory::new_name_takes), unfolding(crate::specs::Fields::new_name_of))]
 fn new_name_value(alloc: Global, bytes: &[u8]) -> Result<Option<FieldValue>, NoMemory>
-    ensures value { IfOk result (λ v. v ≡ value_of FieldKind.NewName bytes.now) }
+    ensures value { IfOk result (λ v. v ≡ value_of 0 FieldKind.NewName bytes.now) }
     ensures memory { OnErr result
-        (TakesForValue FieldKind.NewName (value_of FieldKind.NewName bytes.now)) }
+        (TakesForValue FieldKind.NewName (value_of 0 FieldKind.NewName bytes.now)) }
 {
     if is_clear_name(bytes) {
         Ok(Some(copied(alloc, bytes)?))
@@ -90,26 +91,49 @@ fn new_name_value(alloc: Global, bytes: &[u8]) -> Result<Option<FieldValue>, NoM
 
 #[tactic(auto, using(crate::proofs::Memory::moves_take))]
 fn moves_value(alloc: Global, bytes: &[u8]) -> Result<Option<FieldValue>, NoMemory>
-    ensures value { IfOk result (λ v. v ≡ value_of FieldKind.Moves bytes.now) }
+    ensures value { IfOk result (λ v. v ≡ value_of 0 FieldKind.Moves bytes.now) }
     ensures memory { OnErr result
-        (TakesForValue FieldKind.Moves (value_of FieldKind.Moves bytes.now)) }
+        (TakesForValue FieldKind.Moves (value_of 0 FieldKind.Moves bytes.now)) }
 {
     Ok(moves_of(alloc, bytes)?.map(FieldValue::Moves))
 }
 
 #[tactic(auto, using(crate::proofs::Memory::outcome_takes))]
 fn outcome_value(alloc: Global, bytes: &[u8]) -> Result<Option<FieldValue>, NoMemory>
-    ensures value { IfOk result (λ v. v ≡ value_of FieldKind.Outcome bytes.now) }
+    ensures value { IfOk result (λ v. v ≡ value_of 0 FieldKind.Outcome bytes.now) }
     ensures memory { OnErr result
-        (TakesForValue FieldKind.Outcome (value_of FieldKind.Outcome bytes.now)) }
+        (TakesForValue FieldKind.Outcome (value_of 0 FieldKind.Outcome bytes.now)) }
 {
     Ok(entered_of(alloc, bytes)?.map(FieldValue::Outcome))
 }
 
-/// The value that bytes spell, where they spell one of a kind.
-fn value_of(alloc: Global, kind: FieldKind, bytes: &[u8]) -> Result<Option<FieldValue>, NoMemory>
-    ensures value { IfOk result (λ v. v ≡ value_of kind bytes.now) }
-    ensures memory { OnErr result (TakesForValue kind (value_of kind bytes.now)) }
+#[tactic(auto, using(crate::proofs::Memory::was_takes))]
+fn was_value(alloc: Global, bytes: &[u8]) -> Result<Option<FieldValue>, NoMemory>
+    ensures value { IfOk result (λ v. v ≡ value_of 0 FieldKind.Was bytes.now) }
+    ensures memory { OnErr result
+        (TakesForValue FieldKind.Was (value_of 0 FieldKind.Was bytes.now)) }
+{
+    Ok(was_of(alloc, bytes)?.map(FieldValue::Was))
+}
+
+#[tactic(auto, using(crate::proofs::Memory::now_takes))]
+fn now_value(alloc: Global, stands: usize, bytes: &[u8]) -> Result<Option<FieldValue>, NoMemory>
+    ensures value { IfOk result (λ v. v ≡ value_of stands FieldKind.Now bytes.now) }
+    ensures memory { OnErr result
+        (TakesForValue FieldKind.Now (value_of stands FieldKind.Now bytes.now)) }
+{
+    Ok(now_of(alloc, stands, bytes)?.map(FieldValue::Now))
+}
+
+/// The value that bytes spell, where they spell one of a kind, and so many attempts stand.
+fn value_of(
+    alloc: Global,
+    stands: usize,
+    kind: FieldKind,
+    bytes: &[u8],
+) -> Result<Option<FieldValue>, NoMemory>
+    ensures value { IfOk result (λ v. v ≡ value_of stands kind bytes.now) }
+    ensures memory { OnErr result (TakesForValue kind (value_of stands kind bytes.now)) }
 {
     match kind {
         FieldKind::Number => Ok(u16_between(1, LAST_NUMBER, bytes).map(FieldValue::Number)),
@@ -125,6 +149,8 @@ fn value_of(alloc: Global, kind: FieldKind, bytes: &[u8]) -> Result<Option<Field
         FieldKind::Moves => moves_value(alloc, bytes),
         FieldKind::Outcome => outcome_value(alloc, bytes),
         FieldKind::Edition => Ok(u8_between(2, LAST_EDITION, bytes).map(FieldValue::Edition)),
+        FieldKind::Was => was_value(alloc, bytes),
+        FieldKind::Now => now_value(alloc, stands, bytes),
     }
 }
 
@@ -143,16 +169,28 @@ fn field_of(kind: FieldKind, bytes: &[u8]) -> (&[u8], Option<&[u8]>)
 #[tactic(auto, using(crate::proofs::Memory::next_takes))]
 fn next_of(
     alloc: Global,
+    stands: usize,
     kind: FieldKind,
     index: u8,
     left: Option<&[u8]>,
 ) -> Result<(FieldValue, Option<&[u8]>), CommandFault>
-    ensures { GivesNext kind index result (next_of kind index (option_copied left.entry)) }
+    ensures { GivesNext kind index result (next_of stands kind index (option_copied left.entry)) }
 {
     let bytes = left.ok_or(CommandFault::BadField { index })?;
     let (bytes, left) = field_of(kind, bytes);
-    let value = value_of(alloc, kind, bytes)?.ok_or(CommandFault::BadField { index })?;
+    let value = value_of(alloc, stands, kind, bytes)?.ok_or(CommandFault::BadField { index })?;
     Ok((value, left))
+}
+
+/// How many attempts stand by a value that says what they count, or else as many as were said
+/// before.
+fn standing(stands: usize, value: &FieldValue) -> usize
+    ensures { result ≡ standing stands value.now }
+{
+    match value {
+        FieldValue::Was(was) => was.as_slice().len(),
+        _ => stands,
+    }
 }
 
 /// The values of fields of these kinds; or the first fault from the left.
@@ -164,14 +202,16 @@ fn values_of(
     requires few { length kinds.now ≤ 6 }
     requires last { is_rest_last kinds.now ≡ true }
     ensures { GivesValues (λ vs. vs.items) kinds.now result
-        (values_of kinds.now 1 (option_copied left.entry)) }
+        (values_of 0 kinds.now 1 (option_copied left.entry)) }
 {
     let mut values = ArrayVec::new();
+    let mut stands = 0;
     let mut ahead = left;
     let mut index = 1;
     for kind in kinds {
-        let next = next_of(alloc, *kind, index, ahead)?;
+        let next = next_of(alloc, stands, *kind, index, ahead)?;
         let (value, rest) = next;
+        stands = standing(stands, &value);
         values.push(value);
         ahead = rest;
         index += 1;
@@ -182,15 +222,64 @@ fn values_of(
     }
 }
 
+/// What is left of a text before its remark, and the remark, where the text may have one.
+fn before_remark(takes_remark: bool, left: Option<&[u8]>) -> (Option<&[u8]>, Option<&[u8]>)
+    ensures { (option_copied result.0, option_copied result.1)
+        ≡ before_remark takes_remark (option_copied left.entry) }
+{
+    match left {
+        Some(bytes) if takes_remark => {
+            let (front, remark) = cut_remark(bytes);
+            (Some(front), remark)
+        }
+        _ => (left, None),
+    }
+}
+
+/// The index of the field after these.
+fn index_after(kinds: &[FieldKind]) -> u8
+    requires few { length kinds.now ≤ 6 }
+    ensures { result ≡ length kinds.now + 1 }
+{
+    kinds.len() as u8 + 1
+}
+
+/// A command with its remark, which is the field with this index.
+fn with_remark(
+    alloc: Global,
+    index: u8,
+    remark: Option<&[u8]>,
+    command: Command,
+) -> Result<Remarked, CommandFault>
+    ensures { GivesRemark result (with_remark index (option_copied remark.entry) command) }
+{
+    let remark = match remark {
+        None => None,
+        Some(bytes) => {
+            if !is_remark(bytes) {
+                return Err(CommandFault::BadField { index });
+            }
+            Some(Name::new(Vec::from_slice(alloc, bytes)?))
+        }
+    };
+    Ok(Remarked { command, remark })
+}
+
 /// The command of a word and what is left after it.
-fn command_of_word(alloc: Global, word: &[u8], left: Option<&[u8]>) -> Result<Command, CommandFault>
-    ensures { Gives (moves_field word.now) result
+fn command_of_word(
+    alloc: Global,
+    word: &[u8],
+    left: Option<&[u8]>,
+) -> Result<Remarked, CommandFault>
+    ensures { Gives (kept_field word.now) result
         (by_row (row_named word.now) (option_copied left.entry)) }
 {
     let row = row_named(word).ok_or(CommandFault::NotACommand)?;
-    let values = values_of(alloc, row.fields, left)?;
+    let (front, remark) = before_remark(row.takes_remark, left);
+    let values = values_of(alloc, row.fields, front)?;
+    let index = index_after(row.fields);
     match command_of_values(row.tag, values) {
-        Some(command) => Ok(command),
+        Some(command) => with_remark(alloc, index, remark, command),
         None => Err(CommandFault::NotACommand),
     }
 }
@@ -202,20 +291,22 @@ fn is_too_long(text: &[u8]) -> bool
     text.len() > MOST_TEXT
 }
 
-/// The command that a text spells: a word and its fields, parted by one space each, of at most 600
-/// bytes. The spellings are those of all editions, and [`is_spelled_in`](crate::is_spelled_in) says
-/// which edition has which of them. The faults stand in the order of `CommandFault`. Memory is
-/// taken for a name and for moves.
-pub fn read(alloc: Global, text: &[u8]) -> Result<Command, CommandFault>
-    ensures value { Gives (moves_field (cut 32 text.now).0) result (command_of text.now) }
+/// The command that a text spells, with its remark: a word and its fields, parted by one space
+/// each, and a remark after ` # `, where the command may have one; of at most 600 bytes in all. The
+/// spellings are those of all editions, and [`is_spelled_in`](crate::is_spelled_in) says which
+/// edition has which of them. The faults stand in the order of `CommandFault`; that of a remark is
+/// the field after the last one. Memory is taken for a name, for moves, for a scorecard and for a
+/// remark.
+pub fn read(alloc: Global, text: &[u8]) -> Result<Remarked, CommandFault>
+    ensures value { Gives (kept_field (cut 32 text.now).0) result (command_of text.now) }
 
     ensures too_long { (result ≡ Err CommandFault.TooLong) ↔ (600 < length text.now) }
     ensures not_a_command { (result ≡ Err CommandFault.NotACommand)
         ↔ ((length text.now ≤ 600) × (is_word (cut 32 text.now).0 ≡ false)) }
 
     // Exactly the spellings of commands whose fields are in their ranges are read.
-    ensures found { (c : Command) → IsFit c → text.now ≡ spelling c → ReadsAs result c }
-    ensures only { IfOk result (λ c. IsFit c × (text.now ≡ spelling c)) }
+    ensures found { (c : Told) → IsFitTold c → text.now ≡ told_spelling c → ReadsAs result c }
+    ensures only { IfOk result (λ c. IsFitTold c × (text.now ≡ told_spelling c)) }
 {
     if is_too_long(text) {
         return Err(CommandFault::TooLong);
@@ -224,9 +315,10 @@ pub fn read(alloc: Global, text: &[u8]) -> Result<Command, CommandFault>
     command_of_word(alloc, word, left)
 }
 
-/// The laws of reading and spelling: a command in its ranges is read from its spelling, which has
-/// at most 600 bytes; what is read from a text is a command in its ranges, whose spelling is that
-/// text; and a text spells at most one command.
+/// The laws of reading and spelling: a command in its ranges, with a remark where it may have one,
+/// is read from its spelling; what is read from a text is such a command, whose spelling is that
+/// text; a text spells at most one command; and the spelling of a command in its ranges has at most
+/// 600 bytes.
 pub fn one_spelling()
     ensures found { ReadsWhatIsSpelled }
     ensures only { SpellsWhatIsRead }

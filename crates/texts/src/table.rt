@@ -19,6 +19,10 @@ pub enum FieldKind {
     Moves,
     Outcome,
     Edition,
+    /// What the attempts that stand count.
+    Was,
+    /// The attempts that are to stand. Those that stay are among those of the field before.
+    Now,
 }
 
 impl FieldKind {
@@ -28,7 +32,11 @@ impl FieldKind {
     {
         matches!(
             self,
-            FieldKind::Name | FieldKind::NewName | FieldKind::Moves | FieldKind::Outcome
+            FieldKind::Name
+                | FieldKind::NewName
+                | FieldKind::Moves
+                | FieldKind::Outcome
+                | FieldKind::Now
         )
     }
 }
@@ -51,6 +59,9 @@ pub enum Tag {
     Rescramble,
     Withdraw,
     Reopen,
+    Card,
+    Fix,
+    Cancel,
 }
 
 /// A row of the table: a command.
@@ -70,7 +81,7 @@ pub struct Row<Word, Fields> {
 
 /// The commands: how each is spelled, since which edition. What is read, printed and asked of a
 /// text's fields follows from its row.
-pub const ROWS: [Row<&[u8], &[FieldKind]>; 15] = [
+pub const ROWS: [Row<&[u8], &[FieldKind]>; 18] = [
     Row {
         word: b"REG",
         since: 1,
@@ -121,7 +132,7 @@ pub const ROWS: [Row<&[u8], &[FieldKind]>; 15] = [
             FieldKind::Number,
             FieldKind::Outcome,
         ],
-        takes_remark: false,
+        takes_remark: true,
         tag: Tag::Attempt,
     },
     Row {
@@ -134,14 +145,14 @@ pub const ROWS: [Row<&[u8], &[FieldKind]>; 15] = [
             FieldKind::Number,
             FieldKind::Outcome,
         ],
-        takes_remark: false,
+        takes_remark: true,
         tag: Tag::Correct,
     },
     Row {
         word: b"STR",
         since: 1,
         fields: &[FieldKind::Event, FieldKind::Round, FieldKind::Number],
-        takes_remark: false,
+        takes_remark: true,
         tag: Tag::Strike,
     },
     Row {
@@ -201,7 +212,7 @@ pub const ROWS: [Row<&[u8], &[FieldKind]>; 15] = [
         word: b"WDR",
         since: 3,
         fields: &[FieldKind::Event, FieldKind::Round, FieldKind::Number],
-        takes_remark: false,
+        takes_remark: true,
         tag: Tag::Withdraw,
     },
     Row {
@@ -210,6 +221,39 @@ pub const ROWS: [Row<&[u8], &[FieldKind]>; 15] = [
         fields: &[FieldKind::Event, FieldKind::Round],
         takes_remark: false,
         tag: Tag::Reopen,
+    },
+    Row {
+        word: b"CARD",
+        since: 4,
+        fields: &[
+            FieldKind::Event,
+            FieldKind::Round,
+            FieldKind::Number,
+            FieldKind::Was,
+            FieldKind::Now,
+        ],
+        takes_remark: true,
+        tag: Tag::Card,
+    },
+    Row {
+        word: b"FIX",
+        since: 4,
+        fields: &[
+            FieldKind::Event,
+            FieldKind::Round,
+            FieldKind::Number,
+            FieldKind::Was,
+            FieldKind::Now,
+        ],
+        takes_remark: true,
+        tag: Tag::Fix,
+    },
+    Row {
+        word: b"CANCEL",
+        since: 4,
+        fields: &[FieldKind::Event, FieldKind::Round],
+        takes_remark: false,
+        tag: Tag::Cancel,
     },
 ];
 

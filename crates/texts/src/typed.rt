@@ -1,12 +1,14 @@
 //! Commands from the values of their fields.
 
-ghost use Rattle.std.specs.Prelude.{◌≡◌, None};
-ghost use Rattle.texts.specs.Parts.{made, made_of, id_in, entry_in, settings_in};
+ghost use Rattle.std.specs.Prelude.{◌≡◌};
+ghost use Rattle.texts.specs.Parts.{made, made_of, id_in, entry_in, settings_in, card_in};
 ghost use Rattle.texts.specs.Parts.{number_in, name_in, event_in};
 ghost use Rattle.texts.specs.Parts.{round_in, format_in, cutoff_in, limit_in, advance_in};
-ghost use Rattle.texts.specs.Parts.{attempt_in, moves_in, outcome_in, edition_in};
+ghost use Rattle.texts.specs.Parts.{attempt_in, moves_in, outcome_in, edition_in, was_in, now_in};
 
-use crate::command::{AttemptEntry, Command, Entered, Name, RoundId, Settings};
+use crate::command::{
+    AttemptEntry, CardEntry, Command, Entered, Name, Now, RoundId, Settings, Was,
+};
 use crate::table::Tag;
 use crate::value::{FieldValue, Values};
 use cube::notation::Moves;
@@ -120,6 +122,24 @@ fn edition_in(value: Option<FieldValue>) -> Option<u8>
     }
 }
 
+fn was_in(value: Option<FieldValue>) -> Option<Was>
+    ensures { result ≡ was_in value }
+{
+    match value {
+        Some(FieldValue::Was(was)) => Some(was),
+        _ => None,
+    }
+}
+
+fn now_in(value: Option<FieldValue>) -> Option<Now>
+    ensures { result ≡ now_in value }
+{
+    match value {
+        Some(FieldValue::Now(now)) => Some(now),
+        _ => None,
+    }
+}
+
 /// The event and the round that stand in front.
 fn id_in(first: Option<FieldValue>, second: Option<FieldValue>) -> Option<RoundId>
     ensures { result ≡ id_in first second }
@@ -151,6 +171,28 @@ fn entry_in(
     })
 }
 
+/// A scorecard.
+fn card_in(
+    first: Option<FieldValue>,
+    second: Option<FieldValue>,
+    third: Option<FieldValue>,
+    fourth: Option<FieldValue>,
+    fifth: Option<FieldValue>,
+) -> Option<CardEntry>
+    ensures { result ≡ card_in first second third fourth fifth }
+{
+    let id = id_in(first, second)?;
+    let number = number_in(third)?;
+    let was = was_in(fourth)?;
+    let now = now_in(fifth)?;
+    Some(CardEntry {
+        id,
+        number,
+        was,
+        now,
+    })
+}
+
 /// How a round is run.
 fn settings_in(
     first: Option<FieldValue>,
@@ -172,15 +214,17 @@ fn settings_in(
     })
 }
 
-fn register(first: Option<FieldValue>, second: Option<FieldValue>) -> Option<Command>
-    ensures { result ≡ made Tag.Register first second None None None None }
+fn register(values: Values) -> Option<Command>
+    ensures { result ≡ made_of (Tag.Register, values.items) }
 {
-    let number = number_in(first)?;
-    let name = name_in(second)?;
+    let mut values = values.into_iter();
+    let number = number_in(values.next())?;
+    let name = name_in(values.next())?;
     Some(Command::Register { number, name })
 }
 
-fn open(
+/// The opening of a round.
+fn opening_in(
     first: Option<FieldValue>,
     second: Option<FieldValue>,
     third: Option<FieldValue>,
@@ -195,113 +239,118 @@ fn open(
     Some(Command::Open { id, settings })
 }
 
-fn enter(first: Option<FieldValue>, second: Option<FieldValue>) -> Option<Command>
-    ensures { result ≡ made Tag.Enter first second None None None None }
+fn open(values: Values) -> Option<Command>
+    ensures { result ≡ made_of (Tag.Open, values.items) }
 {
-    let event = event_in(first)?;
-    let number = number_in(second)?;
+    let mut values = values.into_iter();
+    opening_in(
+        values.next(),
+        values.next(),
+        values.next(),
+        values.next(),
+        values.next(),
+        values.next(),
+    )
+}
+
+fn enter(values: Values) -> Option<Command>
+    ensures { result ≡ made_of (Tag.Enter, values.items) }
+{
+    let mut values = values.into_iter();
+    let event = event_in(values.next())?;
+    let number = number_in(values.next())?;
     Some(Command::Enter { event, number })
 }
 
-fn scramble(
-    first: Option<FieldValue>,
-    second: Option<FieldValue>,
-    third: Option<FieldValue>,
-    fourth: Option<FieldValue>,
-) -> Option<Command>
-    ensures { result ≡ made Tag.Scramble first second third fourth None None }
+fn scramble(values: Values) -> Option<Command>
+    ensures { result ≡ made_of (Tag.Scramble, values.items) }
 {
-    let id = id_in(first, second)?;
-    let attempt = attempt_in(third)?;
-    let moves = moves_in(fourth)?;
+    let mut values = values.into_iter();
+    let id = id_in(values.next(), values.next())?;
+    let attempt = attempt_in(values.next())?;
+    let moves = moves_in(values.next())?;
     Some(Command::Scramble { id, attempt, moves })
 }
 
-fn attempt(
-    first: Option<FieldValue>,
-    second: Option<FieldValue>,
-    third: Option<FieldValue>,
-    fourth: Option<FieldValue>,
-    fifth: Option<FieldValue>,
-) -> Option<Command>
-    ensures { result ≡ made Tag.Attempt first second third fourth fifth None }
+fn attempt(values: Values) -> Option<Command>
+    ensures { result ≡ made_of (Tag.Attempt, values.items) }
 {
-    let entry = entry_in(first, second, third, fourth, fifth)?;
+    let mut values = values.into_iter();
+    let entry = entry_in(
+        values.next(),
+        values.next(),
+        values.next(),
+        values.next(),
+        values.next(),
+    )?;
     Some(Command::Attempt(entry))
 }
 
-fn correct(
-    first: Option<FieldValue>,
-    second: Option<FieldValue>,
-    third: Option<FieldValue>,
-    fourth: Option<FieldValue>,
-    fifth: Option<FieldValue>,
-) -> Option<Command>
-    ensures { result ≡ made Tag.Correct first second third fourth fifth None }
+fn correct(values: Values) -> Option<Command>
+    ensures { result ≡ made_of (Tag.Correct, values.items) }
 {
-    let entry = entry_in(first, second, third, fourth, fifth)?;
+    let mut values = values.into_iter();
+    let entry = entry_in(
+        values.next(),
+        values.next(),
+        values.next(),
+        values.next(),
+        values.next(),
+    )?;
     Some(Command::Correct(entry))
 }
 
-fn strike(
-    first: Option<FieldValue>,
-    second: Option<FieldValue>,
-    third: Option<FieldValue>,
-) -> Option<Command>
-    ensures { result ≡ made Tag.Strike first second third None None None }
+fn strike(values: Values) -> Option<Command>
+    ensures { result ≡ made_of (Tag.Strike, values.items) }
 {
-    let id = id_in(first, second)?;
-    let number = number_in(third)?;
+    let mut values = values.into_iter();
+    let id = id_in(values.next(), values.next())?;
+    let number = number_in(values.next())?;
     Some(Command::Strike { id, number })
 }
 
-fn set_advance(
-    first: Option<FieldValue>,
-    second: Option<FieldValue>,
-    third: Option<FieldValue>,
-) -> Option<Command>
-    ensures { result ≡ made Tag.SetAdvance first second third None None None }
+fn set_advance(values: Values) -> Option<Command>
+    ensures { result ≡ made_of (Tag.SetAdvance, values.items) }
 {
-    let id = id_in(first, second)?;
-    let advance = advance_in(third)?;
+    let mut values = values.into_iter();
+    let id = id_in(values.next(), values.next())?;
+    let advance = advance_in(values.next())?;
     Some(Command::SetAdvance { id, advance })
 }
 
-fn close(first: Option<FieldValue>, second: Option<FieldValue>) -> Option<Command>
-    ensures { result ≡ made Tag.Close first second None None None None }
+fn close(values: Values) -> Option<Command>
+    ensures { result ≡ made_of (Tag.Close, values.items) }
 {
-    let id = id_in(first, second)?;
+    let mut values = values.into_iter();
+    let id = id_in(values.next(), values.next())?;
     Some(Command::Close { id })
 }
 
-fn set_edition(first: Option<FieldValue>) -> Option<Command>
-    ensures { result ≡ made Tag.SetEdition first None None None None None }
+fn set_edition(values: Values) -> Option<Command>
+    ensures { result ≡ made_of (Tag.SetEdition, values.items) }
 {
-    let edition = edition_in(first)?;
+    let mut values = values.into_iter();
+    let edition = edition_in(values.next())?;
     Some(Command::SetEdition { edition })
 }
 
-fn rename(first: Option<FieldValue>, second: Option<FieldValue>) -> Option<Command>
-    ensures { result ≡ made Tag.Rename first second None None None None }
+fn rename(values: Values) -> Option<Command>
+    ensures { result ≡ made_of (Tag.Rename, values.items) }
 {
-    let number = number_in(first)?;
-    let name = name_in(second)?;
+    let mut values = values.into_iter();
+    let number = number_in(values.next())?;
+    let name = name_in(values.next())?;
     Some(Command::Rename { number, name })
 }
 
-fn set_round(
-    first: Option<FieldValue>,
-    second: Option<FieldValue>,
-    third: Option<FieldValue>,
-    fourth: Option<FieldValue>,
-    fifth: Option<FieldValue>,
-) -> Option<Command>
-    ensures { result ≡ made Tag.SetRound first second third fourth fifth None }
+fn set_round(values: Values) -> Option<Command>
+    ensures { result ≡ made_of (Tag.SetRound, values.items) }
 {
-    let id = id_in(first, second)?;
-    let format = format_in(third)?;
-    let cutoff = cutoff_in(fourth)?;
-    let limit = limit_in(fifth)?;
+    let mut values = values.into_iter();
+    let id = id_in(values.next(), values.next())?;
+    let format = format_in(values.next())?;
+    let cutoff = cutoff_in(values.next())?;
+    let limit = limit_in(values.next())?;
     Some(Command::SetRound {
         id,
         format,
@@ -310,82 +359,91 @@ fn set_round(
     })
 }
 
-fn rescramble(
-    first: Option<FieldValue>,
-    second: Option<FieldValue>,
-    third: Option<FieldValue>,
-    fourth: Option<FieldValue>,
-) -> Option<Command>
-    ensures { result ≡ made Tag.Rescramble first second third fourth None None }
+fn rescramble(values: Values) -> Option<Command>
+    ensures { result ≡ made_of (Tag.Rescramble, values.items) }
 {
-    let id = id_in(first, second)?;
-    let attempt = attempt_in(third)?;
-    let moves = moves_in(fourth)?;
+    let mut values = values.into_iter();
+    let id = id_in(values.next(), values.next())?;
+    let attempt = attempt_in(values.next())?;
+    let moves = moves_in(values.next())?;
     Some(Command::Rescramble { id, attempt, moves })
 }
 
-fn withdraw(
-    first: Option<FieldValue>,
-    second: Option<FieldValue>,
-    third: Option<FieldValue>,
-) -> Option<Command>
-    ensures { result ≡ made Tag.Withdraw first second third None None None }
+fn withdraw(values: Values) -> Option<Command>
+    ensures { result ≡ made_of (Tag.Withdraw, values.items) }
 {
-    let id = id_in(first, second)?;
-    let number = number_in(third)?;
+    let mut values = values.into_iter();
+    let id = id_in(values.next(), values.next())?;
+    let number = number_in(values.next())?;
     Some(Command::Withdraw { id, number })
 }
 
-fn reopen(first: Option<FieldValue>, second: Option<FieldValue>) -> Option<Command>
-    ensures { result ≡ made Tag.Reopen first second None None None None }
+fn reopen(values: Values) -> Option<Command>
+    ensures { result ≡ made_of (Tag.Reopen, values.items) }
 {
-    let id = id_in(first, second)?;
+    let mut values = values.into_iter();
+    let id = id_in(values.next(), values.next())?;
     Some(Command::Reopen { id })
 }
 
-/// The command of a tag and up to six values.
-fn made(
-    tag: Tag,
-    first: Option<FieldValue>,
-    second: Option<FieldValue>,
-    third: Option<FieldValue>,
-    fourth: Option<FieldValue>,
-    fifth: Option<FieldValue>,
-    sixth: Option<FieldValue>,
-) -> Option<Command>
-    ensures { result ≡ made tag first second third fourth fifth sixth }
+fn card(values: Values) -> Option<Command>
+    ensures { result ≡ made_of (Tag.Card, values.items) }
 {
-    match tag {
-        Tag::Register => register(first, second),
-        Tag::Open => open(first, second, third, fourth, fifth, sixth),
-        Tag::Enter => enter(first, second),
-        Tag::Scramble => scramble(first, second, third, fourth),
-        Tag::Attempt => attempt(first, second, third, fourth, fifth),
-        Tag::Correct => correct(first, second, third, fourth, fifth),
-        Tag::Strike => strike(first, second, third),
-        Tag::SetAdvance => set_advance(first, second, third),
-        Tag::Close => close(first, second),
-        Tag::SetEdition => set_edition(first),
-        Tag::Rename => rename(first, second),
-        Tag::SetRound => set_round(first, second, third, fourth, fifth),
-        Tag::Rescramble => rescramble(first, second, third, fourth),
-        Tag::Withdraw => withdraw(first, second, third),
-        Tag::Reopen => reopen(first, second),
-    }
+    let mut values = values.into_iter();
+    let card = card_in(
+        values.next(),
+        values.next(),
+        values.next(),
+        values.next(),
+        values.next(),
+    )?;
+    Some(Command::Card(card))
+}
+
+fn fix(values: Values) -> Option<Command>
+    ensures { result ≡ made_of (Tag.Fix, values.items) }
+{
+    let mut values = values.into_iter();
+    let card = card_in(
+        values.next(),
+        values.next(),
+        values.next(),
+        values.next(),
+        values.next(),
+    )?;
+    Some(Command::Fix(card))
+}
+
+fn cancel(values: Values) -> Option<Command>
+    ensures { result ≡ made_of (Tag.Cancel, values.items) }
+{
+    let mut values = values.into_iter();
+    let id = id_in(values.next(), values.next())?;
+    Some(Command::Cancel { id })
 }
 
 /// The command of a tag and the values of its fields, where they are of the kinds of its fields.
 pub(crate) fn command_of_values(tag: Tag, values: Values) -> Option<Command>
     ensures { result ≡ made_of (tag, values.items) }
 {
-    let mut values = values.into_iter();
-    made(
-        tag,
-        values.next(),
-        values.next(),
-        values.next(),
-        values.next(),
-        values.next(),
-        values.next(),
-    )
+    match tag {
+        Tag::Register => register(values),
+        Tag::Open => open(values),
+        Tag::Enter => enter(values),
+        Tag::Scramble => scramble(values),
+        Tag::Attempt => attempt(values),
+        Tag::Correct => correct(values),
+        Tag::Strike => strike(values),
+        Tag::SetAdvance => set_advance(values),
+        Tag::Close => close(values),
+        Tag::SetEdition => set_edition(values),
+        Tag::Rename => rename(values),
+        Tag::SetRound => set_round(values),
+        Tag::Rescramble => rescramble(values),
+        Tag::Withdraw => withdraw(values),
+        Tag::Reopen => reopen(values),
+        Tag::Card => card(values),
+        Tag::Fix => fix(values),
+        Tag::Cancel => cancel(values),
+    }
 }

@@ -6,6 +6,7 @@ use Rattle.std.specs.List.{list_any}
 use Rattle.std.proofs.lemmas.Grind.{flat_map-append}
 use Rattle.texts.specs.declared.command.Command.{Command}
 use Rattle.texts.specs.Editions.{is_spelled_in}
+use Rattle.texts.specs.Reading.{told}
 use Rattle.commands.specs.Accepted.{edition_in, refusal}
 use Rattle.commands.specs.History.{spelled_refusal}
 use Rattle.wcif.specs.Commands.{numbers_to}
@@ -39,7 +40,8 @@ reach_none before P holds = record {
 }
 
 pub reach_one : (before : List Command) (c : Command) (P : List Command → Type 0)
-    → spelled_refusal before c ≡ None → P (before ++ c ∷ []) → Reaches before (c ∷ []) P
+    → spelled_refusal before (told None c) ≡ None → P (before ++ c ∷ [])
+    → Reaches before (c ∷ []) P
 reach_one before c P accepted holds = record { accepted = (accepted, tt); after = holds }
 
 pub reach_more : (before xs ys : List Command) (P Q : List Command → Type 0) → Reaches before xs P
@@ -94,7 +96,8 @@ reach_else before cs P Q so reached =
 
 -- the edition that holds has the spelling, and no check fails
 pub on_time : (before : List Command) (c : Command) (edition : ℕ) → edition_in before ≡ edition
-    → is_spelled_in edition c ≡ true → refusal before c ≡ None → spelled_refusal before c ≡ None
+    → is_spelled_in edition (told None c) ≡ true → refusal before c ≡ None
+    → spelled_refusal before (told None c) ≡ None
 on_time before c edition held spelled accepted =
-    let here : is_spelled_in (edition_in before) c ≡ true = rw held spelled in
+    let here : is_spelled_in (edition_in before) (told None c) ≡ true = rw held spelled in
     rw here accepted

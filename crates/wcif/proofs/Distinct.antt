@@ -8,7 +8,7 @@ use Rattle.std.specs.List.{list_any}
 use Rattle.std.proofs.lemmas.Bool.{false≢true}
 use Rattle.std.proofs.lemmas.List.Folds.{list_any-append}
 use Rattle.serde_json.specs.Data.{Data}
-use Rattle.texts.specs.Names.{is_early_name}
+use Rattle.texts.specs.Names.{is_clear_name}
 use Rattle.texts.proofs.Numerals.{bytes_eq-same}
 use Rattle.wcif.specs.declared.options.SameNames.{SameNames}
 use Rattle.wcif.specs.declared.fault.PersonFault.TheVariants as fault
@@ -47,7 +47,7 @@ both_right true b h = h
 both_right false b h = absurd (false≢true h)
 
 untaken : (taken : Bool) (name : List ℕ) → name_faults taken name ≡ [] → taken ≡ false
-untaken taken name none = step (not (is_early_name name)) taken none
+untaken taken name none = step (not (is_clear_name name)) taken none
   where
     step : (a b : Bool)
         → cond a (fault.BadName ∷ []) (cond b (fault.NameTaken ∷ []) []) ≡ [] → b ≡ false

@@ -1,26 +1,28 @@
 -- The commands of an import are in the ranges of their fields.
-use Rattle.std.proofs.Common.{◌≡◌, ◌≤◌, ℕ, Bool, true, false, cond, List, [], ◌∷◌, ◌++◌, map, subst}
-use Rattle.std.proofs.Common.{Option, Some, None, refl, sym, arith}
+use Rattle.std.proofs.Common.{◌≡◌, ◌≤◌, ℕ, List, [], ◌∷◌, ◌++◌, map, subst, Option, Some, None}
+use Rattle.std.proofs.Common.{refl, sym, arith}
 use Rattle.std.specs.Prelude.{find, flat_map, unwrap_or, IsTrue}
-use Rattle.std.specs.List.{list_any, AllByRecursion}
+use Rattle.std.specs.List.{AllByRecursion}
 use Rattle.std.specs.Option.{option_map, option_to_list}
-use Rattle.std.proofs.lemmas.Bool.{or_left}
+use Rattle.std.proofs.lemmas.Bool.{or_right}
 use Rattle.std.proofs.lemmas.List.Elements.{All-from_recursion}
 use Rattle.serde_json.specs.Data.{Data}
 use Rattle.formats.specs.declared.events.Event.{Event}
 use Rattle.formats.specs.Events.{event_of_name}
 use Rattle.texts.specs.Fields.{round_id}
-use Rattle.texts.specs.Names.{is_early_name, is_name}
+use Rattle.texts.specs.Names.{is_early_name, is_clear_name, is_name}
 use Rattle.texts.specs.Spelling.{IsFit, IsFitSettings}
 use Rattle.texts.specs.Table.{rows}
 use Rattle.texts.specs.declared.command.Command.{Command}
-use Rattle.texts.specs.declared.command.Command.TheVariants.{Register, Open, Enter, SetEdition}
+use Rattle.texts.specs.declared.command.Command.TheVariants.{Register, Open, Enter}
 use Rattle.texts.specs.declared.command.Settings.{Settings}
 use Rattle.wcif.specs.declared.options.CumulativeLimits.{CumulativeLimits}
+use Rattle.wcif.specs.declared.options.Edition.{Edition}
+use Rattle.wcif.specs.declared.options.Edition.TheVariants.{Three, Four}
 use Rattle.wcif.specs.declared.options.Options.{Options}
-use Rattle.wcif.specs.Commands.{editions, registered, registering, opened, entered, entering}
-use Rattle.wcif.specs.Commands.{entering_all, commands_of, numbers, is_of_second}
-use Rattle.wcif.specs.Events.{event_named, event_faults}
+use Rattle.wcif.specs.Commands.{beginning, registered, registering, opened, entered, entering}
+use Rattle.wcif.specs.Commands.{entering_all, commands_of, numbers}
+use Rattle.wcif.specs.Events.{event_faults}
 use Rattle.wcif.specs.Faults.{faults_in}
 use Rattle.wcif.specs.Laws.{CommandsAreFit}
 use Rattle.wcif.specs.Persons.{has_number, last_number, text_of, event_ids, name_as}
@@ -34,21 +36,12 @@ use Rattle.commands.proofs.Sizes.{all_append, all_flat_map}
 
 -- what is to be shown of each command of an import, given that its fields are in their ranges
 pub record HoldsOfEach (P : Command → Type 0) : Type 0 where
-  pub edition : P (SetEdition 2)
+  pub edition : (e : Edition) → P (beginning e)
   pub registration : (n : ℕ) (name : List ℕ)
-      → ((1 ≤ n) × (n ≤ last_number)) × IsTrue (is_early_name name) → P (Register n name)
+      → ((1 ≤ n) × (n ≤ last_number)) × IsTrue (is_clear_name name) → P (Register n name)
   pub opening : (e : Event) (s : Settings) → IsFit (Open (round_id e 1) s)
       → P (Open (round_id e 1) s)
   pub entry : (e : Event) (n : ℕ) → IsFit (Enter e n) → P (Enter e n)
-
-each_edition : (P : Command → Type 0) → HoldsOfEach P → (events : List Data)
-    → AllByRecursion P (editions events)
-unfolding editions
-each_edition P each events = step (list_any (λ d. is_of_second (event_named d)) events)
-  where
-    step : (b : Bool) → AllByRecursion P (cond b (SetEdition 2 ∷ []) [])
-    step true = (each.edition, tt)
-    step false = tt
 
 -- the four kinds of commands, in the ranges of their fields
 
@@ -61,9 +54,10 @@ entry_fit : (e : Event) (n : ℕ) → (1 ≤ n) × (n ≤ last_number) → IsFit
 unfolding rows
 entry_fit e n range = ((tt, (range, tt)), tt)
 
-edition_fit : IsFit (SetEdition 2)
+beginning_fit : (e : Edition) → IsFit (beginning e)
 unfolding rows
-edition_fit = (((omega arith, omega arith), tt), tt)
+beginning_fit Three = (((omega arith, omega arith), tt), tt)
+beginning_fit Four = (((omega arith, omega arith), tt), tt)
 
 registration_fit : (n : ℕ) (name : List ℕ) → (1 ≤ n) × (n ≤ last_number)
     → IsTrue (is_name name) → IsFit (Register n name)
@@ -132,17 +126,21 @@ each_command P each options persons events none =
     let middle : AllByRecursion P (flat_map (opened options.limits) events) =
     each_opening P each options.limits persons [] events
     (events_free options persons events none) in
-    all_append P _ _
-    (all_append P _ _ (all_append P _ _ (each_edition P each events) first) middle) last
+    let begun : List Command = beginning options.edition ∷ [] in
+    let persons_in : List Command = flat_map (registered options.names persons) numbers in
+    let rounds_in : List Command = flat_map (opened options.limits) events in
+    all_append P (begun ++ persons_in ++ rounds_in) (flat_map (entered persons) numbers)
+    (all_append P (begun ++ persons_in) rounds_in
+    (all_append P begun persons_in (each.edition options.edition, tt) first) middle) last
 
 pub fit : CommandsAreFit
 fit options persons events none =
     All-from_recursion IsFit (commands_of options persons events)
     (each_command IsFit
     (record {
-      edition = edition_fit;
+      edition = beginning_fit;
       registration =
-          λ n name fits. registration_fit n name fits.0 (or_left (is_early_name name) _ fits.1);
+          λ n name fits. registration_fit n name fits.0 (or_right (is_early_name name) _ fits.1);
       opening = λ e s fits. fits;
       entry = λ e n fits. fits;
     })

@@ -6,7 +6,7 @@ use Rattle.std.specs.Prelude.{find, IsTrue}
 use Rattle.std.proofs.lemmas.Bool.{false≢true}
 use Rattle.serde_json.specs.Data.{Data}
 use Rattle.texts.specs.Numerals.{within}
-use Rattle.texts.specs.Names.{is_early_name}
+use Rattle.texts.specs.Names.{is_clear_name}
 use Rattle.wcif.specs.declared.options.Options.{Options}
 use Rattle.wcif.specs.declared.options.SameNames.{SameNames}
 use Rattle.wcif.specs.declared.fault.PersonFault.TheVariants as fault
@@ -19,8 +19,8 @@ use Rattle.wcif.proofs.Distinct.{front_none, back_none, map_none, no_cons, both_
 use Rattle.wcif.proofs.Distinct.{found_at, persons_free}
 use Rattle.wcif.proofs.Numbered.{ranged}
 
-named : (taken : Bool) (name : List ℕ) → name_faults taken name ≡ [] → is_early_name name ≡ true
-named taken name none = step (is_early_name name) taken none
+named : (taken : Bool) (name : List ℕ) → name_faults taken name ≡ [] → is_clear_name name ≡ true
+named taken name none = step (is_clear_name name) taken none
   where
     step : (a b : Bool)
         → cond (not a) (fault.BadName ∷ []) (cond b (fault.NameTaken ∷ []) []) ≡ [] → a ≡ true
@@ -50,7 +50,7 @@ accepted_free how events everyone earlier p none accepted =
 
 fit_name : (how : SameNames) (events everyone earlier : List Data) (p : Data)
     → accepted_faults how events everyone earlier p ≡ []
-    → is_early_name (name_as how everyone p) ≡ true
+    → is_clear_name (name_as how everyone p) ≡ true
 unfolding accepted_faults
 fit_name how events everyone earlier p none =
     named _ (name_as how everyone p)
@@ -70,7 +70,7 @@ fit_number how events everyone earlier p n none has =
 fit_from : (how : SameNames) (events everyone earlier xs : List Data) (n : ℕ) (p : Data)
     → told_from (person_faults how events everyone) earlier xs ≡ []
     → find (has_number n) xs ≡ Some p
-    → ((1 ≤ n) × (n ≤ last_number)) × IsTrue (is_early_name (name_as how everyone p))
+    → ((1 ≤ n) × (n ≤ last_number)) × IsTrue (is_clear_name (name_as how everyone p))
 fit_from how events everyone earlier [] n p none found = absurd (false≢true (ap is_some found))
 fit_from how events everyone earlier (x ∷ xs) n p none found =
     step (found_at (has_number n x) x p (find (has_number n) xs) found)
@@ -81,12 +81,12 @@ fit_from how events everyone earlier (x ∷ xs) n p none found =
     step : ((has_number n x ≡ true) × (x ≡ p)) ⊎ (find (has_number n) xs ≡ Some p)
         → person_faults how events everyone earlier x ≡ []
         → (find (has_number n) xs ≡ Some p
-        → ((1 ≤ n) × (n ≤ last_number)) × IsTrue (is_early_name (name_as how everyone p)))
-        → ((1 ≤ n) × (n ≤ last_number)) × IsTrue (is_early_name (name_as how everyone p))
+        → ((1 ≤ n) × (n ≤ last_number)) × IsTrue (is_clear_name (name_as how everyone p)))
+        → ((1 ≤ n) × (n ≤ last_number)) × IsTrue (is_clear_name (name_as how everyone p))
     step (inl h) said later =
         let free = accepted_free how events everyone earlier x said (both_left (is_accepted x) _
         h.0) in
-        let name : is_early_name (name_as how everyone p) ≡ true =
+        let name : is_clear_name (name_as how everyone p) ≡ true =
         rw (← h.1) (fit_name how events everyone earlier x free) in
         (fit_number how events everyone earlier x n free h.0, name)
     step (inr h) said later = later h
@@ -94,7 +94,7 @@ fit_from how events everyone earlier (x ∷ xs) n p none found =
 pub fit_registered : (options : Options) (persons events : List Data)
     → faults_in options (Some persons) (Some events) ≡ []
     → (n : ℕ) (p : Data) → find (has_number n) persons ≡ Some p
-    → ((1 ≤ n) × (n ≤ last_number)) × IsTrue (is_early_name (name_as options.names persons p))
+    → ((1 ≤ n) × (n ≤ last_number)) × IsTrue (is_clear_name (name_as options.names persons p))
 fit_registered options persons events none n p found =
     fit_from options.names events persons [] persons n p
     (persons_free options persons events none) found

@@ -59,10 +59,6 @@ found_fails p q (x ∷ xs) y found none =
         let same : x ≡ y = cc in subst (λ z. q z ≡ false) same (or_left (q x) _ none)
     step false h later = later h
 
-pub none_any : {A : Type 0} (xs : List A) → list_any (λ x. false) xs ≡ false
-none_any [] = refl
-none_any (x ∷ xs) = none_any xs
-
 -- where nothing is said of any item, nothing is said of the one that is found
 pub told_found : {A B : Type 0} (said : List A → A → List B) (p : A → Bool) (earlier xs : List A)
     (y : A) → told_from said earlier xs ≡ [] → find p xs ≡ Some y

@@ -3,14 +3,14 @@ use Rattle.std.proofs.Common.{◌≡◌, ◌==◌, ◌||◌, ℕ, Bool, false, L
 use Rattle.std.proofs.Common.{refl, ap, sym, ◌∙◌, subst, arith}
 use Rattle.std.proofs.Common.{append_assoc, append-nil}
 use Rattle.std.proofs.lemmas.Bool.Decides.{nat_tests}
-use Rattle.std.specs.Prelude.{fold, Ok}
+use Rattle.std.specs.Prelude.{fold, None, Ok}
 use Rattle.std.specs.List.{list_any, AllByRecursion}
 use Rattle.std.proofs.lemmas.List.Elements.{recursion_from_All}
 use Rattle.std.proofs.lemmas.List.Folds.{list_any-append}
 use Rattle.texts.specs.declared.command.Command.{Command}
-use Rattle.texts.specs.Reading.{command_of}
+use Rattle.texts.specs.Reading.{command_of, told}
 use Rattle.texts.specs.Spelling.{IsFit, spelling}
-use Rattle.texts.proofs.Words.{spelled_found}
+use Rattle.texts.proofs.Words.{spelled_found, spelling_short}
 use Rattle.commands.specs.History.{History, nothing, after, is_seen}
 use Rattle.commands.proofs.Entries.{after_done, answer_done, grown}
 use Rattle.wcif.specs.Commands.{commands_of}
@@ -55,14 +55,15 @@ all_done h (entry ∷ entries) [] accepted fits own seen same = absurd (cc)
 all_done h (entry ∷ entries) (c ∷ cs) accepted fits own seen same =
     let text : entry.1 ≡ spelling c = cc in
     let texts : map (λ e. e.1) entries ≡ map spelling cs = cc in
-    let reads : command_of entry.1 ≡ Ok c = ap command_of text ∙ spelled_found c fits.0 in
+    let reads : command_of entry.1 ≡ Ok (told None c) =
+    ap command_of text ∙ spelled_found (told None c) (fits.0, tt, spelling_short c fits.0) in
     let new : is_seen h entry.0 ≡ false = or_left (is_seen h entry.0) _ seen in
-    let next = after_done h entry.0 entry.1 c new reads accepted.0 in
+    let next = after_done h entry.0 entry.1 (told None c) new reads accepted.0 in
     let rest = all_done (grown h entry.0 c) entries cs accepted.1 fits.1 own.1
     (unseen h entry.0 c entries (or_right (is_seen h entry.0) _ seen) own.0) texts in
     record {
       done = (
-        answer_done h entry.0 entry.1 c new reads accepted.0,
+        answer_done h entry.0 entry.1 (told None c) new reads accepted.0,
         subst (λ x. AreDone x entries) (sym next) rest.done,
       );
       accepted =

@@ -16,11 +16,13 @@ use Rattle.texts.specs.declared.command.Command.TheVariants.{Register, Open, Ent
 use Rattle.texts.specs.declared.command.Command.TheVariants.{Attempt, Correct, Strike, SetAdvance}
 use Rattle.texts.specs.declared.command.Command.TheVariants.{Close, SetEdition, Rename, SetRound}
 use Rattle.texts.specs.declared.command.Command.TheVariants.{Rescramble, Withdraw, Reopen}
+use Rattle.texts.specs.declared.command.Command.TheVariants.{Card, Fix, Cancel}
 use Rattle.texts.specs.declared.command.Settings.{Settings}
 use Rattle.texts.specs.declared.answer.Code.TheVariants as code
 use Rattle.texts.specs.Editions.{is_spelled_in}
 use Rattle.texts.specs.Table.{rows}
-use Rattle.texts.specs.Names.{is_early_name}
+use Rattle.texts.specs.Names.{is_clear_name}
+use Rattle.texts.specs.Reading.{told}
 use Rattle.commands.specs.Accepted.{is_called, is_registered, is_taken, names_other, refusal}
 use Rattle.commands.proofs.Lookups.{or_none}
 use Rattle.wcif.specs.declared.options.SameNames.{SameNames}
@@ -30,7 +32,7 @@ use Rattle.wcif.proofs.Accepting.{Reaches, reach_none, reach_one, reach_numbers,
 use Rattle.wcif.proofs.Accepting.{on_time}
 use Rattle.wcif.proofs.Standing.{Stands, stands_alike, stands_register, with_name}
 
--- no two numbers have one name, each is in the range, and each name is one of editions 1 and 2
+-- no two numbers have one name, each is in the range, and each name is one of editions 3 and 4
 pub record AreKnown (how : SameNames) (persons : List Data) : Type 0 where
   pub apart : (m n : ℕ) (q p : Data)
       → find (has_number m) persons ≡ Some q → find (has_number n) persons ≡ Some p
@@ -38,7 +40,7 @@ pub record AreKnown (how : SameNames) (persons : List Data) : Type 0 where
   pub ranged : (n : ℕ) (p : Data) → find (has_number n) persons ≡ Some p
       → (1 ≤ n) × (n ≤ last_number)
   pub named : (n : ℕ) (p : Data) → find (has_number n) persons ≡ Some p
-      → is_early_name (name_as how persons p) ≡ true
+      → is_clear_name (name_as how persons p) ≡ true
 
 -- the name of a number in the file
 abbrev pub filed : SameNames → List Data → ℕ → Option (List ℕ)
@@ -103,6 +105,9 @@ none_other cs (SetRound id format cutoff limit ∷ ds) n name none = none_other 
 none_other cs (Rescramble id k moves ∷ ds) n name none = none_other cs ds n name none
 none_other cs (Withdraw id m ∷ ds) n name none = none_other cs ds n name none
 none_other cs (Reopen id ∷ ds) n name none = none_other cs ds n name none
+none_other cs (Card card ∷ ds) n name none = none_other cs ds n name none
+none_other cs (Fix card ∷ ds) n name none = none_other cs ds n name none
+none_other cs (Cancel id ∷ ds) n name none = none_other cs ds n name none
 
 -- the name of a person is free for the person's number, whoever of the others is registered
 untaken : (how : SameNames) (persons : List Data) (edition k : ℕ) (before : List Command)
@@ -206,17 +211,17 @@ allowed how persons edition k before q known fresh found =
         → cond a (Some code.Already) (cond b (Some code.NameTaken) None) ≡ None
     step a b first second = rw (first, second) refl
 
--- a name of editions 1 and 2 is spelled in them
-spelled : (edition n : ℕ) (name : List ℕ) → (1 ≤ edition) × (edition ≤ 2)
-    → is_early_name name ≡ true → is_spelled_in edition (Register n name) ≡ true
+-- a name of editions 3 and 4 is spelled in them
+spelled : (edition n : ℕ) (name : List ℕ) → 3 ≤ edition → is_clear_name name ≡ true
+    → is_spelled_in edition (told None (Register n name)) ≡ true
 unfolding rows
 spelled edition n name held named =
-    let low : nat_le 1 edition ≡ true = grind (arith, nat_tests, held.0) in
-    let high : nat_le 3 edition ≡ false = grind (arith, nat_tests, held.1) in
+    let low : nat_le 1 edition ≡ true = grind (arith, nat_tests, held) in
+    let high : nat_le 3 edition ≡ true = grind (arith, nat_tests, held) in
     rw (high, named, low) refl
 
 register_one : (how : SameNames) (persons : List Data) (edition : ℕ) → AreKnown how persons
-    → (1 ≤ edition) × (edition ≤ 2) → (k : ℕ) (now : List Command) → Fresh how persons edition k now
+    → 3 ≤ edition → (k : ℕ) (now : List Command) → Fresh how persons edition k now
     → Reaches now (registered how persons (k + 1)) (Fresh how persons edition (k + 1))
 unfolding registered
 register_one how persons edition known held k now fresh =
@@ -237,7 +242,7 @@ register_one how persons edition known held k now fresh =
 
 -- all numbers, after commands that register nobody
 pub registers : (how : SameNames) (persons : List Data) (edition : ℕ) → AreKnown how persons
-    → (1 ≤ edition) × (edition ≤ 2) → (before : List Command)
+    → 3 ≤ edition → (before : List Command)
     → Stands before (λ n. None) edition nowhere
     → Reaches before (flat_map (registered how persons) numbers)
     (λ cs. Stands cs (filed how persons) edition nowhere)

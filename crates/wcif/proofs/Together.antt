@@ -1,9 +1,10 @@
 -- An empty meet accepts the commands of an import, and then has what the file says.
-use Rattle.std.proofs.Common.{◌≡◌, ◌≤◌, ◌==◌, ℕ, Bool, true, false, cond, List, [], ◌∷◌, ◌++◌}
-use Rattle.std.proofs.Common.{Option, Some, None, refl, ◌∙◌, arith, length, nat_lt}
+use Rattle.std.proofs.Common.{◌≡◌, ◌≤◌, ℕ, Bool, true, false, cond, List, [], ◌∷◌, ◌++◌}
+use Rattle.std.proofs.Common.{Option, Some, None, refl, arith, length, nat_lt}
 use Rattle.std.proofs.Common.{◌⊎◌, inl, inr}
 use Rattle.std.specs.Prelude.{flat_map}
 use Rattle.std.specs.List.{list_any}
+use Rattle.std.proofs.lemmas.Bool.Decides.{nat_tests}
 use Rattle.std.proofs.lemmas.List.Elements.{All-from_recursion}
 use Rattle.serde_json.specs.Data.{Data}
 use Rattle.formats.specs.declared.events.Event.{Event}
@@ -12,13 +13,15 @@ use Rattle.formats.specs.declared.events.Event.TheVariants.{Cube7, Blind3, Fewes
 use Rattle.formats.specs.declared.events.Event.TheVariants.{Clock, Megaminx, Pyraminx, Skewb}
 use Rattle.formats.specs.declared.events.Event.TheVariants.{Square1, Blind4, Blind5, MultiBlind}
 use Rattle.formats.specs.Events.{event_edition}
-use Rattle.texts.specs.declared.command.Command.TheVariants.{SetEdition}
+use Rattle.texts.specs.Reading.{told as spoken}
 use Rattle.texts.specs.Table.{rows}
 use Rattle.commands.specs.History.{spelled_refusal}
+use Rattle.wcif.specs.declared.options.Edition.{Edition}
+use Rattle.wcif.specs.declared.options.Edition.TheVariants.{Three, Four}
 use Rattle.wcif.specs.declared.options.Options.{Options}
 use Rattle.wcif.specs.declared.fault.Fault.TheVariants as of
-use Rattle.wcif.specs.Commands.{editions, registered, opened, entered, commands_of, numbers}
-use Rattle.wcif.specs.Commands.{is_of_second}
+use Rattle.wcif.specs.Commands.{beginning, edition_number, registered, opened, entered}
+use Rattle.wcif.specs.Commands.{commands_of, numbers}
 use Rattle.wcif.specs.Events.{event_named, event_faults}
 use Rattle.wcif.specs.Faults.{faults_in, person_faults}
 use Rattle.wcif.specs.Laws.{AcceptsAll, SetsUpMeet, IsThere, IsOpen, entrants}
@@ -30,7 +33,6 @@ use Rattle.wcif.proofs.Entering.{rounds_with}
 use Rattle.wcif.proofs.Entrants.{enters_all}
 use Rattle.wcif.proofs.Everyone.{own_numbers, all_there, all_open}
 use Rattle.wcif.proofs.Fitting.{fit_registered}
-use Rattle.wcif.proofs.Found.{none_any}
 use Rattle.wcif.proofs.Opening.{is_late, opens}
 use Rattle.wcif.proofs.Registering.{AreKnown, filed, nowhere, registers}
 use Rattle.wcif.proofs.Standing.{Stands, stands_nothing, stands_edition}
@@ -59,12 +61,6 @@ known options persons events none = record {
 
 -- The edition.
 
-abbrev second : List Data → Bool
-second events = list_any (λ d. is_of_second (event_named d)) events
-
-abbrev edition_of_all : List Data → ℕ
-edition_of_all events = cond (second events) 2 1
-
 one_or_two : (e : Event) → (event_edition e ≡ 1) ⊎ (event_edition e ≡ 2)
 one_or_two Cube3 = inl refl
 one_or_two Cube2 = inl refl
@@ -85,99 +81,79 @@ one_or_two Blind5 = inl refl
 one_or_two MultiBlind = inr refl
 
 -- no event is of an edition after the second
-never_late : (o : Option Event) → is_late 2 o ≡ false
-never_late None = refl
-never_late (Some e) = step (event_edition e) (one_or_two e)
+never_late : (edition : ℕ) → 3 ≤ edition → (o : Option Event) → is_late edition o ≡ false
+never_late edition high None = refl
+never_late edition high (Some e) = step (event_edition e) (one_or_two e)
   where
-    step : (n : ℕ) → (n ≡ 1) ⊎ (n ≡ 2) → nat_lt 2 n ≡ false
-    step n (inl is) = rw is refl
-    step n (inr is) = rw is refl
+    step : (n : ℕ) → (n ≡ 1) ⊎ (n ≡ 2) → nat_lt edition n ≡ false
+    step n (inl is) = grind (arith, nat_tests, high, is)
+    step n (inr is) = grind (arith, nat_tests, high, is)
 
-late_second : (o : Option Event) → is_late 1 o ≡ is_of_second o
-late_second None = refl
-late_second (Some e) = step (event_edition e) (one_or_two e)
-  where
-    step : (n : ℕ) → (n ≡ 1) ⊎ (n ≡ 2) → nat_lt 1 n ≡ (n == 2)
-    step n (inl is) = rw is refl
-    step n (inr is) = rw is refl
+-- so this one is late for none of them
+in_edition : (edition : ℕ) → 3 ≤ edition → (events : List Data)
+    → list_any (λ d. is_late edition (event_named d)) events ≡ false
+in_edition edition high [] = refl
+in_edition edition high (d ∷ ds) =
+    rw (never_late edition high (event_named d), in_edition edition high ds) refl
 
-any_alike : (p q : Data → Bool) → ((d : Data) → p d ≡ q d) → (ds : List Data)
-    → list_any p ds ≡ list_any q ds
-any_alike p q same [] = refl
-any_alike p q same (d ∷ ds) = rw (same d, any_alike p q same ds) refl
+from_third : (e : Edition) → 3 ≤ edition_number e
+from_third Three = omega arith
+from_third Four = omega arith
 
--- the edition that is set is late for no event
-in_edition : (events : List Data)
-    → list_any (λ d. is_late (edition_of_all events) (event_named d)) events ≡ false
-in_edition events = step (second events) refl
-  where
-    step : (b : Bool) → second events ≡ b
-        → list_any (λ d. is_late (cond b 2 1) (event_named d)) events ≡ false
-    step true is =
-        any_alike (λ d. is_late 2 (event_named d)) (λ d. false) (λ d. never_late (event_named d))
-        events
-        ∙ none_any events
-    step false is =
-        any_alike (λ d. is_late 1 (event_named d)) (λ d. is_of_second (event_named d))
-        (λ d. late_second (event_named d)) events
-        ∙ is
-
-edition_least : (events : List Data) → 1 ≤ edition_of_all events
-edition_least events = step (second events)
-  where
-    step : (b : Bool) → 1 ≤ cond b 2 1
-    step true = omega arith
-    step false = omega arith
-
--- an empty meet accepts edition 2
-sets_second : spelled_refusal [] (SetEdition 2) ≡ None
+-- an empty meet accepts it
+beginning_accepted : (e : Edition) → spelled_refusal [] (spoken None (beginning e)) ≡ None
 unfolding rows
-sets_second = refl
+beginning_accepted Three = refl
+beginning_accepted Four = refl
 
 -- All commands, part by part.
 
 pub set_up : (options : Options) (persons events : List Data)
     → faults_in options (Some persons) (Some events) ≡ []
     → Reaches [] (commands_of options persons events)
-    (λ cs. Stands cs (filed options.names persons) (edition_of_all events)
+    (λ cs. Stands cs (filed options.names persons) (edition_number options.edition)
     (rounds_with options.limits events (entrants persons)))
-unfolding editions commands_of
+unfolding commands_of
 set_up options persons events none =
-    reach_more [] (editions events ++ flat_map (registered options.names persons) numbers
+    reach_more [] ((beginning options.edition ∷ [])
+    ++ flat_map (registered options.names persons) numbers
     ++ flat_map (opened options.limits) events) (flat_map (entered persons) numbers)
     (λ cs. Stands cs (filed options.names persons) edition (rounds_with options.limits events
     (λ e. [])))
     (λ cs. Stands cs (filed options.names persons) edition (rounds_with options.limits events
     (entrants persons)))
-    (reach_more [] (editions events ++ flat_map (registered options.names persons) numbers)
+    (reach_more [] ((beginning options.edition ∷ [])
+    ++ flat_map (registered options.names persons) numbers)
     (flat_map (opened options.limits) events)
     (λ cs. Stands cs (filed options.names persons) edition nowhere)
     (λ cs. Stands cs (filed options.names persons) edition (rounds_with options.limits events
     (λ e. [])))
-    (registered_all (second events))
+    registered_all
     (λ now stands. opens options.limits persons events (filed options.names persons) edition now
-    free (in_edition events) stands))
+    free (in_edition edition high events) stands))
     (λ now stands. enters_all options.names options.limits persons events edition now
-    (persons_free options persons events none) free (in_edition events) stands)
+    (persons_free options persons events none) free (in_edition edition high events) stands)
   where
     edition : ℕ
-    edition = edition_of_all events
+    edition = edition_number options.edition
+
+    high : 3 ≤ edition
+    high = from_third options.edition
 
     free : told_from (event_faults options.limits persons) [] events ≡ []
     free = events_free options persons events none
 
-    registered_all : (b : Bool)
-        → Reaches [] (cond b (SetEdition 2 ∷ []) []
+    registered_all : Reaches [] ((beginning options.edition ∷ [])
         ++ flat_map (registered options.names persons) numbers)
-        (λ cs. Stands cs (filed options.names persons) (cond b 2 1) nowhere)
-    registered_all true =
-        let first = stands_edition [] (λ n. None) 1 2 nowhere stands_nothing in
-        let more = registers options.names persons 2 (known options persons events none)
-        (omega arith, omega arith) (SetEdition 2 ∷ []) first in
-        record { accepted = (sets_second, more.accepted); after = more.after }
-    registered_all false =
-        registers options.names persons 1 (known options persons events none)
-        (omega arith, omega arith) [] stands_nothing
+        (λ cs. Stands cs (filed options.names persons) edition nowhere)
+    registered_all =
+        let first = stands_edition [] (λ n. None) 1 edition nowhere stands_nothing in
+        let more = registers options.names persons edition (known options persons events none)
+        high (beginning options.edition ∷ []) first in
+        record {
+          accepted = (beginning_accepted options.edition, more.accepted);
+          after = more.after;
+        }
 
 pub accepts_all : AcceptsAll
 accepts_all options persons events none = (set_up options persons events none).accepted

@@ -19,16 +19,18 @@ use Rattle.formats.specs.declared.advance.Advance.{Advance}
 use Rattle.formats.specs.declared.advance.Advance.TheVariants.{Final, Top, Percent}
 use Rattle.formats.specs.Events.{event_name, format_name}
 use Rattle.texts.specs.Fields.{round_id}
-use Rattle.texts.specs.Names.{has_single_spaces, is_name_byte, is_early_name}
+use Rattle.texts.specs.Names.{has_single_spaces, is_name_byte, is_clear_name}
 use Rattle.texts.specs.Spelling.{IsFitCutoff, IsFitLimit, IsFitAdvance, spelling, words_of}
 use Rattle.texts.specs.Spelling.{cutoff_text}
 use Rattle.texts.specs.Table.{rows}
 use Rattle.texts.specs.Spelling.{limit_text, advance_text}
 use Rattle.texts.specs.declared.command.Command.{Command}
-use Rattle.texts.specs.declared.command.Command.TheVariants.{Register, Open, Enter, SetEdition}
+use Rattle.texts.specs.declared.command.Command.TheVariants.{Register, Open, Enter}
 use Rattle.texts.proofs.Cuts.{lacks, and-true}
 use Rattle.texts.proofs.FieldSpellings.{decimal_digits}
-use Rattle.wcif.specs.Commands.{commands_of}
+use Rattle.wcif.specs.declared.options.Edition.{Edition}
+use Rattle.wcif.specs.declared.options.Edition.TheVariants.{Three, Four}
+use Rattle.wcif.specs.Commands.{beginning, commands_of, edition_number}
 use Rattle.wcif.specs.Laws.{PrintsWholeLines}
 use Rattle.wcif.specs.Lines.{lines}
 use Rattle.wcif.proofs.FitCommands.{HoldsOfEach, each_command}
@@ -58,7 +60,8 @@ number_lacks n small =
 name_byte_other : (b : ℕ) → is_name_byte b ≡ true → not (b == 10) ≡ true
 name_byte_other b h = grind (arith, nat_tests)
 
-name_lacks : (name : List ℕ) → is_early_name name ≡ true → lacks 10 name ≡ true
+name_lacks : (name : List ℕ) → is_clear_name name ≡ true → lacks 10 name ≡ true
+unfolding is_clear_name
 name_lacks name is =
     lacks_by is_name_byte name_byte_other name
     (and-true _ (list_all is_name_byte name)
@@ -122,10 +125,16 @@ joined (word ∷ next ∷ words) plain =
 abbrev HasOneLine : Command → Type 0
 HasOneLine c = lacks 10 (spelling c) ≡ true
 
+few_editions : (e : Edition) → edition_number e ≤ 360000
+few_editions Three = omega arith
+few_editions Four = omega arith
+
 one_line : HoldsOfEach HasOneLine
 unfolding rows
 one_line = record {
-  edition = joined (words_of (SetEdition 2)) (refl, (number_lacks 2 (omega arith), tt));
+  edition =
+      λ e. joined (words_of (beginning e))
+      (refl, (number_lacks (edition_number e) (few_editions e), tt));
   registration =
       λ n name fits.
       joined (words_of (Register n name))

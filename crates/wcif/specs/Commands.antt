@@ -1,20 +1,20 @@
--- The commands that set up a competition in the WCA Competition Interchange Format: the edition
--- where multi-blind is held, each accepted person in the order of the numbers, the first round of
--- each event in the order of the file, and who enters them.
-use Rattle.std.specs.Prelude.{ℕ, ◌==◌, Bool, false, if◌then◌else◌, List, [], ◌∷◌, ◌++◌, map}
-use Rattle.std.specs.Prelude.{find}
-use Rattle.std.specs.Prelude.{flat_map, codes, Option, Some, None, unwrap_or, option_to_list}
-use Rattle.std.specs.Prelude.{slice_get}
-use Rattle.std.specs.List.{list_any, range_with_len}
+-- The commands that set up a competition in the WCA Competition Interchange Format: the edition,
+-- each accepted person in the order of the numbers, the first round of each event in the order of
+-- the file, and who enters them.
+use Rattle.std.specs.Prelude.{ℕ, List, [], ◌∷◌, ◌++◌, map, find, flat_map, codes, Option, unwrap_or}
+use Rattle.std.specs.Prelude.{option_to_list, slice_get}
+use Rattle.std.specs.List.{range_with_len}
 use Rattle.std.specs.Option.{option_and_then, option_map}
 use Rattle.serde_json.specs.Data.{Data}
 use Rattle.formats.specs.declared.events.Event.{Event}
-use Rattle.formats.specs.Events.{event_of_name, event_edition}
+use Rattle.formats.specs.Events.{event_of_name}
 use Rattle.texts.specs.Fields.{round_id}
 use Rattle.texts.specs.declared.command.Command.{Command}
 use Rattle.texts.specs.declared.command.Command.TheVariants.{Register, Open, Enter, SetEdition}
 use Rattle.wcif.specs.declared.options.Options.{Options}
 use Rattle.wcif.specs.declared.options.CumulativeLimits.{CumulativeLimits}
+use Rattle.wcif.specs.declared.options.Edition.{Edition}
+use Rattle.wcif.specs.declared.options.Edition.TheVariants.{Three, Four}
 use Rattle.wcif.specs.declared.options.SameNames.{SameNames}
 use Rattle.wcif.specs.Members.{list_at}
 use Rattle.wcif.specs.Persons.{text_of, has_number, name_as, event_ids, last_number}
@@ -60,19 +60,17 @@ opening how d e =
 unfoldable pub opened : CumulativeLimits → Data → List Command
 opened how d = option_to_list (option_and_then (opening how d) (event_named d))
 
--- the edition that has the event
-abbrev pub is_of_second : Option Event → Bool
-is_of_second None = false
-is_of_second (Some e) = event_edition e == 2
+abbrev pub edition_number : Edition → ℕ
+edition_number Three = 3
+edition_number Four = 4
 
--- `EDITION 2`, where an event is of that edition
-unfoldable pub editions : List Data → List Command
-editions events =
-    if list_any (λ d. is_of_second (event_named d)) events then SetEdition 2 ∷ [] else []
+-- `EDITION`, with which the list begins
+abbrev pub beginning : Edition → Command
+beginning edition = SetEdition (edition_number edition)
 
 unfoldable pub commands_of : Options → List Data → List Data → List Command
 commands_of options persons events =
-    editions events ++ flat_map (registered options.names persons) numbers
+    (beginning options.edition ∷ []) ++ flat_map (registered options.names persons) numbers
     ++ flat_map (opened options.limits) events ++ flat_map (entered persons) numbers
 
 -- the commands of a competition of which a desk can hold all

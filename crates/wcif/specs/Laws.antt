@@ -11,6 +11,7 @@ use Rattle.texts.specs.declared.command.Command.{Command}
 use Rattle.texts.specs.declared.command.Settings.{Settings}
 use Rattle.texts.specs.declared.answer.Answer.TheVariants.{Done}
 use Rattle.texts.specs.Spelling.{IsFit, spelling}
+use Rattle.texts.specs.Reading.{told}
 use Rattle.commands.specs.Accepted.{name_of, round_of}
 use Rattle.commands.specs.History.{History, nothing, history, after, answer_to, spelled_refusal}
 use Rattle.wcif.specs.declared.options.CumulativeLimits.{CumulativeLimits}
@@ -45,7 +46,8 @@ NamesAreApart =
 -- the edition that holds has its spelling, and none of its checks fails
 abbrev pub AreAccepted : List Command → List Command → Type 0
 AreAccepted before [] = Unit {0}
-AreAccepted before (c ∷ cs) = (spelled_refusal before c ≡ None) × AreAccepted (before ++ c ∷ []) cs
+AreAccepted before (c ∷ cs) =
+    (spelled_refusal before (told None c) ≡ None) × AreAccepted (before ++ c ∷ []) cs
 
 -- an empty meet accepts every command of an import
 abbrev pub AcceptsAll : Type 0

@@ -8,7 +8,7 @@ use Rattle.std.specs.Option.{option_and_then}
 use Rattle.serde_json.specs.Data.{Data}
 use Rattle.serde_json.specs.Find.{get, as_str}
 use Rattle.texts.specs.Numerals.{within}
-use Rattle.texts.specs.Names.{is_early_name}
+use Rattle.texts.specs.Names.{is_clear_name}
 use Rattle.wcif.specs.declared.options.SameNames.{SameNames}
 use Rattle.wcif.specs.declared.options.SameNames.TheVariants.{Refuse, WithId}
 use Rattle.wcif.specs.declared.fault.PersonFault.{PersonFault}
@@ -96,7 +96,7 @@ has_name how everyone name p = is_accepted p && bytes_eq name (name_as how every
 -- a name that is spelled wrong, or that a person in front has
 abbrev pub name_faults : Bool → List ℕ → List PersonFault
 name_faults taken name =
-    if not (is_early_name name) then fault.BadName ∷ []
+    if not (is_clear_name name) then fault.BadName ∷ []
     else if taken then fault.NameTaken ∷ []
     else []
 

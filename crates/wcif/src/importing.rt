@@ -75,9 +75,9 @@ fn import_lists(
 /// The commands that set up the competition of a file in the WCA Competition Interchange Format,
 /// given as its JSON value.
 ///
-/// They are: `EDITION 2` where multi-blind is held; a `REG` for each accepted person, in the order
-/// of the numbers; an `OPEN` of the first round of each event, in the order of the file; and an
-/// `ENT` for each event of each registration, in the order of the numbers and then of the
+/// They are: `EDITION` with the edition of the options; a `REG` for each accepted person, in the
+/// order of the numbers; an `OPEN` of the first round of each event, in the order of the file; and
+/// an `ENT` for each event of each registration, in the order of the numbers and then of the
 /// registration.
 ///
 /// # Errors

@@ -9,7 +9,6 @@ mod file;
 mod importing;
 mod laws;
 mod members;
-mod names;
 mod nesting;
 mod options;
 mod people;
@@ -25,5 +24,5 @@ pub use laws::{
     accepts_all, commands_are_fit, does_all_lines, lists_are_held, names_are_apart,
     prints_whole_lines, sets_up_meet,
 };
-pub use options::{CumulativeLimits, Options, SameNames};
+pub use options::{CumulativeLimits, Edition, Options, SameNames};
 pub use text::print_lines;

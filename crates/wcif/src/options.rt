@@ -18,9 +18,19 @@ pub enum SameNames {
     WithId,
 }
 
+/// The edition of the commands with which an import begins.
+#[derive(Clone, Copy, Debug, PartialEq, Eq)]
+pub enum Edition {
+    /// `EDITION 3`, for desks of a program that does not know edition 4.
+    Three,
+    /// `EDITION 4`.
+    Four,
+}
+
 /// How a competition is imported.
 #[derive(Clone, Copy, Debug, PartialEq, Eq)]
 pub struct Options {
+    pub edition: Edition,
     pub limits: CumulativeLimits,
     pub names: SameNames,
 }

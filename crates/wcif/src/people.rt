@@ -16,13 +16,13 @@ ghost use Rattle.wcif.specs.declared.options.SameNames.{SameNames as Named};
 
 use crate::entries::{push_events_faults, push_some};
 use crate::fault::PersonFault;
-use crate::names::is_name;
 use crate::options::SameNames;
 use crate::persons::{event_ids, given_name, is_accepted, number_of, wca_id};
 use attempts::NoMemory;
 use serde_json::Value;
 use std::alloc::Global;
 use std::collections::{HashMap, HashSet};
+use texts::is_clear_name;
 
 /// The greatest number of a competitor.
 pub(crate) const LAST_NUMBER: u16 = 9999;
@@ -193,9 +193,9 @@ impl Names {
         ensures kept { OnOk result ((other : List ℕ) → contains_text self.new.names other
             ≡ (bytes_eq other (string_bytes name) || contains_text self.old.names other)) }
     {
-        let is_name = is_name(name.as_bytes());
+        let is_clear = is_clear_name(name.as_bytes());
         let is_new = self.names.insert(name)?;
-        if !is_name {
+        if !is_clear {
             Ok(Some(PersonFault::BadName))
         } else if !is_new {
             Ok(Some(PersonFault::NameTaken))

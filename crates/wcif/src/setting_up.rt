@@ -2,20 +2,17 @@
 
 ghost use Rattle.std.specs.Prelude.{◌≡◌, ◌++◌, ◌≤◌, List, map, flat_map, IfOk, OnOk, option_map};
 ghost use Rattle.std.specs.Prelude.{option_to_list};
-ghost use Rattle.std.specs.List.{list_any};
 ghost use Rattle.serde_json.specs.Data.{Data};
 ghost use Rattle.serde_json.specs.View.{view};
 ghost use Rattle.formats.specs.Events.{event_of_name};
-ghost use Rattle.wcif.specs.Events.{event_named};
 ghost use Rattle.wcif.specs.Persons.{text_of, last_number};
-ghost use Rattle.wcif.specs.Commands.{numbered, registered, entering, entered, opened, editions};
+ghost use Rattle.wcif.specs.Commands.{numbered, registered, entering, entered, opened, beginning};
 ghost use Rattle.wcif.specs.Commands.{entering_all, registering, opening, commands_of, numbers};
-ghost use Rattle.wcif.specs.Commands.{is_of_second};
 ghost use Rattle.wcif.specs.declared.options.SameNames.{SameNames as Named};
 ghost use Rattle.wcif.specs.model.Kept.{AreKept};
 
 use crate::events::{event_named, rounds_of};
-use crate::options::{CumulativeLimits, Options, SameNames};
+use crate::options::{CumulativeLimits, Edition, Options, SameNames};
 use crate::people::{LAST_NUMBER, People};
 use crate::persons::{event_ids, text_of};
 use crate::settings::settings_in;
@@ -25,38 +22,14 @@ use serde_json::Value;
 use std::alloc::Global;
 use texts::{Command, Name, RoundId};
 
-/// Whether an event is of edition 2.
-fn is_second(event: &Value) -> bool
-    ensures { result ≡ is_of_second (event_named (view event.now)) }
+/// The command that sets an edition.
+fn beginning(edition: Edition) -> Command
+    ensures { result ≡ beginning edition }
 {
-    match event_named(event) {
-        Some(event) => event.edition() == 2,
-        None => false,
+    match edition {
+        Edition::Three => Command::SetEdition { edition: 3 },
+        Edition::Four => Command::SetEdition { edition: 4 },
     }
-}
-
-/// Whether an event is of edition 2.
-fn has_second(events: &[Value]) -> bool
-    ensures { result ≡ list_any (λ d. is_of_second (event_named d)) (map view events.now) }
-{
-    for event in events {
-        if is_second(event) {
-            return true;
-        }
-    }
-    false
-}
-
-/// Adds the edition that the events need.
-#[tactic(auto, unfolding(crate::specs::Commands::editions))]
-fn push_editions(commands: &mut Vec<Command>, events: &[Value]) -> Result<(), NoMemory>
-    ensures { OnOk result (commands.new.items ≡ commands.old.items ++ editions (map view
-        events.now)) }
-{
-    if has_second(events) {
-        commands.push(Command::SetEdition { edition: 2 })?;
-    }
-    Ok(())
 }
 
 /// The event of an id in a registration.
@@ -208,7 +181,7 @@ pub(crate) fn commands_of(
         → commands.items ≡ commands_of options persons (map view events.now)) }
 {
     let mut commands = Vec::new(alloc);
-    push_editions(&mut commands, events)?;
+    commands.push(beginning(options.edition))?;
     push_registrations(alloc, options.names, &mut commands, people)?;
     push_openings(options.limits, &mut commands, events)?;
     push_all_entries(&mut commands, people)?;

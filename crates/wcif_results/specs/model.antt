@@ -1,2 +1,3 @@
 -- Models of the code: steps that proofs go through. No public contract cites them.
 pub mod Opened
+pub mod Marks

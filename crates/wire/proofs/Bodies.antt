@@ -182,6 +182,7 @@ answer_found (answer.Refused code.CutoffLost) = refl
 answer_found (answer.Refused code.Unfinished) = refl
 answer_found (answer.Refused code.HasAttempts) = refl
 answer_found (answer.Refused code.NotClosed) = refl
+answer_found (answer.Refused code.Changed) = refl
 
 -- a refusal has the number of its code
 pub coded : (cs : List Code) (n : ℕ) → find (λ (x : Answer). eqb (answer_number x) n)

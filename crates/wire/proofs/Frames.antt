@@ -10,7 +10,6 @@ use Rattle.formats.specs.Events.{event_number}
 use Rattle.wire.specs.declared.values.CommandState.{CommandState}
 use Rattle.wire.specs.declared.values.SheetStyle.{SheetStyle}
 use Rattle.wire.specs.declared.values.Version.{Version}
-use Rattle.wire.specs.declared.values.Version.TheVariants.{Three}
 use Rattle.wire.specs.declared.frame.What.{What}
 use Rattle.wire.specs.declared.frame.What.TheVariants as variant
 use Rattle.wire.specs.declared.frame.What.TheVariants.{Prepare, Promise, Accept, Accepted, Nack}
@@ -18,7 +17,7 @@ use Rattle.wire.specs.declared.frame.What.TheVariants.{Behind, Decided, Submit, 
 use Rattle.wire.specs.declared.frame.What.TheVariants.{Stop, Taken, Told, SheetText, Refused, Fine}
 use Rattle.wire.specs.declared.frame.What.TheVariants.{Status, Log}
 use Rattle.wire.specs.Fields.{byte_at, number_at, two, all_of}
-use Rattle.wire.specs.Numbers.{refusals, refusal_number, styles, style_number}
+use Rattle.wire.specs.Numbers.{IsFromThree, refusals, refusal_number, styles, style_number}
 use Rattle.wire.specs.Ranges.{IsBallot, IsPosition, IsId, IsEntry, IsReport, IsCommandState}
 use Rattle.wire.specs.Ranges.{IsEventOf}
 use Rattle.wire.specs.Ranges.{IsBody}
@@ -235,7 +234,7 @@ refused_takes v bytes w fits e =
     subst (λ (y : What). IsWhat v 35 bytes y) (some_is (Refused a.0) w a.2)
     (record { number = refl; spelled = t.0; fits = tt })
 
-pub position_takes : (v : Version) (bytes : List ℕ) (w : What) → v ≡ Three → IsBytes bytes
+pub position_takes : (v : Version) (bytes : List ℕ) (w : What) → IsFromThree v → IsBytes bytes
     → log_of bytes ≡ Some w → IsWhat v 22 bytes w
 position_takes v bytes w three fits e =
     let a = bind_some (all_of log_length_at bytes) (λ x. Some (Log x)) w e in
@@ -243,7 +242,7 @@ position_takes v bytes w three fits e =
     subst (λ (y : What). IsWhat v 22 bytes y) (some_is (Log a.0) w a.2)
     (record { number = refl; spelled = t.0; fits = (three, t.1) })
 
-pub standing_takes : (v : Version) (bytes : List ℕ) (w : What) → v ≡ Three → IsBytes bytes
+pub standing_takes : (v : Version) (bytes : List ℕ) (w : What) → IsFromThree v → IsBytes bytes
     → standing_of bytes ≡ Some w → IsWhat v 37 bytes w
 standing_takes v bytes w three fits e =
     let a = bind_some (all_of parts_at bytes) (λ x. Some (variant.Standing (standing_from x))) w
@@ -264,7 +263,7 @@ standing_takes v bytes w three fits e =
       );
     })
 
-pub entries_takes : (v : Version) (bytes : List ℕ) (w : What) → v ≡ Three → IsBytes bytes
+pub entries_takes : (v : Version) (bytes : List ℕ) (w : What) → IsFromThree v → IsBytes bytes
     → entries_of bytes ≡ Some w → IsWhat v 38 bytes w
 entries_takes v bytes w three fits e =
     let log = log_takes bytes w fits e in

@@ -7,7 +7,7 @@ use Rattle.texts.specs.declared.answer.Code.TheVariants.{Unread}
 use Rattle.wire.specs.declared.values.CommandState.{CommandState}
 use Rattle.wire.specs.declared.values.CommandState.TheVariants.{Unknown, Pending, Done}
 use Rattle.wire.specs.declared.values.Version.{Version}
-use Rattle.wire.specs.declared.values.Version.TheVariants.{One, Two, Three}
+use Rattle.wire.specs.declared.values.Version.TheVariants.{One, Two, Three, Four}
 use Rattle.wire.specs.Numbers.{answer_number, answer_in, last_code, state_in}
 use Rattle.wire.specs.Ranges.{IsPosition, IsAnswerOf, IsCommandState}
 
@@ -15,6 +15,7 @@ unread_told : (v : Version) → 1 ≤ last_code v
 unread_told One = omega arith
 unread_told Two = omega arith
 unread_told Three = omega arith
+unread_told Four = omega arith
 
 pub answer_told : (v : Version) (a : Answer) → IsAnswerOf v (answer_in v a)
 answer_told v a = step (leb (answer_number a) (last_code v)) refl

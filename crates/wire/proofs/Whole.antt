@@ -17,10 +17,10 @@ use Rattle.wire.specs.declared.frame.What.TheVariants.{Status, Log}
 use Rattle.std.specs.List.{list_any}
 use Rattle.wire.specs.Ranges.{Way, Between, FromClient, ToClient, way_of, Goes, IsBody, IsFrame}
 use Rattle.wire.specs.declared.values.Version.{Version}
-use Rattle.wire.specs.declared.values.Version.TheVariants.{One, Two, Three}
-use Rattle.wire.specs.Numbers.{versions, version_number}
+use Rattle.wire.specs.declared.values.Version.TheVariants.{One, Two, Three, Four}
+use Rattle.wire.specs.Numbers.{IsFromThree, versions, version_number}
 use Rattle.wire.specs.Reading.{empty_of, what_of, is_kind, is_desk, goes, frame_from, frame_in}
-use Rattle.wire.specs.Reading.{version_of, frame_of, first_kinds}
+use Rattle.wire.specs.Reading.{version_of, frame_of, first_kinds, later_kinds}
 use Rattle.wire.specs.Spelling.{kind_of, body, inside}
 use Rattle.wire.proofs.Taking.{IsBytes, IsBytes-take, passed, wide32}
 use Rattle.wire.proofs.FieldLaws.{and_true, both_true, between_is, between_holds}
@@ -60,29 +60,35 @@ pick v kind k bytes w x y here there e = go (eqb kind k) refl e where
 abbrev is_first : ℕ → Bool
 is_first kind = list_any (λ k. eqb k kind) first_kinds
 
+more_kinds : (kind : ℕ) → is_first kind ≡ true → list_any (λ k. eqb k kind) later_kinds ≡ true
+more_kinds kind e =
+    or_right (eqb 21 kind) _ (or_right (eqb 22 kind) _ (or_right (eqb 37 kind) _
+    (or_right (eqb 38 kind) _ e)))
+
 -- a kind of every version is one of this version
 first_kind : (v : Version) (kind : ℕ) → is_first kind ≡ true → is_kind v kind ≡ true
 first_kind One kind e = e
 first_kind Two kind e = e
-first_kind Three kind e =
-    or_right (eqb 21 kind) _ (or_right (eqb 22 kind) _ (or_right (eqb 37 kind) _
-    (or_right (eqb 38 kind) _ e)))
+first_kind Three kind e = more_kinds kind e
+first_kind Four kind e = more_kinds kind e
 
--- the version of a kind that is none of them is 3
-later_kind : (v : Version) (kind : ℕ) → is_first kind ≡ false → is_kind v kind ≡ true → v ≡ Three
+-- the version of a kind that is none of them is one from 3 on
+later_kind : (v : Version) (kind : ℕ) → is_first kind ≡ false → is_kind v kind ≡ true
+    → IsFromThree v
 later_kind One kind none e = let bad : true ≡ false = sym e ∙ none in absurd cc
 later_kind Two kind none e = let bad : true ≡ false = sym e ∙ none in absurd cc
-later_kind Three kind none e = refl
+later_kind Three kind none e = omega arith
+later_kind Four kind none e = omega arith
 
 -- the test of a kind that is none of them
 pick_later : (v : Version) (kind k : ℕ) (bytes : List ℕ) (w : What) (x y : Option What)
     → is_kind v kind ≡ true → is_first k ≡ false
-    → (v ≡ Three → x ≡ Some w → IsWhat v k bytes w) → (y ≡ Some w → IsWhat v kind bytes w)
+    → (IsFromThree v → x ≡ Some w → IsWhat v k bytes w) → (y ≡ Some w → IsWhat v kind bytes w)
     → cond (eqb kind k) x y ≡ Some w → IsWhat v kind bytes w
 pick_later v kind k bytes w x y has none here there e = go (eqb kind k) refl e where
   go : (b : Bool) → eqb kind k ≡ b → cond b x y ≡ Some w → IsWhat v kind bytes w
   go true t h =
-      let three : v ≡ Three =
+      let three : IsFromThree v =
       later_kind v k none (subst (λ (n : ℕ). is_kind v n ≡ true) (eqb-true _ _ t) has) in
       subst (λ (n : ℕ). IsWhat v n bytes w) (sym (eqb-true _ _ t)) (here three h)
   go false t h = there h
@@ -140,10 +146,13 @@ goes_holds FromClient from to h = both_true (eqb from 0) (is_desk to) (is_zero f
 goes_holds ToClient from to h = both_true (is_desk from) (eqb to 0)
     (between_holds 1 5 from h.0.0 h.0.1) (is_zero to h.1)
 
--- a kind of version 3
-is_later : (v : Version) (kind : ℕ) → v ≡ Three → is_kind Three kind ≡ true
+-- a kind of the versions from 3 on
+is_later : (v : Version) (kind : ℕ) → IsFromThree v → is_kind Three kind ≡ true
     → is_kind v kind ≡ true
-is_later v kind three e = subst (λ (x : Version). is_kind x kind ≡ true) (sym three) e
+is_later One kind three e = absurd (omega (arith, three))
+is_later Two kind three e = absurd (omega (arith, three))
+is_later Three kind three e = e
+is_later Four kind three e = e
 
 kind_is : (v : Version) (w : What) → IsBody v w → is_kind v (kind_of w) ≡ true
 kind_is v (Prepare b pos) fits = first_kind v 1 refl
@@ -254,6 +263,7 @@ pub version_again : (v : Version) → version_of (version_number v) ≡ Some v
 version_again One = refl
 version_again Two = refl
 version_again Three = refl
+version_again Four = refl
 
 framed : (a b c d : ℕ) (f : Frame) → from_be_bytes w32 (a ∷ b ∷ c ∷ d ∷ []) ≡ f.hall → IsFrame f
     → frame_of (version_number f.version ∷ a ∷ b ∷ c ∷ d ∷ f.from ∷ f.to ∷ kind_of f.what ∷

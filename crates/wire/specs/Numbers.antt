@@ -1,5 +1,5 @@
 -- The numbers that versions, answers, refusals and roles have on the wire.
-use Rattle.std.specs.Prelude.{ℕ, nat_le, if◌then◌else◌, List, [], ◌∷◌, map}
+use Rattle.std.specs.Prelude.{ℕ, ◌≤◌, nat_le, if◌then◌else◌, List, [], ◌∷◌, map}
 use Rattle.texts.specs.declared.answer.Answer.{Answer}
 use Rattle.texts.specs.declared.answer.Answer.TheVariants.{Done, Refused}
 use Rattle.texts.specs.declared.answer.Code.TheVariants.{Unread}
@@ -13,21 +13,27 @@ use Rattle.wire.specs.declared.values.DeskRole.TheVariants.{Idle, Gathering, Pro
 use Rattle.wire.specs.declared.values.SheetStyle.{SheetStyle}
 use Rattle.wire.specs.declared.values.SheetStyle.TheVariants.{Text, Table}
 use Rattle.wire.specs.declared.values.Version.{Version}
-use Rattle.wire.specs.declared.values.Version.TheVariants.{One, Two, Three}
+use Rattle.wire.specs.declared.values.Version.TheVariants.{One, Two, Three, Four}
 
 abbrev pub version_number : Version → ℕ
 version_number One = 1
 version_number Two = 2
 version_number Three = 3
+version_number Four = 4
 
 abbrev pub versions : List Version
-versions = One ∷ Two ∷ Three ∷ []
+versions = One ∷ Two ∷ Three ∷ Four ∷ []
+
+-- it has the kinds that came with version 3
+abbrev pub IsFromThree : Version → Type 0
+IsFromThree version = 3 ≤ version_number version
 
 -- the last event whose sheets can be asked for in a version
 abbrev pub last_event : Version → ℕ
 last_event One = 16
 last_event Two = 17
 last_event Three = 17
+last_event Four = 17
 
 abbrev pub refusal_number : ClientRefusal → ℕ
 refusal_number refusal.Busy = 1
@@ -49,11 +55,13 @@ abbrev pub answer_number : Answer → ℕ
 answer_number Done = 0
 answer_number (Refused c) = code_number c
 
--- the last code that a version tells: versions 1 and 2 were there before the codes of edition 3
+-- the last code that a version tells: versions 1 and 2 were there before the codes of edition 3,
+-- and version 3 before that of edition 4
 abbrev pub last_code : Version → ℕ
 last_code One = 22
 last_code Two = 22
 last_code Three = 24
+last_code Four = 25
 
 -- what a version tells of an answer: of a code that it does not have, that it is no command
 abbrev pub answer_in : Version → Answer → Answer

@@ -20,10 +20,10 @@ use Rattle.wire.specs.declared.standing.Standing.{Standing}
 use Rattle.formats.specs.declared.events.Event.{Event}
 use Rattle.formats.specs.Events.{event_number}
 use Rattle.wire.specs.declared.values.Version.{Version}
-use Rattle.wire.specs.declared.values.Version.TheVariants.{One, Two, Three}
+use Rattle.wire.specs.declared.values.Version.TheVariants.{One, Two, Three, Four}
 pub use Rattle.wire.specs.Entries.{IsId, IsEntry}
 use Rattle.texts.specs.declared.answer.Answer.{Answer}
-use Rattle.wire.specs.Numbers.{answer_number, last_code, last_event}
+use Rattle.wire.specs.Numbers.{IsFromThree, answer_number, last_code, last_event}
 use Rattle.wire.specs.Spelling.{kind_of}
 
 -- a desk of a hall
@@ -58,6 +58,7 @@ abbrev pub IsCount : Version → ℕ → Type 0
 IsCount One n = n ≡ 1
 IsCount Two n = (1 ≤ n) × (n ≤ 16)
 IsCount Three n = (1 ≤ n) × (n ≤ 16)
+IsCount Four n = (1 ≤ n) × (n ≤ 16)
 
 -- the entries from a position on, of which the last stands at 65,535 at most
 abbrev pub AreDecided : Version → ℕ → List Entry → Type 0
@@ -98,7 +99,7 @@ pub record AreOfLog (position len : ℕ) (entries : List Entry) : Type 0 where
   pub each : AllByRecursion IsEntry entries
 
 -- the fields of a kind in a version; a sheet and all that stands in front of it fill at most
--- 300,000 bytes. Four kinds are of version 3 alone.
+-- 300,000 bytes. Four kinds are of the versions from 3 on.
 abbrev pub IsBody : Version → What → Type 0
 IsBody v (Prepare b pos) = IsBallot b × IsPosition pos
 IsBody v (Promise b pos vote) = IsBallot b × IsPosition pos × IsReport vote
@@ -113,15 +114,15 @@ IsBody v (Sheet event round position style) =
     IsEventOf v event × (round < 256) × (position < 2 ^ 32)
 IsBody v Tick = Unit {0}
 IsBody v Stop = Unit {0}
-IsBody v Status = v ≡ Three
-IsBody v (Log position) = (v ≡ Three) × IsLogLength position
+IsBody v Status = IsFromThree v
+IsBody v (Log position) = IsFromThree v × IsLogLength position
 IsBody v (Taken id) = IsId id
 IsBody v (Told id s) = IsId id × IsCommandState v s
 IsBody v (SheetText bytes) = length bytes ≤ 299992
 IsBody v (Refused refusal) = Unit {0}
 IsBody v Fine = Unit {0}
-IsBody v (variant.Standing standing) = (v ≡ Three) × IsStanding standing
-IsBody v (variant.Entries position len entries) = (v ≡ Three) × AreOfLog position len entries
+IsBody v (variant.Standing standing) = IsFromThree v × IsStanding standing
+IsBody v (variant.Entries position len entries) = IsFromThree v × AreOfLog position len entries
 
 -- who sends a kind to whom: desk to desk, client to desk, desk to client
 pub data Way : Type 0 where

@@ -25,7 +25,7 @@ use Rattle.wire.specs.declared.standing.Lengths.TheVariants.{OfThree, OfFive}
 use Rattle.wire.specs.Fields.{Read, ◌>>=◌, number_at, byte_at, two, many, all_of, numbered}
 use Rattle.wire.specs.Ranges.{Way, Between, FromClient, ToClient, way_of}
 use Rattle.wire.specs.declared.values.Version.{Version}
-use Rattle.wire.specs.declared.values.Version.TheVariants.{One, Two, Three}
+use Rattle.wire.specs.declared.values.Version.TheVariants.{One, Two, Three, Four}
 use Rattle.texts.specs.declared.answer.Answer.{Answer}
 use Rattle.wire.specs.Numbers.{versions, version_number, last_code, last_event, answers}
 use Rattle.wire.specs.Numbers.{answer_number, refusals, refusal_number, styles, style_number, roles}
@@ -108,11 +108,12 @@ told_count_at bytes = do
   n ← byte_at bytes
   if between 1 16 n.0 then Some n else None
 
--- how many entries a Decided has: one in version 1; in versions 2 and 3 a byte says it
+-- how many entries a Decided has: one in version 1; in the later ones a byte says it
 unfoldable pub count_at : Version → List ℕ → Read ℕ
 count_at One bytes = Some (1, bytes)
 count_at Two bytes = told_count_at bytes
 count_at Three bytes = told_count_at bytes
+count_at Four bytes = told_count_at bytes
 
 -- so many entries, one after the other
 abbrev pub entries_at : ℕ → List ℕ → Read (List Entry)
@@ -250,11 +251,15 @@ abbrev pub first_kinds : List ℕ
 first_kinds =
     1 ∷ 2 ∷ 3 ∷ 4 ∷ 5 ∷ 6 ∷ 7 ∷ 16 ∷ 17 ∷ 18 ∷ 19 ∷ 20 ∷ 32 ∷ 33 ∷ 34 ∷ 35 ∷ 36 ∷ []
 
--- the kinds of a version: version 3 has four more
+-- the kinds of the versions from 3 on: four more
+abbrev pub later_kinds : List ℕ
+later_kinds = 21 ∷ 22 ∷ 37 ∷ 38 ∷ first_kinds
+
 abbrev pub kinds : Version → List ℕ
 kinds One = first_kinds
 kinds Two = first_kinds
-kinds Three = 21 ∷ 22 ∷ 37 ∷ 38 ∷ first_kinds
+kinds Three = later_kinds
+kinds Four = later_kinds
 
 abbrev pub is_kind : Version → ℕ → Bool
 is_kind version kind = list_any (λ k. k == kind) (kinds version)

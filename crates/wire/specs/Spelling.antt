@@ -19,7 +19,7 @@ use Rattle.wire.specs.declared.standing.Lengths.{Lengths}
 use Rattle.wire.specs.declared.standing.Lengths.TheVariants.{OfThree, OfFive}
 use Rattle.wire.specs.declared.standing.Standing.{Standing}
 use Rattle.wire.specs.declared.values.Version.{Version}
-use Rattle.wire.specs.declared.values.Version.TheVariants.{One, Two, Three}
+use Rattle.wire.specs.declared.values.Version.TheVariants.{One, Two, Three, Four}
 use Rattle.wire.specs.Numbers.{answer_number, refusal_number, role_number, style_number}
 use Rattle.wire.specs.Numbers.{version_number}
 
@@ -71,6 +71,7 @@ abbrev pub count_bytes : Version → ℕ → List ℕ
 count_bytes One n = []
 count_bytes Two n = n ∷ []
 count_bytes Three n = n ∷ []
+count_bytes Four n = n ∷ []
 
 abbrev pub decided_bytes : Version → ℕ → List Entry → List ℕ
 decided_bytes version pos entries =

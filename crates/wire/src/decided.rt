@@ -12,7 +12,7 @@ use crate::values::Version;
 use acceptor::MOST_ENTRIES;
 use std::alloc::Global;
 
-/// The most entries of a Decided of version 2 or 3.
+/// The most entries of a Decided of a version from 2 on.
 const MOST_TOLD: u8 = 16;
 
 /// A byte that says how many entries there are, 1 to 16.
@@ -27,14 +27,14 @@ fn told_count_of(bytes: &[u8]) -> Result<(u8, &[u8]), WireFault>
     }
 }
 
-/// How many entries there are: one in version 1; in versions 2 and 3 a byte says it.
+/// How many entries there are: one in version 1; in the later ones a byte says it.
 #[tactic(auto, unfolding(crate::specs::Reading::count_at))]
 fn count_of(version: Version, bytes: &[u8]) -> Result<(u8, &[u8]), WireFault>
     ensures { GivesField (λ x. (x.0, x.1.now)) result (count_at version bytes.now) }
 {
     match version {
         Version::One => Ok((1, bytes)),
-        Version::Two | Version::Three => told_count_of(bytes),
+        Version::Two | Version::Three | Version::Four => told_count_of(bytes),
     }
 }
 

@@ -10,7 +10,7 @@ use std::alloc::{AllocError, AllocFailed};
 pub enum WireFault {
     /// The length is not 8 to 300,000. It is known with the four bytes of the length.
     BadLength,
-    /// The version is neither 1, 2 nor 3. This and the faults below are known with the whole frame.
+    /// The version is none of 1 to 4. This and the faults below are known with the whole frame.
     BadVersion,
     /// No kind of the version has this number.
     BadKind,

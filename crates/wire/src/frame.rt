@@ -33,9 +33,9 @@ pub struct Frame {
 /// a desk of 1 to 5; a position is at most 65,535; an id is 1 to 2^63 - 1; an entry has an id and a
 /// text of at most 600 bytes. A Decided has one entry in version 1 and 1 to 16 in the later ones,
 /// for consecutive positions, and a Sheet an event of 1 to 16 or 1 to 17. Status, Log, Standing and
-/// Entries are kinds of version 3 alone. Prepare to Decided go from a desk to a desk; Submit, Ask,
-/// Sheet, Tick, Stop, Status and Log from a client (0) to a desk; the others from a desk to a
-/// client.
+/// Entries are kinds of the versions from 3 on. Prepare to Decided go from a desk to a desk;
+/// Submit, Ask, Sheet, Tick, Stop, Status and Log from a client (0) to a desk; the others from a
+/// desk to a client.
 #[derive(PartialEq, Eq, Debug, Drop)]
 pub enum What {
     /// A desk asks for promises.

@@ -227,7 +227,7 @@ fn is_kind(version: Version, kind: u8) -> bool
 {
     match version {
         Version::One | Version::Two => matches!(kind, 1..=7 | 16..=20 | 32..=36),
-        Version::Three => matches!(kind, 1..=7 | 16..=22 | 32..=38),
+        Version::Three | Version::Four => matches!(kind, 1..=7 | 16..=22 | 32..=38),
     }
 }
 

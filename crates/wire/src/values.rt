@@ -10,7 +10,7 @@ use texts::{Answer, Code};
 /// The last event whose sheets can be asked for in version 1.
 const LAST_OF_ONE: Event = Event::Blind5;
 
-/// The last event whose sheets can be asked for in versions 2 and 3.
+/// The last event whose sheets can be asked for in the versions from 2 on.
 const LAST_OF_TWO: Event = Event::MultiBlind;
 
 /// The version of the wire in which a frame is spelled.
@@ -24,6 +24,8 @@ pub enum Version {
     Two,
     /// Version 2, four kinds more (Status, Log, Standing and Entries), and the codes 23 and 24.
     Three,
+    /// Version 3, and the code 25.
+    Four,
 }
 
 /// How a sheet is printed.
@@ -116,7 +118,7 @@ impl Version {
     ghost use Rattle.wire.specs.Numbers.{answer_in};
 
     /// All versions.
-    pub const ALL: [Version; 3] = [Version::One, Version::Two, Version::Three];
+    pub const ALL: [Version; 4] = [Version::One, Version::Two, Version::Three, Version::Four];
 
     /// The version's number, with which what stands after a frame's length begins.
     pub fn number(self) -> u8
@@ -126,6 +128,7 @@ impl Version {
             Version::One => 1,
             Version::Two => 2,
             Version::Three => 3,
+            Version::Four => 4,
         }
     }
 
@@ -145,23 +148,24 @@ impl Version {
     {
         match self {
             Version::One => LAST_OF_ONE.number(),
-            Version::Two | Version::Three => LAST_OF_TWO.number(),
+            Version::Two | Version::Three | Version::Four => LAST_OF_TWO.number(),
         }
     }
 
     /// The number of the last code that this version tells: versions 1 and 2 were there before the
-    /// codes of edition 3.
+    /// codes of edition 3, and version 3 before that of edition 4.
     pub fn last_code(self) -> u8
         ensures { result ≡ last_code self }
     {
         match self {
             Version::One | Version::Two => Code::Unfinished.number(),
             Version::Three => Code::NotClosed.number(),
+            Version::Four => Code::Changed.number(),
         }
     }
 
     /// What this version tells of an answer. A code that it does not have is told as `Unread`,
-    /// which a client without edition 3 takes for what it is: a command that it does not know.
+    /// which a client without that edition takes for what it is: a command that it does not know.
     pub fn answer(self, answer: Answer) -> Answer
         ensures { result ≡ answer_in self answer }
     {

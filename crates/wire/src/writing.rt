@@ -101,7 +101,7 @@ fn put_count(out: &mut Vec<u8>, version: Version, count: usize) -> Result<(), No
 {
     match version {
         Version::One => Ok(()),
-        Version::Two | Version::Three => {
+        Version::Two | Version::Three | Version::Four => {
             out.push(count as u8)?;
             Ok(())
         }

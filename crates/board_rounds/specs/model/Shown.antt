@@ -1,14 +1,33 @@
 -- A model of the code: what is printed of the round that is shown.
-use Rattle.std.specs.Prelude.{ℕ, List}
+use Rattle.std.specs.Prelude.{◌≡◌, ℕ, Bool, List, Some}
 use Rattle.formats.specs.Events.{unit_of}
 use Rattle.board_rounds.specs.declared.shown.Shown.{Shown}
 use Rattle.board_rounds.specs.Rows.{line_of}
+use Rattle.commands.specs.Accepted.{round_of, seen_of}
+use Rattle.sheets.specs.declared.going_on.GoingOn.{GoingOn}
+use Rattle.sheets.specs.Going.{Tells}
+use Rattle.sheets.specs.Sheet.{goes_through}
 use Rattle.board_rounds.specs.Rounds.{section_of, link_of}
 use Rattle.board_rounds.specs.Persons.{entry_in}
 
+-- it is a round that was opened, with its settings and its table
+abbrev pub IsOpened : Shown → Type 0
+IsOpened s =
+    round_of s.meet.now.accepted s.id.event s.id.round ≡ Some (s.settings, s.table.now)
+
+-- what is kept tells who goes on from it
+abbrev pub TellsShown : Shown → GoingOn → Type 0
+TellsShown s going =
+    Tells going s.table.now (seen_of s.meet.now.accepted s.id.event s.id.round)
+
+-- who goes on
+abbrev pub through_shown : Shown → ℕ → Bool
+through_shown s = goes_through (seen_of s.meet.now.accepted s.id.event s.id.round)
+
 -- the line of the entrant with a number
 abbrev pub line_shown : Shown → ℕ → List ℕ
-line_shown s n = line_of (unit_of s.id.event) s.meet.now.accepted s.settings s.table.now n
+line_shown s n =
+    line_of (unit_of s.id.event) s.meet.now.accepted s.settings s.table.now (through_shown s) n
 
 -- the round at a position
 abbrev pub section_shown : Shown → ℕ → List ℕ

@@ -14,6 +14,7 @@ use Rattle.texts.specs.declared.answer.Code.{Code}
 use Rattle.texts.specs.declared.answer.Code.TheVariants as code
 use Rattle.texts.specs.declared.command.Command.TheVariants.{Enter, Attempt, Correct}
 use Rattle.texts.specs.declared.command.Command.TheVariants.{Strike, Rename, Withdraw}
+use Rattle.texts.specs.declared.command.Command.TheVariants.{Card, Fix}
 use Rattle.texts.specs.declared.command.AttemptEntry.{AttemptEntry}
 use Rattle.texts.specs.declared.command.Entered.{Entered}
 use Rattle.texts.specs.declared.command.Settings.{Settings}
@@ -27,10 +28,10 @@ use Rattle.rounds.specs.Tables.{with_entrant, is_entered, with_rules, withdrawn,
 use Rattle.formats.specs.declared.advance.Advance.{Advance}
 use Rattle.formats.specs.declared.events.Format.{Format}
 use Rattle.commands.specs.Accepted.{name_given, renaming, name_of, is_called, is_taken}
-use Rattle.commands.specs.Accepted.{scrambling}
-use Rattle.commands.specs.Accepted.{rescrambling, scramble_of, settled, is_withdrawal, Opened}
-use Rattle.commands.specs.Accepted.{opened, round_in, round_of, edition_in, is_registered}
-use Rattle.commands.specs.Accepted.{who_advance, who_wait, is_solution, is_solved}
+use Rattle.commands.specs.Accepted.{is_of, scrambling, rescrambling, scramble_of, settled}
+use Rattle.commands.specs.Accepted.{is_withdrawal, Opened, opened, round_in, round_of, edition_in}
+use Rattle.commands.specs.Accepted.{is_registered, who_advance, who_wait, is_solution, is_solved}
+use Rattle.commands.specs.Accepted.{competitors_of}
 use Rattle.commands.specs.model.Solved.{is_noted}
 
 -- the name that a command gives a number, by its registration or as another name
@@ -76,9 +77,35 @@ kept_round e r xs = option_map kept_value (find (is_round e r) xs)
 abbrev pub kept_by : RoundId → KeptRounds → Option (Settings × Table)
 kept_by id kept = kept_round id.event id.round kept.opened.items
 
--- the rounds of an event by their numbers
-abbrev pub rounds_of : Event → KeptRounds → ℕ → Option (Settings × Table)
-rounds_of e kept = λ r. kept_round e r kept.opened.items
+-- the round that is kept of the next number
+abbrev pub kept_next : Event → ℕ → List KeptRound → Option KeptRound
+kept_next e r xs = find (is_round e (suc r)) xs
+
+-- who advanced from a round, and how many competitors it has
+abbrev pub seen_from : Option (Settings × Table) → List ℕ × ℕ
+seen_from round = (who_advance round, competitors_of round)
+
+-- the same of the round before one that is kept, as it was when that one was opened
+abbrev pub seen_in : KeptRound → List ℕ × ℕ
+seen_in x = (x.advanced.items, x.competitors_before)
+
+abbrev pub kept_seen : Event → ℕ → List KeptRound → Option (List ℕ × ℕ)
+kept_seen e r xs = option_map seen_in (find (is_round e r) xs)
+
+-- the same, as the accepted commands make it
+abbrev pub before_of : List Command → Event → ℕ → Option (List ℕ × ℕ)
+before_of cs e zero = None
+before_of cs e (suc r) =
+    option_map (λ o. seen_from (round_in e r o.before)) (opened e (suc r) [] cs)
+
+-- how many competitors a round has, as the next one sees it
+abbrev pub kept_competitors : Event → List KeptRound → ℕ → ℕ
+kept_competitors e xs r =
+    option_map_or (λ seen. seen.1) (kept_seen e (suc r) xs) (competitors_of (kept_round e r xs))
+
+-- those who advanced from a round when the next one was opened, where it is
+abbrev pub kept_advanced : Event → ℕ → List KeptRound → Option (List ℕ)
+kept_advanced e r xs = option_map (λ seen. seen.0) (kept_seen e (suc r) xs)
 
 -- those who wait for a place in a round that is kept
 abbrev pub waiting_in : KeptRound → List ℕ
@@ -139,8 +166,8 @@ solved_in k n x = is_noted x.solutions n k
 abbrev pub kept_solved : Event → ℕ → ℕ → ℕ → List KeptRound → Bool
 kept_solved e r k n xs = option_map_or (solved_in k n) (find (is_round e r) xs) false
 
--- each round is kept as the accepted commands make it, with those who wait, who are not in it; and
--- the scrambles of its attempts are found
+-- each round is kept as the accepted commands make it, with those who wait, who are not in it, and
+-- with what it saw of the one before; and the scrambles of its attempts are found
 pub record AreRounds (cs : List Command) (xs : List KeptRound) : Type 0 where
   pub rounds : (e : Event) (r : ℕ) → kept_round e r xs ≡ round_of cs e r
   pub scrambles : (e : Event) (r k : ℕ) → 1 ≤ k
@@ -148,6 +175,7 @@ pub record AreRounds (cs : List Command) (xs : List KeptRound) : Type 0 where
   pub waiting : (e : Event) (r : ℕ) → kept_waiting e r xs ≡ waiting_of cs e r
   pub apart : (e : Event) (r : ℕ) → IsApart (kept_round e r xs) (kept_waiting e r xs)
   pub solved : (e : Event) (r k n : ℕ) → 1 ≤ k → kept_solved e r k n xs ≡ is_solved cs e r k n
+  pub seen : (e : Event) (r : ℕ) → kept_seen e r xs ≡ before_of cs e r
 
 -- the competitor whom a command enters, or whose attempts it is of
 abbrev pub competitor_of : Command → Option ℕ
@@ -157,6 +185,8 @@ competitor_of (Correct entry) = Some entry.number
 competitor_of (Strike id n) = Some n
 competitor_of (Rename n name) = Some n
 competitor_of (Withdraw id n) = Some n
+competitor_of (Card card) = Some card.number
+competitor_of (Fix card) = Some card.number
 competitor_of _ = None
 
 -- nobody is registered under the number, where there is one
@@ -252,7 +282,8 @@ table_opened e settings ns =
 abbrev pub HasUnit : Event → Option (Settings × Table) → Type 0
 HasUnit e round = IfSome round (λ x. x.1.unit ≡ unit_of e)
 
--- one round is changed, and no other; no scramble is, and nobody who waits
+-- one round is changed, and no other; no scramble is, and nobody who waits, and nothing that was
+-- seen of a round before
 pub record ChangesRound (e : Event) (r : ℕ) (change : Settings × Table → Settings × Table)
     (old new : List KeptRound) : Type 0 where
   pub rounds : (f : Event) (s : ℕ)
@@ -261,6 +292,7 @@ pub record ChangesRound (e : Event) (r : ℕ) (change : Settings × Table → Se
       else kept_round f s old)
   pub scrambles : (f : Event) (s k : ℕ) → kept_scramble f s k new ≡ kept_scramble f s k old
   pub waiting : (f : Event) (s : ℕ) → kept_waiting f s new ≡ kept_waiting f s old
+  pub seen : (f : Event) (s : ℕ) → kept_seen f s new ≡ kept_seen f s old
   pub solved : (f : Event) (s k n : ℕ) → kept_solved f s k n new ≡ kept_solved f s k n old
 
 -- nothing that is looked up of the rounds is otherwise than before
@@ -279,6 +311,7 @@ pub record EntersRound (e : Event) (r k n : ℕ) (x : Entered)
       else kept_round f s old)
   pub scrambles : (f : Event) (s j : ℕ) → kept_scramble f s j new ≡ kept_scramble f s j old
   pub waiting : (f : Event) (s : ℕ) → kept_waiting f s new ≡ kept_waiting f s old
+  pub seen : (f : Event) (s : ℕ) → kept_seen f s new ≡ kept_seen f s old
   pub solved : (f : Event) (s j m : ℕ) → 1 ≤ j
       → kept_solved f s j m new
       ≡ (if same_event f e && s == r && (m == n && j == k) then is_solution x
@@ -310,6 +343,7 @@ pub record ExchangesRound (e : Event) (r : ℕ) (n : ℕ) (old new : List KeptRo
       → kept_waiting f s new
       ≡ (if same_event f e && s == r then option_map (drop 1) (kept_waiting f s old)
       else kept_waiting f s old)
+  pub seen : (f : Event) (s : ℕ) → kept_seen f s new ≡ kept_seen f s old
   pub solved : (f : Event) (s k m : ℕ) → kept_solved f s k m new ≡ kept_solved f s k m old
 
 abbrev pub Exchanges : RoundId → ℕ → KeptRounds → KeptRounds → Type 0
@@ -319,9 +353,10 @@ Exchanges id n old new = ExchangesRound id.event id.round n old.opened.items new
 abbrev pub before_in : RoundId → KeptRounds → Option (Settings × Table)
 before_in id kept = kept_round id.event (id.round - 1) kept.opened.items
 
--- a round is added after those that are kept, without scrambles, with those who wait for a place
+-- a round is added after those that are kept, without scrambles, with those who wait for a place,
+-- and with what is seen of the one before
 pub record AddsRound (e : Event) (r : ℕ) (round : Settings × Table) (waits : List ℕ)
-    (old new : List KeptRound) : Type 0 where
+    (sees : List ℕ × ℕ) (old new : List KeptRound) : Type 0 where
   pub rounds : (f : Event) (s : ℕ)
       → kept_round f s new
       ≡ option_or (kept_round f s old) (if same_event f e && s == r then Some round else None)
@@ -329,15 +364,26 @@ pub record AddsRound (e : Event) (r : ℕ) (round : Settings × Table) (waits : 
   pub waiting : (f : Event) (s : ℕ)
       → kept_waiting f s new
       ≡ option_or (kept_waiting f s old) (if same_event f e && s == r then Some waits else None)
+  pub seen : (f : Event) (s : ℕ)
+      → kept_seen f s new
+      ≡ option_or (kept_seen f s old) (if same_event f e && s == r then Some sees else None)
   pub solved : (f : Event) (s k m : ℕ) → kept_solved f s k m new ≡ kept_solved f s k m old
 
 -- a round is opened with those who advance from the one before it; the others wait for a place
 pub record Opens (id : RoundId) (settings : Settings) (old new : KeptRounds) : Type 0 where
   pub adds : AddsRound id.event id.round
       (settings, table_opened id.event settings (who_advance (before_in id old)))
-      (who_wait (before_in id old)) old.opened.items new.opened.items
+      (who_wait (before_in id old)) (seen_from (before_in id old)) old.opened.items
+      new.opened.items
   pub once : IsDistinct nat_eq (who_wait (before_in id old))
   pub others : AreOthers (who_advance (before_in id old)) (who_wait (before_in id old))
+
+-- the round of an id is not kept any more, and each other one is kept as it was
+abbrev pub Cancels : RoundId → KeptRounds → KeptRounds → Type 0
+Cancels id old new =
+    (f : Event) (s : ℕ)
+    → find (is_round f s) new.opened.items
+    ≡ (if is_of f s id then None else find (is_round f s) old.opened.items)
 
 -- the scramble of one attempt of a round is at this place, and all else is as it was
 pub record AddsScramble (e : Event) (r k : ℕ) (place : ℕ) (old new : List KeptRound) : Type 0 where
@@ -347,4 +393,5 @@ pub record AddsScramble (e : Event) (r k : ℕ) (place : ℕ) (old new : List Ke
       → kept_scramble f s j new
       ≡ (if same_event f e && s == r && j == k then Some place else kept_scramble f s j old)
   pub waiting : (f : Event) (s : ℕ) → kept_waiting f s new ≡ kept_waiting f s old
+  pub seen : (f : Event) (s : ℕ) → kept_seen f s new ≡ kept_seen f s old
   pub solved : (f : Event) (s j m : ℕ) → kept_solved f s j m new ≡ kept_solved f s j m old

@@ -224,9 +224,10 @@ fn given_hall<'a>(rt: &HostRuntime, found: &ArgMatches<'_>) -> Result<FoundHall,
     Ok(FoundHall { hall, desks, key })
 }
 
-/// The hall that the options of [`with_desks`](crate::hall_options::with_desks) name, its desks, and its key:
-/// that of `--key`, or else the one that the hall's file names. What is wrong with the hall's file
-/// or with `--hall` is said first, then what is wrong with the key's file, then with an address.
+/// The hall that the options of [`with_desks`](crate::hall_options::with_desks) name, its desks,
+/// and its key: that of `--key`, or else the one that the hall's file names. What is wrong with the
+/// hall's file or with `--hall` is said first, then what is wrong with the key's file, then with an
+/// address.
 pub fn hall_of<'a>(rt: &HostRuntime, found: &ArgMatches<'a>) -> Result<FoundHall, Mistake<'a>>
     ensures ok { IfOk result (IsHallOf (found_of found.now)) }
     ensures err { IfErr result (IsHallMistake (found_of found.now)) }

@@ -1,17 +1,20 @@
 -- What is wrong with a line that is no command, in words.
-use Rattle.std.specs.Prelude.{ℕ, ◌-◌, Bool, ◌==◌, ◌&&◌, ◌||◌, nat_lt, nat_le, not, zero, suc}
-use Rattle.std.specs.Prelude.{if◌then◌else◌, List, [], ◌∷◌, ◌++◌, length, take, map, codes}
-use Rattle.std.specs.Prelude.{decimal, slice_get, slice_index, Option, None, Some, option_map}
-use Rattle.std.specs.Prelude.{Result, Ok, Err}
+use Rattle.std.specs.Prelude.{ℕ, ◌-◌, Bool, false, ◌==◌, ◌&&◌, ◌||◌, nat_lt, nat_le, not, zero}
+use Rattle.std.specs.Prelude.{suc, if◌then◌else◌, List, [], ◌∷◌, ◌++◌, length, take, drop, map}
+use Rattle.std.specs.Prelude.{codes, decimal, slice_get, slice_index, Option, None, Some}
+use Rattle.std.specs.Prelude.{option_map, Result, Ok, Err, bytes_eq}
+use Rattle.std.specs.List.{list_any, slice_split}
 use Rattle.std.specs.Option.{option_and_then}
-use Rattle.texts.specs.Fields.{cut}
+use Rattle.texts.specs.Fields.{cut, cut_remark}
 use Rattle.texts.specs.Reading.{command_of}
-use Rattle.texts.specs.declared.command.Command.{Command}
+use Rattle.texts.specs.declared.command.Remarked.{Remarked}
 use Rattle.texts.specs.declared.reading.CommandFault.{CommandFault}
 use Rattle.texts.specs.declared.reading.CommandFault.TheVariants as fault
 use Rattle.lines.specs.command_file.Commands.{Numbered}
-use Rattle.lines.specs.command_file.FieldNames.{field_form, field_name, fields_of, is_rest}
+use Rattle.lines.specs.command_file.FieldNames.{field_form, field_name, fields_of, is_now}
+use Rattle.lines.specs.command_file.FieldNames.{is_rest, may_have_remark, verb}
 use Rattle.lines.specs.declared.command_file.field_kind.FieldKind.{FieldKind}
+use Rattle.lines.specs.declared.command_file.field_kind.FieldKind.TheVariants as kind
 
 -- ---- what is shown of a text
 
@@ -53,6 +56,10 @@ field_at rest index text =
 abbrev pub word_of : List ℕ → List ℕ
 word_of text = (cut 32 text).0
 
+-- what stands before a remark, and the remark, where the text may have one and has one
+abbrev pub parts_of : List ℕ → List ℕ × Option (List ℕ)
+parts_of text = if may_have_remark (word_of text) then cut_remark text else (text, None)
+
 -- what the field with an index, counted from 1, is by the text's word; none after the last one
 abbrev pub kind_at : ℕ → List ℕ → Option FieldKind
 kind_at index text = slice_get (fields_of (word_of text)) (index - 1)
@@ -66,25 +73,54 @@ abbrev pub named : FieldKind → List ℕ
 named kind = codes "the " ++ field_name kind
 
 abbrev pub misspelt_text : FieldKind → List ℕ → List ℕ
-misspelt_text kind bytes = codes " " ++ quoted bytes ++ codes " is no " ++ field_form kind
+misspelt_text kind bytes =
+    codes " " ++ quoted bytes ++ verb kind ++ codes "no " ++ field_form kind
 
 -- it is missing, or empty, or misspelt
 abbrev pub field_text : FieldKind → Option (List ℕ) → List ℕ
-field_text kind None = named kind ++ codes " is missing"
+field_text kind None = named kind ++ verb kind ++ codes "missing"
 field_text kind (Some bytes) =
-    named kind ++ (if length bytes == 0 then codes " is empty" else misspelt_text kind bytes)
+    named kind
+    ++ (if length bytes == 0 then verb kind ++ codes "empty" else misspelt_text kind bytes)
 
--- what stands after the last field
-abbrev pub extra_text : Option (List ℕ) → List ℕ
-extra_text None = codes "a field is missing"
-extra_text (Some left) = quoted left ++ codes " is one field too many"
+-- how many values the field of the values before has
+abbrev pub values_in : List ℕ → ℕ
+values_in was =
+    if bytes_eq was (codes "-") then 0 else length (slice_split (λ b. b == 44) was)
 
-abbrev pub kind_text : Option FieldKind → ℕ → List ℕ → List ℕ
-kind_text None index text = extra_text (left_after index text)
-kind_text (Some kind) index text = field_text kind (field_at (is_rest kind) index text)
+-- after so many attempts that are to stand, one stays as it stands
+abbrev pub keeps_beyond : ℕ → List ℕ → Bool
+keeps_beyond values now =
+    list_any (λ part. bytes_eq part (codes "=")) (drop values (slice_split (λ b. b == 47) now))
+
+abbrev pub kept_text : List ℕ → List ℕ
+kept_text now =
+    named kind.Now ++ codes " " ++ quoted now
+    ++ codes " keep one that the values before do not have"
+
+-- the attempts that are to stand, after the field of the values before
+abbrev pub now_text : Option (List ℕ) → Option (List ℕ) → List ℕ
+now_text None given = field_text kind.Now given
+now_text (Some was) None = field_text kind.Now None
+now_text (Some was) (Some now) =
+    if keeps_beyond (values_in was) now then kept_text now else field_text kind.Now (Some now)
+
+-- what stands after the last field: another one, or a remark
+abbrev pub extra_text : Option (List ℕ) → Option (List ℕ) → List ℕ
+extra_text None None = codes "a field is missing"
+extra_text None (Some remark) = field_text kind.Remark (Some remark)
+extra_text (Some left) remark = quoted left ++ codes " is one field too many"
+
+-- of the parts before the remark and of the remark
+abbrev pub kind_text : Option FieldKind → ℕ → List ℕ × Option (List ℕ) → List ℕ
+kind_text None index parts = extra_text (left_after index parts.0) parts.1
+kind_text (Some field) index parts =
+    if is_now field
+    then now_text (field_at false (index - 1) parts.0) (left_after index parts.0)
+    else field_text field (field_at (is_rest field) index parts.0)
 
 abbrev pub index_text : ℕ → List ℕ → List ℕ
-index_text index text = kind_text (kind_at index text) index text
+index_text index text = kind_text (kind_at index text) index (parts_of text)
 
 abbrev pub unknown_text : List ℕ → List ℕ
 unknown_text text = quoted (word_of text) ++ codes " is no command, as ENT 333 17"
@@ -100,7 +136,7 @@ abbrev pub line_text : Numbered → CommandFault → List ℕ
 line_text c f = codes "line " ++ decimal c.number ++ codes ": " ++ fault_text c.text f
 
 -- what is said of a command that was read so, where the later ones come to this
-abbrev pub or_fault : Numbered → Result Command CommandFault → Option (List ℕ) → Option (List ℕ)
+abbrev pub or_fault : Numbered → Result Remarked CommandFault → Option (List ℕ) → Option (List ℕ)
 or_fault c (Ok command) later = later
 or_fault c (Err f) later = Some (line_text c f)
 

@@ -18,6 +18,15 @@ field_name kind.Attempt = codes "attempt"
 field_name kind.Moves = codes "scramble"
 field_name kind.Outcome = codes "outcome"
 field_name kind.Edition = codes "edition"
+field_name kind.Was = codes "values before"
+field_name kind.Now = codes "attempts"
+field_name kind.Remark = codes "remark"
+
+-- the verb after it, between spaces: what is listed has several items
+abbrev pub verb : FieldKind → List ℕ
+verb kind.Was = codes " are "
+verb kind.Now = codes " are "
+verb _ = codes " is "
 
 -- what it has to be, and an example
 abbrev pub field_form : FieldKind → List ℕ
@@ -33,14 +42,31 @@ field_form kind.Advance = codes "way to advance, as final or top:8 or pct:75"
 field_form kind.Attempt = codes "attempt from 1 to 5, as 2"
 field_form kind.Moves = codes "sequence of moves with single spaces, as R U' F2"
 field_form kind.Outcome = codes "T:h:p, as T:1626:0"
-field_form kind.Edition = codes "edition, as 3"
+field_form kind.Edition = codes "edition, as 4"
+field_form kind.Was = codes "list of what stands, as - or 1043,1198,DNF"
+field_form kind.Now = codes "list of attempts of which = stays, as T:1043:0/=/DNF"
+field_form kind.Remark =
+    codes "remark of at most 80 bytes with single spaces and no double quote, as A 14:02"
 
 -- it is all that is left of a text, spaces too
 abbrev pub is_rest : FieldKind → Bool
 is_rest kind.Name = true
 is_rest kind.Moves = true
 is_rest kind.Outcome = true
+is_rest kind.Now = true
+is_rest kind.Remark = true
 is_rest _ = false
+
+-- it is the attempts that are to stand
+abbrev pub is_now : FieldKind → Bool
+is_now kind.Now = true
+is_now _ = false
+
+-- the command of a word may end with a remark
+abbrev pub may_have_remark : List ℕ → Bool
+may_have_remark word =
+    bytes_eq word (codes "CARD") || bytes_eq word (codes "FIX") || bytes_eq word (codes "ATT")
+    || bytes_eq word (codes "COR") || bytes_eq word (codes "STR") || bytes_eq word (codes "WDR")
 
 -- the event and the round that stand in front in most commands, and then the others
 abbrev pub of_round : List FieldKind → List FieldKind
@@ -63,5 +89,8 @@ fields_of word =
     of_round (kind.Number ∷ [])
     else if bytes_eq word (codes "ADV") then of_round (kind.Advance ∷ [])
     else if bytes_eq word (codes "CLOSE") || bytes_eq word (codes "REOPEN") then of_round []
+    else if bytes_eq word (codes "CARD") || bytes_eq word (codes "FIX") then
+    of_round (kind.Number ∷ kind.Was ∷ kind.Now ∷ [])
+    else if bytes_eq word (codes "CANCEL") then of_round []
     else if bytes_eq word (codes "EDITION") then kind.Edition ∷ []
     else []

@@ -1,7 +1,8 @@
 //! The fields of each command, and how a message names them.
 
 ghost use Rattle.std.specs.Prelude.{◌≡◌};
-ghost use Rattle.lines.specs.command_file.FieldNames.{field_form, field_name, fields_of, is_rest};
+ghost use Rattle.lines.specs.command_file.FieldNames.{field_form, field_name, fields_of, is_now};
+ghost use Rattle.lines.specs.command_file.FieldNames.{is_rest, may_have_remark, verb};
 
 /// What stands in a field of a command.
 #[derive(Clone, Copy, Debug, PartialEq, Eq)]
@@ -18,6 +19,9 @@ pub(crate) enum FieldKind {
     Moves,
     Outcome,
     Edition,
+    Was,
+    Now,
+    Remark,
 }
 
 impl FieldKind {
@@ -38,6 +42,19 @@ impl FieldKind {
             FieldKind::Moves => "scramble",
             FieldKind::Outcome => "outcome",
             FieldKind::Edition => "edition",
+            FieldKind::Was => "values before",
+            FieldKind::Now => "attempts",
+            FieldKind::Remark => "remark",
+        }
+    }
+
+    /// The verb after it, between spaces: what is listed has several items.
+    pub(crate) fn verb(self) -> &'static str
+        ensures { result.now ≡ verb self }
+    {
+        match self {
+            FieldKind::Was | FieldKind::Now => " are ",
+            _ => " is ",
         }
     }
 
@@ -59,7 +76,12 @@ impl FieldKind {
             FieldKind::Attempt => "attempt from 1 to 5, as 2",
             FieldKind::Moves => "sequence of moves with single spaces, as R U' F2",
             FieldKind::Outcome => "T:h:p, as T:1626:0",
-            FieldKind::Edition => "edition, as 3",
+            FieldKind::Edition => "edition, as 4",
+            FieldKind::Was => "list of what stands, as - or 1043,1198,DNF",
+            FieldKind::Now => "list of attempts of which = stays, as T:1043:0/=/DNF",
+            FieldKind::Remark => {
+                "remark of at most 80 bytes with single spaces and no double quote, as A 14:02"
+            }
         }
     }
 
@@ -69,8 +91,19 @@ impl FieldKind {
     {
         matches!(
             self,
-            FieldKind::Name | FieldKind::Moves | FieldKind::Outcome
+            FieldKind::Name
+                | FieldKind::Moves
+                | FieldKind::Outcome
+                | FieldKind::Now
+                | FieldKind::Remark
         )
+    }
+
+    /// Whether it is the attempts that are to stand.
+    pub(crate) fn is_now(self) -> bool
+        ensures { result ≡ is_now self }
+    {
+        matches!(self, FieldKind::Now)
     }
 }
 
@@ -82,6 +115,27 @@ const ENTRY: [FieldKind; 5] = [
     FieldKind::Number,
     FieldKind::Outcome,
 ];
+
+/// The fields of a scorecard.
+const CARD: [FieldKind; 5] = [
+    FieldKind::Event,
+    FieldKind::Round,
+    FieldKind::Number,
+    FieldKind::Was,
+    FieldKind::Now,
+];
+
+/// Whether the command of a word may end with a remark.
+pub(crate) fn may_have_remark(word: &[u8]) -> bool
+    ensures { result ≡ may_have_remark word.now }
+{
+    word == b"CARD".as_slice()
+        || word == b"FIX".as_slice()
+        || word == b"ATT".as_slice()
+        || word == b"COR".as_slice()
+        || word == b"STR".as_slice()
+        || word == b"WDR".as_slice()
+}
 
 /// The fields of a command, in order, by its word; none for another word.
 pub(crate) fn fields_of(word: &[u8]) -> &'static [FieldKind]
@@ -122,6 +176,10 @@ pub(crate) fn fields_of(word: &[u8]) -> &'static [FieldKind]
     } else if word == b"ADV".as_slice() {
         &[FieldKind::Event, FieldKind::Round, FieldKind::Advance]
     } else if word == b"CLOSE".as_slice() || word == b"REOPEN".as_slice() {
+        &[FieldKind::Event, FieldKind::Round]
+    } else if word == b"CARD".as_slice() || word == b"FIX".as_slice() {
+        &CARD
+    } else if word == b"CANCEL".as_slice() {
         &[FieldKind::Event, FieldKind::Round]
     } else if word == b"EDITION".as_slice() {
         &[FieldKind::Edition]

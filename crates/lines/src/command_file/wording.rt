@@ -4,16 +4,16 @@ ghost use Rattle.std.specs.Prelude.{◌≡◌, ◌++◌, ◌<◌, length, IfOk, 
 ghost use Rattle.std.specs.Option.{option_copied};
 ghost use Rattle.lines.specs.command_file.Faults.{border_of, extra_text, fault_text, field_at};
 ghost use Rattle.lines.specs.command_file.Faults.{field_text, first_fault, index_text};
-ghost use Rattle.lines.specs.command_file.Faults.{is_within_char};
+ghost use Rattle.lines.specs.command_file.Faults.{is_within_char, keeps_beyond, kept_text};
 ghost use Rattle.lines.specs.command_file.Faults.{kind_at, left_after, line_text, misspelt_text};
-ghost use Rattle.lines.specs.command_file.Faults.{named};
+ghost use Rattle.lines.specs.command_file.Faults.{named, now_text, parts_of, values_in};
 ghost use Rattle.lines.specs.command_file.Faults.{quoted, shown, shown_byte, unknown_text, word_of};
 
 use crate::command_file::command_text::CommandText;
-use crate::command_file::field_kind::{FieldKind, fields_of};
+use crate::command_file::field_kind::{FieldKind, fields_of, may_have_remark};
 use attempts::push_decimal;
 use std::alloc::{AllocError, Global};
-use texts::{CommandFault, cut, read};
+use texts::{CommandFault, cut, cut_remark, read};
 
 /// The most bytes of a text that are shown.
 const MOST_SHOWN: usize = 40;
@@ -110,6 +110,17 @@ fn word_of(text: &[u8]) -> &[u8]
     cut(text, b' ').0
 }
 
+/// What stands in a text in front of a remark, and the remark, where it may have one and has one.
+fn parts_of(text: &[u8]) -> (&[u8], Option<&[u8]>)
+    ensures { (result.0.now, option_copied result.1) ≡ parts_of text.now }
+{
+    if may_have_remark(word_of(text)) {
+        cut_remark(text)
+    } else {
+        (text, None)
+    }
+}
+
 /// What stands in a text at an index, counted from 1, by its word; none after its last field.
 fn kind_at(text: &[u8], index: u8) -> Option<FieldKind>
     ensures { result ≡ kind_at index text.now }
@@ -143,7 +154,8 @@ fn push_misspelt(out: &mut Vec<u8>, kind: FieldKind, bytes: &[u8]) -> Result<(),
 {
     out.extend_from_slice(b" ")?;
     push_quoted(out, bytes)?;
-    out.extend_from_slice(b" is no ")?;
+    out.extend_from_slice(kind.verb().as_bytes())?;
+    out.extend_from_slice(b"no ")?;
     out.extend_from_slice(kind.form().as_bytes())
 }
 
@@ -158,10 +170,14 @@ fn push_field_fault(
 {
     push_named(out, kind)?;
     match given {
-        None => out.extend_from_slice(b" is missing"),
+        None => {
+            out.extend_from_slice(kind.verb().as_bytes())?;
+            out.extend_from_slice(b"missing")
+        }
         Some(bytes) => {
             if bytes.is_empty() {
-                out.extend_from_slice(b" is empty")
+                out.extend_from_slice(kind.verb().as_bytes())?;
+                out.extend_from_slice(b"empty")
             } else {
                 push_misspelt(out, kind, bytes)
             }
@@ -169,13 +185,67 @@ fn push_field_fault(
     }
 }
 
-/// Adds what is said of a field after the last one.
-fn push_extra(out: &mut Vec<u8>, left: Option<&[u8]>) -> Result<(), AllocError>
-    ensures { OnOk result
-        (out.new.items ≡ out.old.items ++ extra_text (option_copied left.entry)) }
+/// How many values the field of the values before has.
+fn values_in(was: &[u8]) -> usize
+    ensures { result ≡ values_in was.now }
+{
+    if was == b"-".as_slice() {
+        0
+    } else {
+        was.split(|byte| *byte == b',').count()
+    }
+}
+
+/// Whether one stays as it stands of the attempts that are to stand after so many.
+fn keeps_beyond(values: usize, now: &[u8]) -> bool
+    ensures { result ≡ keeps_beyond values now.now }
+{
+    now.split(|byte| *byte == b'/')
+        .skip(values)
+        .any(|part| part == b"=".as_slice())
+}
+
+/// Adds that attempts that are to stand keep one that does not stand.
+fn push_kept(out: &mut Vec<u8>, now: &[u8]) -> Result<(), AllocError>
+    ensures { OnOk result (out.new.items ≡ out.old.items ++ kept_text now.now) }
+{
+    push_named(out, FieldKind::Now)?;
+    out.extend_from_slice(b" ")?;
+    push_quoted(out, now)?;
+    out.extend_from_slice(b" keep one that the values before do not have")
+}
+
+/// Adds what is wrong with the attempts that are to stand, by the field of the values before.
+fn push_now_fault(
+    out: &mut Vec<u8>,
+    was: Option<&[u8]>,
+    given: Option<&[u8]>,
+) -> Result<(), AllocError>
+    ensures { OnOk result (out.new.items
+        ≡ out.old.items ++ now_text (option_copied was.entry) (option_copied given.entry)) }
+{
+    if let (Some(was), Some(now)) = (was, given) {
+        if keeps_beyond(values_in(was), now) {
+            return push_kept(out, now);
+        }
+    }
+    push_field_fault(out, FieldKind::Now, given)
+}
+
+/// Adds what is said of what stands after the last field: another one, or a remark.
+fn push_extra(
+    out: &mut Vec<u8>,
+    left: Option<&[u8]>,
+    remark: Option<&[u8]>,
+) -> Result<(), AllocError>
+    ensures { OnOk result (out.new.items
+        ≡ out.old.items ++ extra_text (option_copied left.entry) (option_copied remark.entry)) }
 {
     match left {
-        None => out.extend_from_slice(b"a field is missing"),
+        None => match remark {
+            None => out.extend_from_slice(b"a field is missing"),
+            Some(bytes) => push_field_fault(out, FieldKind::Remark, Some(bytes)),
+        },
         Some(bytes) => {
             push_quoted(out, bytes)?;
             out.extend_from_slice(b" is one field too many")
@@ -187,9 +257,17 @@ fn push_extra(out: &mut Vec<u8>, left: Option<&[u8]>) -> Result<(), AllocError>
 fn push_index_fault(out: &mut Vec<u8>, text: &[u8], index: u8) -> Result<(), AllocError>
     ensures { OnOk result (out.new.items ≡ out.old.items ++ index_text index text.now) }
 {
+    let (front, remark) = parts_of(text);
     match kind_at(text, index) {
-        Some(kind) => push_field_fault(out, kind, field_at(text, index, kind.is_rest())),
-        None => push_extra(out, left_after(text, index)),
+        Some(kind) => {
+            if kind.is_now() {
+                let was = field_at(front, index.saturating_sub(1), false);
+                push_now_fault(out, was, left_after(front, index))
+            } else {
+                push_field_fault(out, kind, field_at(front, index, kind.is_rest()))
+            }
+        }
+        None => push_extra(out, left_after(front, index), remark),
     }
 }
 

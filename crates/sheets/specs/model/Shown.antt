@@ -1,19 +1,35 @@
 -- A model of the code: what is printed of the round that is shown.
-use Rattle.std.specs.Prelude.{ℕ, Bool, List}
+use Rattle.std.specs.Prelude.{◌≡◌, ℕ, Bool, List, Some}
 use Rattle.formats.specs.Events.{attempts_of, unit_of}
 use Rattle.rounds.specs.declared.table.Row.{Row}
+use Rattle.sheets.specs.declared.going_on.GoingOn.{GoingOn}
 use Rattle.sheets.specs.declared.shown.Shown.{Shown}
 use Rattle.sheets.specs.Sheet.{name_text, entrant_fields, line_of, record_of, text_of_round}
-use Rattle.sheets.specs.Sheet.{table_of_round}
+use Rattle.sheets.specs.Sheet.{table_of_round, is_marked}
+use Rattle.sheets.specs.Going.{Tells}
+use Rattle.commands.specs.Accepted.{round_of, seen_of}
+
+-- it is a round that was opened, with its settings and its table
+abbrev pub IsOpened : Shown → Type 0
+IsOpened s = round_of s.meet.now.accepted s.event s.round ≡ Some (s.settings, s.table.now)
+
+-- what is kept tells who goes on from it
+abbrev pub TellsShown : Shown → GoingOn → Type 0
+TellsShown s going = Tells going s.table.now (seen_of s.meet.now.accepted s.event s.round)
+
+-- whom the sheet marks
+abbrev pub marks_shown : Shown → ℕ → Bool
+marks_shown s = is_marked s.table.now (seen_of s.meet.now.accepted s.event s.round)
 
 -- the line of the entrant with a number
 abbrev pub line_shown : Shown → ℕ → List ℕ
-line_shown s n = line_of (unit_of s.event) s.meet.now.accepted s.settings s.table.now n
+line_shown s n =
+    line_of (unit_of s.event) s.meet.now.accepted s.settings s.table.now (marks_shown s) n
 
 -- the text at a position
-abbrev pub text_shown : Shown → ℕ → ℕ → List ℕ
-text_shown s round position =
-    text_of_round s.meet.now.accepted s.event round position (s.settings, s.table.now)
+abbrev pub text_shown : Shown → ℕ → List ℕ
+text_shown s position =
+    text_of_round s.meet.now.accepted s.event s.round position (s.settings, s.table.now)
 
 -- the fields of a row
 abbrev pub fields_shown : Shown → Row → ℕ → Bool → List (List ℕ)
@@ -23,8 +39,9 @@ fields_shown s row n marked =
 
 -- the record of the entrant with a number
 abbrev pub record_shown : Shown → ℕ → List ℕ
-record_shown s n = record_of (unit_of s.event) s.meet.now.accepted s.settings s.table.now n
+record_shown s n =
+    record_of (unit_of s.event) s.meet.now.accepted s.settings s.table.now (marks_shown s) n
 
 -- the table
 abbrev pub table_shown : Shown → List ℕ
-table_shown s = table_of_round s.meet.now.accepted s.event (s.settings, s.table.now)
+table_shown s = table_of_round s.meet.now.accepted s.event s.round (s.settings, s.table.now)

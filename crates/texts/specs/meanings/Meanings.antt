@@ -9,7 +9,7 @@ use Rattle.texts.specs.declared.answer.Code.TheVariants.{NoScramble, ScrambleThe
 use Rattle.texts.specs.declared.answer.Code.TheVariants.{Closed, Already, Full, NotEntered}
 use Rattle.texts.specs.declared.answer.Code.TheVariants.{OutOfOrder, NoMoreAttempts, NoSuchAttempt}
 use Rattle.texts.specs.declared.answer.Code.TheVariants.{CutoffLost, Unfinished, HasAttempts}
-use Rattle.texts.specs.declared.answer.Code.TheVariants.{NotClosed}
+use Rattle.texts.specs.declared.answer.Code.TheVariants.{NotClosed, Changed}
 
 abbrev pub meaning_of : Code → List ℕ
 meaning_of Unread = codes "no command of the edition that holds"
@@ -36,3 +36,4 @@ meaning_of CutoffLost = codes "the cutoff would be missed, and attempts after it
 meaning_of Unfinished = codes "somebody has not done all attempts that are allotted"
 meaning_of HasAttempts = codes "an attempt is entered already"
 meaning_of NotClosed = codes "the round is not closed"
+meaning_of Changed = codes "other attempts stand than the writer of the card saw"

@@ -1,17 +1,18 @@
 -- A model of the code: what its readers of fields returned, beside what the fields are.
-use Rattle.std.specs.Prelude.{◌≡◌, ℕ, ◌++◌, IsTrue, List, Option, Some, None, Result}
-use Rattle.std.specs.Prelude.{Ok, Err}
+use Rattle.std.specs.Prelude.{◌≡◌, ◌≤◌, ◌<◌, ◌⊎◌, ℕ, ◌++◌, IsTrue, List, Option, Some, None}
+use Rattle.std.specs.Prelude.{is_some, Result, Ok, Err}
 use Rattle.std.specs.Borrow.{Bor}
 use Rattle.std.specs.List.{list_any}
 use Rattle.std.specs.Option.{option_copied}
 use Rattle.texts.specs.declared.command.Entered.{Entered}
+use Rattle.texts.specs.declared.command.Remarked.{Remarked}
 use Rattle.texts.specs.declared.reading.CommandFault.{CommandFault}
 use Rattle.texts.specs.declared.reading.CommandFault.TheVariants as fault
 use Rattle.texts.specs.declared.table.FieldKind.{FieldKind}
 use Rattle.texts.specs.declared.value.FieldValue.{FieldValue}
 use Rattle.texts.specs.Fields.{IsSolution}
 use Rattle.texts.specs.Reading.{takes_memory}
-use Rattle.texts.specs.Table.{has_moves, is_rest, moves_at}
+use Rattle.texts.specs.Table.{is_kept, is_rest, kept_at}
 
 -- a field that was read, and what is left of the text after it
 abbrev pub Next : Type 0
@@ -25,16 +26,17 @@ abbrev pub MayBeSolution : Option Entered → Type 0
 MayBeSolution None = Unit {0}
 MayBeSolution (Some outcome) = IsSolution outcome
 
--- memory is taken for what is all that is left of a text: a name, moves, or a solution
+-- memory is taken for a field while it is read, or for all that is left of a text, once that is
+-- known to be a name
 abbrev pub TakesForValue : FieldKind → Option FieldValue → Type 0
-TakesForValue k None = IsTrue (is_rest k) × IsTrue (has_moves k)
-TakesForValue k (Some v) = IsTrue (is_rest k) × IsTrue (takes_memory v)
+TakesForValue k None = IsTrue (is_kept k)
+TakesForValue k (Some v) = IsTrue (takes_memory v) × (IsTrue (is_kept k) ⊎ IsTrue (is_rest k))
 
 -- the same of the next field
 abbrev pub TakesForNext : FieldKind → ℕ → Result Next CommandFault → Type 0
-TakesForNext k index (Ok n) = IsTrue (is_rest k) × IsTrue (takes_memory n.0) × (n.1 ≡ None)
-TakesForNext k index (Err e) =
-    IsTrue (is_rest k) × IsTrue (has_moves k) × (e ≡ fault.BadField index)
+TakesForNext k index (Ok n) =
+    IsTrue (takes_memory n.0) × (IsTrue (is_kept k) ⊎ (IsTrue (is_rest k) × (n.1 ≡ None)))
+TakesForNext k index (Err e) = IsTrue (is_kept k) × (e ≡ fault.BadField index)
 
 abbrev pub GivesNext : FieldKind → ℕ → Result (FieldValue × Option (Bor (List ℕ))) CommandFault
     → Result Next CommandFault → Type 0
@@ -45,7 +47,7 @@ GivesNext k index (Err e) said = said ≡ Err e
 -- the same of all fields
 abbrev pub TakesForValues : List FieldKind → Result (List FieldValue) CommandFault → Type 0
 TakesForValues ks (Ok vs) = IsTrue (list_any takes_memory vs)
-TakesForValues ks (Err (fault.BadField index)) = index ≡ moves_at 1 ks
+TakesForValues ks (Err (fault.BadField index)) = (0 < kept_at 1 ks) × (kept_at 1 ks ≤ index)
 TakesForValues _ _ = ⊥
 
 abbrev pub GivesValues : {X : Type 0} → (X → List FieldValue) → List FieldKind
@@ -53,6 +55,16 @@ abbrev pub GivesValues : {X : Type 0} → (X → List FieldValue) → List Field
 GivesValues view ks (Ok vs) said = said ≡ Ok (view vs)
 GivesValues view ks (Err fault.NoMemory) said = TakesForValues ks said
 GivesValues view ks (Err e) said = said ≡ Err e
+
+-- the same of the remark: memory is taken for one that is right
+abbrev pub TakesForRemark : Result Remarked CommandFault → Type 0
+TakesForRemark (Ok c) = IsTrue (is_some c.remark)
+TakesForRemark (Err e) = ⊥
+
+abbrev pub GivesRemark : Result Remarked CommandFault → Result Remarked CommandFault → Type 0
+GivesRemark (Ok c) said = said ≡ Ok c
+GivesRemark (Err fault.NoMemory) said = TakesForRemark said
+GivesRemark (Err e) said = said ≡ Err e
 
 -- the values so far, in front of the later ones
 abbrev pub after : List FieldValue → Result (List FieldValue) CommandFault

@@ -9,7 +9,7 @@ use Rattle.json.specs.Json.{Json, max_depth, null, string}
 use Rattle.json.specs.Tree.{depth, items_depth}
 use Rattle.json.specs.Value.{items_of}
 use Rattle.attempts.specs.declared.Value.{Value}
-use Rattle.commands.specs.Accepted.{name_of, round_of}
+use Rattle.commands.specs.Accepted.{name_of, round_of, seen_of}
 use Rattle.formats.specs.declared.advance.Advance.{Advance}
 use Rattle.formats.specs.declared.advance.Advance.TheVariants as advance
 use Rattle.formats.specs.declared.events.Event.{Event}
@@ -18,6 +18,7 @@ use Rattle.formats.specs.declared.results.Averaged.TheVariants as averaged
 use Rattle.formats.specs.Events.{all_events}
 use Rattle.formats.specs.Results.{average_of}
 use Rattle.rounds.specs.Tables.{Entrant, Table, entrant, place, standings}
+use Rattle.sheets.specs.Sheet.{is_marked}
 use Rattle.texts.specs.declared.command.Command.{Command}
 use Rattle.texts.specs.declared.command.Settings.{Settings}
 use Rattle.wcif_results.specs.Results.{ranking_json}
@@ -82,10 +83,10 @@ average_depth averaged.Missing = refl
 average_depth (averaged.Number n) = refl
 average_depth averaged.Dnf = refl
 
-entrant_depth : (cs : List Command) (settings : Settings) (t : Table) (n : ℕ) (e : Entrant)
-    → depth (entrant_json cs settings t n e) ≤ 2
+entrant_depth : (cs : List Command) (settings : Settings) (t : Table) (marks : ℕ → Bool) (n : ℕ)
+    (e : Entrant) → depth (entrant_json cs settings t marks n e) ≤ 2
 unfolding entrant_json
-entrant_depth cs settings t n e =
+entrant_depth cs settings t marks n e =
     go _ _ _ _ _ (name_depth (name_of cs n)) (place_depth e.values (place t e))
     (values_depth e.values) (best_depth e.values)
     (average_depth (average_of t.format t.unit e.values))
@@ -94,12 +95,12 @@ entrant_depth cs settings t n e =
         → suc (max 0 (max a (max b (max (suc c) (max d (max f (max 0 0))))))) ≤ 2
     go a b c d f p q r s u = grind (arith, nat_tests)
 
-entrants_depth : (cs : List Command) (settings : Settings) (t : Table)
-    → depth (entrants_json cs settings t) ≤ 3
+entrants_depth : (cs : List Command) (settings : Settings) (t : Table) (marks : ℕ → Bool)
+    → depth (entrants_json cs settings t marks) ≤ 3
 unfolding entrants_json
-entrants_depth cs settings t =
-    let all = lists_within 2 (entrant_list cs settings t)
-    (λ n. one_within 2 (entrant_json cs settings t n) (entrant_depth cs settings t n)
+entrants_depth cs settings t marks =
+    let all = lists_within 2 (entrant_list cs settings t marks)
+    (λ n. one_within 2 (entrant_json cs settings t marks n) (entrant_depth cs settings t marks n)
     (entrant t n))
     (standings t) in
     omega (arith, all)
@@ -124,7 +125,8 @@ round_depth : (cs : List Command) (event : Event) (n : ℕ) (round : Settings ×
 unfolding round_json
 round_depth cs event n (settings, t) =
     go _ _ _ _ (cutoff_depth settings.cutoff) (limit_depth settings.limit)
-    (advance_depth settings.advance) (entrants_depth cs settings t)
+    (advance_depth settings.advance)
+    (entrants_depth cs settings t (is_marked t (seen_of cs event n)))
   where
     go : (a b c d : ℕ) → a ≤ 1 → b ≡ 0 → c ≤ 1 → d ≤ 3
         → suc (max 0 (max 0 (max 0 (max 0 (max 0 (max a (max b (max c (max d 0))))))))) ≤ 4

@@ -11,7 +11,7 @@ use Rattle.json.specs.Tree.{json_tokens, items_tokens, members_tokens}
 use Rattle.json.specs.Value.{items_of}
 use Rattle.attempts.specs.declared.Value.{Value}
 use Rattle.attempts.specs.declared.Unit.{Unit as Measure}
-use Rattle.commands.specs.Accepted.{name_of}
+use Rattle.commands.specs.Accepted.{name_of, seen_of}
 use Rattle.formats.specs.declared.events.Event.{Event}
 use Rattle.formats.specs.declared.results.Averaged.{Averaged}
 use Rattle.formats.specs.Events.{event_name, format_name}
@@ -56,59 +56,62 @@ row_of n name vs place average marked =
     ∷ (json_tokens (average_json average) ++ (key (codes "advances") ∷ boolean marked
     ∷ end_object ∷ []))))))))))
 
-pub row_tokens : (cs : List Command) (settings : Settings) (t : Table) (n : ℕ) (e : Entrant)
-    (row : Row) → IsRow t n e row → (name : Option (Bor (List ℕ)))
+pub row_tokens : (cs : List Command) (settings : Settings) (t : Table) (marks : ℕ → Bool) (n : ℕ)
+    (e : Entrant) (row : Row) → IsRow t n e row → (name : Option (Bor (List ℕ)))
     → option_map (λ s. s.now) name ≡ name_of cs n
-    → (marked : Bool) → marked ≡ is_marked settings t n
+    → (marked : Bool) → marked ≡ marks n
     → row_of n (option_map (λ s. s.now) name) row.values.now row.place row.average marked
-    ≡ json_tokens (entrant_json cs settings t n e)
+    ≡ json_tokens (entrant_json cs settings t marks n e)
 unfolding entrant_json
-row_tokens cs settings t n e row is name named marked mark =
+row_tokens cs settings t marks n e row is name named marked mark =
     ap (λ x. row_of n x row.values.now row.place row.average marked) named
     ∙ ap (λ m. row_of n (name_of cs n) row.values.now row.place row.average m) mark
-    ∙ ap (λ vs. row_of n (name_of cs n) vs row.place row.average (is_marked settings t n))
-    is.values
-    ∙ ap (λ p. row_of n (name_of cs n) e.values p row.average (is_marked settings t n)) is.place
-    ∙ ap (λ a. row_of n (name_of cs n) e.values (place t e) a (is_marked settings t n)) is.average
+    ∙ ap (λ vs. row_of n (name_of cs n) vs row.place row.average (marks n)) is.values
+    ∙ ap (λ p. row_of n (name_of cs n) e.values p row.average (marks n)) is.place
+    ∙ ap (λ a. row_of n (name_of cs n) e.values (place t e) a (marks n)) is.average
 
-pub entrants_tokens : (cs : List Command) (settings : Settings) (t : Table) (ns : List ℕ)
-    → ns ≡ standings t
-    → begin_array ∷ items_tokens (items_of (flat_map (entrant_list cs settings t) ns))
-    ≡ json_tokens (entrants_json cs settings t)
+pub entrants_tokens : (cs : List Command) (settings : Settings) (t : Table) (marks : ℕ → Bool)
+    (ns : List ℕ) → ns ≡ standings t
+    → begin_array ∷ items_tokens (items_of (flat_map (entrant_list cs settings t marks) ns))
+    ≡ json_tokens (entrants_json cs settings t marks)
 unfolding entrants_json
-entrants_tokens cs settings t ns is =
+entrants_tokens cs settings t marks ns is =
     ap (λ (ms : List ℕ). begin_array
-    ∷ items_tokens (items_of (flat_map (entrant_list cs settings t) ms))) is
+    ∷ items_tokens (items_of (flat_map (entrant_list cs settings t marks) ms))) is
 
 -- the tokens of a round's later members, with these parts
-abbrev later_of : List Command → Settings → Table → (format unit : List ℕ) → Bool → List Token
-later_of cs settings t format unit closed =
+abbrev later_of : List Command → Settings → Table → (ℕ → Bool) → (format unit : List ℕ) → Bool
+    → List Token
+later_of cs settings t marks format unit closed =
     key (codes "format") ∷ string format ∷ key (codes "unit") ∷ string unit
     ∷ key (codes "closed") ∷ boolean closed ∷ key (codes "cutoff")
     ∷ (json_tokens (cutoff_json settings.cutoff) ++ (key (codes "limit")
     ∷ (json_tokens (limit_json settings.limit) ++ (key (codes "advance")
     ∷ (json_tokens (advance_json settings.advance) ++ (key (codes "results")
-    ∷ (json_tokens (entrants_json cs settings t) ++ end_object ∷ [])))))))
+    ∷ (json_tokens (entrants_json cs settings t marks) ++ end_object ∷ [])))))))
 
-pub later_tokens : (cs : List Command) (settings : Settings) (t : Table) (format : List ℕ)
+pub later_tokens : (cs : List Command) (settings : Settings) (t : Table) (marks : ℕ → Bool)
+    (format : List ℕ)
     → format ≡ format_name settings.format → (unit : List ℕ) (what : Measure)
     → unit ≡ unit_name what → what ≡ t.unit → (closed : Bool) → closed ≡ t.is_closed
-    → later_of cs settings t format unit closed ≡ members_tokens (later_members cs (settings, t))
-later_tokens cs settings t format formed unit what named measured closed is =
-    ap (λ x. later_of cs settings t x unit closed) formed
-    ∙ ap (λ x. later_of cs settings t (format_name settings.format) x closed)
+    → later_of cs settings t marks format unit closed
+    ≡ members_tokens (later_members cs marks (settings, t))
+later_tokens cs settings t marks format formed unit what named measured closed is =
+    ap (λ x. later_of cs settings t marks x unit closed) formed
+    ∙ ap (λ x. later_of cs settings t marks (format_name settings.format) x closed)
     (named ∙ ap unit_name measured)
-    ∙ ap (λ x. later_of cs settings t (format_name settings.format) (unit_name t.unit) x) is
+    ∙ ap (λ x. later_of cs settings t marks (format_name settings.format) (unit_name t.unit) x) is
 
 pub round_tokens : (cs : List Command) (event : Event) (n : ℕ) (settings : Settings) (t : Table)
     (name : List ℕ) → name ≡ event_name event
     → begin_object ∷ key (codes "event") ∷ string name ∷ key (codes "round") ∷ number (decimal n)
-    ∷ members_tokens (later_members cs (settings, t))
+    ∷ members_tokens (later_members cs (is_marked t (seen_of cs event n)) (settings, t))
     ≡ json_tokens (round_json cs event n (settings, t))
 unfolding round_json
 round_tokens cs event n settings t name is =
     ap (λ x. begin_object ∷ key (codes "event") ∷ string x ∷ key (codes "round")
-    ∷ number (decimal n) ∷ members_tokens (later_members cs (settings, t))) is
+    ∷ number (decimal n)
+    ∷ members_tokens (later_members cs (is_marked t (seen_of cs event n)) (settings, t))) is
 
 -- the tokens of one list after the other
 both : (xs ys : List Json)

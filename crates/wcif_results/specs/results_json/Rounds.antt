@@ -1,10 +1,11 @@
 -- A round as a JSON value: an object with these members, in this order.
-use Rattle.std.specs.Prelude.{ℕ, List, codes, option_to_list}
+use Rattle.std.specs.Prelude.{ℕ, Bool, List, codes, option_to_list}
 use Rattle.std.specs.Option.{option_map}
 use Rattle.json.specs.Json.{Json, boolean, string, object, Members, no_members, member}
 use Rattle.attempts.specs.declared.Unit.{Unit as Measure}
 use Rattle.attempts.specs.declared.Unit.TheVariants.{Time, Moves, Multi}
-use Rattle.commands.specs.Accepted.{round_of}
+use Rattle.commands.specs.Accepted.{round_of, seen_of}
+use Rattle.sheets.specs.Sheet.{is_marked}
 use Rattle.formats.specs.declared.events.Event.{Event}
 use Rattle.formats.specs.Events.{event_name, format_name}
 use Rattle.rounds.specs.Tables.{Table}
@@ -19,21 +20,22 @@ unit_name Time = codes "hundredths"
 unit_name Moves = codes "moves"
 unit_name Multi = codes "multi-blind"
 
--- the settings and the results
-abbrev pub later_members : List Command → Settings × Table → Members
-later_members cs (settings, t) =
+-- the settings and the results, given whom the sheet marks
+abbrev pub later_members : List Command → (ℕ → Bool) → Settings × Table → Members
+later_members cs marks (settings, t) =
     member (codes "format") (string (format_name settings.format))
     (member (codes "unit") (string (unit_name t.unit))
     (member (codes "closed") (boolean t.is_closed)
     (member (codes "cutoff") (cutoff_json settings.cutoff)
     (member (codes "limit") (limit_json settings.limit)
     (member (codes "advance") (advance_json settings.advance)
-    (member (codes "results") (entrants_json cs settings t) no_members))))))
+    (member (codes "results") (entrants_json cs settings t marks) no_members))))))
 
 abbrev pub round_members : List Command → Event → ℕ → Settings × Table → Members
 round_members cs event n round =
     member (codes "event") (string (event_name event))
-    (member (codes "round") (natural n) (later_members cs round))
+    (member (codes "round") (natural n)
+    (later_members cs (is_marked round.1 (seen_of cs event n)) round))
 
 unfoldable pub round_json : List Command → Event → ℕ → Settings × Table → Json
 round_json cs event n round = object (round_members cs event n round)

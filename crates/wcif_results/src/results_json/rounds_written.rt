@@ -2,15 +2,14 @@
 
 ghost use Rattle.std.specs.Prelude.{◌≡◌, flat_map, option_map, IfSome, OnOk};
 ghost use Rattle.json.specs.Tree.{json_tokens, members_tokens};
-ghost use Rattle.advancement.specs.Advancing.{IsBorder};
 ghost use Rattle.commands.specs.Accepted.{round_of};
+ghost use Rattle.wcif_results.specs.model.Marks.{IsOpened, marks_of};
 ghost use Rattle.wcif_results.specs.results_json.Rounds.{later_members, round_json, round_list};
 ghost use Rattle.wcif_results.specs.results_json.Rounds.{unit_name};
 ghost use Rattle.wcif_results.specs.Written.{Adds};
 
 use crate::results_json::entrants::write_entrants;
 use crate::results_json::values::{write_advance, write_byte, write_cutoff, write_limit};
-use advancement::border;
 use attempts::{NoMemory, Unit};
 use commands::{Meet, Settings};
 use formats::Event;
@@ -21,19 +20,20 @@ use rounds::RoundTable;
 #[derive(Clone, Copy)]
 pub(crate) struct Opened<'m> {
     pub(crate) meet: &'m Meet,
+    pub(crate) event: Event,
+    pub(crate) number: u8,
     pub(crate) settings: Settings,
     pub(crate) table: &'m RoundTable,
-    /// The place at which nobody advances any more: it is found once for all entrants.
-    pub(crate) border: u16,
 }
 
 /// The round of an event with a number, where it was opened.
 fn opened_round(meet: &Meet, event: Event, number: u8) -> Option<Opened<'_>>
     ensures meet { IfSome result (λ round. round.meet.now ≡ meet.now) }
+    ensures event { IfSome result (λ round. round.event ≡ event) }
+    ensures number { IfSome result (λ round. round.number ≡ number) }
     ensures round { option_map (λ round. (round.settings, round.table.now)) result
         ≡ round_of meet.now.accepted event number }
-    ensures border { IfSome result (λ round.
-        IsBorder round.table.now round.settings.advance round.border) }
+    ensures opened { IfSome result IsOpened }
 {
     let (Some(table), Some(settings)) = (meet.round(event, number), meet.settings(event, number))
     else {
@@ -41,9 +41,10 @@ fn opened_round(meet: &Meet, event: Event, number: u8) -> Option<Opened<'_>>
     };
     Some(Opened {
         meet,
+        event,
+        number,
         settings,
         table,
-        border: border(table, settings.advance),
     })
 }
 
@@ -60,9 +61,10 @@ fn unit_name(unit: Unit) -> &'static str
 
 /// Writes the members of a round after its event and its number, and the end of its object.
 fn write_members(out: &mut Writer, round: Opened<'_>) -> Result<(), NoMemory>
-    requires { IsBorder round.table.now round.settings.advance round.border }
+    requires { IsOpened round }
     ensures { OnOk result (Adds out.old out.new (members_tokens (later_members
-        round.entry.meet.now.accepted (round.entry.settings, round.entry.table.now)))) }
+        round.entry.meet.now.accepted (marks_of round.entry)
+        (round.entry.settings, round.entry.table.now)))) }
 {
     out.key("format")?;
     out.string(round.settings.format.name())?;
@@ -82,22 +84,17 @@ fn write_members(out: &mut Writer, round: Opened<'_>) -> Result<(), NoMemory>
 }
 
 /// Writes a round.
-fn write_round(
-    out: &mut Writer,
-    event: Event,
-    number: u8,
-    round: Opened<'_>,
-) -> Result<(), NoMemory>
-    requires { IsBorder round.table.now round.settings.advance round.border }
+fn write_round(out: &mut Writer, round: Opened<'_>) -> Result<(), NoMemory>
+    requires { IsOpened round }
     ensures { OnOk result (Adds out.old out.new (json_tokens (round_json
-        round.entry.meet.now.accepted event number
+        round.entry.meet.now.accepted round.entry.event round.entry.number
         (round.entry.settings, round.entry.table.now)))) }
 {
     out.begin_object()?;
     out.key("event")?;
-    out.string(event.name())?;
+    out.string(round.event.name())?;
     out.key("round")?;
-    write_byte(out, number)?;
+    write_byte(out, round.number)?;
     write_members(out, round)
 }
 
@@ -112,7 +109,7 @@ pub(crate) fn write_opened(
         (flat_map json_tokens (round_list meet.now.accepted event number))) }
 {
     match opened_round(meet, event, number) {
-        Some(round) => write_round(out, event, number, round),
+        Some(round) => write_round(out, round),
         None => Ok(()),
     }
 }

@@ -9,25 +9,35 @@ pub returns : goal.returns
 unfolding described_app with_arguments
 returns c =
     let one =
-    added c.in_ok-command.command c.in_ok-command-2.command _ c.way-limits.result _
-    c.in_ok-command.ensures c.way-limits.ensures.rule
+    added c.in_ok-command.command c.in_ok-command-2.command _ c.way-edition.result _
+    c.in_ok-command.ensures c.way-edition.ensures.rule
     c.in_ok-command-2.ensures.app c.in_ok-command-2.ensures.local in
-    IfOk-weaker c.with_argument-2.result _ _ (λ command made. (
+    let two =
+    added c.in_ok-command-2.command c.in_ok-command-3.command _ c.way-limits.result _ one
+    c.way-limits.ensures.rule
+    c.in_ok-command-3.ensures.app c.in_ok-command-3.ensures.local in
+    IfOk-weaker c.with_argument-3.result _ _ (λ command made. (
       record {
-        limits = Some (parser.Names c.as_slice.result);
-        names = Some (parser.Names c.as_slice-2.result);
-        limited = record {
+        edition = Some (parser.Names c.as_slice.result);
+        limits = Some (parser.Names c.as_slice-2.result);
+        names = Some (parser.Names c.as_slice-3.result);
+        begun = record {
           names = c.as_slice.result;
           parsed = refl;
           are = ap (λ texts. map (λ name. name.now) texts) c.as_slice.ensures;
         };
-        named = record {
+        limited = record {
           names = c.as_slice-2.result;
           parsed = refl;
           are = ap (λ texts. map (λ name. name.now) texts) c.as_slice-2.ensures;
         };
+        named = record {
+          names = c.as_slice-3.result;
+          parsed = refl;
+          are = ap (λ texts. map (λ name. name.now) texts) c.as_slice-3.ensures;
+        };
       },
       made,
     ))
-    (added_last c.with_argument-2.result c.in_ok-command-2.command _ c.way-names.result _ one
-    c.way-names.ensures.rule c.with_argument-2.ensures.app c.with_argument-2.ensures.local)
+    (added_last c.with_argument-3.result c.in_ok-command-3.command _ c.way-names.result _ two
+    c.way-names.ensures.rule c.with_argument-3.ensures.app c.with_argument-3.ensures.local)

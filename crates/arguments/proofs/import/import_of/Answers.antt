@@ -6,6 +6,7 @@ returns c = (
   refl,
   record {
     file = c.in_ok-file.ensures;
+    edition = c.edition_at.ensures;
     limits = c.limits_at.ensures;
     names = c.names_at.ensures;
   },

@@ -5,7 +5,7 @@ pub returns-in-Ok-clause-answer : goal.returns-in-Ok-clause-answer
 returns-in-Ok-clause-answer c =
     rw (
       c.in-Ok.ensures.value,
-      read_fit c.args.accepted.now c.in-Ok.command c.in-Ok.ensures.only.0,
+      read_fit c.args.accepted.now c.in-Ok.command c.in-Ok.ensures.only.0.0,
     )
     c.apply.ensures.answer
 
@@ -13,6 +13,6 @@ pub returns-in-Ok-clause-added : goal.returns-in-Ok-clause-added
 returns-in-Ok-clause-added c =
     rw (
       c.in-Ok.ensures.value,
-      read_fit c.args.accepted.now c.in-Ok.command c.in-Ok.ensures.only.0,
+      read_fit c.args.accepted.now c.in-Ok.command c.in-Ok.ensures.only.0.0,
     )
     c.apply.ensures.added

@@ -7,9 +7,9 @@ pub returns-in-Ok-clause-in_range : goal.returns-in-Ok-clause-in_range
 returns-in-Ok-clause-in_range g c =
     let log = c.log-log.result.now.entries in
     let is : c.in-Ok.entries ≡ entries_from c.args.position log = c.in-Ok.ensures in
-    record {
+    λ version high. record {
       body = (
-        refl,
+        high,
         record {
           from = c.requires;
           log = search rules;

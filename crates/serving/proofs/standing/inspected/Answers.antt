@@ -4,9 +4,9 @@ use Rattle.serving.proofs.standing.inspected.Goals as goal
 
 pub returns-clause-in_range : goal.returns-clause-in_range
 returns-clause-in_range g c =
-    record {
+    λ version high. record {
       body = (
-        refl,
+        high,
         record {
           log = search rules;
           queue = search rules;

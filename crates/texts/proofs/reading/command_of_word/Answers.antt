@@ -4,7 +4,7 @@ use Rattle.arrayvec.specs.declared.array_vec.ArrayVec.{ArrayVec}
 use Rattle.texts.specs.declared.value.FieldValue.{FieldValue}
 use Rattle.texts.specs.Table.{plain, row_named}
 use Rattle.texts.proofs.Rows.{named_row}
-use Rattle.texts.proofs.Words.{gives_command, gives_none, gives_values}
+use Rattle.texts.proofs.Words.{gives_none, gives_remark, gives_values}
 use Rattle.texts.proofs.reading.command_of_word.Goals as goal
 
 pub values_of-requires-clause-few : goal.values_of-requires-clause-few
@@ -25,18 +25,28 @@ returns-in_err-values c =
     let view : ArrayVec FieldValue 6 (Unit {0}) → List FieldValue = λ vs. vs.items in
     rw same
     (gives_values view c.args.word.now (plain c.in_ok-row.row.now) (option_copied c.args.left)
-    c.in_err-values.field-0.0 is c.in_err-values.ensures)
+    (option_copied c.before_remark.result.0) (option_copied c.before_remark.result.1)
+    c.in_err-values.field-0.0 is c.before_remark.ensures c.in_err-values.ensures)
 
 pub returns-in-Some : goal.returns-in-Some
 returns-in-Some c =
     let is : row_named c.args.word.now ≡ Some (plain c.in_ok-row.row.now) = search rules in
-    gives_command c.args.word.now (plain c.in_ok-row.row.now) (option_copied c.args.left)
-    c.in_ok-values.values.items c.command_of_values.result c.in-Some.command is
-    c.in_ok-values.ensures c.command_of_values.ensures c.in-Some.is
+    gives_remark c.args.word.now (plain c.in_ok-row.row.now) (option_copied c.args.left)
+    (option_copied c.before_remark.result.0) (option_copied c.before_remark.result.1)
+    c.in_ok-values.values.items c.command_of_values.result c.in-Some.command
+    c.index_after-index.result c.with_remark.result is c.before_remark.ensures
+    c.in_ok-values.ensures c.command_of_values.ensures c.in-Some.is c.index_after-index.ensures
+    c.with_remark.ensures
 
 pub returns-in-None : goal.returns-in-None
 returns-in-None c =
     let is : row_named c.args.word.now ≡ Some (plain c.in_ok-row.row.now) = search rules in
     gives_none c.args.word.now (plain c.in_ok-row.row.now) (option_copied c.args.left)
-    c.in_ok-values.values.items c.command_of_values.result is c.in_ok-values.ensures
-    c.command_of_values.ensures c.in-None.is
+    (option_copied c.before_remark.result.0) (option_copied c.before_remark.result.1)
+    c.in_ok-values.values.items c.command_of_values.result is c.before_remark.ensures
+    c.in_ok-values.ensures c.command_of_values.ensures c.in-None.is
+
+pub index_after-index-requires : goal.index_after-index-requires
+index_after-index-requires c =
+    let is : row_named c.args.word.now ≡ Some (plain c.in_ok-row.row.now) = search rules in
+    record { few = (named_row c.args.word.now (plain c.in_ok-row.row.now) is).few }

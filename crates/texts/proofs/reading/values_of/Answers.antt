@@ -11,7 +11,7 @@ returns-in_err-next c =
     let there : c.loop-kind.kind-index < length c.args.kinds.now = omega arith in
     let view : ArrayVec FieldValue 6 (Unit {0}) → List FieldValue = λ vs. vs.items in
     rw same
-    (stops view c.args.kinds.now c.loop-kind.kind-index c.loop-kind.index _ _
+    (stops view c.args.kinds.now c.loop-kind.kind-index c.loop-kind.index c.loop-kind.stands _ _
     c.loop-kind.values.items (option_copied c.args.left) (option_copied c.loop-kind.ahead)
     c.in_err-next.field-0.0 c.requires.last
     (drop-cons c.args.kinds.now c.loop-kind.kind-index _ there)

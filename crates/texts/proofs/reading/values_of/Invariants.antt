@@ -9,9 +9,9 @@ abbrev pub invariant-loop-kind : goal.invariant-loop-kind
 invariant-loop-kind l =
     record {
       so_far :
-          values_of l.kinds 1 (option_copied l.left)
+          values_of 0 l.kinds 1 (option_copied l.left)
           ≡ after l.values.items
-          (values_of (drop l.kind-index l.kinds) l.index (option_copied l.ahead));
+          (values_of l.stands (drop l.kind-index l.kinds) l.index (option_copied l.ahead));
       index : l.index ≡ l.kind-index + 1;
       count : length l.values.items ≡ l.kind-index;
     }

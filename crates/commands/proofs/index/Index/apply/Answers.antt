@@ -1,15 +1,18 @@
 use Rattle.std.proofs.Common.{refl, sym, ◌∙◌}
 use Rattle.commands.specs.model.Kept.{IsIndexOf, IsAsBefore}
 use Rattle.commands.proofs.Within.{attempt_within, correct_within, rescramble_within}
+use Rattle.commands.specs.Accepted.{is_registered}
+use Rattle.commands.proofs.CardIndex.{known_of}
+use Rattle.commands.proofs.ReadCards.{card_read, fix_read}
 use Rattle.commands.proofs.Lookups.{on_err_then}
 use Rattle.commands.proofs.Arms.{unknown, entry_answered, scrambles, attempt_answered}
 use Rattle.commands.proofs.Arms.{correction_answered, again_answered, strikes}
 use Rattle.commands.proofs.Arms.{advances, closes, sets, exit_answered, reopens}
-use Rattle.commands.proofs.Arms.{known_number}
+use Rattle.commands.proofs.Arms.{known_number, cancels}
 use Rattle.commands.proofs.Indexed.{registered, entered, scrambled, attempted, corrected, stricken}
 use Rattle.commands.proofs.Indexed.{advanced, ended, edition_noted, nothing_added, renamed}
 use Rattle.commands.proofs.Indexed.{settings_changed, rescrambled, rescramble_alike, withdrew}
-use Rattle.commands.proofs.Indexed.{reopened_or, kept_as_before}
+use Rattle.commands.proofs.Indexed.{reopened_or, cancelled_or, kept_as_before}
 use Rattle.commands.proofs.index.Index.apply.Goals as goal
 
 pub returns-then-is_of_nobody-clause-code : goal.returns-then-is_of_nobody-clause-code
@@ -241,8 +244,48 @@ returns-in-Reopen-clause-index c =
     (reopened_or c.args.accepted.now c.in-Reopen.id.event c.in-Reopen.id.round c.reopen.result
     c.args.self.now _ c.requires.index refl c.reopen.ensures.done c.reopen.ensures.refused)
 
+pub returns-in-Cancel-clause-code : goal.returns-in-Cancel-clause-code
+returns-in-Cancel-clause-code c =
+    rw c.in-Cancel.is
+    (cancels c.args.accepted.now c.args.self.now c.requires.index c.cancel.result c.in-Cancel.id
+    c.cancel.ensures.code)
+
+pub returns-in-Cancel-clause-index : goal.returns-in-Cancel-clause-index
+returns-in-Cancel-clause-index c =
+    rw c.in-Cancel.is
+    (cancelled_or c.args.accepted.now c.in-Cancel.id.event c.in-Cancel.id.round c.cancel.result
+    c.args.self.now _ c.requires.index refl c.cancel.ensures.done c.cancel.ensures.refused)
+
 pub returns-in-SetEdition-clause-index : goal.returns-in-SetEdition-clause-index
 returns-in-SetEdition-clause-index c =
     rw c.in-SetEdition.is
     (edition_noted c.args.accepted.now c.in-SetEdition.edition c.edition_refusal.result
     c.args.self.now c.requires.index)
+
+pub card-requires-clause-card : goal.card-requires-clause-card
+card-requires-clause-card c = card_read c.in-Card.card (rw c.in-Card.is at c.requires.command)
+
+pub card-requires-clause-known : goal.card-requires-clause-known
+card-requires-clause-known c =
+    known_of (is_registered c.args.accepted.now c.in-Card.card.number)
+    (rw c.in-Card.is at (sym c.is_of_nobody.ensures ∙ c.if-is_of_nobody.false))
+
+pub returns-in-Card-clause-code : goal.returns-in-Card-clause-code
+returns-in-Card-clause-code c = rw c.in-Card.is c.card.ensures.code
+
+pub returns-in-Card-clause-index : goal.returns-in-Card-clause-index
+returns-in-Card-clause-index c = rw c.in-Card.is c.card.ensures.index
+
+pub fix-requires-clause-card : goal.fix-requires-clause-card
+fix-requires-clause-card c = fix_read c.in-Fix.card (rw c.in-Fix.is at c.requires.command)
+
+pub fix-requires-clause-known : goal.fix-requires-clause-known
+fix-requires-clause-known c =
+    known_of (is_registered c.args.accepted.now c.in-Fix.card.number)
+    (rw c.in-Fix.is at (sym c.is_of_nobody.ensures ∙ c.if-is_of_nobody.false))
+
+pub returns-in-Fix-clause-code : goal.returns-in-Fix-clause-code
+returns-in-Fix-clause-code c = rw c.in-Fix.is c.fix.ensures.code
+
+pub returns-in-Fix-clause-index : goal.returns-in-Fix-clause-index
+returns-in-Fix-clause-index c = rw c.in-Fix.is c.fix.ensures.index

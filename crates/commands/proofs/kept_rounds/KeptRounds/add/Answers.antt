@@ -13,7 +13,8 @@ returns-clause-ok c =
     record {
       adds =
           rw c.in_ok-push.ensures.items
-          (round_pushed c.args.self.now.opened.items _ c.args.id.event c.args.id.round _ _ refl refl
+          (round_pushed c.args.self.now.opened.items _ c.args.id.event c.args.id.round _ _ _ refl
+          refl
           (rw (
             c.in_ok-table.ensures,
             c.deref.ensures.value,
@@ -21,7 +22,15 @@ returns-clause-ok c =
             c.round_before.ensures,
           )
           refl)
-          waits all_free c.new.ensures);
+          waits
+          (rw (
+            c.in_ok-numbers.ensures.order,
+            c.round_before.ensures,
+            c.started-competitors_before.ensures,
+            c.round_before-3.ensures,
+          )
+          refl)
+          all_free c.new.ensures);
       once = subst (IsDistinct nat_eq) waits c.in_ok-waiting.ensures.each_once;
       others =
           subst (AreOthers (who_advance before)) waits

@@ -6,6 +6,9 @@ use Rattle.rounds.specs.model.UpToDate.{field_of, entrant_of}
 use Rattle.rounds.proofs.Allotted.{met_in}
 use Rattle.rounds.proofs.entrants.Entrants.cutoff.Goals as goal
 
+pub returns-clause-rules : goal.returns-clause-rules
+returns-clause-rules c = rw (← c.self.view_is) c.self.invariant.cutoff
+
 pub returns-clause-allotted : goal.returns-clause-allotted
 returns-clause-allotted c =
     rw (← c.self.view_is)

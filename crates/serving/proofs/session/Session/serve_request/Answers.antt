@@ -1,6 +1,7 @@
-use Rattle.std.proofs.Common.{ap, ◌∙◌}
+use Rattle.std.proofs.Common.{ap, subst, ◌∙◌}
 use Rattle.wire.specs.declared.frame.What.TheVariants as what
 use Rattle.serving.specs.Answering.{standing}
+use Rattle.serving.specs.Asking.{IsAskedIn}
 use Rattle.serving.proofs.OneFrame.{in_version}
 use Rattle.serving.proofs.Answered.{asks, prints, inspects, copies, stops, estranges, denies}
 use Rattle.serving.proofs.Answered.{ignores}
@@ -46,3 +47,13 @@ returns-in-Asked-clause-in_range g c =
 pub returns-in-Printed-clause-in_range : goal.returns-in-Printed-clause-in_range
 returns-in-Printed-clause-in_range g c =
     λ version asked. in_version version c.printed.ensures.in_range
+
+pub returns-in-Inspected-clause-in_range : goal.returns-in-Inspected-clause-in_range
+returns-in-Inspected-clause-in_range g c =
+    λ version asked. c.inspected.ensures.in_range version
+    (subst (λ r. IsAskedIn version r) c.in-Inspected.is asked)
+
+pub returns-in-Copied-clause-in_range : goal.returns-in-Copied-clause-in_range
+returns-in-Copied-clause-in_range g c =
+    λ version asked. c.copied.ensures.in_range version
+    (subst (λ r. IsAskedIn version r) c.in-Copied.is asked)

@@ -7,7 +7,7 @@ returns c =
     let r = c.args.round in
     on_ok c.write_members.result
     (λ last. same
-    (round_tokens r.meet.now.accepted c.args.event c.args.number r.settings r.table.now _
+    (round_tokens r.meet.now.accepted r.event r.number r.settings r.table.now _
     c.name.ensures.value)
     (then (wrote c.in_ok-begin_object.ensures) (then (wrote c.in_ok-key.ensures)
     (then (wrote c.in_ok-string.ensures) (then (wrote c.in_ok-key-2.ensures)

@@ -1,0 +1,121 @@
+-- Lists of which each command is accepted.
+use Rattle.std.proofs.Common.{◌≡◌, ℕ, Bool, true, false, ◌&&◌, cond, nat_le, is_some, List, []}
+use Rattle.std.proofs.Common.{◌∷◌, ◌++◌, fold, Option, Some, None, Result, Ok, Err, refl, sym, ap}
+use Rattle.std.proofs.Common.{◌∙◌}
+use Rattle.std.proofs.Common.{subst, append_assoc, append-nil}
+use Rattle.std.specs.Option.{option_or}
+use Rattle.texts.specs.declared.answer.Code.{Code}
+use Rattle.texts.specs.declared.answer.Code.TheVariants as code
+use Rattle.texts.specs.declared.command.Command.{Command}
+use Rattle.texts.specs.declared.command.Remarked.{Remarked}
+use Rattle.texts.specs.declared.reading.CommandFault.{CommandFault}
+use Rattle.texts.specs.Editions.{edition_of, has_name_in, remark_edition}
+use Rattle.texts.specs.Reading.{command_of}
+use Rattle.commands.specs.Accepted.{edition_in, refusal}
+use Rattle.commands.specs.History.{History, nothing, is_seen, added, added_read, knows}
+use Rattle.commands.specs.History.{spelled_refusal, read_refusal_in, after_in}
+use Rattle.commands.proofs.Lookups.{or_assoc, some≢none}
+use Rattle.card_laws.specs.Accepting.{first_refusal, AreAccepted, LogsAreAccepted}
+
+pub none_first : (a b : Option Code) → option_or a b ≡ None → a ≡ None
+none_first None b h = refl
+none_first (Some c) b h = absurd (some≢none c h)
+
+pub none_second : (a b : Option Code) → option_or a b ≡ None → b ≡ None
+none_second None b h = h
+none_second (Some c) b h = absurd (some≢none c h)
+
+-- what is refused first of one list and another
+first_of_both : (cs ds es : List Command)
+    → first_refusal cs (ds ++ es) ≡ option_or (first_refusal cs ds) (first_refusal (cs ++ ds) es)
+first_of_both cs [] es = ap (λ (xs : List Command). first_refusal xs es) (sym (append-nil cs))
+first_of_both cs (d ∷ ds) es =
+    ap (option_or (refusal cs d)) (first_of_both (cs ++ d ∷ []) ds es)
+    ∙ or_assoc (refusal cs d) (first_refusal (cs ++ d ∷ []) ds)
+    (first_refusal ((cs ++ d ∷ []) ++ ds) es)
+    ∙ ap
+    (λ (xs : List Command).
+    option_or (option_or (refusal cs d) (first_refusal (cs ++ d ∷ []) ds)) (first_refusal xs es))
+    (append_assoc cs (d ∷ []) ds)
+
+-- the others are accepted after those in front
+accepted_later : (cs ds es : List Command) → AreAccepted cs (ds ++ es) → AreAccepted (cs ++ ds) es
+accepted_later cs ds es h =
+    none_second (first_refusal cs ds) (first_refusal (cs ++ ds) es)
+    (sym (first_of_both cs ds es) ∙ h)
+
+pub accepted_front : (cs ds es : List Command) → AreAccepted cs (ds ++ es) → AreAccepted cs ds
+accepted_front cs ds es h =
+    none_first (first_refusal cs ds) (first_refusal (cs ++ ds) es)
+    (sym (first_of_both cs ds es) ∙ h)
+
+-- and one of them is
+pub accepted_one : (cs ds es : List Command) (d : Command) → AreAccepted cs (ds ++ d ∷ es)
+    → refusal (cs ++ ds) d ≡ None
+accepted_one cs ds es d h =
+    none_first (refusal (cs ++ ds) d) (first_refusal ((cs ++ ds) ++ d ∷ []) es)
+    (accepted_later cs ds (d ∷ es) h)
+
+-- Logs
+
+-- what is accepted of what was read
+pub own_checks : (k : ℕ) (cs : List Command) (c : Remarked) → read_refusal_in k cs (Ok c) ≡ None
+    → refusal cs c.command ≡ None
+own_checks k cs c h = known (knows k c.command) h
+  where
+    spelled : (b : Bool) → cond b (refusal cs c.command) (Some code.Unread) ≡ None
+        → refusal cs c.command ≡ None
+    spelled true h = h
+    spelled false h = absurd (some≢none code.Unread h)
+
+    known : (b : Bool) → cond b (spelled_refusal cs c) (Some code.Unread) ≡ None
+        → refusal cs c.command ≡ None
+    known true h =
+        spelled
+        (has_name_in (edition_in cs) c.command
+        && nat_le (edition_of c.command) (edition_in cs)
+        && nat_le (remark_edition (is_some c.remark)) (edition_in cs)) h
+    known false h = absurd (some≢none code.Unread h)
+
+-- an entry's command is accepted after those that were accepted before, or there is none
+accepted_read : (k : ℕ) (cs : List Command) (r : Result Remarked CommandFault)
+    → AreAccepted [] cs → AreAccepted [] (cs ++ added_read (read_refusal_in k cs r) r)
+accepted_read k cs (Err fault) h = subst (AreAccepted []) (sym (append-nil cs)) h
+accepted_read k cs (Ok c) h = step (read_refusal_in k cs (Ok c)) refl
+  where
+    step : (o : Option Code) → read_refusal_in k cs (Ok c) ≡ o
+        → AreAccepted [] (cs ++ added o c.command)
+    step None is =
+        first_of_both [] cs (c.command ∷ [])
+        ∙ ap (λ (o : Option Code). option_or o (first_refusal cs (c.command ∷ []))) h
+        ∙ ap (λ (o : Option Code). option_or o None) (own_checks k cs c is)
+    step (Some why) is = subst (AreAccepted []) (sym (append-nil cs)) h
+
+accepted_after : (k : ℕ) (h : History) (id : ℕ) (text : List ℕ) → AreAccepted [] h.accepted
+    → AreAccepted [] (after_in k h id text).accepted
+unfolding after_in
+accepted_after k h id text are = step (is_seen h id)
+  where
+    new : History
+    new = record {
+      ids = h.ids ++ id ∷ [];
+      accepted =
+          h.accepted
+          ++ added_read (read_refusal_in k h.accepted (command_of text)) (command_of text);
+    }
+
+    step : (b : Bool) → AreAccepted [] (cond b h new).accepted
+    step true = are
+    step false = accepted_read k h.accepted (command_of text) are
+
+accepted_fold : (k : ℕ) (h : History) (entries : List (ℕ × List ℕ)) → AreAccepted [] h.accepted
+    → AreAccepted []
+    (fold (λ (x : History) (entry : ℕ × List ℕ). after_in k x entry.0 entry.1) h entries).accepted
+accepted_fold k h [] are = are
+accepted_fold k h (entry ∷ entries) are =
+    accepted_fold k (after_in k h entry.0 entry.1) entries
+    (accepted_after k h entry.0 entry.1 are)
+
+pub logs_are_accepted : LogsAreAccepted
+logs_are_accepted k entries cs ds is =
+    accepted_later [] cs ds (subst (AreAccepted []) is (accepted_fold k nothing entries refl))

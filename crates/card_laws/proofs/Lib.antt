@@ -1,0 +1,11 @@
+pub mod Accepted
+pub mod Alone
+pub mod Entrants
+pub mod Outcomes
+pub mod Printed
+pub mod Refusals
+pub mod Remarks
+pub mod Returning
+pub mod Room
+pub mod Staying
+pub mod Taking

@@ -1,0 +1,23 @@
+-- Commands that are accepted one after the other.
+use Rattle.std.specs.Prelude.{◌≡◌, ℕ, List, [], ◌∷◌, ◌++◌, Option, None}
+use Rattle.std.specs.Option.{option_or}
+use Rattle.texts.specs.declared.command.Command.{Command}
+use Rattle.texts.specs.declared.answer.Code.{Code}
+use Rattle.commands.specs.Accepted.{refusal}
+use Rattle.commands.specs.History.{history_in}
+
+-- the first refusal of these commands, each asked after `cs` and those in front of it
+abbrev pub first_refusal : List Command → List Command → Option Code
+first_refusal cs [] = None
+first_refusal cs (c ∷ ds) = option_or (refusal cs c) (first_refusal (cs ++ c ∷ []) ds)
+
+-- each of these commands is accepted after `cs` and those in front of it
+abbrev pub AreAccepted : List Command → List Command → Type 0
+AreAccepted cs ds = first_refusal cs ds ≡ None
+
+-- of what entries come to, each command is accepted after those in front of it, wherever the list
+-- is parted; so what is said of accepted commands is said of those of every log
+abbrev pub LogsAreAccepted : Type 0
+LogsAreAccepted =
+    (k : ℕ) (entries : List (ℕ × List ℕ)) (cs ds : List Command)
+    → (history_in k entries).accepted ≡ cs ++ ds → AreAccepted cs ds

@@ -1,0 +1,7 @@
+pub mod Accepting
+pub mod GivingBack
+pub mod Holding
+pub mod OverNothing
+pub mod Premises
+pub mod Telling
+pub mod WorkedCards

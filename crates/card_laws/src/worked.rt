@@ -1,0 +1,28 @@
+//! Lists of commands that meet the premises of the laws, worked by hand.
+
+ghost use Rattle.card_laws.specs.WorkedCards.{SetsEdition, WorksGivingBack, WorksOverNothing};
+ghost use Rattle.card_laws.specs.WorkedCards.{WorksStanding};
+
+/// Of two in a round nothing stands: a card of five outcomes is accepted, as its attempts are, and
+/// one of three that miss the cutoff is refused, as the third of them is. In a closed round the
+/// codes differ, where the event does not take an outcome.
+pub fn works_over_nothing()
+    ensures { WorksOverNothing }
+{}
+
+/// A card and commands after it that do not name its entrant are accepted, in an open round and in
+/// a closed one. Once a card with one attempt is entered, the round can't be cancelled.
+pub fn works_standing()
+    ensures { WorksStanding }
+{}
+
+/// Of two cards over the same the second is refused, and accepted where the first was taken back;
+/// so in a closed round.
+pub fn works_giving_back()
+    ensures { WorksGivingBack }
+{}
+
+/// After its text, edition 4 holds.
+pub fn sets_edition()
+    ensures { SetsEdition }
+{}

@@ -1,0 +1,10 @@
+use Rattle.std.proofs.Common.{refl}
+use Rattle.commands.specs.model.Kept.{with_reopening}
+use Rattle.commands.proofs.KeptLemmas.{round_set_to}
+use Rattle.commands.proofs.kept_rounds.KeptRounds.reopen.Goals as goal
+
+pub returns-in-Ok-clause-done : goal.returns-in-Ok-clause-done
+returns-in-Ok-clause-done c =
+    round_set_to c.args.self.now.opened.items c.args.id.event c.args.id.round c.in-Some.place
+    c.index_mut-kept.result.now _ c.reopen.new.self with_reopening
+    c.in-Some.ensures.kept c.index_mut-kept.ensures.value (rw c.in-Ok.ensures.reopened refl)

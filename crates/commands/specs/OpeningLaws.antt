@@ -1,0 +1,36 @@
+-- Laws of openings.
+use Rattle.std.specs.Prelude.{◌≡◌, ℕ, false, List, [], ◌∷◌, ◌++◌, Option, None}
+use Rattle.std.specs.List.{list_any}
+use Rattle.std.specs.Option.{option_or, option_map}
+use Rattle.formats.specs.declared.events.Event.{Event}
+use Rattle.texts.specs.declared.command.Command.{Command}
+use Rattle.texts.specs.declared.command.Command.TheVariants.{Open, Cancel}
+use Rattle.texts.specs.declared.command.RoundId.{RoundId}
+use Rattle.texts.specs.declared.command.Settings.{Settings}
+use Rattle.commands.specs.Accepted.{Opened, opened, opening, is_cancelled}
+use Rattle.commands.specs.Accepted.{refusal, round_of}
+
+-- a round as the first command to open it opened it; `earlier` are the commands in front of these
+abbrev pub first_opened : Event → ℕ → List Command → List Command → Option Opened
+first_opened e r earlier [] = None
+first_opened e r earlier (c ∷ cs) =
+    option_or (option_map (λ settings. record {
+      before =
+          earlier;
+      settings = settings;
+      since = cs;
+    }) (opening e r c)) (first_opened e r (earlier ++ c ∷ []) cs)
+
+-- a round that no command takes back is as its first opening opened it, with all commands since
+abbrev pub FirstOpeningHolds : Type 0
+FirstOpeningHolds =
+    (e : Event) (r : ℕ) (earlier cs : List Command) → list_any (is_cancelled e r) cs ≡ false
+    → opened e r earlier cs ≡ first_opened e r earlier cs
+
+-- whoever takes back that a round was opened, with nothing between, finds each round as it was
+-- before
+abbrev pub CancelsAsBefore : Type 0
+CancelsAsBefore =
+    (cs : List Command) (id : RoundId) (settings : Settings) (e : Event) (r : ℕ)
+    → refusal cs (Open id settings) ≡ None
+    → round_of (cs ++ Open id settings ∷ Cancel id ∷ []) e r ≡ round_of cs e r
