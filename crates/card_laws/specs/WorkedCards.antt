@@ -1,12 +1,13 @@
 -- Worked by hand: lists of commands that meet the premises of the laws.
-use Rattle.std.specs.Prelude.{◌≡◌, ◌≤◌, ℕ, false, List, [], ◌∷◌, ◌++◌, All, codes, None}
+use Rattle.std.specs.Prelude.{◌≡◌, ◌≤◌, ℕ, false, true, List, [], ◌∷◌, ◌++◌, All, codes, None}
 use Rattle.std.specs.Prelude.{Some}
+use Rattle.std.specs.List.{list_any}
 use Rattle.attempts.specs.declared.Unit.TheVariants as measure
 use Rattle.attempts.specs.declared.Value.{Value}
 use Rattle.attempts.specs.declared.Value.TheVariants as value
 use Rattle.formats.specs.declared.advance.Advance.TheVariants.{Final}
 use Rattle.formats.specs.declared.events.Event.TheVariants.{Cube3}
-use Rattle.formats.specs.declared.events.Format.TheVariants.{Ao5}
+use Rattle.formats.specs.declared.events.Format.TheVariants.{Ao5, Bo3}
 use Rattle.texts.specs.declared.answer.Code.TheVariants as code
 use Rattle.texts.specs.declared.command.Command.{Command}
 use Rattle.texts.specs.declared.command.Command.TheVariants.{Register, Open, Enter, Correct, Close}
@@ -19,7 +20,7 @@ use Rattle.texts.specs.declared.command.Settings.{Settings}
 use Rattle.texts.specs.Fields.{attempt_entry, card_entry, round_id}
 use Rattle.texts.specs.Spelling.{spelling}
 use Rattle.rounds.specs.Tables.{Table}
-use Rattle.commands.specs.Accepted.{edition_in, refusal, round_by}
+use Rattle.commands.specs.Accepted.{edition_in, is_cancelled, opened, refusal, round_by}
 use Rattle.commands.specs.History.{history_in}
 use Rattle.card_laws.specs.Accepting.{AreAccepted, first_refusal}
 use Rattle.card_laws.specs.GivingBack.{AreOverTheSame, is_shown}
@@ -147,6 +148,35 @@ pub record WorksGivingBack : Type 0 where
   pub fix_changes : is_shown (closed ++ Fix fix ∷ []) fix ≡ false
   pub fix_refused : refusal (closed ++ Fix fix ∷ []) (Fix fix) ≡ Some code.Changed
   pub fix_given_back : AreAccepted closed (Fix fix ∷ fixed_back ∷ Fix fix ∷ [])
+
+-- ---- a round that was opened by mistake
+
+-- nobody is entered yet
+abbrev pub called : List Command
+called = SetEdition 4 ∷ Register 1 (codes "Ann") ∷ []
+
+abbrev pub mistaken : List Command
+mistaken = called ++ Open id settings ∷ []
+
+-- the settings that were meant
+abbrev pub meant : Settings
+meant = record { format = Bo3; cutoff = None; limit = Some 60000; advance = Final }
+
+abbrev pub taken_back : List Command
+taken_back = mistaken ++ Cancel id ∷ []
+
+-- the first opening holds where nobody takes it back, and the one after that where somebody does
+pub record WorksTakenBack : Type 0 where
+  pub opens : refusal called (Open id settings) ≡ None
+  pub not_cancelled : list_any (is_cancelled Cube3 1) mistaken ≡ false
+  pub first : opened Cube3 1 [] mistaken
+      ≡ Some (record { before = called; settings = settings; since = [] })
+  pub cancels : refusal mistaken (Cancel id) ≡ None
+  pub gone : round_by taken_back id ≡ None
+  pub opens_again : refusal taken_back (Open id meant) ≡ None
+  pub cancelled : list_any (is_cancelled Cube3 1) (taken_back ++ Open id meant ∷ []) ≡ true
+  pub second : opened Cube3 1 [] (taken_back ++ Open id meant ∷ [])
+      ≡ Some (record { before = taken_back; settings = meant; since = [] })
 
 -- edition 4 holds after the text that sets it
 abbrev pub SetsEdition : Type 0

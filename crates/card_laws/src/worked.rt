@@ -1,7 +1,7 @@
 //! Lists of commands that meet the premises of the laws, worked by hand.
 
 ghost use Rattle.card_laws.specs.WorkedCards.{SetsEdition, WorksGivingBack, WorksOverNothing};
-ghost use Rattle.card_laws.specs.WorkedCards.{WorksStanding};
+ghost use Rattle.card_laws.specs.WorkedCards.{WorksStanding, WorksTakenBack};
 
 /// Of two in a round nothing stands: a card of five outcomes is accepted, as its attempts are, and
 /// one of three that miss the cutoff is refused, as the third of them is. In a closed round the
@@ -20,6 +20,12 @@ pub fn works_standing()
 /// so in a closed round.
 pub fn works_giving_back()
     ensures { WorksGivingBack }
+{}
+
+/// A round is opened by mistake and taken back: it is not opened any more, and is as the opening
+/// after that has it. Where nobody takes it back it is as its first opening has it.
+pub fn works_taken_back()
+    ensures { WorksTakenBack }
 {}
 
 /// After its text, edition 4 holds.

@@ -1,3 +1,3 @@
 pub mod Commands
 pub mod Faults
-pub mod FieldNames
+pub mod FieldWords

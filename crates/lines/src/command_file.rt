@@ -2,7 +2,7 @@
 //! in words what is wrong with the first one that is no command in any edition.
 
 mod command_text;
-mod field_kind;
+mod field_words;
 mod reading;
 mod wording;
 

@@ -12,11 +12,7 @@ use Rattle.serde_json.specs.Data.{Data}
 use Rattle.formats.specs.declared.events.Event.{Event}
 use Rattle.rounds.specs.Tables.{Table}
 use Rattle.texts.specs.declared.command.Command.{Command}
-use Rattle.texts.specs.declared.command.Command.TheVariants.{Register, Open, Enter, Scramble}
-use Rattle.texts.specs.declared.command.Command.TheVariants.{Attempt, Correct, Strike, SetAdvance}
-use Rattle.texts.specs.declared.command.Command.TheVariants.{Close, SetEdition, Rename, SetRound}
-use Rattle.texts.specs.declared.command.Command.TheVariants.{Rescramble, Withdraw, Reopen}
-use Rattle.texts.specs.declared.command.Command.TheVariants.{Card, Fix, Cancel}
+use Rattle.texts.specs.declared.command.Command.TheVariants.{Register}
 use Rattle.texts.specs.declared.command.Settings.{Settings}
 use Rattle.texts.specs.declared.answer.Code.TheVariants as code
 use Rattle.texts.specs.Editions.{is_spelled_in}
@@ -91,23 +87,7 @@ none_other cs [] n name none = refl
 none_other cs (Register m given ∷ ds) n name none =
     ap (λ (b : Bool). b || list_any (names_other cs n name) ds) (none m)
     ∙ none_other cs ds n name none
-none_other cs (Open id settings ∷ ds) n name none = none_other cs ds n name none
-none_other cs (Enter e m ∷ ds) n name none = none_other cs ds n name none
-none_other cs (Scramble id k moves ∷ ds) n name none = none_other cs ds n name none
-none_other cs (Attempt entry ∷ ds) n name none = none_other cs ds n name none
-none_other cs (Correct entry ∷ ds) n name none = none_other cs ds n name none
-none_other cs (Strike id m ∷ ds) n name none = none_other cs ds n name none
-none_other cs (SetAdvance id advance ∷ ds) n name none = none_other cs ds n name none
-none_other cs (Close id ∷ ds) n name none = none_other cs ds n name none
-none_other cs (SetEdition e ∷ ds) n name none = none_other cs ds n name none
-none_other cs (Rename m given ∷ ds) n name none = none_other cs ds n name none
-none_other cs (SetRound id format cutoff limit ∷ ds) n name none = none_other cs ds n name none
-none_other cs (Rescramble id k moves ∷ ds) n name none = none_other cs ds n name none
-none_other cs (Withdraw id m ∷ ds) n name none = none_other cs ds n name none
-none_other cs (Reopen id ∷ ds) n name none = none_other cs ds n name none
-none_other cs (Card card ∷ ds) n name none = none_other cs ds n name none
-none_other cs (Fix card ∷ ds) n name none = none_other cs ds n name none
-none_other cs (Cancel id ∷ ds) n name none = none_other cs ds n name none
+none_other cs (_ ∷ ds) n name none = none_other cs ds n name none
 
 -- the name of a person is free for the person's number, whoever of the others is registered
 untaken : (how : SameNames) (persons : List Data) (edition k : ℕ) (before : List Command)

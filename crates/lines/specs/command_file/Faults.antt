@@ -1,7 +1,7 @@
 -- What is wrong with a line that is no command, in words.
 use Rattle.std.specs.Prelude.{ℕ, ◌-◌, Bool, false, ◌==◌, ◌&&◌, ◌||◌, nat_lt, nat_le, not, zero}
 use Rattle.std.specs.Prelude.{suc, if◌then◌else◌, List, [], ◌∷◌, ◌++◌, length, take, drop, map}
-use Rattle.std.specs.Prelude.{codes, decimal, slice_get, slice_index, Option, None, Some}
+use Rattle.std.specs.Prelude.{codes, decimal, slice_index, Option, None, Some}
 use Rattle.std.specs.Prelude.{option_map, Result, Ok, Err, bytes_eq}
 use Rattle.std.specs.List.{list_any, slice_split}
 use Rattle.std.specs.Option.{option_and_then}
@@ -11,10 +11,10 @@ use Rattle.texts.specs.declared.command.Remarked.{Remarked}
 use Rattle.texts.specs.declared.reading.CommandFault.{CommandFault}
 use Rattle.texts.specs.declared.reading.CommandFault.TheVariants as fault
 use Rattle.lines.specs.command_file.Commands.{Numbered}
-use Rattle.lines.specs.command_file.FieldNames.{field_form, field_name, fields_of, is_now}
-use Rattle.lines.specs.command_file.FieldNames.{is_rest, may_have_remark, verb}
-use Rattle.lines.specs.declared.command_file.field_kind.FieldKind.{FieldKind}
-use Rattle.lines.specs.declared.command_file.field_kind.FieldKind.TheVariants as kind
+use Rattle.texts.specs.Table.{is_rest, kind_at, row_named, takes_remark_in}
+use Rattle.texts.specs.declared.table.FieldKind.{FieldKind}
+use Rattle.texts.specs.declared.table.FieldKind.TheVariants as kind
+use Rattle.lines.specs.command_file.FieldWords.{field_form, field_name, is_now, verb}
 
 -- ---- what is shown of a text
 
@@ -58,11 +58,8 @@ word_of text = (cut 32 text).0
 
 -- what stands before a remark, and the remark, where the text may have one and has one
 abbrev pub parts_of : List ℕ → List ℕ × Option (List ℕ)
-parts_of text = if may_have_remark (word_of text) then cut_remark text else (text, None)
-
--- what the field with an index, counted from 1, is by the text's word; none after the last one
-abbrev pub kind_at : ℕ → List ℕ → Option FieldKind
-kind_at index text = slice_get (fields_of (word_of text)) (index - 1)
+parts_of text =
+    if takes_remark_in (row_named (word_of text)) then cut_remark text else (text, None)
 
 -- ---- what is wrong
 
@@ -105,10 +102,18 @@ now_text (Some was) None = field_text kind.Now None
 now_text (Some was) (Some now) =
     if keeps_beyond (values_in was) now then kept_text now else field_text kind.Now (Some now)
 
+-- a remark is empty, or misspelt
+abbrev pub remark_text : List ℕ → List ℕ
+remark_text bytes =
+    codes "the remark "
+    ++ (if length bytes == 0 then codes "is empty"
+    else quoted bytes ++ codes " is no remark of at most 80 bytes with single spaces and no "
+    ++ codes "double quote, as A 14:02")
+
 -- what stands after the last field: another one, or a remark
 abbrev pub extra_text : Option (List ℕ) → Option (List ℕ) → List ℕ
 extra_text None None = codes "a field is missing"
-extra_text None (Some remark) = field_text kind.Remark (Some remark)
+extra_text None (Some remark) = remark_text remark
 extra_text (Some left) remark = quoted left ++ codes " is one field too many"
 
 -- of the parts before the remark and of the remark
@@ -120,7 +125,7 @@ kind_text (Some field) index parts =
     else field_text field (field_at (is_rest field) index parts.0)
 
 abbrev pub index_text : ℕ → List ℕ → List ℕ
-index_text index text = kind_text (kind_at index text) index (parts_of text)
+index_text index text = kind_text (kind_at (word_of text) index) index (parts_of text)
 
 abbrev pub unknown_text : List ℕ → List ℕ
 unknown_text text = quoted (word_of text) ++ codes " is no command, as ENT 333 17"

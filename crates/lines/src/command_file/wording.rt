@@ -5,15 +5,15 @@ ghost use Rattle.std.specs.Option.{option_copied};
 ghost use Rattle.lines.specs.command_file.Faults.{border_of, extra_text, fault_text, field_at};
 ghost use Rattle.lines.specs.command_file.Faults.{field_text, first_fault, index_text};
 ghost use Rattle.lines.specs.command_file.Faults.{is_within_char, keeps_beyond, kept_text};
-ghost use Rattle.lines.specs.command_file.Faults.{kind_at, left_after, line_text, misspelt_text};
-ghost use Rattle.lines.specs.command_file.Faults.{named, now_text, parts_of, values_in};
+ghost use Rattle.lines.specs.command_file.Faults.{left_after, line_text, misspelt_text, named};
+ghost use Rattle.lines.specs.command_file.Faults.{now_text, parts_of, remark_text, values_in};
 ghost use Rattle.lines.specs.command_file.Faults.{quoted, shown, shown_byte, unknown_text, word_of};
 
 use crate::command_file::command_text::CommandText;
-use crate::command_file::field_kind::{FieldKind, fields_of, may_have_remark};
+use crate::command_file::field_words::{form, is_now, name, verb};
 use attempts::push_decimal;
 use std::alloc::{AllocError, Global};
-use texts::{CommandFault, cut, cut_remark, read};
+use texts::{CommandFault, FieldKind, cut, cut_remark, kind_at, read, row_named};
 
 /// The most bytes of a text that are shown.
 const MOST_SHOWN: usize = 40;
@@ -114,20 +114,10 @@ fn word_of(text: &[u8]) -> &[u8]
 fn parts_of(text: &[u8]) -> (&[u8], Option<&[u8]>)
     ensures { (result.0.now, option_copied result.1) ≡ parts_of text.now }
 {
-    if may_have_remark(word_of(text)) {
-        cut_remark(text)
-    } else {
-        (text, None)
+    match row_named(word_of(text)) {
+        Some(row) if row.takes_remark => cut_remark(text),
+        _ => (text, None),
     }
-}
-
-/// What stands in a text at an index, counted from 1, by its word; none after its last field.
-fn kind_at(text: &[u8], index: u8) -> Option<FieldKind>
-    ensures { result ≡ kind_at index text.now }
-{
-    fields_of(word_of(text))
-        .get(usize::from(index).saturating_sub(1))
-        .copied()
 }
 
 /// Adds a text as it is shown, between quotation marks.
@@ -145,7 +135,7 @@ fn push_named(out: &mut Vec<u8>, kind: FieldKind) -> Result<(), AllocError>
     ensures { OnOk result (out.new.items ≡ out.old.items ++ named kind) }
 {
     out.extend_from_slice(b"the ")?;
-    out.extend_from_slice(kind.name().as_bytes())
+    out.extend_from_slice(name(kind).as_bytes())
 }
 
 /// Adds what is wrong with a field that has these bytes.
@@ -154,9 +144,9 @@ fn push_misspelt(out: &mut Vec<u8>, kind: FieldKind, bytes: &[u8]) -> Result<(),
 {
     out.extend_from_slice(b" ")?;
     push_quoted(out, bytes)?;
-    out.extend_from_slice(kind.verb().as_bytes())?;
+    out.extend_from_slice(verb(kind).as_bytes())?;
     out.extend_from_slice(b"no ")?;
-    out.extend_from_slice(kind.form().as_bytes())
+    out.extend_from_slice(form(kind).as_bytes())
 }
 
 /// Adds what is wrong with a field.
@@ -171,12 +161,12 @@ fn push_field_fault(
     push_named(out, kind)?;
     match given {
         None => {
-            out.extend_from_slice(kind.verb().as_bytes())?;
+            out.extend_from_slice(verb(kind).as_bytes())?;
             out.extend_from_slice(b"missing")
         }
         Some(bytes) => {
             if bytes.is_empty() {
-                out.extend_from_slice(kind.verb().as_bytes())?;
+                out.extend_from_slice(verb(kind).as_bytes())?;
                 out.extend_from_slice(b"empty")
             } else {
                 push_misspelt(out, kind, bytes)
@@ -232,6 +222,19 @@ fn push_now_fault(
     push_field_fault(out, FieldKind::Now, given)
 }
 
+/// Adds what is wrong with a remark.
+fn push_remark_fault(out: &mut Vec<u8>, bytes: &[u8]) -> Result<(), AllocError>
+    ensures { OnOk result (out.new.items ≡ out.old.items ++ remark_text bytes.now) }
+{
+    out.extend_from_slice(b"the remark ")?;
+    if bytes.is_empty() {
+        return out.extend_from_slice(b"is empty");
+    }
+    push_quoted(out, bytes)?;
+    out.extend_from_slice(b" is no remark of at most 80 bytes with single spaces and no ")?;
+    out.extend_from_slice(b"double quote, as A 14:02")
+}
+
 /// Adds what is said of what stands after the last field: another one, or a remark.
 fn push_extra(
     out: &mut Vec<u8>,
@@ -244,7 +247,7 @@ fn push_extra(
     match left {
         None => match remark {
             None => out.extend_from_slice(b"a field is missing"),
-            Some(bytes) => push_field_fault(out, FieldKind::Remark, Some(bytes)),
+            Some(bytes) => push_remark_fault(out, bytes),
         },
         Some(bytes) => {
             push_quoted(out, bytes)?;
@@ -258,9 +261,9 @@ fn push_index_fault(out: &mut Vec<u8>, text: &[u8], index: u8) -> Result<(), All
     ensures { OnOk result (out.new.items ≡ out.old.items ++ index_text index text.now) }
 {
     let (front, remark) = parts_of(text);
-    match kind_at(text, index) {
+    match kind_at(word_of(text), index) {
         Some(kind) => {
-            if kind.is_now() {
+            if is_now(kind) {
                 let was = field_at(front, index.saturating_sub(1), false);
                 push_now_fault(out, was, left_after(front, index))
             } else {
