@@ -148,9 +148,9 @@ class Client:
         fields = self.exchange(SUBMIT, entry_of(number, text), TAKEN)
         expect(f"id that desk {self.desk} took", fields, id_of(number))
 
-    def state(self, number):
+    def state(self, number, version=1):
         """What the desk says of an id: unknown, pending, or a position and a code."""
-        fields = self.exchange(ASK, id_of(number), TOLD)
+        fields = self.exchange(ASK, id_of(number), TOLD, version)
         expect(f"id that desk {self.desk} tells of", fields[:8], id_of(number))
         return state_of(fields)
 
