@@ -1,31 +1,26 @@
 -- An entrant has at most five attempts, whatever the entries of a log are.
 use Rattle.std.proofs.Common.{◌≡◌, ℕ, zero, suc, ◌+◌, ◌-◌, ◌≤◌, Bool, true, false, ◌&&◌, ◌==◌}
-use Rattle.std.proofs.Common.{not, cond}
-use Rattle.std.proofs.Common.{nat_le, List, [], ◌∷◌, ◌++◌, length, map, filter, find, fold}
-use Rattle.std.proofs.Common.{Option, Some, None, IfSome, option_map, is_some, Result, Ok, Err}
-use Rattle.std.proofs.Common.{IfOk}
+use Rattle.std.proofs.Common.{not, cond, nat_le, List, [], ◌∷◌, ◌++◌, length, map, filter, find}
+use Rattle.std.proofs.Common.{fold}
+use Rattle.std.proofs.Common.{Option, Some, None, IfSome, option_map, option_to_list, is_some}
+use Rattle.std.proofs.Common.{Result, Ok, Err, IfOk}
 use Rattle.std.proofs.Common.{refl, sym, ap, ◌∙◌, subst, arith, append-nil, length-append}
-use Rattle.std.proofs.Common.{length-set}
-use Rattle.std.proofs.Common.{eqb-true}
-use Rattle.std.specs.Option.{option_or, option_and_then}
-use Rattle.std.proofs.lemmas.Bool.{false≢true}
+use Rattle.std.proofs.Common.{length-set, eqb-true}
+use Rattle.std.specs.Option.{option_or}
+use Rattle.std.proofs.lemmas.Bool.{and_parts, false≢true}
 use Rattle.std.proofs.lemmas.List.{length-take}
 use Rattle.attempts.specs.declared.Value.{Value}
 use Rattle.formats.specs.declared.events.Event.{Event}
-use Rattle.formats.specs.Events.{same_event}
 use Rattle.formats.proofs.SameEvent.{same_event-equal}
-use Rattle.rounds.specs.Tables.{Entrant, Table, allotted, changed_of, has_number, next_fault}
-use Rattle.rounds.specs.Tables.{replaced, without_last}
+use Rattle.rounds.specs.Tables.{Entrant, Table, allotted, has_number, next_fault, replaced}
+use Rattle.rounds.specs.Tables.{without_last}
 use Rattle.rounds.specs.declared.fault.PutFault.TheVariants as put
 use Rattle.texts.specs.declared.answer.Code.{Code}
 use Rattle.texts.specs.declared.answer.Code.TheVariants as code
 use Rattle.texts.specs.declared.command.AttemptEntry.{AttemptEntry}
 use Rattle.texts.specs.declared.command.Command.{Command}
-use Rattle.texts.specs.declared.command.Command.TheVariants.{Register, Open, Enter, Scramble}
-use Rattle.texts.specs.declared.command.Command.TheVariants.{Attempt, Correct, Strike, SetAdvance}
-use Rattle.texts.specs.declared.command.Command.TheVariants.{Close, SetEdition, Rename, SetRound}
-use Rattle.texts.specs.declared.command.Command.TheVariants.{Rescramble, Withdraw, Reopen}
-use Rattle.texts.specs.declared.command.Command.TheVariants.{Card as CardOf, Fix, Cancel}
+use Rattle.texts.specs.declared.command.Command.TheVariants.{Attempt, Correct, Strike, Fix}
+use Rattle.texts.specs.declared.command.Command.TheVariants.{Card as CardOf}
 use Rattle.texts.specs.declared.command.CardEntry.{CardEntry}
 use Rattle.texts.specs.declared.command.Entered.{Entered}
 use Rattle.texts.specs.declared.command.Remarked.{Remarked}
@@ -36,25 +31,20 @@ use Rattle.texts.specs.Reading.{command_of}
 use Rattle.texts.specs.Editions.{is_spelled_in}
 use Rattle.texts.specs.Table.{rows}
 use Rattle.texts.proofs.Words.{spelled_only}
-use Rattle.commands.specs.Accepted.{edition_in, entered_refusal, is_of, is_registered, put_code}
-use Rattle.commands.specs.Accepted.{put_refusal, refusal, round_in, round_of, scramble_by}
-use Rattle.commands.specs.Accepted.{counts_in, settled, unfit_refusal, values_now, who_advance}
+use Rattle.commands.specs.Accepted.{Opened, edition_in, entered_refusal, entering, entrants_left}
+use Rattle.commands.specs.Accepted.{is_cancelled, is_of, is_registered, just_opened, one_value}
+use Rattle.commands.specs.Accepted.{opened, opened_by, opening, plus_command, put_code}
+use Rattle.commands.specs.Accepted.{put_refusal, refusal, round_at, round_in, round_of}
+use Rattle.commands.specs.Accepted.{scramble_by, takes_out, unfit_refusal, value_counted}
+use Rattle.commands.specs.Accepted.{value_entered, values_now, who_advance, who_wait}
 use Rattle.commands.specs.History.{History, added_read, after, history, is_seen, nothing}
 use Rattle.commands.specs.History.{read_refusal, spelled_refusal}
-use Rattle.commands.specs.model.Kept.{first_of_all, newcomer, waiting_of, with_advance}
-use Rattle.commands.specs.model.Kept.{with_attempt, with_correction, with_end, with_entry}
-use Rattle.commands.specs.model.Kept.{with_exit, with_reopening, with_settings, with_strike}
-use Rattle.commands.specs.model.Cards.{scrambles_of, with_outcomes}
-use Rattle.commands.proofs.CardRounds.{IsOfCard, card_is, fix_is, round_dealt}
-use Rattle.commands.proofs.EachCommand.{opening_table, round_advance, round_attempt, round_close}
-use Rattle.commands.proofs.EachCommand.{round_correct, round_edition, round_enter, round_open}
-use Rattle.commands.proofs.EachCommand.{round_register, round_rename, round_reopen}
-use Rattle.commands.proofs.EachCommand.{round_rescramble, round_scramble, round_settings}
-use Rattle.commands.proofs.EachCommand.{round_strike, round_cancel}
+use Rattle.commands.specs.model.Cards.{IsReadCard}
+use Rattle.commands.specs.model.Kept.{newcomer}
 use Rattle.commands.proofs.Entries.{accepted_new, after_seen}
-use Rattle.commands.proofs.Exits.{round_exit}
 use Rattle.commands.proofs.Known.{read_fit}
-use Rattle.commands.proofs.OneMore.{with_table}
+use Rattle.commands.proofs.OneMore.{entered_last, entrants_at, entrants_more, is_left_by}
+use Rattle.commands.proofs.OneMore.{left_more, one_more, opened_push}
 use Rattle.commands.proofs.ReadCards.{card_read, fix_read}
 
 abbrev pub IsFewEntrant : Entrant → Type 0
@@ -71,35 +61,6 @@ HasFew cs = (e : Event) (r : ℕ) → IfSome (round_of cs e r) IsFewRound
 
 -- ---- entrants
 
-same_number : (n m : ℕ) (change : List Value → List Value) (x : Entrant)
-    → has_number n (changed_of m change x) ≡ has_number n x
-same_number n m change x = step (has_number m x)
-  where
-    step : (b : Bool)
-        → has_number n (cond b (record x { values = change x.values }) x) ≡ has_number n x
-    step true = refl
-    step false = refl
-
-find_changed : (n m : ℕ) (change : List Value → List Value) (es : List Entrant)
-    → find (has_number n) (map (changed_of m change) es)
-    ≡ option_map (changed_of m change) (find (has_number n) es)
-find_changed n m change [] = refl
-find_changed n m change (x ∷ es) =
-    ap
-    (λ b.
-    cond b (Some (changed_of m change x)) (find (has_number n) (map (changed_of m change) es)))
-    (same_number n m change x)
-    ∙ step (has_number n x) (find_changed n m change es)
-  where
-    step : (b : Bool)
-        → find (has_number n) (map (changed_of m change) es)
-        ≡ option_map (changed_of m change) (find (has_number n) es)
-        → cond b (Some (changed_of m change x))
-        (find (has_number n) (map (changed_of m change) es))
-        ≡ option_map (changed_of m change) (cond b (Some x) (find (has_number n) es))
-    step true rest = refl
-    step false rest = rest
-
 found_has : (n : ℕ) (es : List Entrant) (e : Entrant) → find (has_number n) es ≡ Some e
     → has_number n e ≡ true
 found_has n [] e h = absurd (cc)
@@ -109,32 +70,6 @@ found_has n (x ∷ es) e h = step (has_number n x) refl h (λ k. found_has n es 
         → (find (has_number n) es ≡ Some e → has_number n e ≡ true) → has_number n e ≡ true
     step true is k rest = let same : x ≡ e = cc in subst (λ y. has_number n y ≡ true) same is
     step false is k rest = rest k
-
-module _ (m : ℕ) (change : List Value → List Value) (es : List Entrant)
-    (each : (e : Entrant) → find (has_number m) es ≡ Some e → IsFewEntrant e
-    → length (change e.values) ≤ 5) where
-  changed_one : (n : ℕ) (e : Entrant) → find (has_number n) es ≡ Some e → IsFewEntrant e
-      → IsFewEntrant (changed_of m change e)
-  changed_one n e found few = step (has_number m e) refl
-    where
-      step : (b : Bool) → has_number m e ≡ b
-          → IsFewEntrant (cond b (record e { values = change e.values }) e)
-      step false other = few
-      step true here =
-          let first : n ≡ e.number = eqb-true n e.number (found_has n es e found) in
-          let second : m ≡ e.number = eqb-true m e.number here in
-          let same : n ≡ m = cc in
-          each e (subst (λ k. find (has_number k) es ≡ Some e) same found) few
-
-  changed_few : AreFew es → AreFew (map (changed_of m change) es)
-  changed_few few n =
-      subst (λ o. IfSome o IsFewEntrant) (sym (find_changed n m change es))
-      (step (find (has_number n) es) refl (few n))
-    where
-      step : (o : Option Entrant) → find (has_number n) es ≡ o → IfSome o IsFewEntrant
-          → IfSome (option_map (changed_of m change) o) IsFewEntrant
-      step None found h = tt
-      step (Some e) found h = changed_one n e found h
 
 newcomers_few : (ns : List ℕ) → AreFew (map newcomer ns)
 newcomers_few [] n = tt
@@ -158,45 +93,83 @@ appended n (x ∷ xs) ys h k = step (has_number n x) h (λ g. appended n xs ys g
     step true here others = here
     step false here others = others here
 
--- who is left where those of one number leave
-abbrev without : ℕ → List Entrant → List Entrant
-without m es = filter (λ (e : Entrant). not (has_number m e)) es
-
-left_none : (m : ℕ) (es : List Entrant) → find (has_number m) (without m es) ≡ None
-left_none m [] = refl
-left_none m (x ∷ es) = step (has_number m x) refl (left_none m es)
+-- who is left after a command, and with which values
+find_left : (e : Event) (r : ℕ) (settings : Settings) (earlier : List Command) (c : Command) (n : ℕ)
+    (es : List Entrant)
+    → find (has_number n) (left_more e r settings earlier c es)
+    ≡ cond (takes_out e r n c) None
+    (option_map (one_more e r settings earlier c) (find (has_number n) es))
+find_left e r settings earlier c n [] = none (takes_out e r n c)
   where
-    step : (b : Bool) → has_number m x ≡ b → find (has_number m) (without m es) ≡ None
-        → find (has_number m) (cond (not b) (x ∷ without m es) (without m es)) ≡ None
-    step true is rest = rest
-    step false is rest =
-        ap (λ (c : Bool). cond c (Some x) (find (has_number m) (without m es))) is ∙ rest
-
-left_same : (m n : ℕ) (es : List Entrant) → (n == m) ≡ false
-    → find (has_number n) (without m es) ≡ find (has_number n) es
-left_same m n [] other = refl
-left_same m n (x ∷ es) other = step (has_number m x) refl (left_same m n es other)
+    none : (b : Bool) → None ≡ cond b None (option_map (one_more e r settings earlier c) None)
+    none true = refl
+    none false = refl
+find_left e r settings earlier c n (x ∷ es) =
+    step (n == x.number) (takes_out e r x.number c) refl refl
+    (find_left e r settings earlier c n es)
   where
-    step : (b : Bool) → has_number m x ≡ b
-        → find (has_number n) (without m es) ≡ find (has_number n) es
-        → find (has_number n) (cond (not b) (x ∷ without m es) (without m es))
-        ≡ cond (has_number n x) (Some x) (find (has_number n) es)
-    step true is rest =
-        let same : m ≡ x.number = eqb-true m x.number is in
-        let away : has_number n x ≡ false = subst (λ k. (n == k) ≡ false) same other in
-        rest ∙ sym (ap (λ c. cond c (Some x) (find (has_number n) es)) away)
-    step false is rest = ap (λ o. cond (has_number n x) (Some x) o) rest
+    one : Entrant → Entrant
+    one = one_more e r settings earlier c
 
-left_few : (m n : ℕ) (es : List Entrant) → IfSome (find (has_number n) es) IsFewEntrant
-    → IfSome (find (has_number n) (without m es)) IsFewEntrant
-left_few m n es few = step (n == m) refl
+    others : List Entrant
+    others = filter (is_left_by e r c) es
+
+    -- whoever has its number is taken out as it is
+    alike : (t : Bool) → (n == x.number) ≡ true → takes_out e r x.number c ≡ t
+        → takes_out e r n c ≡ t
+    alike t same is = ap (λ (m : ℕ). takes_out e r m c) (eqb-true n x.number same) ∙ is
+
+    step : (b t : Bool) → (n == x.number) ≡ b → takes_out e r x.number c ≡ t
+        → find (has_number n) (map one others)
+        ≡ cond (takes_out e r n c) None (option_map one (find (has_number n) es))
+        → find (has_number n) (map one (cond (not t) (x ∷ others) others))
+        ≡ cond (takes_out e r n c) None (option_map one (cond b (Some x) (find (has_number n) es)))
+    step true true same is rest =
+        rest
+        ∙ ap (λ (b : Bool). cond b None (option_map one (find (has_number n) es)))
+        (alike true same is)
+        ∙ sym (ap (λ (b : Bool). cond b None (Some (one x))) (alike true same is))
+    step true false same is rest =
+        ap (λ (b : Bool). cond b (Some (one x)) (find (has_number n) (map one others))) same
+        ∙ sym (ap (λ (b : Bool). cond b None (Some (one x))) (alike false same is))
+    step false true same is rest = rest
+    step false false same is rest =
+        ap (λ (b : Bool). cond b (Some (one x)) (find (has_number n) (map one others))) same ∙ rest
+
+-- they have few values, if what a command makes of the values of each is few
+left_few : (e : Event) (r : ℕ) (settings : Settings) (earlier : List Command) (c : Command)
+    (es : List Entrant)
+    → ((n : ℕ) (x : Entrant) → find (has_number n) es ≡ Some x → IsFewEntrant x
+    → IsFewEntrant (one_more e r settings earlier c x))
+    → AreFew es → AreFew (left_more e r settings earlier c es)
+left_few e r settings earlier c es each few n =
+    subst (λ (o : Option Entrant). IfSome o IsFewEntrant)
+    (sym (find_left e r settings earlier c n es))
+    (step (takes_out e r n c) (find (has_number n) es) refl (few n))
   where
-    step : (b : Bool) → (n == m) ≡ b → IfSome (find (has_number n) (without m es)) IsFewEntrant
-    step true is =
-        subst (λ o. IfSome o IsFewEntrant)
-        (sym
-        (ap (λ k. find (has_number k) (without m es)) (eqb-true n m is) ∙ left_none m es)) tt
-    step false is = subst (λ o. IfSome o IsFewEntrant) (sym (left_same m n es is)) few
+    step : (b : Bool) (o : Option Entrant) → find (has_number n) es ≡ o → IfSome o IsFewEntrant
+        → IfSome (cond b None (option_map (one_more e r settings earlier c) o)) IsFewEntrant
+    step true o found h = tt
+    step false None found h = tt
+    step false (Some x) found h = each n x found h
+
+-- who comes in has no attempt
+entered_few : (o : Option ℕ) → AreFew (option_to_list (option_map newcomer o))
+entered_few None n = tt
+entered_few (Some m) n = newcomers_few (m ∷ []) n
+
+first_few : (e : Event) (r : ℕ) (settings : Settings) (ns : List ℕ)
+    → AreFew (entrants_left e r settings [] [] ns)
+first_few e r settings [] n = tt
+first_few e r settings (m ∷ ns) n = step (n == m) (first_few e r settings ns n)
+  where
+    step : (b : Bool)
+        → IfSome (find (has_number n) (entrants_left e r settings [] [] ns)) IsFewEntrant
+        → IfSome
+        (cond b (Some (newcomer m)) (find (has_number n) (entrants_left e r settings [] [] ns)))
+        IsFewEntrant
+    step true rest = omega arith
+    step false rest = rest
 
 -- ---- rounds
 
@@ -233,15 +206,6 @@ next_attempt x n k e allowed found =
         last (k == length e.values + 1)
         (nat_le (allotted x.1.format x.1.cutoff e.values) (length e.values)) refl h
 
-attempt_few : (n k : ℕ) (v : Value) (x : Settings × Table) → k ≤ 5 → put_refusal n k x ≡ None
-    → IsFewRound x → AreFew (map (changed_of n (λ vs. vs ++ v ∷ [])) x.1.entrants)
-attempt_few n k v x small allowed few =
-    changed_few n (λ vs. vs ++ v ∷ []) x.1.entrants
-    (λ e found h.
-    let next = next_attempt x n k e allowed found in
-    omega (arith, length-append e.values (v ∷ []), next, small))
-    few
-
 registered_then : (b : Bool) (o : Option Code)
     → cond (not b) (Some code.UnknownCompetitor) o ≡ None → o ≡ None
 registered_then true o h = h
@@ -250,30 +214,6 @@ registered_then false o h = absurd (some≢none code.UnknownCompetitor h)
 then_table : (a b : Option Code) → option_or a b ≡ None → b ≡ None
 then_table None b h = h
 then_table (Some x) b h = absurd (some≢none x h)
-
--- a round that is changed, or not
-changed : (b : Bool) (change : Settings × Table → Settings × Table) (x : Option (Settings × Table))
-    → IfSome x IsFewRound → ((y : Settings × Table) → x ≡ Some y → b ≡ true → IsFewRound y
-    → IsFewRound (change y))
-    → IfSome (cond b (option_map change x) x) IsFewRound
-changed true change None h f = tt
-changed true change (Some y) h f = f y refl refl h
-changed false change x h f = h
-
--- by what the round is after the command
-round_is : (new old : Option (Settings × Table)) → new ≡ old → IfSome old IsFewRound
-    → IfSome new IsFewRound
-round_is new old is h = subst (λ o. IfSome o IsFewRound) (sym is) h
-
-either : (a b : Option (Settings × Table)) → IfSome a IsFewRound → IfSome b IsFewRound
-    → IfSome (option_or a b) IsFewRound
-either None b h k = k
-either (Some x) b h k = h
-
-opening_few : (e f : Event) (r s : ℕ) (settings : Settings) (cs : List Command) (b : Bool)
-    → IfSome (cond b (Some (with_table settings (opening_table f s settings cs))) None) IsFewRound
-opening_few e f r s settings cs true = newcomers_few (who_advance (round_of cs f (s - 1)))
-opening_few e f r s settings cs false = tt
 
 -- an attempt that is accepted is not refused by the table of its round
 put_allowed : (cs : List Command) (entry : AttemptEntry) (e : Event) (r : ℕ) (x : Settings × Table)
@@ -299,13 +239,6 @@ put_allowed cs entry e r x allowed is here =
     (sym there)
     ∙ taken)
 
-exit_few : (m : ℕ) (next : Option ℕ) (x : Settings × Table) → IsFewRound x
-    → IsFewRound (with_exit m next x)
-exit_few m None x few n = left_few m n x.1.entrants (few n)
-exit_few m (Some next) x few n =
-    appended n (without m x.1.entrants) (newcomer next ∷ []) (left_few m n x.1.entrants (few n))
-    (newcomers_few (next ∷ []) n)
-
 shorter : (vs : List Value) → length vs ≤ 5 → length (without_last vs) ≤ 5
 shorter vs few = omega (arith, length-take (length vs - 1) vs, few)
 
@@ -322,100 +255,105 @@ few_now counts k (None ∷ xs) [] =
 few_now counts k (None ∷ xs) (v ∷ vs) =
     let rest = few_now counts (suc k) xs vs in omega (arith, rest)
 
+if_changed : (b : Bool) (new old : List Value) → (b ≡ true → length new ≤ 5) → length old ≤ 5
+    → length (cond b new old) ≤ 5
+if_changed true new old changed few = changed refl
+if_changed false new old changed few = few
+
 -- a card that is accepted
-card_few : (cs : List Command) (c : Command) (card : CardEntry) → IsOfCard c card
-    → length card.now ≤ 5 → HasFew cs → HasFew (cs ++ c ∷ [])
-card_few cs c card is most h e r =
-    let scrambles = scrambles_of cs card.id in
-    round_is _ _ (round_dealt c card is e r cs)
-    (changed (is_of e r card.id) (with_outcomes scrambles card) (round_of cs e r) (h e r)
-    (λ x in_round here few.
-    let counts = counts_in x.0 scrambles in
-    changed_few card.number (values_now counts 1 card.now) x.1.entrants
-    (λ y found few_there.
-    let left = few_now counts 1 card.now y.values in omega (arith, left, most)) few))
+card_few : (b : Bool) (counts : ℕ → Entered → Value) (card : CardEntry) (vs : List Value)
+    → IsReadCard card → length vs ≤ 5
+    → length (cond b (values_now counts 1 card.now vs) vs) ≤ 5
+card_few b counts card vs read few =
+    let left = few_now counts 1 card.now vs in
+    let most = read.few in
+    if_changed b (values_now counts 1 card.now vs) vs (λ h. omega (arith, left, most)) few
+
+-- what a command that is accepted makes of the values of an entrant of a round
+few_values : (cs : List Command) (c : Command) → IsFit c → refusal cs c ≡ None → (e : Event) (r : ℕ)
+    (x : Settings × Table) → round_of cs e r ≡ Some x → (settings : Settings)
+    (earlier : List Command) (n : ℕ) (y : Entrant) → find (has_number n) x.1.entrants ≡ Some y
+    → length y.values ≤ 5
+    → length (one_value e r settings y.number earlier y.values c) ≤ 5
+unfolding rows
+few_values cs (Attempt entry) fits allowed e r x is settings earlier n y found few =
+    let v = value_entered e r settings earlier entry in
+    if_changed (is_of e r entry.id && entry.number == y.number) (y.values ++ v ∷ []) y.values
+    (λ h. longer v (and_parts (is_of e r entry.id) (entry.number == y.number) h)) few
+  where
+    longer : (v : Value) → (is_of e r entry.id ≡ true) × ((entry.number == y.number) ≡ true)
+        → length (y.values ++ v ∷ []) ≤ 5
+    longer v h =
+        let same : n ≡ entry.number =
+        eqb-true n y.number (found_has n x.1.entrants y found)
+        ∙ sym (eqb-true entry.number y.number h.1) in
+        let next =
+        next_attempt x entry.number entry.attempt y (put_allowed cs entry e r x allowed is h.0)
+        (subst (λ (k : ℕ). find (has_number k) x.1.entrants ≡ Some y) same found) in
+        let small = fits.0.1.1.0.1 in
+        omega (arith, length-append y.values (v ∷ []), next, small)
+few_values cs (Correct entry) fits allowed e r x is settings earlier n y found few =
+    let v = value_entered e r settings earlier entry in
+    if_changed (is_of e r entry.id && entry.number == y.number) (replaced entry.attempt v y.values)
+    y.values (λ h. omega (arith, length-set y.values (entry.attempt - 1) v, few)) few
+few_values cs (Strike id m) fits allowed e r x is settings earlier n y found few =
+    if_changed (is_of e r id && m == y.number) (without_last y.values) y.values
+    (λ h. shorter y.values few) few
+few_values cs (CardOf card) fits allowed e r x is settings earlier n y found few =
+    card_few (is_of e r card.id && card.number == y.number)
+    (value_counted e r settings earlier) card y.values (card_read card fits) few
+few_values cs (Fix card) fits allowed e r x is settings earlier n y found few =
+    card_few (is_of e r card.id && card.number == y.number)
+    (value_counted e r settings earlier) card y.values (fix_read card fits) few
+few_values cs _ fits allowed e r x is settings earlier n y found few = few
 
 -- one more command that is accepted
 few_more : (cs : List Command) (c : Command) → IsFit c → refusal cs c ≡ None → HasFew cs
     → HasFew (cs ++ c ∷ [])
-unfolding rows
-few_more cs (Register n name) fits allowed h e r =
-    round_is _ _ (round_register e r n name cs) (h e r)
-few_more cs (Open id settings) fits allowed h e r =
-    round_is _ _ (round_open e id.event r id.round settings cs fits.0.1.0.0)
-    (either _ _ (h e r)
-    (opening_few e id.event r id.round settings cs (same_event e id.event && r == id.round)))
-few_more cs (Enter f n) fits allowed h e r =
-    round_is _ _ (round_enter e f r n cs)
-    (changed (same_event e f && r == 1) (with_entry n) (round_of cs e r) (h e r)
-    (λ x is here few m.
-    appended m x.1.entrants (newcomer n ∷ []) (few m) (newcomers_few (n ∷ []) m)))
-few_more cs (Scramble id k moves) fits allowed h e r =
-    round_is _ _ (round_scramble e id.event r id.round k moves cs) (h e r)
-few_more cs (Attempt entry) fits allowed h e r =
-    let scramble = scramble_by cs entry in
-    round_is _ _
-    (round_attempt e entry.id.event r entry.id.round entry.attempt entry.number entry.outcome cs)
-    (changed (is_of e r entry.id) (with_attempt entry.number scramble entry.outcome)
-    (round_of cs e r) (h e r)
-    (λ x is here few.
-    attempt_few entry.number entry.attempt (settled x.0 scramble entry.outcome) x fits.0.1.1.0.1
-    (put_allowed cs entry e r x allowed is here) few))
-few_more cs (Correct entry) fits allowed h e r =
-    let scramble = scramble_by cs entry in
-    round_is _ _
-    (round_correct e entry.id.event r entry.id.round entry.attempt entry.number entry.outcome cs)
-    (changed (is_of e r entry.id)
-    (with_correction entry.number entry.attempt scramble entry.outcome) (round_of cs e r) (h e r)
-    (λ x is here few.
-    let v = settled x.0 scramble entry.outcome in
-    changed_few entry.number (replaced entry.attempt v) x.1.entrants
-    (λ y found few_there. omega (arith, length-set y.values (entry.attempt - 1) v, few_there))
-    few))
-few_more cs (Strike id m) fits allowed h e r =
-    round_is _ _ (round_strike e id.event r id.round m cs)
-    (changed (is_of e r id) (with_strike m) (round_of cs e r) (h e r)
-    (λ x is here few.
-    changed_few m without_last x.1.entrants
-    (λ y found few_there. shorter y.values few_there) few))
-few_more cs (SetAdvance id advance) fits allowed h e r =
-    round_is _ _ (round_advance e id.event r id.round advance cs)
-    (changed (is_of e r id) (with_advance advance) (round_of cs e r) (h e r)
-    (λ x is here few. few))
-few_more cs (Close id) fits allowed h e r =
-    round_is _ _ (round_close e id.event r id.round cs)
-    (changed (is_of e r id) with_end (round_of cs e r) (h e r) (λ x is here few. few))
-few_more cs (SetEdition edition) fits allowed h e r =
-    round_is _ _ (round_edition e r edition cs) (h e r)
-few_more cs (Rename n name) fits allowed h e r =
-    round_is _ _ (round_rename e r n name cs) (h e r)
-few_more cs (SetRound id form cutoff limit) fits allowed h e r =
-    round_is _ _ (round_settings e id.event r id.round form cutoff limit cs)
-    (changed (is_of e r id) (with_settings form cutoff limit) (round_of cs e r) (h e r)
-    (λ x is here few. few))
-few_more cs (Rescramble id k moves) fits allowed h e r =
-    round_is _ _ (round_rescramble e id.event r id.round k moves cs) (h e r)
-few_more cs (Withdraw id m) fits allowed h e r =
-    let next : Option ℕ =
-    option_and_then first_of_all (waiting_of cs id.event id.round) in
-    round_is _ _ (round_exit e id.event r id.round m cs)
-    (changed (is_of e r id) (with_exit m next) (round_of cs e r) (h e r)
-    (λ x is here few. exit_few m next x few))
-few_more cs (Reopen id) fits allowed h e r =
-    round_is _ _ (round_reopen e id.event r id.round cs)
-    (changed (is_of e r id) with_reopening (round_of cs e r) (h e r) (λ x is here few. few))
-few_more cs (CardOf card) fits allowed h e r =
-    card_few cs (CardOf card) card (card_is card) (card_read card fits).few h e r
-few_more cs (Fix card) fits allowed h e r =
-    card_few cs (Fix card) card (fix_is card) (fix_read card fits).few h e r
-few_more cs (Cancel id) fits allowed h e r =
-    round_is _ _ (round_cancel e id.event r id.round cs)
-    (none_left (same_event e id.event && r == id.round) (round_of cs e r) (h e r))
+unfolding round_in
+few_more cs c fits allowed h e zero = tt
+few_more cs c fits allowed h e (suc r) =
+    subst (λ (o : Option Opened). IfSome (option_map at o) IsFewRound)
+    (sym (opened_push e (suc r) cs c)) (step (opened e (suc r) [] cs) refl (h e (suc r)))
   where
-    none_left : (b : Bool) (o : Option (Settings × Table)) → IfSome o IsFewRound
-        → IfSome (cond b None o) IsFewRound
-    none_left true o few = tt
-    none_left false o few = few
+    at : Opened → Settings × Table
+    at o = round_at e (suc r) (round_in e r o.before) o
+
+    -- a round that the command opens
+    first : (o : Option Settings)
+        → IfSome (option_map at (option_map (just_opened cs) o)) IsFewRound
+    first None = tt
+    first (Some settings) = λ n.
+        let ns = who_advance (round_in e r cs) in
+        appended n (entrants_left e (suc r) settings [] [] ns) []
+        (first_few e (suc r) settings ns n) tt
+
+    -- one that is open
+    later : (o : Opened) → opened e (suc r) [] cs ≡ Some o → IsFewRound (at o)
+        → IsFewRound (at (plus_command c o))
+    later o is few n =
+        let before = round_in e r o.before in
+        let es = entrants_at e (suc r) before o in
+        subst (λ (xs : List Entrant). IfSome (find (has_number n) xs) IsFewEntrant)
+        (sym (entrants_more e (suc r) before o c))
+        (appended n (left_more e (suc r) o.settings o.since c es)
+        (entered_last e (suc r) (who_wait before) o.since c)
+        (left_few e (suc r) o.settings o.since c es
+        (few_values cs c fits allowed e (suc r) (at o) (ap (option_map at) is) o.settings o.since)
+        few n)
+        (entered_few (entering e (suc r) (who_wait before) o.since c) n))
+
+    -- one that is open, unless the command takes it back
+    left : (b : Bool) (o : Opened) → opened e (suc r) [] cs ≡ Some o → IsFewRound (at o)
+        → IfSome (option_map at (cond b None (Some (plus_command c o)))) IsFewRound
+    left true o is few = tt
+    left false o is few = later o is few
+
+    step : (x : Option Opened) → opened e (suc r) [] cs ≡ x
+        → IfSome (option_map at x) IsFewRound
+        → IfSome (option_map at (opened_by e (suc r) cs x c)) IsFewRound
+    step None is few = first (opening e (suc r) c)
+    step (Some o) is few = left (is_cancelled e (suc r) c) o is few
 
 -- ---- entries
 

@@ -1,4 +1,4 @@
-use Rattle.std.proofs.Common.{◌≡◌, ◌+◌, ◌++◌, ◌≤◌, drop}
+use Rattle.std.proofs.Common.{◌≡◌, ◌+◌, ◌++◌, drop}
 use Rattle.card_queue.specs.Sending.{command_entries}
 use Rattle.card_queue.proofs.entries.text_entries.Given as goal
 
