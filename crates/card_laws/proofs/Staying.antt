@@ -1,8 +1,7 @@
 -- What a round holds of an entrant, it holds until a command names that one.
 use Rattle.std.proofs.Common.{◌≡◌, ℕ, zero, suc, Bool, true, false, ◌==◌, ◌&&◌, cond, List, []}
-use Rattle.std.proofs.Common.{◌∷◌, ◌++◌, Option, Some, None, option_map, refl}
-use Rattle.std.proofs.Common.{sym}
-use Rattle.std.proofs.Common.{ap, ◌∙◌, append_assoc, append-nil}
+use Rattle.std.proofs.Common.{◌∷◌, ◌++◌, find, Option, Some, None, option_map, refl, sym, ap, ◌∙◌}
+use Rattle.std.proofs.Common.{append_assoc, append-nil}
 use Rattle.std.specs.List.{AllByRecursion}
 use Rattle.std.specs.Option.{option_and_then}
 use Rattle.std.proofs.lemmas.List.Elements.{recursion_from_All}
@@ -11,29 +10,26 @@ use Rattle.formats.specs.declared.events.Event.{Event}
 use Rattle.formats.specs.Events.{same_event}
 use Rattle.texts.specs.declared.command.Command.{Command}
 use Rattle.texts.specs.declared.command.Command.TheVariants.{Open, Enter}
-use Rattle.texts.specs.declared.command.Command.TheVariants.{Attempt, Correct, Strike, SetAdvance}
-use Rattle.texts.specs.declared.command.Command.TheVariants.{Close, SetRound}
-use Rattle.texts.specs.declared.command.Command.TheVariants.{Withdraw, Reopen}
+use Rattle.texts.specs.declared.command.Command.TheVariants.{Attempt, Correct, Strike, Withdraw}
 use Rattle.texts.specs.declared.command.Command.TheVariants.{Card, Fix, Cancel}
 use Rattle.texts.specs.declared.command.CardEntry.{CardEntry}
 use Rattle.texts.specs.declared.command.RoundId.{RoundId}
 use Rattle.texts.specs.declared.command.Settings.{Settings}
-use Rattle.rounds.specs.Tables.{Entrant, Table, entrant, replaced, without_last}
+use Rattle.rounds.specs.Tables.{Entrant, Table, entrant, has_number, replaced, without_last}
 use Rattle.commands.specs.Accepted.{Opened, opened, opened_by, is_cancelled, is_of, round_at}
+use Rattle.commands.specs.Accepted.{plus_command, entering}
 use Rattle.commands.specs.Accepted.{round_in, round_of, scramble_of, settled, values_now}
 use Rattle.commands.specs.Accepted.{counts_in}
 use Rattle.commands.specs.model.Cards.{scrambles_of, with_outcomes}
-use Rattle.commands.specs.model.Kept.{with_attempt, with_correction, with_strike, with_advance}
-use Rattle.commands.specs.model.Kept.{with_end, with_entry, with_settings, with_exit}
-use Rattle.commands.specs.model.Kept.{with_reopening}
-use Rattle.commands.specs.model.Kept.{waiting_of, first_of_all}
+use Rattle.commands.specs.model.Kept.{with_attempt, with_correction, with_strike, with_entry}
+use Rattle.commands.specs.model.Kept.{with_exit, waiting_of, first_of_all}
 use Rattle.commands.proofs.CardRounds.{IsOfCard, card_is, fix_is, round_dealt}
-use Rattle.commands.proofs.EachCommand.{round_attempt, round_correct, round_strike, round_advance}
-use Rattle.commands.proofs.EachCommand.{round_settings, round_close, round_reopen, round_enter}
-use Rattle.commands.proofs.EachCommand.{round_cancel, round_same}
+use Rattle.commands.proofs.EachCommand.{round_attempt, round_correct, round_strike, round_enter}
+use Rattle.commands.proofs.EachCommand.{round_cancel}
 use Rattle.commands.proofs.Exits.{round_exit}
 use Rattle.commands.proofs.Lookups.{some≢none}
-use Rattle.commands.proofs.OneMore.{opened_push, still}
+use Rattle.commands.proofs.OneMore.{keeps_open, opened_push, opened_kept, round_more, same_entrants}
+use Rattle.commands.proofs.OneMore.{still, TakesNobodyOut, KeepsValues}
 use Rattle.card_laws.specs.Holding.{held, names, HoldsUntilNamed}
 use Rattle.card_laws.proofs.Entrants.{found_append, found_changed, found_exit}
 
@@ -76,6 +72,30 @@ open_kept cs id settings e (suc r) n one h =
         (still e (suc r) (round_in e r o.before) (Open id settings) o (λ s. refl) refl
         (λ waiting earlier. refl) (λ m. refl) (λ s earlier x. refl))
         ∙ h
+
+-- a command that enters nobody, takes nobody out and changes no values leaves the entrants, whatever
+-- else it does to their round
+others_kept : (cs : List Command) (c : Command) (e : Event) (r n : ℕ) → keeps_open e r c ≡ true
+    → ((waiting : List ℕ) (earlier : List Command) → entering e r waiting earlier c ≡ None)
+    → TakesNobodyOut e r c → KeepsValues e r c
+    → held n (round_of (cs ++ c ∷ []) e r) ≡ held n (round_of cs e r)
+unfolding round_in
+others_kept cs c e zero n keeps nobody stay same = refl
+others_kept cs c e (suc r) n keeps nobody stay same =
+    ap (λ (o : Option Opened). held n (option_map at o)) (opened_kept e (suc r) cs c keeps)
+    ∙ step (opened e (suc r) [] cs)
+  where
+    at : Opened → Settings × Table
+    at o = round_at e (suc r) (round_in e r o.before) o
+
+    step : (o : Option Opened)
+        → held n (option_map at (option_map (plus_command c) o)) ≡ held n (option_map at o)
+    step None = refl
+    step (Some o) =
+        ap (λ (round : Settings × Table). entrant round.1 n)
+        (round_more e (suc r) (round_in e r o.before) o c)
+        ∙ ap (λ (es : List Entrant). find (has_number n) es)
+        (same_entrants e (suc r) (round_in e r o.before) o c nobody stay same)
 
 -- a card of another number leaves the entrant
 dealt_kept : (cs : List Command) (c : Command) (card : CardEntry) → IsOfCard c card → (e : Event)
@@ -146,24 +166,8 @@ one_more cs (Enter f m) e r n one h unnamed stays =
     ∙ kept n one (same_event e f && r == 1) (with_entry m) (round_of cs e r)
     (λ here round found.
     found_append n round.1.entrants (record { number = m; values = [] } ∷ []) one found) h
-one_more cs (SetAdvance id advance) e r n one h unnamed stays =
-    ap (held n) (round_advance e id.event r id.round advance cs)
-    ∙ kept n one (is_of e r id) (with_advance advance) (round_of cs e r)
-    (λ here round found. found) h
-one_more cs (Close id) e r n one h unnamed stays =
-    ap (held n) (round_close e id.event r id.round cs)
-    ∙ kept n one (is_of e r id) with_end (round_of cs e r) (λ here round found. found) h
-one_more cs (Reopen id) e r n one h unnamed stays =
-    ap (held n) (round_reopen e id.event r id.round cs)
-    ∙ kept n one (is_of e r id) with_reopening (round_of cs e r) (λ here round found. found) h
-one_more cs (SetRound id format cutoff limit) e r n one h unnamed stays =
-    ap (held n) (round_settings e id.event r id.round format cutoff limit cs)
-    ∙ kept n one (is_of e r id) (with_settings format cutoff limit) (round_of cs e r)
-    (λ here round found. found) h
 one_more cs c e r n one h unnamed stays =
-    ap (held n)
-    (round_same e r cs c refl (λ settings. refl) refl (λ waiting earlier. refl) (λ m. refl)
-    (λ settings earlier x. refl))
+    others_kept cs c e r n refl (λ waiting earlier. refl) (λ m. refl) (λ settings earlier x. refl)
     ∙ h
 
 holds : (cs later : List Command) (e : Event) (r n : ℕ) (one : Entrant)

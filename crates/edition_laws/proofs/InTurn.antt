@@ -5,11 +5,7 @@ use Rattle.std.proofs.Common.{None, refl, sym, ap, arith, add-one}
 use Rattle.std.proofs.lemmas.List.Sums.{sum_by-append, sum_by-cons}
 use Rattle.formats.specs.declared.events.Event.{Event}
 use Rattle.texts.specs.declared.command.Command.{Command}
-use Rattle.texts.specs.declared.command.Command.TheVariants.{Register, Open, Enter, Scramble}
-use Rattle.texts.specs.declared.command.Command.TheVariants.{Attempt, Correct, Strike, SetAdvance}
-use Rattle.texts.specs.declared.command.Command.TheVariants.{Close, SetEdition, Rename, SetRound}
-use Rattle.texts.specs.declared.command.Command.TheVariants.{Rescramble, Withdraw, Reopen}
-use Rattle.texts.specs.declared.command.Command.TheVariants.{Card, Fix, Cancel}
+use Rattle.texts.specs.declared.command.Command.TheVariants.{Withdraw}
 use Rattle.advancement.specs.Waiting.{next_of}
 use Rattle.advancement.proofs.Turns.{in_turn}
 use Rattle.commands.specs.Accepted.{is_of, is_withdrawal}
@@ -49,23 +45,7 @@ taken_once e r ns earlier (Withdraw id n) = step (is_of e r id)
         ≡ cond b (option_to_list (slice_get ns (count_by (is_withdrawal e r) earlier))) []
     step true = refl
     step false = refl
-taken_once e r ns earlier (Register n name) = refl
-taken_once e r ns earlier (Open id settings) = refl
-taken_once e r ns earlier (Enter f n) = refl
-taken_once e r ns earlier (Scramble id k moves) = refl
-taken_once e r ns earlier (Attempt entry) = refl
-taken_once e r ns earlier (Correct entry) = refl
-taken_once e r ns earlier (Strike id n) = refl
-taken_once e r ns earlier (SetAdvance id advance) = refl
-taken_once e r ns earlier (Close id) = refl
-taken_once e r ns earlier (SetEdition edition) = refl
-taken_once e r ns earlier (Rename n name) = refl
-taken_once e r ns earlier (SetRound id format cutoff limit) = refl
-taken_once e r ns earlier (Rescramble id k moves) = refl
-taken_once e r ns earlier (Reopen id) = refl
-taken_once e r ns earlier (Card card) = refl
-taken_once e r ns earlier (Fix card) = refl
-taken_once e r ns earlier (Cancel id) = refl
+taken_once e r ns earlier _ = refl
 
 -- of those who wait as many are taken in as withdraw, from the first of them on that is left
 taken_are : (e : Event) (r : ℕ) (ns : List ℕ) (earlier cs : List Command)
