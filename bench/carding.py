@@ -169,9 +169,38 @@ def cancel(made, which):
     made.add(f"CANCEL {made.what} {which}")
 
 
+def field(made, which, reader):
+    """What a field may have that is read so: mostly what goes with the round."""
+    chance, what = made.chance, made.what
+    if reader in (rules.EVENT, rules.ROUND, rules.WHO):
+        return {rules.EVENT: what, rules.ROUND: which}.get(reader) or somebody(made, which)
+    limited = (what not in rules.TAKES) == (chance.random() < 0.9)
+    return chance.choice({
+        rules.COUNT: [1, 2, 3, 5],
+        rules.FORMAT: rules.FORMATS[what],
+        rules.cutoff: ["-", "-", "1:1150"],
+        rules.limit: ["60000", "1000", "360000"] if limited else ["-"],
+        rules.advance: ["final", "top:3", "pct:75"],
+        rules.moves: ["R", "L2 U'"],
+        rules.outcome: ["DNF", "DNS", "T:1000:0"],
+        rules.clear_name: ["Ann Li", "Bo Ek", "No 8"],
+        rules.WAS: ["-"],
+        rules.NOW: ["DNF", "-"],
+    }[reader])
+
+
+def of_table(made, which):
+    """A line of any word of the table but EDITION, its fields by the table alone."""
+    words = [word for word in rules.WORDS_OF_FOUR if word != b"EDITION"]
+    word = made.chance.choice(words)
+    readers, _ = rules.WORDS_OF_FOUR[word]
+    fields = [str(field(made, which, reader)) for reader in readers]
+    made.add(" ".join([word.decode(), *fields]))
+
+
 def other(made, which):
     """A line of edition 4, of any kind."""
-    kind = chosen(made.chance, 8, card, 6, fix, 2, cancel, 1, None)
+    kind = chosen(made.chance, 8, card, 6, fix, 2, cancel, 2, of_table, 1, None)
     if kind is None:
         return made.add(made.chance.choice(ODD_LINES))
     kind(made, which if made.chance.random() < 0.7 else made.chance.randint(1, 4))
