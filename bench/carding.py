@@ -351,10 +351,21 @@ def solutions(made):
             made.other(1)
 
 
+def is_done(made, front):
+    return any(line.startswith(front) and code == "Done"
+               for line, code in zip(made.lines, made.codes))
+
+
 def finish(made):
-    """What is done at the end of a day."""
+    """What is done at the end of a day: cards too, where none was done before."""
     chance = made.chance
     last = max((which for what, which in made.meet.rounds if what == made.what), default=1)
+    if not is_done(made, b"CARD "):
+        made.add("EDITION 4")
+        if (made.what, last) in made.meet.rounds and made.meet.rounds[made.what, last].closed:
+            made.add(f"REOPEN {made.what} {last}")
+        for _ in range(4):
+            card(made, last)
     for _ in range(chance.choice([0, 1, 3])):
         fix(made, chance.randint(1, last))
     if chance.random() < 0.2:

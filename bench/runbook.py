@@ -187,8 +187,9 @@ class Runbook:
         expect("what is said at the end", "15 accepted, 0 refused\n" in err, True)
 
     def replayed(self, block):
-        self.told(block, "333 round 1 ao5 closed .*")
-        expect("the sheet of the log", self.last, self.sheet)
+        """The sheet again, after a line for each command of the log that was refused."""
+        self.told(block, r"(refused \d+ \w+\n)*333 round 1 ao5 closed .*")
+        expect("the sheet of the log", re.sub(r"^(refused .*\n)*", "", self.last), self.sheet)
 
     def sheet_now(self, block):
         self.told(block, "333 round 1 ao5 .*")
@@ -283,8 +284,9 @@ class Runbook:
                  lambda: self.page(self.of_table, "/card/333-1")[0] == 200)
 
     def enter_card(self):
-        """The last attempt, by a card on which all five stand, once the table has the others."""
-        wait_for("what was typed, at the score table", lambda: "1 of 2 done, 1 in the middle" in (
+        """The last attempt, by a card on which all five stand, once the table has the others: a
+        card that comes before them would enter them once more."""
+        wait_for("the fourth attempt, at the score table", lambda: "<td>10.42</td>" in (
             self.page(self.of_table, "/card/333-1")[1]))
         _, text = self.page(self.of_table, "/card/333-1")
         fields = dict(re.findall(r'name="(token|id)" value="([^"]+)"', text))

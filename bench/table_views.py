@@ -521,15 +521,15 @@ class Pages:
                 out += f"<h2>{heading}</h2>\n<ul>\n{self.entrants(where, numbers)}</ul>\n"
         out += self.never_came(where, table)
         text, back = f"CLOSE {where.replace('-', ' ')}", f"/rounds?round={where}"
-        again = (", unless it is opened again before the next round is opened"
-                 if self.meet.edition >= 3 else "")
+        after = ("It can be opened again until the next round is opened."
+                 if self.meet.edition >= 3 else "Nothing in it changes afterwards.")
         return (out + self.through(where, table) + self.changing(what, where, table)
                 + "<h2>Change who goes on</h2>\n"
                 + self.form(1, "ADV", back) + hidden("round", where) + "\n"
                 + self.advance_fields(table.advance)
                 + self.button("Change who goes on") + "<h2>Close the round</h2>\n"
                 + self.form(0, "CLOSE", back) + hidden("round", where) + "\n" + hidden("text", text)
-                + f"\n<p>Nothing in it changes afterwards{again}. This is sent: "
+                + f"\n<p>{after} This is sent: "
                 f"<code>{text}</code></p>\n"
                 + self.button("Close the round"))
 

@@ -7,8 +7,8 @@
 
 `lines` prints the command lines of a file, or `fault: ` and a text for each fault. `cases` prints
 the first part of the input of `files` of tests/bytes, its imports, and what it has to print for
-them: the files of examples/wcif and small changes of them. `big` prints examples/wcif/large.json. It
-is written from the definition of what a desk holds (docs/FORMATS.md) and uses nothing of the
+them: the files of examples/wcif and small changes of them. `big` prints examples/wcif/large.json.
+It is written from the definition of what a desk holds (docs/FORMATS.md) and uses nothing of the
 repository.
 
     for it in wcif wcif_results results_json; do bench/$it.py cases stdin; done

@@ -61,11 +61,9 @@ change token form id advance back =
     codes "<h2>Change who goes on</h2>\n" ++ form_start token form (codes "ADV") back
     ++ round_value id ++ advance_fields advance ++ button (codes "Change who goes on")
 
--- in edition 3 a closed round can be opened again
+-- from edition 3 on a closed round can be opened again
 abbrev pub closing_words : Bool → List ℕ
-closing_words true =
-    codes "Nothing in it changes afterwards, unless it is opened again before the next round is "
-    ++ codes "opened."
+closing_words true = codes "It can be opened again until the next round is opened."
 closing_words false = codes "Nothing in it changes afterwards."
 
 abbrev pub closing_line : Bool → List ℕ → List ℕ

@@ -120,13 +120,12 @@ fn push_change(
     push_button(out, b"Change who goes on")
 }
 
-/// What becomes of a round that is closed: in edition 3 it can be opened again.
+/// What becomes of a round that is closed: from edition 3 on it can be opened again.
 fn closing_words(mends: bool) -> &'static [u8]
     ensures { result.now ≡ closing_words mends }
 {
     if mends {
-        b"Nothing in it changes afterwards, unless it is opened again before the next round is \
-opened."
+        b"It can be opened again until the next round is opened."
     } else {
         b"Nothing in it changes afterwards."
     }
