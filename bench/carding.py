@@ -238,6 +238,8 @@ def opened_again(made, which, entrants):
 def begin(made, which, entrants):
     """What is done once a round was opened, before attempts are."""
     chance = made.chance
+    for _ in range(chance.choice([0, 0, 1, 3])):
+        of_table(made, which)
     if which > 1:
         for _ in range(chance.choice([0, 0, 1, 2, 4])):
             fix(made, which - 1)
