@@ -73,8 +73,8 @@ open_kept cs id settings e (suc r) n one h =
         (λ waiting earlier. refl) (λ m. refl) (λ s earlier x. refl))
         ∙ h
 
--- a command that enters nobody, takes nobody out and changes no values leaves the entrants, whatever
--- else it does to their round
+-- a command that enters nobody, takes nobody out and changes no values leaves the entrants,
+-- whatever else it does to their round
 others_kept : (cs : List Command) (c : Command) (e : Event) (r n : ℕ) → keeps_open e r c ≡ true
     → ((waiting : List ℕ) (earlier : List Command) → entering e r waiting earlier c ≡ None)
     → TakesNobodyOut e r c → KeepsValues e r c
