@@ -17,7 +17,6 @@ use Rattle.texts.specs.declared.command.RoundId.{RoundId}
 use Rattle.texts.specs.declared.command.Settings.{Settings}
 use Rattle.rounds.specs.Tables.{Entrant, Table, entrant, has_number, replaced, without_last}
 use Rattle.commands.specs.Accepted.{Opened, opened, opened_by, is_cancelled, is_of, round_at}
-use Rattle.commands.specs.Accepted.{plus_command, entering}
 use Rattle.commands.specs.Accepted.{round_in, round_of, scramble_of, settled, values_now}
 use Rattle.commands.specs.Accepted.{counts_in}
 use Rattle.commands.specs.model.Cards.{scrambles_of, with_outcomes}
@@ -28,8 +27,7 @@ use Rattle.commands.proofs.EachCommand.{round_attempt, round_correct, round_stri
 use Rattle.commands.proofs.EachCommand.{round_cancel}
 use Rattle.commands.proofs.Exits.{round_exit}
 use Rattle.commands.proofs.Lookups.{some≢none}
-use Rattle.commands.proofs.OneMore.{keeps_open, opened_push, opened_kept, round_more, same_entrants}
-use Rattle.commands.proofs.OneMore.{still, TakesNobodyOut, KeepsValues}
+use Rattle.commands.proofs.OneMore.{opened_push, others_kept, still}
 use Rattle.card_laws.specs.Holding.{held, names, HoldsUntilNamed}
 use Rattle.card_laws.proofs.Entrants.{found_append, found_changed, found_exit}
 
@@ -72,30 +70,6 @@ open_kept cs id settings e (suc r) n one h =
         (still e (suc r) (round_in e r o.before) (Open id settings) o (λ s. refl) refl
         (λ waiting earlier. refl) (λ m. refl) (λ s earlier x. refl))
         ∙ h
-
--- a command that enters nobody, takes nobody out and changes no values leaves the entrants,
--- whatever else it does to their round
-others_kept : (cs : List Command) (c : Command) (e : Event) (r n : ℕ) → keeps_open e r c ≡ true
-    → ((waiting : List ℕ) (earlier : List Command) → entering e r waiting earlier c ≡ None)
-    → TakesNobodyOut e r c → KeepsValues e r c
-    → held n (round_of (cs ++ c ∷ []) e r) ≡ held n (round_of cs e r)
-unfolding round_in
-others_kept cs c e zero n keeps nobody stay same = refl
-others_kept cs c e (suc r) n keeps nobody stay same =
-    ap (λ (o : Option Opened). held n (option_map at o)) (opened_kept e (suc r) cs c keeps)
-    ∙ step (opened e (suc r) [] cs)
-  where
-    at : Opened → Settings × Table
-    at o = round_at e (suc r) (round_in e r o.before) o
-
-    step : (o : Option Opened)
-        → held n (option_map at (option_map (plus_command c) o)) ≡ held n (option_map at o)
-    step None = refl
-    step (Some o) =
-        ap (λ (round : Settings × Table). entrant round.1 n)
-        (round_more e (suc r) (round_in e r o.before) o c)
-        ∙ ap (λ (es : List Entrant). find (has_number n) es)
-        (same_entrants e (suc r) (round_in e r o.before) o c nobody stay same)
 
 -- a card of another number leaves the entrant
 dealt_kept : (cs : List Command) (c : Command) (card : CardEntry) → IsOfCard c card → (e : Event)
@@ -167,7 +141,9 @@ one_more cs (Enter f m) e r n one h unnamed stays =
     (λ here round found.
     found_append n round.1.entrants (record { number = m; values = [] } ∷ []) one found) h
 one_more cs c e r n one h unnamed stays =
-    others_kept cs c e r n refl (λ waiting earlier. refl) (λ m. refl) (λ settings earlier x. refl)
+    others_kept (held n) cs c e r
+    (λ x y same. ap (λ (es : List Entrant). find (has_number n) es) same) refl
+    (λ waiting earlier. refl) (λ m. refl) (λ settings earlier x. refl)
     ∙ h
 
 holds : (cs later : List Command) (e : Event) (r n : ℕ) (one : Entrant)

@@ -10,27 +10,25 @@ use Rattle.std.specs.Option.{option_or, option_map_or, option_and_then}
 use Rattle.std.proofs.lemmas.Bool.{false≢true}
 use Rattle.cube.specs.declared.moves.Move.{Move}
 use Rattle.formats.specs.declared.events.Event.{Event}
-use Rattle.formats.specs.declared.events.Format.{Format}
 use Rattle.formats.specs.Events.{same_event, unit_of, attempts_of}
 use Rattle.formats.proofs.SameEvent.{same_event-equal}
 use Rattle.texts.specs.declared.answer.Code.{Code}
 use Rattle.texts.specs.declared.answer.Code.TheVariants as code
 use Rattle.texts.specs.declared.command.Command.{Command}
 use Rattle.texts.specs.declared.command.Command.TheVariants.{Register, Open, Enter, Scramble}
-use Rattle.texts.specs.declared.command.Command.TheVariants.{Attempt, Correct, Strike, SetAdvance}
-use Rattle.texts.specs.declared.command.Command.TheVariants.{Close, SetEdition, Rename, SetRound}
-use Rattle.texts.specs.declared.command.Command.TheVariants.{Rescramble, Withdraw, Reopen, Cancel}
+use Rattle.texts.specs.declared.command.Command.TheVariants.{Attempt, Correct, SetEdition, Rename}
+use Rattle.texts.specs.declared.command.Command.TheVariants.{Rescramble, Withdraw, Cancel}
 use Rattle.texts.specs.declared.command.Entered.{Entered}
+use Rattle.texts.specs.declared.command.RoundId.{RoundId}
 use Rattle.texts.specs.declared.command.Settings.{Settings}
 use Rattle.texts.specs.Fields.{round_id, attempt_entry}
 use Rattle.commands.specs.declared.kept_rounds.KeptRound.{KeptRound}
 use Rattle.commands.specs.declared.index.Index.{Index}
 use Rattle.rounds.specs.Tables.{Table, close_fault, entrant, has_done, is_entered}
-use Rattle.rounds.specs.Tables.{replaced, standings, without_last}
-use Rattle.formats.specs.declared.advance.Advance.{Advance}
+use Rattle.rounds.specs.Tables.{replaced, standings}
 use Rattle.advancement.specs.Advancing.{holds_of}
 use Rattle.commands.specs.Accepted.{name_given, renaming, Opened, opened as opened_in}
-use Rattle.commands.specs.Accepted.{is_cancelled, competitors_seen}
+use Rattle.commands.specs.Accepted.{is_cancelled, is_of, competitors_seen}
 use Rattle.commands.specs.Accepted.{scrambling, rescrambling, scramble_of, settled, is_withdrawal}
 use Rattle.commands.specs.Accepted.{is_moves, scramble_refusal, rescramble_refusal}
 use Rattle.commands.specs.Accepted.{end_refusal, close_refusal}
@@ -44,16 +42,14 @@ use Rattle.commands.specs.model.Kept.{IsApart, ChangesRound, EntersRound, Exchan
 use Rattle.commands.specs.model.Kept.{AddsScramble, IsAsBefore, kept_solved, kept_value, place_in}
 use Rattle.commands.specs.model.Kept.{waiting_in, solved_in, seen_in, seen_from, kept_seen}
 use Rattle.commands.specs.model.Kept.{before_of, kept_competitors, Cancels}
-use Rattle.commands.specs.model.Kept.{with_attempt, with_correction, with_strike, with_advance}
-use Rattle.commands.specs.model.Kept.{with_end, with_entry, with_settings, with_exit}
-use Rattle.commands.specs.model.Kept.{with_reopening, with_newcomers, table_opened}
+use Rattle.commands.specs.model.Kept.{with_attempt, with_correction, with_entry, with_exit}
+use Rattle.commands.specs.model.Kept.{with_newcomers, table_opened}
 use Rattle.commands.proofs.Apart.{nobody_waits, apart_same, changed_stays}
 use Rattle.commands.proofs.Apart.{apart_exit, apart_opened, apart_added, apart_changed}
 use Rattle.commands.proofs.Lookups.{at_end, found_push}
-use Rattle.commands.proofs.EachCommand.{round_attempt, round_correct, round_strike, round_advance}
-use Rattle.commands.proofs.EachCommand.{round_settings, round_close, round_reopen, round_enter}
-use Rattle.commands.proofs.EachCommand.{round_register, round_rename, round_scramble}
-use Rattle.commands.proofs.EachCommand.{round_rescramble, round_open, round_edition, round_cancel}
+use Rattle.commands.proofs.EachCommand.{round_attempt, round_correct, round_enter, round_register}
+use Rattle.commands.proofs.EachCommand.{round_rename, round_scramble, round_rescramble, round_open}
+use Rattle.commands.proofs.EachCommand.{round_edition, round_cancel}
 use Rattle.commands.proofs.Exits.{waiting_same, waiting_exit, waiting_open, waiting_cancel}
 use Rattle.commands.proofs.Exits.{round_exit}
 use Rattle.commands.proofs.OneMore.{new_table, with_table, scramble_kept, scramble_new}
@@ -133,21 +129,41 @@ KeepsApart cs e r change =
     → (same_event f e && s == r) ≡ true → waiting_of cs f s ≡ Some ns → AreApart x.1 ns
     → AreApart (change x).1 ns
 
--- a round changes as a command changes it
+-- what a command does but change rounds: whom it names, which scrambles it gives, whether it opens
+-- no round and takes none back, takes somebody out, enters a solution
+abbrev pub Besides : Type 0
+Besides =
+    Option (List ℕ) × Option (List ℕ) × Option (List Move) × Option (List Move) × Bool × Bool
+    × Option Bool
+
+abbrev pub besides : Event → ℕ → ℕ → ℕ → Command → Besides
+besides f s k n c = (
+  name_given n c,
+  renaming n c,
+  scrambling f s k c,
+  rescrambling f s k c,
+  keeps_open f s c,
+  is_withdrawal f s c,
+  solving f s k n c,
+)
+
+-- a command that names nobody, gives no scramble, opens no round, takes none back, takes nobody out
+-- and enters no solution
+abbrev pub ChangesOnly : Command → Type 0
+ChangesOnly c =
+    (f : Event) (s k n : ℕ)
+    → besides f s k n c ≡ (None, None, None, None, true, false, None)
+
+-- a round changes as such a command changes it
 changes : (cs : List Command) (c : Command) (e : Event) (r : ℕ)
     (change : Settings × Table → Settings × Table) (old new : List KeptRound)
-    → AreRounds cs old → ChangesRound e r change old new
-    → ((f : Event) (s k : ℕ) → scrambling f s k c ≡ None)
-    → ((f : Event) (s k : ℕ) → rescrambling f s k c ≡ None)
-    → ((f : Event) (s : ℕ) → keeps_open f s c ≡ true)
-    → ((f : Event) (s : ℕ) → is_withdrawal f s c ≡ false)
-    → ((f : Event) (s k n : ℕ) → solving f s k n c ≡ None)
+    → AreRounds cs old → ChangesRound e r change old new → ChangesOnly c
     → ((f : Event) (s : ℕ)
     → round_of (cs ++ c ∷ []) f s
     ≡ cond (same_event f e && s == r) (option_map change (round_of cs f s)) (round_of cs f s))
     → KeepsApart cs e r change
     → AreRounds (cs ++ c ∷ []) new
-changes cs c e r change old new are changed sets again opens stay unsolved one keeps = record {
+changes cs c e r change old new are changed only one keeps = record {
   rounds =
       λ f s. changed.rounds f s
       ∙ ap
@@ -155,11 +171,13 @@ changes cs c e r change old new are changed sets again opens stay unsolved one k
       (are.rounds f s)
       ∙ sym (one f s);
   scrambles =
-      scrambles_kept cs c old new are (λ f s. cancels_none f s c (opens f s)) sets again
-      changed.scrambles;
+      scrambles_kept cs c old new are (λ f s. cancels_none f s c (opens f s))
+      (λ f s k. ap (λ (x : Besides). x.2) (only f s k 0))
+      (λ f s k. ap (λ (x : Besides). x.3) (only f s k 0)) changed.scrambles;
   waiting =
       λ f s. changed.waiting f s ∙ are.waiting f s
-      ∙ sym (waiting_same f s cs c (opens f s) (stay f s));
+      ∙ sym
+      (waiting_same f s cs c (opens f s) (ap (λ (x : Besides). x.5) (only f s 0 0)));
   apart =
       λ f s.
       rw (changed.rounds f s, changed.waiting f s)
@@ -168,9 +186,14 @@ changes cs c e r change old new are changed sets again opens stay unsolved one k
       (λ x ns here waits. keeps f s x ns here (sym (are.waiting f s) ∙ waits)));
   solved =
       λ f s k n low. changed.solved f s k n ∙ are.solved f s k n low
-      ∙ sym (solved_same f s k n cs c (cancels_none f s c (opens f s)) (unsolved f s k n));
+      ∙ sym
+      (solved_same f s k n cs c (cancels_none f s c (opens f s))
+      (ap (λ (x : Besides). x.6) (only f s k n)));
   seen = λ f s. changed.seen f s ∙ are.seen f s ∙ sym (seen_same f s cs c (opens f s));
 }
+  where
+    opens : (f : Event) (s : ℕ) → keeps_open f s c ≡ true
+    opens f s = ap (λ (x : Besides). x.4) (only f s 0 0)
 
 -- what is entered for an attempt changes a round as the command does
 enters : (cs : List Command) (c : Command) (e : Event) (r k n : ℕ) (x : Entered)
@@ -254,17 +277,6 @@ as_before cs old new are same = record {
     rounds e r =
         (same e r).rounds e r ∙ kept (same_event e e && r == r) (kept_round e r old)
 
--- a command that names nobody, gives no scramble, opens no round, takes none back and takes nobody
--- out
-pub record ChangesOnly (c : Command) : Type 0 where
-  pub unnamed : (n : ℕ) → name_given n c ≡ None
-  pub same : (n : ℕ) → renaming n c ≡ None
-  pub sets : (f : Event) (s k : ℕ) → scrambling f s k c ≡ None
-  pub again : (f : Event) (s k : ℕ) → rescrambling f s k c ≡ None
-  pub opens : (f : Event) (s : ℕ) → keeps_open f s c ≡ true
-  pub stay : (f : Event) (s : ℕ) → is_withdrawal f s c ≡ false
-  pub unsolved : (f : Event) (s k n : ℕ) → solving f s k n c ≡ None
-
 -- such a command changes one round, or is refused
 pub changed_or : (cs : List Command) (c : Command) (e : Event) (r : ℕ)
     (change : Settings × Table → Settings × Table) (refused : Option Code) (old new : Index)
@@ -279,10 +291,13 @@ pub changed_or : (cs : List Command) (c : Command) (e : Event) (r : ℕ)
     → IsIndexOf (cs ++ added refused c) new
 changed_or cs c e r change None old new is only one keeps same done unchanged = record {
   competitors =
-      rw same (AreCompetitors-other cs c old.competitors only.unnamed only.same is.competitors);
+      rw same
+      (AreCompetitors-other cs c old.competitors
+      (λ n. ap (λ (x : Besides). x.0) (only e r 0 n))
+      (λ n. ap (λ (x : Besides). x.1) (only e r 0 n)) is.competitors);
   rounds =
-      changes cs c e r change old.rounds.opened.items new.rounds.opened.items is.rounds done
-      only.sets only.again only.opens only.stay only.unsolved one keeps;
+      changes cs c e r change old.rounds.opened.items new.rounds.opened.items is.rounds done only
+      one keeps;
 }
 changed_or cs c e r change (Some code) old new is only one keeps same done unchanged =
     record {
@@ -297,6 +312,23 @@ same_entered : (cs : List Command) (e : Event) (r : ℕ)
     → KeepsApart cs e r change
 same_entered cs e r change same f s x ns here waits a =
     apart_same x.1 (change x).1 ns (same x) a
+
+-- such a command, which the rounds note, and after which the same are entered
+pub round_noted : (cs : List Command) (c : Command) (id : RoundId)
+    (change : Settings × Table → Settings × Table) (refused : Option Code) (old new : Index)
+    → IsIndexOf cs old → ChangesOnly c
+    → ((f : Event) (s : ℕ)
+    → round_of (cs ++ c ∷ []) f s
+    ≡ cond (is_of f s id) (option_map change (round_of cs f s)) (round_of cs f s))
+    → ((x : Settings × Table) (n : ℕ) → is_entered (change x).1 n ≡ is_entered x.1 n)
+    → new.competitors ≡ old.competitors
+    → IfNone refused
+    (ChangesRound id.event id.round change old.rounds.opened.items new.rounds.opened.items)
+    → OnSome refused (new.rounds.opened.items ≡ old.rounds.opened.items)
+    → IsIndexOf (cs ++ added refused c) new
+round_noted cs c id change refused old new is only one entered same done unchanged =
+    changed_or cs c id.event id.round change refused old new is only one
+    (same_entered cs id.event id.round change entered) same done unchanged
 
 -- nobody waits for a place in a first round
 first_waits : (cs : List Command) (f : Event) (s : ℕ) (ns : List ℕ) → s ≡ 1
@@ -384,15 +416,7 @@ pub entered_or : (cs : List Command) (e : Event) (n : ℕ) (refused : Option Cod
 entered_or cs e n refused old new is same done unchanged =
     changed_or cs (Enter e n) e 1
     (with_entry n) refused old new is
-    (record {
-      unnamed = λ m. refl;
-      same = λ m. refl;
-      sets = λ f s j. refl;
-      again = λ f s j. refl;
-      opens = λ f s. refl;
-      stay = λ f s. refl;
-      unsolved = λ f s k m. refl;
-    })
+    (λ f s k m. refl)
     (λ f s. round_enter f e s n cs)
     (first_apart cs e (with_entry n))
     same done unchanged
@@ -444,137 +468,6 @@ pub corrected : (cs : List Command) (e : Event) (r k n : ℕ) (x : Entered)
 corrected cs e r k n x (Ok refused) old new is same done unchanged =
     corrected_or cs e r k n x refused old new is same done unchanged
 corrected cs e r k n x (Err fault) old new is same done unchanged = tt
-
--- a strike, which the rounds note
-pub stricken : (cs : List Command) (e : Event) (r n : ℕ) (refused : Option Code)
-    (old new : Index)
-    → IsIndexOf cs old
-    → new.competitors ≡ old.competitors
-    → IfNone refused
-    (ChangesRound e r (with_strike n) old.rounds.opened.items
-    new.rounds.opened.items)
-    → OnSome refused (new.rounds.opened.items ≡ old.rounds.opened.items)
-    → IsIndexOf (cs ++ added refused (Strike (round_id e r) n)) new
-stricken cs e r n refused old new is same done unchanged =
-    changed_or cs (Strike (round_id e r) n) e r
-    (with_strike n) refused old new is
-    (record {
-      unnamed = λ m. refl;
-      same = λ m. refl;
-      sets = λ f s j. refl;
-      again = λ f s j. refl;
-      opens = λ f s. refl;
-      stay = λ f s. refl;
-      unsolved = λ f s k m. refl;
-    })
-    (λ f s. round_strike f e s r n cs)
-    (same_entered cs e r (with_strike n) (λ y m. changed_stays m n without_last y.1.entrants))
-    same done unchanged
-
--- another advance, which the rounds note
-pub advanced : (cs : List Command) (e : Event) (r : ℕ) (advance : Advance) (refused : Option Code)
-    (old new : Index)
-    → IsIndexOf cs old
-    → new.competitors ≡ old.competitors
-    → IfNone refused
-    (ChangesRound e r (with_advance advance) old.rounds.opened.items
-    new.rounds.opened.items)
-    → OnSome refused (new.rounds.opened.items ≡ old.rounds.opened.items)
-    → IsIndexOf (cs ++ added refused (SetAdvance (round_id e r) advance)) new
-advanced cs e r advance refused old new is same done unchanged =
-    changed_or cs (SetAdvance (round_id e r) advance) e r
-    (with_advance advance) refused old new is
-    (record {
-      unnamed = λ m. refl;
-      same = λ m. refl;
-      sets = λ f s j. refl;
-      again = λ f s j. refl;
-      opens = λ f s. refl;
-      stay = λ f s. refl;
-      unsolved = λ f s k m. refl;
-    })
-    (λ f s. round_advance f e s r advance cs)
-    (same_entered cs e r (with_advance advance) (λ y m. refl))
-    same done unchanged
-
--- other settings, which the rounds note
-pub settings_changed : (cs : List Command) (e : Event) (r : ℕ) (format : Format)
-    (cutoff : Option (ℕ × ℕ)) (limit : Option ℕ) (refused : Option Code)
-    (old new : Index)
-    → IsIndexOf cs old
-    → new.competitors ≡ old.competitors
-    → IfNone refused
-    (ChangesRound e r (with_settings format cutoff limit) old.rounds.opened.items
-    new.rounds.opened.items)
-    → OnSome refused (new.rounds.opened.items ≡ old.rounds.opened.items)
-    → IsIndexOf (cs ++ added refused (SetRound (round_id e r) format cutoff limit)) new
-settings_changed cs e r format cutoff limit refused old new is same done unchanged =
-    changed_or cs (SetRound (round_id e r) format cutoff limit) e r
-    (with_settings format cutoff limit) refused old new is
-    (record {
-      unnamed = λ m. refl;
-      same = λ m. refl;
-      sets = λ f s j. refl;
-      again = λ f s j. refl;
-      opens = λ f s. refl;
-      stay = λ f s. refl;
-      unsolved = λ f s k m. refl;
-    })
-    (λ f s. round_settings f e s r format cutoff limit cs)
-    (same_entered cs e r (with_settings format cutoff limit) (λ y m. refl))
-    same done unchanged
-
--- a closing, which the rounds note
-pub ended : (cs : List Command) (e : Event) (r : ℕ) (refused : Option Code)
-    (old new : Index)
-    → IsIndexOf cs old
-    → new.competitors ≡ old.competitors
-    → IfNone refused
-    (ChangesRound e r with_end old.rounds.opened.items
-    new.rounds.opened.items)
-    → OnSome refused (new.rounds.opened.items ≡ old.rounds.opened.items)
-    → IsIndexOf (cs ++ added refused (Close (round_id e r))) new
-ended cs e r refused old new is same done unchanged =
-    changed_or cs (Close (round_id e r)) e r
-    with_end refused old new is
-    (record {
-      unnamed = λ m. refl;
-      same = λ m. refl;
-      sets = λ f s j. refl;
-      again = λ f s j. refl;
-      opens = λ f s. refl;
-      stay = λ f s. refl;
-      unsolved = λ f s k m. refl;
-    })
-    (λ f s. round_close f e s r cs)
-    (same_entered cs e r with_end (λ y m. refl))
-    same done unchanged
-
--- a round that is opened again, which the rounds note
-pub reopened_or : (cs : List Command) (e : Event) (r : ℕ) (refused : Option Code)
-    (old new : Index)
-    → IsIndexOf cs old
-    → new.competitors ≡ old.competitors
-    → IfNone refused
-    (ChangesRound e r with_reopening old.rounds.opened.items
-    new.rounds.opened.items)
-    → OnSome refused (new.rounds.opened.items ≡ old.rounds.opened.items)
-    → IsIndexOf (cs ++ added refused (Reopen (round_id e r))) new
-reopened_or cs e r refused old new is same done unchanged =
-    changed_or cs (Reopen (round_id e r)) e r
-    with_reopening refused old new is
-    (record {
-      unnamed = λ m. refl;
-      same = λ m. refl;
-      sets = λ f s j. refl;
-      again = λ f s j. refl;
-      opens = λ f s. refl;
-      stay = λ f s. refl;
-      unsolved = λ f s k m. refl;
-    })
-    (λ f s. round_reopen f e s r cs)
-    (same_entered cs e r with_reopening (λ y m. refl))
-    same done unchanged
 
 -- a withdrawal, which the rounds note
 exited : (cs : List Command) (e : Event) (r n : ℕ) (old new : List KeptRound)

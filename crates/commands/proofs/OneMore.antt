@@ -456,6 +456,32 @@ round_changed e (suc r) cs c b change keeps changes =
     step None h = none b
     step (Some o) h = ap Some (changes o (round_in e r o.before) h) ∙ some b (at o)
 
+-- a command that enters nobody, takes nobody out and changes no values leaves what is asked of the
+-- entrants of a round alone, whatever else it does to the round
+pub others_kept : {X : Type 0} (asked : Option (Settings × Table) → X) (cs : List Command)
+    (c : Command) (e : Event) (r : ℕ)
+    → ((x y : Settings × Table) → x.1.entrants ≡ y.1.entrants → asked (Some x) ≡ asked (Some y))
+    → keeps_open e r c ≡ true
+    → ((waiting : List ℕ) (earlier : List Command) → entering e r waiting earlier c ≡ None)
+    → TakesNobodyOut e r c → KeepsValues e r c
+    → asked (round_of (cs ++ c ∷ []) e r) ≡ asked (round_of cs e r)
+unfolding round_in
+others_kept asked cs c e zero alike keeps nobody stay same = refl
+others_kept asked cs c e (suc r) alike keeps nobody stay same =
+    ap (λ (o : Option Opened). asked (option_map at o)) (opened_kept e (suc r) cs c keeps)
+    ∙ step (opened e (suc r) [] cs)
+  where
+    at : Opened → Settings × Table
+    at o = round_at e (suc r) (round_in e r o.before) o
+
+    step : (o : Option Opened)
+        → asked (option_map at (option_map (plus_command c) o)) ≡ asked (option_map at o)
+    step None = refl
+    step (Some o) =
+        alike (at (plus_command c o)) (at o)
+        (entrants_more e (suc r) (round_in e r o.before) o c
+        ∙ same_entrants e (suc r) (round_in e r o.before) o c nobody stay same)
+
 -- what one more command makes of the scramble of an attempt of a round that is open
 abbrev pub scramble_with : Event → ℕ → ℕ → Command → Opened → Option (List Move)
 scramble_with e r k c o =

@@ -1,13 +1,12 @@
 -- What every list of accepted commands keeps to: names and numbers in their ranges, and at most 999
 -- entrants in a round.
 use Rattle.std.proofs.Common.{◌≡◌, ℕ, zero, suc, ◌+◌, ◌-◌, ◌*◌, ◌/◌, ◌<◌, ◌≤◌, Bool, true, false}
-use Rattle.std.proofs.Common.{◌&&◌, ◌==◌, not, cond, nat_le, List, [], ◌∷◌, ◌++◌, length}
-use Rattle.std.proofs.Common.{take, drop, set, map, filter, find, flat_map, fold, count_by, Option}
-use Rattle.std.proofs.Common.{Some, None, IfSome}
-use Rattle.std.proofs.Common.{option_map, Result, Ok, Err, IfOk, refl, sym, ap, ◌∙◌, subst}
-use Rattle.std.proofs.Common.{arith, append-nil, length-append, eqb-true}
+use Rattle.std.proofs.Common.{◌&&◌, ◌==◌, not, cond, nat_le, List, [], ◌∷◌, ◌++◌, length, take, set}
+use Rattle.std.proofs.Common.{map, filter, find, flat_map, fold, count_by, slice_get, Option, Some}
+use Rattle.std.proofs.Common.{None, IfSome, option_map, option_to_list, Result, Ok, Err, IfOk}
+use Rattle.std.proofs.Common.{refl, sym, ap, ◌∙◌, subst, arith, append-nil, length-append, eqb-true}
 use Rattle.std.specs.List.{range_with_len, AllByRecursion, list_any}
-use Rattle.std.specs.Option.{option_or, option_and_then}
+use Rattle.std.specs.Option.{option_and_then}
 use Rattle.std.proofs.lemmas.Bool.Decides.{nat_tests}
 use Rattle.std.proofs.lemmas.List.{length-map}
 use Rattle.std.proofs.lemmas.List.Elements.{recursion_from_All}
@@ -23,63 +22,52 @@ use Rattle.attempts.specs.Attempts.{rounded, reaches, solution_value, multi_numb
 use Rattle.attempts.specs.Attempts.{is_multi_finished, IsInRangeOf}
 use Rattle.attempts.specs.declared.Unit.TheVariants as measure
 use Rattle.formats.specs.declared.events.Event.{Event}
-use Rattle.formats.specs.declared.events.Format.{Format}
 use Rattle.formats.specs.Events.{same_event}
 use Rattle.formats.proofs.SameEvent.{same_event-equal}
-use Rattle.rounds.specs.Tables.{Entrant, Table, changed_of, has_number, enter_fault, replaced}
-use Rattle.rounds.specs.Tables.{without_last, number_of_entrant, place, standings, entrant}
-use Rattle.rounds.specs.Tables.{leave_fault, withdraw_fault}
+use Rattle.rounds.specs.Tables.{Entrant, Table, has_number, enter_fault, replaced, without_last}
+use Rattle.rounds.specs.Tables.{number_of_entrant, place, standings, entrant, leave_fault}
+use Rattle.rounds.specs.Tables.{withdraw_fault}
 use Rattle.rounds.specs.declared.fault.WithdrawFault.TheVariants as withdraw
 use Rattle.rounds.specs.declared.fault.EnterFault.TheVariants as enter
-use Rattle.formats.specs.declared.advance.Advance.{Advance}
 use Rattle.advancement.specs.Advancing.{goes_on}
 use Rattle.advancement.specs.Waiting.{stays_out}
 use Rattle.texts.specs.declared.answer.Code.{Code}
 use Rattle.texts.specs.declared.answer.Code.TheVariants as code
 use Rattle.texts.specs.declared.command.Command.{Command}
-use Rattle.texts.specs.declared.command.Command.TheVariants.{Register, Open, Enter, Scramble}
-use Rattle.texts.specs.declared.command.Command.TheVariants.{Attempt, Correct, Strike, SetAdvance}
-use Rattle.texts.specs.declared.command.Command.TheVariants.{Close, SetEdition, Rename, SetRound}
-use Rattle.texts.specs.declared.command.Command.TheVariants.{Rescramble, Withdraw, Reopen, Cancel}
-use Rattle.texts.specs.declared.command.Command.TheVariants.{Card, Fix}
+use Rattle.texts.specs.declared.command.Command.TheVariants.{Register, Open, Enter, Attempt}
+use Rattle.texts.specs.declared.command.Command.TheVariants.{Correct, Strike, SetAdvance, Rename}
+use Rattle.texts.specs.declared.command.Command.TheVariants.{SetRound, Withdraw, Card, Fix}
 use Rattle.texts.specs.declared.command.CardEntry.{CardEntry}
 use Rattle.texts.specs.declared.command.Entered.{Entered}
 use Rattle.texts.specs.declared.command.Remarked.{Remarked}
 use Rattle.texts.specs.declared.command.Entered.TheVariants as entered
 use Rattle.texts.specs.declared.command.Settings.{Settings}
 use Rattle.texts.specs.declared.reading.CommandFault.{CommandFault}
-use Rattle.texts.specs.Spelling.{IsFit, IsFitCutoff, IsFitLimit, IsFitSettings, IsFitAdvance}
-use Rattle.texts.specs.Spelling.{IsEntered}
-use Rattle.texts.specs.Fields.{round_id}
+use Rattle.texts.specs.Spelling.{IsFit, IsFitSettings, IsEntered}
 use Rattle.texts.specs.Reading.{command_of}
 use Rattle.texts.specs.Editions.{is_spelled_in}
 use Rattle.texts.specs.Table.{rows}
-use Rattle.commands.specs.Accepted.{is_of, scramble_by, name_given, renaming, name_of}
-use Rattle.commands.specs.Accepted.{is_registered, settled, is_withdrawal, edition_in, who_advance}
-use Rattle.commands.specs.Accepted.{who_wait, round_in, round_of, refusal, enter_code}
-use Rattle.commands.specs.Accepted.{enter_refusal, withdraw_code, withdraw_refusal}
-use Rattle.commands.specs.model.Kept.{with_attempt, with_correction, with_strike, with_advance}
-use Rattle.commands.specs.model.Kept.{with_end, with_entry, with_settings, with_exit}
-use Rattle.commands.specs.model.Kept.{with_reopening, newcomer, first_of_all, waiting_of}
-use Rattle.commands.specs.Accepted.{values_now, counts_in}
-use Rattle.commands.specs.model.Cards.{IsReadCard, scrambles_of, with_outcomes}
+use Rattle.commands.specs.Scrambles.{scramble_in}
+use Rattle.commands.specs.Accepted.{Opened, edition_in, enter_code, enter_refusal, entering}
+use Rattle.commands.specs.Accepted.{entrant_after, entrants_left, is_cancelled, is_of}
+use Rattle.commands.specs.Accepted.{is_registered, is_withdrawal, just_opened, name_given, name_of}
+use Rattle.commands.specs.Accepted.{one_value, opened, opened_by, opening, plus_command, refusal}
+use Rattle.commands.specs.Accepted.{renaming, round_at, round_in, round_of, settings_after}
+use Rattle.commands.specs.Accepted.{settings_by, settings_now, settled, stays, value_counted}
+use Rattle.commands.specs.Accepted.{value_entered, values_now, who_advance, who_wait}
+use Rattle.commands.specs.Accepted.{withdraw_code, withdraw_refusal}
+use Rattle.commands.specs.model.Cards.{IsReadCard}
+use Rattle.commands.specs.model.Kept.{newcomer}
 use Rattle.commands.specs.History.{History, nothing, is_seen, added_read, spelled_refusal}
 use Rattle.commands.specs.History.{read_refusal, after, history}
-use Rattle.commands.proofs.CardRounds.{IsOfCard, card_is, fix_is, round_dealt}
 use Rattle.commands.proofs.CardSteps.{values_hold}
-use Rattle.commands.proofs.ReadCards.{card_read, fix_read}
 use Rattle.commands.proofs.Entries.{accepted_new, after_seen}
 use Rattle.commands.proofs.Known.{read_fit}
 use Rattle.commands.proofs.Lookups.{some≢none, stands, standing_push}
+use Rattle.commands.proofs.OneMore.{entered_last, is_left_by, left_more, one_more, opened_push}
+use Rattle.commands.proofs.OneMore.{round_more}
+use Rattle.commands.proofs.ReadCards.{card_read, fix_read}
 use Rattle.texts.proofs.NameRoom.{name_room, new_name_room}
-use Rattle.commands.proofs.EachCommand.{opening_table, round_open, round_enter, round_scramble}
-use Rattle.commands.proofs.EachCommand.{round_attempt, round_correct, round_strike, round_advance}
-use Rattle.commands.proofs.EachCommand.{round_close, round_register, round_edition, round_rename}
-use Rattle.commands.proofs.EachCommand.{round_settings, round_rescramble, round_reopen}
-use Rattle.commands.proofs.EachCommand.{round_cancel}
-use Rattle.commands.proofs.Exits.{waiting_same, waiting_exit, waiting_open, waiting_cancel}
-use Rattle.commands.proofs.Exits.{round_exit}
-use Rattle.commands.proofs.OneMore.{keeps_open, with_table}
 use Rattle.texts.proofs.Words.{spelled_only}
 
 -- an entrant's number and values are in their ranges
@@ -101,12 +89,16 @@ IsSmallName name = length name + count_by (λ b. b == 34) name ≤ 160
 abbrev pub AreSmallNumbers : List ℕ → Type 0
 AreSmallNumbers ns = AllByRecursion (λ n. n ≤ 9999) ns
 
+-- so are those of whoever waited for a place in the next round when that was opened
+abbrev pub HasSmallWaiting : Event → ℕ → Opened → Type 0
+HasSmallWaiting e r next = AreSmallNumbers (who_wait (round_in e r next.before))
+
 -- the names that commands give are short, the rounds that they make are small, and so are the
 -- numbers of those who wait for a place
 pub record IsSmall (cs : List Command) : Type 0 where
   pub names : (n : ℕ) → IfSome (name_of cs n) IsSmallName
   pub rounds : (e : Event) (r : ℕ) → IfSome (round_of cs e r) (IsSmallRound r)
-  pub waiting : (e : Event) (r : ℕ) → IfSome (waiting_of cs e r) AreSmallNumbers
+  pub waiting : (e : Event) (r : ℕ) → IfSome (opened e (suc r) [] cs) (HasSmallWaiting e r)
 
 -- Lists
 
@@ -267,105 +259,118 @@ settled_small settings scramble entered.Dns is = tt
 
 -- Entrants and rounds
 
--- an entrant whose values are changed, or not
-entrant_small : (b : Bool) (e : Entrant) (vs : List Value) → IsSmallEntrant e
-    → AllByRecursion (IsInRangeOf measure.Multi) vs
-    → IsSmallEntrant (cond b (record e { values = vs }) e)
-entrant_small true e vs h is = record { number = h.number; values = is }
-entrant_small false e vs h is = h
+changed_or_not : (b : Bool) (new old : List Value) → AllByRecursion (IsInRangeOf measure.Multi) new
+    → AllByRecursion (IsInRangeOf measure.Multi) old
+    → AllByRecursion (IsInRangeOf measure.Multi) (cond b new old)
+changed_or_not true new old changed h = changed
+changed_or_not false new old changed h = h
 
--- a round of which each entrant is changed
-each_small : (r : ℕ) (f : Entrant → Entrant)
-    → ((e : Entrant) → IsSmallEntrant e → IsSmallEntrant (f e)) → (x : Settings × Table)
-    → IsSmallRound r x
-    → IsSmallRound r (x.0, record x.1 { entrants = map f x.1.entrants })
-each_small r f each x h = record {
-  last = h.last;
-  settings = h.settings;
-  few = let same = length-map x.1.entrants f in omega (arith, same, h.few);
-  entrants = all_map IsSmallEntrant IsSmallEntrant f each x.1.entrants h.entrants;
-}
+-- what a card makes of values
+card_small : (b : Bool) (e : Event) (r : ℕ) (settings : Settings) (earlier : List Command)
+    (card : CardEntry) (vs : List Value)
+    → IsReadCard card → AllByRecursion (IsInRangeOf measure.Multi) vs
+    → AllByRecursion (IsInRangeOf measure.Multi)
+    (cond b (values_now (value_counted e r settings earlier) 1 card.now vs) vs)
+card_small b e r settings earlier card vs read h =
+    changed_or_not b (values_now (value_counted e r settings earlier) 1 card.now vs) vs
+    (values_hold (IsInRangeOf measure.Multi) IsEntered (value_counted e r settings earlier)
+    (λ k x fits.
+    settled_small (settings_after e r settings earlier) (scramble_in e r k earlier) x fits)
+    1 card.now vs (recursion_from_All (λ o. IfSome o IsEntered) card.now read.entered) h)
+    h
 
-attempt_small : (r n : ℕ) (scramble : Option (List Move)) (y : Entered) → IsEntered y
-    → (x : Settings × Table) → IsSmallRound r x → IsSmallRound r (with_attempt n scramble y x)
-attempt_small r n scramble y fits x h =
-    each_small r (changed_of n (λ vs. vs ++ settled x.0 scramble y ∷ []))
-    (λ e is.
-    entrant_small (has_number n e) e _ is
-    (all_append (IsInRangeOf measure.Multi) e.values _ is.values
-    (settled_small x.0 scramble y fits, tt)))
-    x h
+-- what a command makes of the values of an entrant
+values_small : (c : Command) → IsFit c → (e : Event) (r n : ℕ) (settings : Settings)
+    (earlier : List Command) (vs : List Value) → AllByRecursion (IsInRangeOf measure.Multi) vs
+    → AllByRecursion (IsInRangeOf measure.Multi) (one_value e r settings n earlier vs c)
+unfolding rows
+values_small (Attempt entry) fits e r n settings earlier vs h =
+    changed_or_not (is_of e r entry.id && entry.number == n)
+    (vs ++ value_entered e r settings earlier entry ∷ []) vs
+    (all_append (IsInRangeOf measure.Multi) vs (value_entered e r settings earlier entry ∷ []) h (
+      settled_small (settings_after e r settings earlier) (scramble_in e r entry.attempt earlier)
+          entry.outcome fits.0.1.1.1.1.0,
+      tt,
+    ))
+    h
+values_small (Correct entry) fits e r n settings earlier vs h =
+    changed_or_not (is_of e r entry.id && entry.number == n)
+    (replaced entry.attempt (value_entered e r settings earlier entry) vs) vs
+    (all_set (IsInRangeOf measure.Multi) vs (entry.attempt - 1)
+    (value_entered e r settings earlier entry) h
+    (settled_small (settings_after e r settings earlier) (scramble_in e r entry.attempt earlier)
+    entry.outcome fits.0.1.1.1.1.0))
+    h
+values_small (Strike id m) fits e r n settings earlier vs h =
+    changed_or_not (is_of e r id && m == n) (without_last vs) vs
+    (all_take (IsInRangeOf measure.Multi) (length vs - 1) vs h) h
+values_small (Card card) fits e r n settings earlier vs h =
+    card_small (is_of e r card.id && card.number == n) e r settings earlier card vs
+    (card_read card fits) h
+values_small (Fix card) fits e r n settings earlier vs h =
+    card_small (is_of e r card.id && card.number == n) e r settings earlier card vs
+    (fix_read card fits) h
+values_small _ fits e r n settings earlier vs h = h
 
-correction_small : (r n k : ℕ) (scramble : Option (List Move)) (y : Entered) → IsEntered y
-    → (x : Settings × Table) → IsSmallRound r x → IsSmallRound r (with_correction n k scramble y x)
-correction_small r n k scramble y fits x h =
-    each_small r (changed_of n (replaced k (settled x.0 scramble y)))
-    (λ e is.
-    entrant_small (has_number n e) e _ is
-    (all_set (IsInRangeOf measure.Multi) e.values (k - 1) _ is.values
-    (settled_small x.0 scramble y fits)))
-    x h
+-- and of the settings of a round
+settings_small : (c : Command) → IsFit c → (e : Event) (r : ℕ) (settings : Settings)
+    → IsFitSettings settings → IsFitSettings (settings_by e r c settings)
+unfolding rows
+settings_small (SetAdvance id advance) fits e r settings h = step (is_of e r id)
+  where
+    step : (b : Bool) → IsFitSettings (cond b (record settings { advance = advance }) settings)
+    step true = (h.0, h.1, fits.0.1.1.0)
+    step false = h
+settings_small (SetRound id format cutoff limit) fits e r settings h = step (is_of e r id)
+  where
+    step : (b : Bool)
+        → IsFitSettings
+        (cond b (record settings { format = format; cutoff = cutoff; limit = limit }) settings)
+    step true = (fits.0.1.1.1.0, fits.0.1.1.1.1.0, h.2)
+    step false = h
+settings_small _ fits e r settings h = h
 
-card_small : (r : ℕ) (scrambles : ℕ → Option (List Move)) (card : CardEntry) → IsReadCard card
-    → (x : Settings × Table) → IsSmallRound r x → IsSmallRound r (with_outcomes scrambles card x)
-card_small r scrambles card read x h =
-    each_small r (changed_of card.number (values_now (counts_in x.0 scrambles) 1 card.now))
-    (λ e is.
-    entrant_small (has_number card.number e) e _ is
-    (values_hold (IsInRangeOf measure.Multi) IsEntered (counts_in x.0 scrambles)
-    (λ k y fits. settled_small x.0 (scrambles k) y fits) 1 card.now e.values
-    (recursion_from_All (λ o. IfSome o IsEntered) card.now read.entered) is.values))
-    x h
+-- the settings with which a command opens a round
+opening_fits : (c : Command) → IsFit c → (e : Event) (r : ℕ)
+    → IfSome (opening e r c) (λ settings. (r ≤ 4) × IsFitSettings settings)
+unfolding rows
+opening_fits (Open id settings) fits e r = step (is_of e r id) refl
+  where
+    step : (b : Bool) → is_of e r id ≡ b
+        → IfSome (cond b (Some settings) None) (λ s. (r ≤ 4) × IsFitSettings s)
+    step true here =
+        let round : r ≡ id.round = eqb-true r id.round (grind arith) in
+        let low : id.round ≤ 4 = fits.0.1.0.1 in (
+          omega (arith, low, round),
+          (fits.0.1.1.1.0, fits.0.1.1.1.1.0, fits.0.1.1.1.1.1.0),
+        )
+    step false other = tt
+opening_fits _ fits e r = tt
 
-strike_small : (r n : ℕ) (x : Settings × Table) → IsSmallRound r x
-    → IsSmallRound r (with_strike n x)
-strike_small r n x h =
-    each_small r (changed_of n without_last)
-    (λ e is.
-    entrant_small (has_number n e) e _ is
-    (all_take (IsInRangeOf measure.Multi) (length e.values - 1) e.values is.values))
-    x h
-
-advance_small : (r : ℕ) (advance : Advance) → IsFitAdvance advance → (x : Settings × Table)
-    → IsSmallRound r x → IsSmallRound r (with_advance advance x)
-advance_small r advance fits x h =
+-- those whom a command leaves
+left_small : (c : Command) → IsFit c → (e : Event) (r : ℕ) (settings : Settings)
+    (earlier : List Command) (es : List Entrant) → AllByRecursion IsSmallEntrant es
+    → AllByRecursion IsSmallEntrant (left_more e r settings earlier c es)
+left_small c fits e r settings earlier es h =
+    all_map IsSmallEntrant IsSmallEntrant (one_more e r settings earlier c)
+    (λ x is.
     record {
-      last = h.last;
-      settings = (h.settings.0, h.settings.1, fits);
-      few = h.few;
-      entrants = h.entrants;
-    }
+      number = is.number;
+      values = values_small c fits e r x.number settings earlier x.values is.values;
+    })
+    (filter (is_left_by e r c) es) (all_filter IsSmallEntrant (is_left_by e r c) es h)
 
-settings_small : (r : ℕ) (format : Format) (cutoff : Option (ℕ × ℕ)) (limit : Option ℕ)
-    → IsFitCutoff cutoff → IsFitLimit limit → (x : Settings × Table)
-    → IsSmallRound r x → IsSmallRound r (with_settings format cutoff limit x)
-settings_small r format cutoff limit fit_cutoff fit_limit x h =
-    record {
-      last = h.last;
-      settings = (fit_cutoff, fit_limit, h.settings.2);
-      few = h.few;
-      entrants = h.entrants;
-    }
-
-reopening_small : (r : ℕ) (x : Settings × Table) → IsSmallRound r x
-    → IsSmallRound r (with_reopening x)
-reopening_small r x h =
-    record { last = h.last; settings = h.settings; few = h.few; entrants = h.entrants }
-
-end_small : (r : ℕ) (x : Settings × Table) → IsSmallRound r x → IsSmallRound r (with_end x)
-end_small r x h =
-    record { last = h.last; settings = h.settings; few = h.few; entrants = h.entrants }
-
-entry_small : (r n : ℕ) → n ≤ 9999 → (x : Settings × Table) → length x.1.entrants < 999
-    → IsSmallRound r x → IsSmallRound r (with_entry n x)
-entry_small r n fits x room h = record {
-  last = h.last;
-  settings = h.settings;
-  few = let long = length-append x.1.entrants (newcomer n ∷ []) in omega (arith, long, room);
-  entrants =
-      all_append IsSmallEntrant x.1.entrants (newcomer n ∷ []) h.entrants
-      (record { number = fits; values = tt }, tt);
-}
+-- they are no more than before
+left_few : (c : Command) (e : Event) (r : ℕ) (settings : Settings) (earlier : List Command)
+    (es : List Entrant)
+    → length (left_more e r settings earlier c es) ≤ length es
+left_few c e r settings earlier es =
+    omega (
+      arith,
+      length-map (filter (is_left_by e r c) es) (one_more e r settings earlier c),
+      length-filter (is_left_by e r c) es,
+      count_by-le-length (is_left_by e r c) es,
+    )
 
 -- who is found leaves one entrant less
 found_left : (n : ℕ) (e : Entrant) (es : List Entrant) → find (has_number n) es ≡ Some e
@@ -407,32 +412,30 @@ leaves n t h = step t.is_closed (entrant t n) refl h
     step false None is h = absurd (some≢none code.NotEntered h)
     step false (Some e) is h = (e, is)
 
-exit_small : (r n : ℕ) (next : Option ℕ) → IfSome next (λ m. m ≤ 9999) → (x : Settings × Table)
-    → option_and_then withdraw_code (withdraw_fault x.1 n) ≡ None
-    → IsSmallRound r x → IsSmallRound r (with_exit n next x)
-exit_small r n None fits x allowed h =
-    let found = leaves n x.1 allowed in
-    let fewer = found_left n found.0 x.1.entrants found.1 in
-    record {
-      last = h.last;
-      settings = h.settings;
-      few = omega (arith, fewer, h.few);
-      entrants =
-          all_filter IsSmallEntrant (λ y. not (has_number n y)) x.1.entrants h.entrants;
-    }
-exit_small r n (Some m) fits x allowed h =
-    let found = leaves n x.1 allowed in
-    let fewer = found_left n found.0 x.1.entrants found.1 in
-    let left : List Entrant = filter (λ y. not (has_number n y)) x.1.entrants in
-    record {
-      last = h.last;
-      settings = h.settings;
-      few = omega (arith, fewer, h.few, length-append left (newcomer m ∷ []));
-      entrants =
-          all_append IsSmallEntrant left (newcomer m ∷ [])
-          (all_filter IsSmallEntrant (λ y. not (has_number n y)) x.1.entrants h.entrants)
-          (record { number = fits; values = tt }, tt);
-    }
+number_small : (ns : List ℕ) (k : ℕ) → AreSmallNumbers ns → IfSome (slice_get ns k) (λ n. n ≤ 9999)
+number_small [] k h = tt
+number_small (n ∷ ns) zero h = h.0
+number_small (n ∷ ns) (suc k) h = number_small ns k h.1
+
+-- the number that a command enters
+entering_small : (c : Command) → IsFit c → (e : Event) (r : ℕ) (waiting : List ℕ)
+    (earlier : List Command) → AreSmallNumbers waiting
+    → IfSome (entering e r waiting earlier c) (λ n. n ≤ 9999)
+unfolding rows
+entering_small (Enter f n) fits e r waiting earlier h = step (same_event e f && r == 1)
+  where
+    step : (b : Bool) → IfSome (cond b (Some n) None) (λ m. m ≤ 9999)
+    step true = fits.0.1.0.1
+    step false = tt
+entering_small (Withdraw id n) fits e r waiting earlier h = step (is_of e r id)
+  where
+    next : Option ℕ
+    next = slice_get waiting (count_by (is_withdrawal e r) earlier)
+
+    step : (b : Bool) → IfSome (cond b next None) (λ m. m ≤ 9999)
+    step true = number_small waiting (count_by (is_withdrawal e r) earlier) h
+    step false = tt
+entering_small _ fits e r waiting earlier h = tt
 
 -- a table that takes an entry has room for it
 has_room : (n : ℕ) (t : Table) → option_and_then enter_code (enter_fault t n) ≡ None
@@ -452,11 +455,71 @@ has_room n t h =
     step false false true h = absurd (some≢none code.Full h)
     step false false false h = refl
 
-enters : (n : ℕ) (b : Bool) (round : Option (Settings × Table))
-    → cond (not b) (Some code.UnknownCompetitor) (enter_refusal n round) ≡ None
-    → enter_refusal n round ≡ None
-enters n true round h = h
-enters n false round h = absurd (some≢none code.UnknownCompetitor h)
+known_then : (b : Bool) (refused : Option Code)
+    → cond (not b) (Some code.UnknownCompetitor) refused ≡ None → refused ≡ None
+known_then true refused h = h
+known_then false refused h = absurd (some≢none code.UnknownCompetitor h)
+
+-- a command that enters somebody, and is accepted, finds a place
+has_place : (cs : List Command) (c : Command) → refusal cs c ≡ None → (e : Event) (r : ℕ)
+    (x : Settings × Table) → round_of cs e r ≡ Some x → length x.1.entrants ≤ 999
+    → (settings : Settings) (waiting : List ℕ) (earlier : List Command) (m : ℕ)
+    → entering e r waiting earlier c ≡ Some m
+    → length (left_more e r settings earlier c x.1.entrants) < 999
+has_place cs (Enter f n) allowed e r x is few settings waiting earlier m enters =
+    step (same_event e f && r == 1) refl enters
+  where
+    step : (b : Bool) → (same_event e f && r == 1) ≡ b → cond b (Some n) None ≡ Some m
+        → length (left_more e r settings earlier (Enter f n) x.1.entrants) < 999
+    step true here h =
+        let event : e ≡ f = same_event-equal e f (grind arith) in
+        let round : r ≡ 1 = eqb-true r 1 (grind arith) in
+        let there : round_of cs f 1 ≡ Some x =
+        ap (λ (g : Event). round_of cs g 1) (sym event)
+        ∙ ap (λ (s : ℕ). round_of cs e s) (sym round) ∙ is in
+        let room =
+        has_room n x.1
+        (ap (enter_refusal n) (sym there)
+        ∙ known_then (is_registered cs n) (enter_refusal n (round_of cs f 1)) allowed) in
+        omega (arith, room, left_few (Enter f n) e r settings earlier x.1.entrants)
+    step false other h = absurd (some≢none m (sym h))
+has_place cs (Withdraw id n) allowed e r x is few settings waiting earlier m enters =
+    step (is_of e r id) refl enters
+  where
+    c : Command
+    c = Withdraw id n
+
+    next : Option ℕ
+    next = slice_get waiting (count_by (is_withdrawal e r) earlier)
+
+    step : (b : Bool) → is_of e r id ≡ b → cond b next None ≡ Some m
+        → length (left_more e r settings earlier c x.1.entrants) < 999
+    step true here h =
+        let event : e ≡ id.event = same_event-equal e id.event (grind arith) in
+        let round : r ≡ id.round = eqb-true r id.round (grind arith) in
+        let there : round_of cs id.event id.round ≡ Some x =
+        ap (λ (f : Event). round_of cs f id.round) (sym event)
+        ∙ ap (λ (s : ℕ). round_of cs e s) (sym round) ∙ is in
+        let found =
+        leaves n x.1
+        (ap (withdraw_refusal n) (sym there)
+        ∙ known_then (is_registered cs n) (withdraw_refusal n (round_of cs id.event id.round))
+        allowed) in
+        let fewer : length (filter (is_left_by e r c) x.1.entrants) < length x.1.entrants =
+        subst
+        (λ (b : Bool).
+        length (filter (λ (y : Entrant). not (b && n == y.number)) x.1.entrants)
+        < length x.1.entrants)
+        (sym here) (found_left n found.0 x.1.entrants found.1) in
+        omega (
+          arith,
+          length-map (filter (is_left_by e r c) x.1.entrants) (one_more e r settings earlier c),
+          fewer,
+          few,
+        )
+    step false other h = absurd (some≢none m (sym h))
+has_place cs _ allowed e r x is few settings waiting earlier m enters =
+    absurd (some≢none m (sym enters))
 
 -- those who advance from a small round
 advance_few : (r : ℕ) (x : Option (Settings × Table)) → IfSome x (IsSmallRound r)
@@ -485,42 +548,133 @@ wait_numbers r (Some x) h =
     all_filter (λ n. n ≤ 9999) (stays_out x.1 x.0.advance) (standings x.1)
     (standings_small x.1 h.entrants)
 
-opening_small : (e : Event) (r : ℕ) (settings : Settings) (cs : List Command) → r ≤ 4
-    → IsFitSettings settings → IsSmall cs
-    → IsSmallRound r (with_table settings (opening_table e r settings cs))
-opening_small e r settings cs last fits h =
-    let first : List ℕ = who_advance (round_of cs e (r - 1)) in
-    record {
-      last = last;
-      settings = fits;
-      few =
-          let few = advance_few (r - 1) (round_of cs e (r - 1)) (h.rounds e (r - 1)) in
-          let same = length-map first newcomer in omega (arith, few, same);
-      entrants =
-          all_map (λ n. n ≤ 9999) IsSmallEntrant newcomer
-          (λ n is. record { number = is; values = tt }) first
-          (advance_numbers (r - 1) (round_of cs e (r - 1)) (h.rounds e (r - 1)));
-    }
+-- those who come in as a round is opened
+newcomers_small : (e : Event) (r : ℕ) (settings : Settings) (ns : List ℕ) → AreSmallNumbers ns
+    → AllByRecursion IsSmallEntrant (entrants_left e r settings [] [] ns)
+newcomers_small e r settings [] h = tt
+newcomers_small e r settings (n ∷ ns) h =
+    (record { number = h.0; values = tt }, newcomers_small e r settings ns h.1)
+
+newcomers_few : (e : Event) (r : ℕ) (settings : Settings) (ns : List ℕ)
+    → length (entrants_left e r settings [] [] ns) ≤ length ns
+newcomers_few e r settings ns =
+    omega (
+      arith,
+      length-map (filter (stays e r []) ns) (entrant_after e r settings [] []),
+      length-filter (stays e r []) ns,
+      count_by-le-length (stays e r []) ns,
+    )
+
+entered_small : (o : Option ℕ) → IfSome o (λ n. n ≤ 9999)
+    → AllByRecursion IsSmallEntrant (option_to_list (option_map newcomer o))
+entered_small None h = tt
+entered_small (Some n) h = (record { number = h; values = tt }, tt)
 
 -- One more command
 
-either : {X : Type 0} (P : X → Type 0) (a b : Option X) → IfSome a P → IfSome b P
-    → IfSome (option_or a b) P
-either P None b h k = k
-either P (Some x) b h k = h
+-- what it makes of a round
+rounds_more : (cs : List Command) (c : Command) → IsFit c → refusal cs c ≡ None → IsSmall cs
+    → (e : Event) (r : ℕ) → IfSome (round_of (cs ++ c ∷ []) e r) (IsSmallRound r)
+unfolding round_in
+rounds_more cs c fits allowed h e zero = tt
+rounds_more cs c fits allowed h e (suc r) =
+    subst (λ (o : Option Opened). IfSome (option_map at o) (IsSmallRound (suc r)))
+    (sym (opened_push e (suc r) cs c))
+    (step (opened e (suc r) [] cs) refl (h.rounds e (suc r)) (h.waiting e r))
+  where
+    at : Opened → Settings × Table
+    at o = round_at e (suc r) (round_in e r o.before) o
 
-changed : (r : ℕ) (b : Bool) (change : Settings × Table → Settings × Table)
-    (x : Option (Settings × Table))
-    → IfSome x (IsSmallRound r)
-    → ((y : Settings × Table) → IsSmallRound r y → IsSmallRound r (change y))
-    → IfSome (cond b (option_map change x) x) (IsSmallRound r)
-changed r true change None h f = tt
-changed r true change (Some y) h f = f y h
-changed r false change x h f = h
+    -- one that it opens
+    first : (o : Option Settings) → IfSome o (λ settings. (suc r ≤ 4) × IsFitSettings settings)
+        → IfSome (option_map at (option_map (just_opened cs) o)) (IsSmallRound (suc r))
+    first None is = tt
+    first (Some settings) is =
+        let ns : List ℕ = who_advance (round_in e r cs) in
+        let es : List Entrant = entrants_left e (suc r) settings [] [] ns in
+        record {
+          last = is.0;
+          settings = is.1;
+          few =
+              let few = advance_few r (round_in e r cs) (h.rounds e r) in
+              omega (arith, few, newcomers_few e (suc r) settings ns, length-append es []);
+          entrants =
+              all_append IsSmallEntrant es []
+              (newcomers_small e (suc r) settings ns
+              (advance_numbers r (round_in e r cs) (h.rounds e r)))
+              tt;
+        }
 
-abbrev HasShortName : Command → Type 0
-HasShortName c =
-    (n : ℕ) → IfSome (name_given n c) IsSmallName × IfSome (renaming n c) IsSmallName
+    -- one that is open
+    later : (o : Opened) → opened e (suc r) [] cs ≡ Some o → IsSmallRound (suc r) (at o)
+        → HasSmallWaiting e r o → IsSmallRound (suc r) (at (plus_command c o))
+    later o is small waits =
+        subst (IsSmallRound (suc r)) (sym (round_more e (suc r) (round_in e r o.before) o c))
+        (record {
+          last = small.last;
+          settings = settings_small c fits e (suc r) (settings_now e (suc r) o) small.settings;
+          few = few (entering e (suc r) waiting o.since c) refl;
+          entrants =
+              all_append IsSmallEntrant left (entered_last e (suc r) waiting o.since c)
+              (left_small c fits e (suc r) o.settings o.since (at o).1.entrants small.entrants)
+              (entered_small (entering e (suc r) waiting o.since c)
+              (entering_small c fits e (suc r) waiting o.since waits));
+        })
+      where
+        waiting : List ℕ
+        waiting = who_wait (round_in e r o.before)
+
+        left : List Entrant
+        left = left_more e (suc r) o.settings o.since c (at o).1.entrants
+
+        few : (m : Option ℕ) → entering e (suc r) waiting o.since c ≡ m
+            → length (left ++ option_to_list (option_map newcomer m)) ≤ 999
+        few None none =
+            omega (
+              arith,
+              length-append left [],
+              left_few c e (suc r) o.settings o.since (at o).1.entrants,
+              small.few,
+            )
+        few (Some m) enters =
+            let place =
+            has_place cs c allowed e (suc r) (at o) (ap (option_map at) is) small.few o.settings
+            waiting o.since m enters in
+            omega (arith, length-append left (newcomer m ∷ []), place)
+
+    -- one that is open, unless the command takes it back
+    kept : (b : Bool) (o : Opened) → opened e (suc r) [] cs ≡ Some o → IsSmallRound (suc r) (at o)
+        → HasSmallWaiting e r o
+        → IfSome (option_map at (cond b None (Some (plus_command c o)))) (IsSmallRound (suc r))
+    kept true o is small waits = tt
+    kept false o is small waits = later o is small waits
+
+    step : (x : Option Opened) → opened e (suc r) [] cs ≡ x
+        → IfSome (option_map at x) (IsSmallRound (suc r)) → IfSome x (HasSmallWaiting e r)
+        → IfSome (option_map at (opened_by e (suc r) cs x c)) (IsSmallRound (suc r))
+    step None is small waits = first (opening e (suc r) c) (opening_fits c fits e (suc r))
+    step (Some o) is small waits = kept (is_cancelled e (suc r) c) o is small waits
+
+-- who waits for a place in a round that it opens, or leaves open
+waits_more : (cs : List Command) (c : Command) → IsSmall cs → (e : Event) (r : ℕ)
+    → IfSome (opened e (suc r) [] (cs ++ c ∷ [])) (HasSmallWaiting e r)
+waits_more cs c h e r =
+    subst (λ (o : Option Opened). IfSome o (HasSmallWaiting e r))
+    (sym (opened_push e (suc r) cs c)) (step (opened e (suc r) [] cs) (h.waiting e r))
+  where
+    first : (o : Option Settings) → IfSome (option_map (just_opened cs) o) (HasSmallWaiting e r)
+    first None = tt
+    first (Some settings) = wait_numbers r (round_in e r cs) (h.rounds e r)
+
+    kept : (b : Bool) (o : Opened) → HasSmallWaiting e r o
+        → IfSome (cond b None (Some (plus_command c o))) (HasSmallWaiting e r)
+    kept true o waits = tt
+    kept false o waits = waits
+
+    step : (x : Option Opened) → IfSome x (HasSmallWaiting e r)
+        → IfSome (opened_by e (suc r) cs x c) (HasSmallWaiting e r)
+    step None waits = first (opening e (suc r) c)
+    step (Some o) waits = kept (is_cancelled e (suc r) c) o waits
 
 stands_small : (given other old : Option (List ℕ)) → IfSome given IsSmallName
     → IfSome other IsSmallName → IfSome old IsSmallName
@@ -529,336 +683,34 @@ stands_small given other None g o h = g
 stands_small given None (Some x) g o h = h
 stands_small given (Some y) (Some x) g o h = o
 
--- one more command that gives no long name, makes no large round and lets nobody else wait
-small_with : (cs : List Command) (c : Command) → HasShortName c
-    → ((e : Event) (r : ℕ) → IfSome (round_of (cs ++ c ∷ []) e r) (IsSmallRound r))
-    → ((e : Event) (r : ℕ) → IfSome (waiting_of (cs ++ c ∷ []) e r) AreSmallNumbers) → IsSmall cs
-    → IsSmall (cs ++ c ∷ [])
-small_with cs c named rounds waiting h = record {
-  names =
-      λ n.
-      subst (λ o. IfSome o IsSmallName)
-      (sym (standing_push (name_given n) (renaming n) cs c))
-      (stands_small (name_given n c) (renaming n c) (name_of cs n) (named n).0 (named n).1
-      (h.names n));
-  rounds = rounds;
-  waiting = waiting;
-}
-
--- who waits is no other after a command by which nobody withdraws, and that opens no round and
--- takes none back
-waits_still : (cs : List Command) (c : Command)
-    → ((e : Event) (r : ℕ) → keeps_open e r c ≡ true)
-    → ((e : Event) (r : ℕ) → is_withdrawal e r c ≡ false) → IsSmall cs
-    → (e : Event) (r : ℕ) → IfSome (waiting_of (cs ++ c ∷ []) e r) AreSmallNumbers
-waits_still cs c opens stay h e r =
-    subst (λ o. IfSome o AreSmallNumbers) (sym (waiting_same e r cs c (opens e r) (stay e r)))
-    (h.waiting e r)
-
--- by what the round is after the command
-round_is : (r : ℕ) (new old : Option (Settings × Table)) → new ≡ old → IfSome old (IsSmallRound r)
-    → IfSome new (IsSmallRound r)
-round_is r new old is h = subst (λ o. IfSome o (IsSmallRound r)) (sym is) h
-
 given_small : (name : List ℕ) → IsSmallName name → (b : Bool)
     → IfSome (cond b (Some name) None) IsSmallName
 given_small name short true = short
 given_small name short false = tt
 
-register_small : (n : ℕ) (name : List ℕ) → IsSmallName name → HasShortName (Register n name)
-register_small n name short m = (given_small name short (n == m), tt)
+-- a name that it gives
+naming_small : (c : Command) → IsFit c → (n : ℕ)
+    → IfSome (name_given n c) IsSmallName × IfSome (renaming n c) IsSmallName
+unfolding rows
+naming_small (Register n name) fits m =
+    (given_small name (name_room name fits.0.1.0) (n == m), tt)
+naming_small (Rename n name) fits m =
+    (tt, given_small name (new_name_room name fits.0.1.0) (n == m))
+naming_small _ fits m = (tt, tt)
 
-rename_small : (n : ℕ) (name : List ℕ) → IsSmallName name → HasShortName (Rename n name)
-rename_small n name short m = (tt, given_small name short (n == m))
-
-no_name : (c : Command) → ((n : ℕ) → name_given n c ≡ None) → ((n : ℕ) → renaming n c ≡ None)
-    → HasShortName c
-no_name c given other n = rw (given n, other n) (tt, tt)
-
-exited_small : (cs : List Command) (e f : Event) (r s n : ℕ)
-    → withdraw_refusal n (round_of cs f s) ≡ None → IsSmall cs
-    → IfSome
-    (cond (same_event e f && r == s)
-    (option_map (with_exit n (option_and_then first_of_all (waiting_of cs f s))) (round_of cs e r))
-    (round_of cs e r))
-    (IsSmallRound r)
-exited_small cs e f r s n allowed h = step (same_event e f && r == s) refl
-  where
-    first : (w : Option (List ℕ)) → IfSome w AreSmallNumbers
-        → IfSome (option_and_then first_of_all w) (λ m. m ≤ 9999)
-    first None is = tt
-    first (Some []) is = tt
-    first (Some (m ∷ ms)) is = is.0
-
-    there : (x : Option (Settings × Table)) → IfSome x (IsSmallRound r)
-        → withdraw_refusal n x ≡ None
-        → IfSome
-        (option_map (with_exit n (option_and_then first_of_all (waiting_of cs f s))) x)
-        (IsSmallRound r)
-    there None is leaves = tt
-    there (Some x) is leaves =
-        exit_small r n (option_and_then first_of_all (waiting_of cs f s))
-        (first (waiting_of cs f s) (h.waiting f s)) x leaves is
-
-    step : (b : Bool) → (same_event e f && r == s) ≡ b
-        → IfSome
-        (cond b
-        (option_map (with_exit n (option_and_then first_of_all (waiting_of cs f s)))
-        (round_of cs e r))
-        (round_of cs e r))
-        (IsSmallRound r)
-    step true here =
-        let event : e ≡ f = same_event-equal e f (grind arith) in
-        let round : r ≡ s = eqb-true r s (grind arith) in
-        there (round_of cs e r) (h.rounds e r)
-        (ap (λ (x : Event). withdraw_refusal n (round_of cs x r)) event
-        ∙ ap (λ (k : ℕ). withdraw_refusal n (round_of cs f k)) round ∙ allowed)
-    step false other = h.rounds e r
-
--- who waits behind the first
-exit_waits : (cs : List Command) (e f : Event) (r s n : ℕ) → IsSmall cs
-    → IfSome (waiting_of (cs ++ Withdraw (round_id f s) n ∷ []) e r) AreSmallNumbers
-exit_waits cs e f r s n h =
-    subst (λ o. IfSome o AreSmallNumbers) (sym (waiting_exit e f r s n cs))
-    (step (same_event e f && r == s) (waiting_of cs e r) (h.waiting e r))
-  where
-    step : (b : Bool) (w : Option (List ℕ)) → IfSome w AreSmallNumbers
-        → IfSome (cond b (option_map (drop 1) w) w) AreSmallNumbers
-    step true None is = tt
-    step true (Some []) is = tt
-    step true (Some (m ∷ ms)) is = is.1
-    step false w is = is
-
--- who waits once a round is opened
-open_waits : (cs : List Command) (e f : Event) (r s : ℕ) (settings : Settings) → 1 ≤ s → IsSmall cs
-    → IfSome (waiting_of (cs ++ Open (round_id f s) settings ∷ []) e r) AreSmallNumbers
-open_waits cs e f r s settings low h =
-    subst (λ o. IfSome o AreSmallNumbers) (sym (waiting_open e f r s settings cs low))
-    (step (same_event e f && r == s) (waiting_of cs e r) (h.waiting e r))
-  where
-    step : (b : Bool) (w : Option (List ℕ)) → IfSome w AreSmallNumbers
-        → IfSome
-        (option_or w (cond b (Some (who_wait (round_of cs f (s - 1)))) None)) AreSmallNumbers
-    step b (Some ns) is = is
-    step true None is =
-        wait_numbers (s - 1) (round_of cs f (s - 1)) (h.rounds f (s - 1))
-    step false None is = tt
-
--- what holds where there is something holds of what may be taken back
-none_or : {X : Type 0} (P : X → Type 0) (b : Bool) (x : Option X) → IfSome x P
-    → IfSome (cond b None x) P
-none_or P true x h = tt
-none_or P false x h = h
-
--- who waits once a round is taken back
-cancel_waits : (cs : List Command) (e f : Event) (r s : ℕ) → IsSmall cs
-    → IfSome (waiting_of (cs ++ Cancel (round_id f s) ∷ []) e r) AreSmallNumbers
-cancel_waits cs e f r s h =
-    subst (λ o. IfSome o AreSmallNumbers) (sym (waiting_cancel e f r s cs))
-    (none_or AreSmallNumbers (same_event e f && r == s) (waiting_of cs e r) (h.waiting e r))
-
-withdraws : (n : ℕ) (b : Bool) (round : Option (Settings × Table))
-    → cond (not b) (Some code.UnknownCompetitor) (withdraw_refusal n round) ≡ None
-    → withdraw_refusal n round ≡ None
-withdraws n true round h = h
-withdraws n false round h = absurd (some≢none code.UnknownCompetitor h)
-
-entered_small : (cs : List Command) (e f : Event) (r n : ℕ) → n ≤ 9999
-    → enter_refusal n (round_of cs f 1) ≡ None → IsSmall cs
-    → IfSome
-    (cond (same_event e f && r == 1) (option_map (with_entry n) (round_of cs e r))
-    (round_of cs e r))
-    (IsSmallRound r)
-entered_small cs e f r n fits allowed h = step (same_event e f && r == 1) refl
-  where
-    there : (x : Option (Settings × Table)) → IfSome x (IsSmallRound r) → enter_refusal n x ≡ None
-        → IfSome (option_map (with_entry n) x) (IsSmallRound r)
-    there None is enters = tt
-    there (Some x) is enters = entry_small r n fits x (has_room n x.1 enters) is
-
-    step : (b : Bool) → (same_event e f && r == 1) ≡ b
-        → IfSome (cond b (option_map (with_entry n) (round_of cs e r)) (round_of cs e r))
-        (IsSmallRound r)
-    step true here =
-        let event : e ≡ f = same_event-equal e f (grind arith) in
-        let round : r ≡ 1 = eqb-true r 1 (grind arith) in
-        there (round_of cs e r) (h.rounds e r)
-        (ap (λ (x : Event). enter_refusal n (round_of cs x r)) event
-        ∙ ap (λ (s : ℕ). enter_refusal n (round_of cs f s)) round ∙ allowed)
-    step false other = h.rounds e r
-
-opened_small : (cs : List Command) (e f : Event) (r s : ℕ) (settings : Settings) → s ≤ 4
-    → IsFitSettings settings → IsSmall cs
-    → IfSome
-    (cond (same_event e f && r == s) (Some (with_table settings (opening_table f s settings cs)))
-    None)
-    (IsSmallRound r)
-opened_small cs e f r s settings last fits h = step (same_event e f && r == s) refl
-  where
-    step : (b : Bool) → (same_event e f && r == s) ≡ b
-        → IfSome (cond b (Some (with_table settings (opening_table f s settings cs))) None)
-        (IsSmallRound r)
-    step true here =
-        let round : r ≡ s = eqb-true r s (grind arith) in
-        subst (λ (k : ℕ). IsSmallRound k (with_table settings (opening_table f s settings cs)))
-        (sym round) (opening_small f s settings cs last fits h)
-    step false other = tt
-
--- a card that is accepted
-dealt_small : (cs : List Command) (c : Command) (card : CardEntry) → IsOfCard c card
-    → IsReadCard card → IsSmall cs → IsSmall (cs ++ c ∷ [])
-dealt_small cs c card deals read h =
-    small_with cs c (no_name c deals.unnamed deals.same)
-    (λ e r.
-    round_is r _ _ (round_dealt c card deals e r cs)
-    (changed r (is_of e r card.id) (with_outcomes (scrambles_of cs card.id) card) (round_of cs e r)
-    (h.rounds e r) (card_small r (scrambles_of cs card.id) card read)))
-    (waits_still cs c deals.opens deals.stay h)
-    h
-
--- one more command that is accepted
+-- all of it, where it is accepted
 small_more : (cs : List Command) (c : Command) → IsFit c → refusal cs c ≡ None → IsSmall cs
     → IsSmall (cs ++ c ∷ [])
-unfolding rows
-small_more cs (Register n name) fits allowed h =
-    small_with cs (Register n name)
-    (register_small n name (name_room name fits.0.1.0))
-    (λ e r. round_is r _ _ (round_register e r n name cs) (h.rounds e r))
-    (waits_still cs (Register n name) (λ e r. refl) (λ e r. refl) h)
-    h
-small_more cs (Rename n name) fits allowed h =
-    small_with cs (Rename n name)
-    (rename_small n name (new_name_room name fits.0.1.0))
-    (λ e r. round_is r _ _ (round_rename e r n name cs) (h.rounds e r))
-    (waits_still cs (Rename n name) (λ e r. refl) (λ e r. refl) h)
-    h
-small_more cs (Open id settings) fits allowed h =
-    small_with cs (Open id settings)
-    (no_name (Open id settings) (λ n. refl) (λ n. refl))
-    (λ e r.
-    round_is r _ _ (round_open e id.event r id.round settings cs fits.0.1.0.0)
-    (either (IsSmallRound r) _ _ (h.rounds e r)
-    (opened_small cs e id.event r id.round settings fits.0.1.0.1
-    (fits.0.1.1.1.0, fits.0.1.1.1.1.0, fits.0.1.1.1.1.1.0) h)))
-    (λ e r. open_waits cs e id.event r id.round settings fits.0.1.0.0 h)
-    h
-small_more cs (Enter f n) fits allowed h =
-    small_with cs (Enter f n)
-    (no_name (Enter f n) (λ n. refl) (λ n. refl))
-    (λ e r.
-    round_is r _ _ (round_enter e f r n cs)
-    (entered_small cs e f r n fits.0.1.0.1
-    (enters n (is_registered cs n) (round_of cs f 1) allowed) h))
-    (waits_still cs (Enter f n) (λ e r. refl) (λ e r. refl) h)
-    h
-small_more cs (Scramble id k moves) fits allowed h =
-    small_with cs (Scramble id k moves)
-    (no_name (Scramble id k moves) (λ n. refl) (λ n. refl))
-    (λ e r. round_is r _ _ (round_scramble e id.event r id.round k moves cs) (h.rounds e r))
-    (waits_still cs (Scramble id k moves) (λ e r. refl) (λ e r. refl) h)
-    h
-small_more cs (Rescramble id k moves) fits allowed h =
-    small_with cs (Rescramble id k moves)
-    (no_name (Rescramble id k moves) (λ n. refl) (λ n. refl))
-    (λ e r. round_is r _ _ (round_rescramble e id.event r id.round k moves cs) (h.rounds e r))
-    (waits_still cs (Rescramble id k moves) (λ e r. refl) (λ e r. refl) h)
-    h
-small_more cs (Attempt entry) fits allowed h =
-    small_with cs (Attempt entry)
-    (no_name (Attempt entry) (λ n. refl) (λ n. refl))
-    (λ e r.
-    round_is r _ _
-    (round_attempt e entry.id.event r entry.id.round entry.attempt entry.number entry.outcome cs)
-    (changed r (is_of e r entry.id) (with_attempt entry.number (scramble_by cs entry) entry.outcome)
-    (round_of cs e r) (h.rounds e r)
-    (attempt_small r entry.number (scramble_by cs entry) entry.outcome fits.0.1.1.1.1.0)))
-    (waits_still cs (Attempt entry) (λ e r. refl) (λ e r. refl) h)
-    h
-small_more cs (Correct entry) fits allowed h =
-    small_with cs (Correct entry)
-    (no_name (Correct entry) (λ n. refl) (λ n. refl))
-    (λ e r.
-    round_is r _ _
-    (round_correct e entry.id.event r entry.id.round entry.attempt entry.number entry.outcome cs)
-    (changed r (is_of e r entry.id)
-    (with_correction entry.number entry.attempt (scramble_by cs entry) entry.outcome)
-    (round_of cs e r) (h.rounds e r)
-    (correction_small r entry.number entry.attempt (scramble_by cs entry) entry.outcome
-    fits.0.1.1.1.1.0)))
-    (waits_still cs (Correct entry) (λ e r. refl) (λ e r. refl) h)
-    h
-small_more cs (Card card) fits allowed h =
-    dealt_small cs (Card card) card (card_is card) (card_read card fits) h
-small_more cs (Fix card) fits allowed h =
-    dealt_small cs (Fix card) card (fix_is card) (fix_read card fits) h
-small_more cs (Strike id m) fits allowed h =
-    small_with cs (Strike id m)
-    (no_name (Strike id m) (λ n. refl) (λ n. refl))
-    (λ e r.
-    round_is r _ _ (round_strike e id.event r id.round m cs)
-    (changed r (is_of e r id) (with_strike m) (round_of cs e r) (h.rounds e r)
-    (strike_small r m)))
-    (waits_still cs (Strike id m) (λ e r. refl) (λ e r. refl) h)
-    h
-small_more cs (SetAdvance id advance) fits allowed h =
-    small_with cs (SetAdvance id advance)
-    (no_name (SetAdvance id advance) (λ n. refl) (λ n. refl))
-    (λ e r.
-    round_is r _ _ (round_advance e id.event r id.round advance cs)
-    (changed r (is_of e r id) (with_advance advance) (round_of cs e r) (h.rounds e r)
-    (advance_small r advance fits.0.1.1.0)))
-    (waits_still cs (SetAdvance id advance) (λ e r. refl) (λ e r. refl) h)
-    h
-small_more cs (SetRound id format cutoff limit) fits allowed h =
-    small_with cs (SetRound id format cutoff limit)
-    (no_name (SetRound id format cutoff limit) (λ n. refl) (λ n. refl))
-    (λ e r.
-    round_is r _ _ (round_settings e id.event r id.round format cutoff limit cs)
-    (changed r (is_of e r id) (with_settings format cutoff limit) (round_of cs e r) (h.rounds e r)
-    (settings_small r format cutoff limit fits.0.1.1.1.0 fits.0.1.1.1.1.0)))
-    (waits_still cs (SetRound id format cutoff limit) (λ e r. refl) (λ e r. refl) h)
-    h
-small_more cs (Close id) fits allowed h =
-    small_with cs (Close id)
-    (no_name (Close id) (λ n. refl) (λ n. refl))
-    (λ e r.
-    round_is r _ _ (round_close e id.event r id.round cs)
-    (changed r (is_of e r id) with_end (round_of cs e r) (h.rounds e r)
-    (end_small r)))
-    (waits_still cs (Close id) (λ e r. refl) (λ e r. refl) h)
-    h
-small_more cs (Reopen id) fits allowed h =
-    small_with cs (Reopen id)
-    (no_name (Reopen id) (λ n. refl) (λ n. refl))
-    (λ e r.
-    round_is r _ _ (round_reopen e id.event r id.round cs)
-    (changed r (is_of e r id) with_reopening (round_of cs e r) (h.rounds e r)
-    (reopening_small r)))
-    (waits_still cs (Reopen id) (λ e r. refl) (λ e r. refl) h)
-    h
-small_more cs (Withdraw id n) fits allowed h =
-    small_with cs (Withdraw id n)
-    (no_name (Withdraw id n) (λ n. refl) (λ n. refl))
-    (λ e r.
-    round_is r _ _ (round_exit e id.event r id.round n cs)
-    (exited_small cs e id.event r id.round n
-    (withdraws n (is_registered cs n) (round_of cs id.event id.round) allowed) h))
-    (λ e r. exit_waits cs e id.event r id.round n h)
-    h
-small_more cs (Cancel id) fits allowed h =
-    small_with cs (Cancel id)
-    (no_name (Cancel id) (λ n. refl) (λ n. refl))
-    (λ e r.
-    round_is r _ _ (round_cancel e id.event r id.round cs)
-    (none_or (IsSmallRound r) (is_of e r id) (round_of cs e r) (h.rounds e r)))
-    (λ e r. cancel_waits cs e id.event r id.round h)
-    h
-small_more cs (SetEdition edition) fits allowed h =
-    small_with cs (SetEdition edition)
-    (no_name (SetEdition edition) (λ n. refl) (λ n. refl))
-    (λ e r. round_is r _ _ (round_edition e r edition cs) (h.rounds e r))
-    (waits_still cs (SetEdition edition) (λ e r. refl) (λ e r. refl) h)
-    h
+small_more cs c fits allowed h = record {
+  names =
+      λ n.
+      subst (λ o. IfSome o IsSmallName)
+      (sym (standing_push (name_given n) (renaming n) cs c))
+      (stands_small (name_given n c) (renaming n c) (name_of cs n) (naming_small c fits n).0
+      (naming_small c fits n).1 (h.names n));
+  rounds = rounds_more cs c fits allowed h;
+  waiting = waits_more cs c h;
+}
 
 -- Entries
 
@@ -904,10 +756,6 @@ small_fold h [] small = small
 small_fold h (entry ∷ entries) small =
     small_fold (after h entry.0 entry.1) entries (small_after h entry.0 entry.1 small)
 
-nobody_waits : (e : Event) (r : ℕ) → IfSome (waiting_of [] e r) AreSmallNumbers
-nobody_waits e zero = tt
-nobody_waits e (suc r) = tt
-
 none_opened : (e : Event) (r : ℕ) → IfSome (round_of [] e r) (IsSmallRound r)
 unfolding round_in
 none_opened e zero = tt
@@ -917,4 +765,4 @@ none_opened e (suc r) = tt
 pub small_history : (entries : List (ℕ × List ℕ)) → IsSmall (history entries).accepted
 small_history entries =
     small_fold nothing entries
-    (record { names = λ n. tt; rounds = none_opened; waiting = nobody_waits })
+    (record { names = λ n. tt; rounds = none_opened; waiting = λ e r. tt })

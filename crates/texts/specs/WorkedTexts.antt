@@ -1,4 +1,5 @@
--- Worked texts, by hand: one of each word, read and spelled, and some faults.
+-- Worked texts, by hand, with one of each kind of field at least: read and spelled, and some
+-- faults.
 use Rattle.std.specs.Prelude.{◌≡◌, ℕ, true, false, List, [], ◌∷◌, codes, Option, Some, None, Ok}
 use Rattle.std.specs.Prelude.{Err}
 use Rattle.attempts.specs.declared.Value.TheVariants as counted

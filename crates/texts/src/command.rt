@@ -47,7 +47,7 @@ impl Name {
 }
 
 /// How a round is run.
-#[derive(Clone, Copy, Debug, PartialEq, Eq)]
+#[derive(Clone, Copy)]
 pub struct Settings {
     /// How many attempts there are, and what counts of them.
     pub format: Format,

@@ -85,11 +85,11 @@ fn remark_edition(has_remark: bool) -> u8
     if has_remark { 4 } else { 1 }
 }
 
-/// Whether an edition has a spelling of a command with its remark. The event `333mbf` and the
-/// outcome `M:` came with edition 2; `REN`, `SET`, `RSC`, `WDR` and `REOPEN` with edition 3;
-/// `CARD`, `FIX`, `CANCEL` and remarks with edition 4. A name of more than 80 bytes is spelled from
-/// edition 3 on; one with a double quote, or with a character that is not seen, in editions 1 and 2
-/// alone. `EDITION 2` to `EDITION 4` are spelled in each.
+/// Whether an edition has a spelling of a command with its remark. Each command came with the
+/// edition of its row, the event `333mbf` and the outcome `M:` with edition 2, remarks with edition
+/// 4. A name of more than 80 bytes is spelled from edition 3 on; one with a double quote, or with a
+/// character that is not seen, in editions 1 and 2 alone. `EDITION 2` to `EDITION 4` are spelled in
+/// each.
 pub fn is_spelled_in(edition: u8, told: &Remarked) -> bool
     ensures { result ≡ is_spelled_in edition told.now }
 {
@@ -100,8 +100,9 @@ pub fn is_spelled_in(edition: u8, told: &Remarked) -> bool
         && remark_edition(told.remark.is_some()) <= edition
 }
 
-/// A law: worked texts, one of each word, are read and spelled as they are by hand, and came with
-/// the edition that they should; some are no commands, and have the fault that they should have.
+/// A law: worked texts, with one of each kind of field at least, are read and spelled as they are
+/// by hand, and came with the edition that they should; some are no commands, and have the fault
+/// that they should have.
 pub fn worked_texts()
     ensures { ReadsWorkedTexts }
 {}

@@ -211,8 +211,10 @@ pub fn entered_of(alloc: Global, bytes: &[u8]) -> Result<Option<Entered>, NoMemo
     } else if let Some(time) = bytes.strip_prefix(b"T:".as_slice()) {
         Ok(time_of(time))
     } else if let Some(solution) = bytes.strip_prefix(b"S:".as_slice()) {
-        let moves = moves_of(alloc, solution)?;
-        Ok(moves.map(|moves| Entered::Solution { moves }))
+        match moves_of(alloc, solution)? {
+            Some(moves) => Ok(Some(Entered::Solution { moves })),
+            None => Ok(None),
+        }
     } else {
         Ok(cubes_of(bytes))
     }
@@ -265,8 +267,10 @@ fn stays_or_of(alloc: Global, bytes: &[u8]) -> Result<Option<Option<Entered>>, N
     if bytes == b"=".as_slice() {
         return Ok(Some(None));
     }
-    let outcome = entered_of(alloc, bytes)?;
-    Ok(outcome.map(|outcome| Some(outcome)))
+    match entered_of(alloc, bytes)? {
+        Some(outcome) => Ok(Some(Some(outcome))),
+        None => Ok(None),
+    }
 }
 
 /// Whether something is entered for each attempt after those that stand, so many.

@@ -30,7 +30,12 @@ fn is_text(bytes: &[u8]) -> bool
 fn is_printable(bytes: &[u8]) -> bool
     ensures { result ≡ list_all is_name_byte bytes.now }
 {
-    bytes.iter().all(|byte| b' ' <= *byte && *byte != 127)
+    for byte in bytes {
+        if *byte < b' ' || *byte == 127 {
+            return false;
+        }
+    }
+    true
 }
 
 /// Whether no space is at an end, and no two are in a row.

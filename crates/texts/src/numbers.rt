@@ -11,7 +11,12 @@ ghost use Rattle.texts.specs.Fields.{number_between};
 fn is_digits(bytes: &[u8]) -> bool
     ensures { result ≡ list_all is_ascii_digit bytes.now }
 {
-    bytes.iter().all(|byte| byte.is_ascii_digit())
+    for byte in bytes {
+        if !byte.is_ascii_digit() {
+            return false;
+        }
+    }
+    true
 }
 
 /// Whether there are one to nineteen decimal digits, with no zero in front of another.

@@ -34,7 +34,7 @@ use std::alloc::{AllocError, Global};
 const MOST_TEXT: usize = 600;
 
 /// Why a text is no command.
-#[derive(Clone, Copy, Debug, PartialEq, Eq)]
+#[derive(Clone, Copy)]
 pub enum CommandFault {
     /// The text has more than 600 bytes.
     TooLong,
@@ -95,7 +95,10 @@ fn moves_value(alloc: Global, bytes: &[u8]) -> Result<Option<FieldValue>, NoMemo
     ensures memory { OnErr result
         (TakesForValue FieldKind.Moves (value_of 0 FieldKind.Moves bytes.now)) }
 {
-    Ok(moves_of(alloc, bytes)?.map(FieldValue::Moves))
+    match moves_of(alloc, bytes)? {
+        Some(moves) => Ok(Some(FieldValue::Moves(moves))),
+        None => Ok(None),
+    }
 }
 
 #[tactic(auto, using(crate::proofs::Memory::outcome_takes))]
@@ -104,7 +107,10 @@ fn outcome_value(alloc: Global, bytes: &[u8]) -> Result<Option<FieldValue>, NoMe
     ensures memory { OnErr result
         (TakesForValue FieldKind.Outcome (value_of 0 FieldKind.Outcome bytes.now)) }
 {
-    Ok(entered_of(alloc, bytes)?.map(FieldValue::Outcome))
+    match entered_of(alloc, bytes)? {
+        Some(outcome) => Ok(Some(FieldValue::Outcome(outcome))),
+        None => Ok(None),
+    }
 }
 
 #[tactic(auto, using(crate::proofs::Memory::was_takes))]
@@ -113,7 +119,10 @@ fn was_value(alloc: Global, bytes: &[u8]) -> Result<Option<FieldValue>, NoMemory
     ensures memory { OnErr result
         (TakesForValue FieldKind.Was (value_of 0 FieldKind.Was bytes.now)) }
 {
-    Ok(was_of(alloc, bytes)?.map(FieldValue::Was))
+    match was_of(alloc, bytes)? {
+        Some(was) => Ok(Some(FieldValue::Was(was))),
+        None => Ok(None),
+    }
 }
 
 #[tactic(auto, using(crate::proofs::Memory::now_takes))]
@@ -122,7 +131,10 @@ fn now_value(alloc: Global, stands: usize, bytes: &[u8]) -> Result<Option<FieldV
     ensures memory { OnErr result
         (TakesForValue FieldKind.Now (value_of stands FieldKind.Now bytes.now)) }
 {
-    Ok(now_of(alloc, stands, bytes)?.map(FieldValue::Now))
+    match now_of(alloc, stands, bytes)? {
+        Some(now) => Ok(Some(FieldValue::Now(now))),
+        None => Ok(None),
+    }
 }
 
 /// The value that bytes spell, where they spell one of a kind, and so many attempts stand.
@@ -136,19 +148,46 @@ fn value_of(
     ensures memory { OnErr result (TakesForValue kind (value_of stands kind bytes.now)) }
 {
     match kind {
-        FieldKind::Number => Ok(u16_between(1, LAST_NUMBER, bytes).map(FieldValue::Number)),
+        FieldKind::Number => match u16_between(1, LAST_NUMBER, bytes) {
+            Some(number) => Ok(Some(FieldValue::Number(number))),
+            None => Ok(None),
+        },
         FieldKind::Name => name_value(alloc, bytes),
         FieldKind::NewName => new_name_value(alloc, bytes),
-        FieldKind::Event => Ok(Event::from_name(bytes).map(FieldValue::Event)),
-        FieldKind::Round => Ok(u8_between(1, LAST_ROUND, bytes).map(FieldValue::Round)),
-        FieldKind::Format => Ok(Format::from_name(bytes).map(FieldValue::Format)),
-        FieldKind::Cutoff => Ok(cutoff_of(bytes).map(FieldValue::Cutoff)),
-        FieldKind::Limit => Ok(limit_of(bytes).map(FieldValue::Limit)),
-        FieldKind::Advance => Ok(advance_of(bytes).map(FieldValue::Advance)),
-        FieldKind::Attempt => Ok(u8_between(1, LAST_ATTEMPT, bytes).map(FieldValue::Attempt)),
+        FieldKind::Event => match Event::from_name(bytes) {
+            Some(event) => Ok(Some(FieldValue::Event(event))),
+            None => Ok(None),
+        },
+        FieldKind::Round => match u8_between(1, LAST_ROUND, bytes) {
+            Some(round) => Ok(Some(FieldValue::Round(round))),
+            None => Ok(None),
+        },
+        FieldKind::Format => match Format::from_name(bytes) {
+            Some(format) => Ok(Some(FieldValue::Format(format))),
+            None => Ok(None),
+        },
+        FieldKind::Cutoff => match cutoff_of(bytes) {
+            Some(cutoff) => Ok(Some(FieldValue::Cutoff(cutoff))),
+            None => Ok(None),
+        },
+        FieldKind::Limit => match limit_of(bytes) {
+            Some(limit) => Ok(Some(FieldValue::Limit(limit))),
+            None => Ok(None),
+        },
+        FieldKind::Advance => match advance_of(bytes) {
+            Some(advance) => Ok(Some(FieldValue::Advance(advance))),
+            None => Ok(None),
+        },
+        FieldKind::Attempt => match u8_between(1, LAST_ATTEMPT, bytes) {
+            Some(attempt) => Ok(Some(FieldValue::Attempt(attempt))),
+            None => Ok(None),
+        },
         FieldKind::Moves => moves_value(alloc, bytes),
         FieldKind::Outcome => outcome_value(alloc, bytes),
-        FieldKind::Edition => Ok(u8_between(2, LAST_EDITION, bytes).map(FieldValue::Edition)),
+        FieldKind::Edition => match u8_between(2, LAST_EDITION, bytes) {
+            Some(edition) => Ok(Some(FieldValue::Edition(edition))),
+            None => Ok(None),
+        },
         FieldKind::Was => was_value(alloc, bytes),
         FieldKind::Now => now_value(alloc, stands, bytes),
     }

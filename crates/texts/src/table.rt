@@ -4,7 +4,7 @@ ghost use Rattle.std.specs.Prelude.{◌≡◌, bytes_eq, find, map, option_map};
 ghost use Rattle.texts.specs.Table.{is_rest, kind_at, plain, row_named, row_of, same_tag};
 
 /// What stands in a field of a command.
-#[derive(Clone, Copy, Debug, PartialEq, Eq)]
+#[derive(Clone, Copy)]
 pub enum FieldKind {
     Number,
     Name,
@@ -42,7 +42,7 @@ impl FieldKind {
 }
 
 /// Which command it is.
-#[derive(Clone, Copy, Debug, PartialEq, Eq)]
+#[derive(Clone, Copy, PartialEq, Eq)]
 pub enum Tag {
     Register,
     Open,

@@ -1,18 +1,25 @@
 use Rattle.std.proofs.Common.{refl, sym, ◌∙◌}
-use Rattle.commands.specs.model.Kept.{IsIndexOf, IsAsBefore}
+use Rattle.rounds.specs.Tables.{without_last}
+use Rattle.texts.specs.declared.command.Command.TheVariants as command
+use Rattle.texts.specs.Fields.{round_id}
+use Rattle.commands.specs.model.Kept.{IsIndexOf, IsAsBefore, with_advance, with_end}
+use Rattle.commands.specs.model.Kept.{with_reopening, with_settings, with_strike}
+use Rattle.commands.proofs.Apart.{changed_stays}
 use Rattle.commands.proofs.Within.{attempt_within, correct_within, rescramble_within}
-use Rattle.commands.specs.Accepted.{is_registered}
+use Rattle.commands.specs.Accepted.{advance_refusal, correct_refusal, enter_refusal}
+use Rattle.commands.specs.Accepted.{entered_refusal, is_registered, put_refusal, rules_refusal}
+use Rattle.commands.specs.Accepted.{scramble_by, scramble_of, scramble_refusal, strike_refusal}
+use Rattle.commands.specs.Accepted.{withdraw_refusal}
 use Rattle.commands.proofs.CardIndex.{known_of}
 use Rattle.commands.proofs.ReadCards.{card_read, fix_read}
 use Rattle.commands.proofs.Lookups.{on_err_then}
-use Rattle.commands.proofs.Arms.{unknown, entry_answered, scrambles, attempt_answered}
-use Rattle.commands.proofs.Arms.{correction_answered, again_answered, strikes}
-use Rattle.commands.proofs.Arms.{advances, closes, sets, exit_answered, reopens}
-use Rattle.commands.proofs.Arms.{known_number, cancels}
-use Rattle.commands.proofs.Indexed.{registered, entered, scrambled, attempted, corrected, stricken}
-use Rattle.commands.proofs.Indexed.{advanced, ended, edition_noted, nothing_added, renamed}
-use Rattle.commands.proofs.Indexed.{settings_changed, rescrambled, rescramble_alike, withdrew}
-use Rattle.commands.proofs.Indexed.{reopened_or, cancelled_or, kept_as_before}
+use Rattle.commands.proofs.Arms.{unknown, by_round, by_entrant, by_entrant_or, again_answered}
+use Rattle.commands.proofs.Arms.{closes, reopens, known_number, cancels}
+use Rattle.commands.proofs.EachCommand.{round_advance, round_close, round_reopen, round_settings}
+use Rattle.commands.proofs.EachCommand.{round_strike}
+use Rattle.commands.proofs.Indexed.{registered, entered, scrambled, attempted, corrected, renamed}
+use Rattle.commands.proofs.Indexed.{round_noted, edition_noted, nothing_added, rescrambled}
+use Rattle.commands.proofs.Indexed.{rescramble_alike, withdrew, cancelled_or, kept_as_before}
 use Rattle.commands.proofs.index.Index.apply.Goals as goal
 
 pub returns-then-is_of_nobody-clause-code : goal.returns-then-is_of_nobody-clause-code
@@ -33,8 +40,9 @@ returns-in-Register-clause-index c =
 pub returns-in-Enter-clause-code : goal.returns-in-Enter-clause-code
 returns-in-Enter-clause-code c =
     rw c.in-Enter.is
-    (entry_answered c.args.accepted.now c.args.self.now c.requires.index c.in-Enter.event
-    c.in-Enter.number c.enter.result
+    (by_entrant_or c.args.accepted.now c.args.self.now c.requires.index
+    (round_id c.in-Enter.event 1) c.in-Enter.number (enter_refusal c.in-Enter.number)
+    c.enter.result
     (rw c.in-Enter.is at (sym c.is_of_nobody.ensures ∙ c.if-is_of_nobody.false))
     c.enter.ensures.code)
 
@@ -47,8 +55,11 @@ returns-in-Enter-clause-index c =
 pub returns-in-Scramble-clause-code : goal.returns-in-Scramble-clause-code
 returns-in-Scramble-clause-code c =
     rw c.in-Scramble.is
-    (scrambles c.args.accepted.now c.args.self.now c.requires.index c.add_scramble.result
-    c.in-Scramble.id c.in-Scramble.attempt c.in-Scramble.moves
+    (by_round c.args.accepted.now c.args.self.now c.requires.index c.in-Scramble.id
+    (scramble_refusal c.in-Scramble.id.event c.in-Scramble.attempt
+    (scramble_of c.args.accepted.now c.in-Scramble.id.event c.in-Scramble.id.round
+    c.in-Scramble.attempt))
+    c.add_scramble.result
     (rw c.scramble_of-there.ensures at c.add_scramble.ensures.code))
 
 pub returns-in-Scramble-clause-index : goal.returns-in-Scramble-clause-index
@@ -68,8 +79,11 @@ put-requires-clause-attempt c =
 
 pub returns-in-Attempt-clause-code : goal.returns-in-Attempt-clause-code
 returns-in-Attempt-clause-code c =
+    let entry = c.in-Attempt.entry in
     rw c.in-Attempt.is
-    (attempt_answered c.args.accepted.now c.args.self.now c.requires.index c.in-Attempt.entry
+    (by_entrant_or c.args.accepted.now c.args.self.now c.requires.index entry.id entry.number
+    (entered_refusal entry.id.event entry.outcome (scramble_by c.args.accepted.now entry)
+    (put_refusal entry.number entry.attempt))
     c.put.result
     (rw c.in-Attempt.is at (sym c.is_of_nobody.ensures ∙ c.if-is_of_nobody.false))
     (rw c.scramble_of-scramble.ensures at c.put.ensures.code))
@@ -99,9 +113,13 @@ correct-requires-clause-attempt c =
 
 pub returns-in-Correct-clause-code : goal.returns-in-Correct-clause-code
 returns-in-Correct-clause-code c =
+    let entry = c.in-Correct.entry in
     rw c.in-Correct.is
-    (correction_answered c.args.accepted.now c.args.self.now c.requires.index
-    c.in-Correct.entry c.correct.result
+    (by_entrant_or c.args.accepted.now c.args.self.now c.requires.index entry.id entry.number
+    (entered_refusal entry.id.event entry.outcome (scramble_by c.args.accepted.now entry)
+    (correct_refusal entry.number entry.attempt (scramble_by c.args.accepted.now entry)
+    entry.outcome))
+    c.correct.result
     (rw c.in-Correct.is at (sym c.is_of_nobody.ensures ∙ c.if-is_of_nobody.false))
     (rw c.scramble_of-scramble-in-Correct.ensures at c.correct.ensures.code))
 
@@ -128,30 +146,39 @@ returns-in-Correct-clause-err c =
 pub returns-in-Strike-clause-code : goal.returns-in-Strike-clause-code
 returns-in-Strike-clause-code c =
     rw c.in-Strike.is
-    (strikes c.args.accepted.now c.args.self.now c.requires.index c.strike.result c.in-Strike.id
-    c.in-Strike.number
+    (by_entrant c.args.accepted.now c.args.self.now c.requires.index c.in-Strike.id
+    c.in-Strike.number (strike_refusal c.in-Strike.number) c.strike.result
     (rw c.in-Strike.is at (sym c.is_of_nobody.ensures ∙ c.if-is_of_nobody.false))
     c.strike.ensures.code)
 
 pub returns-in-Strike-clause-index : goal.returns-in-Strike-clause-index
 returns-in-Strike-clause-index c =
     rw c.in-Strike.is
-    (stricken c.args.accepted.now c.in-Strike.id.event c.in-Strike.id.round c.in-Strike.number
-    c.strike.result c.args.self.now _ c.requires.index refl c.strike.ensures.done
-    c.strike.ensures.refused)
+    (round_noted c.args.accepted.now (command.Strike c.in-Strike.id c.in-Strike.number)
+    c.in-Strike.id (with_strike c.in-Strike.number) c.strike.result c.args.self.now _
+    c.requires.index (λ f s k n. refl)
+    (λ f s.
+    round_strike f c.in-Strike.id.event s c.in-Strike.id.round c.in-Strike.number
+    c.args.accepted.now)
+    (λ x n. changed_stays n c.in-Strike.number without_last x.1.entrants)
+    refl c.strike.ensures.done c.strike.ensures.refused)
 
 pub returns-in-SetAdvance-clause-code : goal.returns-in-SetAdvance-clause-code
 returns-in-SetAdvance-clause-code c =
     rw c.in-SetAdvance.is
-    (advances c.args.accepted.now c.args.self.now c.requires.index c.set_advance.result
-    c.in-SetAdvance.id c.in-SetAdvance.advance c.set_advance.ensures.code)
+    (by_round c.args.accepted.now c.args.self.now c.requires.index c.in-SetAdvance.id
+    advance_refusal c.set_advance.result c.set_advance.ensures.code)
 
 pub returns-in-SetAdvance-clause-index : goal.returns-in-SetAdvance-clause-index
 returns-in-SetAdvance-clause-index c =
     rw c.in-SetAdvance.is
-    (advanced c.args.accepted.now c.in-SetAdvance.id.event c.in-SetAdvance.id.round
-    c.in-SetAdvance.advance c.set_advance.result c.args.self.now _ c.requires.index refl
-    c.set_advance.ensures.done c.set_advance.ensures.refused)
+    (round_noted c.args.accepted.now (command.SetAdvance c.in-SetAdvance.id c.in-SetAdvance.advance)
+    c.in-SetAdvance.id (with_advance c.in-SetAdvance.advance) c.set_advance.result c.args.self.now _
+    c.requires.index (λ f s k n. refl)
+    (λ f s.
+    round_advance f c.in-SetAdvance.id.event s c.in-SetAdvance.id.round c.in-SetAdvance.advance
+    c.args.accepted.now)
+    (λ x n. refl) refl c.set_advance.ensures.done c.set_advance.ensures.refused)
 
 pub returns-in-Close-clause-code : goal.returns-in-Close-clause-code
 returns-in-Close-clause-code c =
@@ -162,8 +189,10 @@ returns-in-Close-clause-code c =
 pub returns-in-Close-clause-index : goal.returns-in-Close-clause-index
 returns-in-Close-clause-index c =
     rw c.in-Close.is
-    (ended c.args.accepted.now c.in-Close.id.event c.in-Close.id.round c.close.result
-    c.args.self.now _ c.requires.index refl c.close.ensures.done c.close.ensures.refused)
+    (round_noted c.args.accepted.now (command.Close c.in-Close.id) c.in-Close.id with_end
+    c.close.result c.args.self.now _ c.requires.index (λ f s k n. refl)
+    (λ f s. round_close f c.in-Close.id.event s c.in-Close.id.round c.args.accepted.now)
+    (λ x n. refl) refl c.close.ensures.done c.close.ensures.refused)
 
 pub rename-requires-clause-known : goal.rename-requires-clause-known
 rename-requires-clause-known c =
@@ -179,15 +208,24 @@ returns-in-Rename-clause-index c =
 pub returns-in-SetRound-clause-code : goal.returns-in-SetRound-clause-code
 returns-in-SetRound-clause-code c =
     rw c.in-SetRound.is
-    (sets c.args.accepted.now c.args.self.now c.requires.index c.set_round.result c.in-SetRound.id
-    c.in-SetRound.format c.in-SetRound.cutoff c.in-SetRound.limit c.set_round.ensures.code)
+    (by_round c.args.accepted.now c.args.self.now c.requires.index c.in-SetRound.id
+    (rules_refusal c.in-SetRound.id.event c.in-SetRound.format c.in-SetRound.cutoff
+    c.in-SetRound.limit)
+    c.set_round.result c.set_round.ensures.code)
 
 pub returns-in-SetRound-clause-index : goal.returns-in-SetRound-clause-index
 returns-in-SetRound-clause-index c =
     rw c.in-SetRound.is
-    (settings_changed c.args.accepted.now c.in-SetRound.id.event c.in-SetRound.id.round
-    c.in-SetRound.format c.in-SetRound.cutoff c.in-SetRound.limit c.set_round.result
-    c.args.self.now _ c.requires.index refl c.set_round.ensures.done c.set_round.ensures.refused)
+    (round_noted c.args.accepted.now
+    (command.SetRound c.in-SetRound.id c.in-SetRound.format c.in-SetRound.cutoff
+    c.in-SetRound.limit)
+    c.in-SetRound.id
+    (with_settings c.in-SetRound.format c.in-SetRound.cutoff c.in-SetRound.limit)
+    c.set_round.result c.args.self.now _ c.requires.index (λ f s k n. refl)
+    (λ f s.
+    round_settings f c.in-SetRound.id.event s c.in-SetRound.id.round c.in-SetRound.format
+    c.in-SetRound.cutoff c.in-SetRound.limit c.args.accepted.now)
+    (λ x n. refl) refl c.set_round.ensures.done c.set_round.ensures.refused)
 
 pub returns-in-Rescramble-clause-code : goal.returns-in-Rescramble-clause-code
 returns-in-Rescramble-clause-code c =
@@ -220,8 +258,8 @@ withdraw-requires c =
 pub returns-in-Withdraw-clause-code : goal.returns-in-Withdraw-clause-code
 returns-in-Withdraw-clause-code c =
     rw c.in-Withdraw.is
-    (exit_answered c.args.accepted.now c.args.self.now c.requires.index c.in-Withdraw.id
-    c.in-Withdraw.number c.withdraw.result
+    (by_entrant_or c.args.accepted.now c.args.self.now c.requires.index c.in-Withdraw.id
+    c.in-Withdraw.number (withdraw_refusal c.in-Withdraw.number) c.withdraw.result
     (rw c.in-Withdraw.is at (sym c.is_of_nobody.ensures ∙ c.if-is_of_nobody.false))
     c.withdraw.ensures.code)
 
@@ -241,8 +279,10 @@ returns-in-Reopen-clause-code c =
 pub returns-in-Reopen-clause-index : goal.returns-in-Reopen-clause-index
 returns-in-Reopen-clause-index c =
     rw c.in-Reopen.is
-    (reopened_or c.args.accepted.now c.in-Reopen.id.event c.in-Reopen.id.round c.reopen.result
-    c.args.self.now _ c.requires.index refl c.reopen.ensures.done c.reopen.ensures.refused)
+    (round_noted c.args.accepted.now (command.Reopen c.in-Reopen.id) c.in-Reopen.id with_reopening
+    c.reopen.result c.args.self.now _ c.requires.index (λ f s k n. refl)
+    (λ f s. round_reopen f c.in-Reopen.id.event s c.in-Reopen.id.round c.args.accepted.now)
+    (λ x n. refl) refl c.reopen.ensures.done c.reopen.ensures.refused)
 
 pub returns-in-Cancel-clause-code : goal.returns-in-Cancel-clause-code
 returns-in-Cancel-clause-code c =
