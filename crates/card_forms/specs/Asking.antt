@@ -1,6 +1,9 @@
 -- What a command's form asks for.
 use Rattle.std.specs.Prelude.{◌≡◌, ℕ, ◌==◌, Bool, true, false, ◌&&◌, ◌||◌, ◌≤◌, codes, bytes_eq}
-use Rattle.std.specs.Prelude.{List, length, slice_get, Option, None, Some}
+use Rattle.std.specs.Prelude.{IsTrue, List, [], ◌∷◌, length, slice_get, Option, None, Some}
+use Rattle.std.specs.List.{list_any}
+use Rattle.std.specs.Option.{option_map}
+use denote.Enum.Bare.{sameb}
 use Rattle.attempts.specs.declared.Unit.{Unit as Measure}
 use Rattle.attempts.specs.declared.Unit.TheVariants as measure
 use Rattle.formats.specs.declared.advance.Advance.{Advance}
@@ -8,16 +11,24 @@ use Rattle.formats.specs.declared.advance.Advance.TheVariants.{Final, Percent, T
 use Rattle.formats.specs.declared.events.Event.{Event}
 use Rattle.formats.specs.declared.events.Format.{Format}
 use Rattle.formats.specs.Events.{event_of_name, format_named, unit_of}
+use Rattle.cube.specs.declared.moves.Move.{Move}
 use Rattle.cube.specs.notation.Notation.{Spells as SpellsMoves}
 use Rattle.texts.specs.declared.command.Command.{Command}
-use Rattle.texts.specs.declared.command.Command.TheVariants as command
 use Rattle.texts.specs.declared.command.Entered.TheVariants as entered
 use Rattle.texts.specs.declared.command.Remarked.{Remarked}
 use Rattle.texts.specs.declared.command.RoundId.{RoundId}
-use Rattle.texts.specs.declared.command.Settings.{Settings}
+use Rattle.texts.specs.declared.table.FieldKind.{FieldKind}
+use Rattle.texts.specs.declared.table.FieldKind.TheVariants as kind
+use Rattle.texts.specs.declared.table.Tag.{Tag}
+use Rattle.texts.specs.declared.value.FieldValue.{FieldValue}
+use Rattle.texts.specs.declared.value.FieldValue.TheVariants as value
+use Rattle.texts.specs.contracts.table.FieldKind.{the_type as kinds}
 use Rattle.texts.specs.Fields.{number_between}
+use Rattle.texts.specs.Parts.{Parts, parts}
 use Rattle.texts.specs.Spelling.{IsFitTold, spelling, told_spelling, words_of}
+use Rattle.texts.specs.Table.{fields_in, row_of, same_tag}
 use Rattle.scorecard.specs.Spelling.{Spells, trimmed}
+use Rattle.card_forms.specs.declared.asking.TheConstants.{FORMS}
 use Rattle.card_forms.specs.declared.pairs.Pair.{Pair}
 use Rattle.card_forms.specs.Cards.{round_of}
 use Rattle.card_forms.specs.Pairs.{value_of}
@@ -43,11 +54,30 @@ HasCompetitor pairs number = HasNumber (codes "number") 1 9999 pairs number
 abbrev pub HasAttempt : List Pair → ℕ → Type 0
 HasAttempt pairs attempt = HasNumber (codes "attempt") 1 5 pairs attempt
 
-abbrev pub HasEvent : List Pair → Event → Type 0
-HasEvent pairs event = event_of_name (field (codes "event") pairs) ≡ Some event
+abbrev pub HasName : List Pair → List ℕ → Type 0
+HasName pairs name = name ≡ field (codes "name") pairs
+
+abbrev pub HasMoves : List Pair → List Move → Type 0
+HasMoves pairs moves = SpellsMoves (field (codes "moves") pairs) moves
+
+-- an event and a round are one field of the form
+abbrev pub the_round : List Pair → Option RoundId
+the_round pairs = round_of (field (codes "round") pairs)
 
 abbrev pub HasRound : List Pair → RoundId → Type 0
-HasRound pairs id = round_of (field (codes "round") pairs) ≡ Some id
+HasRound pairs id = the_round pairs ≡ Some id
+
+abbrev pub HasRoundNumber : List Pair → ℕ → Type 0
+HasRoundNumber pairs number = option_map (λ id. id.round) (the_round pairs) ≡ Some number
+
+-- a command has a round
+abbrev pub has_round : List FieldKind → Bool
+has_round ks = list_any (λ k. sameb kinds k kind.Round) ks
+
+-- the event of a command: of its round, where it has one
+abbrev pub HasEvent : Bool → List Pair → Event → Type 0
+HasEvent true pairs event = option_map (λ id. id.event) (the_round pairs) ≡ Some event
+HasEvent false pairs event = event_of_name (field (codes "event") pairs) ≡ Some event
 
 abbrev pub HasFormat : List Pair → Format → Type 0
 HasFormat pairs form = format_named (field (codes "format") pairs) ≡ Some form
@@ -74,6 +104,11 @@ HasCutoff pairs event (Some cutoff) =
     HasNumber (codes "after") 1 4 pairs cutoff.0
     × IsBelow (unit_of event) (field (codes "cutoff") pairs) cutoff.1
 
+-- the same in the unit of the command's event
+abbrev pub HasCutoffBy : Bool → List Pair → Option (ℕ × ℕ) → Type 0
+HasCutoffBy by_round pairs cutoff =
+    (event : Event) × HasEvent by_round pairs event × HasCutoff pairs event cutoff
+
 abbrev pub HasLimit : List Pair → Option ℕ → Type 0
 HasLimit pairs None = is_none (field (codes "limit") pairs) ≡ true
 HasLimit pairs (Some limit) = IsClock (field (codes "limit") pairs) limit
@@ -89,45 +124,46 @@ HasAdvance pairs (Top number) =
 HasAdvance pairs (Percent percent) =
     IsAdvance pairs (codes "pct") × HasNumber (codes "amount") 1 75 pairs percent
 
--- how a round is run
-pub record HasSettings (pairs : List Pair) (event : Event) (s : Settings) : Type 0 where
-  pub form : HasFormat pairs s.format
-  pub cutoff : HasCutoff pairs event s.cutoff
-  pub limit : HasLimit pairs s.limit
-  pub advance : HasAdvance pairs s.advance
-
 -- ---- commands
 
--- the fields of a command have these values; what is done at the score table, and what came with
--- edition 4, has no such form
+-- a command has a form
+abbrev pub has_form : Tag → Bool
+has_form tag = list_any (λ t. same_tag t tag) FORMS
+
+-- a field of a command has this value: its kind says which fields of the form it is read from. The
+-- edition is always 3. What is entered at the score table is read from no such form
+abbrev pub HasValue : Bool → List Pair → FieldKind → FieldValue → Type 0
+HasValue _ pairs kind.Number (value.Number number) = HasCompetitor pairs number
+HasValue _ pairs kind.Name (value.Name name) = HasName pairs name
+HasValue _ pairs kind.NewName (value.Name name) = HasName pairs name
+HasValue by_round pairs kind.Event (value.Event event) = HasEvent by_round pairs event
+HasValue _ pairs kind.Round (value.Round number) = HasRoundNumber pairs number
+HasValue _ pairs kind.Format (value.Format form) = HasFormat pairs form
+HasValue by_round pairs kind.Cutoff (value.Cutoff cutoff) = HasCutoffBy by_round pairs cutoff
+HasValue _ pairs kind.Limit (value.Limit limit) = HasLimit pairs limit
+HasValue _ pairs kind.Advance (value.Advance advance) = HasAdvance pairs advance
+HasValue _ pairs kind.Attempt (value.Attempt attempt) = HasAttempt pairs attempt
+HasValue _ pairs kind.Moves (value.Moves moves) = HasMoves pairs moves
+HasValue _ pairs kind.Edition (value.Edition edition) = edition ≡ 3
+HasValue _ _ _ _ = ⊥
+
+-- fields of these kinds have these values, one each in order
+abbrev pub HasValues : Bool → List Pair → List FieldKind → List FieldValue → Type 0
+HasValues by_round pairs [] [] = Unit {0}
+HasValues by_round pairs (k ∷ ks) (v ∷ vs) =
+    HasValue by_round pairs k v × HasValues by_round pairs ks vs
+HasValues _ _ _ _ = ⊥
+
+-- the same of all fields of a command
+abbrev pub HasAll : List Pair → List FieldKind → List FieldValue → Type 0
+HasAll pairs ks vs = HasValues (has_round ks) pairs ks vs
+
+-- a command has a form, and its fields have these values
+abbrev pub HasParts : List Pair → Parts → Type 0
+HasParts pairs p = IsTrue (has_form p.0) × HasAll pairs (fields_in (row_of p.0)) p.1
+
 abbrev pub HasFields : List Pair → Command → Type 0
-HasFields pairs (command.Register number name) =
-    HasCompetitor pairs number × (name ≡ field (codes "name") pairs)
-HasFields pairs (command.Open id settings) =
-    HasRound pairs id × HasSettings pairs id.event settings
-HasFields pairs (command.Enter event number) = HasEvent pairs event × HasCompetitor pairs number
-HasFields pairs (command.Scramble id attempt moves) =
-    HasRound pairs id × HasAttempt pairs attempt
-    × SpellsMoves (field (codes "moves") pairs) moves
-HasFields pairs (command.Attempt entry) = ⊥
-HasFields pairs (command.Correct entry) = ⊥
-HasFields pairs (command.Strike id number) = ⊥
-HasFields pairs (command.SetAdvance id advance) = HasRound pairs id × HasAdvance pairs advance
-HasFields pairs (command.Close id) = HasRound pairs id
-HasFields pairs (command.SetEdition edition) = edition ≡ 3
-HasFields pairs (command.Rename number name) =
-    HasCompetitor pairs number × (name ≡ field (codes "name") pairs)
-HasFields pairs (command.SetRound id form cutoff limit) =
-    HasRound pairs id × HasFormat pairs form × HasCutoff pairs id.event cutoff
-    × HasLimit pairs limit
-HasFields pairs (command.Rescramble id attempt moves) =
-    HasRound pairs id × HasAttempt pairs attempt
-    × SpellsMoves (field (codes "moves") pairs) moves
-HasFields pairs (command.Withdraw id number) = HasRound pairs id × HasCompetitor pairs number
-HasFields pairs (command.Reopen id) = HasRound pairs id
-HasFields pairs (command.Card card) = ⊥
-HasFields pairs (command.Fix card) = ⊥
-HasFields pairs (command.Cancel id) = ⊥
+HasFields pairs command = HasParts pairs (parts command)
 
 -- a command has this word, and its fields are the form's
 abbrev pub IsAsked : List Pair → List ℕ → Command → Type 0

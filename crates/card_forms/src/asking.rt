@@ -1,23 +1,22 @@
 //! Commands, from their forms.
 
 ghost use Rattle.std.specs.Prelude.{◌≡◌, ◌↔◌, codes, Err, IfOk, None, Some};
-ghost use Rattle.card_forms.specs.Asking.{Asks, FieldsAsk, IsAsked, IsCommandText, field};
-ghost use Rattle.cube.specs.notation.Notation.{Spells as SpellsMoves};
+ghost use Rattle.texts.specs.Table.{plain, row_named};
+ghost use Rattle.card_forms.specs.Asking.{Asks, FieldsAsk, IsAsked, IsCommandText, has_form};
 ghost use Rattle.card_forms.specs.Cards.{form_id_of};
 ghost use Rattle.card_forms.specs.Pairs.{value_of};
 
 use crate::cards::form_id_of;
 use crate::command_faults::{CommandFormFault, Field, FieldFault, Wrong};
-use crate::command_fields::{
-    advance, attempt, competitor, cutoff, event, format, limit, round, settings,
-};
 use crate::command_text::CommandText;
 use crate::form_id::FormId;
 use crate::pairs::Pairs;
 use crate::reading::trimmed;
-use cube::notation::{Moves, ReadFault};
-use std::alloc::{AllocError, Global};
-use texts::{Command, CommandFault, Name, print, read};
+use crate::values::values;
+use std::alloc::Global;
+use texts::{
+    Command, CommandFault, CommandRow, FieldKind, Tag, command_of_values, print, read, row_named,
+};
 
 /// A command that a form asks for, under the form's id.
 #[derive(Drop)]
@@ -33,198 +32,55 @@ struct Asked {
     why: Wrong,
 }
 
-/// A competitor's name.
-fn name_of(alloc: Global, pairs: &Pairs) -> Result<Name, AllocError>
-    ensures { IfOk result (λ name. name ≡ field (codes "name") pairs.now) }
+/// The commands that have a form; all others have none.
+const FORMS: [Tag; 12] = [
+    Tag::Register,
+    Tag::Open,
+    Tag::Enter,
+    Tag::Scramble,
+    Tag::SetAdvance,
+    Tag::Close,
+    Tag::SetEdition,
+    Tag::Rename,
+    Tag::SetRound,
+    Tag::Rescramble,
+    Tag::Withdraw,
+    Tag::Reopen,
+];
+
+/// Whether a command has a form.
+fn has_form(tag: Tag) -> bool
+    ensures { result ≡ has_form tag }
 {
-    let bytes = Vec::from_slice(alloc, trimmed(pairs.value("name")))?;
-    Ok(Name::new(bytes))
+    FORMS.contains(&tag)
 }
 
-/// A registration, whose name is yet to be checked.
-#[tactic(auto, unfolding(texts::specs::Table::rows))]
-fn register(alloc: Global, pairs: &Pairs) -> Result<Command, FieldFault>
-    ensures { IfOk result (IsAsked pairs.now (codes "REG")) }
-{
-    let number = competitor(pairs)?;
-    let name = name_of(alloc, pairs)?;
-    Ok(Command::Register { number, name })
-}
-
-/// Another name for a competitor, which is yet to be checked.
-#[tactic(auto, unfolding(texts::specs::Table::rows))]
-fn rename(alloc: Global, pairs: &Pairs) -> Result<Command, FieldFault>
-    ensures { IfOk result (IsAsked pairs.now (codes "REN")) }
-{
-    let number = competitor(pairs)?;
-    let name = name_of(alloc, pairs)?;
-    Ok(Command::Rename { number, name })
-}
-
-/// The moves of a scramble.
-fn moves_of(alloc: Global, pairs: &Pairs) -> Result<Moves, FieldFault>
-    ensures { IfOk result (λ moves. SpellsMoves (field (codes "moves") pairs.now) moves) }
-{
-    match cube::notation::read(alloc, trimmed(pairs.value("moves"))) {
-        Ok(moves) => Ok(moves),
-        Err(ReadFault::NoMemory) => Err(FieldFault::NoMemory),
-        Err(_) => Err(FieldFault::Wrong {
-            field: Field::Moves,
-            why: Wrong::NotMoves,
-        }),
-    }
-}
-
-/// A scramble, whose moves may make it too long.
-#[tactic(auto, unfolding(texts::specs::Table::rows))]
-fn scramble(alloc: Global, pairs: &Pairs) -> Result<Command, FieldFault>
-    ensures { IfOk result (IsAsked pairs.now (codes "SCR")) }
-{
-    let id = round(pairs)?;
-    let attempt = attempt(pairs)?;
-    let moves = moves_of(alloc, pairs)?;
-    Ok(Command::Scramble { id, attempt, moves })
-}
-
-/// Another scramble, whose moves may make it too long.
-#[tactic(auto, unfolding(texts::specs::Table::rows))]
-fn rescramble(alloc: Global, pairs: &Pairs) -> Result<Command, FieldFault>
-    ensures { IfOk result (IsAsked pairs.now (codes "RSC")) }
-{
-    let id = round(pairs)?;
-    let attempt = attempt(pairs)?;
-    let moves = moves_of(alloc, pairs)?;
-    Ok(Command::Rescramble { id, attempt, moves })
-}
-
-/// A competitor for an event.
-#[tactic(auto, unfolding(texts::specs::Table::rows))]
-fn enter(pairs: &Pairs) -> Result<Command, FieldFault>
-    ensures { IfOk result (IsAsked pairs.now (codes "ENT")) }
-{
-    let event = event(pairs)?;
-    let number = competitor(pairs)?;
-    Ok(Command::Enter { event, number })
-}
-
-/// A round that is opened.
-#[tactic(auto, unfolding(texts::specs::Table::rows))]
-fn open(alloc: Global, pairs: &Pairs) -> Result<Command, FieldFault>
-    ensures { IfOk result (IsAsked pairs.now (codes "OPEN")) }
-{
-    let id = round(pairs)?;
-    let settings = settings(alloc, pairs, id.event)?;
-    Ok(Command::Open { id, settings })
-}
-
-/// Who advances from a round.
-#[tactic(auto, unfolding(texts::specs::Table::rows))]
-fn set_advance(pairs: &Pairs) -> Result<Command, FieldFault>
-    ensures { IfOk result (IsAsked pairs.now (codes "ADV")) }
-{
-    let id = round(pairs)?;
-    let advance = advance(pairs)?;
-    Ok(Command::SetAdvance { id, advance })
-}
-
-/// A round that is closed.
-#[tactic(auto, unfolding(texts::specs::Table::rows))]
-fn close(pairs: &Pairs) -> Result<Command, FieldFault>
-    ensures { IfOk result (IsAsked pairs.now (codes "CLOSE")) }
-{
-    let id = round(pairs)?;
-    Ok(Command::Close { id })
-}
-
-/// Other settings of a round.
-#[tactic(auto, unfolding(texts::specs::Table::rows))]
-fn set_round(alloc: Global, pairs: &Pairs) -> Result<Command, FieldFault>
-    ensures { IfOk result (IsAsked pairs.now (codes "SET")) }
-{
-    let id = round(pairs)?;
-    let format = format(pairs)?;
-    let cutoff = cutoff(alloc, pairs, id.event)?;
-    let limit = limit(alloc, pairs)?;
-    Ok(Command::SetRound {
-        id,
-        format,
-        cutoff,
-        limit,
-    })
-}
-
-/// A competitor who is taken out of a round.
-#[tactic(auto, unfolding(texts::specs::Table::rows))]
-fn withdraw(pairs: &Pairs) -> Result<Command, FieldFault>
-    ensures { IfOk result (IsAsked pairs.now (codes "WDR")) }
-{
-    let id = round(pairs)?;
-    let number = competitor(pairs)?;
-    Ok(Command::Withdraw { id, number })
-}
-
-/// A round that is opened again.
-#[tactic(auto, unfolding(texts::specs::Table::rows))]
-fn reopen(pairs: &Pairs) -> Result<Command, FieldFault>
-    ensures { IfOk result (IsAsked pairs.now (codes "REOPEN")) }
-{
-    let id = round(pairs)?;
-    Ok(Command::Reopen { id })
-}
-
-/// The command of a word that came with edition 3.
-#[tactic(auto, using(crate::proofs::Asked::asked_as))]
-fn command_of_edition_3(alloc: Global, word: &[u8], pairs: &Pairs) -> Result<Command, FieldFault>
+/// The command of a word and its row, with the values of the fields that it needs.
+fn command_of(
+    alloc: Global,
+    word: &[u8],
+    row: &CommandRow,
+    pairs: &Pairs,
+) -> Result<Command, FieldFault>
+    requires { row_named word.now ≡ Some (plain row.now) }
     ensures { IfOk result (IsAsked pairs.now word.now) }
 {
-    if word == b"REN".as_slice() {
-        rename(alloc, pairs)
-    } else if word == b"SET".as_slice() {
-        set_round(alloc, pairs)
-    } else if word == b"RSC".as_slice() {
-        rescramble(alloc, pairs)
-    } else if word == b"WDR".as_slice() {
-        withdraw(pairs)
-    } else if word == b"REOPEN".as_slice() {
-        reopen(pairs)
-    } else {
-        Err(FieldFault::Wrong {
-            field: Field::Command,
-            why: Wrong::NoSuchCommand,
-        })
+    if !has_form(row.tag) {
+        return Err(FieldFault::NO_FORM);
     }
-}
-
-/// The command of a word, with the values of the fields that it needs.
-#[tactic(auto, using(crate::proofs::Asked::asked_as), unfolding(texts::specs::Table::rows))]
-fn command_of(alloc: Global, word: &[u8], pairs: &Pairs) -> Result<Command, FieldFault>
-    ensures { IfOk result (IsAsked pairs.now word.now) }
-{
-    if word == b"REG".as_slice() {
-        register(alloc, pairs)
-    } else if word == b"ENT".as_slice() {
-        enter(pairs)
-    } else if word == b"OPEN".as_slice() {
-        open(alloc, pairs)
-    } else if word == b"ADV".as_slice() {
-        set_advance(pairs)
-    } else if word == b"CLOSE".as_slice() {
-        close(pairs)
-    } else if word == b"SCR".as_slice() {
-        scramble(alloc, pairs)
-    } else if word == b"EDITION".as_slice() {
-        Ok(Command::SetEdition { edition: 3 })
-    } else {
-        command_of_edition_3(alloc, word, pairs)
+    let values = values(alloc, pairs, row.fields)?;
+    match command_of_values(row.tag, values) {
+        Some(command) => Ok(command),
+        None => Err(FieldFault::NO_FORM),
     }
 }
 
 /// The field of a command that is to blame where its text is none, and why: all others are in their
 /// ranges.
-fn blamed(command: &Command) -> (Field, Wrong) {
-    match command {
-        Command::Register { .. } | Command::Rename { .. } => (Field::Name, Wrong::NotAName),
-        Command::Scramble { .. } | Command::Rescramble { .. } => (Field::Moves, Wrong::NotMoves),
+fn blamed(kinds: &[FieldKind]) -> (Field, Wrong) {
+    match kinds.last() {
+        Some(FieldKind::Name | FieldKind::NewName) => (Field::Name, Wrong::NotAName),
+        Some(FieldKind::Moves) => (Field::Moves, Wrong::NotMoves),
         _ => (Field::Command, Wrong::NotACommand),
     }
 }
@@ -233,9 +89,11 @@ fn blamed(command: &Command) -> (Field, Wrong) {
 fn asked_by_fields(alloc: Global, pairs: &Pairs) -> Result<Asked, FieldFault>
     ensures { IfOk result (λ asked. FieldsAsk pairs.now asked.text.items) }
 {
-    let command = command_of(alloc, trimmed(pairs.value("command")), pairs)?;
+    let word = trimmed(pairs.value("command"));
+    let row = row_named(word).ok_or(FieldFault::NO_FORM)?;
+    let command = command_of(alloc, word, row, pairs)?;
     let text = print(alloc, &command)?;
-    let (last, why) = blamed(&command);
+    let (last, why) = blamed(row.fields);
     Ok(Asked { text, last, why })
 }
 
@@ -280,20 +138,18 @@ fn checked(alloc: Global, asked: Asked) -> Result<CommandText, FieldFault>
 
 /// The command of a form, under the form's `id`.
 ///
-/// Where `text` has anything, it is the command. Else `command` says which, and the fields that it
-/// needs are read, without the white space around them:
+/// Where `text` has anything, it is the command. Else `command` is the word of a command that has a
+/// form, and its fields are read in their order, each from the form's fields for its kind, without
+/// the white space around them:
 ///
-/// - `REG`: `number`, `name`. `ENT`: `event`, `number`. `CLOSE`: `round`, as `333-1`.
-/// - `OPEN`: `round`, `format`, `cutoff` and `after`, `limit`, `advance` and `amount`. Times are
-///   written as on a scorecard; an empty field or `-` is no cutoff and no limit.
-/// - `ADV`: `round`, `advance` (`top`, `pct` or `final`) and `amount`.
-/// - `SCR`: `round`, `attempt`, `moves`. `EDITION`: nothing, it is edition 3.
+/// - a number: `number`; a name: `name`; an attempt: `attempt`; moves: `moves`; a format: `format`;
+/// - an event and a round: `round`, as `333-1`; an event without a round: `event`;
+/// - a cutoff: `cutoff` and `after`; a limit: `limit`; who advances: `advance` (`top`, `pct` or
+///   `final`) and `amount`. Times are written as on a scorecard; an empty field or `-` is no cutoff
+///   and no limit;
+/// - an edition: none, it is edition 3.
 ///
-/// These came with edition 3; in an earlier one they are refused, as `Unread`:
-///
-/// - `REN`: `number`, `name`. `WDR`: `round`, `number`. `REOPEN`: `round`.
-/// - `SET`: `round`, `format`, `cutoff` and `after`, `limit`, as for `OPEN`.
-/// - `RSC`: `round`, `attempt`, `moves`.
+/// A command that came with a later edition than the list's is refused, as `Unread`.
 ///
 /// The fault is `BadId`; or the first field of the command that is wrong, in that order; or
 /// `NoMemory`, in place of any answer.

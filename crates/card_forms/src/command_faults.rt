@@ -114,6 +114,14 @@ pub(crate) enum FieldFault {
     NoMemory,
 }
 
+impl FieldFault {
+    /// The word is none of a command that has a form.
+    pub(crate) const NO_FORM: FieldFault = FieldFault::Wrong {
+        field: Field::Command,
+        why: Wrong::NoSuchCommand,
+    };
+}
+
 impl From<AllocError> for FieldFault {
     ghost use Rattle.std.specs.Prelude.{◌≡◌};
     ghost use Rattle.card_forms.specs.declared.command_faults.FieldFault.TheVariants.{NoMemory};

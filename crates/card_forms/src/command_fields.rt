@@ -3,18 +3,19 @@
 ghost use Rattle.std.specs.Prelude.{◌≡◌, ◌≤◌, IfOk, IfSome};
 ghost use Rattle.formats.specs.Events.{unit_of};
 ghost use Rattle.card_forms.specs.Asking.{HasAdvance, HasAttempt, HasCompetitor, HasCutoff};
-ghost use Rattle.card_forms.specs.Asking.{HasEvent, HasFormat, HasLimit, HasNumber, HasRound};
-ghost use Rattle.card_forms.specs.Asking.{HasSettings, IsBelow, IsClock, is_none};
+ghost use Rattle.card_forms.specs.Asking.{HasEvent, HasFormat, HasLimit, HasMoves, HasName};
+ghost use Rattle.card_forms.specs.Asking.{HasNumber, HasRound, IsBelow, IsClock, is_none};
 
 use crate::cards::round_of;
 use crate::command_faults::{Field, FieldFault, Wrong};
 use crate::pairs::Pairs;
 use crate::reading::trimmed;
 use attempts::Unit;
+use cube::notation::{Moves, ReadFault};
 use formats::{Advance, Event, Format, MOST_ENTRANTS, unit_of};
 use scorecard::read;
-use std::alloc::Global;
-use texts::{Entered, RoundId, Settings, number_between};
+use std::alloc::{AllocError, Global};
+use texts::{Entered, Name, RoundId, number_between};
 
 /// The greatest cutoff and the greatest limit, in hundredths of a second.
 const MOST_TIME: u32 = 360_000;
@@ -50,12 +51,23 @@ pub(crate) fn attempt(pairs: &Pairs) -> Result<u8, FieldFault>
     Ok(number(pairs, "attempt", Field::Attempt, 1, 5)? as u8)
 }
 
-/// The event.
-pub(crate) fn event(pairs: &Pairs) -> Result<Event, FieldFault>
-    ensures { IfOk result (HasEvent pairs.now) }
+/// A competitor's name.
+pub(crate) fn name(alloc: Global, pairs: &Pairs) -> Result<Name, AllocError>
+    ensures { IfOk result (HasName pairs.now) }
 {
-    let text = trimmed(pairs.value("event"));
-    Event::from_name(text).ok_or(wrong(Field::Event, Wrong::NotAnEvent))
+    let bytes = Vec::from_slice(alloc, trimmed(pairs.value("name")))?;
+    Ok(Name::new(bytes))
+}
+
+/// The moves of a scramble.
+pub(crate) fn moves(alloc: Global, pairs: &Pairs) -> Result<Moves, FieldFault>
+    ensures { IfOk result (HasMoves pairs.now) }
+{
+    match cube::notation::read(alloc, trimmed(pairs.value("moves"))) {
+        Ok(moves) => Ok(moves),
+        Err(ReadFault::NoMemory) => Err(FieldFault::NoMemory),
+        Err(_) => Err(wrong(Field::Moves, Wrong::NotMoves)),
+    }
 }
 
 /// The round.
@@ -64,6 +76,17 @@ pub(crate) fn round(pairs: &Pairs) -> Result<RoundId, FieldFault>
 {
     let text = trimmed(pairs.value("round"));
     round_of(text).ok_or(wrong(Field::Round, Wrong::NotARound))
+}
+
+/// The event: of the round, where the command has one.
+pub(crate) fn event(pairs: &Pairs, by_round: bool) -> Result<Event, FieldFault>
+    ensures { IfOk result (HasEvent by_round pairs.now) }
+{
+    if by_round {
+        return Ok(round(pairs)?.event);
+    }
+    let text = trimmed(pairs.value("event"));
+    Event::from_name(text).ok_or(wrong(Field::Event, Wrong::NotAnEvent))
 }
 
 /// The format.
@@ -158,20 +181,4 @@ pub(crate) fn advance(pairs: &Pairs) -> Result<Advance, FieldFault>
     } else {
         Err(wrong(Field::Advance, Wrong::NotAnAdvance))
     }
-}
-
-/// How a round is run.
-pub(crate) fn settings(alloc: Global, pairs: &Pairs, event: Event) -> Result<Settings, FieldFault>
-    ensures { IfOk result (HasSettings pairs.now event) }
-{
-    let format = format(pairs)?;
-    let cutoff = cutoff(alloc, pairs, event)?;
-    let limit = limit(alloc, pairs)?;
-    let advance = advance(pairs)?;
-    Ok(Settings {
-        format,
-        cutoff,
-        limit,
-        advance,
-    })
 }

@@ -18,6 +18,7 @@ mod items;
 mod pairs;
 mod reading;
 mod typed;
+mod values;
 
 pub use asking::{CommandForm, command_form};
 pub use cards::{CardForm, card_form, form_id_of, round_of};

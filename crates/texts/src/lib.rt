@@ -27,4 +27,5 @@ pub use numbers::number_between;
 pub use printing::{print, print_advance, print_cutoff, print_limit, print_remarked};
 pub use reading::{CommandFault, one_spelling, read};
 pub use table::{CommandRow, FieldKind, ROWS, Row, Tag, kind_at, row_named, row_of};
-pub use value::{FieldValue, LentValue};
+pub use typed::command_of_values;
+pub use value::{FieldValue, LentValue, Values};

@@ -423,7 +423,7 @@ fn cancel(values: Values) -> Option<Command>
 }
 
 /// The command of a tag and the values of its fields, where they are of the kinds of its fields.
-pub(crate) fn command_of_values(tag: Tag, values: Values) -> Option<Command>
+pub fn command_of_values(tag: Tag, values: Values) -> Option<Command>
     ensures { result ≡ made_of (tag, values.items) }
 {
     match tag {

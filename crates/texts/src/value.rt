@@ -61,7 +61,7 @@ impl<'a> Default for LentValue<'a> {
 }
 
 /// The values of a command, as they were read.
-pub(crate) type Values = ArrayVec<FieldValue, MOST_FIELDS>;
+pub type Values = ArrayVec<FieldValue, MOST_FIELDS>;
 
 /// The values of a command that is there.
 pub(crate) type LentValues<'a> = ArrayVec<LentValue<'a>, MOST_FIELDS>;

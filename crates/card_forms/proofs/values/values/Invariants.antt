@@ -1,0 +1,13 @@
+use Rattle.std.proofs.Common.{◌≡◌, drop, length}
+use Rattle.card_forms.specs.Asking.{has_round}
+use Rattle.card_forms.proofs.Asked.{Fills}
+use Rattle.card_forms.proofs.values.values.Given as goal
+
+-- the values so far are those of the first kinds
+abbrev pub invariant-loop-kind : goal.invariant-loop-kind
+invariant-loop-kind l =
+    record {
+      so_far :
+          Fills (has_round l.kinds) l.pairs l.kinds (drop l.kind-index l.kinds) l.values.items;
+      count : length l.values.items ≡ l.kind-index;
+    }

@@ -1,0 +1,61 @@
+//! The values of a command's fields, from its form.
+
+ghost use Rattle.std.specs.Prelude.{◌≤◌, IfOk, length};
+ghost use Rattle.card_forms.specs.Asking.{HasAll, HasValue};
+
+use crate::command_faults::FieldFault;
+use crate::command_fields::{
+    advance, attempt, competitor, cutoff, event, format, limit, moves, name, round,
+};
+use crate::pairs::Pairs;
+use arrayvec::ArrayVec;
+use std::alloc::Global;
+use texts::{FieldKind, FieldValue, Values};
+
+/// The edition that a form asks for.
+const ASKED_EDITION: u8 = 3;
+
+/// The value of a field, from the pairs that its kind is read from.
+fn value(
+    alloc: Global,
+    pairs: &Pairs,
+    by_round: bool,
+    kind: FieldKind,
+) -> Result<FieldValue, FieldFault>
+    ensures { IfOk result (HasValue by_round pairs.now kind) }
+{
+    match kind {
+        FieldKind::Number => Ok(FieldValue::Number(competitor(pairs)?)),
+        FieldKind::Name | FieldKind::NewName => Ok(FieldValue::Name(name(alloc, pairs)?)),
+        FieldKind::Event => Ok(FieldValue::Event(event(pairs, by_round)?)),
+        FieldKind::Round => Ok(FieldValue::Round(round(pairs)?.round)),
+        FieldKind::Format => Ok(FieldValue::Format(format(pairs)?)),
+        FieldKind::Cutoff => {
+            let event = event(pairs, by_round)?;
+            Ok(FieldValue::Cutoff(cutoff(alloc, pairs, event)?))
+        }
+        FieldKind::Limit => Ok(FieldValue::Limit(limit(alloc, pairs)?)),
+        FieldKind::Advance => Ok(FieldValue::Advance(advance(pairs)?)),
+        FieldKind::Attempt => Ok(FieldValue::Attempt(attempt(pairs)?)),
+        FieldKind::Moves => Ok(FieldValue::Moves(moves(alloc, pairs)?)),
+        FieldKind::Edition => Ok(FieldValue::Edition(ASKED_EDITION)),
+        FieldKind::Outcome | FieldKind::Was | FieldKind::Now => Err(FieldFault::NO_FORM),
+    }
+}
+
+/// The values of fields of these kinds; or the fault of the first that is wrong.
+pub(crate) fn values(
+    alloc: Global,
+    pairs: &Pairs,
+    kinds: &[FieldKind],
+) -> Result<Values, FieldFault>
+    requires { length kinds.now ≤ 6 }
+    ensures { IfOk result (λ vs. HasAll pairs.now kinds.now vs.items) }
+{
+    let by_round = kinds.contains(&FieldKind::Round);
+    let mut values = ArrayVec::new();
+    for kind in kinds {
+        values.push(value(alloc, pairs, by_round, *kind)?);
+    }
+    Ok(values)
+}
