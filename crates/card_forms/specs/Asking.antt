@@ -70,9 +70,12 @@ HasRound pairs id = the_round pairs ≡ Some id
 abbrev pub HasRoundNumber : List Pair → ℕ → Type 0
 HasRoundNumber pairs number = option_map (λ id. id.round) (the_round pairs) ≡ Some number
 
+abbrev pub is_round : FieldKind → Bool
+is_round k = sameb kinds k kind.Round
+
 -- a command has a round
 abbrev pub has_round : List FieldKind → Bool
-has_round ks = list_any (λ k. sameb kinds k kind.Round) ks
+has_round ks = list_any is_round ks
 
 -- the event of a command: of its round, where it has one
 abbrev pub HasEvent : Bool → List Pair → Event → Type 0

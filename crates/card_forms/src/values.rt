@@ -1,7 +1,7 @@
 //! The values of a command's fields, from its form.
 
-ghost use Rattle.std.specs.Prelude.{◌≤◌, IfOk, length};
-ghost use Rattle.card_forms.specs.Asking.{HasAll, HasValue};
+ghost use Rattle.std.specs.Prelude.{◌≡◌, ◌≤◌, IfOk, length};
+ghost use Rattle.card_forms.specs.Asking.{HasAll, HasValue, has_round, is_round};
 
 use crate::command_faults::FieldFault;
 use crate::command_fields::{
@@ -43,6 +43,19 @@ fn value(
     }
 }
 
+fn is_round(kind: FieldKind) -> bool
+    ensures { result ≡ is_round kind }
+{
+    matches!(kind, FieldKind::Round)
+}
+
+/// Whether a command of these fields has a round.
+fn has_round(kinds: &[FieldKind]) -> bool
+    ensures { result ≡ has_round kinds.now }
+{
+    kinds.iter().any(|kind| is_round(*kind))
+}
+
 /// The values of fields of these kinds; or the fault of the first that is wrong.
 pub(crate) fn values(
     alloc: Global,
@@ -52,7 +65,7 @@ pub(crate) fn values(
     requires { length kinds.now ≤ 6 }
     ensures { IfOk result (λ vs. HasAll pairs.now kinds.now vs.items) }
 {
-    let by_round = kinds.contains(&FieldKind::Round);
+    let by_round = has_round(kinds);
     let mut values = ArrayVec::new();
     for kind in kinds {
         values.push(value(alloc, pairs, by_round, *kind)?);

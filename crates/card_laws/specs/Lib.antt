@@ -5,3 +5,4 @@ pub mod OverNothing
 pub mod Premises
 pub mod Telling
 pub mod WorkedCards
+pub mod WorkedSaving

@@ -23,5 +23,6 @@ pub use over_nothing::{
 pub use premises::rounds_meet_premises;
 pub use telling::{nothing_stands_on_remarks, remarks_are_told, what_stands_reads_back};
 pub use worked::{
-    sets_edition, works_giving_back, works_over_nothing, works_standing, works_taken_back,
+    sets_edition, works_giving_back, works_over_nothing, works_saved, works_standing,
+    works_taken_back,
 };

@@ -2,6 +2,7 @@
 
 ghost use Rattle.card_laws.specs.WorkedCards.{SetsEdition, WorksGivingBack, WorksOverNothing};
 ghost use Rattle.card_laws.specs.WorkedCards.{WorksStanding, WorksTakenBack};
+ghost use Rattle.card_laws.specs.WorkedSaving.{WorksSaved};
 
 /// Of two in a round nothing stands: a card of five outcomes is accepted, as its attempts are, and
 /// one of three that miss the cutoff is refused, as the third of them is. In a closed round the
@@ -31,4 +32,10 @@ pub fn works_taken_back()
 /// After its text, edition 4 holds.
 pub fn sets_edition()
     ensures { SetsEdition }
+{}
+
+/// Of two cards over the same in a hall's log the first is told to be saved, and the second that
+/// its attempts were changed meanwhile.
+pub fn works_saved()
+    ensures { WorksSaved }
 {}

@@ -1,7 +1,7 @@
 //! A connection to a desk, and what goes over it.
 
 ghost use Rattle.std.specs.Prelude.{◌≡◌, false, true};
-ghost use Rattle.desk_talks.specs.Dialogues.{has_changed};
+ghost use Rattle.desk_talks.specs.Dialogues.{Reaches, has_changed};
 ghost use Rattle.sealed.specs.ends.Calls.{own_key};
 ghost use Rattle.desk_sockets.specs.Connections.{Follows, after_came, is_harmless};
 
@@ -93,6 +93,7 @@ fn reading_lost<D: Dialogue>(dialogue: &mut D, trouble: Option<CallTrouble>) -> 
     ensures changed { result.changed ≡ false }
     ensures after { result.after ≡ After.Ended trouble }
     ensures held { D.held dialogue.new ≡ D.held dialogue.old }
+    ensures went { Reaches D.leads dialogue.old dialogue.new }
 {
     dialogue.lost();
     reading_nothing(After::Ended { trouble })
@@ -102,6 +103,7 @@ fn reading_lost<D: Dialogue>(dialogue: &mut D, trouble: Option<CallTrouble>) -> 
 fn hear_some<D: Dialogue>(dialogue: &mut D, now: u64, handed: &[u8]) -> Reading
     ensures after { is_harmless result.after ≡ true }
     ensures held { result.changed ≡ false → D.held dialogue.new ≡ D.held dialogue.old }
+    ensures went { Reaches D.leads dialogue.old dialogue.new }
 {
     if handed.is_empty() {
         return reading_nothing(After::More);
@@ -119,7 +121,8 @@ impl Connection {
 
     /// Tells the dialogue whether the connection is open. False: it is of no use.
     pub(crate) fn look_whether_open<D: Dialogue>(&self, dialogue: &mut D) -> bool
-        ensures { D.held dialogue.new ≡ D.held dialogue.old }
+        ensures held { D.held dialogue.new ≡ D.held dialogue.old }
+        ensures went { Reaches D.leads dialogue.old dialogue.new }
     {
         match is_open(&self.stream) {
             Some(true) => dialogue.opened(),
@@ -135,6 +138,7 @@ impl Connection {
     fn hear<D: Dialogue>(&mut self, dialogue: &mut D, now: u64, piece: &[u8]) -> Reading
         ensures follows { Follows result.after (own_key self.old.call) self.new.call }
         ensures held { result.changed ≡ false → D.held dialogue.new ≡ D.held dialogue.old }
+        ensures went { Reaches D.leads dialogue.old dialogue.new }
     {
         let Ok(handed) = self.call.receive(piece) else {
             return reading_lost(dialogue, None);
@@ -149,6 +153,7 @@ impl Connection {
     fn read_once<D: Dialogue>(&mut self, dialogue: &mut D, now: u64) -> Reading
         ensures follows { Follows result.after (own_key self.old.call) self.new.call }
         ensures held { result.changed ≡ false → D.held dialogue.new ≡ D.held dialogue.old }
+        ensures went { Reaches D.leads dialogue.old dialogue.new }
     {
         let mut piece = [0; 4096];
         let mut stream = &self.stream;
@@ -164,6 +169,7 @@ impl Connection {
     pub(crate) fn read<D: Dialogue>(&mut self, dialogue: &mut D, now: u64) -> Reading
         ensures follows { Follows result.after (own_key self.old.call) self.new.call }
         ensures held { result.changed ≡ false → D.held dialogue.new ≡ D.held dialogue.old }
+        ensures went { Reaches D.leads dialogue.old dialogue.new }
     {
         let mut changed = false;
         let mut answered = false;
@@ -195,6 +201,7 @@ impl Connection {
     fn give<D: Dialogue>(&mut self, dialogue: &mut D) -> bool
         ensures key { own_key self.new.call ≡ own_key self.old.call }
         ensures held { D.held dialogue.new ≡ D.held dialogue.old }
+        ensures went { Reaches D.leads dialogue.old dialogue.new }
     {
         match self.call.give(dialogue.output()) {
             Ok(count) => {
@@ -230,6 +237,7 @@ impl Connection {
     pub(crate) fn write<D: Dialogue>(&mut self, dialogue: &mut D) -> After
         ensures follows { Follows result (own_key self.old.call) self.new.call }
         ensures held { D.held dialogue.new ≡ D.held dialogue.old }
+        ensures went { Reaches D.leads dialogue.old dialogue.new }
     {
         for _write in 0..MOST_TURNS {
             if !self.give(dialogue) {

@@ -1,6 +1,7 @@
 //! One connection at a time to a desk of a hall.
 
 ghost use Rattle.std.specs.Prelude.{◌≡◌, false, true, is_some, IfSome};
+ghost use Rattle.desk_talks.specs.Dialogues.{Reaches};
 ghost use Rattle.sealed.specs.ends.Calls.{own_key};
 ghost use Rattle.desk_sockets.specs.Connections.{Follows};
 ghost use Rattle.desk_sockets.specs.Streams.{fresh_stream};
@@ -153,6 +154,7 @@ impl<'a, R: Net + RandomSource> DeskStream<'a, R> {
     fn read<D: Dialogue>(&mut self, dialogue: &mut D, now: u64) -> bool
         ensures key { self.new.key ≡ self.old.key }
         ensures held { result ≡ false → D.held dialogue.new ≡ D.held dialogue.old }
+        ensures went { Reaches D.leads dialogue.old dialogue.new }
     {
         let Some(mut connection) = self.connection.take() else {
             return false;
@@ -169,6 +171,7 @@ impl<'a, R: Net + RandomSource> DeskStream<'a, R> {
     fn look_whether_open<D: Dialogue>(&mut self, dialogue: &mut D)
         ensures key { self.new.key ≡ self.old.key }
         ensures held { D.held dialogue.new ≡ D.held dialogue.old }
+        ensures went { Reaches D.leads dialogue.old dialogue.new }
     {
         let Some(connection) = &self.connection else {
             return;
@@ -183,6 +186,7 @@ impl<'a, R: Net + RandomSource> DeskStream<'a, R> {
     fn look<D: Dialogue>(&mut self, dialogue: &mut D, now: u64) -> bool
         ensures key { self.new.key ≡ self.old.key }
         ensures held { result ≡ false → D.held dialogue.new ≡ D.held dialogue.old }
+        ensures went { Reaches D.leads dialogue.old dialogue.new }
     {
         if dialogue.is_opening() {
             self.look_whether_open(dialogue);
@@ -195,6 +199,7 @@ impl<'a, R: Net + RandomSource> DeskStream<'a, R> {
     fn write<D: Dialogue>(&mut self, dialogue: &mut D)
         ensures key { self.new.key ≡ self.old.key }
         ensures held { D.held dialogue.new ≡ D.held dialogue.old }
+        ensures went { Reaches D.leads dialogue.old dialogue.new }
     {
         let Some(mut connection) = self.connection.take() else {
             dialogue.lost();
@@ -219,6 +224,7 @@ impl<'a, R: Net + RandomSource> DeskStream<'a, R> {
     fn write_rest<D: Dialogue>(&mut self, dialogue: &mut D)
         ensures key { self.new.key ≡ self.old.key }
         ensures held { D.held dialogue.new ≡ D.held dialogue.old }
+        ensures went { Reaches D.leads dialogue.old dialogue.new }
     {
         if !dialogue.is_opening() && self.is_left(dialogue) {
             self.write(dialogue);
@@ -229,6 +235,7 @@ impl<'a, R: Net + RandomSource> DeskStream<'a, R> {
     fn open<D: Dialogue>(&mut self, dialogue: &mut D, desk: u8)
         ensures key { self.new.key ≡ self.old.key }
         ensures held { D.held dialogue.new ≡ D.held dialogue.old }
+        ensures went { Reaches D.leads dialogue.old dialogue.new }
     {
         self.connection = self.connection_to(desk);
         if self.connection.is_none() {
@@ -240,6 +247,7 @@ impl<'a, R: Net + RandomSource> DeskStream<'a, R> {
     fn fulfil<D: Dialogue>(&mut self, dialogue: &mut D, wish: Wish)
         ensures key { self.new.key ≡ self.old.key }
         ensures held { D.held dialogue.new ≡ D.held dialogue.old }
+        ensures went { Reaches D.leads dialogue.old dialogue.new }
     {
         match wish {
             Wish::Rest => {}
@@ -253,6 +261,7 @@ impl<'a, R: Net + RandomSource> DeskStream<'a, R> {
     fn fulfil_all<D: Dialogue>(&mut self, dialogue: &mut D, now: u64) -> bool
         ensures key { self.new.key ≡ self.old.key }
         ensures held { D.held dialogue.new ≡ D.held dialogue.old }
+        ensures went { Reaches D.leads dialogue.old dialogue.new }
     {
         for _wish in 0..MOST_WISHES {
             let wish = dialogue.act(now);
@@ -273,6 +282,7 @@ impl<'a, R: Net + RandomSource> DeskStream<'a, R> {
     pub fn keep<D: Dialogue>(&mut self, dialogue: &mut D, now: u64) -> Kept
         ensures key { self.new.key ≡ self.old.key }
         ensures held { result ≡ Kept.Same → D.held dialogue.new ≡ D.held dialogue.old }
+        ensures went { Reaches D.leads dialogue.old dialogue.new }
     {
         let changed = self.look(dialogue, now);
         self.write_rest(dialogue);

@@ -1,7 +1,7 @@
 //! What wants a connection to a desk of a hall, and what is to be done for it.
 
 ghost use Rattle.std.specs.Prelude.{◌≡◌, false};
-ghost use Rattle.desk_talks.specs.Dialogues.{has_changed};
+ghost use Rattle.desk_talks.specs.Dialogues.{Act, Call, Hear, Lost, Opened, Sent, has_changed};
 
 /// What is to be done now.
 #[derive(Clone, Copy, PartialEq, Eq, Debug)]
@@ -42,10 +42,14 @@ pub trait Dialogue {
     /// What it holds.
     ghost held: { Self → Held };
 
+    /// What a call may lead to.
+    ghost leads: { Call → Self → Self → Type 0 };
+
     /// What is to be done now, at so many milliseconds of a clock that doesn't go back. It counts
     /// as begun.
     fn act(&mut self, now: u64) -> Wish
-        ensures { held self.new ≡ held self.old };
+        ensures held { held self.new ≡ held self.old }
+        ensures leads { leads (Act result now) self.old self.new };
 
     /// Whether a connection is being opened.
     fn is_opening(&self) -> bool;
@@ -53,20 +57,24 @@ pub trait Dialogue {
     /// Says that the connection that was being opened is open. Where the answer is false, it is to
     /// be closed, and counts as lost.
     fn opened(&mut self) -> bool
-        ensures { held self.new ≡ held self.old };
+        ensures held { held self.new ≡ held self.old }
+        ensures leads { leads (Opened result) self.old self.new };
 
     /// Says that the connection is lost: it couldn't be opened, it failed, or the desk ended it.
     fn lost(&mut self)
-        ensures { held self.new ≡ held self.old };
+        ensures held { held self.new ≡ held self.old }
+        ensures leads { leads Lost self.old self.new };
 
     /// What is to be written now.
     fn output(&self) -> &[u8];
 
     /// Says that so many bytes of the output were written.
     fn sent(&mut self, count: usize)
-        ensures { held self.new ≡ held self.old };
+        ensures held { held self.new ≡ held self.old }
+        ensures leads { leads (Sent count) self.old self.new };
 
     /// Takes bytes that came from the desk over the connection.
     fn hear(&mut self, now: u64, piece: &[u8]) -> Came
-        ensures { has_changed result ≡ false → held self.new ≡ held self.old };
+        ensures held { has_changed result ≡ false → held self.new ≡ held self.old }
+        ensures leads { leads (Hear result now piece.now) self.old self.new };
 }

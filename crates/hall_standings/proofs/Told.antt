@@ -1,5 +1,5 @@
 -- What is told of desks, one after the other.
-use Rattle.std.proofs.Common.{◌≡◌, ◌≤◌, ℕ, List, [], ◌∷◌, ◌++◌, drop, length, subst, sym}
+use Rattle.std.proofs.Common.{◌≤◌, ℕ, List, [], ◌∷◌, ◌++◌, drop, length, subst, sym}
 use Rattle.std.proofs.lemmas.List.{append_assoc, append-nil, drop_all}
 use Rattle.standings.specs.declared.polled.Polled.{Polled}
 use Rattle.hall_standings.specs.declared.asked.Asked.{Asked}

@@ -1,9 +1,11 @@
 -- The desks of a hall, and what is told of them.
 use Rattle.std.specs.Prelude.{◌≡◌, ◌≢◌, ℕ, List, [], ◌∷◌, ◌++◌, length, if◌then◌else◌, nat_le}
-use Rattle.std.specs.Prelude.{map, min, slice_get, String}
+use Rattle.std.specs.Prelude.{Bool, true, false, flat_map, map, min, slice_get, String}
 use Rattle.std.specs.Global.{Global}
 use Rattle.desk_talks.specs.Lines.{wait_of}
 use Rattle.surveying.specs.Surveys.{new_survey}
+use Rattle.surveying.specs.declared.survey.Contact.{Contact}
+use Rattle.surveying.specs.declared.survey.Contact.TheVariants as contact
 use Rattle.standings.specs.Reports.{json_line}
 use Rattle.standings.specs.declared.polled.Polled.{Polled}
 use Rattle.hall_standings.specs.declared.asked.Asked.{Asked}
@@ -49,6 +51,23 @@ waits_of asked now = map (λ a. wait_of a.survey.line now) asked
 -- the same of the first of them that is due, and at most a second
 abbrev pub desks_wait : HallDesksOf → ℕ → ℕ
 desks_wait h now = least_of 1000 (waits_of h.asked now)
+
+abbrev pub is_away_by : Contact → Bool
+is_away_by contact.NotAsked = false
+is_away_by contact.Answers = false
+is_away_by contact.Silent = true
+is_away_by (contact.Refuses why) = true
+
+-- a desk does not say how it stands: it is not reached, does not answer for two seconds, or refuses
+abbrev pub is_away : Asked → Bool
+is_away asked = is_away_by asked.survey.contact
+
+abbrev pub away_one : Asked → List ℕ
+away_one asked = if is_away asked then asked.desk ∷ [] else []
+
+-- the numbers of those desks, in their order
+abbrev pub away_in : HallDesksOf → List ℕ
+away_in h = flat_map away_one h.asked
 
 -- the JSON value of all that is told of the desks, on a line
 abbrev pub IsStatus : HallDesksOf → List ℕ → Type 0

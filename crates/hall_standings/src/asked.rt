@@ -1,7 +1,7 @@
 //! One desk, and what is told of it.
 
-ghost use Rattle.std.specs.Prelude.{◌≡◌, IfOk, length};
-ghost use Rattle.hall_standings.specs.Halls.{least_of, waits_of};
+ghost use Rattle.std.specs.Prelude.{◌≡◌, ◌++◌, IfOk, OnOk, flat_map, length};
+ghost use Rattle.hall_standings.specs.Halls.{away_one, is_away, least_of, waits_of};
 ghost use Rattle.hall_standings.specs.Told.{AreTold, IsTold, reply_of, standing_of};
 
 use standings::{Polled, Reply};
@@ -54,6 +54,38 @@ fn told_of(asked: &Asked) -> Polled<'_>
         address: &asked.address,
         reply: reply_of(asked.desk, &asked.survey),
     }
+}
+
+/// Whether a desk does not say how it stands: it is not reached, does not answer for two seconds,
+/// or refuses.
+fn is_away(asked: &Asked) -> bool
+    ensures { result ≡ is_away asked.now }
+{
+    match asked.survey.contact() {
+        Contact::Silent | Contact::Refuses(_) => true,
+        Contact::NotAsked | Contact::Answers => false,
+    }
+}
+
+/// Adds the number of a desk that does not say how it stands.
+fn push_away(away: &mut Vec<u8>, asked: &Asked) -> Result<(), AllocError>
+    ensures { OnOk result (away.new.items ≡ away.old.items ++ away_one asked.now) }
+{
+    if is_away(asked) {
+        away.push(asked.desk)?;
+    }
+    Ok(())
+}
+
+/// The numbers of the desks that do not say how they stand, in their order.
+pub(crate) fn away_of(alloc: Global, asked: &[Asked]) -> Result<Vec<u8>, AllocError>
+    ensures { IfOk result (λ away. away.items ≡ flat_map away_one asked.now) }
+{
+    let mut away = Vec::new(alloc);
+    for one in asked {
+        push_away(&mut away, one)?;
+    }
+    Ok(away)
 }
 
 /// In how many milliseconds the first of the surveys of these desks is due, if nothing comes, and

@@ -1,10 +1,11 @@
 //! The desks of a hall.
 
 ghost use Rattle.std.specs.Prelude.{◌≡◌, IfOk, OnErr, OnOk, string_bytes};
-ghost use Rattle.hall_standings.specs.Halls.{IsKept, IsStatus, adds, desks_wait, no_desks};
+ghost use Rattle.hall_standings.specs.Halls.{IsKept, IsStatus, adds, away_in, desks_wait};
+ghost use Rattle.hall_standings.specs.Halls.{no_desks};
 ghost use Rattle.wire.specs.Ranges.{IsDesk};
 
-use crate::asked::{Asked, all_told, soonest};
+use crate::asked::{Asked, all_told, away_of, soonest};
 use desk_sockets::DeskStream;
 use standings::json_line;
 use std::alloc::{AllocError, Global};
@@ -100,6 +101,14 @@ impl HallDesks {
             lengths.push(asked.survey.told().map(|told| told.standing.length))?;
         }
         Ok(lengths)
+    }
+
+    /// The numbers of the desks that do not say how they stand, in the order in which they were
+    /// added: those that are not reached, do not answer for two seconds, or refuse.
+    pub fn away(&self, alloc: Global) -> Result<Vec<u8>, AllocError>
+        ensures { IfOk result (λ away. away.items ≡ away_in self.now) }
+    {
+        away_of(alloc, &self.asked)
     }
 
     /// How the desks stand, as a JSON object on a line, by what each answered when it was asked

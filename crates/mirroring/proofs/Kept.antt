@@ -13,14 +13,15 @@ use Rattle.following.specs.declared.stages.Action.TheVariants as action
 use Rattle.wire.specs.declared.frame.Frame.{Frame}
 use Rattle.wire.specs.declared.frame.What.{What}
 use Rattle.wire.specs.declared.frame.What.TheVariants as what
-use Rattle.mirroring.specs.Histories.{Answer, Call, CallLeads, CallsLead, HoldsWhatWasAnswered}
+use Rattle.desk_talks.specs.Dialogues.{Act, CallsLead, Hear, Lost, Opened, Sent}
 use Rattle.desk_talks.specs.Talks.{Hears, TalkOf, heard_of, question_after, said_of, sending}
 use Rattle.desk_talks.specs.declared.dialogue.Came.{Came}
 use Rattle.desk_talks.specs.declared.dialogue.Wish.{Wish}
 use Rattle.desk_talks.specs.declared.dialogue.Wish.TheVariants as wish
 use Rattle.desk_talks.specs.declared.talk.Heard.{Heard}
 use Rattle.desk_talks.specs.declared.talk.Heard.TheVariants as heard
-use Rattle.mirroring.specs.Histories.{TakesAnswers, Act, Opened, Lost, Sent, Hear, Hurry}
+use Rattle.mirroring.specs.Histories.{Answer, Call, CallLeads, HoldsWhatWasAnswered, Hurry}
+use Rattle.mirroring.specs.Histories.{InDialogue, TakesAnswers}
 use Rattle.mirroring.specs.Mirrorings.{ActsBy, Asks, Fails, Follows, FollowsTold, HearsAt}
 use Rattle.mirroring.specs.Mirrorings.{MirroringOf, Opens, begun, hurried, is_within, lost}
 use Rattle.mirroring.specs.Mirrorings.{new_mirroring, sent_by, with_talk}
@@ -206,17 +207,17 @@ hears hall (Some t) c now piece old new of q h =
 
 call_keeps : (hall : ℕ) (call : Call) (old new : MirroringOf) → IsOf hall old
     → CallLeads call old new → Kept hall old new
-call_keeps hall (Act w now) old new of h =
+call_keeps hall (InDialogue (Act w now)) old new of h =
     let kept = acts hall (action_of old.follower now) w (begun now old) new
     (record { hall_is = of.hall_is; asks = of.asks }) h in
     record { of = kept.of; answers = kept.answers; takes = kept.takes }
-call_keeps hall (Opened result) old new of h = opens hall result old new of h
-call_keeps hall Lost old new of h =
+call_keeps hall (InDialogue (Opened result)) old new of h = opens hall result old new of h
+call_keeps hall (InDialogue Lost) old new of h =
     same_as hall old new (lost old) h (record { hall_is = of.hall_is; asks = tt }) refl
-call_keeps hall (Sent count) old new of h =
+call_keeps hall (InDialogue (Sent count)) old new of h =
     same_as hall old new (sent_by old count) h
     (record { hall_is = of.hall_is; asks = sent_asks hall count old.talking of.asks }) refl
-call_keeps hall (Hear c now piece) old new of h =
+call_keeps hall (InDialogue (Hear c now piece)) old new of h =
     hears hall old.talking c now piece old new of of.asks h
 call_keeps hall Hurry old new of h =
     same_as hall old new (hurried old) h
@@ -230,7 +231,7 @@ then (x ∷ xs) ys a b c (next, takes, more) later =
     (next, takes, then xs ys next b c more later)
 
 calls_keep : (hall : ℕ) (calls : List Call) (old new : MirroringOf) → IsOf hall old
-    → CallsLead old calls new → Kept hall old new
+    → CallsLead CallLeads old calls new → Kept hall old new
 calls_keep hall [] old new of e = same_as hall old new old e of refl
 calls_keep hall (call ∷ more) old new of (next, leads, rest) =
     let first = call_keeps hall call old next of leads in

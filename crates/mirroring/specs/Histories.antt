@@ -1,5 +1,5 @@
 -- What a mirror holds after calls of any kind, in any order.
-use Rattle.std.specs.Prelude.{ℕ, ◌≡◌, List, [], ◌∷◌, Option, Bool, Ok}
+use Rattle.std.specs.Prelude.{ℕ, ◌≡◌, List, [], ◌∷◌, Option, Ok}
 use Rattle.acceptor.specs.declared.entry.Entry.{Entry}
 use Rattle.client.specs.Answers.{judged}
 use Rattle.client.specs.Standings.{log_request}
@@ -7,34 +7,18 @@ use Rattle.mirror.specs.Fronts.{TakesAs}
 use Rattle.mirror.specs.declared.mirror.Taken.{Taken}
 use Rattle.wire.specs.declared.frame.Frame.{Frame}
 use Rattle.wire.specs.declared.frame.What.TheVariants as what
-use Rattle.desk_talks.specs.declared.dialogue.Came.{Came}
-use Rattle.desk_talks.specs.declared.dialogue.Wish.{Wish}
-use Rattle.mirroring.specs.Mirrorings.{Acts, HearsDesk, MirroringOf, Opens, hurried, lost}
-use Rattle.mirroring.specs.Mirrorings.{new_mirroring, sent_by}
+use Rattle.desk_talks.specs.Dialogues.{Call as DialogueCall, CallsLead}
+use Rattle.mirroring.specs.Mirrorings.{DialogueLeads, MirroringOf, hurried, new_mirroring}
 
--- a call, with what it was given and what it answered
+-- a call: one of its dialogue, or another one
 pub data Call : Type 0 where
-  Act : Wish → (now : ℕ) → Call
-  Opened : Bool → Call
-  Lost : Call
-  Sent : (count : ℕ) → Call
-  Hear : Came → (now : ℕ) → (piece : List ℕ) → Call
+  InDialogue : DialogueCall → Call
   Hurry : Call
 
 -- what the contract of each call says
 abbrev pub CallLeads : Call → MirroringOf → MirroringOf → Type 0
-CallLeads (Act w now) old new = Acts w now old new
-CallLeads (Opened result) old new = Opens result old new
-CallLeads Lost old new = new ≡ lost old
-CallLeads (Sent count) old new = new ≡ sent_by old count
-CallLeads (Hear c now piece) old new = HearsDesk c now piece old new
+CallLeads (InDialogue call) old new = DialogueLeads call old new
 CallLeads Hurry old new = new ≡ hurried old
-
--- calls, one after the other
-abbrev pub CallsLead : MirroringOf → List Call → MirroringOf → Type 0
-CallsLead m [] after = after ≡ m
-CallsLead m (call ∷ more) after =
-    (next : MirroringOf) × CallLeads call m next × CallsLead next more after
 
 -- entries from a position on that a desk of the hall answered when it was asked for its log, and
 -- what the mirror made of them
@@ -60,5 +44,5 @@ TakesAnswers held (one ∷ more) after =
 abbrev pub HoldsWhatWasAnswered : Type 0
 HoldsWhatWasAnswered =
     (hall desks : ℕ) (calls : List Call) (after : MirroringOf)
-    → CallsLead (new_mirroring hall desks) calls after
+    → CallsLead CallLeads (new_mirroring hall desks) calls after
     → (answers : List (Answer hall)) × TakesAnswers [] answers after.entries

@@ -16,6 +16,7 @@ use Rattle.mirror.specs.declared.mirror.Taken.TheVariants.{Grew, Known, Gap, Dif
 use Rattle.wire.specs.Stream.{holding}
 use Rattle.wire.specs.declared.frame.What.{What}
 use Rattle.wire.specs.declared.frame.What.TheVariants as what
+use Rattle.desk_talks.specs.Dialogues.{Act, Call, Hear, Lost, Opened, Sent}
 use Rattle.desk_talks.specs.Talks.{Hears, TalkOf, asking, sending, talk}
 use Rattle.desk_talks.specs.declared.dialogue.Came.{Came}
 use Rattle.desk_talks.specs.declared.dialogue.Came.TheVariants as came
@@ -159,6 +160,14 @@ HearsAt (Some t) c now piece old new = HearsBy t c now piece old new
 
 abbrev pub HearsDesk : Came → ℕ → List ℕ → MirroringOf → MirroringOf → Type 0
 HearsDesk c now piece old new = HearsAt old.talking c now piece old new
+
+-- what the contract of each call of the dialogue says
+abbrev pub DialogueLeads : Call → MirroringOf → MirroringOf → Type 0
+DialogueLeads (Act w now) old new = Acts w now old new
+DialogueLeads (Opened result) old new = Opens result old new
+DialogueLeads Lost old new = new ≡ lost old
+DialogueLeads (Sent count) old new = new ≡ sent_by old count
+DialogueLeads (Hear c now piece) old new = HearsDesk c now piece old new
 
 -- ---- in a hurry
 

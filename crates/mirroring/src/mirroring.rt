@@ -257,21 +257,18 @@ impl Mirroring {
 }
 
 impl Dialogue for Mirroring {
-    ghost use Rattle.std.specs.Prelude.{◌≡◌, false};
-    ghost use Rattle.desk_talks.specs.Dialogues.{has_changed};
-    ghost use Rattle.mirroring.specs.Mirrorings.{is_opening};
+    ghost use Rattle.std.specs.Prelude.{◌≡◌};
+    ghost use Rattle.mirroring.specs.Mirrorings.{DialogueLeads, held, is_opening};
     ghost use Rattle.acceptor.specs.declared.entry.Entry.{Entry};
-    ghost use Rattle.mirroring.specs.Mirrorings.{held};
 
     ghost Held = { List Entry };
 
     // The entries of the mirror.
     ghost held = { held };
 
-    fn act(&mut self, now: u64) -> Wish
-        ensures held { held self.new ≡ held self.old }
-        ensures acts { Acts result now self.old self.new }
-    {
+    ghost leads = { DialogueLeads };
+
+    fn act(&mut self, now: u64) -> Wish {
         self.act(now)
     }
 
@@ -281,17 +278,11 @@ impl Dialogue for Mirroring {
         matches!(self.stage(), Stage::Opening { .. })
     }
 
-    fn opened(&mut self) -> bool
-        ensures held { held self.new ≡ held self.old }
-        ensures opens { Opens result self.old self.new }
-    {
+    fn opened(&mut self) -> bool {
         self.opened()
     }
 
-    fn lost(&mut self)
-        ensures held { held self.new ≡ held self.old }
-        ensures lost { self.new ≡ lost self.old }
-    {
+    fn lost(&mut self) {
         self.lost();
     }
 
@@ -301,17 +292,11 @@ impl Dialogue for Mirroring {
         self.output()
     }
 
-    fn sent(&mut self, count: usize)
-        ensures held { held self.new ≡ held self.old }
-        ensures sent { self.new ≡ sent_by self.old count }
-    {
+    fn sent(&mut self, count: usize) {
         self.sent(count);
     }
 
-    fn hear(&mut self, now: u64, piece: &[u8]) -> Came
-        ensures held { has_changed result ≡ false → held self.new ≡ held self.old }
-        ensures hears { HearsDesk result now piece.now self.old self.new }
-    {
+    fn hear(&mut self, now: u64, piece: &[u8]) -> Came {
         self.hear(now, piece)
     }
 }

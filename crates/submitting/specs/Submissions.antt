@@ -8,6 +8,7 @@ use Rattle.wire.specs.declared.frame.What.{What}
 use Rattle.wire.specs.declared.frame.What.TheVariants as what
 use Rattle.wire.specs.declared.values.ClientRefusal.{ClientRefusal}
 use Rattle.wire.specs.declared.values.Version.TheVariants.{One}
+use Rattle.desk_talks.specs.Dialogues.{Act, Call, Hear, Lost, Opened, Sent}
 use Rattle.desk_talks.specs.Lines.{AsksOver, HearsOver, LineOf, closed, due_of, hurried, new_line}
 use Rattle.desk_talks.specs.Lines.{opening, sent_by as line_sent_by, wait_of as line_wait_of}
 use Rattle.desk_talks.specs.Lines.{Opens as OpensLine}
@@ -191,3 +192,11 @@ pub record HearsDesk (c : Came) (piece : List ℕ) (old new : SubmissionOf) : Ty
   pub after : LineOf
   pub hears : HearsOver heard piece old.line after
   pub follows : Follows heard c (with_line old after) new
+
+-- what the contract of each call of the dialogue says
+abbrev pub DialogueLeads : Call → SubmissionOf → SubmissionOf → Type 0
+DialogueLeads (Act w now) old new = Acts w now old new
+DialogueLeads (Opened result) old new = Opens result old new
+DialogueLeads Lost old new = new ≡ lost old
+DialogueLeads (Sent count) old new = new ≡ sent_by old count
+DialogueLeads (Hear c now piece) old new = HearsDesk c piece old new

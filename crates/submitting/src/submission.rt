@@ -320,22 +320,20 @@ impl Submission {
 }
 
 impl Dialogue for Submission {
-    ghost use Rattle.std.specs.Prelude.{◌≡◌, false};
-    ghost use Rattle.desk_talks.specs.Dialogues.{has_changed};
+    ghost use Rattle.std.specs.Prelude.{◌≡◌};
     ghost use Rattle.desk_talks.specs.Lines.{is_opening};
     ghost use Rattle.std.specs.Prelude.{List, ℕ};
     ghost use Rattle.acceptor.specs.declared.entry.Entry.{Entry as EntryOf};
-    ghost use Rattle.submitting.specs.Submissions.{held};
+    ghost use Rattle.submitting.specs.Submissions.{DialogueLeads, held};
 
     ghost Held = { List EntryOf };
 
     // The entries, whichever of them were taken.
     ghost held = { held };
 
-    fn act(&mut self, now: u64) -> Wish
-        ensures held { held self.new ≡ held self.old }
-        ensures acts { Acts result now self.old self.new }
-    {
+    ghost leads = { DialogueLeads };
+
+    fn act(&mut self, now: u64) -> Wish {
         self.act(now)
     }
 
@@ -345,17 +343,11 @@ impl Dialogue for Submission {
         self.line.is_opening()
     }
 
-    fn opened(&mut self) -> bool
-        ensures held { held self.new ≡ held self.old }
-        ensures opens { Opens result self.old self.new }
-    {
+    fn opened(&mut self) -> bool {
         self.opened()
     }
 
-    fn lost(&mut self)
-        ensures held { held self.new ≡ held self.old }
-        ensures lost { self.new ≡ lost self.old }
-    {
+    fn lost(&mut self) {
         self.lost();
     }
 
@@ -365,17 +357,11 @@ impl Dialogue for Submission {
         self.output()
     }
 
-    fn sent(&mut self, count: usize)
-        ensures held { held self.new ≡ held self.old }
-        ensures sent { self.new ≡ sent_by self.old count }
-    {
+    fn sent(&mut self, count: usize) {
         self.sent(count);
     }
 
-    fn hear(&mut self, now: u64, piece: &[u8]) -> Came
-        ensures held { has_changed result ≡ false → held self.new ≡ held self.old }
-        ensures hears { HearsDesk result piece.now self.old self.new }
-    {
+    fn hear(&mut self, now: u64, piece: &[u8]) -> Came {
         let _now = now;
         self.hear(piece)
     }

@@ -6,6 +6,7 @@ use Rattle.client.specs.Standings.{status_request}
 use Rattle.wire.specs.declared.frame.Frame.{Frame}
 use Rattle.wire.specs.declared.frame.What.{What}
 use Rattle.wire.specs.declared.frame.What.TheVariants as what
+use Rattle.desk_talks.specs.Dialogues.{Act, Call, CallsLead, Hear, Lost, Opened, Sent}
 use Rattle.desk_talks.specs.Lines.{HearsOver, LineOf, due_of}
 use Rattle.desk_talks.specs.declared.dialogue.Came.{Came}
 use Rattle.desk_talks.specs.declared.dialogue.Wish.{Wish}
@@ -16,10 +17,9 @@ use Rattle.desk_talks.specs.declared.talk.Heard.{Heard}
 use Rattle.desk_talks.specs.declared.talk.Heard.TheVariants as heard
 use Rattle.desk_talks.proofs.Saying.{IsAnsweredBy, SaysOver, answered_over, asks_over, hears_over}
 use Rattle.desk_talks.proofs.Saying.{opens_over, sent_over}
-use Rattle.surveying.specs.Histories.{Act, Call, CallLeads, CallsLead, Hear, IsAnswered, Lost}
-use Rattle.surveying.specs.Histories.{Opened, Sent, TellsWhatWasAnswered}
-use Rattle.surveying.specs.Surveys.{ActsBy, Asks, Fails, Follows, FollowsAnswer, Opens, SurveyOf}
-use Rattle.surveying.specs.Surveys.{lost, new_survey, sent_by, with_line}
+use Rattle.surveying.specs.Histories.{IsAnswered, TellsWhatWasAnswered}
+use Rattle.surveying.specs.Surveys.{ActsBy, Asks, DialogueLeads, Follows, FollowsAnswer, Opens}
+use Rattle.surveying.specs.Surveys.{SurveyOf, lost, new_survey, with_line}
 use Rattle.surveying.specs.declared.survey.Told.{Told}
 
 abbrev IsQuestion : ℕ → ℕ → Frame → Type 0
@@ -117,7 +117,7 @@ after_heard hall desk heard.NoAnswer c now piece old line new before hears of (i
     after_lost hall desk (with_line old line) new of e
 
 after_call : (hall desk : ℕ) (call : Call) (old new : SurveyOf) → IsOf hall desk old
-    → CallLeads call old new → IsOf hall desk new
+    → DialogueLeads call old new → IsOf hall desk new
 after_call hall desk (Act w now) old new of h =
     after_act hall desk (due_of old.line now) w now old new of h
 after_call hall desk (Opened opened) old new of h = after_opened hall desk opened old new of h
@@ -132,7 +132,7 @@ after_call hall desk (Hear c now piece) old new of h =
     h.follows
 
 after_calls : (hall desk : ℕ) (calls : List Call) (old new : SurveyOf) → IsOf hall desk old
-    → CallsLead old calls new → IsOf hall desk new
+    → CallsLead DialogueLeads old calls new → IsOf hall desk new
 after_calls hall desk [] old new of e = subst (IsOf hall desk) (sym e) of
 after_calls hall desk (call ∷ more) old new of (next, leads, rest) =
     after_calls hall desk more next new (after_call hall desk call old next of leads) rest

@@ -3,6 +3,7 @@ use Rattle.std.specs.Prelude.{ℕ, ◌≡◌, List, Option, None, Some, Bool, tr
 use Rattle.client.specs.Standings.{status_request}
 use Rattle.wire.specs.declared.frame.What.{What}
 use Rattle.wire.specs.declared.frame.What.TheVariants as what
+use Rattle.desk_talks.specs.Dialogues.{Act, Call, Hear, Lost, Opened, Sent}
 use Rattle.desk_talks.specs.Lines.{AsksOver, HearsOver, LineOf, closed, due_of, new_line, opening}
 use Rattle.desk_talks.specs.Lines.{sent_by as line_sent_by, Opens as OpensLine}
 use Rattle.desk_talks.specs.declared.dialogue.Came.{Came}
@@ -106,3 +107,11 @@ pub record HearsDesk (c : Came) (now : ℕ) (piece : List ℕ) (old new : Survey
   pub after : LineOf
   pub hears : HearsOver heard piece old.line after
   pub follows : Follows heard c now (with_line old after) new
+
+-- what the contract of each call of the dialogue says
+abbrev pub DialogueLeads : Call → SurveyOf → SurveyOf → Type 0
+DialogueLeads (Act w now) old new = Acts w now old new
+DialogueLeads (Opened result) old new = Opens result old new
+DialogueLeads Lost old new = new ≡ lost old
+DialogueLeads (Sent count) old new = new ≡ sent_by old count
+DialogueLeads (Hear c now piece) old new = HearsDesk c now piece old new

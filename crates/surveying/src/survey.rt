@@ -208,11 +208,10 @@ impl Survey {
 }
 
 impl Dialogue for Survey {
-    ghost use Rattle.std.specs.Prelude.{◌≡◌, false};
-    ghost use Rattle.desk_talks.specs.Dialogues.{has_changed};
+    ghost use Rattle.std.specs.Prelude.{◌≡◌};
     ghost use Rattle.desk_talks.specs.Lines.{is_opening};
     ghost use Rattle.std.specs.Prelude.{Option};
-    ghost use Rattle.surveying.specs.Surveys.{held};
+    ghost use Rattle.surveying.specs.Surveys.{DialogueLeads, held};
     ghost use Rattle.surveying.specs.declared.survey.Told.{Told as ToldOf};
 
     ghost Held = { Option ToldOf };
@@ -220,10 +219,9 @@ impl Dialogue for Survey {
     // What the desk said last.
     ghost held = { held };
 
-    fn act(&mut self, now: u64) -> Wish
-        ensures held { held self.new ≡ held self.old }
-        ensures acts { Acts result now self.old self.new }
-    {
+    ghost leads = { DialogueLeads };
+
+    fn act(&mut self, now: u64) -> Wish {
         self.act(now)
     }
 
@@ -233,17 +231,11 @@ impl Dialogue for Survey {
         self.line.is_opening()
     }
 
-    fn opened(&mut self) -> bool
-        ensures held { held self.new ≡ held self.old }
-        ensures opens { Opens result self.old self.new }
-    {
+    fn opened(&mut self) -> bool {
         self.opened()
     }
 
-    fn lost(&mut self)
-        ensures held { held self.new ≡ held self.old }
-        ensures lost { self.new ≡ lost self.old }
-    {
+    fn lost(&mut self) {
         self.lost();
     }
 
@@ -253,17 +245,11 @@ impl Dialogue for Survey {
         self.output()
     }
 
-    fn sent(&mut self, count: usize)
-        ensures held { held self.new ≡ held self.old }
-        ensures sent { self.new ≡ sent_by self.old count }
-    {
+    fn sent(&mut self, count: usize) {
         self.sent(count);
     }
 
-    fn hear(&mut self, now: u64, piece: &[u8]) -> Came
-        ensures held { has_changed result ≡ false → held self.new ≡ held self.old }
-        ensures hears { HearsDesk result now piece.now self.old self.new }
-    {
+    fn hear(&mut self, now: u64, piece: &[u8]) -> Came {
         self.hear(now, piece)
     }
 }

@@ -233,7 +233,8 @@ fn counted_of(bytes: &[u8]) -> Option<Value>
     }
 }
 
-/// What the attempts of an entrant count, with a comma between two of them, or `-` for none.
+/// What the attempts of an entrant count, as the field `was` of `CARD` spells it: with a comma
+/// between two of them, or `-` for none. It is none where the text is no such field.
 #[tactic(auto, unfolding(crate::specs::Fields::was_of))]
 pub fn was_of(alloc: Global, bytes: &[u8]) -> Result<Option<Was>, NoMemory>
     ensures { IfOk result (λ was. was ≡ was_of bytes.now) }

@@ -153,8 +153,9 @@ fn push_counted(out: &mut Vec<u8>, value: Value) -> Result<(), NoMemory>
     }
 }
 
-/// What the attempts count, with a comma between two of them.
-fn push_was(out: &mut Vec<u8>, was: &[Value]) -> Result<(), NoMemory>
+/// Adds what the attempts of an entrant count, as the field `was` of `CARD` spells it: with a comma
+/// between two of them, or `-` for none. It is `NoMemory` only where a growth was refused.
+pub fn push_was(out: &mut Vec<u8>, was: &[Value]) -> Result<(), NoMemory>
     ensures { OnOk result (out.new.items ≡ out.old.items ++ was_text was.now) }
 {
     let Some((first, later)) = was.split_first() else {

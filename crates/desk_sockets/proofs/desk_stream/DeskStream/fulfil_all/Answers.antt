@@ -1,0 +1,20 @@
+use Rattle.std.proofs.Common.{rules}
+use Rattle.desk_sockets.proofs.Reaching.{both, one}
+use Rattle.desk_sockets.proofs.desk_stream.DeskStream.fulfil_all.Goals as goal
+
+pub returns-in-Rest-clause-went : goal.returns-in-Rest-clause-went
+returns-in-Rest-clause-went g c =
+    both c.loop-wish.invariant.went
+    (both (one g.D.Dialogue.leads c.act-wish.ensures.leads) c.fulfil.ensures.went)
+
+pub returns-in-Stop-clause-went : goal.returns-in-Stop-clause-went
+returns-in-Stop-clause-went g c =
+    both c.loop-wish.invariant.went
+    (both (one g.D.Dialogue.leads c.act-wish.ensures.leads) c.fulfil.ensures.went)
+
+pub loop-wish-preserved : goal.loop-wish-preserved
+loop-wish-preserved g c =
+    let t =
+    both c.loop-wish.invariant.went
+    (both (one g.D.Dialogue.leads c.act-wish.ensures.leads) c.fulfil.ensures.went) in
+    search rules

@@ -1,0 +1,229 @@
+-- What is told saved was entered: the command of its text was accepted there.
+use Rattle.std.proofs.Common.{◌≡◌, ℕ, ◌+◌, Bool, true, false, not, List, [], ◌∷◌, ◌++◌, Option}
+use Rattle.std.proofs.Common.{Some}
+use Rattle.std.proofs.Common.{None, Result, Ok, take, refl, sym, ap, ◌∙◌, subst, if◌then◌else◌}
+use Rattle.std.proofs.Common.{add-one}
+use Rattle.std.specs.Option.{option_map, option_or}
+use Rattle.std.proofs.lemmas.List.Sums.{fold-append}
+use Rattle.acceptor.specs.declared.entry.Entry.{Entry}
+use Rattle.answers.specs.Answers.{texts}
+use Rattle.commands.specs.Accepted.{are_values, card_refusal, edition_in}
+use Rattle.commands.specs.Accepted.{fix_refusal, is_registered, refusal, round_by, scramble_of}
+use Rattle.commands.specs.Accepted.{seen_refusal, unfit_card_refusal}
+use Rattle.commands.specs.History.{History, added_read, after, after_in, answer_of, answer_to}
+use Rattle.commands.specs.History.{entry_refusal_in, history, is_seen, knows, nothing}
+use Rattle.commands.specs.History.{read_refusal_in, spelled_refusal}
+use Rattle.learner.specs.Laws.{IsPrefix}
+use Rattle.rounds.specs.Tables.{Entrant, Table, entrant}
+use Rattle.texts.specs.Editions.{is_spelled_in}
+use Rattle.texts.specs.Reading.{command_of}
+use Rattle.texts.specs.Spelling.{last_edition}
+use Rattle.texts.specs.declared.answer.Answer.{Answer}
+use Rattle.texts.specs.declared.answer.Answer.TheVariants as answer
+use Rattle.texts.specs.declared.answer.Code.{Code}
+use Rattle.texts.specs.declared.answer.Code.TheVariants as code
+use Rattle.texts.specs.declared.command.CardEntry.{CardEntry}
+use Rattle.texts.specs.declared.command.Command.{Command}
+use Rattle.texts.specs.declared.command.Command.TheVariants.{Card, Fix}
+use Rattle.texts.specs.declared.command.Remarked.{Remarked}
+use Rattle.texts.specs.declared.command.Settings.{Settings}
+use Rattle.texts.specs.declared.reading.CommandFault.{CommandFault}
+use Rattle.mirror.specs.Answered.{answer_after}
+use Rattle.outbox.specs.Cards.{AreSeen, SavedCardIsOverWhatWasSeen}
+use Rattle.outbox.specs.Cards.{SavedFixIsOverWhatWasSeen, SavedIsEntered, accepted_of}
+use Rattle.outbox.specs.Laws.{IsSo, StandsAs}
+use Rattle.outbox.specs.States.{state_of}
+use Rattle.outbox.specs.declared.state.State.TheVariants as state
+use Rattle.outbox.proofs.Looking.{take_more}
+use Rattle.outbox.proofs.Told.{never_by_guess}
+
+-- ---- a check that passes
+
+none_of : (refused : Option Code) → answer_of refused ≡ answer.Done → refused ≡ None
+none_of None h = refl
+none_of (Some why) h = absurd cc
+
+unless : (test : Bool) (why : Code) (others : Option Code)
+    → (if test then Some why else others) ≡ None → others ≡ None
+unless true why others h = absurd cc
+unless false why others h = h
+
+provided : (test : Bool) (why : Code) (others : Option Code)
+    → (if test then others else Some why) ≡ None → others ≡ None
+provided true why others h = h
+provided false why others h = absurd cc
+
+first_none : (one other : Option Code) → option_or one other ≡ None → one ≡ None
+first_none None other h = refl
+first_none (Some why) other h = absurd cc
+
+second_none : (one other : Option Code) → option_or one other ≡ None → other ≡ None
+second_none None other h = h
+second_none (Some why) other h = absurd cc
+
+-- ---- an entry that was answered Done
+
+record IsPassed (h : History) (id : ℕ) (text : List ℕ) : Type 0 where
+  new : is_seen h id ≡ false
+  read : read_refusal_in last_edition h.accepted (command_of text) ≡ None
+
+passed_by : (h : History) (id : ℕ) (text : List ℕ) (seen : Bool) → is_seen h id ≡ seen
+    → (if seen then Some code.Repeat
+    else read_refusal_in last_edition h.accepted (command_of text))
+    ≡ None
+    → IsPassed h id text
+passed_by h id text true is e = absurd cc
+passed_by h id text false is e = record { new = is; read = e }
+
+passed : (h : History) (id : ℕ) (text : List ℕ) → answer_to h id text ≡ answer.Done
+    → IsPassed h id text
+unfolding entry_refusal_in
+passed h id text done =
+    passed_by h id text (is_seen h id) refl
+    (none_of (entry_refusal_in last_edition h id text) done)
+
+accepted_by : (cs : List Command) (told : Remarked) (read : Result Remarked CommandFault)
+    → read ≡ Ok told → read_refusal_in last_edition cs read ≡ None
+    → refusal cs told.command ≡ None
+accepted_by cs told read is e =
+    provided (is_spelled_in (edition_in cs) told) code.Unread (refusal cs told.command)
+    (provided (knows last_edition told.command) code.Unread (spelled_refusal cs told)
+    (subst (λ (r : Result Remarked CommandFault). read_refusal_in last_edition cs r ≡ None) is e))
+
+abbrev made : History → ℕ → List Command → History
+made h id more = record { ids = h.ids ++ id ∷ []; accepted = h.accepted ++ more }
+
+added_by : (h : History) (id : ℕ) (command : Command) (seen : Bool) (more : List Command)
+    → seen ≡ false → more ≡ command ∷ []
+    → (if seen then h else made h id more).accepted ≡ h.accepted ++ command ∷ []
+added_by h id command true more e m = absurd cc
+added_by h id command false more e m = ap (λ cs. h.accepted ++ cs) m
+
+after_passed : (h : History) (id : ℕ) (text : List ℕ) (told : Remarked)
+    → command_of text ≡ Ok told → IsPassed h id text
+    → (after h id text).accepted ≡ h.accepted ++ told.command ∷ []
+unfolding after_in
+after_passed h id text told reads p =
+    added_by h id told.command (is_seen h id)
+    (added_read (read_refusal_in last_edition h.accepted (command_of text)) (command_of text))
+    p.new
+    (ap (λ r. added_read r (command_of text)) p.read
+    ∙ ap (λ (r : Result Remarked CommandFault). added_read None r) reads)
+
+-- ---- one entry more
+
+texts_more : (entries : List Entry) (e : Entry)
+    → texts (entries ++ e ∷ []) ≡ texts entries ++ (e.id, e.text) ∷ []
+texts_more [] e = refl
+texts_more (x ∷ entries) e = ap (λ ts. (x.id, x.text) ∷ ts) (texts_more entries e)
+
+history_more : (ts : List (ℕ × List ℕ)) (t : ℕ × List ℕ)
+    → history (ts ++ t ∷ []) ≡ after (history ts) t.0 t.1
+history_more ts t =
+    fold-append (λ (h : History) (e : ℕ × List ℕ). after_in last_edition h e.0 e.1) nothing ts
+    (t ∷ [])
+
+some_same : (a b : Answer) → Some a ≡ Some b → a ≡ b
+some_same a b h = cc
+
+-- ---- what is told saved
+
+record IsDone (log : List Entry) (position : ℕ) (entry : Entry) : Type 0 where
+  passes : IsPassed (history (texts (take position log))) entry.id entry.text
+  longer : take (position + 1) log ≡ take position log ++ entry ∷ []
+
+is_done : (log : List Entry) (position : ℕ) (entry : Entry)
+    → StandsAs log position entry answer.Done → IsDone log position entry
+is_done log position entry stands =
+    let before : List Entry = take position log in
+    record {
+      passes =
+          passed (history (texts before)) entry.id entry.text
+          (some_same (answer_after before entry) answer.Done
+          (sym (ap (option_map (answer_after before)) stands.there) ∙ stands.answered));
+      longer =
+          ap (λ n. take n log) (add-one position) ∙ take_more log position entry stands.there;
+    }
+
+saved_is_done : (held log : List Entry) (entry : Entry) (position : ℕ) → IsPrefix held log
+    → state_of held entry ≡ state.Saved position → IsDone log position entry
+saved_is_done held log entry position front told =
+    is_done log position entry
+    (subst (IsSo log entry) told (never_by_guess held log entry front))
+
+pub saved_is_entered : SavedIsEntered
+saved_is_entered held log entry position command front told says =
+    let done = saved_is_done held log entry position front told in
+    let before : List Entry = take position log in
+    let h : History = history (texts before) in
+    record {
+      accepted =
+          subst (λ (c : Command). refusal h.accepted c ≡ None) says.is
+          (accepted_by h.accepted says.told (command_of entry.text) says.reads done.passes.read);
+      added =
+          ap (λ (es : List Entry). (history (texts es)).accepted) done.longer
+          ∙ ap (λ (ts : List (ℕ × List ℕ)). (history ts).accepted) (texts_more before entry)
+          ∙ ap (λ (x : History). x.accepted) (history_more (texts before) (entry.id, entry.text))
+          ∙ after_passed h entry.id entry.text says.told says.reads done.passes
+          ∙ ap (λ (c : Command). h.accepted ++ c ∷ []) says.is;
+    }
+
+-- ---- what its writer saw
+
+module _ (cs : List Command) (card : CardEntry) where
+  seen_by : (test : Bool) → (if test then None else Some code.Changed) ≡ None → test ≡ true
+  seen_by true h = refl
+  seen_by false h = absurd cc
+
+  by_entrant : (round : Settings × Table) → round_by cs card.id ≡ Some round
+      → (o : Option Entrant) → entrant round.1 card.number ≡ o → seen_refusal card.was o ≡ None
+      → AreSeen cs card
+  by_entrant round opened None held h = absurd cc
+  by_entrant round opened (Some one) held h = record {
+    round = round;
+    one = one;
+    opened = opened;
+    held = held;
+    seen = seen_by (are_values card.was one.values) h;
+  }
+
+  card_seen : (o : Option (Settings × Table)) → round_by cs card.id ≡ o
+      → card_refusal card.id.event (scramble_of cs card.id.event card.id.round) card o ≡ None
+      → AreSeen cs card
+  card_seen None opened h = absurd cc
+  card_seen (Some round) opened h =
+      by_entrant round opened (entrant round.1 card.number) refl
+      (first_none (seen_refusal card.was (entrant round.1 card.number)) _
+      (unless round.1.is_closed code.Closed _
+      (second_none
+      (unfit_card_refusal card.id.event (scramble_of cs card.id.event card.id.round) card.now) _
+      h)))
+
+  fix_seen : (competitors : ℕ → ℕ) (next : Bool) (o : Option (Settings × Table))
+      → round_by cs card.id ≡ o
+      → fix_refusal card.id.event (scramble_of cs card.id.event card.id.round) card competitors
+      next o
+      ≡ None
+      → AreSeen cs card
+  fix_seen competitors next None opened h = absurd cc
+  fix_seen competitors next (Some round) opened h =
+      by_entrant round opened (entrant round.1 card.number) refl
+      (first_none (seen_refusal card.was (entrant round.1 card.number)) _
+      (unless (not round.1.is_closed) code.NotClosed _
+      (second_none
+      (unfit_card_refusal card.id.event (scramble_of cs card.id.event card.id.round) card.now) _
+      h)))
+
+pub saved_card_is_seen : SavedCardIsOverWhatWasSeen
+saved_card_is_seen held log entry position card front told says =
+    let cs = accepted_of log position in
+    let e = saved_is_entered held log entry position (Card card) front told says in
+    card_seen cs card (round_by cs card.id) refl
+    (unless (not (is_registered cs card.number)) code.UnknownCompetitor _ e.accepted)
+
+pub saved_fix_is_seen : SavedFixIsOverWhatWasSeen
+saved_fix_is_seen held log entry position card front told says =
+    let cs = accepted_of log position in
+    let e = saved_is_entered held log entry position (Fix card) front told says in
+    fix_seen cs card _ _ (round_by cs card.id) refl
+    (unless (not (is_registered cs card.number)) code.UnknownCompetitor _ e.accepted)

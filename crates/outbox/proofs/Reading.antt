@@ -1,0 +1,238 @@
+-- What reading a journal's lines does.
+use Rattle.std.proofs.Common.{◌≡◌, ℕ, ◌+◌, ◌^◌, ◌<◌, ◌≤◌, ◌⊎◌, inl, inr, Bool, true, false, List}
+use Rattle.std.proofs.Common.{[]}
+use Rattle.std.proofs.Common.{◌∷◌, ◌++◌, length, is_some, Option, Some, None, Ok, refl, sym}
+use Rattle.std.proofs.Common.{ap}
+use Rattle.std.proofs.Common.{◌∙◌, arith, cond, subst, length-append}
+use Rattle.std.specs.Prelude.{Contains, nat_eq}
+use Rattle.std.specs.List.{AllByRecursion}
+use Rattle.std.specs.Map.{lookup}
+use Rattle.indexmap.specs.IndexSet.{insert_key}
+use Rattle.acceptor.specs.declared.entry.Entry.{Entry}
+use Rattle.outbox.specs.declared.item.Item.{Item}
+use Rattle.outbox.specs.declared.journal_lines.Line.{Line}
+use Rattle.outbox.specs.declared.journal_lines.Line.TheVariants as line
+use Rattle.outbox.specs.Items.{ItemsOf, is_full, item_in, items_of, no_items, taken_at}
+use Rattle.outbox.specs.Journals.{after_lines, answered_again, followed_if, go_on}
+use Rattle.outbox.specs.Journals.{restored, with_item}
+use Rattle.outbox.specs.Lines.{item_line, said}
+use Rattle.outbox.proofs.Lists.{all_append, contains_cases, found_front, found_last}
+use Rattle.outbox.proofs.Spelled.{IsFit, IsSpelled, item_spelled, said_item}
+
+-- what a line that fits does to the items: it puts one more there, or none
+pub record AddsItem (bytes : List ℕ) (now : ℕ) (q next : ItemsOf) : Type 0 where
+  pub entry : Entry
+  pub spelled : IsSpelled bytes entry
+  pub new : item_in q entry.id ≡ None
+  pub becomes : next ≡ with_item q entry now
+
+pub record AddsNone (q next : ItemsOf) : Type 0 where
+  pub items : next.items ≡ q.items
+  pub kept : next.kept ≡ q.kept
+  pub lines : next.lines ≡ q.lines
+
+abbrev pub Adds : List ℕ → ℕ → ItemsOf → ItemsOf → Type 0
+Adds bytes now q next = AddsItem bytes now q next ⊎ AddsNone q next
+
+none_of : (o : Option Item) → is_some o ≡ false → o ≡ None
+none_of None h = refl
+none_of (Some item) h = absurd cc
+
+adds_item : (bytes : List ℕ) (now : ℕ) (q next : ItemsOf) (entry : Entry)
+    → said bytes ≡ Some (line.Item entry) → restored q entry now ≡ Some next
+    → Adds bytes now q next
+adds_item bytes now q next entry is h =
+    go (is_some (item_in q entry.id)) (is_full q) refl h
+  where
+    go : (known full : Bool) → is_some (item_in q entry.id) ≡ known
+        → cond known None (cond full None (Some (with_item q entry now))) ≡ Some next
+        → Adds bytes now q next
+    go true full k e = absurd cc
+    go false true k e = absurd cc
+    go false false k e = inl (record {
+      entry = entry;
+      spelled = item_spelled bytes entry is;
+      new = none_of (item_in q entry.id) k;
+      becomes = let same : with_item q entry now ≡ next = cc in sym same;
+    })
+
+adds_answer : (bytes : List ℕ) (now : ℕ) (q next : ItemsOf) (id : ℕ)
+    → answered_again q id ≡ Some next → Adds bytes now q next
+adds_answer bytes now q next id h = go (is_some (item_in q id)) h
+  where
+    go : (known : Bool)
+        → cond known (Some (items_of q.items q.kept q.lines (insert_key nat_eq q.answered id))) None
+        ≡ Some next → Adds bytes now q next
+    go false e = absurd cc
+    go true e =
+        let made : ItemsOf = items_of q.items q.kept q.lines (insert_key nat_eq q.answered id) in
+        let same : made ≡ next = cc in
+        inr (record {
+          items = ap (λ (x : ItemsOf). x.items) (sym same);
+          kept = ap (λ (x : ItemsOf). x.kept) (sym same);
+          lines = ap (λ (x : ItemsOf). x.lines) (sym same);
+        })
+
+adds_said : (bytes : List ℕ) (now : ℕ) (q next : ItemsOf) (o : Option Line) → said bytes ≡ o
+    → followed_if q now o ≡ Some next → Adds bytes now q next
+adds_said bytes now q next None is h = absurd cc
+adds_said bytes now q next (Some (line.Item entry)) is h = adds_item bytes now q next entry is h
+adds_said bytes now q next (Some (line.Answered id)) is h = adds_answer bytes now q next id h
+
+pub adds : (bytes : List ℕ) (now : ℕ) (q next : ItemsOf)
+    → followed_if q now (said bytes) ≡ Some next → Adds bytes now q next
+adds bytes now q next h = adds_said bytes now q next (said bytes) refl h
+
+-- ---- what stays over all lines
+
+module _ (P : ItemsOf → Type 0) (now : ℕ) (all : List (List ℕ))
+    (steps : (bytes : List ℕ) (q next : ItemsOf) → Contains all bytes → Adds bytes now q next → P q
+    → P next) where
+  go_over : (q r : ItemsOf) (number : ℕ) (lines : List (List ℕ))
+      → AllByRecursion (Contains all) lines → P q → after_lines q now number lines ≡ Ok r → P r
+  go_over q r number [] c p e = let same : q ≡ r = cc in subst P same p
+  go_over q r number (bytes ∷ lines) c p e =
+      step (followed_if q now (said bytes)) refl e
+      (λ next q' s. go_over next r (number + 1) lines c.1 q' s)
+    where
+      step : (o : Option ItemsOf) → followed_if q now (said bytes) ≡ o
+          → go_on o number (λ next. after_lines next now (number + 1) lines) ≡ Ok r
+          → ((next : ItemsOf) → P next → after_lines next now (number + 1) lines ≡ Ok r → P r)
+          → P r
+      step None is h rest = absurd cc
+      step (Some next) is h rest =
+          rest next (steps bytes q next c.0 (adds bytes now q next is) p) h
+
+  pub over_lines : (q r : ItemsOf) (number : ℕ) (lines : List (List ℕ))
+      → AllByRecursion (Contains all) lines → P q → after_lines q now number lines ≡ Ok r → P r
+  over_lines q r number lines c p e = go_over q r number lines c p e
+
+-- ---- what is read
+
+-- an entry of a program stands under its id
+pub record IsKeyed (pair : ℕ × Item) : Type 0 where
+  pub is : pair.0 ≡ pair.1.entry.id
+  pub first : 1 ≤ pair.1.entry.id
+  pub last : pair.1.entry.id < 2 ^ 63
+
+abbrev pub HasLine : List (List ℕ) → ℕ × Item → Type 0
+HasLine lines pair = Contains lines (item_line pair.1.entry)
+
+-- what was read
+pub record IsRead (all : List (List ℕ)) (q : ItemsOf) : Type 0 where
+  pub keyed : AllByRecursion IsKeyed q.items
+  pub lines : AllByRecursion (HasLine all) q.items
+  pub kept : q.kept ≡ length q.items
+  pub none : q.lines ≡ []
+
+module _ (now : ℕ) (all : List (List ℕ)) where
+  read_item : (bytes : List ℕ) (q next : ItemsOf) → Contains all bytes → AddsItem bytes now q next
+      → IsRead all q → IsRead all next
+  read_item bytes q next c a r =
+      let one : ℕ × Item = (a.entry.id, taken_at a.entry now) in
+      subst (IsRead all) (sym a.becomes) (record {
+        keyed =
+            all_append IsKeyed q.items (one ∷ []) r.keyed
+            (record { is = refl; first = a.spelled.first; last = a.spelled.last }, tt);
+        lines =
+            all_append (HasLine all) q.items (one ∷ []) r.lines
+            (subst (Contains all) a.spelled.is c, tt);
+        kept = omega (arith, r.kept, length-append q.items (one ∷ []));
+        none = r.none;
+      })
+
+  read_none : (q next : ItemsOf) → AddsNone q next → IsRead all q → IsRead all next
+  read_none q next a r = record {
+    keyed = subst (AllByRecursion IsKeyed) (sym a.items) r.keyed;
+    lines = subst (AllByRecursion (HasLine all)) (sym a.items) r.lines;
+    kept = a.kept ∙ r.kept ∙ ap length (sym a.items);
+    none = a.lines ∙ r.none;
+  }
+
+  read_steps : (bytes : List ℕ) (q next : ItemsOf) → Contains all bytes → Adds bytes now q next
+      → IsRead all q → IsRead all next
+  read_steps bytes q next c (inl a) r = read_item bytes q next c a r
+  read_steps bytes q next c (inr a) r = read_none q next a r
+
+  pub is_read : (q : ItemsOf) (number : ℕ) → AllByRecursion (Contains all) all
+      → after_lines no_items now number all ≡ Ok q → IsRead all q
+  is_read q number c e =
+      over_lines (IsRead all) now all read_steps no_items q number all c
+      (record { keyed = tt; lines = tt; kept = refl; none = refl }) e
+
+-- ---- an item whose line is read
+
+pub record IsIn (items : List (ℕ × Item)) (entry : Entry) : Type 0 where
+  pub item : Item
+  pub found : lookup (nat_eq entry.id) items ≡ Some item
+  pub is : item.entry ≡ entry
+
+pub in_front : (xs ys : List (ℕ × Item)) (entry : Entry) → IsIn xs entry → IsIn (xs ++ ys) entry
+in_front xs ys entry i = record {
+  item = i.item;
+  found = found_front entry.id xs ys i.item i.found;
+  is = i.is;
+}
+
+pub in_last : (xs : List (ℕ × Item)) (entry : Entry) (now : ℕ) → lookup (nat_eq entry.id) xs ≡ None
+    → IsIn (xs ++ (entry.id, taken_at entry now) ∷ []) entry
+in_last xs entry now none = record {
+  item = taken_at entry now;
+  found = found_last entry.id xs (taken_at entry now) none;
+  is = refl;
+}
+
+module _ (now : ℕ) (entry : Entry) where
+  stays : (bytes : List ℕ) (q next : ItemsOf) → Adds bytes now q next → IsIn q.items entry
+      → IsIn next.items entry
+  stays bytes q next (inl a) i =
+      subst (λ (x : ItemsOf). IsIn x.items entry) (sym a.becomes)
+      (in_front q.items ((a.entry.id, taken_at a.entry now) ∷ []) entry i)
+  stays bytes q next (inr a) i = subst (λ items. IsIn items entry) (sym a.items) i
+
+  comes : IsFit entry → (q next : ItemsOf)
+      → followed_if q now (said (item_line entry)) ≡ Some next → IsIn next.items entry
+  comes fit q next h =
+      go (is_some (item_in q entry.id)) (is_full q) refl
+      (sym (ap (followed_if q now) (said_item entry fit)) ∙ h)
+    where
+      go : (known full : Bool) → is_some (item_in q entry.id) ≡ known
+          → cond known None (cond full None (Some (with_item q entry now))) ≡ Some next
+          → IsIn next.items entry
+      go true full k e = absurd cc
+      go false true k e = absurd cc
+      go false false k e =
+          let same : with_item q entry now ≡ next = cc in
+          subst (λ (x : ItemsOf). IsIn x.items entry) same
+          (in_last q.items entry now (none_of (item_in q entry.id) k))
+
+  pub line_read : IsFit entry → (q r : ItemsOf) (number : ℕ) (lines : List (List ℕ))
+      → after_lines q now number lines ≡ Ok r
+      → IsIn q.items entry ⊎ Contains lines (item_line entry)
+      → IsIn r.items entry
+  line_read fit q r number [] e (inl i) = let same : q ≡ r = cc in
+      subst (λ (x : ItemsOf). IsIn x.items entry) same i
+  line_read fit q r number [] e (inr (k, less, is)) = absurd (omega (arith, less))
+  line_read fit q r number (bytes ∷ lines) e known =
+      step (followed_if q now (said bytes)) refl e
+      (λ next k s. line_read fit next r (number + 1) lines s k)
+    where
+      on : (next : ItemsOf) → followed_if q now (said bytes) ≡ Some next
+          → IsIn q.items entry ⊎ Contains (bytes ∷ lines) (item_line entry)
+          → IsIn next.items entry ⊎ Contains lines (item_line entry)
+      on next is (inl i) = inl (stays bytes q next (adds bytes now q next is) i)
+      on next is (inr c) =
+          elim (contains_cases bytes lines (item_line entry) c) [
+            | inl same ↦
+                inl (comes fit q next
+                (subst (λ (b : List ℕ). followed_if q now (said b) ≡ Some next) same is))
+            | inr later ↦ inr later
+          ]
+
+      step : (o : Option ItemsOf) → followed_if q now (said bytes) ≡ o
+          → go_on o number (λ next. after_lines next now (number + 1) lines) ≡ Ok r
+          → ((next : ItemsOf) → IsIn next.items entry ⊎ Contains lines (item_line entry)
+          → after_lines next now (number + 1) lines ≡ Ok r → IsIn r.items entry)
+          → IsIn r.items entry
+      step None is h rest = absurd cc
+      step (Some next) is h rest = rest next (on next is known) h

@@ -1,0 +1,211 @@
+-- The lines of items and answers say just these.
+use Rattle.std.proofs.Common.{◌≡◌, ℕ, ◌-◌, ◌^◌, ◌<◌, ◌≤◌, ◌==◌, ◌&&◌, not, Bool, true, false}
+use Rattle.std.proofs.Common.{List, [], ◌∷◌, ◌++◌, All, length, codes, decimal, nat_le, Option}
+use Rattle.std.proofs.Common.{Some, None, refl, sym, ap, ◌∙◌, arith, subst, cond}
+use Rattle.std.specs.Prelude.{bytes_eq}
+use Rattle.std.specs.Char.{is_ascii_digit}
+use Rattle.std.specs.List.{list_all}
+use Rattle.std.specs.Option.{option_map}
+use Rattle.std.proofs.lemmas.Bool.Decides.{nat_tests}
+use Rattle.std.proofs.lemmas.List.Elements.{All-cons, All-nil}
+use Rattle.std.proofs.lemmas.Slice.Eq.{bytes_eq-Decides}
+use Rattle.acceptor.specs.declared.entry.Entry.{Entry}
+use Rattle.texts.specs.Fields.{cut, number_between}
+use Rattle.texts.specs.Numerals.{digits_value, within}
+use Rattle.texts.proofs.Cuts.{and-true, behind, cut-behind, cut_spelled, lacks}
+use Rattle.texts.proofs.FieldSpellings.{decimal_digits, decimal_no_space}
+use Rattle.texts.proofs.Numerals.{number_between-decimal}
+use Rattle.outbox.specs.declared.journal_lines.Line.TheVariants as line
+use Rattle.outbox.specs.Items.{is_line}
+use Rattle.outbox.specs.Lines.{answered_line, id_of, answered_of, item_by, item_line, item_of}
+use Rattle.outbox.specs.Lines.{said, said_after, said_by}
+use Rattle.outbox.proofs.Pieces.{IsNoEnd}
+
+-- an entry that can stand on a line
+pub record IsFit (entry : Entry) : Type 0 where
+  pub first : 1 ≤ entry.id
+  pub last : entry.id < 2 ^ 63
+  pub short : length entry.text ≤ 600
+  pub line : is_line entry.text ≡ true
+
+id_read : (id : ℕ) → 1 ≤ id → id < 2 ^ 63 → id_of (decimal id) ≡ Some id
+id_read id first last = number_between-decimal 1 (2 ^ 63 - 1) id first (omega arith) (omega arith)
+
+few : (n : ℕ) → n ≤ 600 → nat_le n 600 ≡ true
+few n h = grind (arith, nat_tests)
+
+pub said_item : (entry : Entry) → IsFit entry → said (item_line entry) ≡ Some (line.Item entry)
+said_item entry fit =
+    let rest : List ℕ = decimal entry.id ++ 32 ∷ entry.text in
+    let word : cut 32 (item_line entry) ≡ (codes "item", Some rest) =
+    cut-behind 32 (codes "item") (Some rest) refl in
+    let small : entry.id < 10000000000000000000 = let l = fit.last in omega arith in
+    let number : cut 32 rest ≡ (decimal entry.id, Some entry.text) =
+    cut-behind 32 (decimal entry.id) (Some entry.text) (decimal_no_space entry.id small) in
+    ap said_by word ∙ ap item_by number
+    ∙ rw (id_read entry.id fit.first fit.last) (rw (few (length entry.text) fit.short) refl)
+
+pub said_answered : (id : ℕ) → 1 ≤ id → id < 2 ^ 63
+    → said (answered_line id) ≡ Some (line.Answered id)
+said_answered id first last =
+    let word : cut 32 (answered_line id) ≡ (codes "answered", Some (decimal id)) =
+    cut-behind 32 (codes "answered") (Some (decimal id)) refl in
+    ap said_by word ∙ ap (option_map answered_of) (id_read id first last)
+
+-- ---- no line has an end in it
+
+lacks-append : (by : ℕ) (xs ys : List ℕ) → lacks by xs ≡ true → lacks by ys ≡ true
+    → lacks by (xs ++ ys) ≡ true
+lacks-append by [] ys front back = back
+lacks-append by (x ∷ xs) ys front back =
+    let both = and-true (not (x == by)) (lacks by xs) front in
+    rw (both.0, lacks-append by xs ys both.1 back) refl
+
+digit_other : (b : ℕ) → is_ascii_digit b ≡ true → not (b == 10) ≡ true
+digit_other b h = grind (arith, nat_tests)
+
+digits_lack : (bytes : List ℕ) → list_all is_ascii_digit bytes ≡ true → lacks 10 bytes ≡ true
+digits_lack [] h = refl
+digits_lack (b ∷ bytes) h =
+    let both = and-true (is_ascii_digit b) (list_all is_ascii_digit bytes) h in
+    rw (digit_other b both.0, digits_lack bytes both.1) refl
+
+decimal_lacks : (n : ℕ) → n < 2 ^ 63 → lacks 10 (decimal n) ≡ true
+decimal_lacks n small = digits_lack (decimal n) (decimal_digits n (omega arith))
+
+no_end_of : (b : ℕ) → not (b == 10) ≡ true → (b == 10) ≡ false
+no_end_of b h = grind (arith, nat_tests)
+
+all_of : (bytes : List ℕ) → lacks 10 bytes ≡ true → All IsNoEnd bytes
+all_of [] h = All-nil IsNoEnd
+all_of (b ∷ bytes) h =
+    let both = and-true (not (b == 10)) (lacks 10 bytes) h in
+    All-cons IsNoEnd b bytes (no_end_of b both.0) (all_of bytes both.1)
+
+pub item_no_end : (entry : Entry) → IsFit entry → All IsNoEnd (item_line entry)
+item_no_end entry fit =
+    all_of (item_line entry)
+    (lacks-append 10 (codes "item ") (decimal entry.id ++ 32 ∷ entry.text) refl
+    (lacks-append 10 (decimal entry.id) (32 ∷ entry.text) (decimal_lacks entry.id fit.last)
+    fit.line))
+
+pub answered_no_end : (id : ℕ) → id < 2 ^ 63 → All IsNoEnd (answered_line id)
+answered_no_end id last =
+    all_of (answered_line id)
+    (lacks-append 10 (codes "answered ") (decimal id) refl (decimal_lacks id last))
+
+-- ---- what says an item is its line
+
+chosen : (b : Bool) (o : Option ℕ) (id : ℕ) → cond b o None ≡ Some id → (b ≡ true) × (o ≡ Some id)
+chosen true o id h = (refl, h)
+chosen false o id h = absurd cc
+
+in_range : (low high n id : ℕ) → within low high n ≡ Some id → (n ≡ id) × (low ≤ id) × (id ≤ high)
+in_range low high n id h = go (nat_le low n && nat_le n high) refl h
+  where
+    go : (b : Bool) → (nat_le low n && nat_le n high) ≡ b → cond b (Some n) None ≡ Some id
+        → (n ≡ id) × (low ≤ id) × (id ≤ high)
+    go true is e = let same : n ≡ id = cc in grind (arith, nat_tests)
+    go false is e = absurd cc
+
+-- a word that reads as an id is that number in decimal
+id_spelled : (word : List ℕ) (id : ℕ) → id_of word ≡ Some id
+    → (word ≡ decimal id) × (1 ≤ id) × (id ≤ 2 ^ 63 - 1)
+unfolding number_between
+id_spelled word id h =
+    let c =
+    chosen (bytes_eq word (decimal (digits_value word)))
+    (within 1 (2 ^ 63 - 1) (digits_value word)) id h in
+    let r = in_range 1 (2 ^ 63 - 1) (digits_value word) id c.1 in
+    let same : word ≡ decimal (digits_value word) = (bytes_eq-Decides _ _).0 c.0 in (
+      same ∙ ap decimal r.0,
+      r.1,
+      r.2,
+    )
+
+-- what reads as an item is its line, and the entry is one of a program
+pub record IsSpelled (bytes : List ℕ) (entry : Entry) : Type 0 where
+  pub is : bytes ≡ item_line entry
+  pub first : 1 ≤ entry.id
+  pub last : entry.id < 2 ^ 63
+  pub short : length entry.text ≤ 600
+
+short_of : (n : ℕ) → nat_le n 600 ≡ true → n ≤ 600
+short_of n h = grind (arith, nat_tests)
+
+-- after the first word
+pub record IsSpelledAfter (rest : List ℕ) (entry : Entry) : Type 0 where
+  pub is : rest ≡ decimal entry.id ++ 32 ∷ entry.text
+  pub first : 1 ≤ entry.id
+  pub last : entry.id < 2 ^ 63
+  pub short : length entry.text ≤ 600
+
+item_of_spelled : (word text : List ℕ) (o : Option ℕ) (entry : Entry) → id_of word ≡ o
+    → item_of o text ≡ Some (line.Item entry) → IsSpelledAfter (word ++ 32 ∷ text) entry
+item_of_spelled word text None entry is h = absurd cc
+item_of_spelled word text (Some id) entry is h = go (nat_le (length text) 600) refl h
+  where
+    go : (b : Bool) → nat_le (length text) 600 ≡ b
+        → cond b (Some (line.Item (record { id = id; text = text }))) None
+        ≡ Some (line.Item entry) → IsSpelledAfter (word ++ 32 ∷ text) entry
+    go true few e =
+        let made : Entry = record { id = id; text = text } in
+        let same : made ≡ entry = cc in
+        let w = id_spelled word id is in
+        subst (IsSpelledAfter (word ++ 32 ∷ text)) same (record {
+          is = ap (λ x. x ++ 32 ∷ text) w.0;
+          first = w.1;
+          last = let l = w.2 in omega arith;
+          short = short_of (length text) few;
+        })
+    go false few e = absurd cc
+
+item_by_spelled : (rest : List ℕ) (parts : List ℕ × Option (List ℕ)) (entry : Entry)
+    → rest ≡ parts.0 ++ behind 32 parts.1 → item_by parts ≡ Some (line.Item entry)
+    → IsSpelledAfter rest entry
+item_by_spelled rest (word, None) entry is h = absurd cc
+item_by_spelled rest (word, Some text) entry is h =
+    subst (λ (r : List ℕ). IsSpelledAfter r entry) (sym is)
+    (item_of_spelled word text (id_of word) entry refl h)
+
+not_answered : (o : Option ℕ) (entry : Entry)
+    → option_map answered_of o ≡ Some (line.Item entry) → ⊥
+not_answered None entry h = absurd cc
+not_answered (Some id) entry h = absurd cc
+
+said_after_spelled : (word rest : List ℕ) (entry : Entry)
+    → said_after word rest ≡ Some (line.Item entry) → IsSpelled (word ++ 32 ∷ rest) entry
+said_after_spelled word rest entry h = go (bytes_eq word (codes "item")) refl h
+  where
+    late : (b : Bool) → cond b (option_map answered_of (id_of rest)) None
+        ≡ Some (line.Item entry) → ⊥
+    late true e = not_answered (id_of rest) entry e
+    late false e = absurd cc
+
+    go : (b : Bool) → bytes_eq word (codes "item") ≡ b
+        → cond b (item_by (cut 32 rest))
+        (cond (bytes_eq word (codes "answered")) (option_map answered_of (id_of rest)) None)
+        ≡ Some (line.Item entry)
+        → IsSpelled (word ++ 32 ∷ rest) entry
+    go true same e =
+        let s = item_by_spelled rest (cut 32 rest) entry (cut_spelled 32 rest) e in
+        let w : word ≡ codes "item" = (bytes_eq-Decides word (codes "item")).0 same in
+        record {
+          is = ap (λ x. x ++ 32 ∷ rest) w ∙ ap (λ x. codes "item" ++ 32 ∷ x) s.is;
+          first = s.first;
+          last = s.last;
+          short = s.short;
+        }
+    go false same e = absurd (late (bytes_eq word (codes "answered")) e)
+
+said_by_spelled : (bytes : List ℕ) (parts : List ℕ × Option (List ℕ)) (entry : Entry)
+    → bytes ≡ parts.0 ++ behind 32 parts.1 → said_by parts ≡ Some (line.Item entry)
+    → IsSpelled bytes entry
+said_by_spelled bytes (word, None) entry is h = absurd cc
+said_by_spelled bytes (word, Some rest) entry is h =
+    subst (λ (b : List ℕ). IsSpelled b entry) (sym is) (said_after_spelled word rest entry h)
+
+pub item_spelled : (bytes : List ℕ) (entry : Entry) → said bytes ≡ Some (line.Item entry)
+    → IsSpelled bytes entry
+item_spelled bytes entry h =
+    said_by_spelled bytes (cut 32 bytes) entry (cut_spelled 32 bytes) h

@@ -1,0 +1,144 @@
+-- What holds of an outbox, whatever calls are made, whatever comes from desks, and whatever the log
+-- is.
+use Rattle.std.specs.Prelude.{ℕ, ◌≡◌, ◌≢◌, ◌⊎◌, ◌^◌, ◌<◌, List, [], ◌∷◌, drop, true, Some}
+use Rattle.std.specs.Prelude.{None, Ok}
+use Rattle.std.specs.Prelude.{Contains, not, ◌==◌, ◌||◌, ◌++◌, is_some, slice_get, take}
+use Rattle.std.specs.List.{AllByRecursion, list_all}
+use Rattle.acceptor.specs.declared.entry.Entry.{Entry}
+use Rattle.learner.specs.Laws.{IsPrefix}
+use Rattle.learner.specs.Logs.{position_of}
+use Rattle.texts.specs.declared.answer.Answer.{Answer}
+use Rattle.texts.specs.declared.answer.Answer.TheVariants as answer
+use Rattle.texts.specs.declared.answer.Code.TheVariants as code
+use Rattle.mirror.specs.Answered.{answer_at}
+use Rattle.wire.specs.Spelling.{spelling}
+use Rattle.desk_talks.specs.Lines.{unsent_by}
+use Rattle.outbox.specs.declared.item.Item.{Item}
+use Rattle.outbox.specs.declared.state.State.{State}
+use Rattle.outbox.specs.declared.state.State.TheVariants as state
+use Rattle.outbox.specs.Histories.{History, Leads, LooksAt, World, promises, targets}
+use Rattle.outbox.specs.Items.{ItemsOf, is_answered, item_in}
+use Rattle.outbox.specs.Journals.{read_back}
+use Rattle.outbox.specs.Lines.{HallOf, hall_line, item_line, whole_lines}
+use Rattle.outbox.specs.Outboxes.{is_decided, submit_request}
+use Rattle.outbox.specs.States.{state_of}
+
+-- ---- what is told of an item
+
+-- the entry stands at a position of a log, and was answered so
+pub record StandsAs (log : List Entry) (position : ℕ) (entry : Entry) (told : Answer) : Type 0 where
+  pub there : slice_get log position ≡ Some entry
+  pub answered : answer_at log position ≡ Some told
+
+-- another entry of its id stands there
+pub record StandsOther (log : List Entry) (position : ℕ) (entry : Entry) : Type 0 where
+  pub other : Entry
+  pub there : slice_get log position ≡ Some other
+  pub id : other.id ≡ entry.id
+  pub text : other.text ≢ entry.text
+
+-- what is told of an entry is so in a log
+abbrev pub IsSo : List Entry → Entry → State → Type 0
+IsSo log entry state.Waits = Unit {0}
+IsSo log entry (state.Saved position) = StandsAs log position entry answer.Done
+IsSo log entry (state.Changed position) =
+    StandsAs log position entry (answer.Refused code.Changed)
+IsSo log entry (state.Refused position why) = StandsAs log position entry (answer.Refused why)
+IsSo log entry (state.OtherText position) = StandsOther log position entry
+
+-- what is told of an entry, by the part of the log that a mirror holds, is so in every log that
+-- begins with that part
+abbrev pub NeverByGuess : Type 0
+NeverByGuess =
+    (held log : List Entry) (entry : Entry) → IsPrefix held log
+    → IsSo log entry (state_of held entry)
+
+-- and it is told, as long as an entry of its id stands there, and stays as it was told
+abbrev pub ToldAtOnce : Type 0
+ToldAtOnce =
+    (held : List Entry) (entry : Entry) → state_of held entry ≡ state.Waits
+    → position_of held entry.id ≡ None
+
+abbrev pub ToldForGood : Type 0
+ToldForGood =
+    (held log : List Entry) (entry : Entry) → IsPrefix held log
+    → state_of held entry ≢ state.Waits → state_of log entry ≡ state_of held entry
+
+-- of all entries of an id in a log one at most is accepted
+abbrev pub CountsOnce : Type 0
+CountsOnce =
+    (log : List Entry) (i j : ℕ) (one other : Entry) → StandsAs log i one answer.Done
+    → StandsAs log j other answer.Done → one.id ≡ other.id → i ≡ j
+
+-- ---- what is submitted
+
+-- These bytes are the end of a Submit of an entry to one of the desks, in this hall. The line of
+-- the entry stands in the file: `item`, its id and its text.
+pub record IsOfSubmit (hall : HallOf) (desks : List ℕ) (file bytes : List ℕ) : Type 0 where
+  pub desk : ℕ
+  pub entry : Entry
+  pub sent : ℕ
+  pub aimed : Contains desks desk
+  pub line : Contains (whole_lines file) (item_line entry)
+  pub is : bytes ≡ drop sent (spelling (submit_request hall.number desk entry))
+
+-- what is to be written to a desk after any calls is nothing else; and the first line of the file
+-- is the hall's
+pub record IsFixed (hall : HallOf) (h : History) (w : World) : Type 0 where
+  pub submits : (unsent_by w.outbox.line.talking ≡ [])
+      ⊎ IsOfSubmit hall (targets h) w.file (unsent_by w.outbox.line.talking)
+  pub named : (lines : List (List ℕ)) × (whole_lines w.file ≡ hall_line hall ∷ lines)
+
+abbrev pub Fixed : Type 0
+Fixed = (hall : HallOf) (h : History) (w : World) → Leads hall h w → IsFixed hall h w
+
+-- An item of the journal is passed over where the log, as far as it was looked through since the
+-- program was started, has an entry of its id, or where a scoretaker has answered it; and nowhere
+-- else. `Acts` says that the first of the others is submitted.
+abbrev pub PassesOverByTheLog : Type 0
+PassesOverByTheLog =
+    (hall : HallOf) (h : History) (w : World) (log : List Entry) (pair : ℕ × Item)
+    → Leads hall h w → LooksAt log h
+    → is_decided w.outbox.list w.outbox.decided pair
+    ≡ (is_some (position_of (take w.outbox.seen log) pair.0) || is_answered w.outbox.list pair.0)
+
+-- an address has no space in it
+abbrev pub IsAddress : List ℕ → Type 0
+IsAddress address = list_all (λ b. not (b == 32)) address ≡ true
+
+-- the name of a hall, as a program has it
+abbrev pub IsName : HallOf → Type 0
+IsName hall = (hall.number < 2 ^ 32) × AllByRecursion IsAddress hall.addresses
+
+-- two halls have the same first line where they are the same
+abbrev pub NamesOneHall : Type 0
+NamesOneHall =
+    (one other : HallOf) → IsName one → IsName other → hall_line one ≡ hall_line other → one ≡ other
+
+-- so a journal of another hall is not read
+abbrev pub OfThisHallAlone : Type 0
+OfThisHallAlone =
+    (one other : HallOf) (now later : ℕ) (bytes : List ℕ) (q r : ItemsOf) → IsName one
+    → IsName other → read_back one now bytes ≡ Ok q → read_back other later bytes ≡ Ok r
+    → one ≡ other
+
+-- ---- what was taken
+
+-- an entry is that of an item
+pub record IsListed (q : ItemsOf) (entry : Entry) : Type 0 where
+  pub item : Item
+  pub found : item_in q entry.id ≡ Some item
+  pub is : item.entry ≡ entry
+
+-- each entry of which it may be answered that it is taken is in the list, after any calls, and
+-- after a crash at any moment
+abbrev pub NothingTakenIsLost : Type 0
+NothingTakenIsLost =
+    (hall : HallOf) (h : History) (w : World) (entry : Entry) → Leads hall h w
+    → Contains (promises h).made entry → IsListed w.outbox.list entry
+
+-- what a crash leaves of the file, at whatever byte its end was cut off, is read
+abbrev pub ReadsAfterCrash : Type 0
+ReadsAfterCrash =
+    (hall : HallOf) (h : History) (w : World) (count now : ℕ) → Leads hall h w
+    → (q : ItemsOf) × (read_back hall now (w.file ++ take count w.outbox.list.lines) ≡ Ok q)

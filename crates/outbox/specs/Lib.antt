@@ -1,0 +1,10 @@
+pub mod Cards
+pub mod Histories
+pub mod Items
+pub mod Journals
+pub mod Laws
+pub mod Lines
+pub mod Outboxes
+pub mod States
+pub mod Worked
+pub mod WorkedRuns

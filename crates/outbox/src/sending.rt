@@ -1,0 +1,355 @@
+//! The items on their way to a desk.
+
+ghost use Rattle.std.specs.Prelude.{◌≡◌, ◌+◌, ◌<◌, ◌≤◌, IfSome, slice_get};
+ghost use Rattle.std.specs.List.{prefix_len};
+ghost use Rattle.desk_talks.specs.Lines.{unsent_by};
+ghost use Rattle.outbox.specs.Outboxes.{Acts, Asks, AsksIf, Follows, HearsDesk, IsEntryAt, Opens};
+ghost use Rattle.outbox.specs.Outboxes.{OpensIf, aimed, gone_on, is_decided, is_decided_at};
+ghost use Rattle.outbox.specs.Outboxes.{is_left, is_of};
+ghost use Rattle.outbox.specs.Outboxes.{is_waiting, kept_from, lost, oldest, sent_by, skipped};
+ghost use Rattle.outbox.specs.Outboxes.{submit_request, took, wait_of};
+ghost use Rattle.wire.specs.Ranges.{IsDesk, IsFrame};
+
+use crate::items::Items;
+use crate::outbox::Outbox;
+use acceptor::entry::Entry;
+use desk_talks::{Came, Dialogue, Due, Heard, Stage, Wish};
+use indexmap::IndexSet;
+use wire::{ClientRefusal, Frame, Version, What};
+
+/// How long nothing is to be done where nothing is left, in milliseconds.
+const IDLE: u64 = 2000;
+
+/// The request that submits an entry at a desk, 1 to 5: a Submit of a client, which is 0, in
+/// version 1 of the wire.
+fn submit_request(hall: u32, desk: u8, entry: Entry) -> Frame
+    requires { IsDesk desk }
+    ensures request { result ≡ submit_request hall desk entry }
+    ensures spelled { IsFrame result }
+{
+    // The contracts of these two calls say that they are in their ranges.
+    let _id = entry.id();
+    let _text = entry.text();
+    Frame {
+        version: Version::One,
+        hall,
+        from: 0,
+        to: desk,
+        what: What::Submit { entry },
+    }
+}
+
+/// Whether the desk is waited for.
+fn is_waiting(stage: Stage) -> bool
+    ensures { result ≡ is_waiting stage }
+{
+    matches!(stage, Stage::Opening { .. } | Stage::Asked { .. })
+}
+
+/// Whether there is an item at a place, which need not be submitted.
+fn is_decided_at(items: &Items, decided: &IndexSet<u64>, place: usize) -> bool
+    ensures { result ≡ is_decided_at items.now decided.now.keys (slice_get items.now.items place) }
+{
+    match items.at(place) {
+        Some((id, _)) => decided.contains(id) || items.is_answered(*id),
+        None => false,
+    }
+}
+
+/// The place of the first item from `next` on that stands in the journal and needs to be submitted;
+/// the number of those in the journal where there is none.
+fn needed_from(items: &Items, decided: &IndexSet<u64>, next: usize) -> usize
+    requires { next ≤ items.now.kept }
+    ensures place { result ≡ next
+        + prefix_len (is_decided items.now decided.now.keys) (kept_from items.now next) }
+    ensures most { result ≤ items.now.kept }
+{
+    for place in next..items.kept() {
+        if !is_decided_at(items, decided, place) {
+            return place;
+        }
+    }
+    items.kept()
+}
+
+/// A copy of the entry of the item at a place. None: there is no item, or memory is refused.
+fn entry_at(items: &Items, place: usize) -> Option<Entry>
+    ensures { IfSome result (IsEntryAt (slice_get items.now.items place)) }
+{
+    match items.at(place) {
+        Some((_, item)) => item.entry.copy().ok(),
+        None => None,
+    }
+}
+
+/// Whether the item at a place is the one with this id.
+fn is_of(items: &Items, place: usize, id: u64) -> bool
+    ensures { result ≡ is_of (slice_get items.now.items place) id }
+{
+    match items.at(place) {
+        Some((other, _)) => *other == id,
+        None => false,
+    }
+}
+
+impl Outbox {
+    /// Submits at the desk with this number, 1 to 5, from now on: where it is another one, the
+    /// connection is to be closed, and all items that wait are submitted there.
+    pub fn aim(&mut self, desk: u8)
+        requires { IsDesk desk }
+        ensures { self.new ≡ aimed self.old desk }
+    {
+        self.aim = desk;
+    }
+
+    /// The number of the desk that the connection is to, 1 to 5.
+    pub fn desk(&self) -> u8
+        ensures desk { result ≡ self.now.desk }
+        ensures in_range { IsDesk result }
+    {
+        self.desk
+    }
+
+    /// The place of the item that the desk is to take next. It has taken those before that needed
+    /// to be submitted, since the connection is to it.
+    pub fn next(&self) -> usize
+        ensures next { result ≡ self.now.next }
+        ensures most { result ≤ self.now.list.kept }
+    {
+        self.next
+    }
+
+    /// The place of the first item that stands in the journal and that waits: the log, as far as it
+    /// was looked through, has no entry of its id. The number of those in the journal where there
+    /// is none. Where it waits for long, another desk is to be aimed at: the one that took it may
+    /// have lost it.
+    pub fn oldest(&self) -> usize
+        ensures oldest { result ≡ oldest self.now }
+        ensures most { result ≤ self.now.list.kept }
+    {
+        needed_from(&self.items, &self.decided, 0)
+    }
+
+    /// Why the desk refused the next item when it was submitted last, if it did.
+    pub fn refusal(&self) -> Option<ClientRefusal>
+        ensures { result ≡ self.now.refusal }
+    {
+        self.refusal
+    }
+
+    /// Whether items are left that the desk is to take.
+    pub fn is_left(&self) -> bool
+        ensures { result ≡ is_left self.now }
+    {
+        self.next < self.items.kept()
+    }
+
+    /// In how many milliseconds something is to be done, if nothing comes: 0 where something is to
+    /// be done already, and 2,000 where nothing is left.
+    pub fn wait(&self, now: u64) -> u64
+        ensures { result ≡ wait_of self.now now }
+    {
+        if self.aim != self.desk {
+            0
+        } else if self.is_left() || is_waiting(self.line.stage()) {
+            self.line.wait(now)
+        } else {
+            IDLE
+        }
+    }
+
+    /// What is to be done now, at so many milliseconds of a clock that doesn't go back. It counts
+    /// as begun.
+    pub fn act(&mut self, now: u64) -> Wish
+        ensures { Acts result now self.old self.new }
+    {
+        if self.aim != self.desk {
+            self.go_on();
+            return Wish::Close;
+        }
+        match self.line.due(now) {
+            Due::Close | Due::Renew => {
+                self.lost();
+                Wish::Close
+            }
+            Due::Open => self.open_for_next(now),
+            Due::Ask => self.ask_for_next(now),
+            Due::Rest => Wish::Rest,
+        }
+    }
+
+    /// Leaves the desk for the one that is aimed at, which has taken none.
+    fn go_on(&mut self)
+        ensures { self.new ≡ gone_on self.old }
+    {
+        self.line.close();
+        self.desk = self.aim;
+        self.next = 0;
+        self.refusal = None;
+    }
+
+    /// Passes over the items that need not be submitted.
+    fn skip(&mut self)
+        ensures { self.new ≡ skipped self.old }
+    {
+        let next = needed_from(&self.items, &self.decided, self.next);
+        if next != self.next {
+            self.next = next;
+            self.refusal = None;
+        }
+    }
+
+    /// Opens a connection, where an item is left that needs it.
+    fn open_for_next(&mut self, now: u64) -> Wish
+        ensures { OpensIf (is_left (skipped self.old)) result now (skipped self.old) self.new }
+    {
+        self.skip();
+        if !self.is_left() {
+            return Wish::Rest;
+        }
+        self.line.open(now);
+        Wish::Open { desk: self.desk }
+    }
+
+    /// Submits the next item, where one is left that needs it.
+    fn ask_for_next(&mut self, now: u64) -> Wish
+        ensures { AsksIf (is_left (skipped self.old)) result now (skipped self.old) self.new }
+    {
+        self.skip();
+        if !self.is_left() {
+            return Wish::Rest;
+        }
+        self.ask(now)
+    }
+
+    /// Submits the next item.
+    fn ask(&mut self, now: u64) -> Wish
+        requires { self.old.next < self.old.list.kept }
+        ensures { Asks result now self.old self.new }
+    {
+        if let Some(entry) = entry_at(&self.items, self.next) {
+            let request = submit_request(self.hall, self.desk, entry);
+            if self.line.ask(now, request) {
+                return Wish::Write;
+            }
+        }
+        self.lost();
+        Wish::Close
+    }
+
+    /// Says that the connection that was being opened is open. Where memory is refused, it counts
+    /// as lost, and the answer is false: it is to be closed.
+    pub fn opened(&mut self) -> bool
+        ensures { Opens result self.old self.new }
+    {
+        self.line.opened()
+    }
+
+    /// Says that the connection is lost: it couldn't be opened, it failed, or the desk ended it.
+    pub fn lost(&mut self)
+        ensures { self.new ≡ lost self.old }
+    {
+        self.line.close();
+    }
+
+    /// What is to be written now.
+    pub fn output(&self) -> &[u8]
+        ensures { result.now ≡ unsent_by self.now.line.talking }
+    {
+        self.line.output()
+    }
+
+    /// Says that so many bytes of the output were written.
+    pub fn sent(&mut self, count: usize)
+        ensures { self.new ≡ sent_by self.old count }
+    {
+        self.line.sent(count);
+    }
+
+    /// Takes bytes that came from the desk over the connection.
+    pub fn hear(&mut self, piece: &[u8]) -> Came
+        ensures { HearsDesk result piece.now self.old self.new }
+    {
+        let heard = self.line.hear(piece);
+        self.follow(heard)
+    }
+
+    /// Does what follows of what the desk's bytes came to.
+    fn follow(&mut self, heard: Heard) -> Came
+        ensures { Follows heard result self.old self.new }
+    {
+        match heard {
+            Heard::Waits => Came::Nothing,
+            Heard::Answer(What::Taken { id }) => {
+                self.took(id);
+                Came::Answer { changed: false }
+            }
+            Heard::Refused(refusal) => {
+                self.refusal = Some(refusal);
+                Came::Answer { changed: false }
+            }
+            _ => {
+                self.lost();
+                Came::NoAnswer
+            }
+        }
+    }
+
+    /// Goes on to the item after the one with this id, if it is the next one.
+    fn took(&mut self, id: u64)
+        ensures { self.new ≡ took self.old id }
+    {
+        if self.next < self.items.kept() && is_of(&self.items, self.next, id) {
+            self.next += 1;
+        }
+        self.refusal = None;
+        self.line.hurry();
+    }
+}
+
+impl Dialogue for Outbox {
+    ghost use Rattle.std.specs.Prelude.{◌≡◌};
+    ghost use Rattle.desk_talks.specs.Lines.{is_opening};
+    ghost use Rattle.outbox.specs.Items.{ItemsOf};
+    ghost use Rattle.outbox.specs.Outboxes.{DialogueLeads, held};
+
+    ghost Held = { ItemsOf };
+
+    // The items, whichever of them were taken.
+    ghost held = { held };
+
+    ghost leads = { DialogueLeads };
+
+    fn act(&mut self, now: u64) -> Wish {
+        self.act(now)
+    }
+
+    fn is_opening(&self) -> bool
+        ensures { result ≡ is_opening self.now.line.stage }
+    {
+        self.line.is_opening()
+    }
+
+    fn opened(&mut self) -> bool {
+        self.opened()
+    }
+
+    fn lost(&mut self) {
+        self.lost();
+    }
+
+    fn output(&self) -> &[u8]
+        ensures { result.now ≡ unsent_by self.now.line.talking }
+    {
+        self.output()
+    }
+
+    fn sent(&mut self, count: usize) {
+        self.sent(count);
+    }
+
+    fn hear(&mut self, now: u64, piece: &[u8]) -> Came {
+        let _now = now;
+        self.hear(piece)
+    }
+}

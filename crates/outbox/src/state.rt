@@ -1,0 +1,70 @@
+//! What became of an item.
+
+ghost use Rattle.std.specs.Prelude.{◌≡◌, Some};
+ghost use Rattle.outbox.specs.States.{answered_as, refused_as, state_at, state_of};
+
+use acceptor::entry::Entry;
+use mirror::Mirror;
+use texts::{Answer, Code};
+
+/// What became of an item, by the hall's log.
+#[derive(Clone, Copy, Debug, PartialEq, Eq)]
+pub enum State {
+    /// No entry of its id stands in the log yet.
+    Waits,
+    /// Its entry stands at this position, 0 to 65,535, and was answered Done.
+    Saved { position: u32 },
+    /// Its entry stands at this position and was refused, since what it changes was changed
+    /// meanwhile: code Changed.
+    Changed { position: u32 },
+    /// Its entry stands at this position and was refused with this other code.
+    Refused { position: u32, code: Code },
+    /// An entry of its id with another text stands at this position: nothing will come of it.
+    OtherText { position: u32 },
+}
+
+/// What became of an entry that was refused.
+fn refused_as(position: u32, code: Code) -> State
+    ensures { result ≡ refused_as position code }
+{
+    match code {
+        Code::Changed => State::Changed { position },
+        _ => State::Refused { position, code },
+    }
+}
+
+/// What became of an entry that was answered so.
+fn answered_as(position: u32, answer: Option<Answer>) -> State
+    ensures { result ≡ answered_as position answer }
+{
+    match answer {
+        None => State::Waits,
+        Some(Answer::Done) => State::Saved { position },
+        Some(Answer::Refused(code)) => refused_as(position, code),
+    }
+}
+
+/// What became of an entry, by the first position that has its id.
+fn state_at(mirror: &Mirror, entry: &Entry, position: u32) -> State
+    ensures { result ≡ state_at mirror.now entry.now (Some position) }
+{
+    let Some(there) = mirror.log().entry(position) else {
+        return State::Waits;
+    };
+    if there.text() == entry.text() {
+        answered_as(position, mirror.answer(position))
+    } else {
+        State::OtherText { position }
+    }
+}
+
+/// What became of an entry, by the entries of the log that the mirror holds: by the first one that
+/// has its id, which is looked up in a table.
+pub fn state_of(mirror: &Mirror, entry: &Entry) -> State
+    ensures { result ≡ state_of mirror.now entry.now }
+{
+    match mirror.log().position_of(entry.id()) {
+        Some(position) => state_at(mirror, entry, position),
+        None => State::Waits,
+    }
+}
